@@ -1,1 +1,4 @@
 pub mod Examples
+pub mod Counting
+pub mod Conservation
+pub mod Kept
