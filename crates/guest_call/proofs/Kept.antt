@@ -11,7 +11,7 @@ use Rattle.guest_call.specs.Queues.{places, waits, entering, Keeps}
 use Rattle.guest_call.specs.Tables.{at_cell}
 use Rattle.guest_call.specs.Mutexes.{Mutex, unlocked, mutex_queue, lock_row, unlock_row}
 use Rattle.guest_call.specs.Threads.{Member, fresh, member_queue, member_at, joins, ended_with, joined_by, create_row, thread_exit_row, join_row}
-use Rattle.guest_call.specs.Objects.{Objects, all_unlocked, opening, on_threads, on_mutex, waits_at, ended_at, act, created_count, IsKept}
+use Rattle.guest_call.specs.Objects.{Objects, all_unlocked, opening, on_threads, on_mutex, waits_at, ended_at, put_answer, appends, act, created_count, IsKept}
 use Rattle.guest_call.proofs.Counting.{places-nil, entering-other, entering-le, waits-replicate}
 use Rattle.guest_call.proofs.Conservation.{act_keeps}
 
@@ -152,3 +152,7 @@ act_ended readable o t (Join v) there u = join_ended t v o.threads u
 act_ended readable o t Yield there u = refl
 act_ended readable o t (Lock m) there u = grind arith
 act_ended readable o t (Unlock m) there u = grind arith
+
+-- where put appends its bytes it answers how many they are
+pub put_answer-appends : (readable : ℕ → ℕ → Bool) (p n : ℕ) → appends readable p n ≡ true → put_answer readable p n ≡ n
+put_answer-appends readable p n is = grind arith

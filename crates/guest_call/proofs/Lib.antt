@@ -2,3 +2,4 @@ pub mod Examples
 pub mod Counting
 pub mod Conservation
 pub mod Kept
+pub mod Local

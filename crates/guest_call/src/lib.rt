@@ -3,11 +3,12 @@
 //! functions with an empty body, whose contract is the law.
 #![tactic(auto)]
 
-ghost use Rattle.std.specs.Prelude.{◌≡◌, ℕ, ◌+◌, ◌<◌, Bool, length};
+ghost use Rattle.std.specs.Prelude.{◌≡◌, ℕ, ◌+◌, ◌<◌, Bool, true, length};
 ghost use Rattle.guest_call.specs.declared.Call.{Call};
 ghost use Rattle.guest_call.specs.Effect.{ended_after};
 ghost use Rattle.guest_call.specs.Queues.{Keeps};
-ghost use Rattle.guest_call.specs.Objects.{Objects, opening, act, waits_at, ended_at, created_count, IsKept};
+ghost use Rattle.guest_call.specs.Objects.{Objects, opening, act, acts_on, put_answer, appends, waits_at, ended_at, created_count, IsKept};
+ghost use Rattle.guest_call.specs.Locality.{IsLocalBy};
 
 /// An environment call with its arguments, as the guest makes it by ECALL: the number stands in a7, the
 /// first argument in a0 and the second in a1.
@@ -89,6 +90,22 @@ pub fn act_ended()
         (readable : ℕ → ℕ → Bool) (o : Objects) (t : ℕ) (call : Call) → t < length o.threads → (u : ℕ) →
         ended_at (act readable o t call).1 u ≡ ended_after t (act readable o t call).0.fate u (ended_at o u)
     }
+{
+}
+
+/// A call reads and changes nothing but the objects on which it acts: all others stay as they are, and
+/// what it names, answers and makes of its own depends on these alone.
+pub fn act_is_local()
+    ensures {
+        (readable : ℕ → ℕ → Bool) (o : Objects) (t : ℕ) (call : Call) → IsKept o →
+        IsLocalBy (λ x. act readable x t call) (λ x. acts_on readable x call) o
+    }
+{
+}
+
+/// Where put appends its bytes it answers how many they are.
+pub fn put_appends()
+    ensures { (readable : ℕ → ℕ → Bool) (p n : ℕ) → appends readable p n ≡ true → put_answer readable p n ≡ n }
 {
 }
 
