@@ -3,6 +3,13 @@
 //! functions with an empty body, whose contract is the law.
 #![tactic(auto)]
 
+ghost use Rattle.std.specs.Prelude.{◌≡◌, ℕ, ◌+◌, ◌<◌, Bool, true, length};
+ghost use Rattle.guest_call.specs.declared.Call.{Call};
+ghost use Rattle.guest_call.specs.Effect.{ended_after};
+ghost use Rattle.guest_call.specs.Queues.{Keeps};
+ghost use Rattle.guest_call.specs.Objects.{Objects, opening, act, acts_on, put_answer, appends, waits_at, ended_at, created_count, IsKept};
+ghost use Rattle.guest_call.specs.Locality.{IsLocalBy};
+
 /// An environment call with its arguments, as the guest makes it by ECALL: the number stands in a7, the
 /// first argument in a0 and the second in a1.
 #[derive(Clone, Copy, Debug, PartialEq, Eq)]
@@ -47,4 +54,63 @@ pub enum Fate {
     Ends(u32),
     /// The whole run has ended with this code.
     Exits(u32),
+}
+
+/// Nobody is lost and nobody doubled by a call: who waits after it or was woken by it waited before or
+/// began to wait.
+pub fn act_keeps()
+    ensures {
+        (readable : ℕ → ℕ → Bool) (o : Objects) (t : ℕ) (call : Call) → IsKept o → t < length o.threads →
+        Keeps (waits_at o) t (act readable o t call).0 (waits_at (act readable o t call).1)
+    }
+{
+}
+
+/// A call keeps what holds of the objects, where its caller is a thread that waits nowhere.
+pub fn act_kept()
+    ensures {
+        (readable : ℕ → ℕ → Bool) (o : Objects) (t : ℕ) (call : Call) → IsKept o → t < length o.threads →
+        waits_at o t ≡ 0 → IsKept (act readable o t call).1
+    }
+{
+}
+
+/// A call makes one thread more exactly where it says that one is created, and else none.
+pub fn act_creates()
+    ensures {
+        (readable : ℕ → ℕ → Bool) (o : Objects) (t : ℕ) (call : Call) →
+        length (act readable o t call).1.threads ≡ length o.threads + created_count (act readable o t call).0.created
+    }
+{
+}
+
+/// Who has ended after a call: who had ended before, and the caller where the call ends it.
+pub fn act_ended()
+    ensures {
+        (readable : ℕ → ℕ → Bool) (o : Objects) (t : ℕ) (call : Call) → t < length o.threads → (u : ℕ) →
+        ended_at (act readable o t call).1 u ≡ ended_after t (act readable o t call).0.fate u (ended_at o u)
+    }
+{
+}
+
+/// A call reads and changes nothing but the objects on which it acts: all others stay as they are, and
+/// what it names, answers and makes of its own depends on these alone.
+pub fn act_is_local()
+    ensures {
+        (readable : ℕ → ℕ → Bool) (o : Objects) (t : ℕ) (call : Call) → IsKept o →
+        IsLocalBy (λ x. act readable x t call) (λ x. acts_on readable x call) o
+    }
+{
+}
+
+/// Where put appends its bytes it answers how many they are.
+pub fn put_appends()
+    ensures { (readable : ℕ → ℕ → Bool) (p n : ℕ) → appends readable p n ≡ true → put_answer readable p n ≡ n }
+{
+}
+
+/// What holds of the objects holds of those at the start.
+pub fn opening_is_kept()
+    ensures { IsKept opening }
+{
 }
