@@ -1,6 +1,6 @@
 -- Registers and the numbers of causes, computed. The expected values are those that the RISC-V
 -- unprivileged ISA 20191213, 2.1, and the privileged ISA 20190608, table 3.6, give.
-use Rattle.std.proofs.Common.{◌≡◌, ℕ, List, replicate, refl}
+use Rattle.std.proofs.Common.{◌≡◌, replicate, refl}
 use Rattle.isa_spec.specs.declared.Cause.TheVariants as cause
 use Rattle.isa_spec.specs.Registers.{Registers, register, with_register, with_pc}
 use Rattle.isa_spec.specs.Causes.{number_of}
