@@ -4,6 +4,10 @@
 //! The definitions stand in `specs/`. This crate has no code beside the types.
 #![tactic(auto)]
 
+ghost use Rattle.std.specs.Prelude.{◌≡◌, ℕ, ◌<◌, ◌^◌, Some};
+ghost use Rattle.isa_spec.specs.Table.{decoded};
+ghost use Rattle.isa_spec.specs.Encoding.{encoding, InRange, Spells};
+
 /// When a conditional branch is taken (RISC-V unprivileged ISA 20191213, 2.5).
 #[derive(Clone, Copy, Debug, PartialEq, Eq)]
 pub enum BranchTest {
@@ -203,3 +207,14 @@ pub enum Cause {
     /// 8: an ECALL with a number that is no call.
     BadCall,
 }
+
+/// Decoding gives back the instruction whose encoding it reads, for operands in range.
+pub fn decoding_inverts_encoding()
+    ensures { (i : Instr) → InRange i → decoded (encoding i) ≡ Some i }
+{}
+
+/// A word that decodes to an instruction is that instruction's encoding, and its operands are in
+/// range. A FENCE alone has several words: its other fields are free.
+pub fn decoded_was_encoded()
+    ensures { (w : ℕ) (i : Instr) → w < 2 ^ 32 → decoded w ≡ Some i → InRange i × Spells w i }
+{}
