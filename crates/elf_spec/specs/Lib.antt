@@ -1,0 +1,6 @@
+pub mod Fields
+pub mod Header
+pub mod Segments
+pub mod Refusals
+pub mod Pages
+pub mod Image
