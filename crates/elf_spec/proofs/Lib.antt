@@ -1,3 +1,3 @@
 pub mod Touched
 pub mod Rows
-mod Examples
+pub mod Examples

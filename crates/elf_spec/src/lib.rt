@@ -68,3 +68,10 @@ pub fn accepted_is_small(bytes: &[u8])
     ensures aligned { entry_of bytes.now % 4 ≡ 0 }
     ensures executable { HasPageWith 0 (entry_of bytes.now / 4096) (image_pages bytes.now) }
 {}
+
+/// An accepted file's pages lie at the addresses for images, from 0x1000 up to 0xC0000000.
+pub fn accepted_is_inside(bytes: &[u8])
+    requires { is_image bytes.now ≡ true }
+    ensures { All (λ page. (1 ≤ page.number) × (page.number < 0xC0000)) (image_pages bytes.now) }
+{
+}
