@@ -1,0 +1,8 @@
+pub mod Numbers
+pub mod Answers
+pub mod Effect
+pub mod Queues
+pub mod Tables
+pub mod Mutexes
+pub mod Threads
+pub mod Objects

@@ -1,0 +1,26 @@
+-- The table of environment calls: which number in a7 is which call, and which of a0 and a1 it reads.
+use Rattle.std.specs.Prelude.{ℕ, List, [], ◌∷◌, Option, option_map, find, ◌==◌}
+use Rattle.guest_call.specs.declared.Call.{Call}
+use Rattle.guest_call.specs.declared.Call.TheVariants.{Exit, Put, Create, ThreadExit, Join, Yield, Lock, Unlock}
+
+-- one line of the table: a number, and the call that it makes of a0 and a1 (this project's own)
+pub record Numbered : Type 0 where
+  pub number : ℕ
+  pub call : ℕ → ℕ → Call
+
+-- the calls by number (this project's own; each call's POSIX function stands at `Call`)
+abbrev pub call_table : List Numbered
+call_table =
+    record { number = 0; call = λ a0 a1. Exit a0 }
+    ∷ (record { number = 1; call = λ a0 a1. Put a0 a1 }
+    ∷ (record { number = 2; call = λ a0 a1. Create a0 a1 }
+    ∷ (record { number = 3; call = λ a0 a1. ThreadExit a0 }
+    ∷ (record { number = 4; call = λ a0 a1. Join a0 }
+    ∷ (record { number = 5; call = λ a0 a1. Yield }
+    ∷ (record { number = 6; call = λ a0 a1. Lock a0 }
+    ∷ (record { number = 8; call = λ a0 a1. Unlock a0 }
+    ∷ [])))))))
+
+-- the call that a7, a0 and a1 make, or None where the table has no such number: a bad call (this project's own)
+abbrev pub call_of : ℕ → ℕ → ℕ → Option Call
+call_of a7 a0 a1 = option_map (λ (line : Numbered). line.call a0 a1) (find (λ (line : Numbered). line.number == a7) call_table)

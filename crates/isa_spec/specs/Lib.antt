@@ -1,0 +1,7 @@
+pub mod Words
+pub mod Registers
+pub mod Causes
+pub mod Operations
+pub mod Fields
+pub mod Table
+pub mod Encoding

@@ -1,0 +1,205 @@
+//! What the instructions of RV32I mean: their types, words and registers, the table of their
+//! encodings, and the two laws that tie the table to the encoding.
+//!
+//! The definitions stand in `specs/`. This crate has no code beside the types.
+#![tactic(auto)]
+
+/// When a conditional branch is taken (RISC-V unprivileged ISA 20191213, 2.5).
+#[derive(Clone, Copy, Debug, PartialEq, Eq)]
+pub enum BranchTest {
+    /// BEQ: the operands are equal.
+    Equal,
+    /// BNE: the operands differ.
+    NotEqual,
+    /// BLT: the first is less, both read as signed numbers.
+    Less,
+    /// BGE: the first is not less, both read as signed numbers.
+    GreaterOrEqual,
+    /// BLTU: the first is less, both read as unsigned numbers.
+    LessUnsigned,
+    /// BGEU: the first is not less, both read as unsigned numbers.
+    GreaterOrEqualUnsigned,
+}
+
+/// What a load reads, and how it fills the register (RISC-V unprivileged ISA 20191213, 2.6).
+#[derive(Clone, Copy, Debug, PartialEq, Eq)]
+pub enum Load {
+    /// LB: a byte, sign-extended.
+    Byte,
+    /// LH: two bytes, sign-extended.
+    Half,
+    /// LW: four bytes.
+    Word,
+    /// LBU: a byte, zero-extended.
+    ByteUnsigned,
+    /// LHU: two bytes, zero-extended.
+    HalfUnsigned,
+}
+
+/// How many bytes a store writes (RISC-V unprivileged ISA 20191213, 2.6).
+#[derive(Clone, Copy, Debug, PartialEq, Eq)]
+pub enum Store {
+    /// SB: the low byte of the register.
+    Byte,
+    /// SH: its low two bytes.
+    Half,
+    /// SW: all four bytes.
+    Word,
+}
+
+/// An operation on a register and an immediate, other than a shift
+/// (RISC-V unprivileged ISA 20191213, 2.4.1).
+#[derive(Clone, Copy, Debug, PartialEq, Eq)]
+pub enum ImmediateOperation {
+    /// ADDI.
+    Add,
+    /// SLTI: 1 where the register is less as a signed number, else 0.
+    Less,
+    /// SLTIU: the same for unsigned numbers; the extended immediate is read unsigned.
+    LessUnsigned,
+    /// XORI.
+    Xor,
+    /// ORI.
+    Or,
+    /// ANDI.
+    And,
+}
+
+/// A shift by a constant (RISC-V unprivileged ISA 20191213, 2.4.1).
+#[derive(Clone, Copy, Debug, PartialEq, Eq)]
+pub enum ShiftOperation {
+    /// SLLI: zeros come in at the bottom.
+    LeftLogical,
+    /// SRLI: zeros come in at the top.
+    RightLogical,
+    /// SRAI: copies of the sign bit come in at the top.
+    RightArithmetic,
+}
+
+/// An operation on two registers (RISC-V unprivileged ISA 20191213, 2.4.2).
+#[derive(Clone, Copy, Debug, PartialEq, Eq)]
+pub enum RegisterOperation {
+    /// ADD.
+    Add,
+    /// SUB.
+    Subtract,
+    /// SLL: by the low five bits of the second register.
+    ShiftLeftLogical,
+    /// SLT: 1 where the first is less as a signed number, else 0.
+    Less,
+    /// SLTU: the same for unsigned numbers.
+    LessUnsigned,
+    /// XOR.
+    Xor,
+    /// SRL: by the low five bits of the second register.
+    ShiftRightLogical,
+    /// SRA: by the low five bits of the second register.
+    ShiftRightArithmetic,
+    /// OR.
+    Or,
+    /// AND.
+    And,
+}
+
+/// An instruction of RV32I, grouped by its form (RISC-V unprivileged ISA 20191213, chapter 2).
+///
+/// Registers are numbers below 32. `imm` is the immediate as the word that the hart adds or
+/// compares: sign-extended to 32 bits, and with its twelve zeros for LUI and AUIPC.
+#[derive(Clone, Copy, Debug, PartialEq, Eq)]
+pub enum Instr {
+    /// LUI: rd takes the immediate.
+    Lui {
+        rd: u8,
+        imm: u32,
+    },
+    /// AUIPC: rd takes pc plus the immediate.
+    Auipc {
+        rd: u8,
+        imm: u32,
+    },
+    /// JAL: a jump to pc plus the immediate; rd takes the address after this instruction.
+    Jal {
+        rd: u8,
+        imm: u32,
+    },
+    /// JALR: a jump to rs1 plus the immediate with bit 0 cleared; rd as in JAL.
+    Jalr {
+        rd: u8,
+        rs1: u8,
+        imm: u32,
+    },
+    /// A jump to pc plus the immediate where rs1 and rs2 meet the test.
+    Branch {
+        test: BranchTest,
+        rs1: u8,
+        rs2: u8,
+        imm: u32,
+    },
+    /// rd takes what stands in memory at rs1 plus the immediate.
+    Load {
+        load: Load,
+        rd: u8,
+        rs1: u8,
+        imm: u32,
+    },
+    /// rs2 goes to memory at rs1 plus the immediate.
+    Store {
+        store: Store,
+        rs1: u8,
+        rs2: u8,
+        imm: u32,
+    },
+    /// rd takes the operation's result on rs1 and the immediate.
+    Immediate {
+        operation: ImmediateOperation,
+        rd: u8,
+        rs1: u8,
+        imm: u32,
+    },
+    /// rd takes rs1 shifted by an amount below 32.
+    Shift {
+        shift: ShiftOperation,
+        rd: u8,
+        rs1: u8,
+        amount: u8,
+    },
+    /// rd takes the operation's result on rs1 and rs2.
+    Register {
+        operation: RegisterOperation,
+        rd: u8,
+        rs1: u8,
+        rs2: u8,
+    },
+    /// FENCE: no operation for a hart whose memory is its own.
+    Fence,
+    /// ECALL: a call of the environment.
+    Ecall,
+    /// EBREAK: a breakpoint.
+    Ebreak,
+}
+
+/// Why a hart traps.
+///
+/// The first eight are exception codes of `mcause`
+/// (RISC-V privileged ISA 20190608, 3.1.15, table 3.6); the last is this project's own.
+#[derive(Clone, Copy, Debug, PartialEq, Eq)]
+pub enum Cause {
+    /// 0: an instruction address that is not a multiple of four.
+    InstructionMisaligned,
+    /// 1: a fetch from an address that cannot be executed.
+    InstructionAccess,
+    /// 2: a word that is no instruction.
+    IllegalInstruction,
+    /// 3: EBREAK.
+    Breakpoint,
+    /// 4: a load from an address that is not a multiple of its size.
+    LoadMisaligned,
+    /// 5: a load from an address that cannot be read.
+    LoadAccess,
+    /// 6: a store to an address that is not a multiple of its size.
+    StoreMisaligned,
+    /// 7: a store to an address that cannot be written.
+    StoreAccess,
+    /// 8: an ECALL with a number that is no call.
+    BadCall,
+}

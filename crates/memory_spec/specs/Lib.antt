@@ -1,0 +1,4 @@
+pub mod Pages
+pub mod Stores
+pub mod Access
+pub mod Workspace

@@ -1,0 +1,2 @@
+pub mod TurnLocality
+pub mod ThunkLocality

@@ -1,0 +1,4 @@
+pub mod Turn
+pub mod Put
+pub mod Thunk
+pub mod Locality
