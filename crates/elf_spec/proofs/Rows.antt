@@ -1,12 +1,12 @@
 -- What no refusal says of a file, row by row.
-use Rattle.std.proofs.Common.{◌≡◌, ℕ, zero, suc, ◌+◌, ◌-◌, ◌/◌, ◌%◌, ◌<◌, ◌≤◌, Bool, true, false, not, ◌&&◌, ◌==◌, List, [], ◌∷◌, length, map, Option, Some, None, is_none, refl, get_or}
+use Rattle.std.proofs.Common.{◌≡◌, ℕ, zero, suc, ◌/◌, ◌%◌, ◌≤◌, Bool, true, false, not, ◌&&◌, ◌==◌, List, [], ◌∷◌, Option, Some, None, is_none, refl, get_or}
 use Rattle.std.specs.Int.{bit_at}
 use Rattle.std.proofs.lemmas.Bool.{and_parts, ltb-false, eqb-true, not-false}
 use Rattle.elf_spec.specs.declared.Refusal.{Refusal}
 use Rattle.elf_spec.specs.declared.Refusal.TheVariants.{TooManyPages, Entry}
 use Rattle.elf_spec.specs.Header.{segments, e_entry}
-use Rattle.elf_spec.specs.Segments.{page_numbers, permission_at}
-use Rattle.elf_spec.specs.Refusals.{refuse_if, first_given, refusals, refusal_of, page_count, is_executable, too_many_pages, entry_refusal}
+use Rattle.elf_spec.specs.Segments.{permission_at}
+use Rattle.elf_spec.specs.Refusals.{refuse_if, first_given, refusals, refusal_of, page_count, is_executable}
 use Rattle.elf_spec.specs.Image.{is_image}
 
 -- a file is accepted where it gets no refusal

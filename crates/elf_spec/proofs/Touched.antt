@@ -1,15 +1,15 @@
 -- The pages of an image are those that its segments touch.
-use Rattle.std.proofs.Common.{◌≡◌, ℕ, zero, suc, ◌+◌, ◌*◌, ◌-◌, ◌/◌, ◌<◌, ◌≤◌, ◌↔◌, max, Bool, true, false, cond, ◌||◌, bit_or, List, [], ◌∷◌, length, get_or, map, find, Option, Some, None, option_map, ◌&&◌, filter, fold, Any, All, Contains, nat_lt, nat_le, refl, sym, ap, ◌∙◌, subst, zero-add, arith}
+use Rattle.std.proofs.Common.{◌≡◌, ℕ, zero, suc, ◌+◌, ◌*◌, ◌-◌, ◌/◌, ◌<◌, ◌≤◌, ◌↔◌, max, Bool, true, false, cond, ◌||◌, bit_or, List, [], ◌∷◌, get_or, map, find, Option, Some, None, option_map, ◌&&◌, filter, fold, All, Contains, nat_lt, nat_le, refl, sym, ap, ◌∙◌, subst, zero-add, arith}
 use Rattle.std.specs.List.{range_with_len, list_any}
 use Rattle.std.specs.List.Sorted.{IsStrictlyIncreasing}
 use Rattle.std.proofs.lemmas.Bool.{and_parts, and_from, leb-true, ltb-true, ltb-false, or_parts, le-leb, lt-ltb}
-use Rattle.std.proofs.lemmas.List.Kept.{IsStrictlyIncreasing-filter}
+use Rattle.std.proofs.lemmas.List.Kept.{IsStrictlyIncreasing-filter, AllPairs-from_increasing}
 use Rattle.std.proofs.lemmas.List.FromFn.{length-range_with_len, get_or-range_with_len}
-use Rattle.std.proofs.lemmas.List.Elements.{All-cons, All-nil, All-weaker, All-contains, All-map, All-filter, filter_passes}
+use Rattle.std.proofs.lemmas.List.Elements.{All-cons, All-nil, All-head, All-weaker, All-contains, All-map, All-filter, filter_passes}
 use Rattle.std.proofs.lemmas.List.Folds.{Any-from_list_any, list_any-from_Any}
 use Rattle.elf_spec.specs.Header.{ProgramHeader, is_load, is_segment, segments, program_headers, program_header, e_phnum}
 use Rattle.elf_spec.specs.Segments.{page_numbers, IsTouched, permission_at, has_address, touches, first_page, last_page, highest_page, rights_of}
-use Rattle.elf_spec.specs.Pages.{Mapped}
+use Rattle.memory_spec.specs.Pages.{Mapped, ascends_above}
 use Rattle.elf_spec.specs.declared.Refusal.TheVariants.{Outside}
 use Rattle.elf_spec.specs.Refusals.{refusals, outside, is_outside}
 use Rattle.elf_spec.specs.Image.{image_pages, HasPageWith, is_image}
@@ -175,3 +175,26 @@ pages_inside bytes accepted k d below =
     let inside : is_outside s ≡ false = All-contains (λ s. is_outside s ≡ false) (segments bytes) s (segments_inside bytes accepted) (j, within, is) in
     let P : ℕ → Type 0 = λ n. (1 ≤ n) × (n < 0xC0000) in
     subst P on (page_inside s address inside has)
+
+-- the rest of a list that ascends does
+ascending_rest : (x : ℕ) (xs : List ℕ) → IsStrictlyIncreasing (x ∷ xs) → IsStrictlyIncreasing xs
+ascending_rest x xs ascends k below =
+    let e : suc k + 1 ≡ suc (k + 1) = omega arith in
+    let P : ℕ → Type 0 = λ j. get_or xs k 0 < get_or (x ∷ xs) j 0 in
+    subst P e (ascends (suc k) (omega arith))
+
+-- pages whose numbers ascend, all above a number, ascend above it
+ascends : (low : ℕ) (pages : List Mapped) → All (λ (p : Mapped). low < p.number) pages → IsStrictlyIncreasing (map (λ (p : Mapped). p.number) pages) → ascends_above low pages ≡ true
+ascends low [] above rising = refl
+ascends low (page ∷ pages) above rising =
+    let numbers = map (λ (p : Mapped). p.number) pages in
+    let later : All (λ (p : Mapped). page.number < p.number) pages = λ k d below.
+    let far : page.number < get_or numbers k 0 = AllPairs-from_increasing (page.number ∷ numbers) rising 0 (suc k) 0 (omega arith) (omega (arith, length-map pages (λ (p : Mapped). p.number))) in
+    let P : ℕ → Type 0 = λ n. page.number < n in
+    subst P (get_or-map (λ (p : Mapped). p.number) pages k d 0 below) far in
+    and_from _ _ (lt-ltb low page.number (All-head (λ (p : Mapped). low < p.number) page pages above)) (ascends page.number pages later (ascending_rest page.number numbers rising))
+
+pub image_ascends : (bytes : List ℕ) → is_image bytes ≡ true → ascends_above 0 (image_pages bytes) ≡ true
+image_ascends bytes accepted =
+    let above : All (λ (p : Mapped). 0 < p.number) (image_pages bytes) = λ k d below. (pages_inside bytes accepted k d below).0 in
+    ascends 0 (image_pages bytes) above (rw numbers-image_pages (page_numbers_ascend (segments bytes)))

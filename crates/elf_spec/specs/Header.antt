@@ -1,5 +1,5 @@
 -- The fields of an ELF32 file's header and of its program headers, as far as they are read.
-use Rattle.std.specs.Prelude.{ℕ, ◌+◌, ◌*◌, Bool, ◌&&◌, ◌||◌, ◌==◌, nat_lt, List, [], ◌∷◌, map, filter, take, slice_index}
+use Rattle.std.specs.Prelude.{ℕ, ◌+◌, ◌*◌, Bool, ◌&&◌, ◌||◌, ◌==◌, nat_lt, List, [], ◌∷◌, map, filter, slice_index}
 use Rattle.std.specs.List.{range_with_len}
 use Rattle.elf_spec.specs.Fields.{u16_at, u32_at}
 

@@ -5,7 +5,7 @@ use Rattle.std.specs.Int.{bit_at}
 use Rattle.elf_spec.specs.Header.{ProgramHeader, e_entry, segments}
 use Rattle.elf_spec.specs.Segments.{page_size, has_address, page_numbers, permission_at}
 use Rattle.elf_spec.specs.Refusals.{refusal_of}
-use Rattle.elf_spec.specs.Pages.{Mapped}
+use Rattle.memory_spec.specs.Pages.{Mapped}
 
 -- one of the pages has this number and the right of this bit: 0 is X, 1 is W, 2 is R (System V gABI, ch. 5, Segment Permissions)
 abbrev pub HasPageWith : ℕ → ℕ → List Mapped → Type 0

@@ -2,5 +2,4 @@ pub mod Fields
 pub mod Header
 pub mod Segments
 pub mod Refusals
-pub mod Pages
 pub mod Image

@@ -7,6 +7,7 @@
 
 ghost use Rattle.std.specs.Prelude.{ℕ, ◌≡◌, ◌≤◌, ◌<◌, ◌↔◌, ◌%◌, ◌/◌, length, map, true, All, Contains};
 ghost use Rattle.std.specs.List.Sorted.{IsStrictlyIncreasing};
+ghost use Rattle.memory_spec.specs.Pages.{ascends_above, IsMemory};
 ghost use Rattle.elf_spec.specs.Header.{segments};
 ghost use Rattle.elf_spec.specs.Segments.{page_numbers, IsTouched, permission_at};
 ghost use Rattle.elf_spec.specs.Image.{image_pages, image_memory, entry_of, is_image, HasPageWith};
@@ -57,8 +58,7 @@ pub fn pages_are_the_touched(bytes: &[u8])
 
 /// There are as many pages of bytes as pages, and each has 4,096 bytes.
 pub fn memory_is_of_pages(bytes: &[u8])
-    ensures as_many { length (image_memory bytes.now) ≡ length (image_pages bytes.now) }
-    ensures page_size { All (λ page. length page ≡ 4096) (image_memory bytes.now) }
+    ensures { IsMemory (image_pages bytes.now) (image_memory bytes.now) }
 {}
 
 /// An accepted file maps at most 1,024 pages, and it starts at a multiple of 4 on a page that may be executed.
@@ -69,9 +69,9 @@ pub fn accepted_is_small(bytes: &[u8])
     ensures executable { HasPageWith 0 (entry_of bytes.now / 4096) (image_pages bytes.now) }
 {}
 
-/// An accepted file's pages lie at the addresses for images, from 0x1000 up to 0xC0000000.
+/// An accepted file's pages lie at the addresses for images, from 0x1000 up to 0xC0000000, and are a map's.
 pub fn accepted_is_inside(bytes: &[u8])
     requires { is_image bytes.now ≡ true }
-    ensures { All (λ page. (1 ≤ page.number) × (page.number < 0xC0000)) (image_pages bytes.now) }
-{
-}
+    ensures map { ascends_above 0 (image_pages bytes.now) ≡ true }
+    ensures inside { All (λ page. (1 ≤ page.number) × (page.number < 0xC0000)) (image_pages bytes.now) }
+{}

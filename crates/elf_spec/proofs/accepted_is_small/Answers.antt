@@ -1,7 +1,4 @@
-use Rattle.std.proofs.Common.{◌∙◌}
 use Rattle.std.proofs.lemmas.List.{length-map}
-use Rattle.elf_spec.specs.Header.{segments, e_entry}
-use Rattle.elf_spec.specs.Segments.{page_numbers}
 use Rattle.elf_spec.specs.Image.{image_pages, entry_of}
 use Rattle.elf_spec.proofs.Rows.{few_pages, sound_start}
 use Rattle.elf_spec.proofs.Touched.{page_with_right}

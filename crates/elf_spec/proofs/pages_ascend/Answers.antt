@@ -1,4 +1,3 @@
-use Rattle.std.proofs.Common.{map}
 use Rattle.elf_spec.specs.Header.{segments}
 use Rattle.elf_spec.proofs.Touched.{numbers-image_pages, page_numbers_ascend}
 use Rattle.elf_spec.proofs.pages_ascend.Goals as goal
