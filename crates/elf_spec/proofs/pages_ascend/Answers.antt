@@ -1,0 +1,6 @@
+use Rattle.elf_spec.specs.Header.{segments}
+use Rattle.elf_spec.proofs.Touched.{numbers-image_pages, page_numbers_ascend}
+use Rattle.elf_spec.proofs.pages_ascend.Goals as goal
+
+pub returns : goal.returns
+returns c = rw numbers-image_pages (page_numbers_ascend (segments c.args.bytes.now))

@@ -1,0 +1,5 @@
+pub mod Fields
+pub mod Header
+pub mod Segments
+pub mod Refusals
+pub mod Image
