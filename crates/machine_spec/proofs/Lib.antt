@@ -1,0 +1,3 @@
+pub mod Harts
+pub mod Tied
+pub mod Steps
