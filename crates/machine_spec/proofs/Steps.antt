@@ -157,6 +157,16 @@ end_after-left (Some e) m none = cc
 end_after-left None m none =
     end_at-left (list_all (λ (h : Hart). is_ended h.status) m.harts) (not (list_any (λ (h : Hart). is_ready h.status) m.harts)) m.limit m.steps _ _ _ none
 
+end_at-ready : (a b : Bool) (limit steps : ℕ) (x y z : End) → cond a (Some x) (cond (not b) (Some y) (cond (leb limit steps) (Some z) None)) ≡ None → b ≡ true
+end_at-ready true b limit steps x y z none = cc
+end_at-ready false true limit steps x y z none = refl
+end_at-ready false false limit steps x y z none = cc
+
+end_after-ready : (e : Option End) (m : Machine) → end_after e m ≡ None → list_any (λ (h : Hart). is_ready h.status) m.harts ≡ true
+end_after-ready (Some e) m none = cc
+end_after-ready None m none =
+    end_at-ready (list_all (λ (h : Hart). is_ended h.status) m.harts) (list_any (λ (h : Hart). is_ready h.status) m.harts) m.limit m.steps _ _ _ none
+
 done-whole :
     (m : Machine) (t : ℕ) (put : List ℕ) (a : Asked)
     → IsMemory m.frame.map m.memory
@@ -169,12 +179,15 @@ done-whole m t put (Asks call) memory views tied ready =
       memory = memory;
       views = views-settled m.frame.map (act (is_readable m.frame.map) m.objects t call).0 m.memory t m.harts (ready-below m.harts t ready) memory views;
       tied = tied-called (is_readable m.frame.map) m.objects m.harts t call m.memory tied ready;
+      some_ready = λ none.
+        end_after-ready (fate_end (act (is_readable m.frame.map) m.objects t call).0.fate)
+        (performed m t put (act (is_readable m.frame.map) m.objects t call)) none;
       steps_left = λ none.
         end_after-left (fate_end (act (is_readable m.frame.map) m.objects t call).0.fate)
         (performed m t put (act (is_readable m.frame.map) m.objects t call)) none
     }
 done-whole m t put (Stops e) memory views tied ready =
-    record { memory = memory; views = views; tied = tied; steps_left = λ none. cc }
+    record { memory = memory; views = views; tied = tied; some_ready = λ none. cc; steps_left = λ none. cc }
 
 finished-whole :
     (m : Machine) (t : ℕ) (memory : Memory) (regs : Registers) (e : ThunkEnd) (put : List ℕ)

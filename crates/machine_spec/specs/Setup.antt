@@ -27,7 +27,7 @@ pub record IsSetup (s : Setup) : Type 0 where
   pub most_steps : s.limit ≤ 65536
 
 -- Pages to read and write, from a number on, so many. (this project's own)
-abbrev pub data_pages : ℕ → ℕ → List Mapped
+unfoldable pub data_pages : ℕ → ℕ → List Mapped
 data_pages number count = map (λ n. record { number = n; permission = 6 }) (range_with_len number count)
 
 -- The page map of a setup: the image's pages, the input header at 0xC0000000, 256 pages of input, and 16 pages of stack for each of
@@ -43,10 +43,17 @@ header_page input = to_le_bytes w32 (length input) ++ replicate 4092 0
 unfoldable pub input_page : List ℕ → ℕ → List ℕ
 input_page input k = map (λ i. slice_index input i) (range_with_len (4096 * k) 4096)
 
+-- The 256 pages of the input. (this project's own)
+unfoldable pub input_memory : List ℕ → Memory
+input_memory input = map (input_page input) (range_with_len 0 256)
+
+-- The stacks, 16 pages for each of 32 threads. (this project's own)
+unfoldable pub stack_memory : Memory
+stack_memory = replicate 512 zero_page
+
 -- The memory that a setup starts with. (this project's own)
 unfoldable pub start_memory : Setup → Memory
-start_memory s =
-    image_memory s.elf ++ header_page s.input ∷ [] ++ map (input_page s.input) (range_with_len 0 256) ++ replicate 512 zero_page
+start_memory s = image_memory s.elf ++ header_page s.input ∷ [] ++ input_memory s.input ++ stack_memory
 
 -- The machine that a setup starts as: thread 0 alone, at the file's entry, with the address of the input header in a0. (this project's own)
 unfoldable pub first : Setup → Machine
