@@ -74,20 +74,24 @@ executed_count schedule = count_by (λ (e : Entry). not e.reused) schedule
 unfoldable pub memory_digest : Memory → List ℕ
 memory_digest memory = encode_lower (sha256 (concat memory))
 
--- The report of round n, line by line, then the output's bytes and a line's end. (this project's own)
-unfoldable pub report_text : ℕ → Told → List ℕ
-report_text n t =
+-- The lines of the report of round n. (this project's own)
+abbrev pub report_lines : ℕ → Told → List (List ℕ)
+report_lines n t =
     line (codes "round") (decimal n)
-    ++ line (codes "end") (ending_text t.ending)
-    ++ line (codes "steps") (decimal (length t.schedule))
-    ++ line (codes "reused") (decimal (reused_count t.schedule))
-    ++ line (codes "executed") (decimal (executed_count t.schedule))
-    ++ line (codes "instructions") (decimal t.instructions)
-    ++ list_line (codes "by") decimal t.shares
-    ++ list_line (codes "schedule") entry_text t.schedule
-    ++ line (codes "memory") (memory_digest t.memory)
-    ++ line (codes "output") (decimal (length t.output))
-    ++ t.output ++ newline
+    ∷ line (codes "end") (ending_text t.ending)
+    ∷ line (codes "steps") (decimal (length t.schedule))
+    ∷ line (codes "reused") (decimal (reused_count t.schedule))
+    ∷ line (codes "executed") (decimal (executed_count t.schedule))
+    ∷ line (codes "instructions") (decimal t.instructions)
+    ∷ list_line (codes "by") decimal t.shares
+    ∷ list_line (codes "schedule") entry_text t.schedule
+    ∷ line (codes "memory") (memory_digest t.memory)
+    ∷ line (codes "output") (decimal (length t.output))
+    ∷ []
+
+-- The report of round n: its lines, the output's bytes, and a line's end. (this project's own)
+unfoldable pub report_text : ℕ → Told → List ℕ
+report_text n t = concat (report_lines n t) ++ t.output ++ newline
 
 -- The report of round n of a setup, whose schedule has these entries and whose workers had these shares. (this project's own)
 unfoldable pub report : ℕ → Setup → List Entry → List ℕ → List ℕ
