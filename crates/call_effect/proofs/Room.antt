@@ -42,7 +42,7 @@ first-below n u q low = by_order (nat_lt u n) refl
 length-total : (n : ℕ) (q : List ℕ) → ((t : ℕ) → n ≤ t → places t q ≡ 0) → length q ≡ total n q
 length-total n [] low = omega (arith, total-nil n)
 length-total n (u ∷ q) low =
-  omega (arith, total-cons n u q, first-below n u q low, length-total n q (λ t le. omega (arith, low t le, places-cons t u q)))
+    omega (arith, total-cons n u q, first-below n u q low, length-total n q (λ t le. omega (arith, low t le, places-cons t u q)))
 
 -- threads below n, each at most once in a queue, are at most n
 pub length-few : (n : ℕ) (q : List ℕ) → ((t : ℕ) → n ≤ t → places t q ≡ 0) → ((t : ℕ) → places t q ≤ 1) → length q ≤ n
@@ -54,10 +54,13 @@ length-room n t q lt low once free = omega (arith, length-few n (q ++ t ∷ []) 
   where
     differs : (u : ℕ) → n ≤ u → tally (t == u) ≡ 0
     differs u le = grind (arith, nat_tests)
+
     low_too : (u : ℕ) → n ≤ u → places u (q ++ t ∷ []) ≡ 0
     low_too u le = omega (arith, places-push u q t, low u le, differs u le)
+
     once_by : (u : ℕ) (b : Bool) → (t == u) ≡ b → places u q + tally b ≤ 1
     once_by u true is = let same : t ≡ u = grind (arith, nat_tests) in let there : places u q ≡ 0 = rw (← same) free in omega (arith, there)
     once_by u false is = omega (arith, once u)
+
     once_too : (u : ℕ) → places u (q ++ t ∷ []) ≤ 1
     once_too u = omega (arith, places-push u q t, once_by u (t == u) refl)

@@ -5,8 +5,8 @@ ghost use Rattle.std.specs.Prelude.{◌≡◌, [], Some, None};
 ghost use Rattle.guest_call.specs.Effect as spec;
 ghost use Rattle.guest_call.specs.Threads.{creates};
 
-use std::marker::Model;
 use guest_call::Fate;
+use std::marker::Model;
 use wait_queue::Queue;
 
 /// What a call does to the threads: to its caller, to those that waited, and to one that it creates.

@@ -5,10 +5,10 @@ ghost use Rattle.std.specs.Prelude.{◌≡◌, ◌<◌, ◌≤◌, ◌∷◌, []
 ghost use Rattle.guest_call.specs.Queues.{waits};
 ghost use Rattle.guest_call.specs.Threads.{fresh, joins, ended_with, joined_by, member_queue, member_at, create_row, thread_exit_row, join_row};
 
-use std::marker::Model;
 use arrayvec::ArrayVec;
 use call_effect::Effect;
-use guest_call::{Fate, EAGAIN, EDEADLK, EINVAL, ESRCH};
+use guest_call::{EAGAIN, EDEADLK, EINVAL, ESRCH, Fate};
+use std::marker::Model;
 use wait_queue::Queue;
 
 /// How many threads a guest may have, ended ones counted.

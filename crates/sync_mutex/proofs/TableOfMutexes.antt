@@ -1,5 +1,5 @@
 -- What the table of mutexes keeps by each of its rows.
-use Rattle.std.proofs.Common.{◌≡◌, ℕ, ◌<◌, List, replicate, length, slice_index_or, arith, refl, subst, sym, ap}
+use Rattle.std.proofs.Common.{◌≡◌, ℕ, ◌<◌, List, arith, refl, subst, sym, ap}
 use Rattle.std.proofs.lemmas.List.{length-replicate}
 use Rattle.guest_call.specs.Effect.{Effect}
 use Rattle.guest_call.specs.Queues.{waits}
@@ -16,13 +16,14 @@ unfolding all_unlocked
 unlocked_table = record {
   objects = length-replicate 64 unlocked;
   low = λ t beyond. waits-replicate mutex_queue 64 unlocked t refl;
-  once = λ t. omega (arith, waits-replicate mutex_queue 64 unlocked t refl) }
+  once = λ t. omega (arith, waits-replicate mutex_queue 64 unlocked t refl);
+}
 
 -- the table after lock, and after unlock, as the effect and the table that the call gave
 pub lock_kept : (cells after : List Mutex) (e : Effect) (t m : ℕ) → (e, after) ≡ at_cell unlocked (lock_row t) cells m → IsTable mutex_queue cells → t < 32 → waits mutex_queue cells t ≡ 0 → IsTable mutex_queue after
 lock_kept cells after e t m is table lt idle =
-  subst (IsTable mutex_queue) (sym (ap (λ (r : Effect × List Mutex). r.1) is)) (at_cell_kept mutex_queue unlocked (lock_row t) cells m t (lock_fair t) table lt idle)
+    subst (IsTable mutex_queue) (sym (ap (λ (r : Effect × List Mutex). r.1) is)) (at_cell_kept mutex_queue unlocked (lock_row t) cells m t (lock_fair t) table lt idle)
 
 pub unlock_kept : (cells after : List Mutex) (e : Effect) (t m : ℕ) → (e, after) ≡ at_cell unlocked (unlock_row t) cells m → IsTable mutex_queue cells → t < 32 → waits mutex_queue cells t ≡ 0 → IsTable mutex_queue after
 unlock_kept cells after e t m is table lt idle =
-  subst (IsTable mutex_queue) (sym (ap (λ (r : Effect × List Mutex). r.1) is)) (at_cell_kept mutex_queue unlocked (unlock_row t) cells m t (unlock_fair t) table lt idle)
+    subst (IsTable mutex_queue) (sym (ap (λ (r : Effect × List Mutex). r.1) is)) (at_cell_kept mutex_queue unlocked (unlock_row t) cells m t (unlock_fair t) table lt idle)

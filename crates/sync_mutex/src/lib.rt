@@ -8,10 +8,10 @@ ghost use Rattle.guest_call.specs.Tables.{at_cell};
 ghost use Rattle.guest_call.specs.Mutexes.{unlocked, mutex_queue, lock_row, unlock_row};
 ghost use Rattle.guest_call.specs.Objects.{all_unlocked};
 
+use call_effect::Effect;
+use guest_call::{EDEADLK, EINVAL, EPERM, Fate};
 use std::array;
 use std::marker::Model;
-use call_effect::Effect;
-use guest_call::{Fate, EDEADLK, EINVAL, EPERM};
 use wait_queue::Queue;
 
 /// One mutex: who owns it, if anybody, and who waits for it.
@@ -78,7 +78,11 @@ impl Cell {
 fn free_cells() -> [Cell; 64]
     ensures { result ≡ all_unlocked }
 {
-    array::from_fn(|_i: usize| -> Cell ensures { result ≡ unlocked } { Cell::free() })
+    array::from_fn(
+        |_i: usize| -> Cell
+            ensures { result ≡ unlocked }
+        { Cell::free() },
+    )
 }
 
 /// Thread `t` wants the mutex of number `m`.

@@ -4,8 +4,8 @@
 ghost use Rattle.std.specs.Prelude.{◌≡◌, ◌==◌, ◌<◌, ◌≤◌, [], ◌∷◌, ◌++◌, length, slice_index};
 ghost use Rattle.wait_queue.specs.Queue.{popped};
 
-use std::marker::Model;
 use arrayvec::ArrayVec;
+use std::marker::Model;
 
 /// How many threads a queue has room for.
 pub const ROOM: usize = 32;

@@ -1,4 +1,4 @@
-use Rattle.std.proofs.Common.{rules, subst, sym}
+use Rattle.std.proofs.Common.{subst, sym}
 use Rattle.guest_call.specs.Tables.{IsTable}
 use Rattle.guest_call.specs.Mutexes.{mutex_queue}
 use Rattle.sync_mutex.proofs.TableOfMutexes.{unlocked_table}
