@@ -5,7 +5,7 @@ use Rattle.std.proofs.lemmas.List.Folds.{sum_by-replicate}
 use Rattle.guest_call.specs.Effect.{Fate, Returns, Blocks, Ends, Exits, waiting}
 use Rattle.guest_call.specs.Queues.{places, waits, entering}
 
--- a test as a count
+-- a test as a count (this project's own)
 abbrev pub tally : Bool → ℕ
 tally b = cond b 1 0
 
@@ -62,7 +62,7 @@ unfolding waits
 waits-push queue cells c t = sum_by_push (λ x. places t (queue x)) cells c
 
 pub waits-set : {C : Type 0} (queue : C → List ℕ) (cells : List C) (i : ℕ) (c d : C) (t : ℕ) → i < length cells →
-  waits queue (slice_set cells i c) t + places t (queue (slice_index_or cells i d)) ≡ waits queue cells t + places t (queue c)
+    waits queue (slice_set cells i c) t + places t (queue (slice_index_or cells i d)) ≡ waits queue cells t + places t (queue c)
 unfolding waits
 waits-set queue cells i c d t lt = sum_by-set (λ x. places t (queue x)) cells i c d lt
 

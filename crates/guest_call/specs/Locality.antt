@@ -1,5 +1,5 @@
 -- A call reads and changes nothing but the objects on which it acts.
-use Rattle.std.specs.Prelude.{ℕ, ◌==◌, ◌≡◌, Bool, true, false, List, slice_index_or}
+use Rattle.std.specs.Prelude.{◌==◌, ◌≡◌, Bool, true, false, List, slice_index_or}
 use Rattle.std.specs.List.{list_any}
 use Rattle.guest_call.specs.declared.Object.{Object}
 use Rattle.guest_call.specs.declared.Object.TheVariants.{Output, ThreadTable, Mutex as MutexOf}
