@@ -1,6 +1,6 @@
 -- A word that decodes to an instruction spells it.
-use Rattle.std.proofs.Common.{◌≡◌, ℕ, ◌+◌, ◌*◌, ◌/◌, ◌%◌, ◌^◌, ◌<◌, Bool, true, false, ◌&&◌, ◌==◌, if◌then◌else◌, List, [], ◌∷◌, Option, Some, refl, arith, subst}
-use Rattle.std.specs.Prelude.{option_map, ⊤}
+use Rattle.std.proofs.Common.{◌≡◌, ℕ, ◌+◌, ◌*◌, ◌/◌, ◌%◌, ◌^◌, ◌<◌, Bool, true, false, ◌&&◌, ◌==◌, if◌then◌else◌, List, [], ◌∷◌, Option, Some, None, refl, arith, subst}
+use Rattle.std.specs.Prelude.{IfSome, option_map, ⊤}
 use Rattle.std.proofs.lemmas.Bool.Decides.{nat_tests}
 use Rattle.isa_spec.specs.declared.Instr.{Instr}
 use Rattle.isa_spec.specs.declared.Instr.TheVariants as instr
@@ -314,3 +314,12 @@ found_in (r ∷ rs) good w i h e =
 pub decoded-spells : (w : ℕ) (i : Instr) → w < 2 ^ 32 → decoded w ≡ Some i → InRange i × Spells w i
 unfolding decoded reading_of
 decoded-spells w i h e = found_in rows rows_good w i h e
+
+-- a fact of what is there, where it follows from what the option is
+if_some : {X : Type 0} (o : Option X) (P : X → Type 0) → ((x : X) → o ≡ Some x → P x) → IfSome o P
+if_some None P h = tt
+if_some (Some x) P h = h x refl
+
+-- what a word decodes to has its operands in range
+pub decoded_in_range : (w : ℕ) → w < 2 ^ 32 → IfSome (decoded w) InRange
+decoded_in_range w h = if_some (decoded w) InRange (λ i e. (decoded-spells w i h e).0)
