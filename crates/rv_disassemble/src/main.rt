@@ -15,7 +15,6 @@
 #![tactic(auto)]
 
 mod assembly;
-mod words;
 
 use assembly::Assembly;
 use rv_decode::decode;
@@ -23,7 +22,7 @@ use std::alloc::Global;
 use std::io;
 use std::io::{BufRead, BufReader, BufWriter, Write};
 use std::process::ExitCode;
-use words::word_in;
+use hex_word::word_in;
 
 /// Writes the answer to a word.
 fn write_answer<W: Write>(out: &mut W, w: u32) -> io::Result<()> {

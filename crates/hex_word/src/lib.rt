@@ -1,8 +1,9 @@
-//! Words as text.
+//! Words as text: eight hexadecimal digits, with `a` to `f` in lower case.
+#![tactic(auto)]
 
 ghost use Rattle.std.specs.Prelude.{◌≡◌};
 ghost use Rattle.std.specs.List.{list_all};
-ghost use Rattle.rv_disassemble.specs.Words.{is_word_digit, is_word, word_in};
+ghost use Rattle.hex_word.specs.Words.{is_word_digit, is_word, word_in};
 
 /// Whether a byte is a hexadecimal digit, in lower case.
 fn is_word_digit(b: u8) -> bool

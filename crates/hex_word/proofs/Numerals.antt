@@ -5,7 +5,7 @@ use Rattle.std.specs.Char.{digit_value}
 use Rattle.std.specs.Result.{result_ok}
 use Rattle.std.specs.Str.Parse.{AllDigits, digits_value, without_leading_plus, ParsesUnsigned}
 use Rattle.std.proofs.lemmas.Bool.Decides.{nat_tests}
-use Rattle.rv_disassemble.specs.Words.{is_word_digit, is_word}
+use Rattle.hex_word.specs.Words.{is_word_digit, is_word}
 
 -- both parts of a test that passed
 both : (a b : Bool) → (a && b) ≡ true → (a ≡ true) × (b ≡ true)
