@@ -90,27 +90,32 @@ ebreak_read : decoded 0x00100073 ≡ Some instr.Ebreak
 unfolding decoded reading_of
 ebreak_read = refl
 
--- the codes of the enums fit their fields
+-- the code of a branch fits its field
 branch_code_fits : (t : BranchTest) → branch_code t < 2 ^ 3
 branch_code_fits test.Equal = omega arith
 branch_code_fits _ = omega arith
 
+-- the code of a load fits its field
 load_code_fits : (l : Load) → load_code l < 2 ^ 3
 load_code_fits load.Byte = omega arith
 load_code_fits _ = omega arith
 
+-- the code of a store fits its field
 store_code_fits : (s : Store) → store_code s < 2 ^ 3
 store_code_fits store.Byte = omega arith
 store_code_fits _ = omega arith
 
+-- the code of an operation with an immediate fits its field
 immediate_code_fits : (o : ImmediateOperation) → immediate_code o < 2 ^ 3
 immediate_code_fits immediate.Add = omega arith
 immediate_code_fits _ = omega arith
 
+-- the codes of a shift fit their fields
 shift_code_fits : (s : ShiftOperation) → (shift_code s < 2 ^ 3) × (shift_top s < 2 ^ 7)
 shift_code_fits shift.LeftLogical = (omega arith, omega arith)
 shift_code_fits _ = (omega arith, omega arith)
 
+-- the codes of an operation on two registers fit their fields
 register_code_fits : (o : RegisterOperation) → (register_code o < 2 ^ 3) × (register_top o < 2 ^ 7)
 register_code_fits register.Add = (omega arith, omega arith)
 register_code_fits _ = (omega arith, omega arith)

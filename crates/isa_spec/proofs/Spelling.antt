@@ -1,6 +1,6 @@
 -- A word that decodes to an instruction spells it.
-use Rattle.std.proofs.Common.{◌≡◌, ℕ, ◌+◌, ◌*◌, ◌/◌, ◌%◌, ◌^◌, ◌<◌, Bool, true, false, ◌&&◌, ◌==◌, if◌then◌else◌, List, [], ◌∷◌, Option, Some, refl, arith, subst}
-use Rattle.std.specs.Prelude.{option_map, ⊤}
+use Rattle.std.proofs.Common.{◌≡◌, ℕ, ◌+◌, ◌*◌, ◌/◌, ◌%◌, ◌^◌, ◌<◌, Bool, true, false, ◌&&◌, ◌==◌, if◌then◌else◌, List, [], ◌∷◌, Option, Some, None, refl, arith, subst}
+use Rattle.std.specs.Prelude.{IfSome, option_map, ⊤}
 use Rattle.std.proofs.lemmas.Bool.Decides.{nat_tests}
 use Rattle.isa_spec.specs.declared.Instr.{Instr}
 use Rattle.isa_spec.specs.declared.Instr.TheVariants as instr
@@ -44,6 +44,7 @@ record FromI (w imm : ℕ) : Type 0 where
   pub low : imm % 2 ^ 5 ≡ rs2_of w
   pub extended : IsSignExtended 12 imm
 
+-- a word holds the parts of its I-immediate
 from_i : (w : ℕ) → FromI w (i_immediate w)
 unfolding i_immediate
 from_i w = record { high = grind (arith, nat_tests); low = grind (arith, nat_tests); extended = grind (arith, nat_tests) }
@@ -54,6 +55,7 @@ record FromS (w imm : ℕ) : Type 0 where
   pub low : imm % 2 ^ 5 ≡ rd_of w
   pub extended : IsSignExtended 12 imm
 
+-- a word holds the parts of its S-immediate
 from_s : (w : ℕ) → FromS w (s_immediate w)
 unfolding s_immediate
 from_s w = record { high = grind (arith, nat_tests); low = grind (arith, nat_tests); extended = grind (arith, nat_tests) }
@@ -64,6 +66,7 @@ record FromB (w imm : ℕ) : Type 0 where
   pub low : imm / 2 % 2 ^ 4 * 2 + imm / 2 ^ 11 % 2 ≡ rd_of w
   pub offset : IsOffset 13 imm
 
+-- a word holds the parts of its B-immediate
 from_b : (w : ℕ) → FromB w (b_immediate w)
 unfolding b_immediate
 from_b w = record { high = grind (arith, nat_tests); low = grind (arith, nat_tests); offset = (grind (arith, nat_tests), grind (arith, nat_tests)) }
@@ -76,6 +79,7 @@ record FromJ (w imm : ℕ) : Type 0 where
   pub high : imm / 2 ^ 12 % 2 ^ 8 ≡ bits w 19 12
   pub offset : IsOffset 21 imm
 
+-- a word holds the parts of its J-immediate
 from_j : (w : ℕ) → FromJ w (j_immediate w)
 unfolding j_immediate
 from_j w = record { sign = grind (arith, nat_tests); low = grind (arith, nat_tests); middle = grind (arith, nat_tests); high = grind (arith, nat_tests); offset = (grind (arith, nat_tests), grind (arith, nat_tests)) }
@@ -105,42 +109,55 @@ u_word_back w op h eo = ((omega arith, omega arith), omega arith)
 j_word_back : (w op : ℕ) → w < 2 ^ 32 → opcode_of w ≡ op → w ≡ j_word (j_immediate w) (rd_of w) op
 j_word_back w op h eo = let h' = from_j w in rw (h'.sign, h'.low, h'.middle, h'.high, ← eo) (omega arith)
 
+-- the row of LUI
 lui_good : IsGood (row 0b0110111 free free (λ w. instr.Lui (rd_of w) (u_immediate w)))
 lui_good w h op f3 f7 whole = let b = u_word_back w 0b0110111 h op in ((omega arith, b.0), b.1)
 
+-- the row of AUIPC
 auipc_good : IsGood (row 0b0010111 free free (λ w. instr.Auipc (rd_of w) (u_immediate w)))
 auipc_good w h op f3 f7 whole = let b = u_word_back w 0b0010111 h op in ((omega arith, b.0), b.1)
 
+-- the row of JAL
 jal_good : IsGood (row 0b1101111 free free (λ w. instr.Jal (rd_of w) (j_immediate w)))
 jal_good w h op f3 f7 whole = ((omega arith, (from_j w).offset), j_word_back w 0b1101111 h op)
 
+-- the row of JALR
 jalr_good : IsGood (row 0b1100111 (fixed 0b000) free (λ w. instr.Jalr (rd_of w) (rs1_of w) (i_immediate w)))
 jalr_good w h op f3 f7 whole = ((omega arith, omega arith, (from_i w).extended), i_word_back w 0b000 0b1100111 h op f3)
 
+-- the rows of the branches
 branch_good : (t : BranchTest) → IsGood (branch_row (branch_code t) t)
 branch_good t w h op f3 f7 whole = ((omega arith, omega arith, (from_b w).offset), b_word_back w (branch_code t) 0b1100011 h op f3)
 
+-- the rows of the loads
 load_good : (l : Load) → IsGood (load_row (load_code l) l)
 load_good l w h op f3 f7 whole = ((omega arith, omega arith, (from_i w).extended), i_word_back w (load_code l) 0b0000011 h op f3)
 
+-- the rows of the stores
 store_good : (s : Store) → IsGood (store_row (store_code s) s)
 store_good s w h op f3 f7 whole = ((omega arith, omega arith, (from_s w).extended), s_word_back w (store_code s) 0b0100011 h op f3)
 
+-- the rows of the operations with an immediate
 immediate_good : (o : ImmediateOperation) → IsGood (immediate_row (immediate_code o) o)
 immediate_good o w h op f3 f7 whole = ((omega arith, omega arith, (from_i w).extended), i_word_back w (immediate_code o) 0b0010011 h op f3)
 
+-- the rows of the shifts by a constant
 shift_good : (s : ShiftOperation) → IsGood (shift_row (shift_top s) (shift_code s) s)
 shift_good s w h op f3 f7 whole = ((omega arith, omega arith, omega arith), r_word_back w (shift_top s) (shift_code s) 0b0010011 h op f3 f7)
 
+-- the rows of the operations on two registers
 register_good : (o : RegisterOperation) → IsGood (register_row (register_top o) (register_code o) o)
 register_good o w h op f3 f7 whole = ((omega arith, omega arith, omega arith), r_word_back w (register_top o) (register_code o) 0b0110011 h op f3 f7)
 
+-- the row of FENCE
 fence_good : IsGood (row 0b0001111 (fixed 0b000) free (λ _. instr.Fence))
 fence_good w h op f3 f7 whole = (tt, (op, f3))
 
+-- the row of ECALL
 ecall_good : IsGood (one_word 0b1110011 0x00000073 instr.Ecall)
 ecall_good w h op f3 f7 whole = (tt, whole)
 
+-- the row of EBREAK
 ebreak_good : IsGood (one_word 0b1110011 0x00100073 instr.Ebreak)
 ebreak_good w h op f3 f7 whole = (tt, whole)
 
@@ -314,3 +331,12 @@ found_in (r ∷ rs) good w i h e =
 pub decoded-spells : (w : ℕ) (i : Instr) → w < 2 ^ 32 → decoded w ≡ Some i → InRange i × Spells w i
 unfolding decoded reading_of
 decoded-spells w i h e = found_in rows rows_good w i h e
+
+-- a fact of what is there, where it follows from what the option is
+if_some : {X : Type 0} (o : Option X) (P : X → Type 0) → ((x : X) → o ≡ Some x → P x) → IfSome o P
+if_some None P h = tt
+if_some (Some x) P h = h x refl
+
+-- what a word decodes to has its operands in range
+pub decoded_in_range : (w : ℕ) → w < 2 ^ 32 → IfSome (decoded w) InRange
+decoded_in_range w h = if_some (decoded w) InRange (λ i e. (decoded-spells w i h e).0)

@@ -1,5 +1,5 @@
 -- Registers and the numbers of causes, computed. The expected values are those that the RISC-V
--- unprivileged ISA 20191213, 2.1, and the privileged ISA 20190608, table 3.6, give.
+-- unprivileged ISA 20191213, 2.1, and the privileged ISA 20211203, 3.1.15, give.
 use Rattle.std.proofs.Common.{◌≡◌, replicate, refl}
 use Rattle.isa_spec.specs.declared.Cause.TheVariants as cause
 use Rattle.isa_spec.specs.Registers.{Registers, register, with_register, with_pc}
