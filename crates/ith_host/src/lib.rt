@@ -8,6 +8,8 @@ mod gate;
 mod host;
 mod memory;
 mod system;
+#[cfg(test)]
+mod tests;
 mod transfer;
 
 pub use gate::{Gate, OpenGate};

@@ -1,4 +1,4 @@
-ghost use Rattle.std.specs.Prelude.{◌≡◌};
+ghost use Rattle.std.specs.Prelude.{◌≡◌, false, None};
 ghost use Rattle.ith_host.specs.World.{World, Rose, NoneFell, Stays, StaysBut, IsContent, Holds, PrintedSome};
 
 use crate::host::{Got, Host, Printed, Put};
@@ -17,11 +17,11 @@ pub struct OsHost<'a, R> {
 }
 
 impl<'a, R> OsHost<'a, R> {
-    ghost use Rattle.ith_host.specs.OsHost.{system_world};
+    ghost use Rattle.ith_host.specs.OsHost.{os_world};
 
     /// The host of a runtime, with no faults so far.
     pub fn new(rt: &'a R) -> Self
-        ensures { system_world result.read_faults result.write_faults result.print_faults ≡ system_world 0 0 0 }
+        ensures { os_world result ≡ record { tells = false; files = λ _. None; printed = None; read_faults = λ _. 0; write_faults = λ _. 0; print_faults = 0 } }
     {
         OsHost {
             rt,
@@ -33,9 +33,9 @@ impl<'a, R> OsHost<'a, R> {
 }
 
 impl<'a, R: Files + Print + Eprint> Host for OsHost<'a, R> {
-    ghost use Rattle.ith_host.specs.OsHost.{system_world};
+    ghost use Rattle.ith_host.specs.OsHost.{os_world};
 
-    ghost world = { λ host. system_world host.read_faults host.write_faults host.print_faults };
+    ghost world = { os_world };
 
     fn read(&mut self, name: &str, limit: u64, into: &mut Vec<u8>) -> Got {
         let got = match File::open(self.rt, name) {

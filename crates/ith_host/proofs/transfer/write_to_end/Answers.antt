@@ -1,4 +1,4 @@
-use Rattle.std.proofs.Common.{rules, arith, take, drop, take-add, length, length-drop, length-take, ◌++◌, ◌+◌, ◌-◌, ◌≤◌, ◌≡◌, ◌∙◌, ap, sym, ℕ, List}
+use Rattle.std.proofs.Common.{rules, arith, take, drop, take-add, length, length-take, ◌++◌, ◌+◌, ◌-◌, ◌≤◌, ◌≡◌, ◌∙◌, ap, sym, ℕ, List}
 use Rattle.std.proofs.lemmas.List.{take_rest}
 use Rattle.std.specs.Io.KnownBytes.{Appends}
 use Rattle.ith_host.proofs.Known.{Appends-more}
