@@ -1,0 +1,4 @@
+pub mod World
+pub mod MemHost
+pub mod OsHost
+pub mod Transfer

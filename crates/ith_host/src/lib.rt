@@ -1,0 +1,19 @@
+//! The world outside of the runtime: files, printed bytes, and the gate that a worker passes.
+//!
+//! `Host` is all that the program does to the outside, as a trait whose contracts speak of one `World`. `MemHost`
+//! keeps that world in memory, and can be told which of its calls fail. `OsHost` is the operating system's.
+#![tactic(auto)]
+
+mod gate;
+mod host;
+mod memory;
+mod system;
+#[cfg(test)]
+mod tests;
+mod transfer;
+
+pub use gate::{Gate, OpenGate};
+pub use host::{Got, Host, Printed, Put};
+pub use memory::MemHost;
+pub use system::OsHost;
+pub use transfer::{read_to_limit, write_to_end};
