@@ -1,0 +1,6 @@
+//! The guest machine in code: a setup, the machine that it starts as, and one step of a ready thread.
+#![tactic(auto)]
+
+mod hart;
+
+pub use hart::Hart;
