@@ -3,10 +3,9 @@
 ghost use Rattle.std.specs.Prelude.{◌≡◌, ◌==◌, ◌<◌, ◌*◌, true, length, slice_index_or, IfSome, IfNone};
 ghost use Rattle.memory_spec.specs.Pages.{slot_of, ascends_above, unmapped};
 
-use std::marker::Model;
-
 use super::lookup::{HINTS, find_near, hint_place};
 use super::permission::Perm;
+use std::marker::Model;
 
 /// The place of a page in the page map.
 pub type Slot = usize;
