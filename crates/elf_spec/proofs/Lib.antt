@@ -1,3 +1,4 @@
 pub mod Touched
 pub mod Rows
 pub mod Examples
+pub mod ImageMemory

@@ -47,8 +47,10 @@ call-2-is-create = refl
 -- calls 0, 3 and 4 read a0 alone, by the table of calls
 pub call-0-is-exit : call_of 0 9 5 ≡ Some (Exit 9)
 call-0-is-exit = refl
+
 pub call-3-is-thread_exit : call_of 3 9 5 ≡ Some (ThreadExit 9)
 call-3-is-thread_exit = refl
+
 pub call-4-is-join : call_of 4 9 5 ≡ Some (Join 9)
 call-4-is-join = refl
 
@@ -59,12 +61,14 @@ call-5-is-yield = refl
 -- 6 locks and 8 unlocks, by the table of calls
 pub call-6-is-lock : call_of 6 9 5 ≡ Some (Lock 9)
 call-6-is-lock = refl
+
 pub call-8-is-unlock : call_of 8 9 5 ≡ Some (Unlock 9)
 call-8-is-unlock = refl
 
 -- 18 and all above are bad calls: the numbers end at 17
 pub call-18-is-bad : call_of 18 0 0 ≡ None
 call-18-is-bad = refl
+
 pub call-4294967295-is-bad : call_of 4294967295 0 0 ≡ None
 call-4294967295-is-bad = refl
 
@@ -115,10 +119,13 @@ put-unreadable-is-a-fault = refl
 -- put acts on the output where it appends, and there alone
 pub put-acts-on-the-output : acts_on all_readable opening (Put 65568 3) ≡ object.Output ∷ []
 put-acts-on-the-output = refl
+
 pub put-of-nothing-acts-on-nothing : acts_on all_readable opening (Put 65568 0) ≡ []
 put-of-nothing-acts-on-nothing = refl
+
 pub put-refused-acts-on-nothing : acts_on none_readable opening (Put 65568 3) ≡ []
 put-refused-acts-on-nothing = refl
+
 pub put-too-long-acts-on-nothing : acts_on all_readable opening (Put 65536 4294967274) ≡ []
 put-too-long-acts-on-nothing = refl
 
@@ -155,6 +162,7 @@ create-at-an-odd-pc-comes-first = refl
 -- create acts on the table of threads, also where it is full, but not where its pc is refused
 pub create-acts-on-the-threads : acts_on all_readable (created_times 31 opening) (Create 65536 0) ≡ object.ThreadTable ∷ []
 create-acts-on-the-threads = refl
+
 pub create-at-an-odd-pc-acts-on-nothing : acts_on all_readable opening (Create 65538 0) ≡ []
 create-at-an-odd-pc-acts-on-nothing = refl
 
@@ -218,6 +226,7 @@ three_wait = then_call (then_call (then_call (then_call four_threads 1 (Lock 3))
 pub lock-of-a-free-mutex-answers-0 : effect_of four_threads 1 (Lock 3) ≡ answers 0
 unfolding all_unlocked
 lock-of-a-free-mutex-answers-0 = refl
+
 pub lock-of-a-free-mutex-owns-it : slice_index_or (then_call four_threads 1 (Lock 3)).mutexes 3 unlocked ≡ record { owner = Some 1; queue = [] }
 unfolding all_unlocked
 lock-of-a-free-mutex-owns-it = refl
@@ -240,9 +249,11 @@ lock-of-its-own-mutex-is-a-deadlock = refl
 -- mutex 64 doesn't exist: EINVAL, and 63 does
 pub lock-of-mutex-64-is-invalid : act all_readable four_threads 1 (Lock 64) ≡ (answers 4294967274, four_threads)
 lock-of-mutex-64-is-invalid = refl
+
 pub lock-of-mutex-63-answers-0 : effect_of four_threads 1 (Lock 63) ≡ answers 0
 unfolding all_unlocked
 lock-of-mutex-63-answers-0 = refl
+
 pub unlock-of-mutex-64-is-invalid : effect_of four_threads 1 (Unlock 64) ≡ answers 4294967274
 unlock-of-mutex-64-is-invalid = refl
 
@@ -250,6 +261,7 @@ unlock-of-mutex-64-is-invalid = refl
 pub unlock-wakes-the-first : effect_of three_wait 1 (Unlock 3) ≡ record { fate = Returns 0 None; woken = 2 ∷ []; told = None; created = None }
 unfolding all_unlocked
 unlock-wakes-the-first = refl
+
 pub unlock-hands-over-to-the-first : slice_index_or (then_call three_wait 1 (Unlock 3)).mutexes 3 unlocked ≡ record { owner = Some 2; queue = 3 ∷ (0 ∷ []) }
 unfolding all_unlocked
 unlock-hands-over-to-the-first = refl
@@ -277,5 +289,6 @@ thread_exit-keeps-its-mutexes = refl
 -- lock and unlock act on their mutex, where there is one
 pub lock-acts-on-its-mutex : acts_on all_readable opening (Lock 63) ≡ object.Mutex 63 ∷ []
 lock-acts-on-its-mutex = refl
+
 pub unlock-of-mutex-64-acts-on-nothing : acts_on all_readable opening (Unlock 64) ≡ []
 unlock-of-mutex-64-acts-on-nothing = refl

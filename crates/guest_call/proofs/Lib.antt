@@ -1,1 +1,5 @@
 pub mod Examples
+pub mod Counting
+pub mod Conservation
+pub mod Kept
+pub mod Local

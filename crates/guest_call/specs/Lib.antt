@@ -6,3 +6,4 @@ pub mod Tables
 pub mod Mutexes
 pub mod Threads
 pub mod Objects
+pub mod Locality

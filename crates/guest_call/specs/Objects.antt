@@ -1,5 +1,5 @@
 -- All objects of synchronisation, and what each environment call answers and changes.
-use Rattle.std.specs.Prelude.{ℕ, ◌+◌, ◌^◌, ◌%◌, ◌==◌, ◌≡◌, ◌≤◌, Bool, not, ◌&&◌, nat_lt, nat_le, List, [], ◌∷◌, length, replicate, Option, if◌then◌else◌}
+use Rattle.std.specs.Prelude.{ℕ, ◌+◌, ◌^◌, ◌%◌, ◌==◌, ◌≡◌, ◌≤◌, Bool, not, ◌&&◌, nat_lt, nat_le, List, [], ◌∷◌, length, replicate, Option, Some, None, if◌then◌else◌}
 use Rattle.guest_call.specs.declared.Call.{Call}
 use Rattle.guest_call.specs.declared.Call.TheVariants.{Exit, Put, Create, ThreadExit, Join, Yield, Lock, Unlock}
 use Rattle.guest_call.specs.declared.Object.{Object}
@@ -89,3 +89,8 @@ pub record IsKept (o : Objects) : Type 0 where
   pub all_mutexes : length o.mutexes ≡ 64
   pub once : (t : ℕ) → waits_at o t ≤ 1
   pub known : (t : ℕ) → length o.threads ≤ t → waits_at o t ≡ 0
+
+-- how many threads an effect creates: one or none (POSIX.1-2017, pthread_create)
+abbrev pub created_count : Option (ℕ × ℕ) → ℕ
+created_count None = 0
+created_count (Some begins) = 1

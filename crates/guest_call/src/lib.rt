@@ -3,6 +3,30 @@
 //! functions with an empty body, whose contract is the law.
 #![tactic(auto)]
 
+ghost use Rattle.std.specs.Prelude.{◌≡◌, ℕ, ◌+◌, ◌<◌, Bool, true, length};
+ghost use Rattle.guest_call.specs.declared.Call.{Call};
+ghost use Rattle.guest_call.specs.Effect.{ended_after};
+ghost use Rattle.guest_call.specs.Queues.{Keeps};
+ghost use Rattle.guest_call.specs.Objects.{Objects, opening, act, acts_on, put_answer, appends, waits_at, ended_at, created_count, IsKept};
+ghost use Rattle.guest_call.specs.Locality.{IsLocalBy};
+ghost use Rattle.guest_call.specs.Numbers.{call_of};
+ghost use Rattle.guest_call.specs.Answers.{answer_eperm, answer_esrch, answer_eagain, answer_efault, answer_ebusy, answer_einval, answer_edeadlk};
+
+/// The answer for EPERM (POSIX.1-2017, `<errno.h>`): the caller isn't the owner.
+pub const EPERM: u32 = 0xFFFF_FFFF;
+/// The answer for ESRCH (POSIX.1-2017, `<errno.h>`): there is no such thread.
+pub const ESRCH: u32 = 0xFFFF_FFFD;
+/// The answer for EAGAIN (POSIX.1-2017, `<errno.h>`): there is no room for one more.
+pub const EAGAIN: u32 = 0xFFFF_FFF5;
+/// The answer for EFAULT (POSIX.1-2017, `<errno.h>`): a range can't be read.
+pub const EFAULT: u32 = 0xFFFF_FFF2;
+/// The answer for EBUSY (POSIX.1-2017, `<errno.h>`): the object is in use.
+pub const EBUSY: u32 = 0xFFFF_FFF0;
+/// The answer for EINVAL (POSIX.1-2017, `<errno.h>`): an argument is out of its range.
+pub const EINVAL: u32 = 0xFFFF_FFEA;
+/// The answer for EDEADLK (POSIX.1-2017, `<errno.h>`): the caller would wait for itself.
+pub const EDEADLK: u32 = 0xFFFF_FFDD;
+
 /// An environment call with its arguments, as the guest makes it by ECALL: the number stands in a7, the
 /// first argument in a0 and the second in a1.
 #[derive(Clone, Copy, Debug, PartialEq, Eq)]
@@ -23,6 +47,26 @@ pub enum Call {
     Lock(u32),
     /// 8, `unlock(mutex)`: as `pthread_mutex_unlock` at a mutex that checks for errors.
     Unlock(u32),
+}
+
+impl Call {
+    /// The call that an ECALL makes with this number in a7 and these words in a0 and a1. None where no call
+    /// has the number: a bad call, which is a trap of the guest.
+    pub fn of(a7: u32, a0: u32, a1: u32) -> Option<Call>
+        ensures { result ≡ call_of a7 a0 a1 }
+    {
+        match a7 {
+            0 => Some(Call::Exit(a0)),
+            1 => Some(Call::Put(a0, a1)),
+            2 => Some(Call::Create(a0, a1)),
+            3 => Some(Call::ThreadExit(a0)),
+            4 => Some(Call::Join(a0)),
+            5 => Some(Call::Yield),
+            6 => Some(Call::Lock(a0)),
+            8 => Some(Call::Unlock(a0)),
+            _ => None,
+        }
+    }
 }
 
 /// What a call can act on, as the dependence of steps sees it.
@@ -48,3 +92,61 @@ pub enum Fate {
     /// The whole run has ended with this code.
     Exits(u32),
 }
+
+/// Nobody is lost and nobody doubled by a call: who waits after it or was woken by it waited before or
+/// began to wait.
+pub fn act_keeps()
+    ensures { (readable : ℕ → ℕ → Bool) (o : Objects) (t : ℕ) (call : Call) → IsKept o →
+        t < length o.threads →
+        Keeps (waits_at o) t (act readable o t call).0 (waits_at (act readable o t call).1) }
+{}
+
+/// A call keeps what holds of the objects, where its caller is a thread that waits nowhere.
+pub fn act_kept()
+    ensures { (readable : ℕ → ℕ → Bool) (o : Objects) (t : ℕ) (call : Call) → IsKept o →
+        t < length o.threads → waits_at o t ≡ 0 → IsKept (act readable o t call).1 }
+{}
+
+/// A call makes one thread more exactly where it says that one is created, and else none.
+pub fn act_creates()
+    ensures { (readable : ℕ → ℕ → Bool) (o : Objects) (t : ℕ) (call : Call) →
+        length (act readable o t call).1.threads
+        ≡ length o.threads + created_count (act readable o t call).0.created }
+{}
+
+/// Who has ended after a call: who had ended before, and the caller where the call ends it.
+pub fn act_ended()
+    ensures { (readable : ℕ → ℕ → Bool) (o : Objects) (t : ℕ) (call : Call) → t < length o.threads →
+        (u : ℕ) →
+        ended_at (act readable o t call).1 u
+        ≡ ended_after t (act readable o t call).0.fate u (ended_at o u) }
+{}
+
+/// A call reads and changes nothing but the objects on which it acts: all others stay as they are, and
+/// what it names, answers and makes of its own depends on these alone.
+pub fn act_is_local()
+    ensures { (readable : ℕ → ℕ → Bool) (o : Objects) (t : ℕ) (call : Call) → IsKept o →
+        IsLocalBy (λ x. act readable x t call) (λ x. acts_on readable x call) o }
+{}
+
+/// Where put appends its bytes it answers how many they are.
+pub fn put_appends()
+    ensures { (readable : ℕ → ℕ → Bool) (p n : ℕ) → appends readable p n ≡ true →
+        put_answer readable p n ≡ n }
+{}
+
+/// What holds of the objects holds of those at the start.
+pub fn opening_is_kept()
+    ensures { IsKept opening }
+{}
+
+/// Each answer constant is the negative answer of its name.
+pub fn answers_are_negated()
+    ensures eperm { EPERM ≡ answer_eperm }
+    ensures esrch { ESRCH ≡ answer_esrch }
+    ensures eagain { EAGAIN ≡ answer_eagain }
+    ensures efault { EFAULT ≡ answer_efault }
+    ensures ebusy { EBUSY ≡ answer_ebusy }
+    ensures einval { EINVAL ≡ answer_einval }
+    ensures edeadlk { EDEADLK ≡ answer_edeadlk }
+{}

@@ -4,6 +4,10 @@
 //! The definitions stand in `specs/`. This crate has no code beside the types.
 #![tactic(auto)]
 
+ghost use Rattle.std.specs.Prelude.{◌≡◌, ℕ, ◌<◌, ◌^◌, Some};
+ghost use Rattle.isa_spec.specs.Table.{decoded};
+ghost use Rattle.isa_spec.specs.Encoding.{encoding, InRange, Spells};
+
 /// When a conditional branch is taken (RISC-V unprivileged ISA 20191213, 2.5).
 #[derive(Clone, Copy, Debug, PartialEq, Eq)]
 pub enum BranchTest {
@@ -181,7 +185,7 @@ pub enum Instr {
 /// Why a hart traps.
 ///
 /// The first eight are exception codes of `mcause`
-/// (RISC-V privileged ISA 20190608, 3.1.15, table 3.6); the last is this project's own.
+/// (RISC-V privileged ISA 20211203, 3.1.15); the last is this project's own.
 #[derive(Clone, Copy, Debug, PartialEq, Eq)]
 pub enum Cause {
     /// 0: an instruction address that is not a multiple of four.
@@ -203,3 +207,16 @@ pub enum Cause {
     /// 8: an ECALL with a number that is no call.
     BadCall,
 }
+
+/// Decoding gives back the instruction whose encoding it reads, for operands in range.
+#[inline(always)]
+pub fn decoding_inverts_encoding()
+    ensures { (i : Instr) → InRange i → decoded (encoding i) ≡ Some i }
+{}
+
+/// A word that decodes to an instruction is that instruction's encoding, and its operands are in
+/// range. A FENCE alone has several words: its other fields are free.
+#[inline(always)]
+pub fn decoded_was_encoded()
+    ensures { (w : ℕ) (i : Instr) → w < 2 ^ 32 → decoded w ≡ Some i → InRange i × Spells w i }
+{}

@@ -3,6 +3,10 @@
 //! plain types.
 #![tactic(auto)]
 
+ghost use Rattle.std.specs.Prelude.{List};
+ghost use Rattle.memory_spec.specs.Pages.{Mapped, Memory, IsMemory};
+ghost use Rattle.memory_spec.specs.Stores.{StoredByte, laid};
+
 /// How many bytes a load or a store moves. (RISC-V unprivileged ISA 20191213, 2.6)
 #[derive(Clone, Copy, Debug, PartialEq, Eq)]
 pub enum Size {
@@ -21,4 +25,14 @@ pub enum MemoryError {
     Access,
     /// The host's memory ran out.
     NoMemory,
+}
+
+/// A memory of a map is one after any stores: as many pages, each of 4,096 bytes.
+pub fn stores_keep_the_shape()
+    ensures {
+        (map : List Mapped) (memory : Memory) (stores : List StoredByte)
+        → IsMemory map memory
+        → IsMemory map (laid map memory stores)
+    }
+{
 }

@@ -1,2 +1,5 @@
 pub mod TurnLocality
 pub mod ThunkLocality
+pub mod Guests
+pub mod TurnExamples
+pub mod ThunkExamples

@@ -41,10 +41,10 @@ unfolding loaded
 load_turn-same map view other r kind rd address =
     elim (eqb (address % byte_count (load_size kind)) 0)
     as (λ b.
-        Agree map view other
-        (cond b (load_found r kind rd address (loaded map view address (load_size kind))) (stopped (Trap LoadMisaligned) r)).taken
-        → cond b (load_found r kind rd address (loaded map other address (load_size kind))) (stopped (Trap LoadMisaligned) r)
-        ≡ cond b (load_found r kind rd address (loaded map view address (load_size kind))) (stopped (Trap LoadMisaligned) r))
+    Agree map view other
+    (cond b (load_found r kind rd address (loaded map view address (load_size kind))) (stopped (Trap LoadMisaligned) r)).taken
+    → cond b (load_found r kind rd address (loaded map other address (load_size kind))) (stopped (Trap LoadMisaligned) r)
+    ≡ cond b (load_found r kind rd address (loaded map view address (load_size kind))) (stopped (Trap LoadMisaligned) r))
     [ true ↦ load_found-same map view other r kind rd address (allows read_right (permission_at map address)) | false ↦ λ _. refl ]
 
 -- only a load looks at the memory
@@ -82,7 +82,7 @@ unfolding turn fetched
 turn-same map view other r =
     elim (eqb (r.pc % 4) 0)
     as (λ b.
-        Agree map view other (cond b (fetch_found map view r (fetched map view r.pc)) (stopped (Trap InstructionMisaligned) r)).taken
-        → cond b (fetch_found map other r (fetched map other r.pc)) (stopped (Trap InstructionMisaligned) r)
-        ≡ cond b (fetch_found map view r (fetched map view r.pc)) (stopped (Trap InstructionMisaligned) r))
+    Agree map view other (cond b (fetch_found map view r (fetched map view r.pc)) (stopped (Trap InstructionMisaligned) r)).taken
+    → cond b (fetch_found map other r (fetched map other r.pc)) (stopped (Trap InstructionMisaligned) r)
+    ≡ cond b (fetch_found map view r (fetched map view r.pc)) (stopped (Trap InstructionMisaligned) r))
     [ true ↦ fetch_found-same map view other r (allows execute_right (permission_at map r.pc)) | false ↦ λ _. refl ]

@@ -53,7 +53,7 @@ abbrev pub with_put : List Mapped → Memory → Thunk → Thunk
 with_put map view t =
     record t {
       taken = t.taken ++ put_addresses map t.end t.regs;
-      put = bytes_at map (laid map view t.stores) (put_addresses map t.end t.regs)
+      put = bytes_at map (laid map view t.stores) (put_addresses map t.end t.regs);
     }
 
 -- The thunk of these registers on this view. (this project's own)

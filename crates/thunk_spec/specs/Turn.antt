@@ -95,8 +95,8 @@ store_size store.Word = Four
 abbrev pub store_turn : List Mapped → Registers → Store → ℕ → ℕ → Turn
 store_turn map r kind address value =
     if address % byte_count (store_size kind) == 0 then
-        (if may_store map address then passed (advanced r) [] (bytes_stored address (store_size kind) value)
-         else stopped (Trap StoreAccess) r)
+    (if may_store map address then passed (advanced r) [] (bytes_stored address (store_size kind) value)
+    else stopped (Trap StoreAccess) r)
     else stopped (Trap StoreMisaligned) r
 
 -- What an instruction does on a memory and registers, its fetch left out. (RISC-V unprivileged ISA 20191213, ch. 2)

@@ -1,0 +1,5 @@
+use Rattle.guest_call.proofs.Kept.{act_ended}
+use Rattle.guest_call.proofs.act_ended.Goals as goal
+
+pub returns : goal.returns
+returns c = act_ended

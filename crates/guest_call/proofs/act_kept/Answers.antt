@@ -1,0 +1,5 @@
+use Rattle.guest_call.proofs.Kept.{act_kept}
+use Rattle.guest_call.proofs.act_kept.Goals as goal
+
+pub returns : goal.returns
+returns c = act_kept

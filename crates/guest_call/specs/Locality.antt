@@ -1,0 +1,49 @@
+-- A call reads and changes nothing but the objects on which it acts.
+use Rattle.std.specs.Prelude.{◌==◌, ◌≡◌, Bool, true, false, List, slice_index_or}
+use Rattle.std.specs.List.{list_any}
+use Rattle.guest_call.specs.declared.Object.{Object}
+use Rattle.guest_call.specs.declared.Object.TheVariants.{Output, ThreadTable, Mutex as MutexOf}
+use Rattle.guest_call.specs.Effect.{Effect}
+use Rattle.guest_call.specs.Mutexes.{Mutex, unlocked}
+use Rattle.guest_call.specs.Threads.{Member}
+use Rattle.guest_call.specs.Objects.{Objects, IsKept}
+
+-- how an object stands: a mutex, the table of threads, or nothing, for the output, which the machine keeps (this project's own)
+pub data Part : Type 0 where
+  MutexPart : Mutex → Part
+  ThreadsPart : List Member → Part
+  NoPart : Part
+
+-- how the named object stands (this project's own)
+abbrev pub part_of : Objects → Object → Part
+part_of o Output = NoPart
+part_of o ThreadTable = ThreadsPart o.threads
+part_of o (MutexOf m) = MutexPart (slice_index_or o.mutexes m unlocked)
+
+-- whether two names are of one object (this project's own)
+abbrev pub same_object : Object → Object → Bool
+same_object Output Output = true
+same_object Output ThreadTable = false
+same_object Output (MutexOf m) = false
+same_object ThreadTable Output = false
+same_object ThreadTable ThreadTable = true
+same_object ThreadTable (MutexOf m) = false
+same_object (MutexOf k) Output = false
+same_object (MutexOf k) ThreadTable = false
+same_object (MutexOf k) (MutexOf m) = k == m
+
+-- whether an object is among some (this project's own)
+abbrev pub is_among : Object → List Object → Bool
+is_among p objects = list_any (λ q. same_object p q) objects
+
+-- some objects stand alike here and there (this project's own)
+abbrev pub Agree : List Object → Objects → Objects → Type 0
+Agree objects o other = (p : Object) → is_among p objects ≡ true → part_of other p ≡ part_of o p
+
+-- a step at o is local to the objects that it names: all others stay, and where these stand alike it names the same,
+-- has the same effect and leaves them alike (this project's own)
+pub record IsLocalBy (step : Objects → Effect × Objects) (objects : Objects → List Object) (o : Objects) : Type 0 where
+  pub stays : (p : Object) → is_among p (objects o) ≡ false → part_of (step o).1 p ≡ part_of o p
+  pub same_objects : (other : Objects) → Agree (objects o) o other → objects other ≡ objects o
+  pub same_effect : (other : Objects) → Agree (objects o) o other → (step other).0 ≡ (step o).0
+  pub same_parts : (other : Objects) → IsKept other → Agree (objects o) o other → Agree (objects o) (step o).1 (step other).1

@@ -1,0 +1,4 @@
+pub mod Examples
+pub mod Immediates
+pub mod Decoding
+pub mod Spelling

@@ -1,0 +1,110 @@
+-- The first machine of a setup is whole.
+use Rattle.std.proofs.Common.{◌≡◌, ◌<◌, ◌≤◌, ◌+◌, ◌*◌, ℕ, zero, suc, Bool, true, List, [], ◌∷◌, ◌++◌, length, map, replicate, Option, Some, None, refl, ap, sym, ◌∙◌, arith}
+use Rattle.std.proofs.lemmas.List.{length-append, length-replicate}
+use Rattle.std.proofs.lemmas.List.FromFn.{length-map-range_with_len}
+use Rattle.std.specs.Prelude.{slice_index}
+use Rattle.std.proofs.lemmas.List.Elements.{All-cons, All-nil, All-append, All-replicate, All-map, All-from_recursion}
+use Rattle.std.specs.List.{All, AllByRecursion, range_with_len}
+use Rattle.std.specs.Int.{to_le_bytes, w32}
+use Rattle.memory_spec.specs.Pages.{Mapped, Memory, IsMemory, zero_page}
+use Rattle.elf_spec.specs.Image.{image_pages, image_memory, entry_of}
+use Rattle.elf_spec.proofs.ImageMemory.{IsMemory-image}
+use Rattle.guest_call.specs.Objects.{opening, waits_at, ended_at}
+use Rattle.guest_call.proofs.Kept.{opening_kept, opening_waits}
+use Rattle.machine_spec.specs.declared.states.Status.TheVariants.{Ready}
+use Rattle.machine_spec.specs.Machine.{Hart, Machine}
+use Rattle.machine_spec.specs.Performing.{first_hart}
+use Rattle.machine_spec.specs.Setup.{Setup, IsSetup, data_pages, map_of, header_page, input_page, input_memory, stack_memory, start_memory, first}
+use Rattle.machine_spec.specs.Whole.{IsTied, IsWhole, blocked_count, ended_value}
+
+length-data_pages : (number count : ℕ) → length (data_pages number count) ≡ count
+unfolding data_pages
+length-data_pages number count = length-map-range_with_len {X = Mapped} _ number count
+
+length-header_page : (input : List ℕ) → length (header_page input) ≡ 4096
+unfolding header_page
+length-header_page input =
+    length-append (to_le_bytes w32 (length input)) (replicate 4092 0) ∙ ap (λ n. 4 + n) (length-replicate {A = ℕ} 4092 0)
+
+length-input_page : (input : List ℕ) (k : ℕ) → length (input_page input k) ≡ 4096
+unfolding input_page
+length-input_page input k = length-map-range_with_len (λ (i : ℕ). slice_index input i) (4096 * k) 4096
+
+length-zero_page : length zero_page ≡ 4096
+unfolding zero_page
+length-zero_page = length-replicate {A = ℕ} 4096 0
+
+length-input_memory : (input : List ℕ) → length (input_memory input) ≡ 256
+unfolding input_memory
+length-input_memory input = length-map-range_with_len (input_page input) 0 256
+
+length-stack_memory : length stack_memory ≡ 512
+unfolding stack_memory
+length-stack_memory = length-replicate {A = List ℕ} 512 zero_page
+
+abbrev IsPage : List ℕ → Type 0
+IsPage bytes = length bytes ≡ 4096
+
+pages-input_memory : (input : List ℕ) → All IsPage (input_memory input)
+unfolding input_memory
+pages-input_memory input =
+    All-map IsPage (input_page input) (range_with_len 0 256)
+    (All-from_recursion (λ (k : ℕ). IsPage (input_page input k)) (range_with_len 0 256) (each (range_with_len 0 256)))
+  where
+    each : (ks : List ℕ) → AllByRecursion (λ (k : ℕ). IsPage (input_page input k)) ks
+    each [] = tt
+    each (k ∷ ks) = (length-input_page input k, each ks)
+
+pages-stack_memory : All IsPage stack_memory
+unfolding stack_memory
+pages-stack_memory = All-replicate IsPage 512 zero_page length-zero_page
+
+-- the start's memory is one of the start's map
+pub IsMemory-start : (s : Setup) → IsMemory (map_of s) (start_memory s)
+unfolding map_of start_memory
+IsMemory-start s =
+    let image = IsMemory-image s.elf in
+    record {
+      count =
+        let header = length-data_pages 0xC0000 1 in
+        let input = length-data_pages 0xC0001 256 in
+        let stacks = length-data_pages 0xD0000 512 in
+        let input_bytes = length-input_memory s.input in
+        let stack_bytes = length-stack_memory in
+        simp length-append (omega (arith, image.count));
+      pages =
+        All-append IsPage (image_memory s.elf ++ header_page s.input ∷ [] ++ input_memory s.input) stack_memory
+        (All-append IsPage (image_memory s.elf ++ header_page s.input ∷ []) (input_memory s.input)
+         (All-append IsPage (image_memory s.elf) (header_page s.input ∷ []) image.pages
+          (All-cons IsPage (header_page s.input) [] (length-header_page s.input) (All-nil IsPage)))
+         (pages-input_memory s.input))
+        pages-stack_memory
+    }
+
+-- at the opening nobody waits and nobody has ended
+IsTied-opening : (h : Hart) → h.status ≡ Ready → IsTied opening (h ∷ [])
+IsTied-opening h ready =
+    record {
+      threads = refl;
+      kept = opening_kept;
+      blocked = elim [
+          zero ↦ opening_waits 0 ∙ ap blocked_count (sym ready)
+        | suc u ↦ opening_waits (suc u)
+      ];
+      ended = elim [
+          zero ↦ λ below. ap ended_value (sym ready)
+        | suc u ↦ λ below. absurd (omega arith)
+      ]
+    }
+
+-- the first machine of a setup is whole
+pub IsWhole-first : (s : Setup) → IsSetup s → IsWhole (first s)
+unfolding first
+IsWhole-first s sound =
+    record {
+      memory = IsMemory-start s;
+      views = (IsMemory-start s, tt);
+      tied = IsTied-opening (first_hart (start_memory s) 0 (entry_of s.elf) 0xC0000000) refl;
+      some_ready = λ none. refl;
+      steps_left = λ none. let some = sound.some_steps in omega arith
+    }

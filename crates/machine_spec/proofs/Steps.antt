@@ -1,0 +1,238 @@
+-- A step leaves every other ready hart as it is, keeps what holds of machines, and is what laying a true record that fits is.
+use Rattle.std.proofs.Common.{◌≡◌, ◌≢◌, ◌<◌, ◌≤◌, ◌+◌, ℕ, zero, suc, Bool, true, false, ◌&&◌, not, eqb, leb, cond, List, [], ◌∷◌, ◌++◌, length, get_or, set, Option, Some, None, refl, ap, sym, ◌∙◌, subst, inl, inr, arith}
+use Rattle.std.proofs.lemmas.Bool.{eqb-true}
+use Rattle.std.proofs.lemmas.Bool.Decides.{nat_tests}
+use Rattle.std.proofs.lemmas.List.{get_or-set_other}
+use Rattle.std.proofs.lemmas.Slice.Eq.{bytes_eq-Decides}
+use Rattle.std.specs.List.{AllByRecursion, list_all, list_any}
+use Rattle.std.specs.Str.{bytes_eq}
+use Rattle.isa_spec.specs.Registers.{Registers}
+use Rattle.memory_spec.specs.Pages.{Mapped, Memory, IsMemory}
+use Rattle.memory_spec.specs.Stores.{laid}
+use Rattle.memory_spec.proofs.Laid.{IsMemory-laid}
+use Rattle.guest_call.specs.declared.Call.{Call}
+use Rattle.guest_call.specs.declared.Fate.{Fate}
+use Rattle.guest_call.specs.declared.Fate.TheVariants.{Returns, Blocks, Ends, Exits}
+use Rattle.guest_call.specs.Effect.{Effect}
+use Rattle.guest_call.specs.Objects.{Objects, act}
+use Rattle.thunk_spec.specs.declared.ends.ThunkEnd.{ThunkEnd}
+use Rattle.thunk_spec.specs.Put.{is_readable}
+use Rattle.thunk_spec.specs.Thunk.{Thunk, thunk}
+use Rattle.record_spec.specs.Delta.{masked}
+use Rattle.record_spec.specs.Reads.{has}
+use Rattle.record_spec.specs.Record.{Kept, Record, IsTrue, StandsFor, put_of, fits_at, same_registers}
+use Rattle.record_spec.proofs.Truth.{StandsFor-true}
+use Rattle.machine_spec.specs.declared.states.Status.{Status}
+use Rattle.machine_spec.specs.declared.states.End.{End}
+use Rattle.machine_spec.specs.Machine.{Hart, Machine, hart_in, hart_of, nobody, is_ready, is_ended}
+use Rattle.machine_spec.specs.Performing.{returned, fated, woken, first_hart, with_created, settled}
+use Rattle.machine_spec.specs.Step.{written, Asked, Asks, Stops, asked, fate_end, state_end, end_after, performed, with_end, done_as_asked, finished, step, lay, fits, can_step}
+use Rattle.machine_spec.specs.Whole.{IsTied, IsWhole}
+use Rattle.machine_spec.proofs.Harts.{ready-below, status-set}
+use Rattle.machine_spec.proofs.Tied.{tied-written, tied-called, stays-called}
+
+-- the caller is as ready after the writing as before
+ready-written :
+    (m : Machine) (t : ℕ) (memory : Memory) (regs : Registers)
+    → is_ready (hart_of m t).status ≡ true
+    → is_ready (hart_of (written m t memory regs) t).status ≡ true
+ready-written m t memory regs ready =
+    ap is_ready
+    (status-set m.harts t t (record { view = (hart_of m t).view; regs = regs; number = suc (hart_of m t).number; status = (hart_of m t).status }) refl)
+    ∙ ready
+
+tied-after_writing :
+    (m : Machine) (t : ℕ) (memory : Memory) (regs : Registers)
+    → IsTied m.objects m.harts
+    → IsTied (written m t memory regs).objects (written m t memory regs).harts
+tied-after_writing m t memory regs tied =
+    tied-written m.objects m.harts t
+    (record { view = (hart_of m t).view; regs = regs; number = suc (hart_of m t).number; status = (hart_of m t).status }) refl tied
+
+done-stays :
+    (m : Machine) (t u : ℕ) (put : List ℕ) (a : Asked)
+    → IsTied m.objects m.harts → is_ready (hart_of m t).status ≡ true
+    → u ≢ t → is_ready (hart_of m u).status ≡ true
+    → hart_of (done_as_asked m t put a) u ≡ hart_of m u
+done-stays m t u put (Asks call) tied ready other ready_u =
+    stays-called (is_readable m.frame.map) m.objects m.harts t call m.memory u tied ready other ready_u
+done-stays m t u put (Stops e) tied ready other ready_u = refl
+
+finished-stays :
+    (m : Machine) (t u : ℕ) (memory : Memory) (regs : Registers) (e : ThunkEnd) (put : List ℕ)
+    → IsTied m.objects m.harts → is_ready (hart_of m t).status ≡ true
+    → u ≢ t → is_ready (hart_of m u).status ≡ true
+    → hart_of (finished m t memory regs e put) u ≡ hart_of m u
+unfolding finished
+finished-stays m t u memory regs e put tied ready other ready_u =
+    let same : hart_of (written m t memory regs) u ≡ hart_of m u =
+            get_or-set_other m.harts t u
+            (record { view = (hart_of m t).view; regs = regs; number = suc (hart_of m t).number; status = (hart_of m t).status }) nobody other in
+    done-stays (written m t memory regs) t u put (asked t e regs) (tied-after_writing m t memory regs tied)
+    (ready-written m t memory regs ready) other (ap (λ (h : Hart). is_ready h.status) same ∙ ready_u)
+    ∙ same
+
+and-left : (a b : Bool) → (a && b) ≡ true → a ≡ true
+and-left true b h = refl
+and-left false b h = h
+
+and-right : (a b : Bool) → (a && b) ≡ true → b ≡ true
+and-right true b h = h
+and-right false b h = cc
+
+can_step-ready : (m : Machine) (t : ℕ) → can_step m t ≡ true → is_ready (hart_of m t).status ≡ true
+can_step-ready m t can = grind (arith, nat_tests)
+
+-- a step of one thread leaves every other ready thread's registers, view, number and status as they are
+pub step-stays :
+    (m : Machine) (t u : ℕ)
+    → IsWhole m → can_step m t ≡ true
+    → u ≢ t → is_ready (hart_of m u).status ≡ true
+    → hart_of (step m t) u ≡ hart_of m u
+unfolding step
+step-stays m t u whole can other ready_u =
+    let done : Thunk = thunk m.frame (hart_of m t).view (hart_of m t).regs in
+    finished-stays m t u (laid m.frame.map m.memory (thunk m.frame (hart_of m t).view (hart_of m t).regs).stores)
+    (thunk m.frame (hart_of m t).view (hart_of m t).regs).regs
+    (thunk m.frame (hart_of m t).view (hart_of m t).regs).end
+    (thunk m.frame (hart_of m t).view (hart_of m t).regs).put
+    whole.tied (can_step-ready m t can) other ready_u
+
+-- views
+
+abbrev Fits : List Mapped → Hart → Type 0
+Fits map h = IsMemory map h.view
+
+views-set : (map : List Mapped) (hs : List Hart) (t : ℕ) (h : Hart) → Fits map h → AllByRecursion (Fits map) hs → AllByRecursion (Fits map) (set hs t h)
+views-set map [] t h fit all = tt
+views-set map (x ∷ hs) zero h fit all = (fit, all.1)
+views-set map (x ∷ hs) (suc t) h fit all = (all.0, views-set map hs t h fit all.1)
+
+views-push : (map : List Mapped) (hs : List Hart) (h : Hart) → Fits map h → AllByRecursion (Fits map) hs → AllByRecursion (Fits map) (hs ++ h ∷ [])
+views-push map [] h fit all = (fit, tt)
+views-push map (x ∷ hs) h fit all = (all.0, views-push map hs h fit all.1)
+
+views-at : (map : List Mapped) (hs : List Hart) (t : ℕ) → t < length hs → AllByRecursion (Fits map) hs → Fits map (hart_in hs t)
+views-at map [] t below all = absurd (omega arith)
+views-at map (x ∷ hs) zero below all = all.0
+views-at map (x ∷ hs) (suc t) below all = views-at map hs t (omega arith) all.1
+
+views-fated : (map : List Mapped) (f : Fate) (memory : Memory) (h : Hart) → IsMemory map memory → Fits map h → Fits map (fated f memory h)
+views-fated map (Returns a0 a1) memory h whole fit = whole
+views-fated map Blocks memory h whole fit = fit
+views-fated map (Ends v) memory h whole fit = fit
+views-fated map (Exits code) memory h whole fit = fit
+
+views-woken :
+    (map : List Mapped) (memory : Memory) (told : Option ℕ) (us : List ℕ) (hs : List Hart)
+    → IsMemory map memory → AllByRecursion (Fits map) hs → AllByRecursion (Fits map) (woken memory told us hs)
+views-woken map memory told [] hs whole all = all
+views-woken map memory told (v ∷ us) hs whole all =
+    views-woken map memory told us (set hs v (returned memory 0 told (hart_in hs v))) whole
+    (views-set map hs v (returned memory 0 told (hart_in hs v)) whole all)
+
+views-created :
+    (map : List Mapped) (memory : Memory) (c : Option (ℕ × ℕ)) (hs : List Hart)
+    → IsMemory map memory → AllByRecursion (Fits map) hs → AllByRecursion (Fits map) (with_created memory c hs)
+views-created map memory None hs whole all = all
+views-created map memory (Some c) hs whole all = views-push map hs (first_hart memory (length hs) c.0 c.1) whole all
+
+views-settled :
+    (map : List Mapped) (e : Effect) (memory : Memory) (t : ℕ) (hs : List Hart)
+    → t < length hs → IsMemory map memory → AllByRecursion (Fits map) hs → AllByRecursion (Fits map) (settled e memory t hs)
+views-settled map e memory t hs below whole all =
+    views-created map memory e.created (woken memory e.told e.woken (set hs t (fated e.fate memory (hart_in hs t)))) whole
+    (views-woken map memory e.told e.woken (set hs t (fated e.fate memory (hart_in hs t))) whole
+     (views-set map hs t (fated e.fate memory (hart_in hs t)) (views-fated map e.fate memory (hart_in hs t) whole (views-at map hs t below all)) all))
+
+-- the end
+
+end_at-left : (a b : Bool) (limit steps : ℕ) (x y z : End) → cond a (Some x) (cond b (Some y) (cond (leb limit steps) (Some z) None)) ≡ None → steps < limit
+end_at-left true b limit steps x y z none = cc
+end_at-left false true limit steps x y z none = cc
+end_at-left false false limit steps x y z none = grind (arith, nat_tests)
+
+end_after-left : (e : Option End) (m : Machine) → end_after e m ≡ None → m.steps < m.limit
+end_after-left (Some e) m none = cc
+end_after-left None m none =
+    end_at-left (list_all (λ (h : Hart). is_ended h.status) m.harts) (not (list_any (λ (h : Hart). is_ready h.status) m.harts)) m.limit m.steps _ _ _ none
+
+end_at-ready : (a b : Bool) (limit steps : ℕ) (x y z : End) → cond a (Some x) (cond (not b) (Some y) (cond (leb limit steps) (Some z) None)) ≡ None → b ≡ true
+end_at-ready true b limit steps x y z none = cc
+end_at-ready false true limit steps x y z none = refl
+end_at-ready false false limit steps x y z none = cc
+
+end_after-ready : (e : Option End) (m : Machine) → end_after e m ≡ None → list_any (λ (h : Hart). is_ready h.status) m.harts ≡ true
+end_after-ready (Some e) m none = cc
+end_after-ready None m none =
+    end_at-ready (list_all (λ (h : Hart). is_ended h.status) m.harts) (list_any (λ (h : Hart). is_ready h.status) m.harts) m.limit m.steps _ _ _ none
+
+done-whole :
+    (m : Machine) (t : ℕ) (put : List ℕ) (a : Asked)
+    → IsMemory m.frame.map m.memory
+    → AllByRecursion (λ (h : Hart). IsMemory m.frame.map h.view) m.harts
+    → IsTied m.objects m.harts
+    → is_ready (hart_of m t).status ≡ true
+    → IsWhole (done_as_asked m t put a)
+done-whole m t put (Asks call) memory views tied ready =
+    record {
+      memory = memory;
+      views = views-settled m.frame.map (act (is_readable m.frame.map) m.objects t call).0 m.memory t m.harts (ready-below m.harts t ready) memory views;
+      tied = tied-called (is_readable m.frame.map) m.objects m.harts t call m.memory tied ready;
+      some_ready = λ none.
+        end_after-ready (fate_end (act (is_readable m.frame.map) m.objects t call).0.fate)
+        (performed m t put (act (is_readable m.frame.map) m.objects t call)) none;
+      steps_left = λ none.
+        end_after-left (fate_end (act (is_readable m.frame.map) m.objects t call).0.fate)
+        (performed m t put (act (is_readable m.frame.map) m.objects t call)) none
+    }
+done-whole m t put (Stops e) memory views tied ready =
+    record { memory = memory; views = views; tied = tied; some_ready = λ none. cc; steps_left = λ none. cc }
+
+finished-whole :
+    (m : Machine) (t : ℕ) (memory : Memory) (regs : Registers) (e : ThunkEnd) (put : List ℕ)
+    → IsWhole m → is_ready (hart_of m t).status ≡ true → IsMemory m.frame.map memory
+    → IsWhole (finished m t memory regs e put)
+unfolding finished
+finished-whole m t memory regs e put whole ready fit =
+    done-whole (written m t memory regs) t put (asked t e regs) fit
+    (views-set m.frame.map m.harts t
+     (record { view = (hart_of m t).view; regs = regs; number = suc (hart_of m t).number; status = (hart_of m t).status })
+     (views-at m.frame.map m.harts t (ready-below m.harts t ready) whole.views) whole.views)
+    (tied-after_writing m t memory regs whole.tied)
+    (ready-written m t memory regs ready)
+
+-- what holds of machines holds after a step
+pub step-whole : (m : Machine) (t : ℕ) → IsWhole m → can_step m t ≡ true → IsWhole (step m t)
+unfolding step
+step-whole m t whole can =
+    finished-whole m t (laid m.frame.map m.memory (thunk m.frame (hart_of m t).view (hart_of m t).regs).stores)
+    (thunk m.frame (hart_of m t).view (hart_of m t).regs).regs
+    (thunk m.frame (hart_of m t).view (hart_of m t).regs).end
+    (thunk m.frame (hart_of m t).view (hart_of m t).regs).put
+    whole (can_step-ready m t can)
+    (IsMemory-laid m.frame.map m.memory (thunk m.frame (hart_of m t).view (hart_of m t).regs).stores whole.memory)
+
+-- laying
+
+same_registers-true : (a b : Registers) → same_registers a b ≡ true → a ≡ b
+same_registers-true a b same =
+    let pc : a.pc ≡ b.pc = eqb-true a.pc b.pc (and-left (eqb a.pc b.pc) (bytes_eq a.x b.x) same) in
+    let x : a.x ≡ b.x = (bytes_eq-Decides a.x b.x).0 (and-right (eqb a.pc b.pc) (bytes_eq a.x b.x) same) in
+    ap (λ (n : ℕ). record { pc = n; x = a.x }) pc ∙ ap (λ (xs : List ℕ). record { pc = b.pc; x = xs }) x
+
+-- laying a true record that fits is the step of its thread
+pub lay-step :
+    (m : Machine) (r : Record)
+    → IsWhole m → IsTrue m.frame r.start r.kept → fits m r ≡ true
+    → lay m r ≡ step m r.thread
+unfolding lay step fits fits_at
+lay-step m r whole honest fit =
+    let ready : is_ready (hart_of m r.thread).status ≡ true = grind (arith, nat_tests) in
+    let regs : r.start ≡ (hart_of m r.thread).regs =
+            same_registers-true r.start (hart_of m r.thread).regs (grind (arith, nat_tests)) in
+    let reads : has (hart_of m r.thread).view r.kept.reads ≡ true = grind (arith, nat_tests) in
+    let stands : StandsFor m.frame (hart_of m r.thread).view m.memory r.start r.kept =
+            StandsFor-true m.frame (hart_of m r.thread).view m.memory r.start r.kept honest reads
+            (views-at m.frame.map m.harts r.thread (ready-below m.harts r.thread ready) whole.views) whole.memory in
+    rw (← regs, stands.put_is, stands.memory_is, stands.finish_is, stands.end_is) refl

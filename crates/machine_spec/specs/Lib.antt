@@ -1,0 +1,7 @@
+pub mod Machine
+pub mod Performing
+pub mod Step
+pub mod Schedule
+pub mod Setup
+pub mod Choice
+pub mod Whole

@@ -1,0 +1,81 @@
+-- What a run starts from: a program, an input and two limits, and the machine that they make.
+use Rattle.std.specs.Prelude.{◌≡◌, ℕ, ◌+◌, ◌*◌, ◌≤◌, Bool, true, List, [], ◌∷◌, ◌++◌, length, map, replicate, slice_index, Option, None}
+use Rattle.std.specs.List.{range_with_len}
+use Rattle.std.specs.Int.{to_le_bytes, w32}
+use Rattle.memory_spec.specs.Pages.{Mapped, Memory, zero_page}
+use Rattle.elf_spec.specs.Image.{image_pages, image_memory, entry_of, is_image}
+use Rattle.guest_call.specs.Objects.{opening}
+use Rattle.machine_spec.specs.Machine.{Hart, Machine}
+use Rattle.machine_spec.specs.Performing.{first_hart}
+use Rattle.machine_spec.specs.Schedule.{scratch_from, is_permitted_from, is_complete_from}
+
+-- An executable file, an input, the most turns of a thunk, and the most steps of a run. (this project's own)
+pub record Setup : Type 0 where
+  pub elf : List ℕ
+  pub input : List ℕ
+  pub fuel : ℕ
+  pub limit : ℕ
+
+-- A setup that may be run: the file is accepted, and sizes and limits are in range. (this project's own)
+pub record IsSetup (s : Setup) : Type 0 where
+  pub elf_size : length s.elf ≤ 16777216
+  pub elf_accepted : is_image s.elf ≡ true
+  pub input_size : length s.input ≤ 1048576
+  pub some_fuel : 1 ≤ s.fuel
+  pub most_fuel : s.fuel ≤ 16777216
+  pub some_steps : 1 ≤ s.limit
+  pub most_steps : s.limit ≤ 65536
+
+-- Pages to read and write, from a number on, so many. (this project's own)
+unfoldable pub data_pages : ℕ → ℕ → List Mapped
+data_pages number count = map (λ n. record { number = n; permission = 6 }) (range_with_len number count)
+
+-- The page map of a setup: the image's pages, the input header at 0xC0000000, 256 pages of input, and 16 pages of stack for each of
+-- 32 threads from 0xD0000000 on. (this project's own)
+unfoldable pub map_of : Setup → List Mapped
+map_of s = image_pages s.elf ++ data_pages 0xC0000 1 ++ data_pages 0xC0001 256 ++ data_pages 0xD0000 512
+
+-- The input's header page: its length as a word, and zeros. (this project's own)
+unfoldable pub header_page : List ℕ → List ℕ
+header_page input = to_le_bytes w32 (length input) ++ replicate 4092 0
+
+-- A page of the input, zero past its end. (this project's own)
+unfoldable pub input_page : List ℕ → ℕ → List ℕ
+input_page input k = map (λ i. slice_index input i) (range_with_len (4096 * k) 4096)
+
+-- The 256 pages of the input. (this project's own)
+unfoldable pub input_memory : List ℕ → Memory
+input_memory input = map (input_page input) (range_with_len 0 256)
+
+-- The stacks, 16 pages for each of 32 threads. (this project's own)
+unfoldable pub stack_memory : Memory
+stack_memory = replicate 512 zero_page
+
+-- The memory that a setup starts with. (this project's own)
+unfoldable pub start_memory : Setup → Memory
+start_memory s = image_memory s.elf ++ header_page s.input ∷ [] ++ input_memory s.input ++ stack_memory
+
+-- The machine that a setup starts as: thread 0 alone, at the file's entry, with the address of the input header in a0. (this project's own)
+unfoldable pub first : Setup → Machine
+first s =
+    record {
+      frame = record { map = map_of s; fuel = s.fuel };
+      limit = s.limit;
+      memory = start_memory s;
+      harts = first_hart (start_memory s) 0 (entry_of s.elf) 0xC0000000 ∷ [];
+      objects = opening;
+      output = [];
+      steps = 0;
+      ending = None
+    }
+
+-- The machine from scratch: after the steps of a schedule. (this project's own)
+abbrev pub scratch : Setup → List ℕ → Machine
+scratch s schedule = scratch_from (first s) schedule
+
+-- Whether a schedule is permitted, and whether it is complete. (this project's own)
+abbrev pub is_permitted : Setup → List ℕ → Bool
+is_permitted s schedule = is_permitted_from (first s) schedule
+
+abbrev pub is_complete : Setup → List ℕ → Bool
+is_complete s schedule = is_complete_from (first s) schedule

@@ -1,0 +1,109 @@
+-- One step of a thread: its thunk, the call that ends it, and the end that is looked for after it.
+use Rattle.std.specs.Prelude.{ℕ, suc, Bool, not, ◌&&◌, nat_le, if◌then◌else◌, List, ◌++◌, slice_set, Option, Some, None, is_none}
+use Rattle.std.specs.List.{list_all, list_any}
+use Rattle.isa_spec.specs.declared.Cause.TheVariants.{BadCall}
+use Rattle.isa_spec.specs.Registers.{Registers}
+use Rattle.memory_spec.specs.Pages.{Memory}
+use Rattle.memory_spec.specs.Stores.{laid}
+use Rattle.guest_call.specs.declared.Call.{Call}
+use Rattle.guest_call.specs.declared.Fate.{Fate}
+use Rattle.guest_call.specs.declared.Fate.TheVariants.{Returns, Blocks, Ends, Exits}
+use Rattle.guest_call.specs.Effect.{Effect}
+use Rattle.guest_call.specs.Objects.{Objects, act}
+use Rattle.thunk_spec.specs.declared.ends.ThunkEnd.{ThunkEnd}
+use Rattle.thunk_spec.specs.declared.ends.ThunkEnd.TheVariants as thunk_end
+use Rattle.thunk_spec.specs.Put.{call_at, is_readable}
+use Rattle.thunk_spec.specs.Thunk.{Thunk, thunk}
+use Rattle.record_spec.specs.Delta.{masked}
+use Rattle.record_spec.specs.Record.{Record, put_of, fits_at}
+use Rattle.machine_spec.specs.declared.states.End.{End}
+use Rattle.machine_spec.specs.declared.states.End.TheVariants as end
+use Rattle.machine_spec.specs.Machine.{Hart, Machine, hart_of, is_ready, is_ended}
+use Rattle.machine_spec.specs.Performing.{settled}
+
+-- The machine after thread t's thunk was written: shared memory, the thread's last registers, and one step more. (this project's own: each call releases)
+abbrev pub written : Machine → ℕ → Memory → Registers → Machine
+written m t memory regs =
+    record m {
+      memory = memory;
+      harts =
+        slice_set m.harts t
+        (record { view = (hart_of m t).view; regs = regs; number = suc (hart_of m t).number; status = (hart_of m t).status });
+      steps = suc m.steps
+    }
+
+-- What the end of a thunk asks of the machine: a call, or to end. (this project's own)
+pub data Asked : Type 0 where
+  Asks : Call → Asked
+  Stops : End → Asked
+
+-- An ECALL asks for its call; one whose number is in no row of the table is a trap, at the ECALL. (this project's own)
+abbrev pub asked_call : ℕ → Registers → Option Call → Asked
+asked_call t r (Some call) = Asks call
+asked_call t r None = Stops (end.Trap t r.pc BadCall)
+
+-- What thread t's thunk with this end and these last registers asks. (this project's own)
+abbrev pub asked : ℕ → ThunkEnd → Registers → Asked
+asked t thunk_end.Call r = asked_call t r (call_at r)
+asked t (thunk_end.Trap cause) r = Stops (end.Trap t r.pc cause)
+asked t thunk_end.Fuel r = Stops end.Spent
+
+-- The end that the caller's fate makes. (POSIX.1-2017, exit)
+abbrev pub fate_end : Fate → Option End
+fate_end (Returns a0 a1) = None
+fate_end Blocks = None
+fate_end (Ends value) = None
+fate_end (Exits code) = Some (end.Exit code)
+
+-- The end that the state makes: all threads have ended; none is ready; the schedule is as long as the limit. (this project's own)
+abbrev pub state_end : Machine → Option End
+state_end m =
+    if list_all (λ (h : Hart). is_ended h.status) m.harts then Some (end.Exit 0)
+    else if not (list_any (λ (h : Hart). is_ready h.status) m.harts) then Some end.Deadlock
+    else if nat_le m.limit m.steps then Some end.Spent
+    else None
+
+-- The end after a call: that of the caller's fate comes before that of the state. (this project's own)
+abbrev pub end_after : Option End → Machine → Option End
+end_after (Some e) m = Some e
+end_after None m = state_end m
+
+-- The machine after an effect and the new objects of a call of thread t, which appends these bytes to the output. (this project's own)
+abbrev pub performed : Machine → ℕ → List ℕ → Effect × Objects → Machine
+performed m t put r =
+    record m { harts = settled r.0 m.memory t m.harts; objects = r.1; output = m.output ++ put }
+
+-- The machine with its end looked for. (this project's own)
+abbrev pub with_end : Option End → Machine → Machine
+with_end e m = record m { ending = end_after e m }
+
+-- The machine after what a thunk asked for was done. (this project's own)
+abbrev pub done_as_asked : Machine → ℕ → List ℕ → Asked → Machine
+done_as_asked m t put (Asks call) =
+    let r = act (is_readable m.frame.map) m.objects t call in with_end (fate_end r.0.fate) (performed m t put r)
+done_as_asked m t put (Stops e) = record m { ending = Some e }
+
+-- All that follows the writing of thread t's thunk into shared memory: its registers and number, the call, the answers, the views, the end. (this project's own)
+unfoldable pub finished : Machine → ℕ → Memory → Registers → ThunkEnd → List ℕ → Machine
+finished m t memory regs e put = done_as_asked (written m t memory regs) t put (asked t e regs)
+
+-- One step of thread t: its thunk is run on its view, and its stores are laid over shared memory in order. (this project's own)
+unfoldable pub step : Machine → ℕ → Machine
+step m t =
+    let done = thunk m.frame (hart_of m t).view (hart_of m t).regs in
+    finished m t (laid m.frame.map m.memory done.stores) done.regs done.end done.put
+
+-- One record in a step's place: its masked bytes are written into shared memory. (this project's own)
+unfoldable pub lay : Machine → Record → Machine
+lay m r =
+    finished m r.thread (masked m.memory r.kept.delta) r.kept.finish r.kept.end
+    (put_of m.frame.map (hart_of m r.thread).view r.kept)
+
+-- Whether a record fits: its thread is ready, at its number, with its start registers and the bytes of its read pages. (this project's own)
+unfoldable pub fits : Machine → Record → Bool
+fits m r =
+    is_ready (hart_of m r.thread).status && fits_at r (hart_of m r.thread).number (hart_of m r.thread).regs (hart_of m r.thread).view
+
+-- Whether a thread may make the next step: the machine hasn't ended, and the thread is ready. (this project's own)
+abbrev pub can_step : Machine → ℕ → Bool
+can_step m t = is_none m.ending && is_ready (hart_of m t).status

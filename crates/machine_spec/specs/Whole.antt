@@ -1,0 +1,33 @@
+-- What holds of every machine that a setup's schedules reach.
+use Rattle.std.specs.Prelude.{◌≡◌, ℕ, ◌<◌, Bool, true, List, length, Option, Some, None, if◌then◌else◌}
+use Rattle.std.specs.List.{AllByRecursion, list_any}
+use Rattle.memory_spec.specs.Pages.{IsMemory}
+use Rattle.guest_call.specs.Objects.{Objects, IsKept, waits_at, ended_at}
+use Rattle.machine_spec.specs.declared.states.Status.{Status}
+use Rattle.machine_spec.specs.declared.states.Status.TheVariants.{Ready, Blocked, Ended}
+use Rattle.machine_spec.specs.Machine.{Hart, Machine, hart_in, is_ready, is_blocked}
+
+-- 1 for a thread that is blocked, and else 0. (this project's own)
+abbrev pub blocked_count : Status → ℕ
+blocked_count status = if is_blocked status then 1 else 0
+
+-- The value that a thread has ended with. (POSIX.1-2017, pthread_exit)
+abbrev pub ended_value : Status → Option ℕ
+ended_value Ready = None
+ended_value Blocked = None
+ended_value (Ended value) = Some value
+
+-- Objects and harts agree: as many threads; who waits in a queue is Blocked, and no other; who has ended in the table has ended. (this project's own)
+pub record IsTied (o : Objects) (harts : List Hart) : Type 0 where
+  pub threads : length o.threads ≡ length harts
+  pub kept : IsKept o
+  pub blocked : (u : ℕ) → waits_at o u ≡ blocked_count (hart_in harts u).status
+  pub ended : (u : ℕ) → u < length harts → ended_at o u ≡ ended_value (hart_in harts u).status
+
+-- Memory and views fit the map, objects and harts agree, and where there is no end a thread is ready and there are steps left. (this project's own)
+pub record IsWhole (m : Machine) : Type 0 where
+  pub memory : IsMemory m.frame.map m.memory
+  pub views : AllByRecursion (λ (h : Hart). IsMemory m.frame.map h.view) m.harts
+  pub tied : IsTied m.objects m.harts
+  pub some_ready : m.ending ≡ None → list_any (λ (h : Hart). is_ready h.status) m.harts ≡ true
+  pub steps_left : m.ending ≡ None → m.steps < m.limit

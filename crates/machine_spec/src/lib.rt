@@ -1,0 +1,62 @@
+//! The guest machine, as definitions: shared memory, harts with a view each, one step of a thread, and
+//! whole schedules from scratch; with the laws that a step leaves every other ready thread as it is,
+//! that laying a true record that fits is the step, and that the choice leads to an end. No code but
+//! two plain types.
+#![tactic(auto)]
+
+ghost use Rattle.std.specs.Prelude.{◌≡◌, ◌≢◌, ℕ, true};
+ghost use Rattle.record_spec.specs.Record.{Record, IsTrue};
+ghost use Rattle.machine_spec.specs.Machine.{Machine, hart_of, is_ready};
+ghost use Rattle.machine_spec.specs.Step.{step, lay, fits, can_step};
+ghost use Rattle.machine_spec.specs.Setup.{Setup, IsSetup, first, is_permitted, is_complete};
+ghost use Rattle.machine_spec.specs.Choice.{alone};
+ghost use Rattle.machine_spec.specs.Whole.{IsWhole};
+
+mod states;
+
+pub use states::{End, Status};
+
+/// A step of one thread leaves every other ready thread as it is: its registers, its view, its number
+/// of steps and its status.
+pub fn step_leaves_others()
+    ensures {
+        (m : Machine) (t other : ℕ)
+        → IsWhole m
+        → can_step m t ≡ true
+        → other ≢ t
+        → is_ready (hart_of m other).status ≡ true
+        → hart_of (step m t) other ≡ hart_of m other
+    }
+{
+}
+
+/// What holds of every machine holds of the one that a setup starts as.
+pub fn first_is_whole()
+    ensures { (setup : Setup) → IsSetup setup → IsWhole (first setup) }
+{
+}
+
+/// What holds of every machine holds after a step.
+pub fn step_keeps_whole()
+    ensures { (m : Machine) (t : ℕ) → IsWhole m → can_step m t ≡ true → IsWhole (step m t) }
+{
+}
+
+/// To lay a true record that fits is the step of its thread.
+pub fn lay_is_step()
+    ensures {
+        (m : Machine) (r : Record)
+        → IsWhole m
+        → IsTrue m.frame r.start r.kept
+        → fits m r ≡ true
+        → lay m r ≡ step m r.thread
+    }
+{
+}
+
+/// The schedule that the choice gives is permitted, and there is an end after it.
+pub fn alone_leads_to_an_end()
+    ensures permitted { (setup : Setup) → IsSetup setup → is_permitted setup (alone setup) ≡ true }
+    ensures complete { (setup : Setup) → IsSetup setup → is_complete setup (alone setup) ≡ true }
+{
+}

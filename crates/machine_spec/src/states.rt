@@ -1,0 +1,34 @@
+//! The status of a thread, and how a run ends.
+
+use isa_spec::Cause;
+
+/// Whether a thread can be chosen for the next step.
+#[derive(Clone, Copy, Debug, PartialEq, Eq)]
+pub enum Status {
+    /// It can.
+    Ready,
+    /// It waits in a queue until another thread's call makes its own call return.
+    Blocked,
+    /// It has ended with this value.
+    Ended(u32),
+}
+
+/// How a run ends.
+#[derive(Clone, Copy, Debug, PartialEq, Eq)]
+pub enum End {
+    /// A thread called `exit` with this code, or all threads have ended, which is code 0.
+    Exit(u32),
+    /// A thread trapped.
+    Trap {
+        /// The thread's number.
+        thread: u8,
+        /// The address of the instruction that trapped.
+        pc: u32,
+        /// Why it trapped.
+        cause: Cause,
+    },
+    /// No thread is ready, and not all have ended.
+    Deadlock,
+    /// A thunk used up its fuel, or the schedule is as long as the step limit.
+    Spent,
+}

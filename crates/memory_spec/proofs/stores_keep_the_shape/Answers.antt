@@ -1,0 +1,5 @@
+use Rattle.memory_spec.proofs.Laid.{IsMemory-laid}
+use Rattle.memory_spec.proofs.stores_keep_the_shape.Goals as goal
+
+pub returns : goal.returns
+returns c = IsMemory-laid

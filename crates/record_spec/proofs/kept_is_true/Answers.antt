@@ -1,0 +1,5 @@
+use Rattle.record_spec.proofs.Truth.{IsTrue-kept}
+use Rattle.record_spec.proofs.kept_is_true.Goals as goal
+
+pub returns : goal.returns
+returns c = IsTrue-kept

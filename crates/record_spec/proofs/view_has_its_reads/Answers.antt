@@ -1,0 +1,5 @@
+use Rattle.record_spec.proofs.Truth.{has-kept}
+use Rattle.record_spec.proofs.view_has_its_reads.Goals as goal
+
+pub returns : goal.returns
+returns c = has-kept

@@ -1,0 +1,42 @@
+//! What a record keeps of a thunk, as definitions, when it is true and when it fits, with the laws
+//! that a true record that fits stands for its thunk. No code.
+#![tactic(auto)]
+
+ghost use Rattle.std.specs.Prelude.{◌≡◌, List, true};
+ghost use Rattle.isa_spec.specs.Registers.{Registers};
+ghost use Rattle.memory_spec.specs.Pages.{Mapped, Memory, IsMemory};
+ghost use Rattle.memory_spec.specs.Stores.{StoredByte, laid};
+ghost use Rattle.thunk_spec.specs.Thunk.{Frame};
+ghost use Rattle.record_spec.specs.Delta.{delta_of, masked};
+ghost use Rattle.record_spec.specs.Reads.{has};
+ghost use Rattle.record_spec.specs.Record.{Kept, kept_thunk, IsTrue, StandsFor};
+
+/// Writing the masked last bytes that stores leave is laying the stores in order.
+pub fn delta_is_laid()
+    ensures { (map : List Mapped) (memory : Memory) (stores : List StoredByte)
+        → IsMemory map memory
+        → masked memory (delta_of map stores) ≡ laid map memory stores }
+{}
+
+/// What is kept of a thunk is true: on every view that has its read pages the thunk is the same.
+pub fn kept_is_true()
+    ensures { (frame : Frame) (view : Memory) (start : Registers)
+        → IsMemory frame.map view
+        → IsTrue frame start (kept_thunk frame view start) }
+{}
+
+/// The view that a thunk ran on has its read pages.
+pub fn view_has_its_reads()
+    ensures { (frame : Frame) (view : Memory) (start : Registers)
+        → has view (kept_thunk frame view start).reads ≡ true }
+{}
+
+/// What is true of start registers, on a view that has the read pages, stands for the thunk.
+pub fn true_stands_for_thunk()
+    ensures { (frame : Frame) (view memory : Memory) (start : Registers) (kept : Kept)
+        → IsTrue frame start kept
+        → has view kept.reads ≡ true
+        → IsMemory frame.map view
+        → IsMemory frame.map memory
+        → StandsFor frame view memory start kept }
+{}

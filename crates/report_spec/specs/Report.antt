@@ -1,0 +1,98 @@
+-- The report of a round, as a function of the round's number, its setup, its schedule with marks, and the workers' shares.
+use Rattle.std.specs.Prelude.{ℕ, ◌+◌, Bool, true, false, not, if◌then◌else◌, List, [], ◌∷◌, ◌++◌, length, map, codes, count_by, Option, Some, None}
+use Rattle.std.specs.List.{concat}
+use Rattle.std.specs.Fmt.{decimal}
+use Rattle.hex.specs.Hex.{encode_lower}
+use Rattle.sha2.specs.Sha256.{sha256}
+use Rattle.isa_spec.specs.Causes.{number_of}
+use Rattle.memory_spec.specs.Pages.{Memory}
+use Rattle.thunk_spec.specs.Thunk.{thunk}
+use Rattle.machine_spec.specs.declared.states.End.{End}
+use Rattle.machine_spec.specs.declared.states.End.TheVariants.{Exit, Trap, Deadlock, Spent}
+use Rattle.machine_spec.specs.Machine.{Machine, hart_of}
+use Rattle.machine_spec.specs.Step.{step}
+use Rattle.machine_spec.specs.Setup.{Setup, first, scratch}
+use Rattle.report_spec.specs.declared.Entry.{Entry}
+use Rattle.report_spec.specs.Text.{space, newline, hex8, line, list_line}
+
+-- An end in words. (this project's own)
+abbrev pub end_text : End → List ℕ
+end_text (Exit code) = codes "exit " ++ decimal code
+end_text (Trap thread pc cause) = codes "trap " ++ decimal thread ++ space ++ hex8 pc ++ space ++ decimal (number_of cause)
+end_text Deadlock = codes "deadlock"
+end_text Spent = codes "spent"
+
+-- The end that there is; a complete schedule has one. (this project's own)
+abbrev pub ending_text : Option End → List ℕ
+ending_text (Some e) = end_text e
+ending_text None = []
+
+-- An entry of the schedule: its thread, and the mark of a reused or of an executed step. (this project's own)
+abbrev pub entry_text : Entry → List ℕ
+entry_text e = decimal e.thread ++ (if e.reused then codes "=" else codes "+")
+
+-- The threads of a schedule with marks. (this project's own)
+abbrev pub threads_of : List Entry → List ℕ
+threads_of schedule = map (λ (e : Entry). e.thread) schedule
+
+-- How many instructions the executed entries of a schedule made, from a machine on. (this project's own)
+abbrev pub instructions_from : Machine → List Entry → ℕ
+instructions_from m [] = 0
+instructions_from m (e ∷ schedule) =
+    (if e.reused then 0 else (thunk m.frame (hart_of m e.thread).view (hart_of m e.thread).regs).count)
+    + instructions_from (step m e.thread) schedule
+
+-- What a report tells of a round. (this project's own)
+pub record Told : Type 0 where
+  pub ending : Option End
+  pub schedule : List Entry
+  pub instructions : ℕ
+  pub shares : List ℕ
+  pub memory : Memory
+  pub output : List ℕ
+
+-- What there is to tell of the machine from scratch under a schedule. (this project's own)
+abbrev pub told_of : Setup → List Entry → List ℕ → Told
+told_of setup schedule shares =
+    record {
+      ending = (scratch setup (threads_of schedule)).ending;
+      schedule = schedule;
+      instructions = instructions_from (first setup) schedule;
+      shares = shares;
+      memory = (scratch setup (threads_of schedule)).memory;
+      output = (scratch setup (threads_of schedule)).output
+    }
+
+-- How many entries were reused, and how many executed. (this project's own)
+abbrev pub reused_count : List Entry → ℕ
+reused_count schedule = count_by (λ (e : Entry). e.reused) schedule
+
+abbrev pub executed_count : List Entry → ℕ
+executed_count schedule = count_by (λ (e : Entry). not e.reused) schedule
+
+-- The digest of a memory: of all its pages, in order. (FIPS 180-4, SHA-256)
+unfoldable pub memory_digest : Memory → List ℕ
+memory_digest memory = encode_lower (sha256 (concat memory))
+
+-- The lines of the report of round n. (this project's own)
+abbrev pub report_lines : ℕ → Told → List (List ℕ)
+report_lines n t =
+    line (codes "round") (decimal n)
+    ∷ line (codes "end") (ending_text t.ending)
+    ∷ line (codes "steps") (decimal (length t.schedule))
+    ∷ line (codes "reused") (decimal (reused_count t.schedule))
+    ∷ line (codes "executed") (decimal (executed_count t.schedule))
+    ∷ line (codes "instructions") (decimal t.instructions)
+    ∷ list_line (codes "by") decimal t.shares
+    ∷ list_line (codes "schedule") entry_text t.schedule
+    ∷ line (codes "memory") (memory_digest t.memory)
+    ∷ line (codes "output") (decimal (length t.output))
+    ∷ []
+
+-- The report of round n: its lines, the output's bytes, and a line's end. (this project's own)
+unfoldable pub report_text : ℕ → Told → List ℕ
+report_text n t = concat (report_lines n t) ++ t.output ++ newline
+
+-- The report of round n of a setup, whose schedule has these entries and whose workers had these shares. (this project's own)
+unfoldable pub report : ℕ → Setup → List Entry → List ℕ → List ℕ
+report n setup schedule shares = report_text n (told_of setup schedule shares)

@@ -1,0 +1,12 @@
+//! The report of a round as text, as a definition over the machine from scratch. No code but one plain
+//! type.
+#![tactic(auto)]
+
+/// One entry of a schedule, with its mark.
+#[derive(Clone, Copy, Debug, PartialEq, Eq)]
+pub struct Entry {
+    /// The thread that made the step.
+    pub thread: u8,
+    /// Whether the step was taken from an earlier round's record, mark `=`, and not executed, mark `+`.
+    pub reused: bool,
+}

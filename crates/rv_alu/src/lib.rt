@@ -1,0 +1,9 @@
+//! The registers of a hart of RV32I, and the operations of its instructions on words.
+#![tactic(auto)]
+
+mod operations;
+mod registers;
+
+pub use isa_spec::{BranchTest, ImmediateOperation, RegisterOperation, ShiftOperation};
+pub use operations::{immediate, is_taken, register, shift};
+pub use registers::Regs;

@@ -1,0 +1,67 @@
+//! Says what instruction of RV32I each word of a list is.
+//!
+//! It reads lines of standard input. A line is a word, in eight hexadecimal digits with `a` to `f` in
+//! lower case; the answer to it is a line on standard output: the word as it stood, then the
+//! instruction's mnemonic and its operands, or `none` where the word is illegal. So `0062a023` is
+//! answered by `0062a023 sw rs1=5 rs2=6 imm=00000000`.
+//!
+//! Registers (`rd`, `rs1`, `rs2`) and the amount of a shift (`shamt`) are decimal. An immediate (`imm`)
+//! has eight hexadecimal digits: it is the word that the hart adds or compares, sign-extended, and
+//! with its twelve zeros for LUI and AUIPC.
+//!
+//! A line that is no word is answered by `line N: not a word` on standard error, with lines counted
+//! from 1, and the lines after it are read all the same. The status is 0 where each line was a word,
+//! and 1 where one was not or where reading or writing failed.
+#![tactic(auto)]
+
+mod assembly;
+
+use assembly::Assembly;
+use rv_decode::decode;
+use std::alloc::Global;
+use std::io;
+use std::io::{BufRead, BufReader, BufWriter, Write};
+use std::process::ExitCode;
+use hex_word::word_in;
+
+/// Writes the answer to a word.
+fn write_answer<W: Write>(out: &mut W, w: u32) -> io::Result<()> {
+    match decode(w) {
+        Some(instr) => {
+            let assembly = Assembly(instr);
+            writeln!(out, "{w:08x} {assembly}")
+        }
+        None => writeln!(out, "{w:08x} none"),
+    }
+}
+
+/// Answers each line, and says whether each was a word.
+fn disassemble<R>(rt: &R, alloc: Global) -> io::Result<bool>
+where
+    R: Input + Print + Eprint,
+{
+    let mut out = BufWriter::new(alloc, io::writer(rt))?;
+    let mut all_words = true;
+    let mut number = 0u64;
+    for line in BufReader::new(alloc, rt.reader())?.lines(alloc) {
+        number = number.saturating_add(1);
+        match word_in(line?.as_str()) {
+            Some(w) => write_answer(&mut out, w)?,
+            None => {
+                all_words = false;
+                eprintln!(rt; "line {number}: not a word")?;
+            }
+        }
+    }
+    out.flush()?;
+    Ok(all_words)
+}
+
+fn main(rt: HostRuntime) -> io::Result<ExitCode> {
+    let all_words = disassemble(&rt, rt.alloc())?;
+    Ok(if all_words {
+        ExitCode::SUCCESS
+    } else {
+        ExitCode::FAILURE
+    })
+}

@@ -1,0 +1,17 @@
+-- Each mutex is free, as the closure makes it.
+use Rattle.std.proofs.Common.{◌≡◌, ◌<◌, replicate, slice_index_or, arith, rules, sym, ◌∙◌}
+use Rattle.std.proofs.lemmas.List.{same_lists, length-replicate, get_or-replicate}
+use Rattle.guest_call.specs.Mutexes.{unlocked}
+use Rattle.guest_call.specs.Objects.{all_unlocked}
+use Rattle.sync_mutex.proofs.free_cells.Goals as goal
+
+pub returns : goal.returns
+unfolding all_unlocked
+returns c =
+    let long = c.from_fn.ensures.items.long in
+    same_lists c.from_fn.result (replicate 64 unlocked) (long ∙ sym (length-replicate 64 unlocked))
+    (λ k d lt.
+    let below : k < 64 = omega (arith, long) in
+    let made = (c.from_fn.ensures.items.at k d below).2.met in
+    let is : slice_index_or c.from_fn.result k d ≡ unlocked = search (rules, made) in
+    is ∙ sym (get_or-replicate 64 k unlocked d below))

@@ -1,0 +1,5 @@
+use Rattle.thunk_spec.proofs.TurnLocality.{turn-same}
+use Rattle.thunk_spec.proofs.turn_is_local.Goals as goal
+
+pub returns : goal.returns
+returns c = turn-same
