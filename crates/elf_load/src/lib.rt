@@ -1,0 +1,7 @@
+//! The loader: from the bytes of an executable to its image, or the first refusal.
+#![tactic(auto)]
+
+mod fields;
+mod header;
+mod pages;
+mod refusals;
