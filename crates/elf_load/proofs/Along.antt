@@ -16,7 +16,7 @@ or_false true = refl
 or_false false = refl
 
 -- the segments among one header more
-segments_more : (bytes : List ℕ) (i : ℕ) → segments_below bytes (i + 1) ≡ segments_below bytes i ++ cond (is_segment (program_header bytes i)) (program_header bytes i ∷ []) []
+pub segments_more : (bytes : List ℕ) (i : ℕ) → segments_below bytes (i + 1) ≡ segments_below bytes i ++ cond (is_segment (program_header bytes i)) (program_header bytes i ∷ []) []
 segments_more bytes i = filter_of_map_range_with_len_more is_segment (program_header bytes) 0 i i (zero-add i)
 
 pub list_any_more : (number : ℕ) (bytes : List ℕ) (i : ℕ) → list_any (touches number) (segments_below bytes (i + 1)) ≡ (list_any (touches number) (segments_below bytes i) || (is_segment (program_header bytes i) && touches number (program_header bytes i)))

@@ -3,5 +3,6 @@
 
 mod fields;
 mod header;
+mod image;
 mod pages;
 mod refusals;
