@@ -1,0 +1,68 @@
+//! The slot of an address in a list of pages: by a hint, and by halves where the hint misses.
+
+ghost use Rattle.std.specs.Prelude.{◌≡◌, ◌<◌, ◌/◌, true, length, slice_index_or, IfSome, IfNone};
+ghost use Rattle.memory_spec.specs.Pages.{slot_of, ascends_above, unmapped};
+
+use super::pages::MappedPage;
+
+/// How many hints there are.
+pub(super) const HINTS: usize = 4096;
+
+/// The place of the hint for a page: the ranges of a guest's pages have different ones.
+#[inline(always)]
+pub(super) fn hint_place(number: u32) -> usize
+    ensures { result < 4096 }
+{
+    let spread = number.wrapping_add((number >> 16) << 9);
+    (spread & 0xfff) as usize
+}
+
+/// The number of the page in a slot.
+#[inline(always)]
+fn number_at(pages: &[MappedPage], slot: usize) -> u32
+    requires { slot < length pages.now }
+    ensures { result ≡ (slice_index_or pages.now slot unmapped).number }
+{
+    let page = &pages[slot];
+    page.number()
+}
+
+/// The slot of an address, by halves. None exactly where no page has it.
+#[cold]
+fn find(pages: &[MappedPage], address: u32) -> Option<usize>
+    requires { ascends_above 0 pages.now ≡ true }
+    ensures found { IfSome result (λ slot. (slot ≡ slot_of pages.now address) × (slot < length pages.now)) }
+    ensures missing { IfNone result (slot_of pages.now address ≡ length pages.now) }
+{
+    let number = address / 4096;
+    let mut low = 0;
+    let mut high = pages.len();
+    while low < high {
+        let middle = low + (high - low) / 2;
+        let here = number_at(pages, middle);
+        if here == number {
+            return Some(middle);
+        }
+        if here < number {
+            low = middle + 1;
+        } else {
+            high = middle;
+        }
+    }
+    None
+}
+
+/// The slot of an address, where `guess` may be it. None exactly where no page has it.
+#[inline(always)]
+pub(super) fn find_near(pages: &[MappedPage], guess: usize, address: u32) -> Option<usize>
+    requires { ascends_above 0 pages.now ≡ true }
+    ensures found { IfSome result (λ slot. (slot ≡ slot_of pages.now address) × (slot < length pages.now)) }
+    ensures missing { IfNone result (slot_of pages.now address ≡ length pages.now) }
+{
+    if guess < pages.len() {
+        if number_at(pages, guess) == address / 4096 {
+            return Some(guess);
+        }
+    }
+    find(pages, address)
+}

@@ -1,0 +1,151 @@
+//! The list of a guest's pages, in ascending order.
+
+ghost use Rattle.std.specs.Prelude.{◌≡◌, ◌==◌, ◌<◌, ◌*◌, true, length, slice_index_or, IfSome, IfNone};
+ghost use Rattle.memory_spec.specs.Pages.{slot_of, ascends_above, unmapped};
+
+use std::marker::Model;
+
+use super::lookup::{HINTS, find_near, hint_place};
+use super::permission::Perm;
+
+/// The place of a page in the page map.
+pub type Slot = usize;
+
+/// A mapped page: its number, which is its address divided by 4,096, and what it permits.
+///
+/// A clause sees a `Mapped` of `memory_spec`.
+#[derive(Clone, Copy, PartialEq, Eq)]
+pub struct MappedPage {
+    number: u32,
+    permission: Perm,
+}
+
+impl Model for MappedPage {
+    ghost use Rattle.memory_spec.specs.Pages.{Mapped};
+
+    ghost Value = { Mapped };
+
+    ghost view = { λ p. record { number = p.number; permission = p.permission.0 } };
+
+    ghost inverse = { λ m. record { number = m.number; permission = record { 0 = m.permission } } };
+}
+
+impl MappedPage {
+    /// A page with this number, which permits this.
+    #[inline(always)]
+    pub fn new(number: u32, permission: Perm) -> Self
+        ensures { result ≡ record { number = number; permission = permission.0 } }
+    {
+        MappedPage { number, permission }
+    }
+
+    /// Its number.
+    #[inline(always)]
+    pub fn number(&self) -> u32
+        ensures { result ≡ self.now.number }
+    {
+        self.number
+    }
+
+    /// What it permits.
+    #[inline(always)]
+    pub fn permission(&self) -> Perm
+        ensures { result.0 ≡ self.now.permission }
+    {
+        self.permission
+    }
+}
+
+/// The mapped pages, in ascending order, each in its slot.
+///
+/// A clause sees the list of them, each a `Mapped` of `memory_spec`.
+#[derive(Drop)]
+pub struct PageMap {
+    pages: Vec<MappedPage>,
+    hints: [u16; HINTS],
+}
+
+impl Model for PageMap {
+    ghost use Rattle.std.specs.Prelude.{◌≡◌, List, true};
+    ghost use Rattle.memory_spec.specs.Pages.{Mapped, ascends_above};
+
+    ghost Value = { List Mapped };
+
+    ghost view = { λ m. m.pages.items };
+
+    ghost invariant = { λ m. ascends_above 0 m.pages.items ≡ true };
+}
+
+/// For each page the slot in which it may be looked for first.
+fn hints_for(pages: &[MappedPage]) -> [u16; HINTS] {
+    let mut hints = [0; HINTS];
+    for (slot, page) in pages.iter().enumerate() {
+        if let Ok(hint) = u16::try_from(slot) {
+            hints[hint_place(page.number())] = hint;
+        }
+    }
+    hints
+}
+
+impl PageMap {
+    /// The map of these pages. Each stands above the one before it, and none is page 0.
+    pub fn new(pages: Vec<MappedPage>) -> PageMap
+        requires { ascends_above 0 pages.items ≡ true }
+        ensures { result ≡ pages.items }
+    {
+        let hints = hints_for(&pages);
+        PageMap { pages, hints }
+    }
+
+    /// The slot of an address. None exactly where no page has it.
+    #[inline(always)]
+    pub fn slot_of(&self, address: u32) -> Option<Slot>
+        ensures found { IfSome result (λ slot. (slot ≡ slot_of self.now address) × (slot < length self.now)) }
+        ensures missing { IfNone result (slot_of self.now address ≡ length self.now) }
+    {
+        let guess = self.hints[hint_place(address / 4096)];
+        find_near(&self.pages, usize::from(guess), address)
+    }
+
+    /// What the page in a slot permits.
+    #[inline(always)]
+    pub fn perm(&self, slot: Slot) -> Perm
+        requires { slot < length self.now }
+        ensures { result.0 ≡ (slice_index_or self.now slot unmapped).permission }
+    {
+        let page = &self.pages[slot];
+        page.permission()
+    }
+
+    /// The address of the first byte of the page in a slot.
+    pub fn address(&self, slot: Slot) -> u64
+        requires { slot < length self.now }
+        ensures { result ≡ (slice_index_or self.now slot unmapped).number * 4096 }
+    {
+        let page = &self.pages[slot];
+        u64::from(page.number()) * 4096
+    }
+
+    /// How many pages are mapped.
+    #[inline(always)]
+    pub fn len(&self) -> usize
+        ensures count { result ≡ length self.now }
+        ensures ascending { ascends_above 0 self.now ≡ true }
+    {
+        self.pages.len()
+    }
+
+    /// Whether no page is mapped.
+    pub fn is_empty(&self) -> bool
+        ensures { result ≡ (length self.now == 0) }
+    {
+        self.pages.is_empty()
+    }
+
+    /// The mapped pages, in ascending order.
+    pub fn pages(&self) -> &[MappedPage]
+        ensures { result.now ≡ self.now }
+    {
+        &self.pages
+    }
+}

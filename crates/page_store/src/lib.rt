@@ -1,0 +1,11 @@
+//! Pages of 4,096 bytes, and tables of pages that share them.
+#![tactic(auto)]
+
+mod page;
+mod table;
+
+pub use page::{PAGE_SIZE, Page};
+pub use table::PageTable;
+
+#[cfg(test)]
+mod tests;

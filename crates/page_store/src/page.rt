@@ -1,0 +1,98 @@
+//! One page.
+
+ghost use Rattle.std.specs.Prelude.{◌≡◌, ◌<◌, length, slice_index, slice_set};
+ghost use Rattle.std.specs.Str.{bytes_eq};
+ghost use Rattle.memory_spec.specs.Pages.{zero_page};
+
+use std::marker::Model;
+
+/// How many bytes a page has.
+pub const PAGE_SIZE: usize = 4096;
+
+/// A page of 4,096 bytes. A clause sees the list of its bytes.
+#[derive(Drop)]
+pub struct Page {
+    bytes: [u8; PAGE_SIZE],
+}
+
+impl Model for Page {
+    ghost use Rattle.std.specs.Prelude.{◌≡◌, ℕ, List, length};
+
+    ghost Value = { List ℕ };
+
+    ghost view = { λ p. p.bytes };
+
+    ghost invariant = { λ p. length p.bytes ≡ 4096 };
+}
+
+impl Page {
+    /// The page of these bytes.
+    #[inline(always)]
+    pub fn new(bytes: [u8; PAGE_SIZE]) -> Page
+        ensures { result ≡ bytes }
+    {
+        Page { bytes }
+    }
+
+    /// The page of these 4,096 bytes.
+    pub fn from_slice(bytes: &[u8]) -> Page
+        requires { length bytes.now ≡ 4096 }
+        ensures { result ≡ bytes.now }
+    {
+        let mut page = [0; PAGE_SIZE];
+        page.copy_from_slice(bytes);
+        Page { bytes: page }
+    }
+
+    /// A page of zeros.
+    #[tactic(auto, unfolding(memory_spec::specs::Pages::zero_page))]
+    pub fn zero() -> Page
+        ensures { result ≡ zero_page }
+    {
+        Page {
+            bytes: [0; PAGE_SIZE],
+        }
+    }
+
+    /// Another page with the same bytes.
+    #[inline(always)]
+    pub fn copy(&self) -> Page
+        ensures { result ≡ self.now }
+    {
+        Page { bytes: self.bytes }
+    }
+
+    /// Its bytes. That there are 4,096 is what a caller learns of any page.
+    #[inline(always)]
+    pub fn bytes(&self) -> &[u8; PAGE_SIZE]
+        ensures value { result.now ≡ self.now }
+        ensures whole { length self.now ≡ 4096 }
+    {
+        &self.bytes
+    }
+
+    /// The byte at an offset.
+    #[inline(always)]
+    pub fn get(&self, offset: usize) -> u8
+        requires { offset < 4096 }
+        ensures { result ≡ slice_index self.now offset }
+    {
+        self.bytes[offset]
+    }
+
+    /// Writes the byte at an offset.
+    #[inline(always)]
+    pub fn set(&mut self, offset: usize, byte: u8)
+        requires { offset < 4096 }
+        ensures { self.new ≡ slice_set self.old offset byte }
+    {
+        self.bytes[offset] = byte;
+    }
+
+    /// Whether another page has the same bytes.
+    pub fn is_same(&self, other: &Page) -> bool
+        ensures { result ≡ bytes_eq self.now other.now }
+    {
+        self.bytes.as_slice() == other.bytes.as_slice()
+    }
+}
