@@ -3,5 +3,6 @@
 
 mod hart;
 mod performing;
+mod start;
 
 pub use hart::Hart;
