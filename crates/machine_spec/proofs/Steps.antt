@@ -1,5 +1,5 @@
 -- A step leaves every other ready hart as it is, keeps what holds of machines, and is what laying a true record that fits is.
-use Rattle.std.proofs.Common.{◌≡◌, ◌≢◌, ◌<◌, ◌≤◌, ◌+◌, ℕ, zero, suc, Bool, true, false, ◌&&◌, not, eqb, leb, cond, List, [], ◌∷◌, ◌++◌, length, get_or, set, Option, Some, None, refl, ap, sym, ◌∙◌, subst, inl, inr, arith}
+use Rattle.std.proofs.Common.{◌≡◌, ◌≢◌, ◌<◌, ◌≤◌, ◌+◌, ℕ, zero, suc, Bool, true, false, ◌&&◌, not, eqb, leb, cond, List, [], ◌∷◌, ◌++◌, length, get_or, set, Option, Some, None, is_none, refl, ap, sym, ◌∙◌, subst, inl, inr, arith}
 use Rattle.std.proofs.lemmas.Bool.{eqb-true}
 use Rattle.std.proofs.lemmas.Bool.Decides.{nat_tests}
 use Rattle.std.proofs.lemmas.List.{get_or-set_other}
@@ -27,7 +27,7 @@ use Rattle.machine_spec.specs.declared.states.End.{End}
 use Rattle.machine_spec.specs.Machine.{Hart, Machine, hart_in, hart_of, nobody, is_ready, is_ended}
 use Rattle.machine_spec.specs.Performing.{returned, fated, woken, first_hart, with_created, settled}
 use Rattle.machine_spec.specs.Step.{written, Asked, Asks, Stops, asked, fate_end, state_end, end_after, performed, with_end, done_as_asked, finished, step, lay, fits, can_step}
-use Rattle.machine_spec.specs.Whole.{IsTied, IsWhole}
+use Rattle.machine_spec.specs.Whole.{IsTied, IsHartOf, IsWhole}
 use Rattle.machine_spec.proofs.Harts.{ready-below, status-set}
 use Rattle.machine_spec.proofs.Tied.{tied-written, tied-called, stays-called}
 
@@ -98,52 +98,73 @@ step-stays m t u whole can other ready_u =
     (thunk m.frame (hart_of m t).view (hart_of m t).regs).put
     whole.tied (can_step-ready m t can) other ready_u
 
--- views
+-- harts
 
-abbrev Fits : List Mapped → Hart → Type 0
-Fits map h = IsMemory map h.view
+hart-set :
+    (map : List Mapped) (steps : ℕ) (hs : List Hart) (t : ℕ) (h : Hart)
+    → IsHartOf map steps h → AllByRecursion (IsHartOf map steps) hs → AllByRecursion (IsHartOf map steps) (set hs t h)
+hart-set map steps [] t h fit all = tt
+hart-set map steps (x ∷ hs) zero h fit all = (fit, all.1)
+hart-set map steps (x ∷ hs) (suc t) h fit all = (all.0, hart-set map steps hs t h fit all.1)
 
-views-set : (map : List Mapped) (hs : List Hart) (t : ℕ) (h : Hart) → Fits map h → AllByRecursion (Fits map) hs → AllByRecursion (Fits map) (set hs t h)
-views-set map [] t h fit all = tt
-views-set map (x ∷ hs) zero h fit all = (fit, all.1)
-views-set map (x ∷ hs) (suc t) h fit all = (all.0, views-set map hs t h fit all.1)
+hart-push :
+    (map : List Mapped) (steps : ℕ) (hs : List Hart) (h : Hart)
+    → IsHartOf map steps h → AllByRecursion (IsHartOf map steps) hs → AllByRecursion (IsHartOf map steps) (hs ++ h ∷ [])
+hart-push map steps [] h fit all = (fit, tt)
+hart-push map steps (x ∷ hs) h fit all = (all.0, hart-push map steps hs h fit all.1)
 
-views-push : (map : List Mapped) (hs : List Hart) (h : Hart) → Fits map h → AllByRecursion (Fits map) hs → AllByRecursion (Fits map) (hs ++ h ∷ [])
-views-push map [] h fit all = (fit, tt)
-views-push map (x ∷ hs) h fit all = (all.0, views-push map hs h fit all.1)
+pub hart-at :
+    (map : List Mapped) (steps : ℕ) (hs : List Hart) (t : ℕ)
+    → t < length hs → AllByRecursion (IsHartOf map steps) hs → IsHartOf map steps (hart_in hs t)
+hart-at map steps [] t below all = absurd (omega arith)
+hart-at map steps (x ∷ hs) zero below all = all.0
+hart-at map steps (x ∷ hs) (suc t) below all = hart-at map steps hs t (omega arith) all.1
 
-views-at : (map : List Mapped) (hs : List Hart) (t : ℕ) → t < length hs → AllByRecursion (Fits map) hs → Fits map (hart_in hs t)
-views-at map [] t below all = absurd (omega arith)
-views-at map (x ∷ hs) zero below all = all.0
-views-at map (x ∷ hs) (suc t) below all = views-at map hs t (omega arith) all.1
+-- also who doesn't exist has made no step
+number-at : (map : List Mapped) (steps : ℕ) (hs : List Hart) (t : ℕ) → AllByRecursion (IsHartOf map steps) hs → (hart_in hs t).number ≤ steps
+number-at map steps [] t all = omega arith
+number-at map steps (x ∷ hs) zero all = all.0.number
+number-at map steps (x ∷ hs) (suc t) all = number-at map steps hs t all.1
 
-views-fated : (map : List Mapped) (f : Fate) (memory : Memory) (h : Hart) → IsMemory map memory → Fits map h → Fits map (fated f memory h)
-views-fated map (Returns a0 a1) memory h whole fit = whole
-views-fated map Blocks memory h whole fit = fit
-views-fated map (Ends v) memory h whole fit = fit
-views-fated map (Exits code) memory h whole fit = fit
+-- one more step of the run
+hart-later : (map : List Mapped) (steps : ℕ) (hs : List Hart) → AllByRecursion (IsHartOf map steps) hs → AllByRecursion (IsHartOf map (suc steps)) hs
+hart-later map steps [] all = tt
+hart-later map steps (x ∷ hs) all =
+    (record { view = all.0.view; number = let number = all.0.number in omega arith }, hart-later map steps hs all.1)
 
-views-woken :
-    (map : List Mapped) (memory : Memory) (told : Option ℕ) (us : List ℕ) (hs : List Hart)
-    → IsMemory map memory → AllByRecursion (Fits map) hs → AllByRecursion (Fits map) (woken memory told us hs)
-views-woken map memory told [] hs whole all = all
-views-woken map memory told (v ∷ us) hs whole all =
-    views-woken map memory told us (set hs v (returned memory 0 told (hart_in hs v))) whole
-    (views-set map hs v (returned memory 0 told (hart_in hs v)) whole all)
+hart-fated :
+    (map : List Mapped) (steps : ℕ) (f : Fate) (memory : Memory) (h : Hart)
+    → IsMemory map memory → IsHartOf map steps h → IsHartOf map steps (fated f memory h)
+hart-fated map steps (Returns a0 a1) memory h whole fit = record { view = whole; number = fit.number }
+hart-fated map steps Blocks memory h whole fit = record { view = fit.view; number = fit.number }
+hart-fated map steps (Ends v) memory h whole fit = record { view = fit.view; number = fit.number }
+hart-fated map steps (Exits code) memory h whole fit = fit
 
-views-created :
-    (map : List Mapped) (memory : Memory) (c : Option (ℕ × ℕ)) (hs : List Hart)
-    → IsMemory map memory → AllByRecursion (Fits map) hs → AllByRecursion (Fits map) (with_created memory c hs)
-views-created map memory None hs whole all = all
-views-created map memory (Some c) hs whole all = views-push map hs (first_hart memory (length hs) c.0 c.1) whole all
+hart-woken :
+    (map : List Mapped) (steps : ℕ) (memory : Memory) (told : Option ℕ) (us : List ℕ) (hs : List Hart)
+    → IsMemory map memory → AllByRecursion (IsHartOf map steps) hs → AllByRecursion (IsHartOf map steps) (woken memory told us hs)
+hart-woken map steps memory told [] hs whole all = all
+hart-woken map steps memory told (v ∷ us) hs whole all =
+    hart-woken map steps memory told us (set hs v (returned memory 0 told (hart_in hs v))) whole
+    (hart-set map steps hs v (returned memory 0 told (hart_in hs v))
+     (record { view = whole; number = number-at map steps hs v all }) all)
 
-views-settled :
-    (map : List Mapped) (e : Effect) (memory : Memory) (t : ℕ) (hs : List Hart)
-    → t < length hs → IsMemory map memory → AllByRecursion (Fits map) hs → AllByRecursion (Fits map) (settled e memory t hs)
-views-settled map e memory t hs below whole all =
-    views-created map memory e.created (woken memory e.told e.woken (set hs t (fated e.fate memory (hart_in hs t)))) whole
-    (views-woken map memory e.told e.woken (set hs t (fated e.fate memory (hart_in hs t))) whole
-     (views-set map hs t (fated e.fate memory (hart_in hs t)) (views-fated map e.fate memory (hart_in hs t) whole (views-at map hs t below all)) all))
+hart-created :
+    (map : List Mapped) (steps : ℕ) (memory : Memory) (c : Option (ℕ × ℕ)) (hs : List Hart)
+    → IsMemory map memory → AllByRecursion (IsHartOf map steps) hs → AllByRecursion (IsHartOf map steps) (with_created memory c hs)
+hart-created map steps memory None hs whole all = all
+hart-created map steps memory (Some c) hs whole all =
+    hart-push map steps hs (first_hart memory (length hs) c.0 c.1) (record { view = whole; number = omega arith }) all
+
+hart-settled :
+    (map : List Mapped) (steps : ℕ) (e : Effect) (memory : Memory) (t : ℕ) (hs : List Hart)
+    → t < length hs → IsMemory map memory
+    → AllByRecursion (IsHartOf map steps) hs → AllByRecursion (IsHartOf map steps) (settled e memory t hs)
+hart-settled map steps e memory t hs below whole all =
+    hart-created map steps memory e.created (woken memory e.told e.woken (set hs t (fated e.fate memory (hart_in hs t)))) whole
+    (hart-woken map steps memory e.told e.woken (set hs t (fated e.fate memory (hart_in hs t))) whole
+     (hart-set map steps hs t (fated e.fate memory (hart_in hs t))
+      (hart-fated map steps e.fate memory (hart_in hs t) whole (hart-at map steps hs t below all)) all))
 
 -- the end
 
@@ -167,18 +188,27 @@ end_after-ready (Some e) m none = cc
 end_after-ready None m none =
     end_at-ready (list_all (λ (h : Hart). is_ended h.status) m.harts) (list_any (λ (h : Hart). is_ready h.status) m.harts) m.limit m.steps _ _ _ none
 
-done-whole :
-    (m : Machine) (t : ℕ) (put : List ℕ) (a : Asked)
-    → IsMemory m.frame.map m.memory
-    → AllByRecursion (λ (h : Hart). IsMemory m.frame.map h.view) m.harts
-    → IsTied m.objects m.harts
-    → is_ready (hart_of m t).status ≡ true
-    → IsWhole (done_as_asked m t put a)
-done-whole m t put (Asks call) memory views tied ready =
+-- what is there after the writing, and before the end is looked for
+record IsWritten (m : Machine) (t : ℕ) : Type 0 where
+  pub memory : IsMemory m.frame.map m.memory
+  pub harts : AllByRecursion (IsHartOf m.frame.map m.steps) m.harts
+  pub tied : IsTied m.objects m.harts
+  pub ready : is_ready (hart_of m t).status ≡ true
+  pub most_fuel : m.frame.fuel ≤ 16777216
+  pub most_steps : m.limit ≤ 65536
+  pub few_steps : m.steps ≤ m.limit
+
+done-whole : (m : Machine) (t : ℕ) (put : List ℕ) (a : Asked) → IsWritten m t → IsWhole (done_as_asked m t put a)
+done-whole m t put (Asks call) w =
     record {
-      memory = memory;
-      views = views-settled m.frame.map (act (is_readable m.frame.map) m.objects t call).0 m.memory t m.harts (ready-below m.harts t ready) memory views;
-      tied = tied-called (is_readable m.frame.map) m.objects m.harts t call m.memory tied ready;
+      memory = w.memory;
+      harts =
+        hart-settled m.frame.map m.steps (act (is_readable m.frame.map) m.objects t call).0 m.memory t m.harts (ready-below m.harts t w.ready)
+        w.memory w.harts;
+      tied = tied-called (is_readable m.frame.map) m.objects m.harts t call m.memory w.tied w.ready;
+      most_fuel = w.most_fuel;
+      most_steps = w.most_steps;
+      few_steps = w.few_steps;
       some_ready = λ none.
         end_after-ready (fate_end (act (is_readable m.frame.map) m.objects t call).0.fate)
         (performed m t put (act (is_readable m.frame.map) m.objects t call)) none;
@@ -186,21 +216,48 @@ done-whole m t put (Asks call) memory views tied ready =
         end_after-left (fate_end (act (is_readable m.frame.map) m.objects t call).0.fate)
         (performed m t put (act (is_readable m.frame.map) m.objects t call)) none
     }
-done-whole m t put (Stops e) memory views tied ready =
-    record { memory = memory; views = views; tied = tied; some_ready = λ none. cc; steps_left = λ none. cc }
+done-whole m t put (Stops e) w =
+    record {
+      memory = w.memory;
+      harts = w.harts;
+      tied = w.tied;
+      most_fuel = w.most_fuel;
+      most_steps = w.most_steps;
+      few_steps = w.few_steps;
+      some_ready = λ none. cc;
+      steps_left = λ none. cc
+    }
+
+can_step-left : (m : Machine) (t : ℕ) → IsWhole m → can_step m t ≡ true → m.steps < m.limit
+can_step-left m t whole can = whole.steps_left (none-is m.ending (and-left (is_none m.ending) (is_ready (hart_of m t).status) can))
+  where
+    none-is : (e : Option End) → is_none e ≡ true → e ≡ None
+    none-is (Some e) h = cc
+    none-is None h = refl
 
 finished-whole :
     (m : Machine) (t : ℕ) (memory : Memory) (regs : Registers) (e : ThunkEnd) (put : List ℕ)
-    → IsWhole m → is_ready (hart_of m t).status ≡ true → IsMemory m.frame.map memory
+    → IsWhole m → can_step m t ≡ true → IsMemory m.frame.map memory
     → IsWhole (finished m t memory regs e put)
 unfolding finished
-finished-whole m t memory regs e put whole ready fit =
-    done-whole (written m t memory regs) t put (asked t e regs) fit
-    (views-set m.frame.map m.harts t
-     (record { view = (hart_of m t).view; regs = regs; number = suc (hart_of m t).number; status = (hart_of m t).status })
-     (views-at m.frame.map m.harts t (ready-below m.harts t ready) whole.views) whole.views)
-    (tied-after_writing m t memory regs whole.tied)
-    (ready-written m t memory regs ready)
+finished-whole m t memory regs e put whole can fit =
+    let ready : is_ready (hart_of m t).status ≡ true = can_step-ready m t can in
+    let left : m.steps < m.limit = can_step-left m t whole can in
+    let here : IsHartOf m.frame.map m.steps (hart_of m t) = hart-at m.frame.map m.steps m.harts t (ready-below m.harts t ready) whole.harts in
+    done-whole (written m t memory regs) t put (asked t e regs)
+    (record {
+       memory = fit;
+       harts =
+         hart-set m.frame.map (suc m.steps) m.harts t
+         (record { view = (hart_of m t).view; regs = regs; number = suc (hart_of m t).number; status = (hart_of m t).status })
+         (record { view = here.view; number = let number = here.number in omega arith })
+         (hart-later m.frame.map m.steps m.harts whole.harts);
+       tied = tied-after_writing m t memory regs whole.tied;
+       ready = ready-written m t memory regs ready;
+       most_fuel = whole.most_fuel;
+       most_steps = whole.most_steps;
+       few_steps = omega arith
+     })
 
 -- what holds of machines holds after a step
 pub step-whole : (m : Machine) (t : ℕ) → IsWhole m → can_step m t ≡ true → IsWhole (step m t)
@@ -210,7 +267,7 @@ step-whole m t whole can =
     (thunk m.frame (hart_of m t).view (hart_of m t).regs).regs
     (thunk m.frame (hart_of m t).view (hart_of m t).regs).end
     (thunk m.frame (hart_of m t).view (hart_of m t).regs).put
-    whole (can_step-ready m t can)
+    whole can
     (IsMemory-laid m.frame.map m.memory (thunk m.frame (hart_of m t).view (hart_of m t).regs).stores whole.memory)
 
 -- laying
@@ -234,5 +291,5 @@ lay-step m r whole honest fit =
     let reads : has (hart_of m r.thread).view r.kept.reads ≡ true = grind (arith, nat_tests) in
     let stands : StandsFor m.frame (hart_of m r.thread).view m.memory r.start r.kept =
             StandsFor-true m.frame (hart_of m r.thread).view m.memory r.start r.kept honest reads
-            (views-at m.frame.map m.harts r.thread (ready-below m.harts r.thread ready) whole.views) whole.memory in
+            (hart-at m.frame.map m.steps m.harts r.thread (ready-below m.harts r.thread ready) whole.harts).view whole.memory in
     rw (← regs, stands.put_is, stands.memory_is, stands.finish_is, stands.end_is) refl

@@ -1,7 +1,7 @@
 -- What holds of every machine that a setup's schedules reach.
-use Rattle.std.specs.Prelude.{◌≡◌, ℕ, ◌<◌, Bool, true, List, length, Option, Some, None, if◌then◌else◌}
+use Rattle.std.specs.Prelude.{◌≡◌, ℕ, ◌<◌, ◌≤◌, Bool, true, List, length, Option, Some, None, if◌then◌else◌}
 use Rattle.std.specs.List.{AllByRecursion, list_any}
-use Rattle.memory_spec.specs.Pages.{IsMemory}
+use Rattle.memory_spec.specs.Pages.{Mapped, IsMemory}
 use Rattle.guest_call.specs.Objects.{Objects, IsKept, waits_at, ended_at}
 use Rattle.machine_spec.specs.declared.states.Status.{Status}
 use Rattle.machine_spec.specs.declared.states.Status.TheVariants.{Ready, Blocked, Ended}
@@ -24,10 +24,19 @@ pub record IsTied (o : Objects) (harts : List Hart) : Type 0 where
   pub blocked : (u : ℕ) → waits_at o u ≡ blocked_count (hart_in harts u).status
   pub ended : (u : ℕ) → u < length harts → ended_at o u ≡ ended_value (hart_in harts u).status
 
--- Memory and views fit the map, objects and harts agree, and where there is no end a thread is ready and there are steps left. (this project's own)
+-- A hart of a run: its view is a memory of the map, and it has made no more steps than the run. (this project's own)
+pub record IsHartOf (map : List Mapped) (steps : ℕ) (h : Hart) : Type 0 where
+  pub view : IsMemory map h.view
+  pub number : h.number ≤ steps
+
+-- Memory and harts are of the map and the run; objects and harts agree; fuel and limit are in range; and where there is no end, a thread is
+-- ready and there are steps left. (this project's own)
 pub record IsWhole (m : Machine) : Type 0 where
   pub memory : IsMemory m.frame.map m.memory
-  pub views : AllByRecursion (λ (h : Hart). IsMemory m.frame.map h.view) m.harts
+  pub harts : AllByRecursion (IsHartOf m.frame.map m.steps) m.harts
   pub tied : IsTied m.objects m.harts
+  pub most_fuel : m.frame.fuel ≤ 16777216
+  pub most_steps : m.limit ≤ 65536
+  pub few_steps : m.steps ≤ m.limit
   pub some_ready : m.ending ≡ None → list_any (λ (h : Hart). is_ready h.status) m.harts ≡ true
   pub steps_left : m.ending ≡ None → m.steps < m.limit

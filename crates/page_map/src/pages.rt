@@ -116,6 +116,15 @@ impl PageMap {
         page.permission()
     }
 
+    /// The page in a slot.
+    pub fn page(&self, slot: Slot) -> MappedPage
+        requires { slot < length self.now }
+        ensures { result ≡ slice_index_or self.now slot unmapped }
+    {
+        let page = &self.pages[slot];
+        *page
+    }
+
     /// The address of the first byte of the page in a slot.
     pub fn address(&self, slot: Slot) -> u64
         requires { slot < length self.now }

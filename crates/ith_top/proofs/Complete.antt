@@ -1,0 +1,52 @@
+-- Where nothing stands in its way, a line is done, or the host's memory ran out.
+use Rattle.std.proofs.Common.{◌≡◌, ◌<◌, ◌≤◌, ℕ, true, false, List, [], ◌∷◌, length, Option, Some, None, ◌⊎◌, inl, inr, sym, ap, ◌∙◌, subst, arith}
+use Rattle.std.specs.Prelude.{IfSome}
+use Rattle.ith_host.specs.World.{World, IsContent}
+use Rattle.elf_spec.specs.Image.{is_image}
+use Rattle.ith_top.specs.declared.status.Status.{Status}
+use Rattle.ith_top.specs.declared.status.Status.TheVariants as status
+use Rattle.ith_top.specs.Words.{Line, Runs, RunLine}
+use Rattle.ith_top.specs.Statuses.{code_of}
+use Rattle.ith_top.specs.Ends.{Named, OfOne, OfNone, FailedToRead, IsLong, files_named, IsSmooth, RunEnds, Answers, Completes, elf_most, input_most}
+
+none_of_one : (fact : Named → Type 0) (files : List Named) → OfNone fact files → OfOne fact files → ⊥
+none_of_one fact [] none one = one
+none_of_one fact (file ∷ files) none (inl here) = none.0 here
+none_of_one fact (file ∷ files) none (inr there) = none_of_one fact files none.1 there
+
+-- what a told file is said to hold, it holds
+content-told : (told : Option (List ℕ)) (bytes content : List ℕ) → told ≡ Some bytes → IfSome told (λ t. t ≡ content) → bytes ≡ content
+content-told told bytes content is says = let h = subst (λ (o : Option (List ℕ)). IfSome o (λ t. t ≡ content)) is says in h
+
+short-told : (told : Option (List ℕ)) (bytes : List ℕ) (most : ℕ) → told ≡ Some bytes → length bytes ≤ most → IfSome told (λ t. most < length t) → ⊥
+short-told told bytes most is within long =
+    let h = subst (λ (o : Option (List ℕ)). IfSome o (λ t. most < length t)) is long in absurd (omega arith)
+
+by_status :
+    (line : RunLine) (before after : World) (answer : ℕ) (s : Status)
+    → answer ≡ code_of s → RunEnds line before after s → IsSmooth line before after
+    → (answer ≡ code_of status.Finished) ⊎ ((answer ≡ code_of status.Unfinished) ⊎ (answer ≡ code_of status.Memory))
+by_status line before after answer status.Finished is ends smooth = inl is
+by_status line before after answer status.Unfinished is ends smooth = inr (inl is)
+by_status line before after answer status.Words is ends smooth = absurd ends
+by_status line before after answer status.Image is ends smooth =
+    let same : smooth.contents.elf ≡ ends.contents.elf =
+            content-told (before.files line.elf) smooth.contents.elf ends.contents.elf smooth.elf ends.read.elf in
+    let taken : is_image smooth.contents.elf ≡ true = smooth.read.accepted in
+    let refused : is_image smooth.contents.elf ≡ false = ap is_image same ∙ ends.refused in
+    absurd (cc)
+by_status line before after answer status.ReadFault is ends smooth =
+    absurd (none_of_one (FailedToRead before after) (files_named line) smooth.no_read_fault ends.cause)
+by_status line before after answer status.WriteFault is ends smooth = absurd (smooth.no_print_fault ends.cause)
+by_status line before after answer status.Memory is ends smooth = inr (inr is)
+by_status line before after answer status.TooLarge is ends smooth =
+    absurd
+    (none_of_one (IsLong before) (files_named line)
+     ( short-told (before.files line.elf) smooth.contents.elf elf_most smooth.elf smooth.read.contents.elf_within
+     , ( short-told (before.files line.input) smooth.contents.input input_most smooth.input smooth.read.contents.input_within
+       , tt))
+     ends.cause)
+
+pub complete : (line : Option Line) (before after : World) (answer : ℕ) → Answers line before after answer → Completes line before after answer
+complete None before after answer answers = tt
+complete (Some (Runs line)) before after answer answers = by_status line before after answer answers.0 answers.1 answers.2

@@ -1,0 +1,15 @@
+-- The exit status of each way to end.
+use Rattle.std.specs.Prelude.{ℕ}
+use Rattle.ith_top.specs.declared.status.Status.{Status}
+use Rattle.ith_top.specs.declared.status.Status.TheVariants as status
+
+-- The number of a status. (this project's own)
+abbrev pub code_of : Status → ℕ
+code_of status.Finished = 0
+code_of status.Unfinished = 1
+code_of status.Words = 2
+code_of status.Image = 3
+code_of status.ReadFault = 6
+code_of status.WriteFault = 7
+code_of status.Memory = 8
+code_of status.TooLarge = 9
