@@ -1,6 +1,7 @@
 -- Views that were made before they are given.
 use Rattle.std.specs.Prelude.{◌≡◌, List, All}
-use Rattle.std.specs.Arc.{Arc, arc_value}
+use Rattle.std.specs.declared.sync.Arc.{Arc}
+use Rattle.std.specs.Arc.{arc_value}
 use Rattle.std.specs.Global.{Global}
 use Rattle.memory_spec.specs.Pages.{Memory}
 

@@ -2,5 +2,6 @@
 #![tactic(auto)]
 
 mod hart;
+mod performing;
 
 pub use hart::Hart;
