@@ -109,6 +109,21 @@ impl PageTable {
         Ok(())
     }
 
+    /// Puts a page that others hold too into the next slot. No byte is copied.
+    ///
+    /// # Errors
+    ///
+    /// An error where the host's memory ran out; the table is then as before.
+    pub fn push_shared(&mut self, page: &Arc<Page>) -> Result<(), AllocError>
+        ensures ok { OnOk result (self.new ≡ self.old ++ arc_value page.now ∷ []) }
+        ensures err { OnErr result (self.new ≡ self.old) }
+    {
+        page.bytes();
+        let shared = Arc::try_clone(page)?;
+        self.pages.push(shared)?;
+        Ok(())
+    }
+
     /// A table of the same pages, which later changes of this one don't touch. No byte is copied.
     ///
     /// # Errors

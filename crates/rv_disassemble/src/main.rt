@@ -17,12 +17,12 @@
 mod assembly;
 
 use assembly::Assembly;
+use hex_word::word_in;
 use rv_decode::decode;
 use std::alloc::Global;
 use std::io;
 use std::io::{BufRead, BufReader, BufWriter, Write};
 use std::process::ExitCode;
-use hex_word::word_in;
 
 /// Writes the answer to a word.
 fn write_answer<W: Write>(out: &mut W, w: u32) -> io::Result<()> {
