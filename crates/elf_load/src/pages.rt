@@ -36,7 +36,7 @@ fn higher(page: u32, header: Header) -> u32
 }
 
 /// The number of the highest page that a segment touches.
-fn highest_page(bytes: &[u8]) -> u32
+pub fn highest_page(bytes: &[u8]) -> u32
     ensures page { result ≡ segment.highest_page (segments bytes.now) }
     ensures small { result < 2 ^ 21 }
 {
