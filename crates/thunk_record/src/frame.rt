@@ -1,10 +1,9 @@
 //! What every thunk of a run depends on beside its registers and its view.
 
-ghost use Rattle.std.specs.Prelude.{◌≡◌, IfOk};
+ghost use Rattle.std.specs.Prelude.{◌≡◌};
 ghost use Rattle.std.specs.Arc.{arc_value};
 
 use page_map::PageMap;
-use std::alloc::AllocError;
 use std::marker::Model;
 use std::sync::Arc;
 
@@ -43,15 +42,12 @@ impl Frame {
         &self.pages
     }
 
-    /// The page map, to be kept beside this frame.
-    ///
-    /// # Errors
-    ///
-    /// An error where the map has as many holders as can be counted.
-    pub fn share_map(&self) -> Result<Arc<PageMap>, AllocError>
-        ensures { IfOk result (λ map. arc_value map ≡ self.now.map) }
+    /// The page map, as it is shared.
+    #[inline(always)]
+    pub fn shared_map(&self) -> &Arc<PageMap>
+        ensures { arc_value result.now ≡ self.now.map }
     {
-        Arc::try_clone(&self.pages)
+        &self.pages
     }
 
     /// The most turns of one thunk.
