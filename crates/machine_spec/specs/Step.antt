@@ -16,6 +16,8 @@ use Rattle.thunk_spec.specs.Put.{call_at, is_readable}
 use Rattle.thunk_spec.specs.Thunk.{Thunk, thunk}
 use Rattle.record_spec.specs.Delta.{masked}
 use Rattle.record_spec.specs.Record.{Record, put_of, fits_at}
+pub use Rattle.machine_spec.specs.declared.states.Asked.{Asked}
+pub use Rattle.machine_spec.specs.declared.states.Asked.TheVariants.{Asks, Stops}
 use Rattle.machine_spec.specs.declared.states.End.{End}
 use Rattle.machine_spec.specs.declared.states.End.TheVariants as end
 use Rattle.machine_spec.specs.Machine.{Hart, Machine, hart_of, is_ready, is_ended}
@@ -33,11 +35,6 @@ written m t memory regs put =
       output = m.output ++ put;
       steps = suc m.steps
     }
-
--- What the end of a thunk asks of the machine: a call, or to end. (this project's own)
-pub data Asked : Type 0 where
-  Asks : Call → Asked
-  Stops : End → Asked
 
 -- An ECALL asks for its call; one whose number is in no row of the table is a trap, at the ECALL. (this project's own)
 abbrev pub asked_call : ℕ → Registers → Option Call → Asked

@@ -1,1 +1,3 @@
 pub mod DataPages
+pub mod Readable
+pub mod Asking

@@ -1,8 +1,10 @@
 //! The guest machine in code: a setup, the machine that it starts as, and one step of a ready thread.
 #![tactic(auto)]
 
+mod doing;
 mod hart;
 mod performing;
+mod put;
 mod setup;
 mod start;
 
