@@ -3,12 +3,11 @@
 ghost use Rattle.std.specs.Prelude.{◌≡◌, length};
 ghost use Rattle.std.specs.Arc.{arc_value};
 
+use super::job::Job;
 use page_store::PageTable;
 use rv_alu::Regs;
 use std::sync::Arc;
 use thunk_record::Frame;
-
-use super::job::Job;
 
 impl Job {
     /// The next thunk of a thread that has made `number` steps, with these registers, on this view.
