@@ -1,14 +1,14 @@
 -- What a thread's memory gives at the end of a thunk is what is kept of the thunk.
-use Rattle.std.proofs.Common.{◌≡◌, ℕ, suc, Bool, true, false, cond, List, [], ◌∷◌, ◌++◌, length, ap, sym, ◌∙◌, refl, arith}
+use Rattle.std.proofs.Common.{◌≡◌, ℕ, suc, Bool, true, false, List, [], ◌∷◌, length, ap, sym, ◌∙◌, refl, arith}
 use Rattle.isa_spec.specs.Registers.{Registers}
 use Rattle.memory_spec.specs.Pages.{Mapped, Memory, on_each, zero_page, IsMemory}
 use Rattle.memory_spec.specs.Stores.{StoredByte, laid}
-use Rattle.memory_spec.specs.Workspace.{Workspace, Masks, no_marks, marked, taken_at, fresh, after_taking}
+use Rattle.memory_spec.specs.Workspace.{Masks, no_marks, marked, fresh}
 use Rattle.thunk_spec.specs.Put.{put_addresses}
-use Rattle.thunk_spec.specs.Thunk.{Frame, Thunk, thunk, turns}
+use Rattle.thunk_spec.specs.Thunk.{Frame, thunk, turns}
 use Rattle.record_spec.specs.Delta.{PageDelta, chosen, delta_from, delta_of}
 use Rattle.record_spec.specs.Reads.{ReadPage, reads_from, reads_of}
-use Rattle.record_spec.specs.Record.{Kept, kept_thunk}
+use Rattle.record_spec.specs.Record.{kept_thunk}
 use Rattle.record_spec.proofs.Merging.{merged, merged_all, Shaped, shaped-laid, shaped-fresh, merged_all-laid, merged_all-no_marks}
 use Rattle.thunk_run.specs.Left.{Left, left_after, with_put_taken}
 use Rattle.thunk_run.proofs.Leaving.{taken_at-append}
@@ -65,7 +65,7 @@ kept-left f view r whole =
     rw (
       delta_from-laid f.map view (turns f.map f.fuel view r).stores whole,
       ← taken_at-append f.map (on_each false f.map) (turns f.map f.fuel view r).taken
-        (put_addresses f.map (turns f.map f.fuel view r).end (turns f.map f.fuel view r).regs),
+          (put_addresses f.map (turns f.map f.fuel view r).end (turns f.map f.fuel view r).regs),
     )
     refl
 

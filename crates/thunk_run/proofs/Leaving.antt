@@ -1,5 +1,5 @@
 -- Turns made one after the other leave what the thunk of them all leaves.
-use Rattle.std.proofs.Common.{◌≡◌, ℕ, ◌+◌, ◌-◌, ◌<◌, ◌≤◌, zero, suc, Bool, true, slice_set, List, [], ◌∷◌, ◌++◌, ap, sym, subst, ◌∙◌, refl, arith, add_assoc}
+use Rattle.std.proofs.Common.{◌≡◌, ℕ, ◌+◌, ◌-◌, ◌<◌, suc, Bool, true, slice_set, List, [], ◌∷◌, ◌++◌, ap, sym, ◌∙◌, refl, arith, add_assoc}
 use Rattle.isa_spec.specs.declared.Cause.{Cause}
 use Rattle.isa_spec.specs.Registers.{Registers}
 use Rattle.memory_spec.specs.Pages.{Mapped, Memory, slot_of}

@@ -6,4 +6,8 @@ mod job;
 mod put;
 mod turns;
 
+pub use execute::execute;
 pub use job::{Job, Run};
+
+#[cfg(test)]
+mod tests;

@@ -3,14 +3,13 @@
 ghost use Rattle.std.specs.Prelude.{◌≡◌, IfOk};
 ghost use Rattle.thunk_run.specs.Left.{Left, left_after, with_put_taken};
 
+use super::put::{put_range, take_range};
 use page_map::Mem;
 use rv_alu::Regs;
 use rv_step::step;
 use std::alloc::AllocError;
 use thunk_record::Frame;
 use thunk_spec::{Outcome, ThunkEnd};
-
-use super::put::{put_range, take_range};
 
 /// How turns ended, and how many they were.
 #[derive(Clone, Copy)]
@@ -22,7 +21,11 @@ pub(super) struct Turned {
 }
 
 /// Makes turns up to the first that calls or traps, or as many as the fuel allows.
-pub(super) fn make_turns<M: Mem>(regs: &mut Regs, mem: &mut M, fuel: u32) -> Result<Turned, AllocError>
+pub(super) fn make_turns<M: Mem>(
+    regs: &mut Regs,
+    mem: &mut M,
+    fuel: u32,
+) -> Result<Turned, AllocError>
     ensures { IfOk result (λ turned. record { regs = regs.new; end = turned.end; count = turned.count; workspace = M.workspace mem.new } ≡ left_after fuel (M.workspace mem.old) regs.old) }
 {
     let mut count = 0;

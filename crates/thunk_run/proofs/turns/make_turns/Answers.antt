@@ -1,4 +1,4 @@
-use Rattle.std.proofs.Common.{◌≡◌, ◌∙◌, sym}
+use Rattle.std.proofs.Common.{◌∙◌, sym}
 use Rattle.thunk_run.proofs.Leaving.{turns-next, turns-call, turns-trap}
 use Rattle.thunk_run.proofs.turns.make_turns.Goals as goal
 
