@@ -13,13 +13,13 @@ pub struct Short;
 ///
 /// It is seen as its place: how many bytes were taken, and which bytes are left. After `Short` the place is as
 /// before.
-#[derive(Clone, Copy, Debug)]
+#[derive(Drop)]
 pub struct Cursor<'a> {
     bytes: &'a [u8],
     at: usize,
 }
 
-impl Model for Cursor<'_> {
+impl<'a> Model for Cursor<'a> {
     ghost Value = { Place };
 
     ghost view = { λ cursor. record { taken = cursor.at; left = drop cursor.at cursor.bytes.now } };
@@ -86,7 +86,7 @@ impl<'a> Cursor<'a> {
         ensures same { OnErr result (self.new ≡ self.old) }
     {
         match self.bytes(2) {
-            Ok(piece) => Ok(LittleEndian::read_u16(piece)),
+            Ok(piece) => Ok(u16_of(piece)),
             Err(short) => Err(short),
         }
     }
@@ -99,7 +99,7 @@ impl<'a> Cursor<'a> {
         ensures same { OnErr result (self.new ≡ self.old) }
     {
         match self.bytes(4) {
-            Ok(piece) => Ok(LittleEndian::read_u32(piece)),
+            Ok(piece) => Ok(u32_of(piece)),
             Err(short) => Err(short),
         }
     }
@@ -112,8 +112,32 @@ impl<'a> Cursor<'a> {
         ensures same { OnErr result (self.new ≡ self.old) }
     {
         match self.bytes(8) {
-            Ok(piece) => Ok(LittleEndian::read_u64(piece)),
+            Ok(piece) => Ok(u64_of(piece)),
             Err(short) => Err(short),
         }
     }
+}
+
+/// The number that two bytes spell, the lowest first.
+fn u16_of(piece: &[u8]) -> u16
+    requires { length piece.now ≡ 2 }
+    ensures { little_bytes 2 result ≡ piece.now }
+{
+    LittleEndian::read_u16(piece)
+}
+
+/// The number that four bytes spell, the lowest first.
+fn u32_of(piece: &[u8]) -> u32
+    requires { length piece.now ≡ 4 }
+    ensures { little_bytes 4 result ≡ piece.now }
+{
+    LittleEndian::read_u32(piece)
+}
+
+/// The number that eight bytes spell, the lowest first.
+fn u64_of(piece: &[u8]) -> u64
+    requires { length piece.now ≡ 8 }
+    ensures { little_bytes 8 result ≡ piece.now }
+{
+    LittleEndian::read_u64(piece)
 }

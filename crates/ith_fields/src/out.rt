@@ -22,7 +22,9 @@ impl Out {
     pub fn new(alloc: Global) -> Self
         ensures { result ≡ [] }
     {
-        Out { written: Vec::new(alloc) }
+        Out {
+            written: Vec::new(alloc),
+        }
     }
 
     /// How many bytes were written.

@@ -11,7 +11,10 @@ fn fields_are_read_as_they_were_written(rt: HostRuntime) -> Result<(), Fail> {
     out.u32(0x07060504)?;
     out.u64(0x0f0e0d0c0b0a0908)?;
     assert_eq!(rt; out.len(), 17);
-    assert_eq!(rt; out.as_slice(), b"ab\x01\x02\x03\x04\x05\x06\x07\x08\x09\x0a\x0b\x0c\x0d\x0e\x0f".as_slice());
+    assert_eq!(rt;
+        out.as_slice(),
+        b"ab\x01\x02\x03\x04\x05\x06\x07\x08\x09\x0a\x0b\x0c\x0d\x0e\x0f".as_slice()
+    );
     let bytes = out.into_vec();
     let mut cursor = Cursor::new(bytes.as_slice());
     assert!(rt; cursor.bytes(18).is_err());

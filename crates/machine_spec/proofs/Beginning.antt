@@ -1,13 +1,15 @@
 -- The first machine of a setup is whole.
-use Rattle.std.proofs.Common.{◌≡◌, ◌<◌, ◌≤◌, ◌+◌, ◌*◌, ℕ, zero, suc, Bool, true, List, [], ◌∷◌, ◌++◌, length, map, replicate, Option, Some, None, refl, ap, sym, ◌∙◌, arith}
+use Rattle.std.proofs.Common.{◌≡◌, ◌<◌, ◌≤◌, ◌+◌, ◌*◌, ℕ, zero, suc, Bool, true, ltb, List, [], ◌∷◌, ◌++◌, length, map, replicate, Option, Some, None, refl, ap, sym, ◌∙◌, arith}
 use Rattle.std.proofs.lemmas.List.{length-append, length-replicate}
 use Rattle.std.proofs.lemmas.List.FromFn.{length-map-range_with_len}
 use Rattle.std.specs.Prelude.{slice_index}
-use Rattle.std.proofs.lemmas.List.Elements.{All-cons, All-nil, All-append, All-replicate, All-map, All-from_recursion}
+use Rattle.std.proofs.lemmas.List.Elements.{All-cons, All-nil, All-append, All-replicate, All-map, All-from_recursion, recursion_from_All}
 use Rattle.std.specs.List.{All, AllByRecursion, range_with_len}
 use Rattle.std.specs.Int.{to_le_bytes, w32}
-use Rattle.memory_spec.specs.Pages.{Mapped, Memory, IsMemory, zero_page}
-use Rattle.elf_spec.specs.Image.{image_pages, image_memory, entry_of}
+use Rattle.memory_spec.specs.Pages.{Mapped, Memory, IsMemory, zero_page, ascends_above}
+use Rattle.std.proofs.lemmas.Bool.Decides.{nat_tests}
+use Rattle.elf_spec.specs.Image.{image_pages, image_memory, entry_of, is_image}
+use Rattle.elf_spec.proofs.Touched.{pages_inside, image_ascends}
 use Rattle.elf_spec.proofs.ImageMemory.{IsMemory-image}
 use Rattle.guest_call.specs.Objects.{opening, waits_at, ended_at}
 use Rattle.guest_call.proofs.Kept.{opening_kept, opening_waits}
@@ -111,3 +113,80 @@ IsWhole-first s sound =
       some_ready = λ none. refl;
       steps_left = λ none. let some = sound.some_steps in omega arith
     }
+
+-- the map ascends
+
+-- pages that ascend from a number on, after pages below it
+ascends-append :
+    (low middle : ℕ) (xs ys : List Mapped)
+    → ascends_above low xs ≡ true
+    → AllByRecursion (λ (p : Mapped). p.number ≤ middle) xs
+    → low ≤ middle
+    → ascends_above middle ys ≡ true
+    → ascends_above low (xs ++ ys) ≡ true
+ascends-append low middle [] ys ascends below order rest = ascends-lower low middle ys order rest
+  where
+    ascends-lower : (low middle : ℕ) (ys : List Mapped) → low ≤ middle → ascends_above middle ys ≡ true → ascends_above low ys ≡ true
+    ascends-lower low middle [] order rest = refl
+    ascends-lower low middle (y ∷ ys) order rest = grind (arith, nat_tests)
+ascends-append low middle (x ∷ xs) ys ascends below order rest =
+    let first : ltb low x.number ≡ true = grind (arith, nat_tests) in
+    let later : ascends_above x.number xs ≡ true = grind (arith, nat_tests) in
+    rw first (ascends-append x.number middle xs ys later below.1 below.0 rest)
+
+abbrev AllAtMost : ℕ → List Mapped → Type 0
+AllAtMost most pages = AllByRecursion (λ (p : Mapped). p.number ≤ most) pages
+
+at_most-weaker : (most more : ℕ) (xs : List Mapped) → most ≤ more → AllAtMost most xs → AllAtMost more xs
+at_most-weaker most more [] order all = tt
+at_most-weaker most more (x ∷ xs) order all = (let first = all.0 in omega arith, at_most-weaker most more xs order all.1)
+
+at_most-append : (most : ℕ) (xs ys : List Mapped) → AllAtMost most xs → AllAtMost most ys → AllAtMost most (xs ++ ys)
+at_most-append most [] ys all others = others
+at_most-append most (x ∷ xs) ys all others = (all.0, at_most-append most xs ys all.1 others)
+
+abbrev data_of : List ℕ → List Mapped
+data_of numbers = map (λ n. record { number = n; permission = 6 }) numbers
+
+ascends-data : (number count below : ℕ) → below < number → ascends_above below (data_of (range_with_len number count)) ≡ true
+ascends-data number zero below order = refl
+ascends-data number (suc count) below order =
+    let first : ltb below number ≡ true = grind (arith, nat_tests) in
+    rw first (ascends-data (number + 1) count number (omega arith))
+
+at_most-data : (number count most : ℕ) → number + count ≤ most + 1 → AllAtMost most (data_of (range_with_len number count))
+at_most-data number zero most order = tt
+at_most-data number (suc count) most order = (omega arith, at_most-data (number + 1) count most (omega arith))
+
+ascends-data_pages : (number count below : ℕ) → below < number → ascends_above below (data_pages number count) ≡ true
+unfolding data_pages
+ascends-data_pages number count below order = ascends-data number count below order
+
+at_most-data_pages : (number count most : ℕ) → number + count ≤ most + 1 → AllAtMost most (data_pages number count)
+unfolding data_pages
+at_most-data_pages number count most order = at_most-data number count most order
+
+at_most-image : (bytes : List ℕ) → is_image bytes ≡ true → AllAtMost 0xBFFFF (image_pages bytes)
+at_most-image bytes accepted =
+    recursion_from_All (λ (p : Mapped). p.number ≤ 0xBFFFF) (image_pages bytes)
+    (λ k d below. let inside = (pages_inside bytes accepted k d below).1 in omega arith)
+
+-- the pages of a setup stand in ascending order
+pub ascends-map_of : (s : Setup) → IsSetup s → ascends_above 0 (map_of s) ≡ true
+unfolding map_of
+ascends-map_of s sound =
+    let image = image_pages s.elf in
+    let image_most = at_most-image s.elf sound.elf_accepted in
+    let header_most : AllAtMost 0xC0000 (image_pages s.elf ++ data_pages 0xC0000 1) =
+            at_most-append 0xC0000 (image_pages s.elf) (data_pages 0xC0000 1)
+            (at_most-weaker 0xBFFFF 0xC0000 (image_pages s.elf) (omega arith) image_most) (at_most-data_pages 0xC0000 1 0xC0000 (omega arith)) in
+    let input_most : AllAtMost 0xC0100 (image_pages s.elf ++ data_pages 0xC0000 1 ++ data_pages 0xC0001 256) =
+            at_most-append 0xC0100 (image_pages s.elf ++ data_pages 0xC0000 1) (data_pages 0xC0001 256)
+            (at_most-weaker 0xC0000 0xC0100 (image_pages s.elf ++ data_pages 0xC0000 1) (omega arith) header_most)
+            (at_most-data_pages 0xC0001 256 0xC0100 (omega arith)) in
+    ascends-append 0 0xC0100 (image_pages s.elf ++ data_pages 0xC0000 1 ++ data_pages 0xC0001 256) (data_pages 0xD0000 512)
+    (ascends-append 0 0xC0000 (image_pages s.elf ++ data_pages 0xC0000 1) (data_pages 0xC0001 256)
+     (ascends-append 0 0xBFFFF (image_pages s.elf) (data_pages 0xC0000 1)
+      (image_ascends s.elf sound.elf_accepted) image_most (omega arith) (ascends-data_pages 0xC0000 1 0xBFFFF (omega arith)))
+     header_most (omega arith) (ascends-data_pages 0xC0001 256 0xC0000 (omega arith)))
+    input_most (omega arith) (ascends-data_pages 0xD0000 512 0xC0100 (omega arith))

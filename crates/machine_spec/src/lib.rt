@@ -5,10 +5,11 @@
 #![tactic(auto)]
 
 ghost use Rattle.std.specs.Prelude.{◌≡◌, ◌≢◌, ℕ, true};
+ghost use Rattle.memory_spec.specs.Pages.{ascends_above};
 ghost use Rattle.record_spec.specs.Record.{Record, IsTrue};
 ghost use Rattle.machine_spec.specs.Machine.{Machine, hart_of, is_ready};
 ghost use Rattle.machine_spec.specs.Step.{step, lay, fits, can_step};
-ghost use Rattle.machine_spec.specs.Setup.{Setup, IsSetup, first, is_permitted, is_complete};
+ghost use Rattle.machine_spec.specs.Setup.{Setup, IsSetup, first, map_of, is_permitted, is_complete};
 ghost use Rattle.machine_spec.specs.Choice.{alone};
 ghost use Rattle.machine_spec.specs.Whole.{IsWhole};
 
@@ -33,6 +34,12 @@ pub fn step_leaves_others()
 /// What holds of every machine holds of the one that a setup starts as.
 pub fn first_is_whole()
     ensures { (setup : Setup) → IsSetup setup → IsWhole (first setup) }
+{
+}
+
+/// The pages of a setup stand in ascending order, each once.
+pub fn map_ascends()
+    ensures { (setup : Setup) → IsSetup setup → ascends_above 0 (map_of setup) ≡ true }
 {
 }
 

@@ -3,10 +3,9 @@
 ghost use Rattle.std.specs.Prelude.{◌≡◌, ◌==◌, ◌<◌, ◌*◌, true, length, slice_index_or, IfSome, IfNone};
 ghost use Rattle.memory_spec.specs.Pages.{slot_of, ascends_above, unmapped};
 
-use std::marker::Model;
-
 use super::lookup::{HINTS, find_near, hint_place};
 use super::permission::Perm;
+use std::marker::Model;
 
 /// The place of a page in the page map.
 pub type Slot = usize;
@@ -115,6 +114,15 @@ impl PageMap {
     {
         let page = &self.pages[slot];
         page.permission()
+    }
+
+    /// The page in a slot.
+    pub fn page(&self, slot: Slot) -> MappedPage
+        requires { slot < length self.now }
+        ensures { result ≡ slice_index_or self.now slot unmapped }
+    {
+        let page = &self.pages[slot];
+        *page
     }
 
     /// The address of the first byte of the page in a slot.

@@ -4,11 +4,10 @@ ghost use Rattle.std.specs.Prelude.{◌≡◌, ◌==◌, ◌<◌, [], ◌∷◌,
 ghost use Rattle.std.specs.Arc.{arc_value};
 ghost use Rattle.memory_spec.specs.Pages.{page_of};
 
+use super::page::Page;
 use std::alloc::{AllocError, Global};
 use std::marker::Model;
 use std::sync::Arc;
-
-use super::page::Page;
 
 /// Pages by slot, which several tables may share. A clause sees the list of their bytes.
 #[derive(Drop)]
@@ -105,6 +104,21 @@ impl PageTable {
     {
         page.bytes();
         let shared = Arc::new(self.alloc, page)?;
+        self.pages.push(shared)?;
+        Ok(())
+    }
+
+    /// Puts a page that others hold too into the next slot. No byte is copied.
+    ///
+    /// # Errors
+    ///
+    /// An error where the host's memory ran out; the table is then as before.
+    pub fn push_shared(&mut self, page: &Arc<Page>) -> Result<(), AllocError>
+        ensures ok { OnOk result (self.new ≡ self.old ++ arc_value page.now ∷ []) }
+        ensures err { OnErr result (self.new ≡ self.old) }
+    {
+        page.bytes();
+        let shared = Arc::try_clone(page)?;
         self.pages.push(shared)?;
         Ok(())
     }

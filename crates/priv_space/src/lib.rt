@@ -1,13 +1,9 @@
-// A library with one function.
+//! The memory that a thread works on: a view that it shares, and its own copy of each page that it
+//! stores to.
 #![tactic(auto)]
 
-ghost use Rattle.std.specs.Prelude.{◌≡◌};
-ghost use Rattle.priv_space.specs.Echo.{echo_of};
+mod slot;
+mod slots;
+mod space;
 
-// The `ensures` clause is the contract: what `echo` returns is `echo_of` of its argument, a definition
-// in `specs/Echo.antt`, which a caller's clause can cite too.
-pub fn echo(x: usize) -> usize
-    ensures { result ≡ echo_of x }
-{
-    x
-}
+pub use space::Space;

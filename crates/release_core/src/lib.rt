@@ -3,5 +3,8 @@
 
 mod hart;
 mod performing;
+mod setup;
+mod start;
 
 pub use hart::Hart;
+pub use setup::Setup;

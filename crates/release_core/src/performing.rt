@@ -6,6 +6,7 @@ ghost use Rattle.std.specs.Prelude.{◌≡◌, ◌<◌, ◌≤◌, ◌+◌, ◌-
 ghost use Rattle.std.specs.Arc.{arc_value};
 ghost use Rattle.machine_spec.specs.Performing.{fated, woken, returned, with_created, settled};
 ghost use Rattle.machine_spec.specs.Machine.{hart_in};
+ghost use Rattle.guest_call.specs.Objects.{created_count};
 ghost use Rattle.release_core.specs.Views.{AreViewsOf};
 
 use std::alloc::{AllocError, Global};
@@ -65,4 +66,55 @@ fn meet_fate(hart: &mut Hart, memory: &Arc<PageTable>, views: &mut Vec<Arc<PageT
         Fate::Ends(value) => hart.set_status(Status::Ended(value)),
         Fate::Exits(_) => {}
     }
+}
+
+/// The calls of waiting threads return with 0, and each is told something or nothing.
+fn wake(harts: &mut [Hart], memory: &Arc<PageTable>, views: &mut Vec<Arc<PageTable>>, threads: &Queue, told: Option<u32>)
+    requires enough { length threads.now ≤ vec_len views.old }
+    requires views { AreViewsOf (arc_value memory.now) views.old.items }
+    ensures harts { harts.new ≡ woken (arc_value memory.now) told threads.now harts.old }
+    ensures rest { AreViewsOf (arc_value memory.now) views.new.items }
+    ensures count { vec_len views.old ≤ vec_len views.new + length threads.now }
+{
+    for i in 0..threads.len() {
+        let thread = usize::from(threads.at(i));
+        let view = next_view(memory, views);
+        if thread < harts.len() {
+            let hart = &mut harts[thread];
+            hart.return_with(view, 0, told);
+        }
+    }
+}
+
+/// A thread begins, where one is created: it has the least number that is unused.
+fn begin(harts: &mut Vec<Hart>, memory: &Arc<PageTable>, views: &mut Vec<Arc<PageTable>>, created: Option<(u32, u32)>)
+    requires few { length harts.old.items + created_count created ≤ 32 }
+    requires room { vec_len harts.old < vec_capacity harts.old }
+    requires some { 0 < vec_len views.old }
+    requires views { AreViewsOf (arc_value memory.now) views.old.items }
+    ensures { harts.new.items ≡ with_created (arc_value memory.now) created harts.old.items }
+{
+    if let Some((pc, argument)) = created {
+        let view = next_view(memory, views);
+        let hart = Hart::first(view, harts.len() as u8, pc, argument);
+        match harts.push(hart) {
+            Ok(()) => {}
+            Err(_) => unreachable!(),
+        }
+    }
+}
+
+/// Performs the effect of a call of thread `t`: the caller's fate, then the woken, then the created.
+pub fn settle(harts: &mut Vec<Hart>, memory: &Arc<PageTable>, views: &mut Vec<Arc<PageTable>>, t: u8, effect: &Effect)
+    requires exists { t < length harts.old.items }
+    requires few { length harts.old.items + created_count effect.now.created ≤ 32 }
+    requires room { vec_len harts.old < vec_capacity harts.old }
+    requires enough { length effect.now.woken + 2 ≤ vec_len views.old }
+    requires views { AreViewsOf (arc_value memory.now) views.old.items }
+    ensures { harts.new.items ≡ settled effect.now (arc_value memory.now) t harts.old.items }
+{
+    let hart = &mut harts[usize::from(t)];
+    meet_fate(hart, memory, views, effect.fate());
+    wake(harts.as_mut_slice(), memory, views, effect.woken(), effect.told());
+    begin(harts, memory, views, effect.created());
 }

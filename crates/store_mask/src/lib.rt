@@ -1,13 +1,13 @@
-// A library with one function.
+//! What is kept of a thunk's memory: at which places of a page it stored, the pages that it stored
+//! to, and the pages that it read.
 #![tactic(auto)]
 
-ghost use Rattle.std.specs.Prelude.{◌≡◌};
-ghost use Rattle.store_mask.specs.Echo.{echo_of};
+mod delta;
+mod mask;
+mod reads;
+mod stored;
 
-// The `ensures` clause is the contract: what `echo` returns is `echo_of` of its argument, a definition
-// in `specs/Echo.antt`, which a caller's clause can cite too.
-pub fn echo(x: usize) -> usize
-    ensures { result ≡ echo_of x }
-{
-    x
-}
+pub use delta::{Delta, PageDelta};
+pub use mask::Mask;
+pub use reads::{ReadPage, Reads};
+pub use stored::StoredPage;

@@ -1,4 +1,4 @@
-use Rattle.std.proofs.Common.{◌≡◌, ◌<◌, length, arith, sym, ◌+◌, ◌-◌, ◌/◌}
+use Rattle.std.proofs.Common.{◌<◌, length, arith, sym, ◌+◌, ◌-◌, ◌/◌}
 use Rattle.memory_spec.specs.Pages.{slot_of}
 use Rattle.page_map.proofs.Slots.{slot_of-length, slot_of-at, slot_of-later, slot_of-earlier}
 use Rattle.page_map.proofs.lookup.find.Goals as goal

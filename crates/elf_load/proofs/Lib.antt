@@ -1,0 +1,4 @@
+pub mod Words
+pub mod Searches
+pub mod Along
+pub mod Given

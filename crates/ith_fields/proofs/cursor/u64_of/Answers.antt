@@ -1,0 +1,6 @@
+use Rattle.std.proofs.Common.{rules}
+use Rattle.ith_fields.proofs.Spelling.{spelled_eight}
+use Rattle.ith_fields.proofs.cursor.u64_of.Goals as goal
+
+pub returns : goal.returns
+returns c = spelled_eight c.args.piece.now c.read_u64.result c.requires (search rules) c.read_u64.ensures

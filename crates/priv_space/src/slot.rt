@@ -1,0 +1,144 @@
+//! One page of a thread's memory.
+
+ghost use Rattle.std.specs.Prelude.{◌≡◌, ℕ, ◌+◌, ◌*◌, ◌/◌, ◌%◌, ◌^◌, ◌<◌, ◌≤◌, true, false, OnOk, OnErr};
+ghost use Rattle.std.specs.Arc.{arc_value};
+ghost use Rattle.memory_spec.specs.Access.{byte_count, number_in};
+ghost use Rattle.memory_spec.specs.Workspace.{no_marks};
+ghost use Rattle.priv_space.specs.Written.{byte_of, with_number, with_marks};
+ghost use Rattle.priv_space.specs.Slots.{slot_view, slot_bytes, slot_marks, slot_taken};
+
+use memory_spec::Size;
+use page_store::Page;
+use std::alloc::{AllocError, Global};
+use std::sync::Arc;
+use store_mask::StoredPage;
+
+/// A page as the view has it, the thread's own copy from its first store on, and whether the thread
+/// took a byte.
+#[derive(Drop)]
+pub(super) struct Slot {
+    pub(super) shared: Arc<Page>,
+    pub(super) own: Option<Box<StoredPage>>,
+    pub(super) taken: bool,
+}
+
+/// One byte of a value, counted from the least.
+#[inline(always)]
+fn byte_at(value: u32, k: u32) -> u8
+    requires { k < 4 }
+    ensures { result ≡ byte_of value k }
+{
+    ((value >> (8 * k)) & 0xff) as u8
+}
+
+/// The number that stands in a page from an offset on, least byte first.
+#[inline(always)]
+#[tactic(auto, unfolding(memory_spec::specs::Access::number_in))]
+fn number_at(page: &Page, offset: usize, size: Size) -> u32
+    requires { offset + byte_count size ≤ 4096 }
+    ensures value { result ≡ number_in page.now offset size }
+    ensures small { result < 2 ^ (8 * byte_count size) }
+{
+    let bytes = page.bytes();
+    match size {
+        Size::One => u32::from(bytes[offset]),
+        Size::Two => u32::from(bytes[offset]) + (u32::from(bytes[offset + 1]) << 8),
+        Size::Four => {
+            u32::from(bytes[offset])
+                + (u32::from(bytes[offset + 1]) << 8)
+                + (u32::from(bytes[offset + 2]) << 16)
+                + (u32::from(bytes[offset + 3]) << 24)
+        }
+    }
+}
+
+/// Stores the lowest bytes of a value at an offset.
+#[inline(always)]
+#[tactic(auto, unfolding(crate::specs::Written::with_number, crate::specs::Written::with_marks))]
+fn store_number(stored: &mut StoredPage, offset: usize, size: Size, value: u32)
+    requires { offset + byte_count size ≤ 4096 }
+    ensures page { stored.new.page ≡ with_number stored.old.page offset size value }
+    ensures mask { stored.new.mask ≡ with_marks stored.old.mask offset size }
+{
+    stored.store(offset, byte_at(value, 0));
+    match size {
+        Size::One => {}
+        Size::Two => stored.store(offset + 1, byte_at(value, 1)),
+        Size::Four => {
+            stored.store(offset + 1, byte_at(value, 1));
+            stored.store(offset + 2, byte_at(value, 2));
+            stored.store(offset + 3, byte_at(value, 3));
+        }
+    }
+}
+
+impl Slot {
+    /// A page of a view, from which nothing was taken and to which nothing was stored.
+    #[tactic(auto, unfolding(crate::specs::Slots::slot_view, crate::specs::Slots::slot_bytes, crate::specs::Slots::slot_marks, crate::specs::Slots::slot_taken))]
+    pub(super) fn new(shared: Arc<Page>) -> Slot
+        ensures view { slot_view result ≡ arc_value shared }
+        ensures bytes { slot_bytes result ≡ arc_value shared }
+        ensures marks { slot_marks result ≡ no_marks }
+        ensures taken { slot_taken result ≡ false }
+    {
+        Slot {
+            shared,
+            own: None,
+            taken: false,
+        }
+    }
+
+    /// The page, with the thread's stores.
+    #[inline(always)]
+    #[tactic(auto, unfolding(crate::specs::Slots::slot_bytes))]
+    fn page(&self) -> &Page
+        ensures { result.now ≡ slot_bytes self.now }
+    {
+        match &self.own {
+            Some(own) => &own.page,
+            None => &self.shared,
+        }
+    }
+
+    /// Takes a number at an offset.
+    #[inline(always)]
+    #[tactic(auto, unfolding(crate::specs::Slots::slot_view, crate::specs::Slots::slot_bytes, crate::specs::Slots::slot_marks, crate::specs::Slots::slot_taken))]
+    pub(super) fn take(&mut self, offset: usize, size: Size) -> u32
+        requires { offset + byte_count size ≤ 4096 }
+        ensures value { result ≡ number_in (slot_bytes self.old) offset size }
+        ensures small { result < 2 ^ (8 * byte_count size) }
+        ensures view { slot_view self.new ≡ slot_view self.old }
+        ensures bytes { slot_bytes self.new ≡ slot_bytes self.old }
+        ensures marks { slot_marks self.new ≡ slot_marks self.old }
+        ensures taken { slot_taken self.new ≡ true }
+    {
+        self.taken = true;
+        number_at(self.page(), offset, size)
+    }
+
+    /// Stores the lowest bytes of a value at an offset.
+    #[inline(always)]
+    #[tactic(auto, unfolding(crate::specs::Slots::slot_view, crate::specs::Slots::slot_bytes, crate::specs::Slots::slot_marks, crate::specs::Slots::slot_taken))]
+    pub(super) fn store(&mut self, alloc: Global, offset: usize, size: Size, value: u32) -> Result<(), AllocError>
+        requires { offset + byte_count size ≤ 4096 }
+        ensures view { slot_view self.new ≡ slot_view self.old }
+        ensures taken { slot_taken self.new ≡ slot_taken self.old }
+        ensures bytes { OnOk result (slot_bytes self.new ≡ with_number (slot_bytes self.old) offset size value) }
+        ensures marks { OnOk result (slot_marks self.new ≡ with_marks (slot_marks self.old) offset size) }
+        ensures bytes_stay { OnErr result (slot_bytes self.new ≡ slot_bytes self.old) }
+        ensures marks_stay { OnErr result (slot_marks self.new ≡ slot_marks self.old) }
+    {
+        match &mut self.own {
+            Some(own) => {
+                store_number(own, offset, size, value);
+                Ok(())
+            }
+            None => {
+                let mut own = Box::new(alloc, StoredPage::of(&self.shared))?;
+                store_number(&mut own, offset, size, value);
+                self.own = Some(own);
+                Ok(())
+            }
+        }
+    }
+}

@@ -1,0 +1,1 @@
+//! The pages of a thread's memory, by slot.

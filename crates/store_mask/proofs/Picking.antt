@@ -1,0 +1,45 @@
+-- Merging pages byte by byte.
+use Rattle.std.proofs.Common.{◌≡◌, ℕ, ◌<◌, ◌+◌, zero, suc, Bool, true, false, cond, List, [], ◌∷◌, length, get_or, set, take, refl, ap, sym, ◌∙◌, arith}
+use Rattle.std.proofs.lemmas.List.{take_all, length-set}
+use Rattle.record_spec.specs.Delta.{chosen, spread}
+use Rattle.record_spec.proofs.Merging.{merged, spread-chosen}
+
+pub merged-nil : (o n : List ℕ) → merged o n [] ≡ o
+merged-nil [] n = refl
+merged-nil (o ∷ os) [] = refl
+merged-nil (o ∷ os) (n ∷ ns) = refl
+
+-- one place more
+pub merged-more :
+    (o n : List ℕ) (m : List Bool) (i : ℕ)
+    → length n ≡ length o → length m ≡ length o → i < length o
+    → set (merged o n (take i m)) i (cond (get_or m i false) (get_or n i 0) (get_or (merged o n (take i m)) i 0)) ≡ merged o n (take (suc i) m)
+merged-more [] n m i p q lt = absurd (omega arith)
+merged-more (o ∷ os) [] m i p q lt = absurd (omega arith)
+merged-more (o ∷ os) (n ∷ ns) [] i p q lt = absurd (omega arith)
+merged-more (o ∷ os) (n ∷ ns) (m ∷ ms) zero p q lt = ap (λ rest. cond m n o ∷ rest) (sym (merged-nil os ns))
+merged-more (o ∷ os) (n ∷ ns) (m ∷ ms) (suc i) p q lt =
+    ap (λ rest. cond m n o ∷ rest) (merged-more os ns ms i (omega arith) (omega arith) (omega arith))
+
+-- all places
+pub merged-all :
+    (o n : List ℕ) (m : List Bool)
+    → length n ≡ length o → length m ≡ length o → length m ≡ 4096
+    → merged o n (take 4096 m) ≡ spread m (chosen m n) o
+merged-all o n m p q count = ap (merged o n) (take_all 4096 m (omega arith)) ∙ sym (spread-chosen m n o p q)
+
+-- one step of the loop
+pub merged-step :
+    (o n page : List ℕ) (m : List Bool) (i picked : ℕ) (marked : Bool)
+    → page ≡ merged o n (take i m) → marked ≡ get_or m i false → picked ≡ cond marked (get_or n i 0) (get_or page i 0)
+    → length n ≡ length o → length m ≡ length o → i < length o
+    → set page i picked ≡ merged o n (take (i + 1) m)
+merged-step o n page m i picked marked is marks picks p q lt =
+    let next : suc i ≡ i + 1 = omega arith in
+    ap (λ start. set start i picked) is
+    ∙ ap (set (merged o n (take i m)) i)
+    (picks
+    ∙ ap (λ b. cond b (get_or n i 0) (get_or page i 0)) marks
+    ∙ ap (λ start. cond (get_or m i false) (get_or n i 0) (get_or start i 0)) is)
+    ∙ merged-more o n m i p q lt
+    ∙ ap (λ k. merged o n (take k m)) next

@@ -1,0 +1,7 @@
+-- The page is merged at the places so far.
+use Rattle.std.proofs.Common.{◌≡◌, take}
+use Rattle.record_spec.proofs.Merging.{merged}
+use Rattle.store_mask.proofs.mask.Mask.merge.Given as goal
+
+abbrev pub invariant-loop-place : goal.invariant-loop-place
+invariant-loop-place l = l.page ≡ merged l.fn.page l.written (take l.place l.self)

@@ -1,0 +1,117 @@
+//! The stored bytes of a thunk, page by page.
+
+ghost use Rattle.std.specs.Prelude.{◌≡◌, ◌==◌, true, length};
+ghost use Rattle.record_spec.specs.Delta.{is_stored, chosen, spread};
+ghost use Rattle.store_mask.specs.Ascending.{deltas_ascend};
+
+use super::mask::Mask;
+use super::stored::StoredPage;
+use page_store::Page;
+use std::marker::Model;
+
+/// The stored bytes of one page, at least one. A clause sees a `PageDelta` of `record_spec`.
+#[derive(Drop)]
+pub struct PageDelta {
+    slot: usize,
+    stored: Box<StoredPage>,
+}
+
+impl Model for PageDelta {
+    ghost use Rattle.std.specs.Prelude.{◌≡◌, true};
+    ghost use Rattle.record_spec.specs.Delta.{PageDelta, is_stored, chosen};
+
+    ghost Value = { PageDelta };
+
+    ghost view = { λ d. record { slot = d.slot; mask = d.stored.value.mask; bytes = chosen d.stored.value.mask d.stored.value.page } };
+
+    ghost invariant = { λ d. is_stored d.stored.value.mask ≡ true };
+}
+
+impl PageDelta {
+    /// What was stored to the page in a slot, at least one byte.
+    pub fn new(slot: usize, stored: Box<StoredPage>) -> PageDelta
+        requires { is_stored stored.value.mask ≡ true }
+        ensures { result ≡ record { slot = slot; mask = stored.value.mask; bytes = chosen stored.value.mask stored.value.page } }
+    {
+        PageDelta { slot, stored }
+    }
+
+    /// The page's slot.
+    #[inline(always)]
+    pub fn slot(&self) -> usize
+        ensures { result ≡ self.now.slot }
+    {
+        self.slot
+    }
+
+    /// The places that were stored to, at least one.
+    pub fn mask(&self) -> &Mask
+        ensures mask { result.now ≡ self.now.mask }
+        ensures any { is_stored self.now.mask ≡ true }
+    {
+        &self.stored.mask
+    }
+
+    /// A page after the stored bytes were written into it.
+    pub fn written(&self, page: &Page) -> Page
+        ensures { result ≡ spread self.now.mask self.now.bytes page.now }
+    {
+        let mut bytes = *page.bytes();
+        let written = self.stored.page.bytes();
+        self.stored.mask.merge(&mut bytes, written);
+        Page::new(bytes)
+    }
+}
+
+/// The stored bytes of a thunk: for each page with a store, in ascending order of slots.
+/// A clause sees the list of them, each a `PageDelta` of `record_spec`.
+#[derive(Drop)]
+pub struct Delta {
+    pages: Vec<PageDelta>,
+}
+
+impl Model for Delta {
+    ghost use Rattle.std.specs.Prelude.{◌≡◌, List, true};
+    ghost use Rattle.record_spec.specs.Delta.{PageDelta};
+    ghost use Rattle.store_mask.specs.Ascending.{deltas_ascend};
+
+    ghost Value = { List PageDelta };
+
+    ghost view = { λ d. d.pages.items };
+
+    ghost invariant = { λ d. deltas_ascend 0 d.pages.items ≡ true };
+}
+
+impl Delta {
+    /// The stored bytes of these pages, whose slots ascend.
+    pub fn new(pages: Vec<PageDelta>) -> Delta
+        requires { deltas_ascend 0 pages.items ≡ true }
+        ensures { result ≡ pages.items }
+    {
+        Delta { pages }
+    }
+
+    /// How many pages were stored to.
+    #[inline(always)]
+    pub fn len(&self) -> usize
+        ensures { result ≡ length self.now }
+    {
+        self.pages.len()
+    }
+
+    /// Whether nothing was stored.
+    pub fn is_empty(&self) -> bool
+        ensures { result ≡ (length self.now == 0) }
+    {
+        self.pages.is_empty()
+    }
+
+    /// The pages, in ascending order of slots.
+    #[inline(always)]
+    pub fn pages(&self) -> &[PageDelta]
+        ensures pages { result.now ≡ self.now }
+        ensures ascending { deltas_ascend 0 self.now ≡ true }
+    {
+        &self.pages
+    }
+}
