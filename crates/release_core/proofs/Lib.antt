@@ -1,3 +1,2 @@
 pub mod DataPages
-pub mod Readable
 pub mod Asking

@@ -21,7 +21,7 @@ use page_map::PageMap;
 use page_store::PageTable;
 use rv_alu::Regs;
 use sync_objects::Objects;
-use super::put::can_read;
+use thunk_run::{Range, appends_all};
 use thunk_spec::ThunkEnd;
 
 use super::hart::Hart;
@@ -67,7 +67,7 @@ fn put_answer(map: &PageMap, address: u32, count: u32) -> u32
         EINVAL
     } else if count == 0 {
         0
-    } else if can_read(map, address, count) {
+    } else if appends_all(map, Range { start: address, len: count }) {
         count
     } else {
         EFAULT

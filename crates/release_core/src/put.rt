@@ -1,40 +1,49 @@
-//! The bytes of a put.
+//! The bytes that a put appends to the output.
 
-ghost use Rattle.std.specs.Prelude.{◌≡◌, ◌+◌, ◌≤◌, ◌^◌, true};
-ghost use Rattle.memory_spec.specs.Pages.{allows, read_right, permission_at};
-ghost use Rattle.thunk_spec.specs.Put.{is_readable};
-ghost use Rattle.guest_call.specs.Objects as rows;
+ghost use Rattle.std.specs.Prelude.{◌≡◌, ◌+◌, ◌≤◌, ◌^◌, ◌<◌, true, length, IfOk};
+ghost use Rattle.std.specs.List.{range_with_len};
+ghost use Rattle.memory_spec.specs.Pages.{slot_of, page_of};
+ghost use Rattle.thunk_spec.specs.Put.{byte_at, bytes_at, is_readable};
+ghost use Rattle.record_spec.specs.Record.{put_of};
 
+use std::alloc::{AllocError, Global};
+
+use page_commit::commit;
 use page_map::PageMap;
+use page_store::PageTable;
+use thunk_record::Record;
+use thunk_run::{Range, put_range};
 
-/// Whether the byte at an address may be read.
-#[tactic(auto, unfolding(memory_spec::specs::Pages::permission_at))]
-fn may_read(map: &PageMap, address: u32) -> bool
-    ensures { result ≡ allows read_right (permission_at map.now address) }
+/// The byte at an address; zero where no page has it.
+fn byte_of(map: &PageMap, table: &PageTable, address: u32) -> u8
+    ensures { result ≡ byte_at map.now table.now address }
 {
     match map.slot_of(address) {
-        Some(slot) => map.perm(slot).reads(),
-        None => false,
+        Some(slot) if slot < table.len() => table.page(slot).get((address % 4096) as usize),
+        _ => 0,
     }
 }
 
-/// Whether each byte of a range may be read, and the range ends by 2^32.
-pub fn can_read(map: &PageMap, address: u32, count: u32) -> bool
-    ensures { result ≡ rows.can_read (is_readable map.now) address count }
+/// The bytes of a range.
+fn bytes_of(alloc: Global, map: &PageMap, table: &PageTable, range: Range) -> Result<Vec<u8>, AllocError>
+    requires { range.start + range.len ≤ 2 ^ 32 }
+    ensures { IfOk result (λ bytes. bytes.items ≡ bytes_at map.now table.now (range_with_len range.start range.len)) }
 {
-    u64::from(address) + u64::from(count) <= 1 << 32 && all_readable(map, address, count)
+    let mut bytes = Vec::new(alloc);
+    for k in 0..range.len {
+        bytes.push(byte_of(map, table, range.start + k))?;
+    }
+    Ok(bytes)
 }
 
-/// Whether each byte of a range may be read.
-#[tactic(auto, using(crate::proofs::Readable::readable_begin, crate::proofs::Readable::readable_next, crate::proofs::Readable::readable_end))]
-fn all_readable(map: &PageMap, address: u32, count: u32) -> bool
-    requires { address + count ≤ 2 ^ 32 }
-    ensures { result ≡ is_readable map.now address count }
+/// The bytes that the put which ends a kept thunk appends, read in the thread's view with the
+/// thunk's stored bytes written over it; none where no put ends it.
+#[tactic(auto, unfolding(record_spec::specs::Record::put_of))]
+pub fn put_bytes(alloc: Global, map: &PageMap, view: &PageTable, rec: &Record) -> Result<Vec<u8>, AllocError>
+    ensures { IfOk result (λ bytes. bytes.items ≡ put_of map.now view.now rec.now.kept) }
 {
-    for k in 0..count {
-        if !may_read(map, address + k) {
-            return false;
-        }
-    }
-    true
+    let range = put_range(map, rec.end(), rec.finish());
+    let mut table = view.snapshot()?;
+    commit(&mut table, rec.delta())?;
+    bytes_of(alloc, map, &table, range)
 }

@@ -8,6 +8,7 @@ mod turns;
 
 pub use execute::execute;
 pub use job::{Job, Run};
+pub use put::{Range, appends_all, put_range};
 
 #[cfg(test)]
 mod tests;

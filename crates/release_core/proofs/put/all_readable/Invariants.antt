@@ -1,6 +1,0 @@
-use Rattle.std.proofs.Common.{◌≡◌, ◌+◌, ◌-◌}
-use Rattle.thunk_spec.specs.Put.{is_readable}
-use Rattle.release_core.proofs.put.all_readable.Given as goal
-
-abbrev pub invariant-loop-k : goal.invariant-loop-k
-invariant-loop-k l = is_readable l.map (l.address + l.k) (l.count - l.k) ≡ is_readable l.map l.address l.count
