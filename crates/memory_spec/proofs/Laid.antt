@@ -20,8 +20,8 @@ IsMemory-with_byte map m s whole =
     record {
       count = length-set m (slot_of map s.address) (set (page_of m (slot_of map s.address)) (s.address % 4096) s.byte) ∙ whole.count;
       pages =
-        All-from_recursion IsPage (set m (slot_of map s.address) (set (page_of m (slot_of map s.address)) (s.address % 4096) s.byte))
-        (pages-set m (slot_of map s.address) (s.address % 4096) s.byte (recursion_from_All IsPage m whole.pages))
+          All-from_recursion IsPage (set m (slot_of map s.address) (set (page_of m (slot_of map s.address)) (s.address % 4096) s.byte))
+          (pages-set m (slot_of map s.address) (s.address % 4096) s.byte (recursion_from_All IsPage m whole.pages));
     }
 
 -- a memory is one after any stores

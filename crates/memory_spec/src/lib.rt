@@ -29,10 +29,7 @@ pub enum MemoryError {
 
 /// A memory of a map is one after any stores: as many pages, each of 4,096 bytes.
 pub fn stores_keep_the_shape()
-    ensures {
-        (map : List Mapped) (memory : Memory) (stores : List StoredByte)
+    ensures { (map : List Mapped) (memory : Memory) (stores : List StoredByte)
         → IsMemory map memory
-        → IsMemory map (laid map memory stores)
-    }
-{
-}
+        → IsMemory map (laid map memory stores) }
+{}

@@ -1,8 +1,7 @@
 //! A snapshot keeps its pages.
 
-use std::alloc::AllocError;
-
 use super::{PAGE_SIZE, Page, PageTable};
+use std::alloc::AllocError;
 
 #[test]
 fn snapshot_keeps_the_old_page(rt: HostRuntime) -> Result<(), AllocError> {

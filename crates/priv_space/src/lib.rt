@@ -2,8 +2,21 @@
 //! stores to.
 #![tactic(auto)]
 
+ghost use Rattle.std.specs.Prelude.{◌≡◌, List};
+ghost use Rattle.memory_spec.specs.Pages.{Mapped, Memory, IsMemory, on_each};
+ghost use Rattle.memory_spec.specs.Stores.{StoredByte, laid};
+ghost use Rattle.memory_spec.specs.Workspace.{no_marks, marked};
+ghost use Rattle.record_spec.specs.Delta.{delta_from, delta_of};
+
 mod slot;
 mod slots;
 mod space;
 
 pub use space::Space;
+
+/// What a memory that a thread works on keeps of its stores is what the stores leave, on any view.
+pub fn delta_is_of_the_stores()
+    ensures { (map : List Mapped) (view : Memory) (stores : List StoredByte)
+        → IsMemory map view
+        → delta_from 0 (marked map (on_each no_marks map) stores) (laid map view stores) ≡ delta_of map stores }
+{}

@@ -1,17 +1,18 @@
 //! One page of a thread's memory.
 
-ghost use Rattle.std.specs.Prelude.{◌≡◌, ℕ, ◌+◌, ◌*◌, ◌/◌, ◌%◌, ◌^◌, ◌<◌, ◌≤◌, true, false, OnOk, OnErr};
+ghost use Rattle.std.specs.Prelude.{◌≡◌, ℕ, ◌+◌, ◌*◌, ◌/◌, ◌%◌, ◌^◌, ◌<◌, ◌≤◌, ◌++◌, true, false, OnOk, OnErr};
 ghost use Rattle.std.specs.Arc.{arc_value};
 ghost use Rattle.memory_spec.specs.Access.{byte_count, number_in};
 ghost use Rattle.memory_spec.specs.Workspace.{no_marks};
 ghost use Rattle.priv_space.specs.Written.{byte_of, with_number, with_marks};
+ghost use Rattle.priv_space.specs.Parts.{read_part, delta_part};
 ghost use Rattle.priv_space.specs.Slots.{slot_view, slot_bytes, slot_marks, slot_taken};
 
 use memory_spec::Size;
 use page_store::Page;
 use std::alloc::{AllocError, Global};
 use std::sync::Arc;
-use store_mask::StoredPage;
+use store_mask::{PageDelta, ReadPage, StoredPage};
 
 /// A page as the view has it, the thread's own copy from its first store on, and whether the thread
 /// took a byte.
@@ -137,6 +138,34 @@ impl Slot {
                 let mut own = Box::new(alloc, StoredPage::of(&self.shared))?;
                 store_number(&mut own, offset, size, value);
                 self.own = Some(own);
+                Ok(())
+            }
+        }
+    }
+
+    /// Adds the page to the read pages, if a byte was taken.
+    #[tactic(auto, unfolding(crate::specs::Slots::slot_view, crate::specs::Slots::slot_taken))]
+    pub(super) fn add_read(&self, place: usize, pages: &mut Vec<ReadPage>) -> Result<(), AllocError>
+        ensures { OnOk result (pages.new.items ≡ pages.old.items ++ read_part place (slot_taken self.now) (slot_view self.now)) }
+    {
+        if self.taken {
+            pages.push(ReadPage::new(place, Arc::try_clone(&self.shared)?))?;
+        }
+        Ok(())
+    }
+
+    /// Gives the own copy to the deltas, if a byte was stored.
+    #[tactic(auto, unfolding(crate::specs::Slots::slot_bytes, crate::specs::Slots::slot_marks))]
+    pub(super) fn give_delta(&mut self, place: usize, deltas: &mut Vec<PageDelta>) -> Result<(), AllocError>
+        ensures { OnOk result (deltas.new.items ≡ deltas.old.items ++ delta_part place (slot_marks self.old) (slot_bytes self.old)) }
+    {
+        match self.own.take() {
+            None => Ok(()),
+            Some(own) => {
+                if own.mask.is_empty() {
+                    return Ok(());
+                }
+                deltas.push(PageDelta::new(place, own))?;
                 Ok(())
             }
         }

@@ -1,1 +1,175 @@
-pub struct Space;
+//! The memory that a thread works on.
+
+ghost use Rattle.std.specs.Prelude.{◌≡◌, ◌+◌, ◌<◌, ◌≤◌, ◌%◌, List, length, map, IfOk, IfSome, IfNone};
+ghost use Rattle.std.specs.Arc.{arc_value};
+ghost use Rattle.memory_spec.specs.Access.{byte_count};
+ghost use Rattle.memory_spec.specs.Pages.{slot_of, permission_at};
+ghost use Rattle.memory_spec.specs.Workspace.{fresh};
+ghost use Rattle.record_spec.specs.Delta.{delta_from};
+ghost use Rattle.record_spec.specs.Reads.{reads_from};
+
+use memory_spec::{MemoryError, Size};
+use page_map::{Mem, PageMap, Perm, Slot as Place};
+use page_store::PageTable;
+use std::alloc::{AllocError, Global};
+use std::marker::Model;
+use std::sync::Arc;
+use store_mask::{Delta, Reads};
+
+use super::slot::Slot;
+use super::slots;
+
+/// A view that a thread works on, with its own stores laid over it: it shares the pages of the view,
+/// and has a copy of each page that it stored to. A clause sees a `Workspace` of `memory_spec`.
+#[derive(Drop)]
+pub struct Space {
+    alloc: Global,
+    pages: Arc<PageMap>,
+    slots: Vec<Slot>,
+}
+
+impl Model for Space {
+    ghost use Rattle.std.specs.Prelude.{◌≡◌, length, map};
+    ghost use Rattle.std.specs.Arc.{arc_value};
+    ghost use Rattle.memory_spec.specs.Workspace.{Workspace};
+
+    ghost Value = { Workspace };
+
+    ghost use Rattle.priv_space.specs.Slots.{slot_view, slot_bytes, slot_marks, slot_taken};
+
+    ghost view = { λ s. record { map = arc_value s.pages; view = map slot_view s.slots.items; memory = map slot_bytes s.slots.items; stored = map slot_marks s.slots.items; taken = map slot_taken s.slots.items } };
+
+    ghost invariant = { λ s. length s.slots.items ≡ length (arc_value s.pages) };
+}
+
+/// The slot of an address, and what its page permits. None exactly where no page has it.
+#[inline(always)]
+#[tactic(auto, unfolding(memory_spec::specs::Pages::permission_at))]
+fn permitted(pages: &PageMap, address: u32) -> Option<(Place, Perm)>
+    ensures slot { IfSome result (λ p. (p.0 ≡ slot_of pages.now address) × (p.0 < length pages.now)) }
+    ensures perm { IfSome result (λ p. p.1.0 ≡ permission_at pages.now address) }
+    ensures missing { IfNone result (permission_at pages.now address ≡ 0) }
+{
+    match pages.slot_of(address) {
+        Some(slot) => Some((slot, pages.perm(slot))),
+        None => None,
+    }
+}
+
+/// An address's place in its page.
+#[inline(always)]
+fn offset_of(address: u32, size: Size) -> usize
+    requires { address % byte_count size ≡ 0 }
+    ensures value { result ≡ address % 4096 }
+    ensures inside { result + byte_count size ≤ 4096 }
+{
+    (address & 0xfff) as usize
+}
+
+impl Mem for Space {
+    ghost workspace = { λ s. s };
+
+    #[inline(always)]
+    #[tactic(auto, unfolding(memory_spec::specs::Access::fetched, memory_spec::specs::Access::number_at))]
+    fn fetch(&mut self, address: u32) -> Result<u32, MemoryError> {
+        match permitted(&self.pages, address) {
+            None => Err(MemoryError::Access),
+            Some((slot, perm)) => {
+                if !perm.executes() {
+                    return Err(MemoryError::Access);
+                }
+                let offset = offset_of(address, Size::Four);
+                Ok(slots::take(&mut self.slots, slot, offset, Size::Four))
+            }
+        }
+    }
+
+    #[inline(always)]
+    #[tactic(auto, unfolding(memory_spec::specs::Access::loaded, memory_spec::specs::Access::number_at))]
+    fn load(&mut self, address: u32, size: Size) -> Result<u32, MemoryError> {
+        match permitted(&self.pages, address) {
+            None => Err(MemoryError::Access),
+            Some((slot, perm)) => {
+                if !perm.reads() {
+                    return Err(MemoryError::Access);
+                }
+                let offset = offset_of(address, size);
+                Ok(slots::take(&mut self.slots, slot, offset, size))
+            }
+        }
+    }
+
+    #[inline(always)]
+    #[tactic(auto, unfolding(memory_spec::specs::Access::may_store))]
+    fn store(&mut self, address: u32, size: Size, value: u32) -> Result<(), MemoryError> {
+        match permitted(&self.pages, address) {
+            None => Err(MemoryError::Access),
+            Some((slot, perm)) => {
+                if !perm.writes() {
+                    return Err(MemoryError::Access);
+                }
+                let offset = offset_of(address, size);
+                let Ok(()) = slots::store(self.alloc, &mut self.slots, slot, offset, size, value) else {
+                    return Err(MemoryError::NoMemory);
+                };
+                Ok(())
+            }
+        }
+    }
+}
+
+impl Space {
+    /// A view with nothing stored and nothing taken. It shares the pages of the table, and no byte is copied.
+    ///
+    /// # Errors
+    ///
+    /// An error where the host's memory ran out.
+    pub fn new(alloc: Global, view: &PageTable, pages: &Arc<PageMap>) -> Result<Space, AllocError>
+        requires { length view.now ≡ length (arc_value pages.now) }
+        ensures { IfOk result (λ space. space ≡ fresh (arc_value pages.now) view.now) }
+    {
+        let count = view.len();
+        let mut slots = Vec::with_capacity(alloc, count)?;
+        for slot in 0..count {
+            slots.push(Slot::new(view.share(slot)?))?;
+        }
+        Ok(Space {
+            alloc,
+            pages: Arc::try_clone(pages)?,
+            slots,
+        })
+    }
+
+    /// The pages from which a byte was taken, as the view has them. No byte is copied.
+    ///
+    /// # Errors
+    ///
+    /// An error where the host's memory ran out.
+    pub fn reads(&self) -> Result<Reads, AllocError>
+        ensures { IfOk result (λ reads. reads ≡ reads_from 0 self.now.taken self.now.view) }
+    {
+        let mut pages = Vec::new(self.alloc);
+        for slot in 0..self.slots.len() {
+            self.slots[slot].add_read(slot, &mut pages)?;
+        }
+        Ok(Reads::new(pages))
+    }
+
+    /// The stored bytes. The own copies are handed over, and no byte is copied.
+    ///
+    /// # Errors
+    ///
+    /// An error where the host's memory ran out.
+    pub fn into_delta(self) -> Result<Delta, AllocError>
+        ensures { IfOk result (λ delta. delta ≡ delta_from 0 self.stored self.memory) }
+    {
+        let Space { alloc, pages, slots } = self;
+        drop(pages);
+        let mut slots = slots;
+        let mut deltas = Vec::new(alloc);
+        for slot in 0..slots.len() {
+            slots[slot].give_delta(slot, &mut deltas)?;
+        }
+        Ok(Delta::new(deltas))
+    }
+}

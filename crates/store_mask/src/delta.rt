@@ -4,11 +4,10 @@ ghost use Rattle.std.specs.Prelude.{◌≡◌, ◌==◌, true, length};
 ghost use Rattle.record_spec.specs.Delta.{is_stored, chosen, spread};
 ghost use Rattle.store_mask.specs.Ascending.{deltas_ascend};
 
-use page_store::Page;
-use std::marker::Model;
-
 use super::mask::Mask;
 use super::stored::StoredPage;
+use page_store::Page;
+use std::marker::Model;
 
 /// The stored bytes of one page, at least one. A clause sees a `PageDelta` of `record_spec`.
 #[derive(Drop)]

@@ -3,9 +3,8 @@
 ghost use Rattle.std.specs.Prelude.{◌≡◌, ◌<◌, true, slice_set};
 ghost use Rattle.memory_spec.specs.Workspace.{no_marks};
 
-use page_store::Page;
-
 use super::mask::Mask;
+use page_store::Page;
 
 /// A thread's own copy of a page, and at which places it stored.
 #[derive(Drop)]

@@ -1,0 +1,54 @@
+-- What a space means, after each of its operations.
+use Rattle.std.proofs.Common.{◌≡◌, ℕ, ◌%◌, ◌<◌, zero, suc, Bool, true, false, List, [], ◌∷◌, length, take, set, replicate, refl, ap, sym, ◌∙◌, arith, Result, Ok, Err, OnOk, OnErr}
+use Rattle.std.proofs.lemmas.List.{take_all}
+use Rattle.memory_spec.specs.declared.Size.{Size}
+use Rattle.memory_spec.specs.Pages.{Mapped, Memory, slot_of, page_of, on_each}
+use Rattle.memory_spec.specs.Stores.{laid}
+use Rattle.memory_spec.specs.Access.{byte_count, bytes_stored}
+use Rattle.memory_spec.specs.Workspace.{Workspace, Masks, mask_of, no_marks, marked, fresh, after_storing}
+use Rattle.priv_space.specs.Written.{with_number, with_marks}
+use Rattle.priv_space.proofs.Access.{laid-access, marked-access}
+
+pub on_ok : {T E : Type 0} {P Q : Type 0} (r : Result T E) → (P → Q) → OnOk r P → OnOk r Q
+on_ok (Ok value) f h = f h
+on_ok (Err error) f h = h
+
+pub on_err : {T E : Type 0} {P Q : Type 0} (r : Result T E) → (P → Q) → OnErr r P → OnErr r Q
+on_err (Ok value) f h = h
+on_err (Err error) f h = f h
+
+on_each-replicate : {A : Type 0} (a : A) (map : List Mapped) (n : ℕ) → n ≡ length map → replicate n a ≡ on_each a map
+on_each-replicate a [] zero h = refl
+on_each-replicate a [] (suc n) h = absurd (omega arith)
+on_each-replicate a (p ∷ ps) zero h = absurd (omega arith)
+on_each-replicate a (p ∷ ps) (suc n) h = ap (λ rest. a ∷ rest) (on_each-replicate a ps n (omega arith))
+
+-- slots that share a view's pages are a fresh workspace
+pub fresh_space :
+    (map map' : List Mapped) (view : Memory) (count : ℕ) (seen memory : Memory) (stored : Masks) (taken : List Bool)
+    → map' ≡ map → seen ≡ take count view → memory ≡ take count view → stored ≡ replicate count no_marks → taken ≡ replicate count false
+    → length view ≡ count → length view ≡ length map
+    → (let w : Workspace = record { map = map'; view = seen; memory = memory; stored = stored; taken = taken } in w) ≡ fresh map view
+fresh_space map map' view count seen memory stored taken map_is seen_is memory_is stored_is taken_is all same =
+    let whole : take count view ≡ view = take_all count view (omega arith) in
+    let marks : replicate count no_marks ≡ on_each no_marks map = on_each-replicate no_marks map count (omega arith) in
+    let flags : replicate count false ≡ on_each false map = on_each-replicate false map count (omega arith) in
+    cc
+
+-- a store into the own copy of a page is the store of its bytes
+pub stored_space :
+    (map : List Mapped) (view : Memory) (memory : Memory) (stored : Masks) (taken : List Bool)
+    (view' memory' : Memory) (stored' : Masks) (taken' : List Bool) (address : ℕ) (size : Size) (value slot offset : ℕ)
+    → view' ≡ view → taken' ≡ taken
+    → memory' ≡ set memory slot (with_number (page_of memory slot) offset size value)
+    → stored' ≡ set stored slot (with_marks (mask_of stored slot) offset size)
+    → slot ≡ slot_of map address → offset ≡ address % 4096 → address % byte_count size ≡ 0
+    → slot < length memory → slot < length stored
+    → (let w : Workspace = record { map = map; view = view'; memory = memory'; stored = stored'; taken = taken' } in w)
+    ≡ after_storing (record { map = map; view = view; memory = memory; stored = stored; taken = taken }) (bytes_stored address size value)
+stored_space map view memory stored taken view' memory' stored' taken' address size value slot offset view_is taken_is memory_is stored_is slot_is offset_is aligned lt below =
+    let within : slot_of map address < length memory = omega arith in
+    let within' : slot_of map address < length stored = omega arith in
+    let bytes = laid-access map memory address size value aligned within in
+    let marks = marked-access map stored address size value aligned within' in
+    cc

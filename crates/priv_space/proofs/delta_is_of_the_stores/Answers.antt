@@ -1,0 +1,5 @@
+use Rattle.priv_space.proofs.Collecting.{delta_from-laid}
+use Rattle.priv_space.proofs.delta_is_of_the_stores.Goals as goal
+
+pub returns : goal.returns
+returns c = delta_from-laid
