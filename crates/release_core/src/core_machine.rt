@@ -22,6 +22,7 @@ use sync_objects::Objects;
 use thunk_record::{Frame, Record};
 use thunk_run::{Job, execute};
 
+use super::choosing::chosen;
 use super::doing::{asked, do_as_asked};
 use super::hart::Hart;
 use super::performing::{MOST_VIEWS, views_of};
@@ -131,6 +132,14 @@ impl Core {
         }
         let hart = &self.harts[usize::from(t)];
         hart.status() == Status::Ready
+    }
+
+    /// The ready thread that has made the fewest steps, and of these the one of the lowest number; none where no thread is ready.
+    #[tactic(auto, using(crate::proofs::Least::few_harts), unfolding(machine_spec::specs::Choice::choice))]
+    pub fn choice(&self) -> Option<u8>
+        ensures { result ≡ choice self.now }
+    {
+        chosen(self.harts.as_slice())
     }
 }
 
