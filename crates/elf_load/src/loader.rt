@@ -1,7 +1,7 @@
 ghost use Rattle.std.specs.Prelude.{◌≡◌, ◌<◌, ◌^◌, [], ◌∷◌, ◌++◌, true, if◌then◌else◌, map, IfOk, IfErr, OnOk};
 ghost use Rattle.std.specs.List.{list_any};
 ghost use Rattle.elf_spec.specs.Header.{segments};
-ghost use Rattle.elf_spec.specs.Segments.{touches, permission_at};
+ghost use Rattle.elf_spec.specs.Segments.{touches, page_permission};
 ghost use Rattle.elf_spec.specs.Image.{image_pages, image_memory, image_page, is_image};
 ghost use Rattle.elf_load.specs.Header.{header_of};
 ghost use Rattle.elf_load.specs.Load.{IsImageOf, Refuses};
@@ -9,7 +9,7 @@ ghost use Rattle.elf_load.specs.Load.{IsImageOf, Refuses};
 use crate::fields::word_at;
 use crate::header::Header;
 use crate::image::{page_bytes, segments_of};
-use crate::pages::{highest_page, is_touched, rights_at};
+use crate::pages::{highest_page, is_touched, page_rights};
 use crate::refusals::refusal;
 use bitflags::Flags;
 use elf_spec::{Refusal, accepted_is_inside};
@@ -104,14 +104,14 @@ fn add_page(
     requires headers { map header_of headers.now ≡ segments bytes.now }
     requires number { number < 2 ^ 21 }
     ensures mapped { OnOk result (pages.new.mapped.items ≡ (if list_any (touches number) (segments bytes.now)
-        then pages.old.mapped.items ++ record { number = number; permission = permission_at (segments bytes.now) number } ∷ []
+        then pages.old.mapped.items ++ record { number = number; permission = page_permission (segments bytes.now) number } ∷ []
         else pages.old.mapped.items)) }
     ensures table { OnOk result (pages.new.table ≡ (if list_any (touches number) (segments bytes.now)
         then pages.old.table ++ image_page bytes.now number ∷ []
         else pages.old.table)) }
 {
     if is_touched(bytes, number) {
-        let rights = Perm::from_bits_retain(rights_at(bytes, number));
+        let rights = Perm::from_bits_retain(page_rights(bytes, number));
         pages.mapped.push(MappedPage::new(number, rights))?;
         pages
             .table

@@ -1,8 +1,11 @@
 //! The guest machine.
 
-ghost use Rattle.std.specs.Prelude.{◌≡◌, ◌<◌, true, [], ◌∷◌, length, vec_len, Some, IfOk, OnOk, OnErr};
+ghost use Rattle.std.specs.Prelude.{◌≡◌, ◌<◌, ◌≤◌, true, [], ◌∷◌, length, vec_len, Some, IfOk, OnOk, OnErr};
 ghost use Rattle.std.specs.Arc.{arc_value};
 ghost use Rattle.thunk_spec.specs.Thunk.{thunk};
+ghost use Rattle.record_spec.specs.Delta.{masked};
+ghost use Rattle.record_spec.specs.Record.{put_of};
+ghost use Rattle.release_core.specs.Views.{AreViewsOf};
 ghost use Rattle.machine_spec.specs.Machine.{Machine, hart_of, is_ready};
 ghost use Rattle.machine_spec.specs.Setup.{first, map_of, start_memory};
 ghost use Rattle.machine_spec.specs.Performing.{first_hart};
@@ -213,5 +216,108 @@ impl Core {
             steps: 0,
             ending: None,
         })
+    }
+}
+
+/// What laying a record needs that takes memory, made before anything is changed.
+#[derive(Drop)]
+struct Prepared {
+    memory: Arc<PageTable>,
+    put: Vec<u8>,
+    views: Vec<Arc<PageTable>>,
+}
+
+/// Shared memory with a record's stored bytes, the bytes of its put, and views to give.
+fn prepare(alloc: Global, map: &PageMap, memory: &PageTable, view: &PageTable, rec: &Record) -> Result<Prepared, AllocError>
+    ensures memory { IfOk result (λ p. arc_value p.memory ≡ masked memory.now rec.now.kept.delta) }
+    ensures put { IfOk result (λ p. p.put.items ≡ put_of map.now view.now rec.now.kept) }
+    ensures views { IfOk result (λ p. AreViewsOf (arc_value p.memory) p.views.items) }
+    ensures enough { IfOk result (λ p. 34 ≤ vec_len p.views) }
+{
+    let mut table = memory.snapshot()?;
+    commit(&mut table, rec.delta())?;
+    let memory = match Arc::new(alloc, table) {
+        Ok(memory) => memory,
+        Err(_) => return Err(AllocError),
+    };
+    let put = put_bytes(alloc, map, view, rec)?;
+    let views = views_of(alloc, &memory, MOST_VIEWS)?;
+    Ok(Prepared { memory, put, views })
+}
+
+impl Core {
+    /// What thread `t`, which is ready, is to run next.
+    ///
+    /// # Errors
+    ///
+    /// An error where the host's memory ran out.
+    #[tactic(auto, using(crate::proofs::Asking::below, crate::proofs::Asking::view_count))]
+    pub fn start_of(&self, t: u8) -> Result<Job, AllocError>
+        requires { is_ready (hart_of self.now t).status ≡ true }
+        ensures frame { IfOk result (λ job. arc_value job.frame ≡ self.now.frame) }
+        ensures thread { IfOk result (λ job. job.thread ≡ t) }
+        ensures number { IfOk result (λ job. job.number ≡ (hart_of self.now t).number) }
+        ensures regs { IfOk result (λ job. job.regs ≡ (hart_of self.now t).regs) }
+        ensures view { IfOk result (λ job. arc_value job.view ≡ (hart_of self.now t).view) }
+    {
+        let hart = &self.harts[usize::from(t)];
+        let frame = Arc::try_clone(&self.frame)?;
+        let view = Arc::try_clone(hart.view())?;
+        Ok(Job::new(frame, t, hart.number(), *hart.regs(), view))
+    }
+
+    /// Lays a record in place of a step of its thread, which may make one: its stored bytes are
+    /// written, and all that follows a thunk is done.
+    ///
+    /// # Errors
+    ///
+    /// An error where the host's memory ran out; the machine is then as before.
+    #[tactic(auto, using(crate::proofs::Asking::below))]
+    pub fn lay(&mut self, rec: &Record) -> Result<(), AllocError>
+        requires { step.can_step self.old rec.now.thread ≡ true }
+        ensures ok { OnOk result (self.new ≡ step.lay self.old rec.now) }
+        ensures err { OnErr result (self.new ≡ self.old) }
+    {
+        let t = rec.thread();
+        let hart = &self.harts[usize::from(t)];
+        let Prepared { memory, put, mut views } = prepare(self.alloc, self.frame.map(), &self.memory, hart.view(), rec)?;
+        self.harts.reserve(1)?;
+        self.output.extend_from_slice(put.as_slice())?;
+        let hart = &mut self.harts[usize::from(t)];
+        hart.write_back(*rec.finish());
+        self.steps += 1;
+        self.ending = do_as_asked(
+            &mut self.harts,
+            &mut self.objects,
+            self.frame.map(),
+            &memory,
+            &mut views,
+            self.limit,
+            self.steps,
+            t,
+            asked(t, rec.end(), rec.finish()),
+        );
+        self.memory = memory;
+        Ok(())
+    }
+
+    /// One step of thread `t`, which may make one. The answer is how many turns its thunk made.
+    ///
+    /// # Errors
+    ///
+    /// An error where the host's memory ran out; the machine is then as before.
+    #[tactic(auto, using(crate::proofs::Laying::own_fits))]
+    pub fn step(&mut self, t: u8) -> Result<u32, AllocError>
+        requires { step.can_step self.old t ≡ true }
+        ensures ok { OnOk result (self.new ≡ step.step self.old t) }
+        ensures count { IfOk result (λ n. n ≡ (thunk self.old.frame (hart_of self.old t).view (hart_of self.old t).regs).count) }
+        ensures err { OnErr result (self.new ≡ self.old) }
+    {
+        self.whole();
+        machine_spec::lay_is_step();
+        let job = self.start_of(t)?;
+        let run = execute(self.alloc, &job)?;
+        self.lay(&run.rec)?;
+        Ok(run.rec.count())
     }
 }

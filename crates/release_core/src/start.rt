@@ -66,7 +66,7 @@ fn push_data(pages: &mut Vec<MappedPage>, number: u32, count: u32) -> Result<(),
 
 /// All pages of a setup: the image's, the input's header and pages, and the stacks.
 #[tactic(auto, unfolding(machine_spec::specs::Setup::map_of))]
-fn pages_of(alloc: Global, image: &PageMap) -> Result<Vec<MappedPage>, AllocError>
+pub fn pages_of(alloc: Global, image: &PageMap) -> Result<Vec<MappedPage>, AllocError>
     ensures { IfOk result (λ pages. pages.items ≡ image.now ++ setup.data_pages 0xC0000 1 ++ setup.data_pages 0xC0001 256 ++ setup.data_pages 0xD0000 512) }
 {
     let mut pages = image_pages(alloc, image)?;
@@ -88,7 +88,7 @@ fn image_pages(alloc: Global, image: &PageMap) -> Result<Vec<MappedPage>, AllocE
 }
 
 /// The memory that a setup starts with: the image's pages, the input's header and pages, and zeros.
-fn memory_of(alloc: Global, image: &PageTable, input: &[u8]) -> Result<PageTable, AllocError>
+pub fn memory_of(alloc: Global, image: &PageTable, input: &[u8]) -> Result<PageTable, AllocError>
     requires { length input.now ≤ 1048576 }
     ensures { IfOk result (λ table. table ≡ image.now ++ setup.header_page input.now ∷ [] ++ setup.input_memory input.now ++ setup.stack_memory) }
 {
