@@ -2,5 +2,6 @@
 #![tactic(auto)]
 
 mod status;
+mod words;
 
 pub use status::Status;
