@@ -148,3 +148,15 @@ delta_from-laid map view stores h =
     (merged_all-laid map view (on_each zero_page map) (on_each no_marks map) stores shape
     ∙ ap (λ start. laid map start stores) (merged_all-no_marks map view)))
     ∙ delta_from-merged 0 view zeros masks (shaped-laid map view (on_each zero_page map) (on_each no_marks map) stores shape)
+
+-- a slot to which nothing was stored gives nothing
+pub part_none :
+    (slot : ℕ) (mask : List Bool) (page : List ℕ) (items : List PageDelta) → is_stored mask ≡ false → items ≡ items ++ delta_part slot mask page
+part_none slot mask page items h =
+    let d : PageDelta = record { slot = slot; mask = mask; bytes = chosen mask page } in
+    sym (append-nil items) ∙ ap (λ b. items ++ cond b (d ∷ []) []) (sym h)
+
+-- a change of a slot that was passed leaves what the others give
+pub drop-map-set :
+    {A B : Type 0} (f : A → B) (xs : List A) (i : ℕ) (x : A) → drop (i + 1) (map f (set xs i x)) ≡ drop (i + 1) (map f xs)
+drop-map-set f xs i x = ap (drop (i + 1)) (map-set f xs i x) ∙ drop-set-lt (i + 1) (map f xs) i (f x) (omega arith)
