@@ -6,8 +6,8 @@ mod put;
 mod running;
 mod turns;
 
-pub use running::execute;
 pub use job::{Job, Run};
+pub use running::execute;
 
 #[cfg(test)]
 mod tests;
