@@ -3,51 +3,17 @@ use Rattle.std.proofs.Common.{◌≡◌, ℕ, suc, Bool, true, false, List, [], 
 use Rattle.isa_spec.specs.Registers.{Registers}
 use Rattle.memory_spec.specs.Pages.{Mapped, Memory, on_each, zero_page, IsMemory}
 use Rattle.memory_spec.specs.Stores.{StoredByte, laid}
-use Rattle.memory_spec.specs.Workspace.{Masks, no_marks, marked, fresh}
+use Rattle.memory_spec.specs.Workspace.{Workspace, Masks, no_marks, marked, fresh}
 use Rattle.thunk_spec.specs.Put.{put_addresses}
 use Rattle.thunk_spec.specs.Thunk.{Frame, thunk, turns}
 use Rattle.record_spec.specs.Delta.{PageDelta, chosen, delta_from, delta_of}
 use Rattle.record_spec.specs.Reads.{ReadPage, reads_from, reads_of}
 use Rattle.record_spec.specs.Record.{kept_thunk}
-use Rattle.record_spec.proofs.Merging.{merged, merged_all, Shaped, shaped-laid, shaped-fresh, merged_all-laid, merged_all-no_marks}
+use Rattle.priv_space.proofs.Collecting.{delta_from-laid}
 use Rattle.thunk_run.specs.Left.{Left, left_after, with_put_taken}
 use Rattle.thunk_run.proofs.Leaving.{taken_at-append}
 
--- the chosen bytes are those of the page that was merged in
-chosen-merged :
-    (m : List Bool) (n o : List ℕ) → length n ≡ length o → length m ≡ length o → chosen m (merged o n m) ≡ chosen m n
-chosen-merged [] n o p q = refl
-chosen-merged (m ∷ ms) n [] p q = absurd (omega arith)
-chosen-merged (m ∷ ms) [] (o ∷ os) p q = absurd (omega arith)
-chosen-merged (true ∷ ms) (n ∷ ns) (o ∷ os) p q =
-    ap (λ (rest : List ℕ). n ∷ rest) (chosen-merged ms ns os (omega arith) (omega arith))
-chosen-merged (false ∷ ms) (n ∷ ns) (o ∷ os) p q = chosen-merged ms ns os (omega arith) (omega arith)
-
--- so the stored bytes are the same whatever memory was merged into
-delta_from-merged :
-    (os ns : Memory) (ms : Masks) (k : ℕ) → Shaped os ns ms → delta_from k ms (merged_all os ns ms) ≡ delta_from k ms ns
-delta_from-merged [] [] [] k h = refl
-delta_from-merged [] [] (m ∷ ms) k h = absurd h
-delta_from-merged [] (n ∷ ns) ms k h = absurd h
-delta_from-merged (o ∷ os) [] ms k h = absurd h
-delta_from-merged (o ∷ os) (n ∷ ns) [] k h = absurd h
-delta_from-merged (o ∷ os) (n ∷ ns) (m ∷ ms) k h =
-    rw (chosen-merged m n o h.0 h.1, delta_from-merged os ns ms (suc k) h.2) refl
-
--- what stands at the marks of the laid view is what the stores leave
-pub delta_from-laid :
-    (map : List Mapped) (view : Memory) (stores : List StoredByte)
-    → IsMemory map view
-    → delta_from 0 (marked map (on_each no_marks map) stores) (laid map view stores) ≡ delta_of map stores
-unfolding delta_of
-delta_from-laid map view stores whole =
-    ap (delta_from 0 (marked map (on_each no_marks map) stores))
-    (sym
-    (merged_all-laid map view (on_each zero_page map) (on_each no_marks map) stores (shaped-fresh map view whole)
-    ∙ ap (λ (memory : Memory). laid map memory stores) (merged_all-no_marks map view)))
-    ∙ delta_from-merged view (laid map (on_each zero_page map) stores) (marked map (on_each no_marks map) stores) 0
-    (shaped-laid map view (on_each zero_page map) (on_each no_marks map) stores (shaped-fresh map view whole))
-
+-- what turns and their put left of a fresh memory is what is kept of the thunk
 pub kept-left :
     (f : Frame) (view : Memory) (r : Registers)
     → IsMemory f.map view
@@ -78,3 +44,16 @@ pub kept-made :
     → delta ≡ delta_from 0 l.workspace.stored l.workspace.memory
     → record { reads = reads; delta = delta; finish = l.regs; end = l.end; count = l.count } ≡ kept_thunk f view r
 kept-made f view r l reads delta whole made are stored = rw (are, stored, made) (kept-left f view r whole)
+
+-- the same where the frame and the view were reached through their holders
+pub kept-run :
+    (f g : Frame) (view v : Memory) (map : List Mapped) (r : Registers) (w : Workspace) (l : Left) (reads : List ReadPage) (delta : List PageDelta)
+    → IsMemory f.map view
+    → g ≡ f → v ≡ view → map ≡ f.map
+    → w ≡ fresh map v
+    → l ≡ with_put_taken (left_after g.fuel w r)
+    → reads ≡ reads_from 0 l.workspace.taken l.workspace.view
+    → delta ≡ delta_from 0 l.workspace.stored l.workspace.memory
+    → record { reads = reads; delta = delta; finish = l.regs; end = l.end; count = l.count } ≡ kept_thunk f view r
+kept-run f g view v map r w l reads delta whole frame viewed mapped begun made are stored =
+    kept-made f view r l reads delta whole (made ∙ rw (frame, begun, viewed, mapped) refl) are stored

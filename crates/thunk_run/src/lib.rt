@@ -6,9 +6,9 @@ mod put;
 mod running;
 mod turns;
 
-pub use running::execute;
 pub use job::{Job, Run};
 pub use put::{Range, appends_all, put_range};
+pub use running::execute;
 
 #[cfg(test)]
 mod tests;

@@ -4,15 +4,14 @@ ghost use Rattle.std.specs.Prelude.{◌≡◌, length, IfOk};
 ghost use Rattle.std.specs.Arc.{arc_value};
 ghost use Rattle.record_spec.specs.Record.{kept_thunk};
 
+use super::job::{Job, Run};
+use super::turns::make_thunk;
 use page_store::PageTable;
 use priv_space::Space;
 use rv_alu::Regs;
 use std::alloc::{AllocError, Global};
 use std::sync::Arc;
 use thunk_record::{Frame, Kept, Record};
-
-use super::job::{Job, Run};
-use super::turns::make_thunk;
 
 impl Job {
     /// The next thunk of a thread that has made `number` steps, with these registers, on this view.
