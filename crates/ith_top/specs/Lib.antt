@@ -1,3 +1,4 @@
 pub mod Words
 pub mod Statuses
 pub mod Ends
+pub mod Said

@@ -1,6 +1,7 @@
 //! The top call: all that the program does, from the words of its command line to its exit status.
 #![tactic(auto)]
 
+mod line;
 mod status;
 mod words;
 
