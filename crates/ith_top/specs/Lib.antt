@@ -2,3 +2,4 @@ pub mod Words
 pub mod Statuses
 pub mod Ends
 pub mod Said
+pub mod Refusals

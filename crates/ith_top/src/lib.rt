@@ -1,7 +1,9 @@
 //! The top call: all that the program does, from the words of its command line to its exit status.
 #![tactic(auto)]
 
+mod complaints;
 mod line;
+mod outside;
 mod status;
 mod words;
 
