@@ -2,12 +2,13 @@
 use Rattle.std.proofs.Common.{◌≡◌, ◌<◌, ◌≤◌, ◌+◌, ℕ, zero, suc, Bool, true, false, ◌&&◌, eqb, List, [], ◌∷◌, length, set, refl, ap, sym, ◌∙◌, arith}
 use Rattle.std.proofs.lemmas.Bool.{eq-eqb}
 use Rattle.std.proofs.lemmas.Bool.Decides.{nat_tests}
-use Rattle.std.proofs.lemmas.List.{length-set}
+use Rattle.std.proofs.lemmas.List.{length-set, get_or_past}
 use Rattle.std.proofs.lemmas.List.Elements.{recursion_from_All, All-from_recursion}
 use Rattle.std.proofs.lemmas.Slice.Eq.{bytes_eq-Decides}
 use Rattle.std.specs.List.{AllByRecursion}
 use Rattle.std.specs.Str.{bytes_eq}
-use Rattle.memory_spec.specs.Pages.{Mapped, Memory, IsMemory, page_of}
+use Rattle.memory_spec.specs.Pages.{Mapped, Memory, IsMemory, page_of, slot_of}
+use Rattle.thunk_spec.specs.Put.{byte_at}
 use Rattle.record_spec.specs.Delta.{PageDelta, spread, masked}
 use Rattle.record_spec.specs.Reads.{has}
 use Rattle.record_spec.specs.Record.{Record, kept_thunk, fits_at, same_registers}
@@ -56,6 +57,21 @@ masked-shape [] m all = (refl, all)
 masked-shape (d ∷ delta) m all =
     let next = masked-shape delta (set m d.slot (spread d.mask d.bytes (page_of m d.slot))) (pages-spread m d.slot d.mask d.bytes all) in
     (next.0 ∙ length-set m d.slot (spread d.mask d.bytes (page_of m d.slot)), next.1)
+
+-- as many pages as before
+pub masked_count : (m : Memory) (delta : List PageDelta) → length (masked m delta) ≡ length m
+masked_count m [] = refl
+masked_count m (d ∷ delta) =
+    masked_count (set m d.slot (spread d.mask d.bytes (page_of m d.slot))) delta
+    ∙ length-set m d.slot (spread d.mask d.bytes (page_of m d.slot))
+
+-- an address that no page has has no byte
+pub no_byte :
+    (map : List Mapped) (table : Memory) (address : ℕ)
+    → length table ≡ length map → slot_of map address ≡ length map → byte_at map table address ≡ 0
+no_byte map table address count past =
+    let none : page_of table (slot_of map address) ≡ [] = get_or_past table (slot_of map address) [] (omega arith) in
+    rw none refl
 
 -- written bytes leave a memory of the map one
 pub IsMemory-masked : (map : List Mapped) (m : Memory) (delta : List PageDelta) → IsMemory map m → IsMemory map (masked m delta)

@@ -229,6 +229,7 @@ struct Prepared {
 
 /// Shared memory with a record's stored bytes, the bytes of its put, and views to give.
 fn prepare(alloc: Global, map: &PageMap, memory: &PageTable, view: &PageTable, rec: &Record) -> Result<Prepared, AllocError>
+    requires { length view.now ≡ length map.now }
     ensures memory { IfOk result (λ p. arc_value p.memory ≡ masked memory.now rec.now.kept.delta) }
     ensures put { IfOk result (λ p. p.put.items ≡ put_of map.now view.now rec.now.kept) }
     ensures views { IfOk result (λ p. AreViewsOf (arc_value p.memory) p.views.items) }
@@ -272,7 +273,7 @@ impl Core {
     /// # Errors
     ///
     /// An error where the host's memory ran out; the machine is then as before.
-    #[tactic(auto, using(crate::proofs::Asking::below))]
+    #[tactic(auto, using(crate::proofs::Asking::below, crate::proofs::Asking::view_count))]
     pub fn lay(&mut self, rec: &Record) -> Result<(), AllocError>
         requires { step.can_step self.old rec.now.thread ≡ true }
         ensures ok { OnOk result (self.new ≡ step.lay self.old rec.now) }

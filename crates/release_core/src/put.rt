@@ -15,18 +15,21 @@ use thunk_record::Record;
 use thunk_run::{Range, put_range};
 
 /// The byte at an address; zero where no page has it.
+#[tactic(auto, using(crate::proofs::Laying::no_byte))]
 fn byte_of(map: &PageMap, table: &PageTable, address: u32) -> u8
+    requires { length table.now ≡ length map.now }
     ensures { result ≡ byte_at map.now table.now address }
 {
     match map.slot_of(address) {
-        Some(slot) if slot < table.len() => table.page(slot).get((address % 4096) as usize),
-        _ => 0,
+        Some(slot) => table.page(slot).get((address % 4096) as usize),
+        None => 0,
     }
 }
 
 /// The bytes of a range.
 fn bytes_of(alloc: Global, map: &PageMap, table: &PageTable, range: Range) -> Result<Vec<u8>, AllocError>
-    requires { range.start + range.len ≤ 2 ^ 32 }
+    requires in_range { range.start + range.len ≤ 2 ^ 32 }
+    requires pages { length table.now ≡ length map.now }
     ensures { IfOk result (λ bytes. bytes.items ≡ bytes_at map.now table.now (range_with_len range.start range.len)) }
 {
     let mut bytes = Vec::new(alloc);
@@ -38,8 +41,9 @@ fn bytes_of(alloc: Global, map: &PageMap, table: &PageTable, range: Range) -> Re
 
 /// The bytes that the put which ends a kept thunk appends, read in the thread's view with the
 /// thunk's stored bytes written over it; none where no put ends it.
-#[tactic(auto, unfolding(record_spec::specs::Record::put_of))]
+#[tactic(auto, unfolding(record_spec::specs::Record::put_of), using(crate::proofs::Laying::masked_count))]
 pub fn put_bytes(alloc: Global, map: &PageMap, view: &PageTable, rec: &Record) -> Result<Vec<u8>, AllocError>
+    requires { length view.now ≡ length map.now }
     ensures { IfOk result (λ bytes. bytes.items ≡ put_of map.now view.now rec.now.kept) }
 {
     let range = put_range(map, rec.end(), rec.finish());
