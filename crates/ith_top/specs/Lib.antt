@@ -3,3 +3,4 @@ pub mod Statuses
 pub mod Ends
 pub mod Said
 pub mod Refusals
+pub mod Alone

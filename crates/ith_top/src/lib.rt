@@ -4,6 +4,7 @@
 mod complaints;
 mod line;
 mod outside;
+mod round;
 mod status;
 mod words;
 
