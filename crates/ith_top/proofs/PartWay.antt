@@ -1,5 +1,6 @@
 -- A round on its way: what was done, followed by what the rest gives, is all.
 use Rattle.std.proofs.Common.{◌≡◌, ◌<◌, ◌≤◌, ◌+◌, ◌-◌, ◌*◌, ℕ, zero, suc, Bool, true, false, List, [], ◌∷◌, ◌++◌, Option, Some, None, refl, sym, ap, ◌∙◌, append_assoc, arith}
+use Rattle.std.proofs.lemmas.List.{append-nil}
 use Rattle.thunk_spec.specs.Thunk.{thunk}
 use Rattle.machine_spec.specs.declared.states.End.{End}
 use Rattle.machine_spec.specs.Machine.{Machine, hart_of, is_ready}
@@ -20,10 +21,6 @@ pub record IsPartWay (start : Machine) (limit made : ℕ) (core : Machine) (done
     instructions_from start (all_executed (alone_from limit start))
     ≡ count + instructions_from core (all_executed (alone_from (limit - made) core))
   pub few : count ≤ made * 4294967295
-
--- no step was made yet
-pub at_start : (start : Machine) (limit : ℕ) → IsPartWay start limit 0 start [] 0
-at_start start limit = record { machine = refl; schedule = refl; instructions = sym (omega arith); few = omega arith }
 
 -- the next thread may make a step
 pub next_can : (m : Machine) (t : ℕ) → next_thread m ≡ Some t → can_step m t ≡ true
@@ -53,23 +50,27 @@ alone-over (suc k) m next = by_end m.ending next
 
 -- a step more was made
 pub one_more :
-    (start : Machine) (limit made : ℕ) (core : Machine) (done : List Entry) (instructions : ℕ) (t more : ℕ)
-    → IsPartWay start limit made core done instructions → made < limit → next_thread core ≡ Some t
-    → more ≡ instructions + (thunk core.frame (hart_of core t).view (hart_of core t).regs).count → more < instructions + 4294967296
-    → IsPartWay start limit (made + 1) (step core t) (done ++ record { thread = t; reused = false } ∷ []) more
-one_more start limit made core done instructions t more way inside next is few =
+    (start : Machine) (limit made : ℕ) (core : Machine) (done : List Entry) (count t : ℕ) (core' : Machine) (done' : List Entry) (count' : ℕ)
+    → IsPartWay start limit made core done count → made < limit → next_thread core ≡ Some t
+    → core' ≡ step core t
+    → done' ≡ done ++ record { thread = t; reused = false } ∷ []
+    → count' ≡ count + (thunk core.frame (hart_of core t).view (hart_of core t).regs).count
+    → count' < count + 4294967296
+    → IsPartWay start limit (made + 1) core' done' count'
+one_more start limit made core done count t core' done' count' way inside next stepped pushed counts few =
     let left : limit - made ≡ suc (limit - (made + 1)) = omega arith in
     let rest : alone_from (limit - made) core ≡ t ∷ alone_from (limit - (made + 1)) (step core t) =
             ap (λ k. alone_from k core) left ∙ alone-more (limit - (made + 1)) core t next in
     let machine = rw rest at way.machine in
     let schedule = rw rest at way.schedule in
     let counted = rw rest at way.instructions in
-    record {
+    rw (stepped, pushed)
+    (record {
       machine = machine;
       schedule = schedule ∙ sym (append_assoc done _ _);
       instructions = counted ∙ omega arith;
       few = let before = way.few in omega arith
-    }
+    })
 
 -- where the rest is empty, all was done
 all_done :
@@ -80,7 +81,7 @@ all_done s made core done instructions way over =
     let machine = rw over at way.machine in
     let schedule = rw over at way.schedule in
     let counted = rw over at way.instructions in
-    record { core = sym machine; schedule = grind arith; instructions = omega arith }
+    record { core = sym machine; schedule = sym (schedule ∙ append-nil done); instructions = omega arith }
 
 -- no thread is next
 pub over_at_end :

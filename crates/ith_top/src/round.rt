@@ -73,6 +73,7 @@ impl Round {
 /// # Errors
 ///
 /// An error where the host's memory ran out.
+#[tactic(auto, using(crate::proofs::PartWay::next_can, crate::proofs::PartWay::over_at_limit))]
 pub fn run_alone(alloc: Global, setup: &Setup) -> Result<Round, AllocError>
     ensures { IfOk result (λ round. IsAlone setup.now round.core round.schedule.items round.instructions) }
 {
