@@ -19,6 +19,10 @@ none_fell_trans a b c one other =
 pub rose_then : (a b c : ℕ) → Rose a b → b ≤ c → Rose a c
 rose_then a b c rose later = omega arith
 
+-- a count that rose later has risen from before too
+pub rose_before : (a b c : ℕ) → a ≤ b → Rose b c → Rose a c
+rose_before a b c earlier rose = omega arith
+
 -- what a file is said to hold later, it held before
 pub content_before : (a b : World) (name bytes : List ℕ) → Stays a b → IsContent b name bytes → IsContent a name bytes
 content_before a b name bytes stays content =

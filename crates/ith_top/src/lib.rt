@@ -4,6 +4,8 @@
 mod complaints;
 mod line;
 mod outside;
+mod program;
+mod report;
 mod round;
 mod status;
 mod words;
