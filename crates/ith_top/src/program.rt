@@ -2,7 +2,7 @@
 
 ghost use Rattle.std.specs.Prelude.{◌≡◌, ◌≤◌, length, map, string_bytes, IfOk, IfErr};
 ghost use Rattle.ith_host.specs.World.{Stays, NoneFell};
-ghost use Rattle.machine_spec.specs.Setup.{Setup as setup, IsSetup};
+ghost use Rattle.machine_spec.specs.Setup.{IsSetup};
 ghost use Rattle.ith_top.specs.Words as line;
 ghost use Rattle.ith_top.specs.Said.{run_said};
 ghost use Rattle.ith_top.specs.Ends.{Prints, AreContents, RunEnds, Ends};
@@ -71,6 +71,73 @@ fn set_up<H: Host>(alloc: Global, host: &mut H, files: Files, line: &RunLine<'_>
         Err(LoadError::NoMemory) => {
             host.complain(NO_MEMORY);
             Err(Status::Memory)
+        }
+    }
+}
+
+/// A line's setup: its files are read, and then the executable is looked at.
+#[tactic(auto, using(crate::proofs::Ending::ready_of, crate::proofs::Ending::no_setup, crate::proofs::Worlds::stays_trans, crate::proofs::Worlds::none_fell_trans))]
+fn prepare<H: Host>(alloc: Global, host: &mut H, line: &RunLine<'_>) -> Result<Setup, Status>
+    ensures ready { IfOk result (IsReady (run_said line.now) (H.world host.old)) }
+    ensures refused { IfErr result (λ status. RunEnds (run_said line.now) (H.world host.old) (H.world host.new) status) }
+    ensures stays { Stays (H.world host.old) (H.world host.new) }
+    ensures counts { NoneFell (H.world host.old) (H.world host.new) }
+{
+    let files = match read_files(alloc, host, line) {
+        Ok(files) => files,
+        Err(status) => return Err(status),
+    };
+    match set_up(alloc, host, files, line) {
+        Ok(setup) => Ok(setup),
+        Err(status) => Err(status),
+    }
+}
+
+/// Runs the first round and prints its report, and says whether it ended by exit.
+fn play<H: Host>(alloc: Global, host: &mut H, setup: &Setup, workers: u32) -> Result<bool, Status>
+    requires { 1 ≤ workers }
+    ensures printed { IfOk result (λ exits. Prints (H.world host.old) (H.world host.new) (alone_report setup.now workers)) }
+    ensures exits { IfOk result (λ exits. exits ≡ alone_exits setup.now) }
+    ensures refused { IfErr result (λ status. WhyUnprinted (alone_report setup.now workers) (H.world host.old) (H.world host.new) status) }
+{
+    let Report { text, exits } = match first_report(alloc, setup, workers) {
+        Ok(report) => report,
+        Err(_) => {
+            host.complain(NO_MEMORY);
+            return Err(Status::Memory);
+        }
+    };
+    match print_text(alloc, host, text.as_slice()) {
+        Ok(()) => Ok(exits),
+        Err(status) => Err(status),
+    }
+}
+
+/// All that a line that runs a guest asks for.
+#[tactic(auto, using(crate::proofs::Ending::finished, crate::proofs::Ending::unfinished, crate::proofs::Ending::unprinted))]
+fn run<H: Host>(alloc: Global, host: &mut H, line: &RunLine<'_>) -> Status
+    ensures { RunEnds (run_said line.now) (H.world host.old) (H.world host.new) result }
+{
+    let setup = match prepare(alloc, host, line) {
+        Ok(setup) => setup,
+        Err(status) => return status,
+    };
+    match play(alloc, host, &setup, line.workers) {
+        Ok(true) => Status::Finished,
+        Ok(false) => Status::Unfinished,
+        Err(status) => status,
+    }
+}
+
+/// What the words ask for is done.
+pub fn status_of<H: Host>(alloc: Global, words: &[String], host: &mut H) -> Status
+    ensures { Ends (line.line_of (map string_bytes words.now)) (H.world host.old) (H.world host.new) result }
+{
+    match line_of(words) {
+        Some(line) => run(alloc, host, &line),
+        None => {
+            host.complain(USAGE);
+            Status::Words
         }
     }
 }
