@@ -114,7 +114,6 @@ fn play<H: Host>(alloc: Global, host: &mut H, setup: &Setup, workers: u32) -> Re
 }
 
 /// All that a line that runs a guest asks for.
-#[tactic(auto, using(crate::proofs::Ending::finished, crate::proofs::Ending::unfinished, crate::proofs::Ending::unprinted))]
 fn run<H: Host>(alloc: Global, host: &mut H, line: &RunLine<'_>) -> Status
     ensures { RunEnds (run_said line.now) (H.world host.old) (H.world host.new) result }
 {
