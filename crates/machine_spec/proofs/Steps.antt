@@ -235,7 +235,7 @@ can_step-left m t whole can = whole.steps_left (none-is m.ending (and-left (is_n
     none-is (Some e) h = cc
     none-is None h = refl
 
-finished-whole :
+pub finished-whole :
     (m : Machine) (t : ℕ) (memory : Memory) (regs : Registers) (e : ThunkEnd) (put : List ℕ)
     → IsWhole m → can_step m t ≡ true → IsMemory m.frame.map memory
     → IsWhole (finished m t memory regs e put)

@@ -27,7 +27,7 @@ use thunk_run::{Job, execute};
 
 use super::doing::{asked, do_as_asked};
 use super::hart::Hart;
-use super::performing::{MOST_VIEWS, views_of};
+use super::performing::{MOST_VIEWS, view_at, views_of, write_back};
 use super::put::put_bytes;
 use super::setup::Setup;
 use super::start::{memory_of, pages_of};
@@ -264,19 +264,18 @@ impl Core {
     /// # Errors
     ///
     /// An error where the host's memory ran out; the machine is then as before.
-    #[tactic(auto, using(crate::proofs::Asking::below, crate::proofs::Asking::view_count))]
+    #[tactic(auto, using(crate::proofs::Asking::below, crate::proofs::Asking::view_count, crate::proofs::Asking::few_numbers))]
     pub fn lay(&mut self, rec: &Record) -> Result<(), AllocError>
         requires { step.can_step self.old rec.now.thread ≡ true }
         ensures ok { OnOk result (self.new ≡ step.lay self.old rec.now) }
         ensures err { OnErr result (self.new ≡ self.old) }
     {
         let t = rec.thread();
-        let hart = &self.harts[usize::from(t)];
-        let Prepared { memory, put, mut views } = prepare(self.alloc, self.frame.map(), &self.memory, hart.view(), rec)?;
+        let view = view_at(self.harts.as_slice(), t);
+        let Prepared { memory, put, mut views } = prepare(self.alloc, self.frame.map(), &self.memory, view, rec)?;
         self.harts.reserve(1)?;
         self.output.extend_from_slice(put.as_slice())?;
-        let hart = &mut self.harts[usize::from(t)];
-        hart.write_back(*rec.finish());
+        write_back(&mut self.harts, t, *rec.finish());
         self.steps += 1;
         self.ending = do_as_asked(
             &mut self.harts,
@@ -298,7 +297,7 @@ impl Core {
     /// # Errors
     ///
     /// An error where the host's memory ran out; the machine is then as before.
-    #[tactic(auto, using(crate::proofs::Laying::own_fits))]
+    #[tactic(auto, using(crate::proofs::Laying::own_fits, crate::proofs::Laying::kept_count))]
     pub fn step(&mut self, t: u8) -> Result<u32, AllocError>
         requires { step.can_step self.old t ≡ true }
         ensures ok { OnOk result (self.new ≡ step.step self.old t) }

@@ -2,7 +2,7 @@
 //!
 //! The views that it gives are made before, so that it takes no memory itself.
 
-ghost use Rattle.std.specs.Prelude.{◌≡◌, ◌<◌, ◌≤◌, ◌+◌, ◌-◌, length, drop, slice_set, vec_len, vec_capacity, IfOk};
+ghost use Rattle.std.specs.Prelude.{◌≡◌, ◌<◌, ◌≤◌, ◌+◌, ◌-◌, ◌^◌, suc, length, drop, slice_set, vec_len, vec_capacity, IfOk};
 ghost use Rattle.std.specs.Arc.{arc_value};
 ghost use Rattle.machine_spec.specs.Performing.{fated, woken, returned, with_created, settled};
 ghost use Rattle.machine_spec.specs.Machine.{hart_in};
@@ -16,9 +16,31 @@ use call_effect::Effect;
 use guest_call::Fate;
 use machine_spec::Status;
 use page_store::PageTable;
+use rv_alu::Regs;
 use wait_queue::Queue;
 
 use super::hart::Hart;
+
+/// The view of thread `t`.
+pub fn view_at(harts: &[Hart], t: u8) -> &PageTable
+    requires { t < length harts.now }
+    ensures { result.now ≡ (hart_in harts.now t).view }
+{
+    let hart = &harts[usize::from(t)];
+    hart.view()
+}
+
+/// Thread `t`'s thunk was written: its hart has the last registers, and has made one step more.
+pub fn write_back(harts: &mut Vec<Hart>, t: u8, regs: Regs)
+    requires exists { t < length harts.old.items }
+    requires few { (hart_in harts.old.items t).number < 2 ^ 32 - 1 }
+    requires room { vec_len harts.old < vec_capacity harts.old }
+    ensures harts { harts.new.items ≡ slice_set harts.old.items t (record { view = (hart_in harts.old.items t).view; regs = regs; number = suc (hart_in harts.old.items t).number; status = (hart_in harts.old.items t).status }) }
+    ensures room { vec_len harts.new < vec_capacity harts.new }
+{
+    let hart = &mut harts[usize::from(t)];
+    hart.write_back(regs);
+}
 
 /// How many views one effect can give: to its caller, to a created thread, and to all that a queue can hold.
 pub const MOST_VIEWS: usize = 34;
