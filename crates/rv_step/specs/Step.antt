@@ -1,0 +1,16 @@
+-- What it is for a turn of the model to have been made by code, on registers and on the memory that a thread works on.
+use Rattle.std.specs.Prelude.{◌≡◌, []}
+use Rattle.isa_spec.specs.Registers.{Registers}
+use Rattle.memory_spec.specs.Workspace.{Workspace, after_taking, after_storing}
+use Rattle.thunk_spec.specs.declared.ends.Outcome.{Outcome}
+use Rattle.thunk_spec.specs.Turn.{Turn}
+
+-- A turn was made: it ended so, left these registers, and the memory has noted its pages and its stores. (this project's own)
+pub record Makes (t : Turn) (before : Workspace) (ended : Outcome) (registers : Registers) (after : Workspace) : Type 0 where
+  pub outcome_is : ended ≡ t.outcome
+  pub regs_are : registers ≡ t.regs
+  pub workspace_is : after ≡ after_storing (after_taking before t.taken) t.stores
+
+-- The turn that ended so and left these registers, and had nothing to do with memory. (this project's own)
+abbrev pub untouched : Outcome → Registers → Turn
+untouched ended registers = record { outcome = ended; regs = registers; taken = []; stores = [] }

@@ -1,0 +1,13 @@
+//! One turn of a hart: an instruction fetched, decoded and executed
+//! (RISC-V unprivileged ISA 20191213, chapter 2).
+#![tactic(auto)]
+
+mod access;
+mod control;
+mod turn;
+
+pub use isa_spec::Cause;
+pub use page_map::Mem;
+pub use rv_alu::Regs;
+pub use thunk_spec::Outcome;
+pub use turn::step;

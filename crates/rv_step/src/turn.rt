@@ -1,0 +1,128 @@
+//! One turn.
+
+ghost use Rattle.std.specs.Prelude.{◌≡◌, IfOk, OnErr};
+ghost use Rattle.isa_spec.specs.Encoding.{InRange};
+ghost use Rattle.memory_spec.specs.Workspace.{OnlyTook};
+ghost use Rattle.thunk_spec.specs.Turn.{executed, turn};
+ghost use Rattle.rv_step.specs.Step.{Makes};
+
+use super::access::{execute_load, execute_store};
+use super::control::{advance, branch, compute, jump};
+use isa_spec::{Cause, Instr};
+use memory_spec::MemoryError;
+use page_map::Mem;
+use rv_alu::{Regs, immediate, register, shift};
+use rv_decode::decode;
+use std::alloc::AllocError;
+use thunk_spec::Outcome;
+
+/// Executes an instruction (RISC-V unprivileged ISA 20191213, chapter 2).
+#[inline(always)]
+fn execute<M: Mem>(regs: &mut Regs, mem: &mut M, instr: Instr) -> Result<Outcome, AllocError>
+    requires { InRange instr }
+    ensures ok { IfOk result (λ outcome. Makes (executed (M.workspace mem.old).map (M.workspace mem.old).memory regs.old instr) (M.workspace mem.old) outcome regs.new (M.workspace mem.new)) }
+    ensures err { OnErr result ((regs.new ≡ regs.old) × OnlyTook (M.workspace mem.old) (M.workspace mem.new)) }
+{
+    match instr {
+        Instr::Lui { rd, imm } => Ok(compute(regs, rd, imm)),
+        Instr::Auipc { rd, imm } => {
+            let value = regs.pc().wrapping_add(imm);
+            Ok(compute(regs, rd, value))
+        }
+        Instr::Jal { rd, imm } => {
+            let target = regs.pc().wrapping_add(imm);
+            Ok(jump(regs, rd, target))
+        }
+        Instr::Jalr { rd, rs1, imm } => {
+            let target = regs.get(rs1).wrapping_add(imm) & 0xffff_fffe;
+            Ok(jump(regs, rd, target))
+        }
+        Instr::Branch {
+            test,
+            rs1,
+            rs2,
+            imm,
+        } => {
+            let a = regs.get(rs1);
+            let b = regs.get(rs2);
+            Ok(branch(regs, test, a, b, imm))
+        }
+        Instr::Load { load, rd, rs1, imm } => {
+            let address = regs.get(rs1).wrapping_add(imm);
+            execute_load(regs, mem, load, rd, address)
+        }
+        Instr::Store {
+            store,
+            rs1,
+            rs2,
+            imm,
+        } => {
+            let address = regs.get(rs1).wrapping_add(imm);
+            let value = regs.get(rs2);
+            execute_store(regs, mem, store, address, value)
+        }
+        Instr::Immediate {
+            operation,
+            rd,
+            rs1,
+            imm,
+        } => {
+            let value = immediate(operation, regs.get(rs1), imm);
+            Ok(compute(regs, rd, value))
+        }
+        Instr::Shift {
+            shift: kind,
+            rd,
+            rs1,
+            amount,
+        } => {
+            let value = shift(kind, regs.get(rs1), amount);
+            Ok(compute(regs, rd, value))
+        }
+        Instr::Register {
+            operation,
+            rd,
+            rs1,
+            rs2,
+        } => {
+            let value = register(operation, regs.get(rs1), regs.get(rs2));
+            Ok(compute(regs, rd, value))
+        }
+        Instr::Fence => {
+            advance(regs);
+            Ok(Outcome::Next)
+        }
+        Instr::Ecall => Ok(Outcome::Call),
+        Instr::Ebreak => Ok(Outcome::Trap(Cause::Breakpoint)),
+    }
+}
+
+/// Makes one turn: fetches the word at the pc, decodes it and executes it
+/// (RISC-V unprivileged ISA 20191213, chapter 2).
+///
+/// At `Call` the instruction is an ECALL. At `Call` and at `Trap` the registers are as before, so
+/// the pc is that of the ECALL or of the instruction that trapped, and nothing was stored.
+///
+/// # Errors
+///
+/// An error where the host's memory ran out. Registers and stores are as before then; pages may
+/// have been noted as read.
+#[inline(always)]
+#[tactic(auto, unfolding(thunk_spec::specs::Turn::turn))]
+pub fn step<M: Mem>(regs: &mut Regs, mem: &mut M) -> Result<Outcome, AllocError>
+    ensures ok { IfOk result (λ outcome. Makes (turn (M.workspace mem.old).map (M.workspace mem.old).memory regs.old) (M.workspace mem.old) outcome regs.new (M.workspace mem.new)) }
+    ensures err { OnErr result ((regs.new ≡ regs.old) × OnlyTook (M.workspace mem.old) (M.workspace mem.new)) }
+{
+    let pc = regs.pc();
+    if pc % 4 != 0 {
+        return Ok(Outcome::Trap(Cause::InstructionMisaligned));
+    }
+    match mem.fetch(pc) {
+        Ok(word) => match decode(word) {
+            Some(instr) => execute(regs, mem, instr),
+            None => Ok(Outcome::Trap(Cause::IllegalInstruction)),
+        },
+        Err(MemoryError::Access) => Ok(Outcome::Trap(Cause::InstructionAccess)),
+        Err(MemoryError::NoMemory) => Err(AllocError),
+    }
+}

@@ -1,0 +1,55 @@
+//! Whether a record stands for a thread's next thunk.
+
+ghost use Rattle.std.specs.Prelude.{◌≡◌};
+ghost use Rattle.std.specs.Str.{bytes_eq};
+ghost use Rattle.memory_spec.specs.Pages.{page_of};
+ghost use Rattle.record_spec.specs.Reads.{has};
+ghost use Rattle.record_spec.specs.Record.{fits_at, same_registers};
+
+use super::kept::Record;
+use page_store::PageTable;
+use rv_alu::Regs;
+use store_mask::ReadPage;
+
+/// Whether two sets of registers are the same.
+fn are_same(a: &Regs, b: &Regs) -> bool
+    ensures { result ≡ same_registers a.now b.now }
+{
+    a.pc() == b.pc() && a.as_array() == b.as_array()
+}
+
+/// Whether a view has the bytes of a read page. One past its end it hasn't.
+#[tactic(auto, using(crate::proofs::Past::no_bytes))]
+fn has_page(table: &PageTable, read: &ReadPage) -> bool
+    ensures { result ≡ bytes_eq (page_of table.now read.now.slot) read.now.bytes }
+{
+    let page = read.page();
+    let _bytes = page.bytes();
+    if read.slot() < table.len() {
+        table.page(read.slot()).is_same(page)
+    } else {
+        false
+    }
+}
+
+/// Whether a view has the bytes of each of these read pages.
+fn has_pages(table: &PageTable, reads: &[ReadPage]) -> bool
+    ensures { result ≡ has table.now reads.now }
+{
+    for read in reads {
+        if !has_page(table, read) {
+            return false;
+        }
+    }
+    true
+}
+
+/// Whether a record stands for the next thunk of a thread that has made `number` steps, and has
+/// these registers and this view: it is of the same number, its first registers are these, and the
+/// view has the bytes of each of its read pages. Takes no memory.
+#[tactic(auto, unfolding(record_spec::specs::Record::fits_at))]
+pub fn fits(rec: &Record, number: u32, regs: &Regs, table: &PageTable) -> bool
+    ensures { result ≡ fits_at rec.now number regs.now table.now }
+{
+    rec.number() == number && are_same(rec.start(), regs) && has_pages(table, rec.reads().pages())
+}

@@ -1,0 +1,60 @@
+//! What every thunk of a run depends on beside its registers and its view.
+
+ghost use Rattle.std.specs.Prelude.{◌≡◌};
+ghost use Rattle.std.specs.Arc.{arc_value};
+
+use page_map::PageMap;
+use std::marker::Model;
+use std::sync::Arc;
+
+/// The page map of a run, and the most turns of one thunk. A clause sees a `Frame` of `thunk_spec`.
+#[derive(Drop)]
+pub struct Frame {
+    pages: Arc<PageMap>,
+    turns: u32,
+}
+
+impl Model for Frame {
+    ghost use Rattle.std.specs.Arc.{arc_value};
+    ghost use Rattle.thunk_spec.specs.Thunk.{Frame};
+
+    ghost Value = { Frame };
+
+    ghost view = { λ f. record { map = arc_value f.pages; fuel = f.turns } };
+}
+
+impl Frame {
+    /// The frame of this page map and this fuel.
+    pub fn new(map: Arc<PageMap>, fuel: u32) -> Frame
+        ensures { result ≡ record { map = arc_value map; fuel = fuel } }
+    {
+        Frame {
+            pages: map,
+            turns: fuel,
+        }
+    }
+
+    /// The page map.
+    #[inline(always)]
+    pub fn map(&self) -> &PageMap
+        ensures { result.now ≡ self.now.map }
+    {
+        &self.pages
+    }
+
+    /// The page map, as it is shared.
+    #[inline(always)]
+    pub fn shared_map(&self) -> &Arc<PageMap>
+        ensures { arc_value result.now ≡ self.now.map }
+    {
+        &self.pages
+    }
+
+    /// The most turns of one thunk.
+    #[inline(always)]
+    pub fn fuel(&self) -> u32
+        ensures { result ≡ self.now.fuel }
+    {
+        self.turns
+    }
+}

@@ -1,0 +1,14 @@
+//! A thunk run on a view: turns until a call, a trap or the end of the fuel, and what is kept of it.
+#![tactic(auto)]
+
+mod job;
+mod put;
+mod running;
+mod turns;
+
+pub use running::execute;
+pub use job::{Job, Run};
+pub use put::{Range, appends_all, put_range};
+
+#[cfg(test)]
+mod tests;

@@ -1,0 +1,80 @@
+//! A thunk run on a view.
+
+ghost use Rattle.std.specs.Prelude.{◌≡◌, length, IfOk};
+ghost use Rattle.std.specs.Arc.{arc_value};
+ghost use Rattle.record_spec.specs.Record.{kept_thunk};
+
+use page_store::PageTable;
+use priv_space::Space;
+use rv_alu::Regs;
+use std::alloc::{AllocError, Global};
+use std::sync::Arc;
+use thunk_record::{Frame, Kept, Record};
+
+use super::job::{Job, Run};
+use super::turns::make_thunk;
+
+impl Job {
+    /// The next thunk of a thread that has made `number` steps, with these registers, on this view.
+    /// The view has as many pages as the map of the frame. Takes no memory.
+    pub fn new(frame: Arc<Frame>, thread: u8, number: u32, regs: Regs, view: Arc<PageTable>) -> Job
+        requires { length (arc_value view) ≡ length (arc_value frame).map }
+        ensures frame { result.frame ≡ frame }
+        ensures thread { result.thread ≡ thread }
+        ensures number { result.number ≡ number }
+        ensures registers { result.regs ≡ regs }
+        ensures view { result.view ≡ view }
+    {
+        view.whole();
+        Job {
+            frame,
+            thread,
+            number,
+            regs,
+            view,
+        }
+    }
+}
+
+/// Runs the thunk of a job, and gives what is kept of it.
+///
+/// # Errors
+///
+/// An error where the host's memory ran out.
+fn run_thunk(alloc: Global, job: &Job) -> Result<Kept, AllocError>
+    ensures { IfOk result (λ kept. kept ≡ kept_thunk (arc_value job.now.frame) (arc_value job.now.view) job.now.regs) }
+{
+    let mut space = Space::new(alloc, &job.view, job.frame.shared_map())?;
+    let mut regs = job.regs;
+    let turned = make_thunk(&job.frame, &mut regs, &mut space)?;
+    let reads = space.reads()?;
+    let delta = space.into_delta()?;
+    Ok(Kept {
+        reads,
+        delta,
+        finish: regs,
+        end: turned.end,
+        count: turned.count,
+    })
+}
+
+/// Runs the thunk of a job on its view: turns until an ECALL, a trap or the end of the fuel, and the
+/// bytes that a put takes. The view is as before; what was stored stands in the record.
+///
+/// # Errors
+///
+/// An error where the host's memory ran out.
+pub fn execute(alloc: Global, job: &Job) -> Result<Run, AllocError>
+    ensures frame { IfOk result (λ run. arc_value run.frame ≡ arc_value job.now.frame) }
+    ensures thread { IfOk result (λ run. (arc_value run.rec).thread ≡ job.now.thread) }
+    ensures number { IfOk result (λ run. (arc_value run.rec).number ≡ job.now.number) }
+    ensures start { IfOk result (λ run. (arc_value run.rec).start ≡ job.now.regs) }
+    ensures kept { IfOk result (λ run. (arc_value run.rec).kept ≡ kept_thunk (arc_value job.now.frame) (arc_value job.now.view) job.now.regs) }
+{
+    let kept = run_thunk(alloc, job)?;
+    let rec = Record::new(job.thread, job.number, job.regs, kept);
+    let rec = Arc::new(alloc, rec)?;
+    let frame = Arc::try_clone(&job.frame)?;
+    record_spec::kept_is_true();
+    Ok(Run { frame, rec })
+}
