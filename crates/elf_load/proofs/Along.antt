@@ -1,5 +1,5 @@
 -- What a loop along the program headers gathers of their segments.
-use Rattle.std.proofs.Common.{◌≡◌, ℕ, ◌+◌, ◌<◌, max, Bool, true, false, cond, ◌&&◌, ◌||◌, List, [], ◌∷◌, ◌++◌, map, filter, fold, bit_or, length, refl, ap, sym, ◌∙◌, arith, zero-add, add-zero, append-nil, length-append}
+use Rattle.std.proofs.Common.{◌≡◌, ℕ, ◌+◌, max, Bool, true, false, cond, ◌&&◌, ◌||◌, List, [], ◌∷◌, ◌++◌, map, filter, fold, bit_or, length, refl, ap, ◌∙◌, zero-add, add-zero, append-nil, length-append}
 use Rattle.std.specs.List.{range_with_len, list_any}
 use Rattle.std.proofs.lemmas.List.FromFn.{filter_of_map_range_with_len_more}
 use Rattle.std.proofs.lemmas.List.Folds.{list_any-append}
@@ -7,7 +7,7 @@ use Rattle.std.proofs.lemmas.List.{map-append}
 use Rattle.std.proofs.lemmas.List.Elements.{filter-append}
 use Rattle.std.proofs.lemmas.List.Sums.{fold-append}
 use Rattle.elf_spec.specs.Header.{ProgramHeader, program_header, is_segment}
-use Rattle.elf_spec.specs.Segments.{touches, last_page, highest_page, rights_of, permission_at}
+use Rattle.elf_spec.specs.Segments.{touches, last_page, highest_page, segment_permission, page_permission}
 use Rattle.elf_load.specs.Header.{segments_below}
 use Rattle.elf_load.proofs.Searches.{range_split}
 
@@ -37,16 +37,16 @@ highest_more bytes i =
       | false ↦ ap highest_page (append-nil before)
     ]
 
-pub rights_more : (number : ℕ) (bytes : List ℕ) (i : ℕ) → permission_at (segments_below bytes (i + 1)) number ≡ cond (is_segment (program_header bytes i) && touches number (program_header bytes i)) (bit_or (permission_at (segments_below bytes i) number) (rights_of (program_header bytes i))) (permission_at (segments_below bytes i) number)
+pub rights_more : (number : ℕ) (bytes : List ℕ) (i : ℕ) → page_permission (segments_below bytes (i + 1)) number ≡ cond (is_segment (program_header bytes i) && touches number (program_header bytes i)) (bit_or (page_permission (segments_below bytes i) number) (segment_permission (program_header bytes i))) (page_permission (segments_below bytes i) number)
 rights_more number bytes i =
     let header = program_header bytes i in
     let before = segments_below bytes i in
-    let gather : List ProgramHeader → ℕ = λ list. permission_at list number in
-    let apart : (list : List ProgramHeader) → gather (before ++ list) ≡ fold bit_or (gather before) (map rights_of (filter (touches number) list)) = λ list.
-    ap (λ kept. fold bit_or 0 (map rights_of kept)) (filter-append (touches number) before list) ∙ ap (fold bit_or 0) (map-append rights_of (filter (touches number) before) (filter (touches number) list)) ∙ fold-append bit_or 0 (map rights_of (filter (touches number) before)) (map rights_of (filter (touches number) list)) in
+    let gather : List ProgramHeader → ℕ = λ list. page_permission list number in
+    let apart : (list : List ProgramHeader) → gather (before ++ list) ≡ fold bit_or (gather before) (map segment_permission (filter (touches number) list)) = λ list.
+    ap (λ kept. fold bit_or 0 (map segment_permission kept)) (filter-append (touches number) before list) ∙ ap (fold bit_or 0) (map-append segment_permission (filter (touches number) before) (filter (touches number) list)) ∙ fold-append bit_or 0 (map segment_permission (filter (touches number) before)) (map segment_permission (filter (touches number) list)) in
     ap gather (segments_more bytes i) ∙ apart _ ∙
-    elim (is_segment header) as (λ b. fold bit_or (gather before) (map rights_of (filter (touches number) (cond b (header ∷ []) []))) ≡ cond (b && touches number header) (bit_or (gather before) (rights_of header)) (gather before)) [
-      | true ↦ elim (touches number header) as (λ t. fold bit_or (gather before) (map rights_of (cond t (header ∷ []) [])) ≡ cond t (bit_or (gather before) (rights_of header)) (gather before)) [ true ↦ refl | false ↦ refl ]
+    elim (is_segment header) as (λ b. fold bit_or (gather before) (map segment_permission (filter (touches number) (cond b (header ∷ []) []))) ≡ cond (b && touches number header) (bit_or (gather before) (segment_permission header)) (gather before)) [
+      | true ↦ elim (touches number header) as (λ t. fold bit_or (gather before) (map segment_permission (cond t (header ∷ []) [])) ≡ cond t (bit_or (gather before) (segment_permission header)) (gather before)) [ true ↦ refl | false ↦ refl ]
       | false ↦ refl
     ]
 

@@ -1,5 +1,5 @@
 -- A search along the numbers from one on, as a loop makes it.
-use Rattle.std.proofs.Common.{◌≡◌, ℕ, zero, suc, ◌+◌, ◌-◌, ◌<◌, ◌≤◌, Bool, true, false, cond, List, [], ◌∷◌, ◌++◌, map, find, flat_map, Option, Some, None, option_map, refl, ap, sym, ◌∙◌, arith, subst, add-zero, append-nil}
+use Rattle.std.proofs.Common.{◌≡◌, ℕ, zero, suc, ◌+◌, ◌-◌, ◌<◌, Bool, true, false, cond, List, [], ◌∷◌, ◌++◌, map, find, flat_map, Option, Some, None, option_map, refl, ap, sym, ◌∙◌, arith, subst, add-zero, append-nil}
 use Rattle.std.specs.List.{range_with_len}
 use Rattle.std.proofs.lemmas.List.Concat.{flat_map-append}
 

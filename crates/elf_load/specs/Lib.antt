@@ -1,3 +1,5 @@
 pub mod Header
 pub mod Questions
 pub mod Rows
+pub mod Load
+pub mod Touched

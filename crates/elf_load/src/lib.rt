@@ -4,5 +4,12 @@
 mod fields;
 mod header;
 mod image;
+mod loader;
 mod pages;
 mod refusals;
+
+pub use loader::{Image, LoadError, load};
+pub use refusals::refusal;
+
+#[cfg(test)]
+mod tests;

@@ -36,7 +36,7 @@ fn higher(page: u32, header: Header) -> u32
 }
 
 /// The number of the highest page that a segment touches.
-fn highest_page(bytes: &[u8]) -> u32
+pub fn highest_page(bytes: &[u8]) -> u32
     ensures page { result ≡ segment.highest_page (segments bytes.now) }
     ensures small { result < 2 ^ 21 }
 {
@@ -67,7 +67,7 @@ pub fn is_touched(bytes: &[u8], number: u32) -> bool
 
 /// The rights together with those of a header, if it is of a segment that touches the page of a number.
 fn more_rights(rights: u8, number: u32, header: Header) -> u8
-    ensures { result ≡ (if is_segment_of (header_of header) && segment.touches number (header_of header) then bit_or rights (segment.rights_of (header_of header)) else rights) }
+    ensures { result ≡ (if is_segment_of (header_of header) && segment.touches number (header_of header) then bit_or rights (segment.segment_permission (header_of header)) else rights) }
 {
     if is_touching(number, header) {
         rights | (header.flags % 8) as u8
@@ -77,8 +77,8 @@ fn more_rights(rights: u8, number: u32, header: Header) -> u8
 }
 
 /// The access rights on the page of a number.
-pub fn rights_at(bytes: &[u8], number: u32) -> u8
-    ensures { result ≡ segment.permission_at (segments bytes.now) number }
+pub fn page_rights(bytes: &[u8], number: u32) -> u8
+    ensures { result ≡ segment.page_permission (segments bytes.now) number }
 {
     let mut rights = 0;
     for i in 0..header_count(bytes) {

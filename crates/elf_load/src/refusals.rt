@@ -8,7 +8,7 @@ ghost use Rattle.elf_spec.specs.Refusals as row;
 
 use crate::fields::{byte_at, half_word_at, word_at};
 use crate::header::{Header, header_at, header_count, is_segment};
-use crate::pages::{page_count, rights_at};
+use crate::pages::{page_count, page_rights};
 use elf_spec::Refusal;
 
 /// ELF's magic number.
@@ -222,7 +222,7 @@ fn entry_refusal(bytes: &[u8]) -> Option<Refusal>
     ensures { result ≡ row.entry_refusal bytes.now }
 {
     let start = word_at(bytes, 24);
-    let executable = rights_at(bytes, start / 4096) % 2 == 1;
+    let executable = page_rights(bytes, start / 4096) % 2 == 1;
     refuse_if(!((start % 4 == 0) & executable), Refusal::Entry)
 }
 

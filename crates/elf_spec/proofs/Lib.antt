@@ -2,3 +2,4 @@ pub mod Touched
 pub mod Rows
 pub mod Examples
 pub mod ImageMemory
+pub mod OrderExamples

@@ -5,7 +5,7 @@ use Rattle.std.proofs.lemmas.Bool.{and_parts, ltb-false, eqb-true, not-false}
 use Rattle.elf_spec.specs.declared.Refusal.{Refusal}
 use Rattle.elf_spec.specs.declared.Refusal.TheVariants.{TooManyPages, Entry}
 use Rattle.elf_spec.specs.Header.{segments, e_entry}
-use Rattle.elf_spec.specs.Segments.{permission_at}
+use Rattle.elf_spec.specs.Segments.{page_permission}
 use Rattle.elf_spec.specs.Refusals.{refuse_if, first_given, refusals, refusal_of, page_count, is_executable}
 use Rattle.elf_spec.specs.Image.{is_image}
 
@@ -31,7 +31,7 @@ pub few_pages : (bytes : List ℕ) → is_image bytes ≡ true → page_count by
 few_pages bytes accepted = ltb-false 1024 (page_count bytes) (not_refused _ (TooManyPages (page_count bytes)) (none_at (refusals bytes) 11 (none_given bytes accepted)))
 
 -- the entry point of a file without a refusal is aligned, on a page that may be executed
-pub sound_start : (bytes : List ℕ) → is_image bytes ≡ true → (e_entry bytes % 4 ≡ 0) × (bit_at (permission_at (segments bytes) (e_entry bytes / 4096)) 0 ≡ 1)
+pub sound_start : (bytes : List ℕ) → is_image bytes ≡ true → (e_entry bytes % 4 ≡ 0) × (bit_at (page_permission (segments bytes) (e_entry bytes / 4096)) 0 ≡ 1)
 sound_start bytes accepted =
     let aligned = e_entry bytes % 4 == 0 in
     let may_run = is_executable bytes (e_entry bytes) in

@@ -8,7 +8,7 @@ use Rattle.std.proofs.lemmas.List.FromFn.{length-range_with_len, get_or-range_wi
 use Rattle.std.proofs.lemmas.List.Elements.{All-cons, All-nil, All-head, All-weaker, All-contains, All-map, All-filter, filter_passes}
 use Rattle.std.proofs.lemmas.List.Folds.{Any-from_list_any, list_any-from_Any}
 use Rattle.elf_spec.specs.Header.{ProgramHeader, is_load, is_segment, segments, program_headers, program_header, e_phnum}
-use Rattle.elf_spec.specs.Segments.{page_numbers, IsTouched, permission_at, has_address, touches, first_page, last_page, highest_page, rights_of}
+use Rattle.elf_spec.specs.Segments.{page_numbers, IsTouched, page_permission, has_address, touches, first_page, last_page, highest_page, segment_permission}
 use Rattle.memory_spec.specs.Pages.{Mapped, ascends_above}
 use Rattle.elf_spec.specs.declared.Refusal.TheVariants.{Outside}
 use Rattle.elf_spec.specs.Refusals.{refusals, outside, is_outside}
@@ -24,7 +24,7 @@ numbers_of f (n ∷ ns) = ap (λ rest. n ∷ rest) (numbers_of f ns)
 
 pub numbers-image_pages : (bytes : List ℕ) → map (λ (p : Mapped). p.number) (image_pages bytes) ≡ page_numbers (segments bytes)
 unfolding image_pages
-numbers-image_pages bytes = numbers_of (permission_at (segments bytes)) (page_numbers (segments bytes))
+numbers-image_pages bytes = numbers_of (page_permission (segments bytes)) (page_numbers (segments bytes))
 
 range_ascends : (a n : ℕ) → IsStrictlyIncreasing (range_with_len a n)
 range_ascends a n k below =
@@ -117,18 +117,18 @@ filter_none p (x ∷ xs) none =
     elim (p x) as (λ b. (b || list_any p xs) ≡ false → cond b (x ∷ filter p xs) (filter p xs) ≡ []) [ true ↦ λ h. absurd (cc) | false ↦ λ h. filter_none p xs h ] none
 
 -- a page with a right is touched by a segment
-right_from_segment : (list : List ProgramHeader) (number : ℕ) → bit_at (permission_at list number) 0 ≡ 1 → (b : Bool) → list_any (touches number) list ≡ b → list_any (touches number) list ≡ true
+right_from_segment : (list : List ProgramHeader) (number : ℕ) → bit_at (page_permission list number) 0 ≡ 1 → (b : Bool) → list_any (touches number) list ≡ b → list_any (touches number) list ≡ true
 right_from_segment list number right true is = is
 right_from_segment list number right false is =
-    let no_rights : bit_at (permission_at list number) 0 ≡ 0 = ap (λ kept. bit_at (fold bit_or 0 (map rights_of kept)) 0) (filter_none (touches number) list is) in
+    let no_rights : bit_at (page_permission list number) 0 ≡ 0 = ap (λ kept. bit_at (fold bit_or 0 (map segment_permission kept)) 0) (filter_none (touches number) list is) in
     absurd (omega arith)
 
 -- a page with a right is among the pages
-pub page_with_right : (bytes : List ℕ) (number : ℕ) → bit_at (permission_at (segments bytes) number) 0 ≡ 1 → HasPageWith 0 number (image_pages bytes)
+pub page_with_right : (bytes : List ℕ) (number : ℕ) → bit_at (page_permission (segments bytes) number) 0 ≡ 1 → HasPageWith 0 number (image_pages bytes)
 unfolding image_pages
 page_with_right bytes number right =
     let list = segments bytes in
-    let page_of : ℕ → Mapped = λ n. record { number = n; permission = permission_at list n } in
+    let page_of : ℕ → Mapped = λ n. record { number = n; permission = page_permission list n } in
     let (k, below, is) = passing_is_there list number (right_from_segment list number right _ refl) in
     (k, page_of number, rw length-map below, get_or-map page_of (page_numbers list) k number (page_of number) below ∙ ap page_of is, (refl, right))
 

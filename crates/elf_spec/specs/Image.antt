@@ -3,7 +3,7 @@ use Rattle.std.specs.Prelude.{ℕ, ◌≡◌, ◌+◌, ◌*◌, ◌-◌, Bool, n
 use Rattle.std.specs.List.{range_with_len}
 use Rattle.std.specs.Int.{bit_at}
 use Rattle.elf_spec.specs.Header.{ProgramHeader, e_entry, segments}
-use Rattle.elf_spec.specs.Segments.{page_size, has_address, page_numbers, permission_at}
+use Rattle.elf_spec.specs.Segments.{page_size, has_address, page_numbers, page_permission}
 use Rattle.elf_spec.specs.Refusals.{refusal_of}
 use Rattle.memory_spec.specs.Pages.{Mapped}
 
@@ -13,7 +13,7 @@ HasPageWith bit number pages = Any (λ page. (page.number ≡ number) × (bit_at
 
 -- the pages of an image, ascending: each page that a segment touches (System V gABI, ch. 5, Program Loading)
 unfoldable pub image_pages : List ℕ → List Mapped
-image_pages bytes = map (λ number. record { number = number; permission = permission_at (segments bytes) number }) (page_numbers (segments bytes))
+image_pages bytes = map (λ number. record { number = number; permission = page_permission (segments bytes) number }) (page_numbers (segments bytes))
 
 -- the file's byte at the segment's address, or zero past the segment's bytes in the file (System V gABI, ch. 5, Program Header)
 abbrev pub segment_byte : List ℕ → Option ProgramHeader → ℕ → ℕ

@@ -5,7 +5,7 @@ use Rattle.std.specs.Int.{bit_at}
 use Rattle.elf_spec.specs.declared.Refusal.{Refusal}
 use Rattle.elf_spec.specs.declared.Refusal.TheVariants.{NotElf, NotElf32, NotExec, NotRiscv, Compressed, EntrySize, ShortTable, Dynamic, ShortSegment, Outside, Overlap, TooManyPages, Entry}
 use Rattle.elf_spec.specs.Header.{header_size, program_header_size, magic, ei_class, ei_data, ei_version, e_type, e_machine, e_entry, e_flags, e_phentsize, e_phnum, ProgramHeader, program_header, program_header_offset, is_load, is_dynamic, is_segment, segments}
-use Rattle.elf_spec.specs.Segments.{page_size, shares_address, page_numbers, permission_at}
+use Rattle.elf_spec.specs.Segments.{page_size, shares_address, page_numbers, page_permission}
 
 -- this refusal where the test holds, and else none (this project's own)
 abbrev pub refuse_if : Bool → Refusal → Option Refusal
@@ -86,9 +86,9 @@ too_many_pages bytes = refuse_if (nat_lt 1024 (page_count bytes)) (TooManyPages 
 
 -- the address may be executed: its page has the right X (System V gABI, ch. 5, Segment Permissions)
 abbrev pub is_executable : List ℕ → ℕ → Bool
-is_executable bytes address = bit_at (permission_at (segments bytes) (address / page_size)) 0 == 1
+is_executable bytes address = bit_at (page_permission (segments bytes) (address / page_size)) 0 == 1
 
--- no instruction can stand at the entry point (RISC-V unprivileged ISA 20191213, 1.5)
+-- no instruction can stand at the entry point (RISC-V unprivileged ISA 20191213, 2.2)
 abbrev pub entry_refusal : List ℕ → Option Refusal
 entry_refusal bytes = refuse_if (not (e_entry bytes % 4 == 0 && is_executable bytes (e_entry bytes))) Entry
 

@@ -3,7 +3,7 @@ use Rattle.std.specs.Prelude.{ℕ, ◌≡◌, ◌+◌, ◌-◌, ◌/◌, ◌%◌
 use Rattle.std.specs.List.{range_with_len, list_any}
 use Rattle.elf_spec.specs.Header.{ProgramHeader}
 
--- the number of bytes of a page (RISC-V privileged ISA, Sv32)
+-- the number of bytes of a page (this project's own)
 abbrev pub page_size : ℕ
 page_size = 4096
 
@@ -40,9 +40,9 @@ abbrev pub page_numbers : List ProgramHeader → List ℕ
 page_numbers list = filter (λ number. list_any (touches number) list) (range_with_len 0 (highest_page list + 1))
 
 -- a segment's access rights: X 1, W 2, R 4 (System V gABI, ch. 5, Segment Permissions)
-abbrev pub rights_of : ProgramHeader → ℕ
-rights_of segment = segment.flags % 8
+abbrev pub segment_permission : ProgramHeader → ℕ
+segment_permission segment = segment.flags % 8
 
 -- a page's access rights: those of all segments that touch it together (System V gABI, ch. 5, Segment Permissions; this project's own for a shared page)
-abbrev pub permission_at : List ProgramHeader → ℕ → ℕ
-permission_at list number = fold bit_or 0 (map rights_of (filter (touches number) list))
+abbrev pub page_permission : List ProgramHeader → ℕ → ℕ
+page_permission list number = fold bit_or 0 (map segment_permission (filter (touches number) list))

@@ -9,7 +9,7 @@ ghost use Rattle.std.specs.Prelude.{ℕ, ◌≡◌, ◌≤◌, ◌<◌, ◌↔�
 ghost use Rattle.std.specs.List.Sorted.{IsStrictlyIncreasing};
 ghost use Rattle.memory_spec.specs.Pages.{ascends_above, IsMemory};
 ghost use Rattle.elf_spec.specs.Header.{segments};
-ghost use Rattle.elf_spec.specs.Segments.{page_numbers, IsTouched, permission_at};
+ghost use Rattle.elf_spec.specs.Segments.{page_numbers, IsTouched, page_permission};
 ghost use Rattle.elf_spec.specs.Image.{image_pages, image_memory, entry_of, is_image, HasPageWith};
 
 /// Why a file isn't taken as an executable.

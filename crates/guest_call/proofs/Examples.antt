@@ -65,7 +65,7 @@ call-6-is-lock = refl
 pub call-8-is-unlock : call_of 8 9 5 ≡ Some (Unlock 9)
 call-8-is-unlock = refl
 
--- 18 and all above are bad calls: the numbers end at 17
+-- 18 and 2^32 - 1 stand in no line of the table
 pub call-18-is-bad : call_of 18 0 0 ≡ None
 call-18-is-bad = refl
 

@@ -3,3 +3,4 @@ pub mod Counting
 pub mod Conservation
 pub mod Kept
 pub mod Local
+pub mod ActingExamples

@@ -36,7 +36,7 @@ on_mutex row o m = let r = at_cell unlocked row o.mutexes m in (r.0, record { th
 abbrev pub can_read : (ℕ → ℕ → Bool) → ℕ → ℕ → Bool
 can_read readable p n = nat_le (p + n) (2 ^ 32) && readable p n
 
--- what put answers: how many bytes it has appended, or why it has not (POSIX.1-2017, write)
+-- what put answers: how many bytes it has appended, or why it has not (POSIX.1-2017, write; the limits are this project's own)
 abbrev pub put_answer : (ℕ → ℕ → Bool) → ℕ → ℕ → ℕ
 put_answer readable p n =
     if nat_lt 4096 n then answer_einval
@@ -63,7 +63,7 @@ act readable o t (Unlock m) = on_mutex (unlock_row t) o m
 abbrev pub one_of : Bool → Object → List Object
 one_of test p = if test then p ∷ [] else []
 
--- the objects on which a call acts: none where its first range check refuses it (this project's own)
+-- the objects on which a call acts: put on the output, where it appends; create, lock and unlock on theirs, where the argument is in range; thread_exit and join on the threads; exit and yield on none (this project's own)
 abbrev pub acts_on : (ℕ → ℕ → Bool) → Objects → Call → List Object
 acts_on readable o (Exit code) = []
 acts_on readable o (Put p n) = one_of (appends readable p n) object.Output

@@ -12,7 +12,7 @@ pub record Member : Type 0 where
 abbrev pub fresh : Member
 fresh = record { joiner = None; value = None }
 
--- who waits for a thread with this value, if it has ended, and this joiner: the joiner, until the end (POSIX.1-2017, pthread_join)
+-- who waits for a thread: its joiner, as long as it has no value (POSIX.1-2017, pthread_join)
 abbrev pub waiting_joiner : Option ℕ → Option ℕ → List ℕ
 waiting_joiner None joiner = option_to_list joiner
 waiting_joiner (Some v) joiner = []

@@ -19,7 +19,7 @@ branch_taken test.GreaterOrEqual a b = not (is_less a b)
 branch_taken test.LessUnsigned a b = is_less_unsigned a b
 branch_taken test.GreaterOrEqualUnsigned a b = not (is_less_unsigned a b)
 
--- the result on a register and an extended immediate (RISC-V unprivileged ISA 20191213, 2.4.1)
+-- the result on a register and an extended immediate (RISC-V unprivileged ISA 20191213, 2.4, Integer Register-Immediate Instructions)
 unfoldable pub immediate_result : ImmediateOperation → ℕ → ℕ → ℕ
 immediate_result immediate.Add a b = sum_of a b
 immediate_result immediate.Less a b = word_of_test (is_less a b)
@@ -28,13 +28,13 @@ immediate_result immediate.Xor a b = bit_xor a b
 immediate_result immediate.Or a b = bit_or a b
 immediate_result immediate.And a b = bit_and a b
 
--- the result of a shift by a constant (RISC-V unprivileged ISA 20191213, 2.4.1)
+-- the result of a shift by a constant (RISC-V unprivileged ISA 20191213, 2.4, Integer Register-Immediate Instructions)
 unfoldable pub shift_result : ShiftOperation → ℕ → ℕ → ℕ
 shift_result shift.LeftLogical a amount = shifted_left a amount
 shift_result shift.RightLogical a amount = shifted_right a amount
 shift_result shift.RightArithmetic a amount = shifted_right_signed a amount
 
--- the result on two registers (RISC-V unprivileged ISA 20191213, 2.4.2)
+-- the result on two registers (RISC-V unprivileged ISA 20191213, 2.4, Integer Register-Register Operations)
 unfoldable pub register_result : RegisterOperation → ℕ → ℕ → ℕ
 register_result register.Add a b = sum_of a b
 register_result register.Subtract a b = difference_of a b

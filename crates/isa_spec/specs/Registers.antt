@@ -14,6 +14,6 @@ register r n = slice_index r.x n
 unfoldable pub with_register : Registers → ℕ → ℕ → Registers
 with_register r n value = if n == 0 then r else record r { x = slice_set r.x n value }
 
--- the registers after a jump (RISC-V unprivileged ISA 20191213, 2.1)
+-- the registers with another pc (RISC-V unprivileged ISA 20191213, 2.1)
 abbrev pub with_pc : Registers → ℕ → Registers
 with_pc r pc = record r { pc = pc }

@@ -56,15 +56,15 @@ load_row f3 l = row 0b0000011 (fixed f3) free (λ w. instr.Load l (rd_of w) (rs1
 abbrev pub store_row : ℕ → Store → Row
 store_row f3 s = row 0b0100011 (fixed f3) free (λ w. instr.Store s (rs1_of w) (rs2_of w) (s_immediate w))
 
--- an operation with an immediate (RISC-V unprivileged ISA 20191213, 2.4.1)
+-- an operation with an immediate (RISC-V unprivileged ISA 20191213, 2.4, Integer Register-Immediate Instructions)
 abbrev pub immediate_row : ℕ → ImmediateOperation → Row
 immediate_row f3 o = row 0b0010011 (fixed f3) free (λ w. instr.Immediate o (rd_of w) (rs1_of w) (i_immediate w))
 
--- a shift by a constant, which is the rs2 field (RISC-V unprivileged ISA 20191213, 2.4.1)
+-- a shift by a constant, which is the rs2 field (RISC-V unprivileged ISA 20191213, 2.4, Integer Register-Immediate Instructions)
 abbrev pub shift_row : ℕ → ℕ → ShiftOperation → Row
 shift_row f7 f3 s = row 0b0010011 (fixed f3) (fixed f7) (λ w. instr.Shift s (rd_of w) (rs1_of w) (rs2_of w))
 
--- an operation on two registers (RISC-V unprivileged ISA 20191213, 2.4.2)
+-- an operation on two registers (RISC-V unprivileged ISA 20191213, 2.4, Integer Register-Register Operations)
 abbrev pub register_row : ℕ → ℕ → RegisterOperation → Row
 register_row f7 f3 o = row 0b0110011 (fixed f3) (fixed f7) (λ w. instr.Register o (rd_of w) (rs1_of w) (rs2_of w))
 
@@ -125,6 +125,6 @@ reading_in (r ∷ rs) opcode f3 f7 w =
 unfoldable pub reading_of : ℕ → ℕ → ℕ → ℕ → Option (ℕ → Instr)
 reading_of = reading_in rows
 
--- the instruction of a word, or none where the word is illegal (RISC-V unprivileged ISA 20191213, 2.2)
+-- the instruction of a word, or none where no row has it: such a word is illegal (RISC-V unprivileged ISA 20191213, 2.2; that it is illegal is this project's own)
 unfoldable pub decoded : ℕ → Option Instr
 decoded w = option_map (λ read. read w) (reading_of (opcode_of w) (funct3_of w) (funct7_of w) w)

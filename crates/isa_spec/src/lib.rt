@@ -52,7 +52,7 @@ pub enum Store {
 }
 
 /// An operation on a register and an immediate, other than a shift
-/// (RISC-V unprivileged ISA 20191213, 2.4.1).
+/// (RISC-V unprivileged ISA 20191213, 2.4, Integer Register-Immediate Instructions).
 #[derive(Clone, Copy, Debug, PartialEq, Eq)]
 pub enum ImmediateOperation {
     /// ADDI.
@@ -69,7 +69,7 @@ pub enum ImmediateOperation {
     And,
 }
 
-/// A shift by a constant (RISC-V unprivileged ISA 20191213, 2.4.1).
+/// A shift by a constant (RISC-V unprivileged ISA 20191213, 2.4, Integer Register-Immediate Instructions).
 #[derive(Clone, Copy, Debug, PartialEq, Eq)]
 pub enum ShiftOperation {
     /// SLLI: zeros come in at the bottom.
@@ -80,7 +80,7 @@ pub enum ShiftOperation {
     RightArithmetic,
 }
 
-/// An operation on two registers (RISC-V unprivileged ISA 20191213, 2.4.2).
+/// An operation on two registers (RISC-V unprivileged ISA 20191213, 2.4, Integer Register-Register Operations).
 #[derive(Clone, Copy, Debug, PartialEq, Eq)]
 pub enum RegisterOperation {
     /// ADD.

@@ -93,25 +93,25 @@ choice-ready m t chosen =
     left false b h = h
 
 -- a step is counted, and the limit stays
-done-limit : (m : Machine) (t : ℕ) (put : List ℕ) (a : Asked) → (done_as_asked m t put a).limit ≡ m.limit
-done-limit m t put (Asks call) = refl
-done-limit m t put (Stops e) = refl
+done-limit : (m : Machine) (t : ℕ) (a : Asked) → (done_as_asked m t a).limit ≡ m.limit
+done-limit m t (Asks call) = refl
+done-limit m t (Stops e) = refl
 
-done-steps : (m : Machine) (t : ℕ) (put : List ℕ) (a : Asked) → (done_as_asked m t put a).steps ≡ m.steps
-done-steps m t put (Asks call) = refl
-done-steps m t put (Stops e) = refl
+done-steps : (m : Machine) (t : ℕ) (a : Asked) → (done_as_asked m t a).steps ≡ m.steps
+done-steps m t (Asks call) = refl
+done-steps m t (Stops e) = refl
 
 finished-limit :
     (m : Machine) (t : ℕ) (memory : Memory) (regs : Registers) (e : ThunkEnd) (put : List ℕ)
     → (finished m t memory regs e put).limit ≡ m.limit
 unfolding finished
-finished-limit m t memory regs e put = done-limit (written m t memory regs) t put (asked t e regs)
+finished-limit m t memory regs e put = done-limit (written m t memory regs put) t (asked t e regs)
 
 finished-steps :
     (m : Machine) (t : ℕ) (memory : Memory) (regs : Registers) (e : ThunkEnd) (put : List ℕ)
     → (finished m t memory regs e put).steps ≡ suc m.steps
 unfolding finished
-finished-steps m t memory regs e put = done-steps (written m t memory regs) t put (asked t e regs)
+finished-steps m t memory regs e put = done-steps (written m t memory regs put) t (asked t e regs)
 
 pub step-limit : (m : Machine) (t : ℕ) → (step m t).limit ≡ m.limit
 unfolding step

@@ -5,3 +5,5 @@ pub mod Beginning
 pub mod Alone
 pub mod Guests
 pub mod RunExamples
+pub mod StepExamples
+pub mod SetupExamples

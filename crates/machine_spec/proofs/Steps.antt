@@ -26,37 +26,37 @@ use Rattle.machine_spec.specs.declared.states.Status.{Status}
 use Rattle.machine_spec.specs.declared.states.End.{End}
 use Rattle.machine_spec.specs.Machine.{Hart, Machine, hart_in, hart_of, nobody, is_ready, is_ended}
 use Rattle.machine_spec.specs.Performing.{returned, fated, woken, first_hart, with_created, settled}
-use Rattle.machine_spec.specs.Step.{written, Asked, Asks, Stops, asked, fate_end, state_end, end_after, performed, with_end, done_as_asked, finished, step, lay, fits, can_step}
+use Rattle.machine_spec.specs.Step.{written, Asked, Asks, Stops, asked, fate_end, state_end, end_after, performed, done_as_asked, finished, step, lay, fits, can_step}
 use Rattle.machine_spec.specs.Whole.{IsTied, IsHartOf, IsWhole}
 use Rattle.machine_spec.proofs.Harts.{ready-below, status-set}
 use Rattle.machine_spec.proofs.Tied.{tied-written, tied-called, stays-called}
 
 -- the caller is as ready after the writing as before
 ready-written :
-    (m : Machine) (t : ℕ) (memory : Memory) (regs : Registers)
+    (m : Machine) (t : ℕ) (memory : Memory) (regs : Registers) (put : List ℕ)
     → is_ready (hart_of m t).status ≡ true
-    → is_ready (hart_of (written m t memory regs) t).status ≡ true
-ready-written m t memory regs ready =
+    → is_ready (hart_of (written m t memory regs put) t).status ≡ true
+ready-written m t memory regs put ready =
     ap is_ready
     (status-set m.harts t t (record { view = (hart_of m t).view; regs = regs; number = suc (hart_of m t).number; status = (hart_of m t).status }) refl)
     ∙ ready
 
 tied-after_writing :
-    (m : Machine) (t : ℕ) (memory : Memory) (regs : Registers)
+    (m : Machine) (t : ℕ) (memory : Memory) (regs : Registers) (put : List ℕ)
     → IsTied m.objects m.harts
-    → IsTied (written m t memory regs).objects (written m t memory regs).harts
-tied-after_writing m t memory regs tied =
+    → IsTied (written m t memory regs put).objects (written m t memory regs put).harts
+tied-after_writing m t memory regs put tied =
     tied-written m.objects m.harts t
     (record { view = (hart_of m t).view; regs = regs; number = suc (hart_of m t).number; status = (hart_of m t).status }) refl tied
 
 done-stays :
-    (m : Machine) (t u : ℕ) (put : List ℕ) (a : Asked)
+    (m : Machine) (t u : ℕ) (a : Asked)
     → IsTied m.objects m.harts → is_ready (hart_of m t).status ≡ true
     → u ≢ t → is_ready (hart_of m u).status ≡ true
-    → hart_of (done_as_asked m t put a) u ≡ hart_of m u
-done-stays m t u put (Asks call) tied ready other ready_u =
+    → hart_of (done_as_asked m t a) u ≡ hart_of m u
+done-stays m t u (Asks call) tied ready other ready_u =
     stays-called (is_readable m.frame.map) m.objects m.harts t call m.memory u tied ready other ready_u
-done-stays m t u put (Stops e) tied ready other ready_u = refl
+done-stays m t u (Stops e) tied ready other ready_u = refl
 
 finished-stays :
     (m : Machine) (t u : ℕ) (memory : Memory) (regs : Registers) (e : ThunkEnd) (put : List ℕ)
@@ -65,11 +65,11 @@ finished-stays :
     → hart_of (finished m t memory regs e put) u ≡ hart_of m u
 unfolding finished
 finished-stays m t u memory regs e put tied ready other ready_u =
-    let same : hart_of (written m t memory regs) u ≡ hart_of m u =
+    let same : hart_of (written m t memory regs put) u ≡ hart_of m u =
             get_or-set_other m.harts t u
             (record { view = (hart_of m t).view; regs = regs; number = suc (hart_of m t).number; status = (hart_of m t).status }) nobody other in
-    done-stays (written m t memory regs) t u put (asked t e regs) (tied-after_writing m t memory regs tied)
-    (ready-written m t memory regs ready) other (ap (λ (h : Hart). is_ready h.status) same ∙ ready_u)
+    done-stays (written m t memory regs put) t u (asked t e regs) (tied-after_writing m t memory regs put tied)
+    (ready-written m t memory regs put ready) other (ap (λ (h : Hart). is_ready h.status) same ∙ ready_u)
     ∙ same
 
 and-left : (a b : Bool) → (a && b) ≡ true → a ≡ true
@@ -173,20 +173,20 @@ end_at-left true b limit steps x y z none = cc
 end_at-left false true limit steps x y z none = cc
 end_at-left false false limit steps x y z none = grind (arith, nat_tests)
 
-end_after-left : (e : Option End) (m : Machine) → end_after e m ≡ None → m.steps < m.limit
-end_after-left (Some e) m none = cc
-end_after-left None m none =
-    end_at-left (list_all (λ (h : Hart). is_ended h.status) m.harts) (not (list_any (λ (h : Hart). is_ready h.status) m.harts)) m.limit m.steps _ _ _ none
+end_after-left : (e : Option End) (hs : List Hart) (limit steps : ℕ) → end_after e hs limit steps ≡ None → steps < limit
+end_after-left (Some e) hs limit steps none = cc
+end_after-left None hs limit steps none =
+    end_at-left (list_all (λ (h : Hart). is_ended h.status) hs) (not (list_any (λ (h : Hart). is_ready h.status) hs)) limit steps _ _ _ none
 
 end_at-ready : (a b : Bool) (limit steps : ℕ) (x y z : End) → cond a (Some x) (cond (not b) (Some y) (cond (leb limit steps) (Some z) None)) ≡ None → b ≡ true
 end_at-ready true b limit steps x y z none = cc
 end_at-ready false true limit steps x y z none = refl
 end_at-ready false false limit steps x y z none = cc
 
-end_after-ready : (e : Option End) (m : Machine) → end_after e m ≡ None → list_any (λ (h : Hart). is_ready h.status) m.harts ≡ true
-end_after-ready (Some e) m none = cc
-end_after-ready None m none =
-    end_at-ready (list_all (λ (h : Hart). is_ended h.status) m.harts) (list_any (λ (h : Hart). is_ready h.status) m.harts) m.limit m.steps _ _ _ none
+end_after-ready : (e : Option End) (hs : List Hart) (limit steps : ℕ) → end_after e hs limit steps ≡ None → list_any (λ (h : Hart). is_ready h.status) hs ≡ true
+end_after-ready (Some e) hs limit steps none = cc
+end_after-ready None hs limit steps none =
+    end_at-ready (list_all (λ (h : Hart). is_ended h.status) hs) (list_any (λ (h : Hart). is_ready h.status) hs) limit steps _ _ _ none
 
 -- what is there after the writing, and before the end is looked for
 record IsWritten (m : Machine) (t : ℕ) : Type 0 where
@@ -198,8 +198,8 @@ record IsWritten (m : Machine) (t : ℕ) : Type 0 where
   pub most_steps : m.limit ≤ 65536
   pub few_steps : m.steps ≤ m.limit
 
-done-whole : (m : Machine) (t : ℕ) (put : List ℕ) (a : Asked) → IsWritten m t → IsWhole (done_as_asked m t put a)
-done-whole m t put (Asks call) w =
+done-whole : (m : Machine) (t : ℕ) (a : Asked) → IsWritten m t → IsWhole (done_as_asked m t a)
+done-whole m t (Asks call) w =
     record {
       memory = w.memory;
       harts =
@@ -211,12 +211,12 @@ done-whole m t put (Asks call) w =
       few_steps = w.few_steps;
       some_ready = λ none.
         end_after-ready (fate_end (act (is_readable m.frame.map) m.objects t call).0.fate)
-        (performed m t put (act (is_readable m.frame.map) m.objects t call)) none;
+        (settled (act (is_readable m.frame.map) m.objects t call).0 m.memory t m.harts) m.limit m.steps none;
       steps_left = λ none.
         end_after-left (fate_end (act (is_readable m.frame.map) m.objects t call).0.fate)
-        (performed m t put (act (is_readable m.frame.map) m.objects t call)) none
+        (settled (act (is_readable m.frame.map) m.objects t call).0 m.memory t m.harts) m.limit m.steps none
     }
-done-whole m t put (Stops e) w =
+done-whole m t (Stops e) w =
     record {
       memory = w.memory;
       harts = w.harts;
@@ -244,7 +244,7 @@ finished-whole m t memory regs e put whole can fit =
     let ready : is_ready (hart_of m t).status ≡ true = can_step-ready m t can in
     let left : m.steps < m.limit = can_step-left m t whole can in
     let here : IsHartOf m.frame.map m.steps (hart_of m t) = hart-at m.frame.map m.steps m.harts t (ready-below m.harts t ready) whole.harts in
-    done-whole (written m t memory regs) t put (asked t e regs)
+    done-whole (written m t memory regs put) t (asked t e regs)
     (record {
        memory = fit;
        harts =
@@ -252,8 +252,8 @@ finished-whole m t memory regs e put whole can fit =
          (record { view = (hart_of m t).view; regs = regs; number = suc (hart_of m t).number; status = (hart_of m t).status })
          (record { view = here.view; number = let number = here.number in omega arith })
          (hart-later m.frame.map m.steps m.harts whole.harts);
-       tied = tied-after_writing m t memory regs whole.tied;
-       ready = ready-written m t memory regs ready;
+       tied = tied-after_writing m t memory regs put whole.tied;
+       ready = ready-written m t memory regs put ready;
        most_fuel = whole.most_fuel;
        most_steps = whole.most_steps;
        few_steps = omega arith

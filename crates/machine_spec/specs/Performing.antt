@@ -9,7 +9,7 @@ use Rattle.guest_call.specs.Effect.{Effect}
 use Rattle.machine_spec.specs.declared.states.Status.TheVariants.{Ready, Blocked, Ended}
 use Rattle.machine_spec.specs.Machine.{Hart, hart_in}
 
--- The registers after an answer: a0 has it, a1 what is told beside it, and the pc moves on by 4. (RISC-V ELF psABI, Calling Convention)
+-- The registers after an answer: a0 has it, a1 what is told beside it, and the pc moves on by 4. (this project's own; the registers' names are the RISC-V ELF psABI's)
 abbrev pub answered : Registers → ℕ → Option ℕ → Registers
 answered r a0 None = with_pc (with_register r 10 a0) (sum_of r.pc 4)
 answered r a0 (Some a1) = with_pc (with_register (with_register r 10 a0) 11 a1) (sum_of r.pc 4)
@@ -31,7 +31,7 @@ woken memory told [] harts = harts
 woken memory told (u ∷ threads) harts =
     woken memory told threads (slice_set harts u (returned memory 0 told (hart_in harts u)))
 
--- The first registers of thread t: pc, argument in a0, its own stack's end in sp, its number in tp, and the rest 0. (RISC-V ELF psABI, Calling Convention)
+-- The first registers of thread t: pc, argument in a0, its own stack's end in sp, its number in tp, and the rest 0. (this project's own; the registers' names are the RISC-V ELF psABI's)
 unfoldable pub first_registers : ℕ → ℕ → ℕ → Registers
 first_registers t pc argument =
     record { pc = pc; x = 0 ∷ 0 ∷ (0xD0000000 + 0x10000 * (t + 1)) ∷ 0 ∷ t ∷ 0 ∷ 0 ∷ 0 ∷ 0 ∷ 0 ∷ argument ∷ replicate 21 0 }

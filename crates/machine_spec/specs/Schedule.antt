@@ -1,6 +1,7 @@
 -- Whole schedules, a schedule being the list of its steps' threads.
 use Rattle.std.specs.Prelude.{ℕ, Bool, true, ◌&&◌, List, [], ◌∷◌, is_some}
-use Rattle.machine_spec.specs.Machine.{Machine}
+use Rattle.record_spec.specs.Record.{Record, kept_thunk}
+use Rattle.machine_spec.specs.Machine.{Machine, hart_of}
 use Rattle.machine_spec.specs.Step.{step, can_step}
 
 -- The machine after the steps of a schedule. (this project's own)
@@ -16,3 +17,18 @@ is_permitted_from m (t ∷ schedule) = can_step m t && is_permitted_from (step m
 -- Whether an end is there after the last entry. (this project's own)
 abbrev pub is_complete_from : Machine → List ℕ → Bool
 is_complete_from m schedule = is_some (scratch_from m schedule).ending
+
+-- The record of the thunk that thread t would run next: its number of steps, its registers, and what is kept of the thunk. (this project's own)
+abbrev pub record_of : Machine → ℕ → Record
+record_of m t =
+    record {
+      thread = t;
+      number = (hart_of m t).number;
+      start = (hart_of m t).regs;
+      kept = kept_thunk m.frame (hart_of m t).view (hart_of m t).regs
+    }
+
+-- The records of the entries of a schedule, from a machine on. (this project's own)
+abbrev pub records_from : Machine → List ℕ → List Record
+records_from m [] = []
+records_from m (t ∷ schedule) = record_of m t ∷ records_from (step m t) schedule

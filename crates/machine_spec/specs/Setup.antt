@@ -4,10 +4,11 @@ use Rattle.std.specs.List.{range_with_len}
 use Rattle.std.specs.Int.{to_le_bytes, w32}
 use Rattle.memory_spec.specs.Pages.{Mapped, Memory, zero_page}
 use Rattle.elf_spec.specs.Image.{image_pages, image_memory, entry_of, is_image}
+use Rattle.record_spec.specs.Record.{Record}
 use Rattle.guest_call.specs.Objects.{opening}
 use Rattle.machine_spec.specs.Machine.{Hart, Machine}
 use Rattle.machine_spec.specs.Performing.{first_hart}
-use Rattle.machine_spec.specs.Schedule.{scratch_from, is_permitted_from, is_complete_from}
+use Rattle.machine_spec.specs.Schedule.{scratch_from, is_permitted_from, is_complete_from, records_from}
 
 -- An executable file, an input, the most turns of a thunk, and the most steps of a run. (this project's own)
 pub record Setup : Type 0 where
@@ -79,3 +80,7 @@ is_permitted s schedule = is_permitted_from (first s) schedule
 
 abbrev pub is_complete : Setup → List ℕ → Bool
 is_complete s schedule = is_complete_from (first s) schedule
+
+-- The records of the entries of a schedule, in order. (this project's own)
+abbrev pub records : Setup → List ℕ → List Record
+records s schedule = records_from (first s) schedule

@@ -16,26 +16,25 @@ use Rattle.thunk_spec.specs.Put.{call_at, is_readable}
 use Rattle.thunk_spec.specs.Thunk.{Thunk, thunk}
 use Rattle.record_spec.specs.Delta.{masked}
 use Rattle.record_spec.specs.Record.{Record, put_of, fits_at}
+pub use Rattle.machine_spec.specs.declared.states.Asked.{Asked}
+pub use Rattle.machine_spec.specs.declared.states.Asked.TheVariants.{Asks, Stops}
 use Rattle.machine_spec.specs.declared.states.End.{End}
 use Rattle.machine_spec.specs.declared.states.End.TheVariants as end
 use Rattle.machine_spec.specs.Machine.{Hart, Machine, hart_of, is_ready, is_ended}
 use Rattle.machine_spec.specs.Performing.{settled}
 
--- The machine after thread t's thunk was written: shared memory, the thread's last registers, and one step more. (this project's own: each call releases)
-abbrev pub written : Machine → ℕ → Memory → Registers → Machine
-written m t memory regs =
+-- The machine after thread t's thunk was written: shared memory, the thread's last registers, one step more, and on the output the bytes of
+-- the put that ends it, if one does. (this project's own: each call releases)
+abbrev pub written : Machine → ℕ → Memory → Registers → List ℕ → Machine
+written m t memory regs put =
     record m {
       memory = memory;
       harts =
         slice_set m.harts t
         (record { view = (hart_of m t).view; regs = regs; number = suc (hart_of m t).number; status = (hart_of m t).status });
+      output = m.output ++ put;
       steps = suc m.steps
     }
-
--- What the end of a thunk asks of the machine: a call, or to end. (this project's own)
-pub data Asked : Type 0 where
-  Asks : Call → Asked
-  Stops : End → Asked
 
 -- An ECALL asks for its call; one whose number is in no row of the table is a trap, at the ECALL. (this project's own)
 abbrev pub asked_call : ℕ → Registers → Option Call → Asked
@@ -56,36 +55,35 @@ fate_end (Ends value) = None
 fate_end (Exits code) = Some (end.Exit code)
 
 -- The end that the state makes: all threads have ended; none is ready; the schedule is as long as the limit. (this project's own)
-abbrev pub state_end : Machine → Option End
-state_end m =
-    if list_all (λ (h : Hart). is_ended h.status) m.harts then Some (end.Exit 0)
-    else if not (list_any (λ (h : Hart). is_ready h.status) m.harts) then Some end.Deadlock
-    else if nat_le m.limit m.steps then Some end.Spent
+abbrev pub state_end : List Hart → ℕ → ℕ → Option End
+state_end harts limit steps =
+    if list_all (λ (h : Hart). is_ended h.status) harts then Some (end.Exit 0)
+    else if not (list_any (λ (h : Hart). is_ready h.status) harts) then Some end.Deadlock
+    else if nat_le limit steps then Some end.Spent
     else None
 
 -- The end after a call: that of the caller's fate comes before that of the state. (this project's own)
-abbrev pub end_after : Option End → Machine → Option End
-end_after (Some e) m = Some e
-end_after None m = state_end m
+abbrev pub end_after : Option End → List Hart → ℕ → ℕ → Option End
+end_after (Some e) harts limit steps = Some e
+end_after None harts limit steps = state_end harts limit steps
 
--- The machine after an effect and the new objects of a call of thread t, which appends these bytes to the output. (this project's own)
-abbrev pub performed : Machine → ℕ → List ℕ → Effect × Objects → Machine
-performed m t put r =
-    record m { harts = settled r.0 m.memory t m.harts; objects = r.1; output = m.output ++ put }
-
--- The machine with its end looked for. (this project's own)
-abbrev pub with_end : Option End → Machine → Machine
-with_end e m = record m { ending = end_after e m }
+-- The machine after an effect and the new objects of a call of thread t, with the end looked for. (this project's own)
+abbrev pub performed : Machine → ℕ → Effect × Objects → Machine
+performed m t r =
+    record m {
+      harts = settled r.0 m.memory t m.harts;
+      objects = r.1;
+      ending = end_after (fate_end r.0.fate) (settled r.0 m.memory t m.harts) m.limit m.steps
+    }
 
 -- The machine after what a thunk asked for was done. (this project's own)
-abbrev pub done_as_asked : Machine → ℕ → List ℕ → Asked → Machine
-done_as_asked m t put (Asks call) =
-    let r = act (is_readable m.frame.map) m.objects t call in with_end (fate_end r.0.fate) (performed m t put r)
-done_as_asked m t put (Stops e) = record m { ending = Some e }
+abbrev pub done_as_asked : Machine → ℕ → Asked → Machine
+done_as_asked m t (Asks call) = performed m t (act (is_readable m.frame.map) m.objects t call)
+done_as_asked m t (Stops e) = record m { ending = Some e }
 
 -- All that follows the writing of thread t's thunk into shared memory: its registers and number, the call, the answers, the views, the end. (this project's own)
 unfoldable pub finished : Machine → ℕ → Memory → Registers → ThunkEnd → List ℕ → Machine
-finished m t memory regs e put = done_as_asked (written m t memory regs) t put (asked t e regs)
+finished m t memory regs e put = done_as_asked (written m t memory regs put) t (asked t e regs)
 
 -- One step of thread t: its thunk is run on its view, and its stores are laid over shared memory in order. (this project's own)
 unfoldable pub step : Machine → ℕ → Machine

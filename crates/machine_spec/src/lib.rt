@@ -1,7 +1,7 @@
 //! The guest machine, as definitions: shared memory, harts with a view each, one step of a thread, and
 //! whole schedules from scratch; with the laws that a step leaves every other ready thread as it is,
 //! that laying a true record that fits is the step, and that the choice leads to an end. No code but
-//! two plain types.
+//! three plain types.
 #![tactic(auto)]
 
 ghost use Rattle.std.specs.Prelude.{◌≡◌, ◌≢◌, ℕ, true};
@@ -15,7 +15,7 @@ ghost use Rattle.machine_spec.specs.Whole.{IsWhole};
 
 mod states;
 
-pub use states::{End, Status};
+pub use states::{Asked, End, Status};
 
 /// A step of one thread leaves every other ready thread as it is: its registers, its view, its number
 /// of steps and its status.

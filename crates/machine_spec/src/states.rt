@@ -1,5 +1,6 @@
-//! The status of a thread, and how a run ends.
+//! The status of a thread, how a run ends, and what a thunk asks for.
 
+use guest_call::Call;
 use isa_spec::Cause;
 
 /// Whether a thread can be chosen for the next step.
@@ -31,4 +32,13 @@ pub enum End {
     Deadlock,
     /// A thunk used up its fuel, or the schedule is as long as the step limit.
     Spent,
+}
+
+/// What the end of a thunk asks of the machine.
+#[derive(Clone, Copy, Debug, PartialEq, Eq)]
+pub enum Asked {
+    /// To do an environment call.
+    Asks(Call),
+    /// To end.
+    Stops(End),
 }

@@ -1,14 +1,14 @@
 -- Worked examples, each computed by the checker. Pages are cut to their first bytes.
-use Rattle.std.proofs.Common.{◌≡◌, ℕ, Bool, true, false, List, [], ◌∷◌, refl}
-use Rattle.isa_spec.specs.Registers.{Registers}
-use Rattle.memory_spec.specs.Pages.{Memory, on_each}
+use Rattle.std.proofs.Common.{◌≡◌, true, false, List, [], ◌∷◌, refl}
+use Rattle.isa_spec.specs.Registers.{with_pc}
+use Rattle.memory_spec.specs.Pages.{Memory}
 use Rattle.memory_spec.specs.Stores.{StoredByte, with_byte, laid}
 use Rattle.memory_spec.specs.Workspace.{Masks, with_mark, marked}
 use Rattle.thunk_spec.specs.declared.ends.ThunkEnd.TheVariants.{Call}
-use Rattle.thunk_spec.proofs.Guests.{map, start, self}
-use Rattle.record_spec.specs.Delta.{PageDelta, delta_from, masked, chosen, spread}
+use Rattle.thunk_spec.proofs.Guests.{map, start}
+use Rattle.record_spec.specs.Delta.{PageDelta, delta_from, masked}
 use Rattle.record_spec.specs.Reads.{ReadPage, reads_of, has}
-use Rattle.record_spec.specs.Record.{Kept, Record, fits_at}
+use Rattle.record_spec.specs.Record.{Record, fits_at}
 
 -- two stores at 0x11001, one at 0x11003, in this order
 abbrev pub stores : List StoredByte
@@ -92,3 +92,7 @@ fits-register = refl
 pub fits-page : fits_at sample 2 (start 5 6) ((1 ∷ 2 ∷ 9 ∷ 4 ∷ []) ∷ (10 ∷ 11 ∷ 12 ∷ 13 ∷ []) ∷ []) ≡ false
 unfolding fits_at
 fits-page = refl
+
+pub fits-pc : fits_at sample 2 (with_pc (start 5 6) 0x10004) memory ≡ false
+unfolding fits_at
+fits-pc = refl

@@ -38,7 +38,7 @@ pub record Record : Type 0 where
   pub start : Registers
   pub kept : Kept
 
--- What is kept is true of these start registers: on every view that has the bytes of the read pages the thunk is this one. (this project's own)
+-- What is kept is true of these start registers: on every view that has the bytes of the read pages the thunk leaves exactly this. (this project's own)
 pub record IsTrue (f : Frame) (start : Registers) (k : Kept) : Type 0 where
   pub same : (view : Memory) → IsMemory f.map view → has view k.reads ≡ true → kept_thunk f view start ≡ k
 

@@ -32,7 +32,7 @@ pub(super) fn compute(regs: &mut Regs, rd: u8, value: u32) -> Outcome
 }
 
 /// Jumps to a target, and writes the address of the next instruction into rd. A target that isn't
-/// a multiple of 4 traps, and nothing is written then (RISC-V unprivileged ISA 20191213, 2.5.1).
+/// a multiple of 4 traps, and nothing is written then (RISC-V unprivileged ISA 20191213, 2.5, Unconditional Jumps).
 #[inline(always)]
 pub(super) fn jump(regs: &mut Regs, rd: u8, target: u32) -> Outcome
     requires { rd < 32 }
@@ -48,7 +48,7 @@ pub(super) fn jump(regs: &mut Regs, rd: u8, target: u32) -> Outcome
     }
 }
 
-/// Jumps to a target. One that isn't a multiple of 4 traps (RISC-V unprivileged ISA 20191213, 2.5.2).
+/// Jumps to a target. One that isn't a multiple of 4 traps (RISC-V unprivileged ISA 20191213, 2.5, Conditional Branches).
 #[inline(always)]
 fn jump_alone(regs: &mut Regs, target: u32) -> Outcome
     ensures { untouched result regs.new ≡ jumped regs.old regs.old target }
@@ -62,7 +62,7 @@ fn jump_alone(regs: &mut Regs, target: u32) -> Outcome
 }
 
 /// Goes to pc plus the offset where the operands meet the test, else on
-/// (RISC-V unprivileged ISA 20191213, 2.5.2).
+/// (RISC-V unprivileged ISA 20191213, 2.5, Conditional Branches).
 #[inline(always)]
 pub(super) fn branch(regs: &mut Regs, test: BranchTest, a: u32, b: u32, offset: u32) -> Outcome
     ensures { untouched result regs.new ≡ branched regs.old test a b offset }

@@ -7,6 +7,7 @@ mod running;
 mod turns;
 
 pub use job::{Job, Run};
+pub use put::{Range, appends_all, put_range};
 pub use running::execute;
 
 #[cfg(test)]

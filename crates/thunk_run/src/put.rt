@@ -16,7 +16,7 @@ use thunk_spec::ThunkEnd;
 
 /// Bytes from an address on.
 #[derive(Clone, Copy)]
-pub(super) struct Range {
+pub struct Range {
     /// The address of the first.
     pub start: u32,
     /// How many.
@@ -59,7 +59,7 @@ fn all_readable(map: &PageMap, range: Range) -> bool
 }
 
 /// Whether a put appends its bytes: there are some, no more than 4,096, and all may be read.
-fn appends_all(map: &PageMap, range: Range) -> bool
+pub fn appends_all(map: &PageMap, range: Range) -> bool
     ensures { result ≡ appends (is_readable map.now) range.start range.len }
 {
     range.len != 0
@@ -91,7 +91,7 @@ fn range_of(map: &PageMap, call: Option<Call>) -> Range
 
 /// The bytes that the thunk with this end and these registers appends; none where no put ends it.
 #[tactic(auto, unfolding(thunk_spec::specs::Put::put_addresses), using(crate::proofs::Ends::readable_none))]
-pub(super) fn put_range(map: &PageMap, end: ThunkEnd, regs: &Regs) -> Range
+pub fn put_range(map: &PageMap, end: ThunkEnd, regs: &Regs) -> Range
     ensures addresses { range_with_len result.start result.len ≡ put_addresses map.now end regs.now }
     ensures in_range { result.start + result.len ≤ 2 ^ 32 }
     ensures few { result.len ≤ 4096 }

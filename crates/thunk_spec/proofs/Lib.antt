@@ -3,3 +3,5 @@ pub mod ThunkLocality
 pub mod Guests
 pub mod TurnExamples
 pub mod ThunkExamples
+pub mod InstructionExamples
+pub mod PutExamples

@@ -49,11 +49,11 @@ abbrev pub jumped : Registers → Registers → ℕ → Turn
 jumped r linked target =
     if target % 4 == 0 then passed (with_pc linked target) [] [] else stopped (Trap InstructionMisaligned) r
 
--- The registers of a jump: rd has the address of the instruction after it. (RISC-V unprivileged ISA 20191213, 2.5.1)
+-- The registers of a jump: rd has the address of the instruction after it. (RISC-V unprivileged ISA 20191213, 2.5, Unconditional Jumps)
 abbrev pub linked : Registers → ℕ → Registers
 linked r rd = with_register r rd (sum_of r.pc 4)
 
--- A branch goes to its target where its test holds, else on. (RISC-V unprivileged ISA 20191213, 2.5.2)
+-- A branch goes to its target where its test holds, else on. (RISC-V unprivileged ISA 20191213, 2.5, Conditional Branches)
 abbrev pub branched : Registers → BranchTest → ℕ → ℕ → ℕ → Turn
 branched r test a b imm = if branch_taken test a b then jumped r r (sum_of r.pc imm) else passed (advanced r) [] []
 
@@ -116,7 +116,7 @@ executed map memory r instr.Fence = passed (advanced r) [] []
 executed map memory r instr.Ecall = stopped Call r
 executed map memory r instr.Ebreak = stopped (Trap Breakpoint) r
 
--- What a word does: its instruction, or a trap where it is none. (RISC-V unprivileged ISA 20191213, 1.5)
+-- What a word does: its instruction, or a trap where no row of the table has it. (RISC-V unprivileged ISA 20191213, 2.2; that each other word is illegal is this project's own)
 abbrev pub word_turn : List Mapped → Memory → Registers → Option Instr → Turn
 word_turn map memory r (Some i) = executed map memory r i
 word_turn map memory r None = stopped (Trap IllegalInstruction) r

@@ -1,4 +1,4 @@
-use Rattle.std.proofs.Common.{◌≡◌, ℕ, Bool, true, false, cond, List, [], ◌∷◌, ◌++◌, map, refl, sym, ap, ap₂, ◌∙◌, append-nil}
+use Rattle.std.proofs.Common.{◌≡◌, Bool, true, false, cond, List, [], ◌∷◌, ◌++◌, map, sym, ap, ap₂, ◌∙◌, append-nil}
 use Rattle.std.proofs.lemmas.List.{map-append}
 use Rattle.elf_spec.specs.Header.{ProgramHeader, is_segment}
 use Rattle.elf_load.specs.declared.header.Header.{Header}

@@ -1,4 +1,4 @@
-use Rattle.std.proofs.Common.{ℕ, Bool, ◌&&◌, ◌||◌, sym, ap, ap₂, ◌∙◌}
+use Rattle.std.proofs.Common.{Bool, ◌&&◌, ◌||◌, sym, ap, ap₂, ◌∙◌}
 use Rattle.elf_spec.specs.Header.{ProgramHeader, is_segment}
 use Rattle.elf_spec.specs.Segments.{touches}
 use Rattle.elf_load.proofs.Along.{list_any_more}

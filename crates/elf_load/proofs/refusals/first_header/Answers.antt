@@ -1,4 +1,4 @@
-use Rattle.std.proofs.Common.{sym, ◌∙◌, zero-add, arith, ◌<◌, ◌≡◌}
+use Rattle.std.proofs.Common.{sym, ◌∙◌, zero-add, arith, ◌<◌}
 use Rattle.elf_spec.specs.Header.{e_phnum}
 use Rattle.elf_load.specs.Questions.{test_of}
 use Rattle.elf_load.proofs.Searches.{find_more, find_here}

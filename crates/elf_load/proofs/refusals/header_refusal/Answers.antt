@@ -1,5 +1,4 @@
-use Rattle.std.proofs.Common.{List, [], ◌∷◌, Option, sym, ◌∙◌}
-use Rattle.elf_spec.specs.declared.Refusal.{Refusal}
+use Rattle.std.proofs.Common.{[], ◌∷◌, sym, ◌∙◌}
 use Rattle.elf_spec.specs.Refusals.{not_elf, not_elf32, not_exec, not_riscv, compressed, entry_size}
 use Rattle.elf_load.proofs.Given.{skip, stop, last}
 use Rattle.elf_load.proofs.refusals.header_refusal.Goals as goal

@@ -1,9 +1,8 @@
-use Rattle.std.proofs.Common.{◌≡◌, ◌+◌, ◌-◌, ◌<◌, ℕ, Bool, List, Option, Some, None, find, map, flat_map, option_map, sym, ap, ◌∙◌, arith}
+use Rattle.std.proofs.Common.{◌≡◌, ◌+◌, ◌-◌, ℕ, Bool, List, Some, None, find, map, option_map, sym, ap, ◌∙◌, arith}
 use Rattle.std.specs.List.{range_with_len}
-use Rattle.elf_spec.specs.declared.Refusal.{Refusal}
 use Rattle.elf_spec.specs.declared.Refusal.TheVariants.{Overlap}
 use Rattle.elf_spec.specs.Header.{program_header, e_phnum}
-use Rattle.elf_spec.specs.Refusals.{overlaps, pairs_below}
+use Rattle.elf_spec.specs.Refusals.{overlaps}
 use Rattle.elf_load.proofs.Searches.{rows_more, rows_here, find-map}
 use Rattle.elf_load.proofs.refusals.overlap.Goals as goal
 

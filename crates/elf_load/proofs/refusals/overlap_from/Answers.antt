@@ -1,4 +1,4 @@
-use Rattle.std.proofs.Common.{◌≡◌, ◌+◌, ◌-◌, ◌<◌, ℕ, Bool, true, false, None, find, sym, ◌∙◌, ap₂, subst, arith}
+use Rattle.std.proofs.Common.{◌≡◌, ◌+◌, ◌-◌, ℕ, Bool, true, false, None, find, sym, ◌∙◌, ap₂, subst, arith}
 use Rattle.std.specs.List.{range_with_len}
 use Rattle.elf_spec.specs.Header.{program_header, e_phnum}
 use Rattle.elf_spec.specs.Refusals.{overlaps}

@@ -1,4 +1,4 @@
-use Rattle.std.proofs.Common.{◌≡◌, ◌-◌, ◌≤◌, find, None}
+use Rattle.std.proofs.Common.{◌≡◌, ◌-◌, find, None}
 use Rattle.std.specs.List.{range_with_len}
 use Rattle.elf_spec.specs.Header.{program_header}
 use Rattle.elf_spec.specs.Refusals.{overlaps}

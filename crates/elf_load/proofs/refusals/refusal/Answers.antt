@@ -1,6 +1,6 @@
 use Rattle.std.proofs.Common.{◌≡◌, ℕ, List, [], ◌∷◌, ◌++◌, Option, None, sym, ◌∙◌}
 use Rattle.elf_spec.specs.declared.Refusal.{Refusal}
-use Rattle.elf_spec.specs.Refusals.{refusal_of, refusals, first_given, too_many_pages, entry_refusal}
+use Rattle.elf_spec.specs.Refusals.{refusal_of, first_given, too_many_pages, entry_refusal}
 use Rattle.elf_load.specs.Rows.{header_rows, table_rows}
 use Rattle.elf_load.proofs.Given.{skip, stop, last, skip_all, stop_within}
 use Rattle.elf_load.proofs.refusals.refusal.Goals as goal

@@ -1,5 +1,4 @@
-use Rattle.std.proofs.Common.{List, [], ◌∷◌, Option, sym, ◌∙◌}
-use Rattle.elf_spec.specs.declared.Refusal.{Refusal}
+use Rattle.std.proofs.Common.{[], ◌∷◌, sym, ◌∙◌}
 use Rattle.elf_spec.specs.Refusals.{short_table, dynamic, short_segment, outside, overlap}
 use Rattle.elf_load.proofs.Given.{skip, stop, last}
 use Rattle.elf_load.proofs.refusals.table_refusal.Goals as goal

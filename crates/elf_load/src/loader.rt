@@ -1,0 +1,121 @@
+ghost use Rattle.std.specs.Prelude.{◌≡◌, ◌<◌, ◌^◌, [], ◌∷◌, ◌++◌, true, if◌then◌else◌, map, IfOk, IfErr, OnOk};
+ghost use Rattle.std.specs.List.{list_any};
+ghost use Rattle.elf_spec.specs.Header.{segments};
+ghost use Rattle.elf_spec.specs.Segments.{touches, page_permission};
+ghost use Rattle.elf_spec.specs.Image.{image_pages, image_memory, image_page, is_image};
+ghost use Rattle.elf_load.specs.Header.{header_of};
+ghost use Rattle.elf_load.specs.Load.{IsImageOf, Refuses};
+
+use crate::fields::word_at;
+use crate::header::Header;
+use crate::image::{page_bytes, segments_of};
+use crate::pages::{highest_page, is_touched, page_rights};
+use crate::refusals::refusal;
+use bitflags::Flags;
+use elf_spec::{Refusal, accepted_is_inside};
+use page_map::{MappedPage, PageMap, Perm};
+use page_store::{Page, PageTable};
+use std::alloc::{AllocError, Global};
+
+/// What an executable starts as.
+#[derive(Drop)]
+pub struct Image {
+    /// The mapped pages, ascending.
+    pub map: PageMap,
+    /// The bytes of each of them.
+    pub pages: PageTable,
+    /// The address of the first instruction.
+    pub entry: u32,
+}
+
+/// Why no image was made.
+#[derive(Clone, Copy, Debug, PartialEq, Eq)]
+pub enum LoadError {
+    /// The file isn't an executable that is taken, for this reason.
+    Refused(Refusal),
+    /// There was no memory for the image.
+    NoMemory,
+}
+
+/// The image of an executable (System V gABI, ch. 5, Program Loading).
+///
+/// # Errors
+///
+/// `Refused` with the first refusal exactly where the file has one, or `NoMemory`.
+pub fn load(alloc: Global, bytes: &[u8]) -> Result<Image, LoadError>
+    ensures loaded { IfOk result (λ image. IsImageOf bytes.now image) }
+    ensures refused { IfErr result (Refuses bytes.now) }
+{
+    match refusal(bytes) {
+        Some(refusal) => return Err(LoadError::Refused(refusal)),
+        None => {}
+    }
+    match pages_of(alloc, bytes) {
+        Ok(pages) => Ok(image_of(pages, bytes)),
+        Err(_) => Err(LoadError::NoMemory),
+    }
+}
+
+/// The pages of an image, before they are known to ascend.
+#[derive(Drop)]
+struct Pages {
+    mapped: Vec<MappedPage>,
+    table: PageTable,
+}
+
+/// The image of an accepted file with these pages.
+fn image_of(pages: Pages, bytes: &[u8]) -> Image
+    requires accepted { is_image bytes.now ≡ true }
+    requires mapped { pages.mapped.items ≡ image_pages bytes.now }
+    requires table { pages.table ≡ image_memory bytes.now }
+    ensures { IsImageOf bytes.now result }
+{
+    accepted_is_inside(bytes);
+    Image {
+        map: PageMap::new(pages.mapped),
+        pages: pages.table,
+        entry: word_at(bytes, 24),
+    }
+}
+
+/// All pages that a segment touches, ascending.
+fn pages_of(alloc: Global, bytes: &[u8]) -> Result<Pages, AllocError>
+    ensures mapped { IfOk result (λ pages. pages.mapped.items ≡ image_pages bytes.now) }
+    ensures table { IfOk result (λ pages. pages.table ≡ image_memory bytes.now) }
+{
+    let headers = segments_of(alloc, bytes)?;
+    let mut pages = Pages {
+        mapped: Vec::new(alloc),
+        table: PageTable::empty(alloc),
+    };
+    for number in 0..highest_page(bytes) + 1 {
+        add_page(&mut pages, bytes, &headers, number)?;
+    }
+    Ok(pages)
+}
+
+/// Puts the page of a number behind the others, if a segment touches it.
+fn add_page(
+    pages: &mut Pages,
+    bytes: &[u8],
+    headers: &[Header],
+    number: u32,
+) -> Result<(), AllocError>
+    requires headers { map header_of headers.now ≡ segments bytes.now }
+    requires number { number < 2 ^ 21 }
+    ensures mapped { OnOk result (pages.new.mapped.items ≡ (if list_any (touches number) (segments bytes.now)
+        then pages.old.mapped.items ++ record { number = number; permission = page_permission (segments bytes.now) number } ∷ []
+        else pages.old.mapped.items)) }
+    ensures table { OnOk result (pages.new.table ≡ (if list_any (touches number) (segments bytes.now)
+        then pages.old.table ++ image_page bytes.now number ∷ []
+        else pages.old.table)) }
+{
+    if is_touched(bytes, number) {
+        let rights = Perm::from_bits_retain(page_rights(bytes, number));
+        pages.mapped.push(MappedPage::new(number, rights))?;
+        pages
+            .table
+            .push(Page::new(page_bytes(bytes, headers, number)))?;
+    }
+    Ok(())
+}

@@ -1,0 +1,3 @@
+pub mod DataPages
+pub mod Asking
+pub mod Laying

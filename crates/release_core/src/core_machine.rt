@@ -1,0 +1,314 @@
+//! The guest machine.
+
+ghost use Rattle.std.specs.Prelude.{◌≡◌, ◌<◌, ◌≤◌, true, [], ◌∷◌, length, vec_len, Some, IfOk, OnOk, OnErr};
+ghost use Rattle.std.specs.Arc.{arc_value};
+ghost use Rattle.thunk_spec.specs.Thunk.{thunk};
+ghost use Rattle.record_spec.specs.Delta.{masked};
+ghost use Rattle.record_spec.specs.Record.{put_of};
+ghost use Rattle.release_core.specs.Views.{AreViewsOf};
+ghost use Rattle.machine_spec.specs.Machine.{Machine, hart_of, is_ready};
+ghost use Rattle.machine_spec.specs.Setup.{first, map_of, start_memory};
+ghost use Rattle.machine_spec.specs.Performing.{first_hart};
+ghost use Rattle.machine_spec.specs.Choice.{choice};
+ghost use Rattle.machine_spec.specs.Step as step;
+ghost use Rattle.machine_spec.specs.Whole.{IsWhole};
+
+use std::alloc::{AllocError, Global};
+use std::marker::Model;
+use std::sync::Arc;
+
+use machine_spec::{End, Status};
+use page_commit::commit;
+use page_map::PageMap;
+use page_store::PageTable;
+use sync_objects::Objects;
+use thunk_record::{Frame, Record};
+use thunk_run::{Job, execute};
+
+use super::doing::{asked, do_as_asked};
+use super::hart::Hart;
+use super::performing::{MOST_VIEWS, views_of};
+use super::put::put_bytes;
+use super::setup::Setup;
+use super::start::{memory_of, pages_of};
+
+/// The guest machine between two steps.
+#[derive(Drop)]
+pub struct Core {
+    alloc: Global,
+    frame: Arc<Frame>,
+    limit: u32,
+    memory: Arc<PageTable>,
+    harts: Vec<Hart>,
+    objects: Objects,
+    output: Vec<u8>,
+    steps: u32,
+    ending: Option<End>,
+}
+
+impl Model for Core {
+    ghost use Rattle.std.specs.Arc.{arc_value};
+    ghost use Rattle.machine_spec.specs.Machine.{Machine};
+    ghost use Rattle.machine_spec.specs.Whole.{IsWhole};
+
+    ghost Value = { Machine };
+
+    ghost view = {
+        λ c. record {
+            frame = arc_value c.frame;
+            limit = c.limit;
+            memory = arc_value c.memory;
+            harts = c.harts.items;
+            objects = c.objects;
+            output = c.output.items;
+            steps = c.steps;
+            ending = c.ending
+        }
+    };
+
+    ghost invariant = {
+        λ c. IsWhole (record {
+            frame = arc_value c.frame;
+            limit = c.limit;
+            memory = arc_value c.memory;
+            harts = c.harts.items;
+            objects = c.objects;
+            output = c.output.items;
+            steps = c.steps;
+            ending = c.ending
+        })
+    };
+}
+
+impl Core {
+    /// What holds of every machine holds of this one: what a caller learns of any core.
+    pub fn whole(&self)
+        ensures { IsWhole self.now }
+    {
+        let _steps = &self.steps;
+    }
+
+    /// How it ended, if it has.
+    pub fn ended(&self) -> Option<End>
+        ensures { result ≡ self.now.ending }
+    {
+        self.ending
+    }
+
+    /// The bytes that were put out.
+    pub fn output(&self) -> &[u8]
+        ensures { result.now ≡ self.now.output }
+    {
+        self.output.as_slice()
+    }
+
+    /// Shared memory.
+    pub fn memory(&self) -> &PageTable
+        ensures { result.now ≡ self.now.memory }
+    {
+        &self.memory
+    }
+
+    /// How many steps were made.
+    pub fn steps(&self) -> u32
+        ensures { result ≡ self.now.steps }
+    {
+        self.steps
+    }
+
+    /// How many steps thread `t`, which exists, has made.
+    pub fn number(&self, t: u8) -> u32
+        requires { t < length self.now.harts }
+        ensures { result ≡ (hart_of self.now t).number }
+    {
+        let hart = &self.harts[usize::from(t)];
+        hart.number()
+    }
+
+    /// Whether thread `t` is ready; no thread that doesn't exist is.
+    pub fn ready(&self, t: u8) -> bool
+        ensures { result ≡ is_ready (hart_of self.now t).status }
+    {
+        if usize::from(t) >= self.harts.len() {
+            return false;
+        }
+        let hart = &self.harts[usize::from(t)];
+        hart.status() == Status::Ready
+    }
+}
+
+/// The frame of a setup: all its pages, and its fuel.
+#[tactic(auto, unfolding(machine_spec::specs::Setup::map_of))]
+fn frame_of(alloc: Global, setup: &Setup) -> Result<Arc<Frame>, AllocError>
+    ensures { IfOk result (λ frame. arc_value frame ≡ record { map = map_of setup.now; fuel = setup.now.fuel }) }
+{
+    setup.sound();
+    machine_spec::map_ascends();
+    let image = setup.image();
+    let pages = pages_of(alloc, &image.map)?;
+    let map = match Arc::new(alloc, PageMap::new(pages)) {
+        Ok(map) => map,
+        Err(_) => return Err(AllocError),
+    };
+    match Arc::new(alloc, Frame::new(map, setup.fuel())) {
+        Ok(frame) => Ok(frame),
+        Err(_) => Err(AllocError),
+    }
+}
+
+/// The memory that a setup starts with.
+#[tactic(auto, unfolding(machine_spec::specs::Setup::start_memory))]
+fn start_of(alloc: Global, setup: &Setup) -> Result<Arc<PageTable>, AllocError>
+    ensures { IfOk result (λ memory. arc_value memory ≡ start_memory setup.now) }
+{
+    setup.sound();
+    let image = setup.image();
+    let memory = memory_of(alloc, &image.pages, setup.input())?;
+    match Arc::new(alloc, memory) {
+        Ok(memory) => Ok(memory),
+        Err(_) => Err(AllocError),
+    }
+}
+
+/// Thread 0 alone, at the executable's entry.
+fn first_harts(alloc: Global, memory: &Arc<PageTable>, entry: u32) -> Result<Vec<Hart>, AllocError>
+    ensures { IfOk result (λ harts. harts.items ≡ first_hart (arc_value memory.now) 0 entry 0xC0000000 ∷ []) }
+{
+    let view = Arc::try_clone(memory)?;
+    let mut harts = Vec::new(alloc);
+    harts.push(Hart::first(view, 0, entry, 0xC000_0000))?;
+    Ok(harts)
+}
+
+impl Core {
+    /// The machine that a setup starts as.
+    ///
+    /// # Errors
+    ///
+    /// An error where the host's memory ran out.
+    #[tactic(auto, unfolding(machine_spec::specs::Setup::first))]
+    pub fn new(alloc: Global, setup: &Setup) -> Result<Core, AllocError>
+        ensures { IfOk result (λ core. core ≡ first setup.now) }
+    {
+        setup.sound();
+        machine_spec::first_is_whole();
+        let frame = frame_of(alloc, setup)?;
+        let memory = start_of(alloc, setup)?;
+        let image = setup.image();
+        let harts = first_harts(alloc, &memory, image.entry)?;
+        Ok(Core {
+            alloc,
+            frame,
+            limit: setup.limit(),
+            memory,
+            harts,
+            objects: Objects::new(),
+            output: Vec::new(alloc),
+            steps: 0,
+            ending: None,
+        })
+    }
+}
+
+/// What laying a record needs that takes memory, made before anything is changed.
+#[derive(Drop)]
+struct Prepared {
+    memory: Arc<PageTable>,
+    put: Vec<u8>,
+    views: Vec<Arc<PageTable>>,
+}
+
+/// Shared memory with a record's stored bytes, the bytes of its put, and views to give.
+fn prepare(alloc: Global, map: &PageMap, memory: &PageTable, view: &PageTable, rec: &Record) -> Result<Prepared, AllocError>
+    ensures memory { IfOk result (λ p. arc_value p.memory ≡ masked memory.now rec.now.kept.delta) }
+    ensures put { IfOk result (λ p. p.put.items ≡ put_of map.now view.now rec.now.kept) }
+    ensures views { IfOk result (λ p. AreViewsOf (arc_value p.memory) p.views.items) }
+    ensures enough { IfOk result (λ p. 34 ≤ vec_len p.views) }
+{
+    let mut table = memory.snapshot()?;
+    commit(&mut table, rec.delta())?;
+    let memory = match Arc::new(alloc, table) {
+        Ok(memory) => memory,
+        Err(_) => return Err(AllocError),
+    };
+    let put = put_bytes(alloc, map, view, rec)?;
+    let views = views_of(alloc, &memory, MOST_VIEWS)?;
+    Ok(Prepared { memory, put, views })
+}
+
+impl Core {
+    /// What thread `t`, which is ready, is to run next.
+    ///
+    /// # Errors
+    ///
+    /// An error where the host's memory ran out.
+    #[tactic(auto, using(crate::proofs::Asking::below, crate::proofs::Asking::view_count))]
+    pub fn start_of(&self, t: u8) -> Result<Job, AllocError>
+        requires { is_ready (hart_of self.now t).status ≡ true }
+        ensures frame { IfOk result (λ job. arc_value job.frame ≡ self.now.frame) }
+        ensures thread { IfOk result (λ job. job.thread ≡ t) }
+        ensures number { IfOk result (λ job. job.number ≡ (hart_of self.now t).number) }
+        ensures regs { IfOk result (λ job. job.regs ≡ (hart_of self.now t).regs) }
+        ensures view { IfOk result (λ job. arc_value job.view ≡ (hart_of self.now t).view) }
+    {
+        let hart = &self.harts[usize::from(t)];
+        let frame = Arc::try_clone(&self.frame)?;
+        let view = Arc::try_clone(hart.view())?;
+        Ok(Job::new(frame, t, hart.number(), *hart.regs(), view))
+    }
+
+    /// Lays a record in place of a step of its thread, which may make one: its stored bytes are
+    /// written, and all that follows a thunk is done.
+    ///
+    /// # Errors
+    ///
+    /// An error where the host's memory ran out; the machine is then as before.
+    #[tactic(auto, using(crate::proofs::Asking::below))]
+    pub fn lay(&mut self, rec: &Record) -> Result<(), AllocError>
+        requires { step.can_step self.old rec.now.thread ≡ true }
+        ensures ok { OnOk result (self.new ≡ step.lay self.old rec.now) }
+        ensures err { OnErr result (self.new ≡ self.old) }
+    {
+        let t = rec.thread();
+        let hart = &self.harts[usize::from(t)];
+        let Prepared { memory, put, mut views } = prepare(self.alloc, self.frame.map(), &self.memory, hart.view(), rec)?;
+        self.harts.reserve(1)?;
+        self.output.extend_from_slice(put.as_slice())?;
+        let hart = &mut self.harts[usize::from(t)];
+        hart.write_back(*rec.finish());
+        self.steps += 1;
+        self.ending = do_as_asked(
+            &mut self.harts,
+            &mut self.objects,
+            self.frame.map(),
+            &memory,
+            &mut views,
+            self.limit,
+            self.steps,
+            t,
+            asked(t, rec.end(), rec.finish()),
+        );
+        self.memory = memory;
+        Ok(())
+    }
+
+    /// One step of thread `t`, which may make one. The answer is how many turns its thunk made.
+    ///
+    /// # Errors
+    ///
+    /// An error where the host's memory ran out; the machine is then as before.
+    #[tactic(auto, using(crate::proofs::Laying::own_fits))]
+    pub fn step(&mut self, t: u8) -> Result<u32, AllocError>
+        requires { step.can_step self.old t ≡ true }
+        ensures ok { OnOk result (self.new ≡ step.step self.old t) }
+        ensures count { IfOk result (λ n. n ≡ (thunk self.old.frame (hart_of self.old t).view (hart_of self.old t).regs).count) }
+        ensures err { OnErr result (self.new ≡ self.old) }
+    {
+        self.whole();
+        machine_spec::lay_is_step();
+        let job = self.start_of(t)?;
+        let run = execute(self.alloc, &job)?;
+        self.lay(&run.rec)?;
+        Ok(run.rec.count())
+    }
+}

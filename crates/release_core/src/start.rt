@@ -1,0 +1,126 @@
+//! The memory and the pages that a setup starts with.
+
+ghost use Rattle.std.specs.Prelude.{◌≡◌, ◌<◌, ◌≤◌, ◌+◌, ◌*◌, ◌^◌, [], ◌∷◌, ◌++◌, length, replicate, slice_index, IfOk, OnOk};
+ghost use Rattle.memory_spec.specs.Pages.{zero_page};
+ghost use Rattle.machine_spec.specs.Setup as setup;
+
+use std::alloc::{AllocError, Global};
+use std::sync::Arc;
+
+use bitflags::Flags;
+use page_map::{MappedPage, PageMap, Perm};
+use page_store::{Page, PageTable};
+
+/// How many pages the input and all stacks have, and the numbers of the first page of each range.
+const HEADER_PAGE: u32 = 0xC0000;
+const INPUT_PAGE: u32 = 0xC0001;
+const INPUT_PAGES: u32 = 256;
+const STACK_PAGE: u32 = 0xD0000;
+const STACK_PAGES: u32 = 512;
+
+/// The byte of the input at a place, or zero past its end.
+fn byte_at(input: &[u8], place: usize) -> u8
+    ensures { result ≡ slice_index input.now place }
+{
+    if place < input.len() { input[place] } else { 0 }
+}
+
+/// The page of the input of this number, zero past its end.
+fn input_page(input: &[u8], k: usize) -> [u8; 4096]
+    requires { k < 256 }
+    ensures { result ≡ setup.input_page input.now k }
+{
+    let mut page = [0; 4096];
+    let start = 4096 * k;
+    for offset in 0..4096 {
+        page[offset] = byte_at(input, start + offset);
+    }
+    page
+}
+
+/// The header page of an input of this length.
+#[tactic(auto, unfolding(machine_spec::specs::Setup::header_page))]
+fn header_page(input: &[u8]) -> [u8; 4096]
+    requires { length input.now < 2 ^ 32 }
+    ensures { result ≡ setup.header_page input.now }
+{
+    let [first, second, third, fourth] = (input.len() as u32).to_le_bytes();
+    let mut page = [0; 4096];
+    page[0] = first;
+    page[1] = second;
+    page[2] = third;
+    page[3] = fourth;
+    page
+}
+
+/// Puts data pages behind the others.
+fn push_data(pages: &mut Vec<MappedPage>, number: u32, count: u32) -> Result<(), AllocError>
+    requires { number + count < 2 ^ 32 }
+    ensures { OnOk result (pages.new.items ≡ pages.old.items ++ setup.data_pages number count) }
+{
+    for i in 0..count {
+        pages.push(MappedPage::new(number + i, Perm::from_bits_retain(6)))?;
+    }
+    Ok(())
+}
+
+/// All pages of a setup: the image's, the input's header and pages, and the stacks.
+#[tactic(auto, unfolding(machine_spec::specs::Setup::map_of))]
+pub fn pages_of(alloc: Global, image: &PageMap) -> Result<Vec<MappedPage>, AllocError>
+    ensures { IfOk result (λ pages. pages.items ≡ image.now ++ setup.data_pages 0xC0000 1 ++ setup.data_pages 0xC0001 256 ++ setup.data_pages 0xD0000 512) }
+{
+    let mut pages = image_pages(alloc, image)?;
+    push_data(&mut pages, HEADER_PAGE, 1)?;
+    push_data(&mut pages, INPUT_PAGE, INPUT_PAGES)?;
+    push_data(&mut pages, STACK_PAGE, STACK_PAGES)?;
+    Ok(pages)
+}
+
+/// The pages of an image.
+fn image_pages(alloc: Global, image: &PageMap) -> Result<Vec<MappedPage>, AllocError>
+    ensures { IfOk result (λ pages. pages.items ≡ image.now) }
+{
+    let mut pages = Vec::new(alloc);
+    for slot in 0..image.len() {
+        pages.push(image.page(slot))?;
+    }
+    Ok(pages)
+}
+
+/// The memory that a setup starts with: the image's pages, the input's header and pages, and zeros.
+pub fn memory_of(alloc: Global, image: &PageTable, input: &[u8]) -> Result<PageTable, AllocError>
+    requires { length input.now ≤ 1048576 }
+    ensures { IfOk result (λ table. table ≡ image.now ++ setup.header_page input.now ∷ [] ++ setup.input_memory input.now ++ setup.stack_memory) }
+{
+    let mut table = image.snapshot()?;
+    table.push(Page::new(header_page(input)))?;
+    push_input(&mut table, input)?;
+    push_stacks(alloc, &mut table)?;
+    Ok(table)
+}
+
+/// Puts the pages of the input behind the others.
+#[tactic(auto, unfolding(machine_spec::specs::Setup::input_memory))]
+fn push_input(table: &mut PageTable, input: &[u8]) -> Result<(), AllocError>
+    ensures { OnOk result (table.new ≡ table.old ++ setup.input_memory input.now) }
+{
+    for k in 0..256usize {
+        table.push(Page::new(input_page(input, k)))?;
+    }
+    Ok(())
+}
+
+/// Puts the pages of all stacks behind the others: one page of zeros, shared.
+#[tactic(auto, unfolding(machine_spec::specs::Setup::stack_memory))]
+fn push_stacks(alloc: Global, table: &mut PageTable) -> Result<(), AllocError>
+    ensures { OnOk result (table.new ≡ table.old ++ setup.stack_memory) }
+{
+    let zero = match Arc::new(alloc, Page::zero()) {
+        Ok(page) => page,
+        Err(_) => return Err(AllocError),
+    };
+    for _ in 0..512usize {
+        table.push_shared(&zero)?;
+    }
+    Ok(())
+}

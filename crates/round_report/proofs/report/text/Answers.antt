@@ -1,0 +1,57 @@
+use Rattle.std.proofs.Common.{◌≡◌, ℕ, List, [], ◌∷◌, ◌++◌, length, codes, decimal, sym, ap, ◌∙◌, append_assoc, refl}
+use Rattle.std.specs.List.{concat}
+use Rattle.report_spec.specs.Text.{newline, line, list_line}
+use Rattle.report_spec.specs.Report.{Told, ending_text, entry_text, reused_count, executed_count, memory_digest, report_lines, report_text}
+use Rattle.round_report.specs.Parts.{steps_part, work_part, outcome_part}
+use Rattle.round_report.proofs.report.text.Goals as goal
+
+-- ten lines and what stands behind them, cut into four
+cut :
+    (a b c d e f g h i j output end : List ℕ)
+    → concat (a ∷ b ∷ c ∷ d ∷ e ∷ f ∷ g ∷ h ∷ i ∷ j ∷ []) ++ output ++ end
+    ≡ a ++ (b ++ (c ++ d ++ e)) ++ (f ++ g ++ h) ++ (i ++ j ++ output ++ end)
+cut a b c d e f g h i j output end = simp append_assoc
+
+-- a report in its parts
+opened : (n : ℕ) (t : Told) → report_text n t ≡ concat (report_lines n t) ++ t.output ++ newline
+unfolding report_text
+opened n t = refl
+
+in_parts : (n : ℕ) (t : Told) → concat (report_lines n t) ++ t.output ++ newline ≡ line (codes "round") (decimal n) ++ steps_part t ++ work_part t ++ outcome_part t
+in_parts n t =
+    cut
+    (line (codes "round") (decimal n))
+    (line (codes "end") (ending_text t.ending))
+    (line (codes "steps") (decimal (length t.schedule)))
+    (line (codes "reused") (decimal (reused_count t.schedule)))
+    (line (codes "executed") (decimal (executed_count t.schedule)))
+    (line (codes "instructions") (decimal t.instructions))
+    (list_line (codes "by") decimal t.shares)
+    (list_line (codes "schedule") entry_text t.schedule)
+    (line (codes "memory") (memory_digest t.memory))
+    (line (codes "output") (decimal (length t.output)))
+    t.output
+    newline
+
+report_text_is : (n : ℕ) (t : Told) → report_text n t ≡ line (codes "round") (decimal n) ++ steps_part t ++ work_part t ++ outcome_part t
+report_text_is n t = opened n t ∙ in_parts n t
+
+-- four parts, appended in turn
+appended :
+    (a b c d : List ℕ)
+    → {start first second third last : List ℕ}
+    → start ≡ []
+    → first ≡ start ++ a
+    → second ≡ first ++ b
+    → third ≡ second ++ c
+    → last ≡ third ++ d
+    → last ≡ a ++ b ++ c ++ d
+appended a b c d e e1 e2 e3 e4 =
+    e4 ∙ ap (λ t. t ++ d) (e3 ∙ ap (λ t. t ++ c) (e2 ∙ ap (λ t. t ++ b) (e1 ∙ ap (λ t. t ++ a) e))) ∙ simp append_assoc
+
+pub returns : goal.returns
+returns c =
+    let t = c.args.told.now in
+    let round = rw c.from.ensures at c.in_ok-number_line.ensures in
+    appended (line (codes "round") (decimal c.args.number)) (steps_part t) (work_part t) (outcome_part t) c.new-text.ensures.items round c.in_ok-append_steps.ensures c.in_ok-append_work.ensures c.in_ok-append_outcome.ensures
+    ∙ sym (report_text_is c.args.number t)

@@ -1,0 +1,103 @@
+//! The lines of a report, each appended to a text.
+//!
+//! Where memory is wanting, a part of the line may stand there: the text is then thrown away.
+
+ghost use Rattle.std.specs.Prelude.{◌≡◌, [], ◌∷◌, ◌++◌, codes, OnOk, decimal};
+ghost use Rattle.report_spec.specs.Text.{space, line, list_line};
+ghost use Rattle.report_spec.specs.Report.{entry_text, reused_count, executed_count};
+ghost use Rattle.round_report.specs.Parts.{counts_part};
+
+use ith_text::decimal;
+use report_spec::Entry;
+use std::alloc::{AllocError, Global};
+
+/// Appends a line: a name, a space, and a text.
+pub fn text_line(name: &str, text: &[u8], into: &mut Vec<u8>) -> Result<(), AllocError>
+    ensures { OnOk result (into.new.items ≡ into.old.items ++ line name.now text.now) }
+{
+    into.extend_from_slice(name.as_bytes())?;
+    into.push(b' ')?;
+    into.extend_from_slice(text)?;
+    into.push(b'\n')?;
+    Ok(())
+}
+
+/// Appends a line: a name, a space, and a number in decimal.
+pub fn number_line(
+    alloc: Global,
+    name: &str,
+    number: u64,
+    into: &mut Vec<u8>,
+) -> Result<(), AllocError>
+    ensures { OnOk result (into.new.items ≡ into.old.items ++ line name.now (decimal number)) }
+{
+    into.extend_from_slice(name.as_bytes())?;
+    into.push(b' ')?;
+    decimal(alloc, number, into)?;
+    into.push(b'\n')?;
+    Ok(())
+}
+
+/// Appends the lines that count a schedule's entries: all of them, the reused, and the executed.
+pub fn count_lines(alloc: Global, schedule: &[Entry], into: &mut Vec<u8>) -> Result<(), AllocError>
+    ensures { OnOk result (into.new.items ≡ into.old.items ++ counts_part schedule.now) }
+{
+    number_line(alloc, "steps", schedule.len() as u64, into)?;
+    number_line(alloc, "reused", reused_entries(schedule) as u64, into)?;
+    number_line(alloc, "executed", executed_entries(schedule) as u64, into)?;
+    Ok(())
+}
+
+/// How many entries were reused.
+fn reused_entries(schedule: &[Entry]) -> usize
+    ensures { result ≡ reused_count schedule.now }
+{
+    schedule.iter().filter(|entry| entry.reused).count()
+}
+
+/// How many entries were executed.
+fn executed_entries(schedule: &[Entry]) -> usize
+    ensures { result ≡ executed_count schedule.now }
+{
+    schedule.iter().filter(|entry| !entry.reused).count()
+}
+
+/// Appends the line of the workers' shares: each of them after a space.
+pub fn shares_line(alloc: Global, shares: &[u64], into: &mut Vec<u8>) -> Result<(), AllocError>
+    ensures { OnOk result (into.new.items ≡ into.old.items ++ list_line (codes "by") decimal shares.now) }
+{
+    ith_text::list(alloc, "by", shares, into)
+}
+
+/// Appends the line of a schedule: each entry's thread and mark after a space.
+pub fn schedule_line(
+    alloc: Global,
+    schedule: &[Entry],
+    into: &mut Vec<u8>,
+) -> Result<(), AllocError>
+    ensures { OnOk result (into.new.items ≡ into.old.items ++ list_line (codes "schedule") entry_text schedule.now) }
+{
+    into.extend_from_slice(b"schedule")?;
+    for entry in schedule {
+        append_entry(alloc, *entry, into)?;
+    }
+    into.push(b'\n')?;
+    Ok(())
+}
+
+/// Appends a space, and an entry's thread and mark.
+fn append_entry(alloc: Global, entry: Entry, into: &mut Vec<u8>) -> Result<(), AllocError>
+    ensures { OnOk result (into.new.items ≡ into.old.items ++ space ++ entry_text entry) }
+{
+    into.push(b' ')?;
+    decimal(alloc, u64::from(entry.thread), into)?;
+    into.push(mark(entry))?;
+    Ok(())
+}
+
+/// An entry's mark.
+fn mark(entry: Entry) -> u8
+    ensures { entry_text entry ≡ decimal entry.thread ++ result ∷ [] }
+{
+    if entry.reused { b'=' } else { b'+' }
+}

@@ -1,0 +1,55 @@
+//! The whole report.
+
+ghost use Rattle.std.specs.Prelude.{◌≡◌, ◌++◌, IfOk, OnOk};
+ghost use Rattle.report_spec.specs.Report.{report_text};
+ghost use Rattle.round_report.specs.Parts.{steps_part, work_part, outcome_part};
+
+use super::digest::memory_line;
+use super::ending::end_line;
+use super::lines::{count_lines, number_line, schedule_line, shares_line};
+use super::told::Told;
+use std::alloc::{AllocError, Global};
+
+/// The report of a round of this number: its lines, the output's bytes, and a line's end.
+///
+/// # Errors
+///
+/// An error where the host's memory ran out.
+pub fn text(alloc: Global, number: u32, told: &Told<'_>) -> Result<Vec<u8>, AllocError>
+    ensures { IfOk result (λ text. text.items ≡ report_text number told.now) }
+{
+    let mut text = Vec::new(alloc);
+    number_line(alloc, "round", u64::from(number), &mut text)?;
+    append_steps(alloc, told, &mut text)?;
+    append_work(alloc, told, &mut text)?;
+    append_outcome(alloc, told, &mut text)?;
+    Ok(text)
+}
+
+/// Appends the end, and how many steps there were.
+fn append_steps(alloc: Global, told: &Told<'_>, into: &mut Vec<u8>) -> Result<(), AllocError>
+    ensures { OnOk result (into.new.items ≡ into.old.items ++ steps_part told.now) }
+{
+    end_line(alloc, told.ending, into)?;
+    count_lines(alloc, told.schedule, into)
+}
+
+/// Appends the instructions, the shares and the schedule.
+fn append_work(alloc: Global, told: &Told<'_>, into: &mut Vec<u8>) -> Result<(), AllocError>
+    ensures { OnOk result (into.new.items ≡ into.old.items ++ work_part told.now) }
+{
+    number_line(alloc, "instructions", told.instructions, into)?;
+    shares_line(alloc, told.shares, into)?;
+    schedule_line(alloc, told.schedule, into)
+}
+
+/// Appends the memory's digest, the output's length, its bytes, and a line's end.
+fn append_outcome(alloc: Global, told: &Told<'_>, into: &mut Vec<u8>) -> Result<(), AllocError>
+    ensures { OnOk result (into.new.items ≡ into.old.items ++ outcome_part told.now) }
+{
+    memory_line(alloc, told.memory, into)?;
+    number_line(alloc, "output", told.output.len() as u64, into)?;
+    into.extend_from_slice(told.output)?;
+    into.push(b'\n')?;
+    Ok(())
+}

@@ -1,0 +1,38 @@
+//! What a report tells.
+
+use machine_spec::End;
+use page_store::PageTable;
+use report_spec::Entry;
+use std::marker::Model;
+
+/// What a report tells of a round. It borrows all that is long.
+#[derive(Drop)]
+pub struct Told<'a> {
+    /// How the round ended.
+    pub ending: Option<End>,
+    /// The round's steps in order, each with its mark.
+    pub schedule: &'a [Entry],
+    /// How many instructions the executed steps made.
+    pub instructions: u64,
+    /// How many steps each worker made, in the workers' order.
+    pub shares: &'a [u64],
+    /// Shared memory after the last step.
+    pub memory: &'a PageTable,
+    /// All bytes that the guest put out.
+    pub output: &'a [u8],
+}
+
+impl<'a> Model for Told<'a> {
+    ghost use Rattle.report_spec.specs.Report.{Told as told};
+
+    ghost Value = { told };
+
+    ghost view = { λ t. record {
+      ending = t.ending;
+      schedule = t.schedule.now;
+      instructions = t.instructions;
+      shares = t.shares.now;
+      memory = t.memory.now;
+      output = t.output.now;
+    } };
+}
