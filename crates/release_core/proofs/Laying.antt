@@ -30,10 +30,10 @@ pub done-parts :
     (m : Machine) (t : ℕ) (a : Asked)
     → done_as_asked m t a
     ≡ record m {
-        harts = harts_after m.frame.map m.objects m.memory t m.harts a;
-        objects = objects_after m.frame.map m.objects t a;
-        ending = ending_after m.frame.map m.objects m.memory t m.harts m.limit m.steps a
-      }
+      harts = harts_after m.frame.map m.objects m.memory t m.harts a;
+      objects = objects_after m.frame.map m.objects t a;
+      ending = ending_after m.frame.map m.objects m.memory t m.harts m.limit m.steps a;
+    }
 done-parts m t (Asks call) = refl
 done-parts m t (Stops e) = refl
 
@@ -54,7 +54,7 @@ unfolding lay finished
 laid-parts m r memory written_harts done objects put output steps ending a is_memory is_written is_asked is_put is_output is_steps is_done is_objects is_ending =
     rw (is_done, is_objects, is_ending, is_output, is_put, is_steps, is_written, is_asked, is_memory)
     (sym (done-parts (written m r.thread (masked m.memory r.kept.delta) r.kept.finish (put_of m.frame.map (hart_of m r.thread).view r.kept)) r.thread
-          (asked r.thread r.kept.end r.kept.finish)))
+    (asked r.thread r.kept.end r.kept.finish)))
 
 pub kept_count : (f : Frame) (view : Memory) (r : Registers) → (kept_thunk f view r).count ≡ (thunk f view r).count
 unfolding kept_thunk
@@ -132,7 +132,7 @@ unfolding fits fits_at
 own_fits m r ready number start kept =
     let first : eqb r.number (hart_of m r.thread).number ≡ true = eq-eqb r.number (hart_of m r.thread).number number in
     let second : same_registers r.start (hart_of m r.thread).regs ≡ true =
-            rw start (own-registers (hart_of m r.thread).regs) in
+    rw start (own-registers (hart_of m r.thread).regs) in
     let third : has (hart_of m r.thread).view r.kept.reads ≡ true =
-            rw kept (has-kept m.frame (hart_of m r.thread).view (hart_of m r.thread).regs) in
+    rw kept (has-kept m.frame (hart_of m r.thread).view (hart_of m r.thread).regs) in
     rw (ready, first, second, third) refl

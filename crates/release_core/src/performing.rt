@@ -9,17 +9,15 @@ ghost use Rattle.machine_spec.specs.Machine.{hart_in};
 ghost use Rattle.guest_call.specs.Objects.{created_count};
 ghost use Rattle.release_core.specs.Views.{AreViewsOf};
 
-use std::alloc::{AllocError, Global};
-use std::sync::Arc;
-
+use super::hart::Hart;
 use call_effect::Effect;
 use guest_call::Fate;
 use machine_spec::Status;
 use page_store::PageTable;
 use rv_alu::Regs;
+use std::alloc::{AllocError, Global};
+use std::sync::Arc;
 use wait_queue::Queue;
-
-use super::hart::Hart;
 
 /// The view of thread `t`.
 pub fn view_at(harts: &[Hart], t: u8) -> &PageTable
@@ -46,7 +44,11 @@ pub fn write_back(harts: &mut Vec<Hart>, t: u8, regs: Regs)
 pub const MOST_VIEWS: usize = 34;
 
 /// So many views of a memory.
-pub fn views_of(alloc: Global, memory: &Arc<PageTable>, count: usize) -> Result<Vec<Arc<PageTable>>, AllocError>
+pub fn views_of(
+    alloc: Global,
+    memory: &Arc<PageTable>,
+    count: usize,
+) -> Result<Vec<Arc<PageTable>>, AllocError>
     ensures views { IfOk result (λ views. AreViewsOf (arc_value memory.now) views.items) }
     ensures count { IfOk result (λ views. vec_len views ≡ count) }
 {
@@ -91,7 +93,13 @@ fn meet_fate(hart: &mut Hart, memory: &Arc<PageTable>, views: &mut Vec<Arc<PageT
 }
 
 /// The calls of waiting threads return with 0, and each is told something or nothing.
-fn wake(harts: &mut [Hart], memory: &Arc<PageTable>, views: &mut Vec<Arc<PageTable>>, threads: &Queue, told: Option<u32>)
+fn wake(
+    harts: &mut [Hart],
+    memory: &Arc<PageTable>,
+    views: &mut Vec<Arc<PageTable>>,
+    threads: &Queue,
+    told: Option<u32>,
+)
     requires enough { length threads.now ≤ vec_len views.old }
     requires views { AreViewsOf (arc_value memory.now) views.old.items }
     ensures harts { harts.new ≡ woken (arc_value memory.now) told threads.now harts.old }
@@ -109,7 +117,12 @@ fn wake(harts: &mut [Hart], memory: &Arc<PageTable>, views: &mut Vec<Arc<PageTab
 }
 
 /// A thread begins, where one is created: it has the least number that is unused.
-fn begin(harts: &mut Vec<Hart>, memory: &Arc<PageTable>, views: &mut Vec<Arc<PageTable>>, created: Option<(u32, u32)>)
+fn begin(
+    harts: &mut Vec<Hart>,
+    memory: &Arc<PageTable>,
+    views: &mut Vec<Arc<PageTable>>,
+    created: Option<(u32, u32)>,
+)
     requires few { length harts.old.items + created_count created ≤ 32 }
     requires room { vec_len harts.old < vec_capacity harts.old }
     requires some { 0 < vec_len views.old }
@@ -127,7 +140,13 @@ fn begin(harts: &mut Vec<Hart>, memory: &Arc<PageTable>, views: &mut Vec<Arc<Pag
 }
 
 /// Performs the effect of a call of thread `t`: the caller's fate, then the woken, then the created.
-pub fn settle(harts: &mut Vec<Hart>, memory: &Arc<PageTable>, views: &mut Vec<Arc<PageTable>>, t: u8, effect: &Effect)
+pub fn settle(
+    harts: &mut Vec<Hart>,
+    memory: &Arc<PageTable>,
+    views: &mut Vec<Arc<PageTable>>,
+    t: u8,
+    effect: &Effect,
+)
     requires exists { t < length harts.old.items }
     requires few { length harts.old.items + created_count effect.now.created ≤ 32 }
     requires room { vec_len harts.old < vec_capacity harts.old }
@@ -137,6 +156,12 @@ pub fn settle(harts: &mut Vec<Hart>, memory: &Arc<PageTable>, views: &mut Vec<Ar
 {
     let hart = &mut harts[usize::from(t)];
     meet_fate(hart, memory, views, effect.fate());
-    wake(harts.as_mut_slice(), memory, views, effect.woken(), effect.told());
+    wake(
+        harts.as_mut_slice(),
+        memory,
+        views,
+        effect.woken(),
+        effect.told(),
+    );
     begin(harts, memory, views, effect.created());
 }

@@ -26,39 +26,39 @@ before c =
       objects = c.self.inside.objects;
       output = c.self.inside.output.items;
       steps = c.self.inside.steps;
-      ending = c.self.inside.ending
+      ending = c.self.inside.ending;
     }
 
 -- the machine after is the machine before with the record laid
 laid :
     (c : goal.After-drop-put-2)
     → record {
-        frame = arc_value c.self.inside.frame;
-        limit = c.self.inside.limit;
-        memory = arc_value c.in_ok-memory.field-0.memory;
-        harts = c.do_as_asked-self-inside.new.harts.items;
-        objects = c.do_as_asked-self-inside.new.objects;
-        output = c.extend_from_slice.new.self.items;
-        steps = c.self.inside.steps + 1;
-        ending = c.do_as_asked-self-inside.result
-      }
+      frame = arc_value c.self.inside.frame;
+      limit = c.self.inside.limit;
+      memory = arc_value c.in_ok-memory.field-0.memory;
+      harts = c.do_as_asked-self-inside.new.harts.items;
+      objects = c.do_as_asked-self-inside.new.objects;
+      output = c.extend_from_slice.new.self.items;
+      steps = c.self.inside.steps + 1;
+      ending = c.do_as_asked-self-inside.result;
+    }
     ≡ step.lay (before c) c.args.rec.now
 laid c =
     let r : Record = c.args.rec.now in
     let m : Machine = before c in
     let is_memory : arc_value c.in_ok-memory.field-0.memory ≡ masked (arc_value c.self.inside.memory) c.args.rec.now.kept.delta = grind (arith, common_steps, c.in_ok-memory.ensures.memory, c.in_ok-memory.memory-is, c.deref-2.ensures, c.deref.ensures) in
     let is_written :
-        c.write_back.new.harts.items
-        ≡ slice_set c.self.inside.harts.items c.args.rec.now.thread
-          (record { view = (hart_of (before c) c.args.rec.now.thread).view; regs = c.args.rec.now.kept.finish; number = suc (hart_of (before c) c.args.rec.now.thread).number; status = (hart_of (before c) c.args.rec.now.thread).status }) = grind (arith, common_steps, c.write_back.ensures.harts, c.in_ok-reserve.ensures.items, c.thread-t.ensures, c.finish.ensures) in
+    c.write_back.new.harts.items
+    ≡ slice_set c.self.inside.harts.items c.args.rec.now.thread
+    (record { view = (hart_of (before c) c.args.rec.now.thread).view; regs = c.args.rec.now.kept.finish; number = suc (hart_of (before c) c.args.rec.now.thread).number; status = (hart_of (before c) c.args.rec.now.thread).status }) = grind (arith, common_steps, c.write_back.ensures.harts, c.in_ok-reserve.ensures.items, c.thread-t.ensures, c.finish.ensures) in
     let is_asked : c.asked.result ≡ step.asked c.args.rec.now.thread c.args.rec.now.kept.end c.args.rec.now.kept.finish = grind (arith, common_steps, c.asked.ensures, c.thread-t.ensures, c.end.ensures, c.finish-2.ensures) in
     let map_is : c.map.result.now ≡ (arc_value c.self.inside.frame).map = grind (arith, c.map.ensures, c.deref.ensures) in
     let view_is : c.view_at-view.result.now ≡ (hart_of (before c) c.args.rec.now.thread).view =
-            grind (arith, c.view_at-view.ensures, c.as_slice.ensures.value, c.thread-t.ensures) in
+    grind (arith, c.view_at-view.ensures, c.as_slice.ensures.value, c.thread-t.ensures) in
     let is_put : c.in_ok-memory.field-0.put.items ≡ put_of (arc_value c.self.inside.frame).map (hart_of (before c) c.args.rec.now.thread).view c.args.rec.now.kept =
-            c.in_ok-memory.ensures.put
-            ∙ ap (λ pages. put_of pages c.view_at-view.result.now c.args.rec.now.kept) map_is
-            ∙ ap (λ view. put_of (arc_value c.self.inside.frame).map view c.args.rec.now.kept) view_is in
+    c.in_ok-memory.ensures.put
+    ∙ ap (λ pages. put_of pages c.view_at-view.result.now c.args.rec.now.kept) map_is
+    ∙ ap (λ view. put_of (arc_value c.self.inside.frame).map view c.args.rec.now.kept) view_is in
     let is_output : c.extend_from_slice.new.self.items ≡ c.self.inside.output.items ++ c.in_ok-memory.field-0.put.items = grind (arith, common_steps, c.in_ok-extend_from_slice.ensures.items, c.as_slice-2.ensures.value, c.in_ok-memory.put-is) in
     let is_steps : c.self.inside.steps + 1 ≡ suc c.self.inside.steps = omega arith in
     let is_done : c.do_as_asked-self-inside.new.harts.items ≡ harts_after (arc_value c.self.inside.frame).map c.self.inside.objects (arc_value c.in_ok-memory.field-0.memory) c.args.rec.now.thread c.write_back.new.harts.items c.asked.result = grind (arith, common_steps, c.do_as_asked-self-inside.ensures.harts, c.deref-3.ensures, c.map-2.ensures, c.in_ok-memory.memory-is, c.thread-t.ensures) in
@@ -79,7 +79,7 @@ pub invariant_of-self-2 : goal.invariant_of-self-2
 invariant_of-self-2 c =
     subst IsWhole (sym (laid c))
     (lay-whole (before c) c.args.rec.now c.self.invariant
-     (subst (λ (m : Machine). step.can_step m c.args.rec.now.thread ≡ true) (sym c.self.view_is) c.requires))
+    (subst (λ (m : Machine). step.can_step m c.args.rec.now.thread ≡ true) (sym c.self.view_is) c.requires))
 
 pub returns-clause-ok : goal.returns-clause-ok
 returns-clause-ok c = laid c ∙ ap (λ (x : Machine). step.lay x c.args.rec.now) c.self.view_is
