@@ -31,7 +31,7 @@ by_status line before after answer status.Unfinished is ends smooth = inr (inl i
 by_status line before after answer status.Words is ends smooth = absurd ends
 by_status line before after answer status.Image is ends smooth =
     let same : smooth.contents.elf ≡ ends.contents.elf =
-            content-told (before.files line.elf) smooth.contents.elf ends.contents.elf smooth.elf ends.read.elf in
+    content-told (before.files line.elf) smooth.contents.elf ends.contents.elf smooth.elf ends.read.elf in
     let taken : is_image smooth.contents.elf ≡ true = smooth.read.accepted in
     let refused : is_image smooth.contents.elf ≡ false = ap is_image same ∙ ends.refused in
     absurd (cc)
@@ -41,11 +41,14 @@ by_status line before after answer status.WriteFault is ends smooth = absurd (sm
 by_status line before after answer status.Memory is ends smooth = inr (inr is)
 by_status line before after answer status.TooLarge is ends smooth =
     absurd
-    (none_of_one (IsLong before) (files_named line)
-     ( short-told (before.files line.elf) smooth.contents.elf elf_most smooth.elf smooth.read.contents.elf_within
-     , ( short-told (before.files line.input) smooth.contents.input input_most smooth.input smooth.read.contents.input_within
-       , tt))
-     ends.cause)
+    (none_of_one (IsLong before) (files_named line) (
+      short-told (before.files line.elf) smooth.contents.elf elf_most smooth.elf smooth.read.contents.elf_within,
+      (
+        short-told (before.files line.input) smooth.contents.input input_most smooth.input smooth.read.contents.input_within,
+        tt,
+      ),
+    )
+    ends.cause)
 
 pub complete : (line : Option Line) (before after : World) (answer : ℕ) → Answers line before after answer → Completes line before after answer
 complete None before after answer answers = tt

@@ -33,7 +33,7 @@ least-any : (n : ℕ) (ns : List ℕ) (l : ℕ) → l ≡ least (n ∷ ns) → l
 least-any n [] l is = let same : eqb n l ≡ true = eq-eqb n l (sym is) in rw same refl
 least-any n (other ∷ rest) l is =
     elim (cases_lt n (least (other ∷ rest))) [
-        inl below ↦ let same : eqb n l ≡ true = eq-eqb n l (omega arith) in rw same refl
+      | inl below ↦ let same : eqb n l ≡ true = eq-eqb n l (omega arith) in rw same refl
       | inr above ↦ or-right (eqb n l) (list_any (λ k. eqb k l) (other ∷ rest)) (least-any other rest l (omega arith))
     ]
   where
@@ -51,10 +51,9 @@ any-number n [] any = any
 any-number n (h ∷ hs) any =
     elim (is_ready h.status)
     as (λ b.
-        list_any (λ k. eqb k n) (map (λ (x : Hart). x.number) (cond b (h ∷ filter (λ (x : Hart). is_ready x.status) hs) (filter (λ (x : Hart). is_ready x.status) hs))) ≡ true
-        → ((b && eqb h.number n) || list_any (is_ready_at n) hs) ≡ true)
-    [
-        true ↦ or-here (eqb h.number n) (list_any (λ k. eqb k n) (ready_numbers hs)) (list_any (is_ready_at n) hs) (any-number n hs)
+    list_any (λ k. eqb k n) (map (λ (x : Hart). x.number) (cond b (h ∷ filter (λ (x : Hart). is_ready x.status) hs) (filter (λ (x : Hart). is_ready x.status) hs))) ≡ true
+    → ((b && eqb h.number n) || list_any (is_ready_at n) hs) ≡ true) [
+      | true ↦ or-here (eqb h.number n) (list_any (λ k. eqb k n) (ready_numbers hs)) (list_any (is_ready_at n) hs) (any-number n hs)
       | false ↦ any-number n hs
     ]
     any
@@ -64,10 +63,10 @@ some-number [] any = cc
 some-number (h ∷ hs) any =
     elim (is_ready h.status)
     as (λ b.
-        (b || list_any (λ (x : Hart). is_ready x.status) hs) ≡ true
-        → list_any (λ k. eqb k (least (map (λ (x : Hart). x.number) (cond b (h ∷ filter (λ (x : Hart). is_ready x.status) hs) (filter (λ (x : Hart). is_ready x.status) hs)))))
-          (map (λ (x : Hart). x.number) (cond b (h ∷ filter (λ (x : Hart). is_ready x.status) hs) (filter (λ (x : Hart). is_ready x.status) hs)))
-        ≡ true)
+    (b || list_any (λ (x : Hart). is_ready x.status) hs) ≡ true
+    → list_any (λ k. eqb k (least (map (λ (x : Hart). x.number) (cond b (h ∷ filter (λ (x : Hart). is_ready x.status) hs) (filter (λ (x : Hart). is_ready x.status) hs)))))
+    (map (λ (x : Hart). x.number) (cond b (h ∷ filter (λ (x : Hart). is_ready x.status) hs) (filter (λ (x : Hart). is_ready x.status) hs)))
+    ≡ true)
     [ true ↦ λ given. least-any h.number (ready_numbers hs) (least (h.number ∷ ready_numbers hs)) refl | false ↦ some-number hs ]
     any
 
@@ -76,8 +75,8 @@ pub choice-some : (m : Machine) → list_any (λ (h : Hart). is_ready h.status) 
 unfolding choice
 choice-some m any =
     let there : position_or_len (is_ready_at (least (ready_numbers m.harts))) m.harts < length m.harts =
-            any-position (is_ready_at (least (ready_numbers m.harts))) m.harts
-            (any-number (least (ready_numbers m.harts)) m.harts (some-number m.harts any)) in
+    any-position (is_ready_at (least (ready_numbers m.harts))) m.harts
+    (any-number (least (ready_numbers m.harts)) m.harts (some-number m.harts any)) in
     let is : ltb (position_or_len (is_ready_at (least (ready_numbers m.harts))) m.harts) (length m.harts) ≡ true = grind (arith, nat_tests) in
     rw is refl
 
@@ -150,9 +149,9 @@ run-alone_from zero m whole enough =
 run-alone_from (suc n) m whole enough =
     run-first m m.ending (choice m) (λ t. alone_from n (step m t)) refl refl whole
     (λ t can.
-     let limit = step-limit m t in
-     let steps = step-steps m t in
-     run-alone_from n (step m t) (step-whole m t whole can) (omega arith))
+    let limit = step-limit m t in
+    let steps = step-steps m t in
+    run-alone_from n (step m t) (step-whole m t whole can) (omega arith))
 
 first-limit : (s : Setup) → (first s).limit ≤ (first s).steps + s.limit
 unfolding first

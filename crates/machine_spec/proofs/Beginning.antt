@@ -68,19 +68,19 @@ IsMemory-start s =
     let image = IsMemory-image s.elf in
     record {
       count =
-        let header = length-data_pages 0xC0000 1 in
-        let input = length-data_pages 0xC0001 256 in
-        let stacks = length-data_pages 0xD0000 512 in
-        let input_bytes = length-input_memory s.input in
-        let stack_bytes = length-stack_memory in
-        simp length-append (omega (arith, image.count));
+          let header = length-data_pages 0xC0000 1 in
+          let input = length-data_pages 0xC0001 256 in
+          let stacks = length-data_pages 0xD0000 512 in
+          let input_bytes = length-input_memory s.input in
+          let stack_bytes = length-stack_memory in
+          simp length-append (omega (arith, image.count));
       pages =
-        All-append IsPage (image_memory s.elf ++ header_page s.input ∷ [] ++ input_memory s.input) stack_memory
-        (All-append IsPage (image_memory s.elf ++ header_page s.input ∷ []) (input_memory s.input)
-         (All-append IsPage (image_memory s.elf) (header_page s.input ∷ []) image.pages
+          All-append IsPage (image_memory s.elf ++ header_page s.input ∷ [] ++ input_memory s.input) stack_memory
+          (All-append IsPage (image_memory s.elf ++ header_page s.input ∷ []) (input_memory s.input)
+          (All-append IsPage (image_memory s.elf) (header_page s.input ∷ []) image.pages
           (All-cons IsPage (header_page s.input) [] (length-header_page s.input) (All-nil IsPage)))
-         (pages-input_memory s.input))
-        pages-stack_memory
+          (pages-input_memory s.input))
+          pages-stack_memory;
     }
 
 -- at the opening nobody waits and nobody has ended
@@ -90,13 +90,13 @@ IsTied-opening h ready =
       threads = refl;
       kept = opening_kept;
       blocked = elim [
-          zero ↦ opening_waits 0 ∙ ap blocked_count (sym ready)
+        | zero ↦ opening_waits 0 ∙ ap blocked_count (sym ready)
         | suc u ↦ opening_waits (suc u)
       ];
       ended = elim [
-          zero ↦ λ below. ap ended_value (sym ready)
+        | zero ↦ λ below. ap ended_value (sym ready)
         | suc u ↦ λ below. absurd (omega arith)
-      ]
+      ];
     }
 
 -- the first machine of a setup is whole
@@ -111,7 +111,7 @@ IsWhole-first s sound =
       most_steps = sound.most_steps;
       few_steps = omega arith;
       some_ready = λ none. refl;
-      steps_left = λ none. let some = sound.some_steps in omega arith
+      steps_left = λ none. let some = sound.some_steps in omega arith;
     }
 
 -- the map ascends
@@ -178,15 +178,15 @@ ascends-map_of s sound =
     let image = image_pages s.elf in
     let image_most = at_most-image s.elf sound.elf_accepted in
     let header_most : AllAtMost 0xC0000 (image_pages s.elf ++ data_pages 0xC0000 1) =
-            at_most-append 0xC0000 (image_pages s.elf) (data_pages 0xC0000 1)
-            (at_most-weaker 0xBFFFF 0xC0000 (image_pages s.elf) (omega arith) image_most) (at_most-data_pages 0xC0000 1 0xC0000 (omega arith)) in
+    at_most-append 0xC0000 (image_pages s.elf) (data_pages 0xC0000 1)
+    (at_most-weaker 0xBFFFF 0xC0000 (image_pages s.elf) (omega arith) image_most) (at_most-data_pages 0xC0000 1 0xC0000 (omega arith)) in
     let input_most : AllAtMost 0xC0100 (image_pages s.elf ++ data_pages 0xC0000 1 ++ data_pages 0xC0001 256) =
-            at_most-append 0xC0100 (image_pages s.elf ++ data_pages 0xC0000 1) (data_pages 0xC0001 256)
-            (at_most-weaker 0xC0000 0xC0100 (image_pages s.elf ++ data_pages 0xC0000 1) (omega arith) header_most)
-            (at_most-data_pages 0xC0001 256 0xC0100 (omega arith)) in
+    at_most-append 0xC0100 (image_pages s.elf ++ data_pages 0xC0000 1) (data_pages 0xC0001 256)
+    (at_most-weaker 0xC0000 0xC0100 (image_pages s.elf ++ data_pages 0xC0000 1) (omega arith) header_most)
+    (at_most-data_pages 0xC0001 256 0xC0100 (omega arith)) in
     ascends-append 0 0xC0100 (image_pages s.elf ++ data_pages 0xC0000 1 ++ data_pages 0xC0001 256) (data_pages 0xD0000 512)
     (ascends-append 0 0xC0000 (image_pages s.elf ++ data_pages 0xC0000 1) (data_pages 0xC0001 256)
-     (ascends-append 0 0xBFFFF (image_pages s.elf) (data_pages 0xC0000 1)
-      (image_ascends s.elf sound.elf_accepted) image_most (omega arith) (ascends-data_pages 0xC0000 1 0xBFFFF (omega arith)))
-     header_most (omega arith) (ascends-data_pages 0xC0001 256 0xC0000 (omega arith)))
+    (ascends-append 0 0xBFFFF (image_pages s.elf) (data_pages 0xC0000 1)
+    (image_ascends s.elf sound.elf_accepted) image_most (omega arith) (ascends-data_pages 0xC0000 1 0xBFFFF (omega arith)))
+    header_most (omega arith) (ascends-data_pages 0xC0001 256 0xC0000 (omega arith)))
     input_most (omega arith) (ascends-data_pages 0xD0000 512 0xC0100 (omega arith))

@@ -44,14 +44,14 @@ hart_in-past hs u past = get_or_past hs u nobody past
 pub ready-below : (hs : List Hart) (u : ℕ) → is_ready (hart_in hs u).status ≡ true → u < length hs
 ready-below hs u h =
     elim (cases_lt u (length hs)) [
-        inl below ↦ below
+      | inl below ↦ below
       | inr past ↦ absurd (let none : hart_in hs u ≡ nobody = hart_in-past hs u past in let impossible = rw none at h in cc)
     ]
 
 blocked-below : (hs : List Hart) (u : ℕ) → blocked_count (hart_in hs u).status ≡ 1 → u < length hs
 blocked-below hs u h =
     elim (cases_lt u (length hs)) [
-        inl below ↦ below
+      | inl below ↦ below
       | inr past ↦ absurd (let none : hart_in hs u ≡ nobody = hart_in-past hs u past in let impossible = rw none at h in omega arith)
     ]
 
@@ -79,11 +79,11 @@ pub woken-stays :
 woken-stays memory told [] hs u none = refl
 woken-stays memory told (v ∷ us) hs u none =
     elim (cases_eq v u) [
-        inl same ↦ absurd (let one : eqb v u ≡ true = eq-eqb v u same in let all = rw (places-cons u v us, one) at none in omega arith)
+      | inl same ↦ absurd (let one : eqb v u ≡ true = eq-eqb v u same in let all = rw (places-cons u v us, one) at none in omega arith)
       | inr other ↦
-        woken-stays memory told us (set hs v (returned memory 0 told (hart_in hs v))) u
-        (let all : tally (eqb v u) + places u us ≡ 0 = sym (places-cons u v us) ∙ none in omega arith)
-        ∙ get_or-set_other hs v u (returned memory 0 told (hart_in hs v)) nobody (λ e. other (sym e))
+          woken-stays memory told us (set hs v (returned memory 0 told (hart_in hs v))) u
+          (let all : tally (eqb v u) + places u us ≡ 0 = sym (places-cons u v us) ∙ none in omega arith)
+          ∙ get_or-set_other hs v u (returned memory 0 told (hart_in hs v)) nobody (λ e. other (sym e))
     ]
 
 -- who is woken was blocked, and is blocked no more
@@ -94,32 +94,32 @@ pub woken-blocked :
 woken-blocked memory told [] hs u h = let none : places u [] ≡ 0 = places-nil u in omega arith
 woken-blocked memory told (v ∷ us) hs u h =
     elim (cases_eq v u) [
-        inl same ↦
-        let one : eqb v u ≡ true = eq-eqb v u same in
-        let all : places u (v ∷ us) ≡ 1 + places u us = places-cons u v us ∙ ap (λ b. tally b + places u us) one in
-        let most : blocked_count (hart_in hs u).status ≤ 1 = blocked_count-le (hart_in hs u).status in
-        let below : u < length hs = blocked-below hs u (omega arith) in
-        let here : hart_in (set hs v (returned memory 0 told (hart_in hs v))) u ≡ returned memory 0 told (hart_in hs v) =
-                rw (← same) (get_or-set_same hs v (returned memory 0 told (hart_in hs v)) nobody (rw same below)) in
-        let now_ready : blocked_count (hart_in (set hs v (returned memory 0 told (hart_in hs v))) u).status ≡ 0 =
-                ap (λ (x : Hart). blocked_count x.status) here in
-        let rest :
-            blocked_count (hart_in (woken memory told us (set hs v (returned memory 0 told (hart_in hs v)))) u).status + places u us
-            ≡ blocked_count (hart_in (set hs v (returned memory 0 told (hart_in hs v))) u).status =
-                woken-blocked memory told us (set hs v (returned memory 0 told (hart_in hs v))) u (omega arith) in
-        omega arith
+      | inl same ↦
+          let one : eqb v u ≡ true = eq-eqb v u same in
+          let all : places u (v ∷ us) ≡ 1 + places u us = places-cons u v us ∙ ap (λ b. tally b + places u us) one in
+          let most : blocked_count (hart_in hs u).status ≤ 1 = blocked_count-le (hart_in hs u).status in
+          let below : u < length hs = blocked-below hs u (omega arith) in
+          let here : hart_in (set hs v (returned memory 0 told (hart_in hs v))) u ≡ returned memory 0 told (hart_in hs v) =
+          rw (← same) (get_or-set_same hs v (returned memory 0 told (hart_in hs v)) nobody (rw same below)) in
+          let now_ready : blocked_count (hart_in (set hs v (returned memory 0 told (hart_in hs v))) u).status ≡ 0 =
+          ap (λ (x : Hart). blocked_count x.status) here in
+          let rest :
+          blocked_count (hart_in (woken memory told us (set hs v (returned memory 0 told (hart_in hs v)))) u).status + places u us
+          ≡ blocked_count (hart_in (set hs v (returned memory 0 told (hart_in hs v))) u).status =
+          woken-blocked memory told us (set hs v (returned memory 0 told (hart_in hs v))) u (omega arith) in
+          omega arith
       | inr other ↦
-        let none : eqb v u ≡ false = grind (arith, nat_tests) in
-        let all : places u (v ∷ us) ≡ places u us = places-cons u v us ∙ ap (λ b. tally b + places u us) none ∙ omega arith in
-        let stays : hart_in (set hs v (returned memory 0 told (hart_in hs v))) u ≡ hart_in hs u =
-                get_or-set_other hs v u (returned memory 0 told (hart_in hs v)) nobody (λ e. other (sym e)) in
-        let same : blocked_count (hart_in (set hs v (returned memory 0 told (hart_in hs v))) u).status ≡ blocked_count (hart_in hs u).status =
-                ap (λ (x : Hart). blocked_count x.status) stays in
-        let rest :
-            blocked_count (hart_in (woken memory told us (set hs v (returned memory 0 told (hart_in hs v)))) u).status + places u us
-            ≡ blocked_count (hart_in (set hs v (returned memory 0 told (hart_in hs v))) u).status =
-                woken-blocked memory told us (set hs v (returned memory 0 told (hart_in hs v))) u (omega arith) in
-        omega arith
+          let none : eqb v u ≡ false = grind (arith, nat_tests) in
+          let all : places u (v ∷ us) ≡ places u us = places-cons u v us ∙ ap (λ b. tally b + places u us) none ∙ omega arith in
+          let stays : hart_in (set hs v (returned memory 0 told (hart_in hs v))) u ≡ hart_in hs u =
+          get_or-set_other hs v u (returned memory 0 told (hart_in hs v)) nobody (λ e. other (sym e)) in
+          let same : blocked_count (hart_in (set hs v (returned memory 0 told (hart_in hs v))) u).status ≡ blocked_count (hart_in hs u).status =
+          ap (λ (x : Hart). blocked_count x.status) stays in
+          let rest :
+          blocked_count (hart_in (woken memory told us (set hs v (returned memory 0 told (hart_in hs v)))) u).status + places u us
+          ≡ blocked_count (hart_in (set hs v (returned memory 0 told (hart_in hs v))) u).status =
+          woken-blocked memory told us (set hs v (returned memory 0 told (hart_in hs v))) u (omega arith) in
+          omega arith
     ]
 
 -- who is woken has not ended, before and after
@@ -130,25 +130,25 @@ pub woken-ended :
 woken-ended memory told [] hs u h = refl
 woken-ended memory told (v ∷ us) hs u h =
     elim (cases_eq v u) [
-        inl same ↦
-        let one : eqb v u ≡ true = eq-eqb v u same in
-        let all : places u (v ∷ us) ≡ 1 + places u us = places-cons u v us ∙ ap (λ b. tally b + places u us) one in
-        let most : blocked_count (hart_in hs u).status ≤ 1 = blocked_count-le (hart_in hs u).status in
-        let below : u < length hs = blocked-below hs u (omega arith) in
-        let here : hart_in (set hs v (returned memory 0 told (hart_in hs v))) u ≡ returned memory 0 told (hart_in hs v) =
-                rw (← same) (get_or-set_same hs v (returned memory 0 told (hart_in hs v)) nobody (rw same below)) in
-        woken-ended memory told us (set hs v (returned memory 0 told (hart_in hs v))) u (omega arith)
-        ∙ ap (λ (x : Hart). ended_value x.status) here
-        ∙ sym (ended_value-blocked (hart_in hs u).status (omega arith))
+      | inl same ↦
+          let one : eqb v u ≡ true = eq-eqb v u same in
+          let all : places u (v ∷ us) ≡ 1 + places u us = places-cons u v us ∙ ap (λ b. tally b + places u us) one in
+          let most : blocked_count (hart_in hs u).status ≤ 1 = blocked_count-le (hart_in hs u).status in
+          let below : u < length hs = blocked-below hs u (omega arith) in
+          let here : hart_in (set hs v (returned memory 0 told (hart_in hs v))) u ≡ returned memory 0 told (hart_in hs v) =
+          rw (← same) (get_or-set_same hs v (returned memory 0 told (hart_in hs v)) nobody (rw same below)) in
+          woken-ended memory told us (set hs v (returned memory 0 told (hart_in hs v))) u (omega arith)
+          ∙ ap (λ (x : Hart). ended_value x.status) here
+          ∙ sym (ended_value-blocked (hart_in hs u).status (omega arith))
       | inr other ↦
-        let none : eqb v u ≡ false = grind (arith, nat_tests) in
-        let all : places u (v ∷ us) ≡ places u us = places-cons u v us ∙ ap (λ b. tally b + places u us) none ∙ omega arith in
-        let stays : hart_in (set hs v (returned memory 0 told (hart_in hs v))) u ≡ hart_in hs u =
-                get_or-set_other hs v u (returned memory 0 told (hart_in hs v)) nobody (λ e. other (sym e)) in
-        let same : blocked_count (hart_in (set hs v (returned memory 0 told (hart_in hs v))) u).status ≡ blocked_count (hart_in hs u).status =
-                ap (λ (x : Hart). blocked_count x.status) stays in
-        woken-ended memory told us (set hs v (returned memory 0 told (hart_in hs v))) u (omega arith)
-        ∙ ap (λ (x : Hart). ended_value x.status) stays
+          let none : eqb v u ≡ false = grind (arith, nat_tests) in
+          let all : places u (v ∷ us) ≡ places u us = places-cons u v us ∙ ap (λ b. tally b + places u us) none ∙ omega arith in
+          let stays : hart_in (set hs v (returned memory 0 told (hart_in hs v))) u ≡ hart_in hs u =
+          get_or-set_other hs v u (returned memory 0 told (hart_in hs v)) nobody (λ e. other (sym e)) in
+          let same : blocked_count (hart_in (set hs v (returned memory 0 told (hart_in hs v))) u).status ≡ blocked_count (hart_in hs u).status =
+          ap (λ (x : Hart). blocked_count x.status) stays in
+          woken-ended memory told us (set hs v (returned memory 0 told (hart_in hs v))) u (omega arith)
+          ∙ ap (λ (x : Hart). ended_value x.status) stays
     ]
 
 pub length-created : (memory : Memory) (c : Option (ℕ × ℕ)) (hs : List Hart) → length (with_created memory c hs) ≡ length hs + created_count c

@@ -66,8 +66,8 @@ finished-stays :
 unfolding finished
 finished-stays m t u memory regs e put tied ready other ready_u =
     let same : hart_of (written m t memory regs put) u ≡ hart_of m u =
-            get_or-set_other m.harts t u
-            (record { view = (hart_of m t).view; regs = regs; number = suc (hart_of m t).number; status = (hart_of m t).status }) nobody other in
+    get_or-set_other m.harts t u
+    (record { view = (hart_of m t).view; regs = regs; number = suc (hart_of m t).number; status = (hart_of m t).status }) nobody other in
     done-stays (written m t memory regs put) t u (asked t e regs) (tied-after_writing m t memory regs put tied)
     (ready-written m t memory regs put ready) other (ap (λ (h : Hart). is_ready h.status) same ∙ ready_u)
     ∙ same
@@ -147,7 +147,7 @@ hart-woken map steps memory told [] hs whole all = all
 hart-woken map steps memory told (v ∷ us) hs whole all =
     hart-woken map steps memory told us (set hs v (returned memory 0 told (hart_in hs v))) whole
     (hart-set map steps hs v (returned memory 0 told (hart_in hs v))
-     (record { view = whole; number = number-at map steps hs v all }) all)
+    (record { view = whole; number = number-at map steps hs v all }) all)
 
 hart-created :
     (map : List Mapped) (steps : ℕ) (memory : Memory) (c : Option (ℕ × ℕ)) (hs : List Hart)
@@ -163,8 +163,8 @@ hart-settled :
 hart-settled map steps e memory t hs below whole all =
     hart-created map steps memory e.created (woken memory e.told e.woken (set hs t (fated e.fate memory (hart_in hs t)))) whole
     (hart-woken map steps memory e.told e.woken (set hs t (fated e.fate memory (hart_in hs t))) whole
-     (hart-set map steps hs t (fated e.fate memory (hart_in hs t))
-      (hart-fated map steps e.fate memory (hart_in hs t) whole (hart-at map steps hs t below all)) all))
+    (hart-set map steps hs t (fated e.fate memory (hart_in hs t))
+    (hart-fated map steps e.fate memory (hart_in hs t) whole (hart-at map steps hs t below all)) all))
 
 -- the end
 
@@ -203,18 +203,18 @@ done-whole m t (Asks call) w =
     record {
       memory = w.memory;
       harts =
-        hart-settled m.frame.map m.steps (act (is_readable m.frame.map) m.objects t call).0 m.memory t m.harts (ready-below m.harts t w.ready)
-        w.memory w.harts;
+          hart-settled m.frame.map m.steps (act (is_readable m.frame.map) m.objects t call).0 m.memory t m.harts (ready-below m.harts t w.ready)
+          w.memory w.harts;
       tied = tied-called (is_readable m.frame.map) m.objects m.harts t call m.memory w.tied w.ready;
       most_fuel = w.most_fuel;
       most_steps = w.most_steps;
       few_steps = w.few_steps;
       some_ready = λ none.
-        end_after-ready (fate_end (act (is_readable m.frame.map) m.objects t call).0.fate)
-        (settled (act (is_readable m.frame.map) m.objects t call).0 m.memory t m.harts) m.limit m.steps none;
+          end_after-ready (fate_end (act (is_readable m.frame.map) m.objects t call).0.fate)
+          (settled (act (is_readable m.frame.map) m.objects t call).0 m.memory t m.harts) m.limit m.steps none;
       steps_left = λ none.
-        end_after-left (fate_end (act (is_readable m.frame.map) m.objects t call).0.fate)
-        (settled (act (is_readable m.frame.map) m.objects t call).0 m.memory t m.harts) m.limit m.steps none
+          end_after-left (fate_end (act (is_readable m.frame.map) m.objects t call).0.fate)
+          (settled (act (is_readable m.frame.map) m.objects t call).0 m.memory t m.harts) m.limit m.steps none;
     }
 done-whole m t (Stops e) w =
     record {
@@ -225,7 +225,7 @@ done-whole m t (Stops e) w =
       most_steps = w.most_steps;
       few_steps = w.few_steps;
       some_ready = λ none. cc;
-      steps_left = λ none. cc
+      steps_left = λ none. cc;
     }
 
 can_step-left : (m : Machine) (t : ℕ) → IsWhole m → can_step m t ≡ true → m.steps < m.limit
@@ -235,7 +235,7 @@ can_step-left m t whole can = whole.steps_left (none-is m.ending (and-left (is_n
     none-is (Some e) h = cc
     none-is None h = refl
 
-finished-whole :
+pub finished-whole :
     (m : Machine) (t : ℕ) (memory : Memory) (regs : Registers) (e : ThunkEnd) (put : List ℕ)
     → IsWhole m → can_step m t ≡ true → IsMemory m.frame.map memory
     → IsWhole (finished m t memory regs e put)
@@ -246,18 +246,18 @@ finished-whole m t memory regs e put whole can fit =
     let here : IsHartOf m.frame.map m.steps (hart_of m t) = hart-at m.frame.map m.steps m.harts t (ready-below m.harts t ready) whole.harts in
     done-whole (written m t memory regs put) t (asked t e regs)
     (record {
-       memory = fit;
-       harts =
-         hart-set m.frame.map (suc m.steps) m.harts t
-         (record { view = (hart_of m t).view; regs = regs; number = suc (hart_of m t).number; status = (hart_of m t).status })
-         (record { view = here.view; number = let number = here.number in omega arith })
-         (hart-later m.frame.map m.steps m.harts whole.harts);
-       tied = tied-after_writing m t memory regs put whole.tied;
-       ready = ready-written m t memory regs put ready;
-       most_fuel = whole.most_fuel;
-       most_steps = whole.most_steps;
-       few_steps = omega arith
-     })
+      memory = fit;
+      harts =
+          hart-set m.frame.map (suc m.steps) m.harts t
+          (record { view = (hart_of m t).view; regs = regs; number = suc (hart_of m t).number; status = (hart_of m t).status })
+          (record { view = here.view; number = let number = here.number in omega arith })
+          (hart-later m.frame.map m.steps m.harts whole.harts);
+      tied = tied-after_writing m t memory regs put whole.tied;
+      ready = ready-written m t memory regs put ready;
+      most_fuel = whole.most_fuel;
+      most_steps = whole.most_steps;
+      few_steps = omega arith;
+    })
 
 -- what holds of machines holds after a step
 pub step-whole : (m : Machine) (t : ℕ) → IsWhole m → can_step m t ≡ true → IsWhole (step m t)
@@ -287,9 +287,9 @@ unfolding lay step fits fits_at
 lay-step m r whole honest fit =
     let ready : is_ready (hart_of m r.thread).status ≡ true = grind (arith, nat_tests) in
     let regs : r.start ≡ (hart_of m r.thread).regs =
-            same_registers-true r.start (hart_of m r.thread).regs (grind (arith, nat_tests)) in
+    same_registers-true r.start (hart_of m r.thread).regs (grind (arith, nat_tests)) in
     let reads : has (hart_of m r.thread).view r.kept.reads ≡ true = grind (arith, nat_tests) in
     let stands : StandsFor m.frame (hart_of m r.thread).view m.memory r.start r.kept =
-            StandsFor-true m.frame (hart_of m r.thread).view m.memory r.start r.kept honest reads
-            (hart-at m.frame.map m.steps m.harts r.thread (ready-below m.harts r.thread ready) whole.harts).view whole.memory in
+    StandsFor-true m.frame (hart_of m r.thread).view m.memory r.start r.kept honest reads
+    (hart-at m.frame.map m.steps m.harts r.thread (ready-below m.harts r.thread ready) whole.harts).view whole.memory in
     rw (← regs, stands.put_is, stands.memory_is, stands.finish_is, stands.end_is) refl

@@ -33,23 +33,23 @@ fated_harts-blocked :
     → blocked_count (hart_in (fated_harts e memory t hs) u).status ≡ waits_at o u + entering t e.fate u
 fated_harts-blocked o hs e memory t u tied ready =
     elim (cases_eq u t) [
-        inl same ↦
-        let below : t < length hs = ready-below hs t ready in
-        let here : hart_in (fated_harts e memory t hs) t ≡ fated e.fate memory (hart_in hs t) =
-                get_or-set_same hs t (fated e.fate memory (hart_in hs t)) nobody below in
-        let waits : waits_at o t ≡ 0 = tied.blocked t ∙ blocked_count-ready (hart_in hs t).status ready in
-        let is : blocked_count (hart_in (fated_harts e memory t hs) t).status ≡ waiting e.fate =
-                ap (λ (h : Hart). blocked_count h.status) here ∙ fated-blocked e.fate memory (hart_in hs t) ready in
-        let enters : entering t e.fate t ≡ waiting e.fate = entering-self t e.fate in
-        rw same (omega arith)
+      | inl same ↦
+          let below : t < length hs = ready-below hs t ready in
+          let here : hart_in (fated_harts e memory t hs) t ≡ fated e.fate memory (hart_in hs t) =
+          get_or-set_same hs t (fated e.fate memory (hart_in hs t)) nobody below in
+          let waits : waits_at o t ≡ 0 = tied.blocked t ∙ blocked_count-ready (hart_in hs t).status ready in
+          let is : blocked_count (hart_in (fated_harts e memory t hs) t).status ≡ waiting e.fate =
+          ap (λ (h : Hart). blocked_count h.status) here ∙ fated-blocked e.fate memory (hart_in hs t) ready in
+          let enters : entering t e.fate t ≡ waiting e.fate = entering-self t e.fate in
+          rw same (omega arith)
       | inr other ↦
-        let stays : hart_in (fated_harts e memory t hs) u ≡ hart_in hs u =
-                get_or-set_other hs t u (fated e.fate memory (hart_in hs t)) nobody other in
-        let is : blocked_count (hart_in (fated_harts e memory t hs) u).status ≡ blocked_count (hart_in hs u).status =
-                ap (λ (h : Hart). blocked_count h.status) stays in
-        let enters : entering t e.fate u ≡ 0 = entering-other t e.fate u other in
-        let waits : waits_at o u ≡ blocked_count (hart_in hs u).status = tied.blocked u in
-        omega arith
+          let stays : hart_in (fated_harts e memory t hs) u ≡ hart_in hs u =
+          get_or-set_other hs t u (fated e.fate memory (hart_in hs t)) nobody other in
+          let is : blocked_count (hart_in (fated_harts e memory t hs) u).status ≡ blocked_count (hart_in hs u).status =
+          ap (λ (h : Hart). blocked_count h.status) stays in
+          let enters : entering t e.fate u ≡ 0 = entering-other t e.fate u other in
+          let waits : waits_at o u ≡ blocked_count (hart_in hs u).status = tied.blocked u in
+          omega arith
     ]
 
 fated_harts-ended :
@@ -58,19 +58,19 @@ fated_harts-ended :
     → ended_value (hart_in (fated_harts e memory t hs) u).status ≡ ended_after t e.fate u (ended_at o u)
 fated_harts-ended o hs e memory t u tied ready below_u =
     elim (cases_eq u t) [
-        inl same ↦
-        let below : t < length hs = ready-below hs t ready in
-        let here : hart_in (fated_harts e memory t hs) t ≡ fated e.fate memory (hart_in hs t) =
-                get_or-set_same hs t (fated e.fate memory (hart_in hs t)) nobody below in
-        let none : ended_at o t ≡ None = tied.ended t below ∙ ended_value-ready (hart_in hs t).status ready in
-        rw (same, none)
-        (ap (λ (h : Hart). ended_value h.status) here ∙ fated-ended t e.fate memory (hart_in hs t) ready)
+      | inl same ↦
+          let below : t < length hs = ready-below hs t ready in
+          let here : hart_in (fated_harts e memory t hs) t ≡ fated e.fate memory (hart_in hs t) =
+          get_or-set_same hs t (fated e.fate memory (hart_in hs t)) nobody below in
+          let none : ended_at o t ≡ None = tied.ended t below ∙ ended_value-ready (hart_in hs t).status ready in
+          rw (same, none)
+          (ap (λ (h : Hart). ended_value h.status) here ∙ fated-ended t e.fate memory (hart_in hs t) ready)
       | inr other ↦
-        let stays : hart_in (fated_harts e memory t hs) u ≡ hart_in hs u =
-                get_or-set_other hs t u (fated e.fate memory (hart_in hs t)) nobody other in
-        ap (λ (h : Hart). ended_value h.status) stays
-        ∙ sym (tied.ended u below_u)
-        ∙ sym (ended_after-other t e.fate u (ended_at o u) other)
+          let stays : hart_in (fated_harts e memory t hs) u ≡ hart_in hs u =
+          get_or-set_other hs t u (fated e.fate memory (hart_in hs t)) nobody other in
+          ap (λ (h : Hart). ended_value h.status) stays
+          ∙ sym (tied.ended u below_u)
+          ∙ sym (ended_after-other t e.fate u (ended_at o u) other)
     ]
 
 ended_at-past : (o : Objects) (u : ℕ) → length o.threads ≤ u → ended_at o u ≡ None
@@ -87,7 +87,7 @@ tied-written o hs t h same tied =
       threads = tied.threads ∙ sym count;
       kept = tied.kept;
       blocked = λ u. tied.blocked u ∙ ap blocked_count (sym (status-set hs t u h same));
-      ended = λ u below. tied.ended u (omega arith) ∙ ap ended_value (sym (status-set hs t u h same))
+      ended = λ u below. tied.ended u (omega arith) ∙ ap ended_value (sym (status-set hs t u h same));
     }
 
 -- what a call does to the objects, as far as the harts have to follow it
@@ -114,34 +114,34 @@ tied-settled o after hs e memory t tied ready followed =
     let below : t < length hs = ready-below hs t ready in
     let same : length (woken_harts e memory t hs) ≡ length hs = length-woken_harts e memory t hs in
     let more : length (settled e memory t hs) ≡ length (woken_harts e memory t hs) + created_count e.created =
-            length-created memory e.created (woken_harts e memory t hs) in
+    length-created memory e.created (woken_harts e memory t hs) in
     let few : (u : ℕ) → places u e.woken ≤ blocked_count (hart_in (fated_harts e memory t hs) u).status =
-            λ u.
-            let before = fated_harts-blocked o hs e memory t u tied ready in
-            let keeps = followed.keeps u in
-            omega arith in
+    λ u.
+    let before = fated_harts-blocked o hs e memory t u tied ready in
+    let keeps = followed.keeps u in
+    omega arith in
     record {
       threads = omega (arith, tied.threads, followed.creates);
       kept = followed.kept;
       blocked = λ u.
-        let keeps = followed.keeps u in
-        let before = fated_harts-blocked o hs e memory t u tied ready in
-        let wakes = woken-blocked memory e.told e.woken (fated_harts e memory t hs) u (few u) in
-        let creates = created-blocked memory e.created (woken_harts e memory t hs) u in
-        omega arith;
+          let keeps = followed.keeps u in
+          let before = fated_harts-blocked o hs e memory t u tied ready in
+          let wakes = woken-blocked memory e.told e.woken (fated_harts e memory t hs) u (few u) in
+          let creates = created-blocked memory e.created (woken_harts e memory t hs) u in
+          omega arith;
       ended = λ u below_u.
-        elim (cases_lt u (length hs)) [
-            inl inside ↦
-            followed.ended u
-            ∙ sym (fated_harts-ended o hs e memory t u tied ready inside)
-            ∙ sym (woken-ended memory e.told e.woken (fated_harts e memory t hs) u (few u))
-            ∙ ap (λ (h : Hart). ended_value h.status) (sym (created-stays memory e.created (woken_harts e memory t hs) u (omega arith)))
-          | inr past ↦
-            followed.ended u
-            ∙ ended_after-other t e.fate u (ended_at o u) (omega arith)
-            ∙ ended_at-past o u (omega (arith, tied.threads))
-            ∙ sym (created-last memory e.created (woken_harts e memory t hs) u (omega arith) (omega arith))
-        ]
+          elim (cases_lt u (length hs)) [
+            | inl inside ↦
+                followed.ended u
+                ∙ sym (fated_harts-ended o hs e memory t u tied ready inside)
+                ∙ sym (woken-ended memory e.told e.woken (fated_harts e memory t hs) u (few u))
+                ∙ ap (λ (h : Hart). ended_value h.status) (sym (created-stays memory e.created (woken_harts e memory t hs) u (omega arith)))
+            | inr past ↦
+                followed.ended u
+                ∙ ended_after-other t e.fate u (ended_at o u) (omega arith)
+                ∙ ended_at-past o u (omega (arith, tied.threads))
+                ∙ sym (created-last memory e.created (woken_harts e memory t hs) u (omega arith) (omega arith))
+          ];
     }
 
 -- an effect that the objects follow leaves every other ready hart as it is
@@ -171,7 +171,7 @@ act-followed readable o hs t call tied ready =
       keeps = act_keeps readable o t call tied.kept below;
       kept = act_kept readable o t call tied.kept below waits;
       creates = act_creates readable o t call;
-      ended = act_ended readable o t call below
+      ended = act_ended readable o t call below;
     }
 
 -- a call keeps the agreement

@@ -25,7 +25,7 @@ record_of m t =
       thread = t;
       number = (hart_of m t).number;
       start = (hart_of m t).regs;
-      kept = kept_thunk m.frame (hart_of m t).view (hart_of m t).regs
+      kept = kept_thunk m.frame (hart_of m t).view (hart_of m t).regs;
     }
 
 -- The records of the entries of a schedule, from a machine on. (this project's own)

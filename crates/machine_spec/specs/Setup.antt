@@ -67,7 +67,7 @@ first s =
       objects = opening;
       output = [];
       steps = 0;
-      ending = None
+      ending = None;
     }
 
 -- The machine from scratch: after the steps of a schedule. (this project's own)

@@ -30,10 +30,10 @@ written m t memory regs put =
     record m {
       memory = memory;
       harts =
-        slice_set m.harts t
-        (record { view = (hart_of m t).view; regs = regs; number = suc (hart_of m t).number; status = (hart_of m t).status });
+          slice_set m.harts t
+          (record { view = (hart_of m t).view; regs = regs; number = suc (hart_of m t).number; status = (hart_of m t).status });
       output = m.output ++ put;
-      steps = suc m.steps
+      steps = suc m.steps;
     }
 
 -- An ECALL asks for its call; one whose number is in no row of the table is a trap, at the ECALL. (this project's own)
@@ -73,7 +73,7 @@ performed m t r =
     record m {
       harts = settled r.0 m.memory t m.harts;
       objects = r.1;
-      ending = end_after (fate_end r.0.fate) (settled r.0 m.memory t m.harts) m.limit m.steps
+      ending = end_after (fate_end r.0.fate) (settled r.0 m.memory t m.harts) m.limit m.steps;
     }
 
 -- The machine after what a thunk asked for was done. (this project's own)

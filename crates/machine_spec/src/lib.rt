@@ -20,50 +20,40 @@ pub use states::{Asked, End, Status};
 /// A step of one thread leaves every other ready thread as it is: its registers, its view, its number
 /// of steps and its status.
 pub fn step_leaves_others()
-    ensures {
-        (m : Machine) (t other : ℕ)
+    ensures { (m : Machine) (t other : ℕ)
         → IsWhole m
         → can_step m t ≡ true
         → other ≢ t
         → is_ready (hart_of m other).status ≡ true
-        → hart_of (step m t) other ≡ hart_of m other
-    }
-{
-}
+        → hart_of (step m t) other ≡ hart_of m other }
+{}
 
 /// What holds of every machine holds of the one that a setup starts as.
 pub fn first_is_whole()
     ensures { (setup : Setup) → IsSetup setup → IsWhole (first setup) }
-{
-}
+{}
 
 /// The pages of a setup stand in ascending order, each once.
 pub fn map_ascends()
     ensures { (setup : Setup) → IsSetup setup → ascends_above 0 (map_of setup) ≡ true }
-{
-}
+{}
 
 /// What holds of every machine holds after a step.
 pub fn step_keeps_whole()
     ensures { (m : Machine) (t : ℕ) → IsWhole m → can_step m t ≡ true → IsWhole (step m t) }
-{
-}
+{}
 
 /// To lay a true record that fits is the step of its thread.
 pub fn lay_is_step()
-    ensures {
-        (m : Machine) (r : Record)
+    ensures { (m : Machine) (r : Record)
         → IsWhole m
         → IsTrue m.frame r.start r.kept
         → fits m r ≡ true
-        → lay m r ≡ step m r.thread
-    }
-{
-}
+        → lay m r ≡ step m r.thread }
+{}
 
 /// The schedule that the choice gives is permitted, and there is an end after it.
 pub fn alone_leads_to_an_end()
     ensures permitted { (setup : Setup) → IsSetup setup → is_permitted setup (alone setup) ≡ true }
     ensures complete { (setup : Setup) → IsSetup setup → is_complete setup (alone setup) ≡ true }
-{
-}
+{}

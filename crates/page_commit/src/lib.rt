@@ -30,3 +30,6 @@ pub fn commit(table: &mut PageTable, delta: &Delta) -> Result<(), AllocError>
     *table = after;
     Ok(())
 }
+
+#[cfg(test)]
+mod tests;

@@ -1,10 +1,10 @@
 -- An aligned access stays inside one page.
-use Rattle.std.proofs.Common.{◌≡◌, ℕ, ◌+◌, ◌*◌, ◌/◌, ◌%◌, ◌<◌, ◌≤◌, Bool, true, List, [], ◌∷◌, ◌==◌, cond, suc, length, get_or, set, refl, ap, sym, ◌∙◌, arith}
+use Rattle.std.proofs.Common.{◌≡◌, ℕ, ◌+◌, ◌/◌, ◌%◌, ◌<◌, ◌≤◌, Bool, true, List, [], ◌∷◌, ◌==◌, cond, suc, length, set, refl, ap, sym, ◌∙◌, arith}
 use Rattle.std.proofs.lemmas.List.{get_or-set_same, set-set, set-get_or}
 use Rattle.memory_spec.specs.declared.Size.{Size}
 use Rattle.memory_spec.specs.declared.Size.TheVariants.{One, Two, Four}
 use Rattle.memory_spec.specs.Pages.{Mapped, Memory, slot_of, page_of}
-use Rattle.memory_spec.specs.Stores.{StoredByte, with_byte, laid}
+use Rattle.memory_spec.specs.Stores.{with_byte, laid}
 use Rattle.memory_spec.specs.Access.{byte_count, byte_stored, bytes_stored}
 use Rattle.memory_spec.specs.Workspace.{Masks, mask_of, with_mark, marked}
 use Rattle.priv_space.specs.Written.{byte_of, with_number, with_marks}

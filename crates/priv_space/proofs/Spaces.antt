@@ -1,11 +1,10 @@
 -- What a space means, after each of its operations.
-use Rattle.std.proofs.Common.{◌≡◌, ℕ, ◌%◌, ◌<◌, zero, suc, Bool, true, false, List, [], ◌∷◌, length, take, set, replicate, refl, ap, sym, ◌∙◌, arith, Result, Ok, Err, OnOk, OnErr}
+use Rattle.std.proofs.Common.{◌≡◌, ℕ, ◌%◌, ◌<◌, zero, suc, Bool, false, List, [], ◌∷◌, length, take, set, replicate, refl, ap, arith, Result, Ok, Err, OnOk, OnErr}
 use Rattle.std.proofs.lemmas.List.{take_all}
 use Rattle.memory_spec.specs.declared.Size.{Size}
 use Rattle.memory_spec.specs.Pages.{Mapped, Memory, slot_of, page_of, on_each}
-use Rattle.memory_spec.specs.Stores.{laid}
 use Rattle.memory_spec.specs.Access.{byte_count, bytes_stored}
-use Rattle.memory_spec.specs.Workspace.{Workspace, Masks, mask_of, no_marks, marked, fresh, after_storing}
+use Rattle.memory_spec.specs.Workspace.{Workspace, Masks, mask_of, no_marks, fresh, after_storing}
 use Rattle.priv_space.specs.Written.{with_number, with_marks}
 use Rattle.priv_space.proofs.Access.{laid-access, marked-access}
 

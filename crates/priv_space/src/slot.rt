@@ -120,7 +120,13 @@ impl Slot {
     /// Stores the lowest bytes of a value at an offset.
     #[inline(always)]
     #[tactic(auto, unfolding(crate::specs::Slots::slot_view, crate::specs::Slots::slot_bytes, crate::specs::Slots::slot_marks, crate::specs::Slots::slot_taken))]
-    pub(super) fn store(&mut self, alloc: Global, offset: usize, size: Size, value: u32) -> Result<(), AllocError>
+    pub(super) fn store(
+        &mut self,
+        alloc: Global,
+        offset: usize,
+        size: Size,
+        value: u32,
+    ) -> Result<(), AllocError>
         requires { offset + byte_count size ≤ 4096 }
         ensures view { slot_view self.new ≡ slot_view self.old }
         ensures taken { slot_taken self.new ≡ slot_taken self.old }
@@ -156,7 +162,11 @@ impl Slot {
 
     /// Gives the own copy to the deltas, if a byte was stored.
     #[tactic(auto, unfolding(crate::specs::Slots::slot_bytes, crate::specs::Slots::slot_marks))]
-    pub(super) fn give_delta(&mut self, place: usize, deltas: &mut Vec<PageDelta>) -> Result<(), AllocError>
+    pub(super) fn give_delta(
+        &mut self,
+        place: usize,
+        deltas: &mut Vec<PageDelta>,
+    ) -> Result<(), AllocError>
         ensures { OnOk result (deltas.new.items ≡ deltas.old.items ++ delta_part place (slot_marks self.old) (slot_bytes self.old)) }
     {
         match self.own.take() {

@@ -7,10 +7,9 @@ ghost use Rattle.memory_spec.specs.Workspace.{mask_of};
 ghost use Rattle.priv_space.specs.Written.{with_number, with_marks};
 ghost use Rattle.priv_space.specs.Slots.{slot_view, slot_bytes, slot_marks, slot_taken};
 
+use super::slot::Slot;
 use memory_spec::Size;
 use std::alloc::{AllocError, Global};
-
-use super::slot::Slot;
 
 /// Takes a number from a page.
 #[inline(always)]
@@ -29,7 +28,14 @@ pub(super) fn take(slots: &mut [Slot], slot: usize, offset: usize, size: Size) -
 
 /// Stores the lowest bytes of a value into a page.
 #[inline(always)]
-pub(super) fn store(alloc: Global, slots: &mut [Slot], slot: usize, offset: usize, size: Size, value: u32) -> Result<(), AllocError>
+pub(super) fn store(
+    alloc: Global,
+    slots: &mut [Slot],
+    slot: usize,
+    offset: usize,
+    size: Size,
+    value: u32,
+) -> Result<(), AllocError>
     requires within { slot < length slots.old }
     requires inside { offset + byte_count size ≤ 4096 }
     ensures view { map slot_view slots.new ≡ map slot_view slots.old }

@@ -8,6 +8,8 @@ ghost use Rattle.memory_spec.specs.Workspace.{fresh};
 ghost use Rattle.record_spec.specs.Delta.{delta_from};
 ghost use Rattle.record_spec.specs.Reads.{reads_from};
 
+use super::slot::Slot;
+use super::slots;
 use memory_spec::{MemoryError, Size};
 use page_map::{Mem, PageMap, Perm, Slot as Place};
 use page_store::PageTable;
@@ -15,9 +17,6 @@ use std::alloc::{AllocError, Global};
 use std::marker::Model;
 use std::sync::Arc;
 use store_mask::{Delta, Reads};
-
-use super::slot::Slot;
-use super::slots;
 
 /// A view that a thread works on, with its own stores laid over it: it shares the pages of the view,
 /// and has a copy of each page that it stored to. A clause sees a `Workspace` of `memory_spec`.
@@ -109,7 +108,8 @@ impl Mem for Space {
                     return Err(MemoryError::Access);
                 }
                 let offset = offset_of(address, size);
-                let Ok(()) = slots::store(self.alloc, &mut self.slots, slot, offset, size, value) else {
+                let Ok(()) = slots::store(self.alloc, &mut self.slots, slot, offset, size, value)
+                else {
                     return Err(MemoryError::NoMemory);
                 };
                 Ok(())
@@ -163,7 +163,11 @@ impl Space {
     pub fn into_delta(self) -> Result<Delta, AllocError>
         ensures { IfOk result (λ delta. delta ≡ delta_from 0 self.stored self.memory) }
     {
-        let Space { alloc, pages, slots } = self;
+        let Space {
+            alloc,
+            pages,
+            slots,
+        } = self;
         drop(pages);
         let mut slots = slots;
         let mut deltas = Vec::new(alloc);

@@ -22,7 +22,6 @@ data_pages-next pages page number i count below is =
     let later : number + (i + 1) ≡ number + i + 1 = omega arith in
     rw (rest, later, is, data_pages-suc (number + i) (count - (i + 1)), append_assoc) refl
 
-
 -- where none is to come, what is there is all
 pub data_pages-done :
     (pages all : List Mapped) (number count : ℕ) → count ≡ 0 → pages ++ data_pages number count ≡ all → pages ≡ all

@@ -1,5 +1,5 @@
 -- Laying a record, part by part, and that the record of a thread's own thunk fits.
-use Rattle.std.proofs.Common.{◌≡◌, ◌<◌, ◌≤◌, ◌+◌, ℕ, zero, suc, Bool, true, false, ◌&&◌, eqb, List, [], ◌∷◌, length, set, refl, ap, sym, ◌∙◌, arith}
+use Rattle.std.proofs.Common.{◌≡◌, ◌<◌, ◌≤◌, ◌+◌, ℕ, zero, suc, Bool, true, false, ◌&&◌, eqb, List, [], ◌∷◌, ◌++◌, Option, length, set, refl, ap, sym, ◌∙◌, arith}
 use Rattle.std.proofs.lemmas.Bool.{eq-eqb}
 use Rattle.std.proofs.lemmas.Bool.Decides.{nat_tests}
 use Rattle.std.proofs.lemmas.List.{length-set, get_or_past}
@@ -11,13 +11,18 @@ use Rattle.memory_spec.specs.Pages.{Mapped, Memory, IsMemory, page_of, slot_of}
 use Rattle.thunk_spec.specs.Put.{byte_at}
 use Rattle.record_spec.specs.Delta.{PageDelta, spread, masked}
 use Rattle.record_spec.specs.Reads.{has}
-use Rattle.record_spec.specs.Record.{Record, kept_thunk, fits_at, same_registers}
+use Rattle.record_spec.specs.Record.{Record, kept_thunk, put_of, fits_at, same_registers}
 use Rattle.record_spec.proofs.Truth.{has-kept}
 use Rattle.isa_spec.specs.Registers.{Registers}
-use Rattle.machine_spec.specs.Machine.{Machine, hart_of, is_ready}
+use Rattle.guest_call.specs.Objects.{Objects}
+use Rattle.thunk_spec.specs.Thunk.{Frame, thunk}
+use Rattle.machine_spec.specs.declared.states.End.{End}
+use Rattle.machine_spec.specs.Machine.{Machine, Hart, hart_of, is_ready}
 use Rattle.machine_spec.specs.declared.states.Asked.{Asked}
 use Rattle.machine_spec.specs.declared.states.Asked.TheVariants.{Asks, Stops}
-use Rattle.machine_spec.specs.Step.{done_as_asked, fits}
+use Rattle.machine_spec.specs.Step.{written, asked, done_as_asked, finished, lay, fits, can_step}
+use Rattle.machine_spec.specs.Whole.{IsWhole}
+use Rattle.machine_spec.proofs.Steps.{finished-whole}
 use Rattle.release_core.specs.Doing.{harts_after, objects_after, ending_after}
 
 -- what was asked is done part by part
@@ -25,12 +30,35 @@ pub done-parts :
     (m : Machine) (t : ℕ) (a : Asked)
     → done_as_asked m t a
     ≡ record m {
-        harts = harts_after m.frame.map m.objects m.memory t m.harts a;
-        objects = objects_after m.frame.map m.objects t a;
-        ending = ending_after m.frame.map m.objects m.memory t m.harts m.limit m.steps a
-      }
+      harts = harts_after m.frame.map m.objects m.memory t m.harts a;
+      objects = objects_after m.frame.map m.objects t a;
+      ending = ending_after m.frame.map m.objects m.memory t m.harts m.limit m.steps a;
+    }
 done-parts m t (Asks call) = refl
 done-parts m t (Stops e) = refl
+
+-- the machine's parts, each as the code makes it, are the machine after a record was laid
+pub laid-parts :
+    (m : Machine) (r : Record) (memory : Memory) (written done : List Hart) (objects : Objects) (put output : List ℕ) (steps : ℕ) (ending : Option End) (a : Asked)
+    → memory ≡ masked m.memory r.kept.delta
+    → written ≡ set m.harts r.thread (record { view = (hart_of m r.thread).view; regs = r.kept.finish; number = suc (hart_of m r.thread).number; status = (hart_of m r.thread).status })
+    → a ≡ asked r.thread r.kept.end r.kept.finish
+    → put ≡ put_of m.frame.map (hart_of m r.thread).view r.kept
+    → output ≡ m.output ++ put
+    → steps ≡ suc m.steps
+    → done ≡ harts_after m.frame.map m.objects memory r.thread written a
+    → objects ≡ objects_after m.frame.map m.objects r.thread a
+    → ending ≡ ending_after m.frame.map m.objects memory r.thread written m.limit steps a
+    → record { frame = m.frame; limit = m.limit; memory = memory; harts = done; objects = objects; output = output; steps = steps; ending = ending } ≡ lay m r
+unfolding lay finished
+laid-parts m r memory written_harts done objects put output steps ending a is_memory is_written is_asked is_put is_output is_steps is_done is_objects is_ending =
+    rw (is_done, is_objects, is_ending, is_output, is_put, is_steps, is_written, is_asked, is_memory)
+    (sym (done-parts (written m r.thread (masked m.memory r.kept.delta) r.kept.finish (put_of m.frame.map (hart_of m r.thread).view r.kept)) r.thread
+    (asked r.thread r.kept.end r.kept.finish)))
+
+pub kept_count : (f : Frame) (view : Memory) (r : Registers) → (kept_thunk f view r).count ≡ (thunk f view r).count
+unfolding kept_thunk
+kept_count f view r = refl
 
 length-spread : (mask : List Bool) (bytes page : List ℕ) → length (spread mask bytes page) ≡ length page
 length-spread [] bytes page = refl
@@ -79,6 +107,13 @@ IsMemory-masked map m delta whole =
     let shape = masked-shape delta m (recursion_from_All IsPage m whole.pages) in
     record { count = shape.0 ∙ whole.count; pages = All-from_recursion IsPage (masked m delta) shape.1 }
 
+-- what holds of machines holds after a record was laid
+pub lay-whole : (m : Machine) (r : Record) → IsWhole m → can_step m r.thread ≡ true → IsWhole (lay m r)
+unfolding lay
+lay-whole m r whole can =
+    finished-whole m r.thread (masked m.memory r.kept.delta) r.kept.finish r.kept.end (put_of m.frame.map (hart_of m r.thread).view r.kept) whole can
+    (IsMemory-masked m.frame.map m.memory r.kept.delta whole.memory)
+
 own-registers : (r : Registers) → same_registers r r ≡ true
 own-registers r =
     let pc : eqb r.pc r.pc ≡ true = eq-eqb r.pc r.pc refl in
@@ -97,7 +132,7 @@ unfolding fits fits_at
 own_fits m r ready number start kept =
     let first : eqb r.number (hart_of m r.thread).number ≡ true = eq-eqb r.number (hart_of m r.thread).number number in
     let second : same_registers r.start (hart_of m r.thread).regs ≡ true =
-            rw start (own-registers (hart_of m r.thread).regs) in
+    rw start (own-registers (hart_of m r.thread).regs) in
     let third : has (hart_of m r.thread).view r.kept.reads ≡ true =
-            rw kept (has-kept m.frame (hart_of m r.thread).view (hart_of m r.thread).regs) in
+    rw kept (has-kept m.frame (hart_of m r.thread).view (hart_of m r.thread).regs) in
     rw (ready, first, second, third) refl

@@ -13,25 +13,23 @@ ghost use Rattle.machine_spec.specs.Choice.{choice};
 ghost use Rattle.machine_spec.specs.Step as step;
 ghost use Rattle.machine_spec.specs.Whole.{IsWhole};
 
-use std::alloc::{AllocError, Global};
-use std::marker::Model;
-use std::sync::Arc;
-
+use super::choosing::chosen;
+use super::doing::{asked, do_as_asked};
+use super::hart::Hart;
+use super::performing::{MOST_VIEWS, view_at, views_of, write_back};
+use super::put::put_bytes;
+use super::setup::Setup;
+use super::start::{memory_of, pages_of};
 use machine_spec::{End, Status};
 use page_commit::commit;
 use page_map::PageMap;
 use page_store::PageTable;
+use std::alloc::{AllocError, Global};
+use std::marker::Model;
+use std::sync::Arc;
 use sync_objects::Objects;
 use thunk_record::{Frame, Record};
 use thunk_run::{Job, execute};
-
-use super::choosing::chosen;
-use super::doing::{asked, do_as_asked};
-use super::hart::Hart;
-use super::performing::{MOST_VIEWS, views_of};
-use super::put::put_bytes;
-use super::setup::Setup;
-use super::start::{memory_of, pages_of};
 
 /// The guest machine between two steps.
 #[derive(Drop)]
@@ -54,31 +52,27 @@ impl Model for Core {
 
     ghost Value = { Machine };
 
-    ghost view = {
-        λ c. record {
-            frame = arc_value c.frame;
-            limit = c.limit;
-            memory = arc_value c.memory;
-            harts = c.harts.items;
-            objects = c.objects;
-            output = c.output.items;
-            steps = c.steps;
-            ending = c.ending
-        }
-    };
+    ghost view = { λ c. record {
+      frame = arc_value c.frame;
+      limit = c.limit;
+      memory = arc_value c.memory;
+      harts = c.harts.items;
+      objects = c.objects;
+      output = c.output.items;
+      steps = c.steps;
+      ending = c.ending;
+    } };
 
-    ghost invariant = {
-        λ c. IsWhole (record {
-            frame = arc_value c.frame;
-            limit = c.limit;
-            memory = arc_value c.memory;
-            harts = c.harts.items;
-            objects = c.objects;
-            output = c.output.items;
-            steps = c.steps;
-            ending = c.ending
-        })
-    };
+    ghost invariant = { λ c. IsWhole (record {
+      frame = arc_value c.frame;
+      limit = c.limit;
+      memory = arc_value c.memory;
+      harts = c.harts.items;
+      objects = c.objects;
+      output = c.output.items;
+      steps = c.steps;
+      ending = c.ending;
+    }) };
 }
 
 impl Core {
@@ -228,7 +222,13 @@ struct Prepared {
 }
 
 /// Shared memory with a record's stored bytes, the bytes of its put, and views to give.
-fn prepare(alloc: Global, map: &PageMap, memory: &PageTable, view: &PageTable, rec: &Record) -> Result<Prepared, AllocError>
+fn prepare(
+    alloc: Global,
+    map: &PageMap,
+    memory: &PageTable,
+    view: &PageTable,
+    rec: &Record,
+) -> Result<Prepared, AllocError>
     requires { length view.now ≡ length map.now }
     ensures memory { IfOk result (λ p. arc_value p.memory ≡ masked memory.now rec.now.kept.delta) }
     ensures put { IfOk result (λ p. p.put.items ≡ put_of map.now view.now rec.now.kept) }
@@ -273,19 +273,22 @@ impl Core {
     /// # Errors
     ///
     /// An error where the host's memory ran out; the machine is then as before.
-    #[tactic(auto, using(crate::proofs::Asking::below, crate::proofs::Asking::view_count))]
+    #[tactic(auto, using(crate::proofs::Asking::below, crate::proofs::Asking::view_count, crate::proofs::Asking::few_numbers))]
     pub fn lay(&mut self, rec: &Record) -> Result<(), AllocError>
         requires { step.can_step self.old rec.now.thread ≡ true }
         ensures ok { OnOk result (self.new ≡ step.lay self.old rec.now) }
         ensures err { OnErr result (self.new ≡ self.old) }
     {
         let t = rec.thread();
-        let hart = &self.harts[usize::from(t)];
-        let Prepared { memory, put, mut views } = prepare(self.alloc, self.frame.map(), &self.memory, hart.view(), rec)?;
+        let view = view_at(self.harts.as_slice(), t);
+        let Prepared {
+            memory,
+            put,
+            mut views,
+        } = prepare(self.alloc, self.frame.map(), &self.memory, view, rec)?;
         self.harts.reserve(1)?;
         self.output.extend_from_slice(put.as_slice())?;
-        let hart = &mut self.harts[usize::from(t)];
-        hart.write_back(*rec.finish());
+        write_back(&mut self.harts, t, *rec.finish());
         self.steps += 1;
         self.ending = do_as_asked(
             &mut self.harts,
@@ -307,7 +310,7 @@ impl Core {
     /// # Errors
     ///
     /// An error where the host's memory ran out; the machine is then as before.
-    #[tactic(auto, using(crate::proofs::Laying::own_fits))]
+    #[tactic(auto, using(crate::proofs::Laying::own_fits, crate::proofs::Laying::kept_count))]
     pub fn step(&mut self, t: u8) -> Result<u32, AllocError>
         requires { step.can_step self.old t ≡ true }
         ensures ok { OnOk result (self.new ≡ step.step self.old t) }

@@ -11,8 +11,8 @@ ghost use Rattle.machine_spec.specs.Whole.{IsTied};
 ghost use Rattle.release_core.specs.Doing.{harts_after, objects_after, ending_after};
 ghost use Rattle.release_core.specs.Views.{AreViewsOf};
 
-use std::sync::Arc;
-
+use super::hart::Hart;
+use super::performing::settle;
 use call_effect::Effect;
 use guest_call::{Call, EFAULT, EINVAL, Fate};
 use isa_spec::Cause;
@@ -20,12 +20,10 @@ use machine_spec::{Asked, End, Status};
 use page_map::PageMap;
 use page_store::PageTable;
 use rv_alu::Regs;
+use std::sync::Arc;
 use sync_objects::Objects;
 use thunk_run::{Range, appends_all};
 use thunk_spec::ThunkEnd;
-
-use super::hart::Hart;
-use super::performing::settle;
 
 /// What thread `t`'s thunk with this end and these last registers asks of the machine.
 pub fn asked(t: u8, end: ThunkEnd, regs: &Regs) -> Asked
@@ -67,7 +65,13 @@ fn put_answer(map: &PageMap, address: u32, count: u32) -> u32
         EINVAL
     } else if count == 0 {
         0
-    } else if appends_all(map, Range { start: address, len: count }) {
+    } else if appends_all(
+        map,
+        Range {
+            start: address,
+            len: count,
+        },
+    ) {
         count
     } else {
         EFAULT

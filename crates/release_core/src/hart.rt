@@ -13,12 +13,16 @@ use std::sync::Arc;
 
 /// The registers by number that a call and a start use. (RISC-V ELF psABI, Register Convention)
 const SP: u8 = 2;
+
 const TP: u8 = 4;
+
 const A0: u8 = 10;
+
 const A1: u8 = 11;
 
 /// Where the stacks begin, and how many bytes each has.
 const STACKS: u32 = 0xD000_0000;
+
 const STACK_SIZE: u32 = 0x1_0000;
 
 /// A hart, as the thread that runs on it has it between two steps.

@@ -2,29 +2,53 @@
 //!
 //! The views that it gives are made before, so that it takes no memory itself.
 
-ghost use Rattle.std.specs.Prelude.{◌≡◌, ◌<◌, ◌≤◌, ◌+◌, ◌-◌, length, drop, slice_set, vec_len, vec_capacity, IfOk};
+ghost use Rattle.std.specs.Prelude.{◌≡◌, ◌<◌, ◌≤◌, ◌+◌, ◌-◌, ◌^◌, suc, length, drop, slice_set, vec_len, vec_capacity, IfOk};
 ghost use Rattle.std.specs.Arc.{arc_value};
 ghost use Rattle.machine_spec.specs.Performing.{fated, woken, returned, with_created, settled};
 ghost use Rattle.machine_spec.specs.Machine.{hart_in};
 ghost use Rattle.guest_call.specs.Objects.{created_count};
 ghost use Rattle.release_core.specs.Views.{AreViewsOf};
 
-use std::alloc::{AllocError, Global};
-use std::sync::Arc;
-
+use super::hart::Hart;
 use call_effect::Effect;
 use guest_call::Fate;
 use machine_spec::Status;
 use page_store::PageTable;
+use rv_alu::Regs;
+use std::alloc::{AllocError, Global};
+use std::sync::Arc;
 use wait_queue::Queue;
 
-use super::hart::Hart;
+/// The view of thread `t`.
+pub fn view_at(harts: &[Hart], t: u8) -> &PageTable
+    requires { t < length harts.now }
+    ensures { result.now ≡ (hart_in harts.now t).view }
+{
+    let hart = &harts[usize::from(t)];
+    hart.view()
+}
+
+/// Thread `t`'s thunk was written: its hart has the last registers, and has made one step more.
+pub fn write_back(harts: &mut Vec<Hart>, t: u8, regs: Regs)
+    requires exists { t < length harts.old.items }
+    requires few { (hart_in harts.old.items t).number < 2 ^ 32 - 1 }
+    requires room { vec_len harts.old < vec_capacity harts.old }
+    ensures harts { harts.new.items ≡ slice_set harts.old.items t (record { view = (hart_in harts.old.items t).view; regs = regs; number = suc (hart_in harts.old.items t).number; status = (hart_in harts.old.items t).status }) }
+    ensures room { vec_len harts.new < vec_capacity harts.new }
+{
+    let hart = &mut harts[usize::from(t)];
+    hart.write_back(regs);
+}
 
 /// How many views one effect can give: to its caller, to a created thread, and to all that a queue can hold.
 pub const MOST_VIEWS: usize = 34;
 
 /// So many views of a memory.
-pub fn views_of(alloc: Global, memory: &Arc<PageTable>, count: usize) -> Result<Vec<Arc<PageTable>>, AllocError>
+pub fn views_of(
+    alloc: Global,
+    memory: &Arc<PageTable>,
+    count: usize,
+) -> Result<Vec<Arc<PageTable>>, AllocError>
     ensures views { IfOk result (λ views. AreViewsOf (arc_value memory.now) views.items) }
     ensures count { IfOk result (λ views. vec_len views ≡ count) }
 {
@@ -69,7 +93,13 @@ fn meet_fate(hart: &mut Hart, memory: &Arc<PageTable>, views: &mut Vec<Arc<PageT
 }
 
 /// The calls of waiting threads return with 0, and each is told something or nothing.
-fn wake(harts: &mut [Hart], memory: &Arc<PageTable>, views: &mut Vec<Arc<PageTable>>, threads: &Queue, told: Option<u32>)
+fn wake(
+    harts: &mut [Hart],
+    memory: &Arc<PageTable>,
+    views: &mut Vec<Arc<PageTable>>,
+    threads: &Queue,
+    told: Option<u32>,
+)
     requires enough { length threads.now ≤ vec_len views.old }
     requires views { AreViewsOf (arc_value memory.now) views.old.items }
     ensures harts { harts.new ≡ woken (arc_value memory.now) told threads.now harts.old }
@@ -87,7 +117,12 @@ fn wake(harts: &mut [Hart], memory: &Arc<PageTable>, views: &mut Vec<Arc<PageTab
 }
 
 /// A thread begins, where one is created: it has the least number that is unused.
-fn begin(harts: &mut Vec<Hart>, memory: &Arc<PageTable>, views: &mut Vec<Arc<PageTable>>, created: Option<(u32, u32)>)
+fn begin(
+    harts: &mut Vec<Hart>,
+    memory: &Arc<PageTable>,
+    views: &mut Vec<Arc<PageTable>>,
+    created: Option<(u32, u32)>,
+)
     requires few { length harts.old.items + created_count created ≤ 32 }
     requires room { vec_len harts.old < vec_capacity harts.old }
     requires some { 0 < vec_len views.old }
@@ -105,7 +140,13 @@ fn begin(harts: &mut Vec<Hart>, memory: &Arc<PageTable>, views: &mut Vec<Arc<Pag
 }
 
 /// Performs the effect of a call of thread `t`: the caller's fate, then the woken, then the created.
-pub fn settle(harts: &mut Vec<Hart>, memory: &Arc<PageTable>, views: &mut Vec<Arc<PageTable>>, t: u8, effect: &Effect)
+pub fn settle(
+    harts: &mut Vec<Hart>,
+    memory: &Arc<PageTable>,
+    views: &mut Vec<Arc<PageTable>>,
+    t: u8,
+    effect: &Effect,
+)
     requires exists { t < length harts.old.items }
     requires few { length harts.old.items + created_count effect.now.created ≤ 32 }
     requires room { vec_len harts.old < vec_capacity harts.old }
@@ -115,6 +156,12 @@ pub fn settle(harts: &mut Vec<Hart>, memory: &Arc<PageTable>, views: &mut Vec<Ar
 {
     let hart = &mut harts[usize::from(t)];
     meet_fate(hart, memory, views, effect.fate());
-    wake(harts.as_mut_slice(), memory, views, effect.woken(), effect.told());
+    wake(
+        harts.as_mut_slice(),
+        memory,
+        views,
+        effect.woken(),
+        effect.told(),
+    );
     begin(harts, memory, views, effect.created());
 }

@@ -6,11 +6,10 @@ ghost use Rattle.memory_spec.specs.Pages.{slot_of, page_of};
 ghost use Rattle.thunk_spec.specs.Put.{byte_at, bytes_at, is_readable};
 ghost use Rattle.record_spec.specs.Record.{put_of};
 
-use std::alloc::{AllocError, Global};
-
 use page_commit::commit;
 use page_map::PageMap;
 use page_store::PageTable;
+use std::alloc::{AllocError, Global};
 use thunk_record::Record;
 use thunk_run::{Range, put_range};
 
@@ -27,7 +26,12 @@ fn byte_of(map: &PageMap, table: &PageTable, address: u32) -> u8
 }
 
 /// The bytes of a range.
-fn bytes_of(alloc: Global, map: &PageMap, table: &PageTable, range: Range) -> Result<Vec<u8>, AllocError>
+fn bytes_of(
+    alloc: Global,
+    map: &PageMap,
+    table: &PageTable,
+    range: Range,
+) -> Result<Vec<u8>, AllocError>
     requires in_range { range.start + range.len ≤ 2 ^ 32 }
     requires pages { length table.now ≡ length map.now }
     ensures { IfOk result (λ bytes. bytes.items ≡ bytes_at map.now table.now (range_with_len range.start range.len)) }
@@ -42,7 +46,12 @@ fn bytes_of(alloc: Global, map: &PageMap, table: &PageTable, range: Range) -> Re
 /// The bytes that the put which ends a kept thunk appends, read in the thread's view with the
 /// thunk's stored bytes written over it; none where no put ends it.
 #[tactic(auto, unfolding(record_spec::specs::Record::put_of), using(crate::proofs::Laying::masked_count))]
-pub fn put_bytes(alloc: Global, map: &PageMap, view: &PageTable, rec: &Record) -> Result<Vec<u8>, AllocError>
+pub fn put_bytes(
+    alloc: Global,
+    map: &PageMap,
+    view: &PageTable,
+    rec: &Record,
+) -> Result<Vec<u8>, AllocError>
     requires { length view.now ≡ length map.now }
     ensures { IfOk result (λ bytes. bytes.items ≡ put_of map.now view.now rec.now.kept) }
 {

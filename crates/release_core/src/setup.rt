@@ -35,7 +35,13 @@ impl Setup {
     /// # Errors
     ///
     /// The executable's refusal exactly where it has one (System V gABI, ch. 4 and 5), or want of memory.
-    pub fn new(alloc: Global, elf: Vec<u8>, input: Vec<u8>, fuel: u32, limit: u32) -> Result<Setup, LoadError>
+    pub fn new(
+        alloc: Global,
+        elf: Vec<u8>,
+        input: Vec<u8>,
+        fuel: u32,
+        limit: u32,
+    ) -> Result<Setup, LoadError>
         requires elf_size { length elf.items ≤ 16777216 }
         requires input_size { length input.items ≤ 1048576 }
         requires some_fuel { 1 ≤ fuel }

@@ -4,18 +4,21 @@ ghost use Rattle.std.specs.Prelude.{◌≡◌, ◌<◌, ◌≤◌, ◌+◌, ◌*
 ghost use Rattle.memory_spec.specs.Pages.{zero_page};
 ghost use Rattle.machine_spec.specs.Setup as setup;
 
-use std::alloc::{AllocError, Global};
-use std::sync::Arc;
-
 use bitflags::Flags;
 use page_map::{MappedPage, PageMap, Perm};
 use page_store::{Page, PageTable};
+use std::alloc::{AllocError, Global};
+use std::sync::Arc;
 
 /// How many pages the input and all stacks have, and the numbers of the first page of each range.
 const HEADER_PAGE: u32 = 0xC0000;
+
 const INPUT_PAGE: u32 = 0xC0001;
+
 const INPUT_PAGES: u32 = 256;
+
 const STACK_PAGE: u32 = 0xD0000;
+
 const STACK_PAGES: u32 = 512;
 
 /// The byte of the input at a place, or zero past its end.

@@ -45,18 +45,18 @@ end_text-deadlock = refl
 pub report_lines-hi :
     (memory : Memory)
     → report_lines 0
-      (record { ending = Some (Exit 0); schedule = executed 0 ∷ executed 0 ∷ []; instructions = 8; shares = 2 ∷ []; memory = memory; output = 0x68 ∷ 0x69 ∷ 0x0A ∷ [] })
+    (record { ending = Some (Exit 0); schedule = executed 0 ∷ executed 0 ∷ []; instructions = 8; shares = 2 ∷ []; memory = memory; output = 0x68 ∷ 0x69 ∷ 0x0A ∷ [] })
     ≡ (codes "round 0" ++ newline)
-      ∷ (codes "end exit 0" ++ newline)
-      ∷ (codes "steps 2" ++ newline)
-      ∷ (codes "reused 0" ++ newline)
-      ∷ (codes "executed 2" ++ newline)
-      ∷ (codes "instructions 8" ++ newline)
-      ∷ (codes "by 2" ++ newline)
-      ∷ (codes "schedule 0+ 0+" ++ newline)
-      ∷ (codes "memory " ++ memory_digest memory ++ newline)
-      ∷ (codes "output 3" ++ newline)
-      ∷ []
+    ∷ (codes "end exit 0" ++ newline)
+    ∷ (codes "steps 2" ++ newline)
+    ∷ (codes "reused 0" ++ newline)
+    ∷ (codes "executed 2" ++ newline)
+    ∷ (codes "instructions 8" ++ newline)
+    ∷ (codes "by 2" ++ newline)
+    ∷ (codes "schedule 0+ 0+" ++ newline)
+    ∷ (codes "memory " ++ memory_digest memory ++ newline)
+    ∷ (codes "output 3" ++ newline)
+    ∷ []
 unfolding digits
 report_lines-hi memory = refl
 
@@ -64,18 +64,18 @@ report_lines-hi memory = refl
 pub report_lines-reused :
     (memory : Memory)
     → report_lines 12
-      (record { ending = Some Spent; schedule = reused 0 ∷ executed 31 ∷ []; instructions = 7; shares = 1 ∷ 0 ∷ 0 ∷ 1 ∷ []; memory = memory; output = [] })
+    (record { ending = Some Spent; schedule = reused 0 ∷ executed 31 ∷ []; instructions = 7; shares = 1 ∷ 0 ∷ 0 ∷ 1 ∷ []; memory = memory; output = [] })
     ≡ (codes "round 12" ++ newline)
-      ∷ (codes "end spent" ++ newline)
-      ∷ (codes "steps 2" ++ newline)
-      ∷ (codes "reused 1" ++ newline)
-      ∷ (codes "executed 1" ++ newline)
-      ∷ (codes "instructions 7" ++ newline)
-      ∷ (codes "by 1 0 0 1" ++ newline)
-      ∷ (codes "schedule 0= 31+" ++ newline)
-      ∷ (codes "memory " ++ memory_digest memory ++ newline)
-      ∷ (codes "output 0" ++ newline)
-      ∷ []
+    ∷ (codes "end spent" ++ newline)
+    ∷ (codes "steps 2" ++ newline)
+    ∷ (codes "reused 1" ++ newline)
+    ∷ (codes "executed 1" ++ newline)
+    ∷ (codes "instructions 7" ++ newline)
+    ∷ (codes "by 1 0 0 1" ++ newline)
+    ∷ (codes "schedule 0= 31+" ++ newline)
+    ∷ (codes "memory " ++ memory_digest memory ++ newline)
+    ∷ (codes "output 0" ++ newline)
+    ∷ []
 unfolding digits
 report_lines-reused memory = refl
 

@@ -60,7 +60,7 @@ told_of setup schedule shares =
       instructions = instructions_from (first setup) schedule;
       shares = shares;
       memory = (scratch setup (threads_of schedule)).memory;
-      output = (scratch setup (threads_of schedule)).output
+      output = (scratch setup (threads_of schedule)).output;
     }
 
 -- How many entries were reused, and how many executed. (this project's own)

@@ -1,6 +1,6 @@
 -- Merging pages byte by byte.
-use Rattle.std.proofs.Common.{◌≡◌, ℕ, ◌<◌, ◌+◌, zero, suc, Bool, true, false, cond, List, [], ◌∷◌, length, get_or, set, take, refl, ap, sym, ◌∙◌, arith}
-use Rattle.std.proofs.lemmas.List.{take_all, length-set}
+use Rattle.std.proofs.Common.{◌≡◌, ℕ, ◌<◌, ◌+◌, zero, suc, Bool, false, cond, List, [], ◌∷◌, length, get_or, set, take, refl, ap, sym, ◌∙◌, arith}
+use Rattle.std.proofs.lemmas.List.{take_all}
 use Rattle.record_spec.specs.Delta.{chosen, spread}
 use Rattle.record_spec.proofs.Merging.{merged, spread-chosen}
 

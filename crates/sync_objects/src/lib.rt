@@ -18,11 +18,9 @@ fn act_on(threads: &mut Threads, mutexes: &mut Mutexes, t: u8, call: Call) -> Ef
     requires exists { t < length threads.old }
     requires free { spec.waits_at (record { threads = threads.old; mutexes = mutexes.old }) t ≡ 0 }
     requires no_put { is_put call ≡ false }
-    ensures {
-        (readable : ℕ → ℕ → Bool)
+    ensures { (readable : ℕ → ℕ → Bool)
         → (result, record { threads = threads.new; mutexes = mutexes.new })
-        ≡ spec.act readable (record { threads = threads.old; mutexes = mutexes.old }) t call
-    }
+        ≡ spec.act readable (record { threads = threads.old; mutexes = mutexes.old }) t call }
 {
     match call {
         Call::Exit(code) => Effect::exits(code),

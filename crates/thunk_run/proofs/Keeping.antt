@@ -1,12 +1,11 @@
 -- What a thread's memory gives at the end of a thunk is what is kept of the thunk.
-use Rattle.std.proofs.Common.{◌≡◌, ℕ, suc, Bool, true, false, List, [], ◌∷◌, length, ap, sym, ◌∙◌, refl, arith}
+use Rattle.std.proofs.Common.{◌≡◌, false, List, ◌∙◌, refl}
 use Rattle.isa_spec.specs.Registers.{Registers}
-use Rattle.memory_spec.specs.Pages.{Mapped, Memory, on_each, zero_page, IsMemory}
-use Rattle.memory_spec.specs.Stores.{StoredByte, laid}
-use Rattle.memory_spec.specs.Workspace.{Workspace, Masks, no_marks, marked, fresh}
+use Rattle.memory_spec.specs.Pages.{Mapped, Memory, on_each, IsMemory}
+use Rattle.memory_spec.specs.Workspace.{Workspace, fresh}
 use Rattle.thunk_spec.specs.Put.{put_addresses}
 use Rattle.thunk_spec.specs.Thunk.{Frame, thunk, turns}
-use Rattle.record_spec.specs.Delta.{PageDelta, chosen, delta_from, delta_of}
+use Rattle.record_spec.specs.Delta.{PageDelta, delta_from}
 use Rattle.record_spec.specs.Reads.{ReadPage, reads_from, reads_of}
 use Rattle.record_spec.specs.Record.{kept_thunk}
 use Rattle.priv_space.proofs.Collecting.{delta_from-laid}

@@ -53,9 +53,9 @@ fn all_readable(map: &PageMap, range: Range) -> bool
     ensures { result ≡ is_readable map.now range.start range.len }
 {
     let last = last_of(range);
-    let first_is = may_read(map, range.start);
-    let last_is = may_read(map, last);
-    first_is && last_is
+    let first_is_readable = may_read(map, range.start);
+    let last_is_readable = may_read(map, last);
+    first_is_readable && last_is_readable
 }
 
 /// Whether a put appends its bytes: there are some, no more than 4,096, and all may be read.

@@ -79,7 +79,7 @@ fn stores_into_code_are_seen_and_kept(rt: HostRuntime) -> Result<(), AllocError>
     assert_eq!(rt; delta.len(), 1);
     if let Some(page) = delta.first() {
         assert_eq!(rt; page.slot(), 0);
-        assert_eq!(rt; page.written(job.view.page(0)).get(0x12), 0x90);
+        assert_eq!(rt; page.written(&Page::zero()).get(0x12), 0x90);
     }
     Ok(())
 }

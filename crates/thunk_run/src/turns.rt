@@ -21,6 +21,10 @@ pub(super) struct Turned {
 }
 
 /// Makes turns up to the first that calls or traps, or as many as the fuel allows.
+///
+/// # Errors
+///
+/// An error where the host's memory ran out.
 pub(super) fn make_turns<M: Mem>(
     regs: &mut Regs,
     mem: &mut M,

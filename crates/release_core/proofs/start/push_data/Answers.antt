@@ -14,8 +14,8 @@ pub loop-i-preserved : goal.loop-i-preserved
 loop-i-preserved c =
     rw c.in_ok-push.ensures.items
     (data_pages-next c.loop-i.pages.items c.new.result c.args.number c.loop-i.i c.args.count (omega arith)
-     (grind (arith, c.new.ensures, c.from_bits_retain.ensures))
-     ∙ c.loop-i.invariant)
+    (grind (arith, c.new.ensures, c.from_bits_retain.ensures))
+    ∙ c.loop-i.invariant)
 
 pub returns : goal.returns
 returns c = data_pages-done c.loop-i.pages.items _ (c.args.number + c.loop-i.i) (c.args.count - c.loop-i.i) (omega arith) c.loop-i.invariant

@@ -1,4 +1,4 @@
-use Rattle.std.proofs.Common.{◌≡◌, false, ap, sym, ◌∙◌, None}
+use Rattle.std.proofs.Common.{◌≡◌, false, ap, sym, ◌∙◌}
 use Rattle.record_spec.specs.Delta.{is_stored}
 use Rattle.priv_space.specs.Slots.{slot_bytes, slot_marks, marks_in}
 use Rattle.priv_space.proofs.Collecting.{part_none, is_stored-no_marks}

@@ -8,5 +8,5 @@ abbrev pub invariant-loop-slot : goal.invariant-loop-slot
 invariant-loop-slot l = record {
   count : length l.slots.items ≡ length l.initial.slots.items;
   all : l.deltas.items ++ delta_from l.slot (drop l.slot (map slot_marks l.slots.items)) (drop l.slot (map slot_bytes l.slots.items))
-    ≡ delta_from 0 (map slot_marks l.initial.slots.items) (map slot_bytes l.initial.slots.items);
+      ≡ delta_from 0 (map slot_marks l.initial.slots.items) (map slot_bytes l.initial.slots.items);
 }

@@ -1,6 +1,5 @@
-use Rattle.std.proofs.Common.{◌≡◌, true, length, map, arith, sym, ap, ◌∙◌, get_or, false, drop, ◌<◌, ◌≤◌, []}
+use Rattle.std.proofs.Common.{length, map, arith, sym, ap, ◌∙◌, false, ◌<◌, ◌≤◌, []}
 use Rattle.std.proofs.lemmas.List.{length-map, get_or-map}
-use Rattle.memory_spec.specs.Pages.{page_of}
 use Rattle.record_spec.specs.Reads.{reads_from}
 use Rattle.store_mask.specs.Ascending.{reads_ascend}
 use Rattle.priv_space.specs.Slots.{slot_view, slot_taken}

@@ -1,11 +1,9 @@
-use Rattle.std.proofs.Common.{◌≡◌, ◌%◌, ◌<◌, List, true, map, set, length, arith, ap, sym, ◌∙◌}
+use Rattle.std.proofs.Common.{◌≡◌, ◌<◌, map, length, arith, ap, sym, ◌∙◌}
 use Rattle.std.proofs.lemmas.List.{with_items_is, length-map}
 use Rattle.std.specs.Arc.{arc_value}
 use Rattle.std.specs.Vec.{with_items}
 use Rattle.memory_spec.specs.Access.{may_store}
-use Rattle.memory_spec.specs.Pages.{allows, write_right, slot_of, permission_at, page_of}
-use Rattle.memory_spec.specs.Workspace.{mask_of}
-use Rattle.priv_space.specs.Written.{with_number, with_marks}
+use Rattle.memory_spec.specs.Pages.{allows, write_right, slot_of, permission_at}
 use Rattle.priv_space.specs.Slots.{slot_view, slot_bytes, slot_marks, slot_taken}
 use Rattle.priv_space.proofs.Spaces.{stored_space}
 use Rattle.priv_space.proofs.space.SpaceMem.store.Goals as goal
@@ -23,13 +21,14 @@ returns-in-Ok c =
     let under : c.in-Some.slot < length pages = rw (← c.deref.ensures) c.in-Some.ensures.slot.1 in
     let same : length slots ≡ length pages = c.self.invariant in
     let within : c.in-Some.slot < length slots = omega arith in
-    rw (← c.self.view_is)
-    (ap (allows write_right) (sym perm) ∙ sym c.if-not-writes.ensures,
-    stored_space pages (map slot_view slots) (map slot_bytes slots) (map slot_marks slots) (map slot_taken slots)
-    (map slot_view (with_items c.self.inside.slots after).items) (map slot_bytes (with_items c.self.inside.slots after).items)
-    (map slot_marks (with_items c.self.inside.slots after).items) (map slot_taken (with_items c.self.inside.slots after).items)
-    c.args.address c.args.size c.args.value c.in-Some.slot c.offset_of-offset.result
-    (ap (map slot_view) items ∙ done.view) (ap (map slot_taken) items ∙ done.taken)
-    (ap (map slot_bytes) items ∙ done.bytes) (ap (map slot_marks) items ∙ done.marks)
-    at_slot c.offset_of-offset.ensures.value c.requires
-    (omega (arith, length-map slots slot_bytes)) (omega (arith, length-map slots slot_marks)))
+    rw (← c.self.view_is) (
+      ap (allows write_right) (sym perm) ∙ sym c.if-not-writes.ensures,
+      stored_space pages (map slot_view slots) (map slot_bytes slots) (map slot_marks slots) (map slot_taken slots)
+          (map slot_view (with_items c.self.inside.slots after).items) (map slot_bytes (with_items c.self.inside.slots after).items)
+          (map slot_marks (with_items c.self.inside.slots after).items) (map slot_taken (with_items c.self.inside.slots after).items)
+          c.args.address c.args.size c.args.value c.in-Some.slot c.offset_of-offset.result
+          (ap (map slot_view) items ∙ done.view) (ap (map slot_taken) items ∙ done.taken)
+          (ap (map slot_bytes) items ∙ done.bytes) (ap (map slot_marks) items ∙ done.marks)
+          at_slot c.offset_of-offset.ensures.value c.requires
+          (omega (arith, length-map slots slot_bytes)) (omega (arith, length-map slots slot_marks)),
+    )

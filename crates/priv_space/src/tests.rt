@@ -1,0 +1,43 @@
+//! A thread's memory, from its view to its stored bytes.
+
+use crate::*;
+use memory_spec::{MemoryError, Size};
+use page_map::{MappedPage, Mem, PageMap, Perm};
+use page_store::{Page, PageTable};
+use std::alloc::AllocError;
+use std::sync::Arc;
+
+#[test]
+fn stores_stay_with_the_thread(rt: HostRuntime) -> Result<(), AllocError> {
+    let pages = vec![in rt.alloc();
+        MappedPage::new(0x10, Perm::R | Perm::X),
+        MappedPage::new(0x11, Perm::R | Perm::W),
+        MappedPage::new(0x12, Perm::R | Perm::W),
+    ]?;
+    let map = Arc::new(rt.alloc(), PageMap::new(pages))?;
+    let mut view = PageTable::empty(rt.alloc());
+    view.push(Page::zero())?;
+    view.push(Page::zero())?;
+    view.push(Page::zero())?;
+    let mut space = Space::new(rt.alloc(), &view, &map)?;
+    assert_eq!(rt; space.fetch(0x1_0004), Ok(0));
+    assert_eq!(rt; space.fetch(0x1_1000), Err(MemoryError::Access));
+    assert_eq!(rt;
+        space.store(0x1_0000, Size::Four, 7),
+        Err(MemoryError::Access)
+    );
+    assert_eq!(rt; space.store(0x1_2ffe, Size::Two, 0x1_8001), Ok(()));
+    assert_eq!(rt; space.load(0x1_2fff, Size::One), Ok(0x80));
+    assert_eq!(rt; space.load(0x1_3000, Size::One), Err(MemoryError::Access));
+    let reads = space.reads()?;
+    assert_eq!(rt; reads.len(), 2);
+    let delta = space.into_delta()?;
+    assert_eq!(rt; delta.len(), 1);
+    for stored in delta.pages() {
+        assert_eq!(rt; stored.slot(), 2);
+        assert!(rt; stored.mask().get(4094) && stored.mask().get(4095) && !stored.mask().get(4093));
+        assert_eq!(rt; stored.written(&Page::new([9; 4096])).get(4094), 1);
+        assert_eq!(rt; stored.written(&Page::new([9; 4096])).get(4093), 9);
+    }
+    Ok(())
+}
