@@ -1,23 +1,23 @@
 -- How a line ends, from how its parts did.
-use Rattle.std.proofs.Common.{◌≡◌, Bool, take, ◌<◌, ◌≤◌, ℕ, true, false, List, Option, Some, None, length, refl, sym, ap, ◌∙◌, inl, inr, subst, arith}
+use Rattle.std.proofs.Common.{◌≡◌, Bool, take, ◌<◌, ◌≤◌, ℕ, true, false, List, Option, Some, length, refl, sym, ap, ◌∙◌, inl, inr, subst}
 use Rattle.std.proofs.lemmas.List.{append-nil}
-use Rattle.std.specs.Prelude.{IfSome, is_none, ⊤}
+use Rattle.std.specs.Prelude.{IfSome}
 use Rattle.std.specs.Io.KnownBytes.{Appends}
-use Rattle.ith_host.specs.World.{World, Rose, NoneFell, Stays, IsContent}
+use Rattle.ith_host.specs.World.{World, NoneFell, Stays, IsContent}
 use Rattle.elf_spec.specs.declared.Refusal.{Refusal}
 use Rattle.elf_spec.specs.Refusals.{refusal_of}
 use Rattle.elf_spec.specs.Image.{is_image}
 use Rattle.ith_top.specs.declared.status.Status.{Status}
 use Rattle.ith_top.specs.declared.status.Status.TheVariants as status
 use Rattle.ith_top.specs.Words.{RunLine}
-use Rattle.machine_spec.specs.Setup.{Setup, IsSetup, scratch, is_permitted, is_complete}
+use Rattle.machine_spec.specs.Setup.{Setup, IsSetup, is_permitted, is_complete}
 use Rattle.machine_spec.specs.Choice.{alone}
 use Rattle.machine_spec.proofs.Alone.{alone-permitted, alone-complete}
 use Rattle.std.specs.List.{concat}
 use Rattle.ith_top.specs.Alone.{alone_report, alone_exits, contents_of, IsReady}
-use Rattle.ith_top.specs.Ends.{elf_most, input_most, Named, FailedToRead, IsLong, Contents, AreContents, WasRead, Prints, setup_of, reports, all_exit, schedule_of, IsDone, RunEnds}
+use Rattle.ith_top.specs.Ends.{elf_most, input_most, Named, IsLong, Contents, AreContents, Prints, setup_of, reports, all_exit, IsDone, RunEnds}
 use Rattle.ith_top.specs.Refusals.{WhyUnread, WhyNoSetup, WhyUnprinted}
-use Rattle.ith_top.proofs.Worlds.{content_before, stays_trans, none_fell_trans, rose_before}
+use Rattle.ith_top.proofs.Worlds.{content_before, stays_trans, rose_before}
 
 -- a file of a given refusal isn't taken
 pub refused_image : (bytes : List ℕ) (refusal : Refusal) → refusal_of bytes ≡ Some refusal → is_image bytes ≡ false
@@ -115,7 +115,7 @@ prints_after a b c bytes stays prints =
     record {
       tells = prints.tells ∙ stays.tells;
       files = prints.files ∙ stays.files;
-      printed = subst (λ (told : Option (List ℕ)). Appends told c.printed bytes) stays.printed prints.printed
+      printed = subst (λ (told : Option (List ℕ)). Appends told c.printed bytes) stays.printed prints.printed;
     }
 
 done_by :
@@ -128,7 +128,7 @@ done_by line a b c s exits ready stays prints is =
       prints = rw (reports-ready line a s ready) (prints_after a b c (alone_report s line.workers) stays prints);
       permitted = subst (λ (x : Setup). is_permitted x (alone x) ≡ true) ready.same (alone-permitted s ready.sound);
       complete = subst (λ (x : Setup). is_complete x (alone x) ≡ true) ready.same (alone-complete s ready.sound);
-      ends = exits-ready line a s ready ∙ sym is
+      ends = exits-ready line a s ready ∙ sym is;
     }
 
 -- the report was printed, and the round ended by exit
@@ -159,7 +159,7 @@ unprinted line a b c s status.WriteFault ready stays fell cause =
       cause = rose_before _ _ _ fell.prints cause.0;
       count = cause.1.0;
       prints =
-        rw (reports-ready line a s ready) (prints_after a b c (take cause.1.0 (alone_report s line.workers)) stays cause.1.1)
+          rw (reports-ready line a s ready) (prints_after a b c (take cause.1.0 (alone_report s line.workers)) stays cause.1.1);
     }
 unprinted line a b c s status.Memory ready stays fell cause = inl (stays_trans a b c stays cause)
 unprinted line a b c s status.TooLarge ready stays fell cause = absurd cause

@@ -1,5 +1,5 @@
 -- One change of the outside after another.
-use Rattle.std.proofs.Common.{◌≡◌, ◌≤◌, ℕ, List, Option, ◌∙◌, ap, subst, sym, arith}
+use Rattle.std.proofs.Common.{◌≡◌, ◌≤◌, ℕ, List, Option, ◌∙◌, subst, arith}
 use Rattle.std.specs.Prelude.{IfSome}
 use Rattle.ith_host.specs.World.{World, Rose, NoneFell, Stays, IsContent}
 
@@ -12,7 +12,7 @@ none_fell_trans a b c one other =
     record {
       reads = λ name. let x = one.reads name in let y = other.reads name in omega arith;
       writes = λ name. let x = one.writes name in let y = other.writes name in omega arith;
-      prints = let x = one.prints in let y = other.prints in omega arith
+      prints = let x = one.prints in let y = other.prints in omega arith;
     }
 
 -- a count that rose has risen later too
