@@ -1,1 +1,5 @@
 pub mod Complete
+pub mod Worlds
+pub mod PartWay
+pub mod Reporting
+pub mod Ending

@@ -1,3 +1,6 @@
 pub mod Words
 pub mod Statuses
 pub mod Ends
+pub mod Said
+pub mod Refusals
+pub mod Alone

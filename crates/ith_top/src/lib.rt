@@ -1,6 +1,38 @@
 //! The top call: all that the program does, from the words of its command line to its exit status.
 #![tactic(auto)]
 
+ghost use Rattle.std.specs.Prelude.{map, string_bytes};
+ghost use Rattle.ith_top.specs.Words.{line_of};
+ghost use Rattle.ith_top.specs.Ends.{Answers, Completes};
+
+use std::alloc::Global;
+
+use ith_host::{Gate, Host};
+
+mod complaints;
+mod line;
+mod outside;
+mod program;
+mod report;
+mod round;
 mod status;
+mod words;
 
 pub use status::Status;
+
+/// Does what the words ask for, and gives the exit status. The words begin with the program's name.
+///
+/// `run ELF INPUT --workers 1` runs the executable on the input from scratch, and prints the report of the round.
+#[tactic(auto, using(crate::proofs::Complete::complete))]
+pub fn top<R: Sync, H: Host, G: Gate + Sync>(
+    _rt: &R,
+    alloc: Global,
+    words: &[String],
+    host: &mut H,
+    _gate: &G,
+) -> u8
+    ensures answers { Answers (line_of (map string_bytes words.now)) (H.world host.old) (H.world host.new) result }
+    ensures complete { Completes (line_of (map string_bytes words.now)) (H.world host.old) (H.world host.new) result }
+{
+    program::status_of(alloc, words, host).code()
+}

@@ -1,5 +1,8 @@
 //! How a call of the program ends.
 
+ghost use Rattle.std.specs.Prelude.{◌≡◌};
+ghost use Rattle.ith_top.specs.Statuses.{code_of};
+
 /// How a call of the program ends. Its number is the program's exit status.
 #[derive(Clone, Copy, Debug, PartialEq, Eq)]
 pub enum Status {
@@ -19,4 +22,22 @@ pub enum Status {
     Memory,
     /// 9: a file that the line names is longer than its limit.
     TooLarge,
+}
+
+impl Status {
+    /// The exit status.
+    pub fn code(self) -> u8
+        ensures { result ≡ code_of self }
+    {
+        match self {
+            Status::Finished => 0,
+            Status::Unfinished => 1,
+            Status::Words => 2,
+            Status::Image => 3,
+            Status::ReadFault => 6,
+            Status::WriteFault => 7,
+            Status::Memory => 8,
+            Status::TooLarge => 9,
+        }
+    }
 }

@@ -1,3 +1,4 @@
 pub mod DataPages
 pub mod Asking
+pub mod Least
 pub mod Laying

@@ -13,6 +13,7 @@ ghost use Rattle.machine_spec.specs.Choice.{choice};
 ghost use Rattle.machine_spec.specs.Step as step;
 ghost use Rattle.machine_spec.specs.Whole.{IsWhole};
 
+use super::choosing::chosen;
 use super::doing::{asked, do_as_asked};
 use super::hart::Hart;
 use super::performing::{MOST_VIEWS, view_at, views_of, write_back};
@@ -128,6 +129,14 @@ impl Core {
         }
         let hart = &self.harts[usize::from(t)];
         hart.status() == Status::Ready
+    }
+
+    /// The ready thread that has made the fewest steps, and of these the one of the lowest number; none where no thread is ready.
+    #[tactic(auto, using(crate::proofs::Least::few_harts), unfolding(machine_spec::specs::Choice::choice))]
+    pub fn choice(&self) -> Option<u8>
+        ensures { result ≡ choice self.now }
+    {
+        chosen(self.harts.as_slice())
     }
 }
 

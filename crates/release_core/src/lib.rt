@@ -1,6 +1,7 @@
 //! The guest machine in code: a setup, the machine that it starts as, and one step of a ready thread.
 #![tactic(auto)]
 
+mod choosing;
 mod core_machine;
 mod doing;
 mod hart;

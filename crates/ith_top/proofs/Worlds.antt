@@ -1,0 +1,29 @@
+-- One change of the outside after another.
+use Rattle.std.proofs.Common.{◌≡◌, ◌≤◌, ℕ, List, Option, ◌∙◌, ap, subst, sym, arith}
+use Rattle.std.specs.Prelude.{IfSome}
+use Rattle.ith_host.specs.World.{World, Rose, NoneFell, Stays, IsContent}
+
+pub stays_trans : (a b c : World) → Stays a b → Stays b c → Stays a c
+stays_trans a b c one other =
+    record { tells = other.tells ∙ one.tells; files = other.files ∙ one.files; printed = other.printed ∙ one.printed }
+
+pub none_fell_trans : (a b c : World) → NoneFell a b → NoneFell b c → NoneFell a c
+none_fell_trans a b c one other =
+    record {
+      reads = λ name. let x = one.reads name in let y = other.reads name in omega arith;
+      writes = λ name. let x = one.writes name in let y = other.writes name in omega arith;
+      prints = let x = one.prints in let y = other.prints in omega arith
+    }
+
+-- a count that rose has risen later too
+pub rose_then : (a b c : ℕ) → Rose a b → b ≤ c → Rose a c
+rose_then a b c rose later = omega arith
+
+-- a count that rose later has risen from before too
+pub rose_before : (a b c : ℕ) → a ≤ b → Rose b c → Rose a c
+rose_before a b c earlier rose = omega arith
+
+-- what a file is said to hold later, it held before
+pub content_before : (a b : World) (name bytes : List ℕ) → Stays a b → IsContent b name bytes → IsContent a name bytes
+content_before a b name bytes stays content =
+    subst (λ (files : List ℕ → Option (List ℕ)). IfSome (files name) (λ told. told ≡ bytes)) stays.files content

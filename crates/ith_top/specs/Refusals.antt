@@ -1,0 +1,27 @@
+-- Why a part of a call refused, by the status that it gives.
+use Rattle.std.specs.Prelude.{◌≡◌, ℕ, Bool, false, List, take, ⊤}
+use Rattle.ith_host.specs.World.{World, Rose, Stays}
+use Rattle.elf_spec.specs.Image.{is_image}
+use Rattle.ith_top.specs.declared.status.Status.{Status}
+use Rattle.ith_top.specs.declared.status.Status.TheVariants as status
+use Rattle.ith_top.specs.Ends.{Named, FailedToRead, IsLong, Prints}
+
+-- Why a file wasn't read. (this project's own)
+abbrev pub WhyUnread : Named → World → World → Status → Type 0
+WhyUnread file before after status.ReadFault = FailedToRead before after file
+WhyUnread file before after status.TooLarge = IsLong before file
+WhyUnread file before after status.Memory = ⊤
+WhyUnread file before after _ = ⊥
+
+-- Why no setup was made of an executable. (this project's own)
+abbrev pub WhyNoSetup : List ℕ → Status → Type 0
+WhyNoSetup elf status.Image = is_image elf ≡ false
+WhyNoSetup elf status.Memory = ⊤
+WhyNoSetup elf _ = ⊥
+
+-- Why a text wasn't printed whole, and what of it was. (this project's own)
+abbrev pub WhyUnprinted : List ℕ → World → World → Status → Type 0
+WhyUnprinted text before after status.WriteFault =
+    Rose before.print_faults after.print_faults × ((count : ℕ) × Prints before after (take count text))
+WhyUnprinted text before after status.Memory = Stays before after
+WhyUnprinted text before after _ = ⊥

@@ -1,0 +1,72 @@
+//! The lines that go to the standard error. Nothing rests on them, so a line that finds no memory is cut short.
+
+use std::alloc::{AllocError, Global};
+
+use elf_spec::Refusal;
+use ith_text::decimal;
+
+/// What a call wants to be told whose words aren't accepted.
+pub const USAGE: &[u8] = b"words: they are to be\nithreads run ELF INPUT --workers 1\nwith the names of an executable and of its input";
+
+/// What there is to say where the host's memory ran out.
+pub const NO_MEMORY: &[u8] = b"no memory";
+
+/// A text and a name after it.
+pub fn name_line(alloc: Global, text: &str, name: &str) -> Vec<u8> {
+    let mut line = Vec::new(alloc);
+    let _ = line.extend_from_slice(text.as_bytes());
+    let _ = line.extend_from_slice(name.as_bytes());
+    line
+}
+
+/// Why an executable is refused, with its numbers.
+pub fn image_line(alloc: Global, refusal: Refusal) -> Vec<u8> {
+    let mut line = name_line(alloc, "image: ", kind(refusal));
+    let (first, second) = numbers(refusal);
+    let _ = append_number(alloc, first, &mut line);
+    let _ = append_number(alloc, second, &mut line);
+    line
+}
+
+/// Appends a space and a number, if there is one.
+fn append_number(alloc: Global, number: Option<u32>, line: &mut Vec<u8>) -> Result<(), AllocError> {
+    match number {
+        Some(number) => {
+            line.push(b' ')?;
+            decimal(alloc, u64::from(number), line)
+        }
+        None => Ok(()),
+    }
+}
+
+/// The name of a refusal.
+fn kind(refusal: Refusal) -> &'static str {
+    match refusal {
+        Refusal::NotElf => "NotElf",
+        Refusal::NotElf32 => "NotElf32",
+        Refusal::NotExec => "NotExec",
+        Refusal::NotRiscv => "NotRiscv",
+        Refusal::Compressed => "Compressed",
+        Refusal::EntrySize => "EntrySize",
+        Refusal::ShortTable(_) => "ShortTable",
+        Refusal::Dynamic(_) => "Dynamic",
+        Refusal::ShortSegment(_) => "ShortSegment",
+        Refusal::Outside(_) => "Outside",
+        Refusal::Overlap(_, _) => "Overlap",
+        Refusal::TooManyPages(_) => "TooManyPages",
+        Refusal::Entry => "Entry",
+    }
+}
+
+/// The numbers of a refusal.
+fn numbers(refusal: Refusal) -> (Option<u32>, Option<u32>) {
+    match refusal {
+        Refusal::ShortTable(i)
+        | Refusal::Dynamic(i)
+        | Refusal::ShortSegment(i)
+        | Refusal::Outside(i)
+        | Refusal::TooManyPages(i) => (Some(i), None),
+        Refusal::Overlap(i, j) => (Some(i), Some(j)),
+        _ => (None, None),
+    }
+}

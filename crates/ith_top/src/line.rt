@@ -1,0 +1,23 @@
+//! What a command line asks for.
+
+ghost use Rattle.std.specs.Prelude.{◌≤◌};
+
+/// A line that runs a guest.
+#[derive(Clone, Copy, Debug)]
+pub struct RunLine<'a> {
+    /// The name of the executable.
+    pub elf: &'a str,
+    /// The name of the input.
+    pub input: &'a str,
+    /// How many workers there are.
+    pub workers: u32,
+    /// The most turns of a thunk.
+    pub fuel: u32,
+    /// The most steps of a run.
+    pub limit: u32,
+    ghost some_worker: { 1 ≤ workers },
+    ghost some_fuel: { 1 ≤ fuel },
+    ghost most_fuel: { fuel ≤ 16777216 },
+    ghost some_steps: { 1 ≤ limit },
+    ghost most_steps: { limit ≤ 65536 },
+}
