@@ -115,7 +115,7 @@ prints_after a b c bytes stays prints =
     record {
       tells = prints.tells ∙ stays.tells;
       files = prints.files ∙ stays.files;
-      printed = subst (λ (told : Option (List ℕ)). Appends told c.printed bytes) stays.printed prints.printed
+      printed = subst (λ (told : Option (List ℕ)). Appends told c.printed bytes) stays.printed prints.printed;
     }
 
 done_by :
@@ -128,7 +128,7 @@ done_by line a b c s exits ready stays prints is =
       prints = rw (reports-ready line a s ready) (prints_after a b c (alone_report s line.workers) stays prints);
       permitted = subst (λ (x : Setup). is_permitted x (alone x) ≡ true) ready.same (alone-permitted s ready.sound);
       complete = subst (λ (x : Setup). is_complete x (alone x) ≡ true) ready.same (alone-complete s ready.sound);
-      ends = exits-ready line a s ready ∙ sym is
+      ends = exits-ready line a s ready ∙ sym is;
     }
 
 -- the report was printed, and the round ended by exit
@@ -159,7 +159,7 @@ unprinted line a b c s status.WriteFault ready stays fell cause =
       cause = rose_before _ _ _ fell.prints cause.0;
       count = cause.1.0;
       prints =
-        rw (reports-ready line a s ready) (prints_after a b c (take cause.1.0 (alone_report s line.workers)) stays cause.1.1)
+          rw (reports-ready line a s ready) (prints_after a b c (take cause.1.0 (alone_report s line.workers)) stays cause.1.1);
     }
 unprinted line a b c s status.Memory ready stays fell cause = inl (stays_trans a b c stays cause)
 unprinted line a b c s status.TooLarge ready stays fell cause = absurd cause

@@ -18,8 +18,8 @@ pub record IsPartWay (start : Machine) (limit made : ℕ) (core : Machine) (done
   pub machine : scratch_from start (alone_from limit start) ≡ scratch_from core (alone_from (limit - made) core)
   pub schedule : all_executed (alone_from limit start) ≡ done ++ all_executed (alone_from (limit - made) core)
   pub instructions :
-    instructions_from start (all_executed (alone_from limit start))
-    ≡ count + instructions_from core (all_executed (alone_from (limit - made) core))
+      instructions_from start (all_executed (alone_from limit start))
+      ≡ count + instructions_from core (all_executed (alone_from (limit - made) core))
   pub few : count ≤ made * 4294967295
 
 -- the next thread may make a step
@@ -60,7 +60,7 @@ pub one_more :
 one_more start limit made core done count t core' done' count' way inside next stepped pushed counts few =
     let left : limit - made ≡ suc (limit - (made + 1)) = omega arith in
     let rest : alone_from (limit - made) core ≡ t ∷ alone_from (limit - (made + 1)) (step core t) =
-            ap (λ k. alone_from k core) left ∙ alone-more (limit - (made + 1)) core t next in
+    ap (λ k. alone_from k core) left ∙ alone-more (limit - (made + 1)) core t next in
     let machine = rw rest at way.machine in
     let schedule = rw rest at way.schedule in
     let counted = rw rest at way.instructions in
@@ -69,7 +69,7 @@ one_more start limit made core done count t core' done' count' way inside next s
       machine = machine;
       schedule = schedule ∙ sym (append_assoc done _ _);
       instructions = counted ∙ omega arith;
-      few = let before = way.few in omega arith
+      few = let before = way.few in omega arith;
     })
 
 -- where the rest is empty, all was done

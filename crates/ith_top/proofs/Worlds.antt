@@ -12,7 +12,7 @@ none_fell_trans a b c one other =
     record {
       reads = λ name. let x = one.reads name in let y = other.reads name in omega arith;
       writes = λ name. let x = one.writes name in let y = other.writes name in omega arith;
-      prints = let x = one.prints in let y = other.prints in omega arith
+      prints = let x = one.prints in let y = other.prints in omega arith;
     }
 
 -- a count that rose has risen later too

@@ -34,7 +34,7 @@ told_by workers m entries count =
       instructions = count;
       shares = shares_of_first workers (length entries);
       memory = m.memory;
-      output = m.output
+      output = m.output;
     }
 
 -- The report of the run from scratch that follows the choice. (this project's own)

@@ -1,12 +1,12 @@
 //! The lines that go to the standard error. Nothing rests on them, so a line that finds no memory is cut short.
 
-use std::alloc::{AllocError, Global};
-
 use elf_spec::Refusal;
 use ith_text::decimal;
+use std::alloc::{AllocError, Global};
 
 /// What a call wants to be told whose words aren't accepted.
-pub const USAGE: &[u8] = b"words: they are to be\nithreads run ELF INPUT --workers 1\nwith the names of an executable and of its input";
+pub const USAGE: &[u8] =
+    b"words: they are to be\nithreads run ELF INPUT --workers 1\nwith the names of an executable and of its input";
 
 /// What there is to say where the host's memory ran out.
 pub const NO_MEMORY: &[u8] = b"no memory";

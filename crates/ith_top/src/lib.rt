@@ -5,9 +5,8 @@ ghost use Rattle.std.specs.Prelude.{map, string_bytes};
 ghost use Rattle.ith_top.specs.Words.{line_of};
 ghost use Rattle.ith_top.specs.Ends.{Answers, Completes};
 
-use std::alloc::Global;
-
 use ith_host::{Gate, Host};
+use std::alloc::Global;
 
 mod complaints;
 mod line;

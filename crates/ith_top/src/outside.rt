@@ -5,16 +5,19 @@ ghost use Rattle.ith_host.specs.World.{Stays, NoneFell, IsContent};
 ghost use Rattle.ith_top.specs.Ends.{Prints};
 ghost use Rattle.ith_top.specs.Refusals.{WhyUnread, WhyUnprinted};
 
-use std::alloc::Global;
-
-use ith_host::{Got, Host, Printed};
-
 use super::complaints::{NO_MEMORY, name_line};
 use super::status::Status;
+use ith_host::{Got, Host, Printed};
+use std::alloc::Global;
 
 /// Reads a file of at most so many bytes.
 #[tactic(auto, using(crate::proofs::Worlds::stays_trans, crate::proofs::Worlds::none_fell_trans, crate::proofs::Worlds::rose_then))]
-pub fn read_file<H: Host>(alloc: Global, host: &mut H, name: &str, most: u64) -> Result<Vec<u8>, Status>
+pub fn read_file<H: Host>(
+    alloc: Global,
+    host: &mut H,
+    name: &str,
+    most: u64,
+) -> Result<Vec<u8>, Status>
     ensures content { IfOk result (λ bytes. IsContent (H.world host.old) name.now bytes.items) }
     ensures within { IfOk result (λ bytes. length bytes.items ≤ most) }
     ensures refused { IfErr result (λ status. WhyUnread (record { name = name.now; most = most }) (H.world host.old) (H.world host.new) status) }

@@ -9,21 +9,20 @@ ghost use Rattle.ith_top.specs.Ends.{Prints, AreContents, RunEnds, Ends};
 ghost use Rattle.ith_top.specs.Refusals.{WhyNoSetup, WhyUnprinted};
 ghost use Rattle.ith_top.specs.Alone.{alone_report, alone_exits, IsReady};
 
-use std::alloc::Global;
-
-use elf_load::LoadError;
-use ith_host::Host;
-use release_core::Setup;
-
 use super::complaints::{NO_MEMORY, USAGE, image_line};
 use super::line::RunLine;
 use super::outside::{print_text, read_file};
 use super::report::{Report, first_report};
 use super::status::Status;
 use super::words::line_of;
+use elf_load::LoadError;
+use ith_host::Host;
+use release_core::Setup;
+use std::alloc::Global;
 
 /// The most bytes of an executable, and of an input.
 const ELF_MOST: u64 = 16_777_216;
+
 const INPUT_MOST: u64 = 1_048_576;
 
 /// What the files of a line hold.
@@ -53,7 +52,12 @@ fn read_files<H: Host>(alloc: Global, host: &mut H, line: &RunLine<'_>) -> Resul
 
 /// Makes a setup of what was read, with the limits of a line.
 #[tactic(auto, using(crate::proofs::Ending::refused_image))]
-fn set_up<H: Host>(alloc: Global, host: &mut H, files: Files, line: &RunLine<'_>) -> Result<Setup, Status>
+fn set_up<H: Host>(
+    alloc: Global,
+    host: &mut H,
+    files: Files,
+    line: &RunLine<'_>,
+) -> Result<Setup, Status>
     requires elf_size { length files.elf.items ≤ 16777216 }
     requires input_size { length files.input.items ≤ 1048576 }
     ensures setup { IfOk result (λ s. s ≡ record { elf = files.elf.items; input = files.input.items; fuel = line.now.fuel; limit = line.now.limit }) }

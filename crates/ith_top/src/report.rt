@@ -5,13 +5,11 @@ ghost use Rattle.report_spec.specs.Report.{report_text};
 ghost use Rattle.ith_top.specs.Ends as ends;
 ghost use Rattle.ith_top.specs.Alone.{told_by, alone_report, alone_exits};
 
-use std::alloc::{AllocError, Global};
-
+use super::round::{Round, run_alone};
 use machine_spec::End;
 use release_core::Setup;
 use round_report::{Told, text};
-
-use super::round::{Round, run_alone};
+use std::alloc::{AllocError, Global};
 
 /// The report of a round.
 #[derive(Drop)]

@@ -7,10 +7,9 @@ ghost use Rattle.machine_spec.specs.Step as step;
 ghost use Rattle.machine_spec.specs.Setup.{first};
 ghost use Rattle.ith_top.specs.Alone.{next_thread, IsAlone};
 
-use std::alloc::{AllocError, Global};
-
 use release_core::{Core, Setup};
 use report_spec::Entry;
+use std::alloc::{AllocError, Global};
 
 /// A round that is made.
 #[derive(Drop)]

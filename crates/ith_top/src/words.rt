@@ -8,6 +8,7 @@ use super::line::RunLine;
 
 /// The most turns of a thunk, and the most steps of a run, where the line doesn't say.
 const DEFAULT_FUEL: u32 = 1_000_000;
+
 const DEFAULT_LIMIT: u32 = 4096;
 
 /// What the words ask for, or none where they aren't accepted.

@@ -3,9 +3,8 @@
 ghost use Rattle.std.specs.Prelude.{◌≡◌, ◌≤◌, length, min, position, unwrap_or};
 ghost use Rattle.machine_spec.specs.Choice.{least, ready_numbers, is_ready_at};
 
-use machine_spec::Status;
-
 use super::hart::Hart;
+use machine_spec::Status;
 
 /// The lesser of a number and of one that may be there.
 fn lesser(found: Option<u32>, number: u32) -> u32
