@@ -26,11 +26,11 @@ pub use status::Status;
 /// `run ELF INPUT --workers 1` runs the executable on the input from scratch, and prints the report of the round.
 #[tactic(auto, using(crate::proofs::Complete::complete))]
 pub fn top<R: Sync, H: Host, G: Gate + Sync>(
-    _rt: &R,
+    rt: &R,
     alloc: Global,
     words: &[String],
     host: &mut H,
-    _gate: &G,
+    gate: &G,
 ) -> u8
     ensures answers { Answers (line_of (map string_bytes words.now)) (H.world host.old) (H.world host.new) result }
     ensures complete { Completes (line_of (map string_bytes words.now)) (H.world host.old) (H.world host.new) result }
