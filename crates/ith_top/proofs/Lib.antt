@@ -3,3 +3,4 @@ pub mod Worlds
 pub mod PartWay
 pub mod Reporting
 pub mod Ending
+pub mod NoLine
