@@ -4,3 +4,4 @@ pub mod PartWay
 pub mod Reporting
 pub mod Ending
 pub mod NoLine
+pub mod Given

@@ -61,7 +61,8 @@ fn run_command<'a>(alloc: Global) -> Result<Command<'a>, AllocError>
     let command = with_arg(command, operand(alloc, "INPUT", "The name of the input"))?;
     let command = with_arg(command, number(alloc, "workers", MOST_WORKERS, "How many workers, 1 to 16 [default: 4]"))?;
     let command = with_arg(command, number(alloc, "fuel", MOST_FUEL, "The most turns of a thunk, 1 to 16777216 [default: 1000000]"))?;
-    with_arg(command, number(alloc, "steps", MOST_STEPS, "The most steps of a run, 1 to 65536 [default: 4096]"))
+    let command = with_arg(command, number(alloc, "steps", MOST_STEPS, "The most steps of a run, 1 to 65536 [default: 4096]"))?;
+    Ok(command)
 }
 
 /// The program's command line.

@@ -56,10 +56,14 @@ fn matches_given<'a>(alloc: Global, words: &'a [String]) -> Result<ArgMatches<'a
 }
 
 /// The text of an operand, or none where there is no such operand.
+#[tactic(auto, using(crate::proofs::Given::first_value_of_rows))]
 fn text_of<'a>(given: &ArgMatches<'a>, id: &str) -> &'a str
     ensures { result.now ≡ unwrap_or (first_of id.now (rows_of (found_of given.now))) [] }
 {
-    given.get_str(id).unwrap_or("")
+    match given.get_str(id) {
+        Some(text) => text,
+        None => "",
+    }
 }
 
 /// The number of an option, or the default where the line has no such option.
