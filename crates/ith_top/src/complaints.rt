@@ -10,11 +10,10 @@ pub const NO_MEMORY: &[u8] = b"no memory";
 
 /// Why words are refused, with the usage, or the help that they ask for.
 pub fn words_line(alloc: Global, error: &Error) -> Vec<u8> {
-    let mut line = Vec::new(alloc);
-    if let Ok(text) = error.to_string(alloc) {
-        let _ = line.extend_from_slice(text.as_bytes());
+    match error.to_string(alloc) {
+        Ok(text) => name_line(alloc, "words: ", text.as_str().trim_end()),
+        Err(_) => name_line(alloc, "words: ", ""),
     }
-    line
 }
 
 /// A text and a name after it.

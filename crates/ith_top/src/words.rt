@@ -7,7 +7,7 @@ ghost use Rattle.ith_top.specs.Said.{run_said, line_said};
 ghost use Rattle.ith_top.specs.Refusals.{WhyNoLine, WhyFault};
 
 use super::command::{MOST_FUEL, MOST_STEPS, MOST_WORKERS, command_line};
-use super::complaints::words_line;
+use super::complaints::{name_line, words_line};
 use super::line::RunLine;
 use clap::error::ErrorKind;
 use clap::{ArgMatches, Error};
@@ -109,6 +109,7 @@ pub fn line_of<'a>(alloc: Global, words: &'a [String]) -> Result<RunLine<'a>, Li
     };
     match given.subcommand() {
         Some((name, below)) if name == "run" => Ok(run_line(below)),
-        _ => Err(LineFault::Refused(Vec::new(alloc))),
+        // the parser takes no other command
+        _ => Err(LineFault::Refused(name_line(alloc, "words: ", "no command"))),
     }
 }
