@@ -1,23 +1,23 @@
 -- How a line ends, from how its parts did.
-use Rattle.std.proofs.Common.{◌≡◌, Bool, take, ◌<◌, ◌≤◌, ℕ, true, false, List, Option, Some, None, length, refl, sym, ap, ◌∙◌, inl, inr, subst, arith}
+use Rattle.std.proofs.Common.{◌≡◌, Bool, take, ◌<◌, ◌≤◌, ℕ, true, false, List, Option, Some, length, refl, sym, ap, ◌∙◌, inl, inr, subst}
 use Rattle.std.proofs.lemmas.List.{append-nil}
-use Rattle.std.specs.Prelude.{IfSome, is_none, ⊤}
+use Rattle.std.specs.Prelude.{IfSome}
 use Rattle.std.specs.Io.KnownBytes.{Appends}
-use Rattle.ith_host.specs.World.{World, Rose, NoneFell, Stays, IsContent}
+use Rattle.ith_host.specs.World.{World, NoneFell, Stays, IsContent}
 use Rattle.elf_spec.specs.declared.Refusal.{Refusal}
 use Rattle.elf_spec.specs.Refusals.{refusal_of}
 use Rattle.elf_spec.specs.Image.{is_image}
 use Rattle.ith_top.specs.declared.status.Status.{Status}
 use Rattle.ith_top.specs.declared.status.Status.TheVariants as status
 use Rattle.ith_top.specs.Words.{RunLine}
-use Rattle.machine_spec.specs.Setup.{Setup, IsSetup, scratch, is_permitted, is_complete}
+use Rattle.machine_spec.specs.Setup.{Setup, IsSetup, is_permitted, is_complete}
 use Rattle.machine_spec.specs.Choice.{alone}
 use Rattle.machine_spec.proofs.Alone.{alone-permitted, alone-complete}
 use Rattle.std.specs.List.{concat}
 use Rattle.ith_top.specs.Alone.{alone_report, alone_exits, contents_of, IsReady}
-use Rattle.ith_top.specs.Ends.{elf_most, input_most, Named, FailedToRead, IsLong, Contents, AreContents, WasRead, Prints, setup_of, reports, all_exit, schedule_of, IsDone, RunEnds}
+use Rattle.ith_top.specs.Ends.{elf_most, input_most, Named, IsLong, Contents, AreContents, Prints, setup_of, reports, all_exit, IsDone, RunEnds}
 use Rattle.ith_top.specs.Refusals.{WhyUnread, WhyNoSetup, WhyUnprinted}
-use Rattle.ith_top.proofs.Worlds.{content_before, stays_trans, none_fell_trans, rose_before}
+use Rattle.ith_top.proofs.Worlds.{content_before, stays_trans, rose_before}
 
 -- a file of a given refusal isn't taken
 pub refused_image : (bytes : List ℕ) (refusal : Refusal) → refusal_of bytes ≡ Some refusal → is_image bytes ≡ false

@@ -1,10 +1,10 @@
 -- What is told of a round of one worker is the report of the run from scratch.
-use Rattle.std.proofs.Common.{◌≡◌, ℕ, List, [], ◌∷◌, length, map, refl, sym, ap, ◌∙◌, arith}
+use Rattle.std.proofs.Common.{◌≡◌, ℕ, List, [], ◌∷◌, length, refl, ap, arith}
 use Rattle.machine_spec.specs.Machine.{Machine}
-use Rattle.machine_spec.specs.Setup.{Setup, first, scratch}
+use Rattle.machine_spec.specs.Setup.{Setup}
 use Rattle.machine_spec.specs.Choice.{alone}
 use Rattle.report_spec.specs.declared.Entry.{Entry}
-use Rattle.report_spec.specs.Report.{Told, threads_of, told_of, report_text, report, instructions_from}
+use Rattle.report_spec.specs.Report.{threads_of, told_of, report_text, report}
 use Rattle.ith_top.specs.Ends.{all_executed, shares_of_first, is_exit}
 use Rattle.ith_top.specs.Alone.{IsAlone, told_by, alone_report, alone_exits}
 

@@ -1,5 +1,5 @@
 -- One change of the outside after another.
-use Rattle.std.proofs.Common.{◌≡◌, ◌≤◌, ℕ, List, Option, ◌∙◌, ap, subst, sym, arith}
+use Rattle.std.proofs.Common.{◌≡◌, ◌≤◌, ℕ, List, Option, ◌∙◌, subst, arith}
 use Rattle.std.specs.Prelude.{IfSome}
 use Rattle.ith_host.specs.World.{World, Rose, NoneFell, Stays, IsContent}
 

@@ -2,7 +2,7 @@
 use Rattle.std.specs.Prelude.{◌≡◌, ℕ, ◌<◌, ◌≤◌, ◌-◌, Bool, true, false, ◌⊎◌, List, [], ◌∷◌, length, map, take, replicate, IfSome, Option, Some, None}
 use Rattle.std.specs.List.{concat}
 use Rattle.std.specs.Io.KnownBytes.{Appends}
-use Rattle.ith_host.specs.World.{World, Rose, Stays, IsContent, PrintedSome}
+use Rattle.ith_host.specs.World.{World, Rose, Stays, IsContent}
 use Rattle.elf_spec.specs.Image.{is_image}
 use Rattle.machine_spec.specs.declared.states.End.{End}
 use Rattle.machine_spec.specs.declared.states.End.TheVariants as end

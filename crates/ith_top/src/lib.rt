@@ -16,6 +16,8 @@ mod program;
 mod report;
 mod round;
 mod status;
+#[cfg(test)]
+mod tests;
 mod words;
 
 pub use status::Status;

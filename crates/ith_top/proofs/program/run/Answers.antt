@@ -1,4 +1,4 @@
-use Rattle.std.proofs.Common.{◌≡◌, true, false, sym, ◌∙◌}
+use Rattle.std.proofs.Common.{sym, ◌∙◌}
 use Rattle.ith_top.specs.Said.{run_said}
 use Rattle.ith_top.proofs.Ending.{finished, unfinished, unprinted}
 use Rattle.ith_top.proofs.program.run.Goals as goal

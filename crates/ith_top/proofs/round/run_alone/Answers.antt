@@ -1,4 +1,4 @@
-use Rattle.std.proofs.Common.{◌≡◌, sym, ◌∙◌, arith}
+use Rattle.std.proofs.Common.{sym, ◌∙◌, arith}
 use Rattle.ith_top.proofs.PartWay.{over_at_end, one_more}
 use Rattle.ith_top.proofs.round.run_alone.Goals as goal
 
