@@ -19,6 +19,8 @@ mod status;
 #[cfg(test)]
 mod tests;
 mod words;
+#[cfg(test)]
+mod words_tests;
 
 pub use status::Status;
 
