@@ -10,6 +10,10 @@ use std::alloc::Global;
 
 mod command;
 mod complaints;
+#[cfg(test)]
+mod guest_tests;
+#[cfg(test)]
+mod guests;
 mod line;
 mod outside;
 mod program;
