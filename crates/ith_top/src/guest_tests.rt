@@ -11,6 +11,10 @@ use std::test::Fail;
 
 /// The executable that has a guest as its one segment.
 fn executable(alloc: Global, guest: Guest) -> Result<Vec<u8>, AllocError> {
+    let length = match u32::try_from(guest.bytes.len()) {
+        Ok(length) => length,
+        Err(_) => return Err(AllocError),
+    };
     let mut file = Vec::new(alloc);
     file.extend_from_slice(HEADER)?;
     for word in [
@@ -18,7 +22,7 @@ fn executable(alloc: Global, guest: Guest) -> Result<Vec<u8>, AllocError> {
         84,
         0x10000,
         0x10000,
-        guest.bytes.len() as u32,
+        length,
         guest.size,
         7,
         4,
