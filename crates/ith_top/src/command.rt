@@ -11,7 +11,9 @@ use std::alloc::{AllocError, Global};
 
 /// The most workers, turns of a thunk and steps of a run that a line may ask for.
 pub const MOST_WORKERS: u32 = 16;
+
 pub const MOST_FUEL: u32 = 16_777_216;
+
 pub const MOST_STEPS: u32 = 65_536;
 
 /// An operand, which has to be there (POSIX.1-2017, XBD 12.1).
@@ -59,9 +61,33 @@ fn run_command<'a>(alloc: Global) -> Result<Command<'a>, AllocError>
     let command = Command::new(alloc, "run");
     let command = with_arg(command, operand(alloc, "ELF", "The name of the executable"))?;
     let command = with_arg(command, operand(alloc, "INPUT", "The name of the input"))?;
-    let command = with_arg(command, number(alloc, "workers", MOST_WORKERS, "How many workers, 1 to 16 [default: 4]"))?;
-    let command = with_arg(command, number(alloc, "fuel", MOST_FUEL, "The most turns of a thunk, 1 to 16777216 [default: 1000000]"))?;
-    let command = with_arg(command, number(alloc, "steps", MOST_STEPS, "The most steps of a run, 1 to 65536 [default: 4096]"))?;
+    let command = with_arg(
+        command,
+        number(
+            alloc,
+            "workers",
+            MOST_WORKERS,
+            "How many workers, 1 to 16 [default: 4]",
+        ),
+    )?;
+    let command = with_arg(
+        command,
+        number(
+            alloc,
+            "fuel",
+            MOST_FUEL,
+            "The most turns of a thunk, 1 to 16777216 [default: 1000000]",
+        ),
+    )?;
+    let command = with_arg(
+        command,
+        number(
+            alloc,
+            "steps",
+            MOST_STEPS,
+            "The most steps of a run, 1 to 65536 [default: 4096]",
+        ),
+    )?;
     Ok(command)
 }
 
@@ -74,5 +100,8 @@ pub fn command_line<'a>(alloc: Global) -> Result<Command<'a>, AllocError>
     ensures { IfOk result (λ c. app_of c ≡ line.command_line) }
 {
     let run = run_command(alloc)?;
-    with_command(Command::new(alloc, "ithreads").subcommand_required(true), run)
+    with_command(
+        Command::new(alloc, "ithreads").subcommand_required(true),
+        run,
+    )
 }

@@ -15,7 +15,9 @@ use std::alloc::Global;
 
 /// How many workers, turns of a thunk and steps of a run there are where the line doesn't say.
 const DEFAULT_WORKERS: u32 = 4;
+
 const DEFAULT_FUEL: u32 = 1_000_000;
+
 const DEFAULT_STEPS: u32 = 4096;
 
 /// Why words give no line.

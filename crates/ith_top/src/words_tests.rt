@@ -30,7 +30,12 @@ fn lines_are_accepted(rt: HostRuntime) -> Result<(), Fail> {
         ("ithreads run a b --workers 1", 1, 1_000_000, 4096),
         ("ithreads run --workers=3 a b", 3, 1_000_000, 4096),
         ("ithreads run a --workers 16 b", 16, 1_000_000, 4096),
-        ("ithreads run --steps 65536 a --fuel 16777216 b", 4, 16_777_216, 65_536),
+        (
+            "ithreads run --steps 65536 a --fuel 16777216 b",
+            4,
+            16_777_216,
+            65_536,
+        ),
         ("ithreads run --fuel 1 --steps 1 -- a b", 4, 1, 1),
     ] {
         let words = words_of(alloc, line)?;
