@@ -1,5 +1,5 @@
 -- Why a part of a call refused, by the status that it gives.
-use Rattle.std.specs.Prelude.{◌≡◌, ◌≢◌, ℕ, Bool, false, List, take, None, ⊤}
+use Rattle.std.specs.Prelude.{◌≡◌, ◌≢◌, ℕ, false, List, take, None, ⊤}
 use Rattle.ith_host.specs.World.{World, Rose, Stays}
 use Rattle.elf_spec.specs.Image.{is_image}
 use Rattle.ith_top.specs.declared.status.Status.{Status}

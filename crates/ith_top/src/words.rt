@@ -1,7 +1,7 @@
 //! The words of the command line.
 
 ghost use Rattle.std.specs.Prelude.{◌≡◌, ◌≤◌, map, string_bytes, unwrap_or, [], IfOk, IfErr};
-ghost use Rattle.clap.specs.Words.{HasKind, fault_of, first_of, found_of, one_of, rows_of, subcommand_of, subcommand_rows_of};
+ghost use Rattle.clap.specs.Words.{fault_of, first_of, found_of, one_of, rows_of, subcommand_of, subcommand_rows_of};
 ghost use Rattle.ith_top.specs.Words as line;
 ghost use Rattle.ith_top.specs.Said.{run_said, line_said};
 ghost use Rattle.ith_top.specs.Refusals.{WhyNoLine, WhyFault};
