@@ -1,0 +1,65 @@
+ghost use Rattle.std.specs.Prelude.{◌≡◌, ◌≤◌, ◌<◌, ◌+◌, ◌^◌, ◌%◌, ◌++◌, All, length, IfOk, OnOk};
+ghost use Rattle.rv_asm.specs.Items.{items_bytes, IsWritable};
+ghost use Rattle.rv_asm.specs.File.{halves, words, file_header, segment_header, guest_file};
+ghost use Rattle.rv_asm.specs.Guest.{IsGuest};
+
+use crate::item::{Item, written};
+use ith_fields::Out;
+use std::alloc::{AllocError, Global};
+
+/// The identification of an ELF32 file with the lowest byte first (System V gABI, ch. 4, ELF Identification).
+const IDENTIFICATION: [u8; 16] = [0x7f, 0x45, 0x4c, 0x46, 1, 1, 1, 0, 0, 0, 0, 0, 0, 0, 0, 0];
+
+/// Appends numbers of two bytes each.
+fn write_halves(out: &mut Out, numbers: &[u16]) -> Result<(), AllocError>
+    ensures { OnOk result (out.new ≡ out.old ++ halves numbers.now) }
+{
+    for number in numbers {
+        out.u16(*number)?;
+    }
+    Ok(())
+}
+
+/// Appends numbers of four bytes each.
+fn write_words(out: &mut Out, numbers: &[u32]) -> Result<(), AllocError>
+    ensures { OnOk result (out.new ≡ out.old ++ words numbers.now) }
+{
+    for number in numbers {
+        out.u32(*number)?;
+    }
+    Ok(())
+}
+
+/// The header of a RISC-V executable with one program header (System V gABI, ch. 4, ELF Header).
+fn header(alloc: Global, start: u32) -> Result<Out, AllocError>
+    ensures { IfOk result (λ out. out ≡ file_header start) }
+{
+    let mut out = Out::new(alloc);
+    out.bytes(&IDENTIFICATION)?;
+    write_halves(&mut out, &[2, 243])?;
+    write_words(&mut out, &[1, start, 52, 0, 0])?;
+    write_halves(&mut out, &[52, 32, 1, 0, 0, 0])?;
+    Ok(out)
+}
+
+/// The executable of a guest: the items at the base, and that many zeros behind them, all of it readable,
+/// writable and executable, with the start at the base (System V gABI, ch. 4 and 5).
+///
+/// Want of memory is the only error.
+pub fn elf(alloc: Global, base: u32, items: &[Item], bss: u32) -> Result<Vec<u8>, AllocError>
+    requires writable { All IsWritable items.now }
+    requires page { base % 4096 ≡ 0 }
+    requires low { 0x1000 ≤ base }
+    requires high { base + (length (items_bytes items.now) + bss) ≤ 0xC0000000 }
+    requires some { 0 < length (items_bytes items.now) + bss }
+    requires few { length (items_bytes items.now) + bss ≤ 0x400000 }
+    ensures guest { IfOk result (λ file. IsGuest base (items_bytes items.now) bss file.items) }
+    ensures file { IfOk result (λ file. file.items ≡ guest_file base (items_bytes items.now) bss) }
+{
+    let body = written(alloc, items)?;
+    let filesz = body.len() as u32;
+    let mut out = header(alloc, base)?;
+    write_words(&mut out, &[1, 84, base, base, filesz, filesz + bss, 7, 4])?;
+    out.bytes(body.as_slice())?;
+    Ok(out.into_vec())
+}
