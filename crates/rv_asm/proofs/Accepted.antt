@@ -1,13 +1,12 @@
 -- A guest's file is accepted.
-use Rattle.std.proofs.Common.{◌≡◌, ℕ, ◌+◌, ◌-◌, ◌*◌, ◌/◌, ◌%◌, ◌<◌, ◌≤◌, ◌^◌, ◌==◌, Bool, true, false, not, cond, ◌&&◌, ◌||◌, nat_lt, nat_le, List, [], ◌∷◌, ◌++◌, length, find, slice_index, Option, Some, None, option_map, is_none, refl, ap, sym, ◌∙◌, arith}
-use Rattle.std.specs.List.{range_with_len}
+use Rattle.std.proofs.Common.{◌≡◌, ℕ, ◌+◌, ◌/◌, ◌%◌, ◌<◌, ◌≤◌, ◌^◌, ◌==◌, true, false, not, cond, ◌&&◌, ◌||◌, nat_lt, List, [], ◌∷◌, ◌++◌, length, Option, Some, None, option_map, is_none, refl, ap, ◌∙◌, arith}
 use Rattle.std.specs.Int.{bit_at}
 use Rattle.std.proofs.lemmas.Bool.{le-ltb, or_from, and_right}
 use Rattle.std.proofs.lemmas.List.FromFn.{length-range_with_len}
 use Rattle.elf_spec.specs.declared.Refusal.{Refusal}
 use Rattle.elf_spec.specs.declared.Refusal.TheVariants.{NotElf, ShortTable, Dynamic, ShortSegment, Outside, TooManyPages, Entry}
 use Rattle.elf_spec.specs.Fields.{u16_at, u32_at}
-use Rattle.elf_spec.specs.Header.{ProgramHeader, e_entry, e_phnum, is_load, is_dynamic, is_segment, program_header, segments}
+use Rattle.elf_spec.specs.Header.{ProgramHeader, e_entry, is_load, is_dynamic, is_segment, program_header, segments}
 use Rattle.elf_spec.specs.Segments.{page_numbers, page_permission}
 use Rattle.elf_spec.specs.Refusals.{refuse_if, first_given, not_elf, not_elf32, not_exec, not_riscv, compressed, entry_size, short_table, dynamic, is_short, short_segment, is_outside, outside, overlap, too_many_pages, entry_refusal, refusal_of}
 use Rattle.elf_spec.specs.Image.{is_image}

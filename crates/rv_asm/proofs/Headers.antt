@@ -1,10 +1,10 @@
 -- What the fields of a guest's file are read as.
-use Rattle.std.proofs.Common.{cond, filter, ◌≡◌, ℕ, ◌+◌, ◌<◌, ◌≤◌, ◌^◌, List, [], ◌∷◌, ◌++◌, length, get_or, slice_index, refl, ap, sym, ◌∙◌, arith, length-append}
+use Rattle.std.proofs.Common.{cond, filter, ◌≡◌, ℕ, ◌+◌, ◌<◌, ◌^◌, List, [], ◌∷◌, ◌++◌, length, slice_index, refl, ap, ◌∙◌, length-append}
 use Rattle.std.proofs.lemmas.List.{get_or-append-add}
 use Rattle.std.proofs.lemmas.Bool.{lt-ltb}
 use Rattle.std.proofs.lemmas.Nat.{from_le_bytes-to_le_bytes_4}
 use Rattle.elf_spec.specs.Fields.{u16_at, u32_at}
-use Rattle.elf_spec.specs.Header.{ProgramHeader, is_segment, e_entry, e_phnum, program_header, program_headers, segments}
+use Rattle.elf_spec.specs.Header.{ProgramHeader, is_segment, e_entry, e_phnum, program_header, segments}
 use Rattle.rv_asm.specs.File.{file_header, segment_header}
 
 -- both headers of a guest's file

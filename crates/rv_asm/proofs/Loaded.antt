@@ -1,11 +1,12 @@
 -- What the image of a guest's file holds.
-use Rattle.std.proofs.Common.{◌≡◌, ℕ, ◌+◌, ◌-◌, ◌/◌, ◌%◌, ◌<◌, ◌≤◌, Bool, true, false, cond, ◌&&◌, nat_lt, nat_le, List, [], ◌∷◌, ◌++◌, length, find, map, slice_index, Option, Some, None, refl, ap, sym, ◌∙◌, arith}
+use Rattle.std.proofs.Common.{◌≡◌, ℕ, ◌+◌, ◌-◌, ◌*◌, ◌≤◌, Bool, true, false, cond, ◌&&◌, nat_lt, nat_le, List, length, find, map, slice_index, Some, None, refl, ap, ◌∙◌, arith}
+use Rattle.std.specs.List.{range_with_len}
 use Rattle.memory_spec.specs.Pages.{Mapped}
-use Rattle.elf_spec.specs.Header.{ProgramHeader, segments}
+use Rattle.elf_spec.specs.Header.{ProgramHeader}
 use Rattle.elf_spec.specs.Segments.{has_address, page_numbers, page_permission}
-use Rattle.elf_spec.specs.Image.{image_pages, image_byte, segment_byte, entry_of}
+use Rattle.elf_spec.specs.Image.{image_pages, image_byte, image_page, image_memory, segment_byte, entry_of}
 use Rattle.rv_asm.specs.File.{guest_file}
-use Rattle.rv_asm.specs.Guest.{IsGuest, guest_pages, byte_from}
+use Rattle.rv_asm.specs.Guest.{IsGuest, guest_pages, guest_memory, byte_from}
 use Rattle.rv_asm.proofs.Headers.{guest_segment, byte-file, entry-file}
 use Rattle.rv_asm.proofs.Pages.{mapped, pages-one}
 use Rattle.rv_asm.proofs.Accepted.{Fits, base_fits, file, one_segment, accepted}
@@ -41,6 +42,10 @@ module _ (base memsz : ℕ) (bytes : List ℕ) (fits : Fits base (length bytes) 
       ∙ ap (λ b. cond b (slice_index whole (84 + (address - base))) 0) (same_place base (length bytes) memsz address fits.within)
       ∙ ap (λ byte. cond here byte 0) (byte-file base (length bytes) memsz bytes (address - base))
 
+  pub memory-loaded : image_memory whole ≡ guest_memory base bytes memsz
+  unfolding image_memory image_page
+  memory-loaded = λ i. map (λ (page : Mapped). map (λ address. bytes-loaded address i) (range_with_len (4096 * page.number) 4096)) (pages-loaded i)
+
   pub start-loaded : entry_of whole ≡ base
   unfolding entry_of
   start-loaded = entry-file base (length bytes) memsz bytes (base_fits base (length bytes) memsz fits)
@@ -53,6 +58,7 @@ guest-loaded base bss bytes fits =
     record {
       accepted = accepted base (length bytes) memsz bytes fits refl;
       pages = pages-loaded base memsz bytes fits;
-      memory = bytes-loaded base memsz bytes fits;
+      bytes_at = bytes-loaded base memsz bytes fits;
+      memory = memory-loaded base memsz bytes fits;
       start = start-loaded base memsz bytes fits;
     }

@@ -1,8 +1,8 @@
 -- The pages that one segment touches.
-use Rattle.std.proofs.Common.{map, fold, bit_or, max, ◌≡◌, ℕ, zero, suc, ◌+◌, ◌-◌, ◌/◌, ◌%◌, ◌<◌, ◌≤◌, Bool, true, false, cond, ◌||◌, ◌&&◌, List, [], ◌∷◌, ◌++◌, length, filter, nat_le, refl, ap, sym, ◌∙◌, subst, arith, add-zero}
+use Rattle.std.proofs.Common.{map, fold, bit_or, ◌≡◌, ℕ, zero, suc, ◌+◌, ◌-◌, ◌/◌, ◌%◌, ◌<◌, ◌≤◌, Bool, true, false, cond, ◌||◌, [], ◌∷◌, ◌++◌, filter, nat_le, refl, ap, sym, ◌∙◌, arith, add-zero}
 use Rattle.std.specs.List.{range_with_len}
 use Rattle.std.proofs.lemmas.List.Elements.{filter-append}
-use Rattle.std.proofs.lemmas.Bool.{leb-false, le-leb, lt-leb, and_from, and_left}
+use Rattle.std.proofs.lemmas.Bool.{le-leb, lt-leb, and_from, and_left}
 use Rattle.memory_spec.specs.Pages.{Mapped}
 use Rattle.elf_spec.specs.Segments.{touches, page_numbers, highest_page, page_permission, segment_permission}
 use Rattle.rv_asm.specs.Guest.{pages_taken, guest_pages}

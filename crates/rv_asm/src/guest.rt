@@ -1,7 +1,7 @@
 ghost use Rattle.std.specs.Prelude.{◌≡◌, ◌≤◌, ◌<◌, ◌+◌, ◌^◌, ◌%◌, ◌++◌, All, length, IfOk, OnOk};
-ghost use Rattle.rv_asm.specs.Items.{items_bytes, IsWritable};
+ghost use Rattle.rv_asm.specs.Items.{items_bytes, memory_size, IsWritable};
 ghost use Rattle.rv_asm.specs.File.{halves, words, file_header, segment_header, guest_file};
-ghost use Rattle.rv_asm.specs.Guest.{IsGuest};
+ghost use Rattle.rv_asm.specs.Guest.{pages_taken, IsGuest};
 
 use crate::item::{Item, written};
 use ith_fields::Out;
@@ -42,17 +42,18 @@ fn header(alloc: Global, start: u32) -> Result<Out, AllocError>
     Ok(out)
 }
 
-/// The executable of a guest: the items at the base, and that many zeros behind them, all of it readable,
-/// writable and executable, with the start at the base (System V gABI, ch. 4 and 5).
+/// The executable of a guest that the loader takes: the items at the base, and `bss` bytes of zeros behind them,
+/// all of it readable, writable and executable, and the start at the base (System V gABI, ch. 4 and 5).
 ///
-/// Want of memory is the only error.
+/// The base is a page's first address, at least 0x1000; the memory has at least one byte and at most 1,024 pages,
+/// and ends at 0xC0000000 at the latest. Want of memory is the only error.
 pub fn elf(alloc: Global, base: u32, items: &[Item], bss: u32) -> Result<Vec<u8>, AllocError>
     requires writable { All IsWritable items.now }
     requires page { base % 4096 ≡ 0 }
     requires low { 0x1000 ≤ base }
-    requires high { base + (length (items_bytes items.now) + bss) ≤ 0xC0000000 }
-    requires some { 0 < length (items_bytes items.now) + bss }
-    requires few { length (items_bytes items.now) + bss ≤ 0x400000 }
+    requires high { base + memory_size items.now bss ≤ 0xC0000000 }
+    requires some { 0 < memory_size items.now bss }
+    requires few { pages_taken (memory_size items.now bss) ≤ 1024 }
     ensures guest { IfOk result (λ file. IsGuest base (items_bytes items.now) bss file.items) }
     ensures file { IfOk result (λ file. file.items ≡ guest_file base (items_bytes items.now) bss) }
 {
