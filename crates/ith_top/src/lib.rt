@@ -10,10 +10,6 @@ use std::alloc::Global;
 
 mod command;
 mod complaints;
-#[cfg(test)]
-mod guest_tests;
-#[cfg(test)]
-mod guests;
 mod line;
 mod outside;
 mod program;

@@ -6,7 +6,7 @@ use std::collections::BTreeMap;
 use std::test::Fail;
 
 /// An executable that puts out `hi` and a newline, and exits with 0: its header, its program header, its bytes.
-pub const HEADER: &[u8] =
+const HEADER: &[u8] =
     b"\x7f\x45\x4c\x46\x01\x01\x01\x00\x00\x00\x00\x00\x00\x00\x00\x00\x02\x00\xf3\x00\x01\x00\x00\x00\x00\x00\x01\x00\x34\x00\x00\x00\x00\x00\x00\x00\x00\x00\x00\x00\x34\x00\x20\x00\x01\x00\x00\x00\x00\x00\x00\x00";
 
 const PROGRAM_HEADER: &[u8] =
@@ -35,7 +35,7 @@ fn put(
 }
 
 /// A host with the executable `hi.elf` and files that aren't taken, of which the calls of these numbers fail.
-pub fn host_with(alloc: Global, failing: &[u64], part: u64) -> Result<MemHost, AllocError> {
+fn host_with(alloc: Global, failing: &[u64], part: u64) -> Result<MemHost, AllocError> {
     let mut files = BTreeMap::new(alloc);
     put(
         alloc,
@@ -57,7 +57,7 @@ pub fn host_with(alloc: Global, failing: &[u64], part: u64) -> Result<MemHost, A
 }
 
 /// The status of a line, whose words stand between spaces.
-pub fn status_of<R: Sync>(
+fn status_of<R: Sync>(
     rt: &R,
     alloc: Global,
     host: &mut MemHost,

@@ -1,13 +1,17 @@
 //! Worked runs of small guests: the reports and the ends that follow from the rules by hand.
-use crate::guests::{BYTES, CREATES, CROSS, Guest, LATE, LENGTH, PAIR, PERM, PUTS, SELF, TRAP};
-use crate::tests::{HEADER, host_with, status_of};
-use ith_host::MemHost;
+use crate::guests::{BYTES, CREATES, CROSS, Guest, HI, LATE, LENGTH, PAIR, PERM, PUTS, SELF, TRAP};
+use ith_host::{MemHost, OpenGate};
+use ith_top::top;
 use machine_spec::End;
 use release_core::{Core, Setup};
 use std::alloc::{AllocError, Global};
 use std::collections::BTreeMap;
 use std::process::Abort;
 use std::test::Fail;
+
+/// What each of these executables begins with (System V gABI, ch. 4, ELF Header).
+const HEADER: &[u8] =
+    b"\x7f\x45\x4c\x46\x01\x01\x01\x00\x00\x00\x00\x00\x00\x00\x00\x00\x02\x00\xf3\x00\x01\x00\x00\x00\x00\x00\x01\x00\x34\x00\x00\x00\x00\x00\x00\x00\x00\x00\x00\x00\x34\x00\x20\x00\x01\x00\x00\x00\x00\x00\x00\x00";
 
 /// The executable that has a guest as its one segment.
 fn executable(alloc: Global, guest: Guest) -> Result<Vec<u8>, AllocError> {
@@ -17,16 +21,7 @@ fn executable(alloc: Global, guest: Guest) -> Result<Vec<u8>, AllocError> {
     };
     let mut file = Vec::new(alloc);
     file.extend_from_slice(HEADER)?;
-    for word in [
-        1,
-        84,
-        0x10000,
-        0x10000,
-        length,
-        guest.size,
-        7,
-        4,
-    ] {
+    for word in [1, 84, 0x10000, 0x10000, length, guest.size, 7, 4] {
         file.extend_from_slice(&u32::to_le_bytes(word))?;
     }
     file.extend_from_slice(guest.bytes)?;
@@ -122,6 +117,20 @@ const ROWS: [Row; 8] = [
         output: b"\noutput 33\n\x01\x02\x03\x04\x05\x06\x07\x08\x09\x0a\x0b\x0c\x0d\x0e\x0f\x10\x11\x12\x13\x14\x15\x16\x17\x18\x19\x1a\x1b\x1c\x1d\x1e\x1f\xf5\xea\n",
     },
 ];
+
+/// The status of a line, whose words stand between spaces.
+fn status_of<R: Sync>(
+    rt: &R,
+    alloc: Global,
+    host: &mut MemHost,
+    line: &str,
+) -> Result<u8, AllocError> {
+    let mut words = Vec::new(alloc);
+    for word in line.split_whitespace() {
+        words.push(String::from_str(alloc, word)?)?;
+    }
+    Ok(top(rt, alloc, &words, host, &OpenGate))
+}
 
 /// Runs a guest on an input, and compares.
 fn compare<R: Sync + Abort>(rt: &R, alloc: Global, row: &Row, input: &[u8]) -> Result<(), Fail> {
@@ -223,27 +232,27 @@ fn limits_end_a_run(rt: HostRuntime) -> Result<(), Fail> {
     let alloc = rt.alloc();
     for (line, status, report) in [
         (
-            "ithreads run hi.elf empty --fuel 5",
+            "ithreads run guest input --fuel 5",
             0,
             "round 0\nend exit 0\nsteps 2\nreused 0\nexecuted 2\ninstructions 8\nby 2 0 0 0\nschedule 0+ 0+\n",
         ),
         (
-            "ithreads run hi.elf empty --fuel 4",
+            "ithreads run guest input --fuel 4",
             1,
             "round 0\nend spent\nsteps 1\nreused 0\nexecuted 1\ninstructions 4\nby 1 0 0 0\nschedule 0+\n",
         ),
         (
-            "ithreads run hi.elf empty --steps 2",
+            "ithreads run guest input --steps 2",
             0,
             "round 0\nend exit 0\nsteps 2\nreused 0\nexecuted 2\ninstructions 8\nby 2 0 0 0\nschedule 0+ 0+\n",
         ),
         (
-            "ithreads run hi.elf empty --steps 1",
+            "ithreads run guest input --steps 1",
             1,
             "round 0\nend spent\nsteps 1\nreused 0\nexecuted 1\ninstructions 5\nby 1 0 0 0\nschedule 0+\n",
         ),
     ] {
-        let mut host = host_with(alloc, &[], 0)?;
+        let mut host = host_of(alloc, HI, b"")?;
         let got = status_of(&rt, alloc, &mut host, line)?;
         assert_eq!(rt; got, status, "at {line}");
         assert!(rt; host.printed().starts_with(report.as_bytes()), "at {line}");
