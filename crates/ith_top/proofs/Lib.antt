@@ -3,3 +3,5 @@ pub mod Worlds
 pub mod PartWay
 pub mod Reporting
 pub mod Ending
+pub mod NoLine
+pub mod Given

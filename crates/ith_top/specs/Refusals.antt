@@ -1,9 +1,15 @@
 -- Why a part of a call refused, by the status that it gives.
-use Rattle.std.specs.Prelude.{◌≡◌, ℕ, false, List, take, ⊤}
+use Rattle.std.specs.Prelude.{◌≡◌, ◌≢◌, ℕ, false, List, take, None, ⊤}
 use Rattle.ith_host.specs.World.{World, Rose, Stays}
 use Rattle.elf_spec.specs.Image.{is_image}
 use Rattle.ith_top.specs.declared.status.Status.{Status}
 use Rattle.ith_top.specs.declared.status.Status.TheVariants as status
+use Rattle.clap.specs.Words.{kind_of}
+use Rattle.clap.specs.declared.error.Error.{Error}
+use Rattle.clap.specs.declared.error.kind.ErrorKind.TheVariants.{OutOfMemory}
+use Rattle.ith_top.specs.declared.words.LineFault.{LineFault}
+use Rattle.ith_top.specs.declared.words.LineFault.TheVariants as fault
+use Rattle.ith_top.specs.Words.{Text, line_of}
 use Rattle.ith_top.specs.Ends.{Named, FailedToRead, IsLong, Prints}
 
 -- Why a file wasn't read. (this project's own)
@@ -25,3 +31,13 @@ WhyUnprinted text before after status.WriteFault =
     Rose before.print_faults after.print_faults × ((count : ℕ) × Prints before after (take count text))
 WhyUnprinted text before after status.Memory = Stays before after
 WhyUnprinted text before after _ = ⊥
+
+-- What an error of the parser says: the words are refused, unless the host's memory ran out. (this project's own)
+abbrev pub WhyFault : Error → LineFault → Type 0
+WhyFault error (fault.Refused text) = kind_of error ≢ OutOfMemory
+WhyFault error fault.Memory = kind_of error ≡ OutOfMemory
+
+-- Why words give no line. (this project's own)
+abbrev pub WhyNoLine : List Text → LineFault → Type 0
+WhyNoLine words (fault.Refused text) = line_of words ≡ None
+WhyNoLine words fault.Memory = ⊤

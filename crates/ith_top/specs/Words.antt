@@ -1,6 +1,12 @@
--- What the words of a command line ask for.
-use Rattle.std.specs.Prelude.{ℕ, Bool, not, ◌&&◌, ◌==◌, List, [], length, codes, slice_index, slice_index_or, if◌then◌else◌, Option, Some, None}
+-- What the words of a command line ask for, as the kit's parser of command lines takes them.
+use Rattle.std.specs.Prelude.{ℕ, true, List, [], ◌∷◌, codes, if◌then◌else◌, Option, Some, None, unwrap_or, option_and_then}
 use Rattle.std.specs.Str.{bytes_eq}
+use Rattle.std.specs.Str.Parse.{digits_value, without_leading_plus}
+use Rattle.clap.specs.Words.{App, Kinds, Row, Rule, fault_of, first_of, new_app, new_rule, one_of, subcommand_of, with_rule, with_subcommand}
+use Rattle.clap.specs.Simple.{on_top}
+use Rattle.clap.specs.ValueTests.{is_unsigned_in}
+use Rattle.clap.specs.declared.builder.action.ArgAction.TheVariants.{Set}
+use Rattle.clap.specs.declared.builder.value_parser.ValueParser.TheVariants as parser
 
 -- A word, by its bytes. (this project's own)
 abbrev pub Text : Type 0
@@ -18,30 +24,74 @@ pub record RunLine : Type 0 where
 pub data Line : Type 0 where
   Runs : RunLine → Line
 
--- The most turns of a thunk, and the most steps of a run, where the line doesn't say. (this project's own)
+-- The most workers, and how many there are where the line doesn't say. (this project's own)
+abbrev pub workers_most : ℕ
+workers_most = 16
+
+abbrev pub default_workers : ℕ
+default_workers = 4
+
+-- The most turns of a thunk that a line may ask for, and how many they are where it doesn't say. (this project's own)
+abbrev pub fuel_most : ℕ
+fuel_most = 16777216
+
 abbrev pub default_fuel : ℕ
 default_fuel = 1000000
+
+-- The most steps of a run that a line may ask for, and how many they are where it doesn't say. (this project's own)
+abbrev pub limit_most : ℕ
+limit_most = 65536
 
 abbrev pub default_limit : ℕ
 default_limit = 4096
 
--- Whether a word names a file: it isn't empty, and it doesn't begin with a hyphen. (POSIX.1-2017, XBD 12.2, guideline 4)
-abbrev pub is_name : Text → Bool
-is_name word = not (length word == 0) && not (slice_index word 0 == 45)
+-- An operand, which has to be there. (POSIX.1-2017, XBD 12.1)
+abbrev pub operand_rule : Text → Rule
+operand_rule id = record (new_rule id) { required = true }
 
--- The word at a place of the line. (this project's own)
-abbrev pub word_at : List Text → ℕ → Text
-word_at words i = slice_index_or words i []
+-- An option whose argument is a whole number, from 1 to the most. (this project's own)
+abbrev pub number_rule : Text → ℕ → Rule
+number_rule id most = record (new_rule id) { long = Some id; action = Some Set; parser = Some (parser.Unsigned 1 most) }
 
--- Whether the words are the program's name, `run`, two names, `--workers` and `1`. (this project's own)
-abbrev pub is_run : List Text → Bool
-is_run words =
-    (length words == 6) && bytes_eq (word_at words 1) (codes "run") && is_name (word_at words 2) && is_name (word_at words 3)
-    && bytes_eq (word_at words 4) (codes "--workers") && bytes_eq (word_at words 5) (codes "1")
+-- The command that runs a guest: two operands and three options. (this project's own)
+abbrev pub run_command : App
+run_command =
+    with_rule
+    (with_rule
+    (with_rule (with_rule (with_rule (new_app (codes "run")) (operand_rule (codes "ELF"))) (operand_rule (codes "INPUT")))
+    (number_rule (codes "workers") workers_most))
+    (number_rule (codes "fuel") fuel_most))
+    (number_rule (codes "steps") limit_most)
 
--- What the words ask for, or none where they aren't accepted. (this project's own)
+-- The program's command line: one of its commands has to be named. (this project's own)
+abbrev pub command_line : App
+command_line = with_subcommand (on_top (λ s. record s { subcommand_required = true }) (new_app (codes "ithreads"))) run_command.top
+
+-- The number that a text writes where it lies from 1 to the most, and else the default. (this project's own)
+abbrev pub number_or : ℕ → ℕ → Option Text → ℕ
+number_or most default None = default
+number_or most default (Some text) = if is_unsigned_in 1 most text then digits_value 10 (without_leading_plus text) else default
+
+-- The line of what was found for a command's operands and options. (this project's own)
+abbrev pub run_line : List Row → RunLine
+run_line rows =
+    record {
+      elf = unwrap_or (first_of (codes "ELF") rows) [];
+      input = unwrap_or (first_of (codes "INPUT") rows) [];
+      workers = number_or workers_most default_workers (one_of (codes "workers") rows);
+      fuel = number_or fuel_most default_fuel (one_of (codes "fuel") rows);
+      limit = number_or limit_most default_limit (one_of (codes "steps") rows);
+    }
+
+-- The line of a command's name and of what was found for it. (this project's own)
+abbrev pub line_named : Text × List Row → Option Line
+line_named p = if bytes_eq p.0 (codes "run") then Some (Runs (run_line p.1)) else None
+
+-- A line, where there is no fault. (this project's own)
+abbrev pub if_faultless : Kinds → Option Line → Option Line
+if_faultless [] line = line
+if_faultless (k ∷ ks) line = None
+
+-- What the words ask for, or none where they aren't accepted; the first is the program's name. (this project's own)
 unfoldable pub line_of : List Text → Option Line
-line_of words =
-    if is_run words
-    then Some (Runs (record { elf = word_at words 2; input = word_at words 3; workers = 1; fuel = default_fuel; limit = default_limit }))
-    else None
+line_of words = if_faultless (fault_of command_line words) (option_and_then line_named (subcommand_of command_line words))

@@ -1,15 +1,20 @@
 //! The lines that go to the standard error. Nothing rests on them, so a line that finds no memory is cut short.
 
+use clap::Error;
 use elf_spec::Refusal;
 use ith_text::decimal;
 use std::alloc::{AllocError, Global};
 
-/// What a call wants to be told whose words aren't accepted.
-pub const USAGE: &[u8] =
-    b"words: they are to be\nithreads run ELF INPUT --workers 1\nwith the names of an executable and of its input";
-
 /// What there is to say where the host's memory ran out.
 pub const NO_MEMORY: &[u8] = b"no memory";
+
+/// Why words are refused, with the usage, or the help that they ask for.
+pub fn words_line(alloc: Global, error: &Error) -> Vec<u8> {
+    match error.to_string(alloc) {
+        Ok(text) => name_line(alloc, "words: ", text.as_str().trim_end()),
+        Err(_) => name_line(alloc, "words: ", ""),
+    }
+}
 
 /// A text and a name after it.
 pub fn name_line(alloc: Global, text: &str, name: &str) -> Vec<u8> {

@@ -8,6 +8,7 @@ ghost use Rattle.ith_top.specs.Ends.{Answers, Completes};
 use ith_host::{Gate, Host};
 use std::alloc::Global;
 
+mod command;
 mod complaints;
 mod line;
 mod outside;
@@ -18,12 +19,15 @@ mod status;
 #[cfg(test)]
 mod tests;
 mod words;
+#[cfg(test)]
+mod words_tests;
 
 pub use status::Status;
 
 /// Does what the words ask for, and gives the exit status. The words begin with the program's name.
 ///
-/// `run ELF INPUT --workers 1` runs the executable on the input from scratch, and prints the report of the round.
+/// `run ELF INPUT --workers W --fuel F --steps S` runs the executable on the input from scratch, and prints the report of the round.
+/// The options may be left out.
 #[tactic(auto, using(crate::proofs::Complete::complete))]
 pub fn top<R: Sync, H: Host, G: Gate + Sync>(
     rt: &R,

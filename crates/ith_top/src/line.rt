@@ -16,6 +16,7 @@ pub struct RunLine<'a> {
     /// The most steps of a run.
     pub limit: u32,
     ghost some_worker: { 1 ≤ workers },
+    ghost most_workers: { workers ≤ 16 },
     ghost some_fuel: { 1 ≤ fuel },
     ghost most_fuel: { fuel ≤ 16777216 },
     ghost some_steps: { 1 ≤ limit },

@@ -9,12 +9,12 @@ ghost use Rattle.ith_top.specs.Ends.{Prints, AreContents, RunEnds, Ends};
 ghost use Rattle.ith_top.specs.Refusals.{WhyNoSetup, WhyUnprinted};
 ghost use Rattle.ith_top.specs.Alone.{alone_report, alone_exits, IsReady};
 
-use super::complaints::{NO_MEMORY, USAGE, image_line};
+use super::complaints::{NO_MEMORY, image_line};
 use super::line::RunLine;
 use super::outside::{print_text, read_file};
 use super::report::{Report, first_report};
 use super::status::Status;
-use super::words::line_of;
+use super::words::{LineFault, line_of};
 use elf_load::LoadError;
 use ith_host::Host;
 use release_core::Setup;
@@ -136,11 +136,15 @@ fn run<H: Host>(alloc: Global, host: &mut H, line: &RunLine<'_>) -> Status
 pub fn status_of<H: Host>(alloc: Global, words: &[String], host: &mut H) -> Status
     ensures { Ends (line.line_of (map string_bytes words.now)) (H.world host.old) (H.world host.new) result }
 {
-    match line_of(words) {
-        Some(line) => run(alloc, host, &line),
-        None => {
-            host.complain(USAGE);
+    match line_of(alloc, words) {
+        Ok(line) => run(alloc, host, &line),
+        Err(LineFault::Refused(text)) => {
+            host.complain(text.as_slice());
             Status::Words
+        }
+        Err(LineFault::Memory) => {
+            host.complain(NO_MEMORY);
+            Status::Memory
         }
     }
 }

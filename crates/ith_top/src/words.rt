@@ -1,50 +1,117 @@
 //! The words of the command line.
 
-ghost use Rattle.std.specs.Prelude.{◌≡◌, map, string_bytes, IfSome, IfNone};
+ghost use Rattle.std.specs.Prelude.{◌≡◌, ◌≤◌, map, string_bytes, unwrap_or, [], IfOk, IfErr};
+ghost use Rattle.clap.specs.Words.{fault_of, first_of, found_of, one_of, rows_of, subcommand_of, subcommand_rows_of};
 ghost use Rattle.ith_top.specs.Words as line;
-ghost use Rattle.ith_top.specs.Said.{line_said};
+ghost use Rattle.ith_top.specs.Said.{run_said, line_said};
+ghost use Rattle.ith_top.specs.Refusals.{WhyNoLine, WhyFault};
 
+use super::command::{MOST_FUEL, MOST_STEPS, MOST_WORKERS, command_line};
+use super::complaints::{name_line, words_line};
 use super::line::RunLine;
+use clap::error::ErrorKind;
+use clap::{ArgMatches, Error};
+use std::alloc::Global;
 
-/// The most turns of a thunk, and the most steps of a run, where the line doesn't say.
+/// How many workers, turns of a thunk and steps of a run there are where the line doesn't say.
+const DEFAULT_WORKERS: u32 = 4;
+
 const DEFAULT_FUEL: u32 = 1_000_000;
 
-const DEFAULT_LIMIT: u32 = 4096;
+const DEFAULT_STEPS: u32 = 4096;
 
-/// What the words ask for, or none where they aren't accepted.
-#[tactic(auto, unfolding(crate::specs::Words::line_of))]
-pub fn line_of<'a>(words: &'a [String]) -> Option<RunLine<'a>>
-    ensures accepted { IfSome result (λ said. line.line_of (map string_bytes words.entry.now) ≡ Some (line_said said)) }
-    ensures refused { IfNone result (line.line_of (map string_bytes words.entry.now) ≡ None) }
+/// Why words give no line.
+#[derive(Debug, Drop)]
+pub enum LineFault {
+    /// They aren't accepted, or ask for help: the text to show.
+    Refused(Vec<u8>),
+    /// The host's memory ran out.
+    Memory,
+}
+
+/// What an error of the parser says of the words.
+fn fault_by(alloc: Global, error: Error) -> LineFault
+    ensures { WhyFault error result }
 {
-    if !is_run(words) {
-        return None;
+    if error.kind() == ErrorKind::OutOfMemory {
+        LineFault::Memory
+    } else {
+        LineFault::Refused(words_line(alloc, &error))
     }
-    Some(RunLine {
-        elf: words[2].as_str(),
-        input: words[3].as_str(),
-        workers: 1,
-        fuel: DEFAULT_FUEL,
-        limit: DEFAULT_LIMIT,
-    })
 }
 
-/// Whether the words are the program's name, `run`, two names, `--workers` and `1`.
-fn is_run(words: &[String]) -> bool
-    ensures { result ≡ line.is_run (map string_bytes words.now) }
+/// What the parser finds in the words.
+#[tactic(auto, using(crate::proofs::NoLine::no_line))]
+fn matches_given<'a>(alloc: Global, words: &'a [String]) -> Result<ArgMatches<'a>, LineFault>
+    ensures faultless { IfOk result (λ given. fault_of line.command_line (map string_bytes words.entry.now) ≡ []) }
+    ensures rows { IfOk result (λ given. subcommand_rows_of given ≡ subcommand_of line.command_line (map string_bytes words.entry.now)) }
+    ensures refused { IfErr result (WhyNoLine (map string_bytes words.entry.now)) }
 {
-    words.len() == 6
-        && words[1].as_str() == "run"
-        && is_name(words[2].as_str())
-        && is_name(words[3].as_str())
-        && words[4].as_str() == "--workers"
-        && words[5].as_str() == "1"
+    let command = match command_line(alloc) {
+        Ok(command) => command,
+        Err(_) => return Err(LineFault::Memory),
+    };
+    match command.try_get_matches_from(words) {
+        Ok(given) => Ok(given),
+        Err(error) => Err(fault_by(alloc, error)),
+    }
 }
 
-/// Whether a word names a file: it isn't empty, and it doesn't begin with a hyphen (POSIX.1-2017, XBD 12.2, guideline 4).
-fn is_name(word: &str) -> bool
-    ensures { result ≡ line.is_name word.now }
+/// The text of an operand, or none where there is no such operand.
+#[tactic(auto, using(crate::proofs::Given::first_value_of_rows))]
+fn text_of<'a>(given: &ArgMatches<'a>, id: &str) -> &'a str
+    ensures { result.now ≡ unwrap_or (first_of id.now (rows_of (found_of given.now))) [] }
 {
-    let bytes = word.as_bytes();
-    !bytes.is_empty() && bytes[0] != b'-'
+    match given.get_str(id) {
+        Some(text) => text,
+        None => "",
+    }
+}
+
+/// The number of an option, or the default where the line has no such option.
+fn number_of(given: &ArgMatches<'_>, id: &str, most: u32, default: u32) -> u32
+    requires some { 1 ≤ default }
+    requires within { default ≤ most }
+    ensures value { result ≡ line.number_or most default (one_of id.now (rows_of (found_of given.now))) }
+    ensures least { 1 ≤ result }
+    ensures most { result ≤ most }
+{
+    match given.get_one::<u32>(id) {
+        Some(number) if 1 <= number && number <= most => number,
+        _ => default,
+    }
+}
+
+/// The line of what was found for the command that runs a guest.
+fn run_line<'a>(given: &ArgMatches<'a>) -> RunLine<'a>
+    ensures { run_said result ≡ line.run_line (rows_of (found_of given.now)) }
+{
+    RunLine {
+        elf: text_of(given, "ELF"),
+        input: text_of(given, "INPUT"),
+        workers: number_of(given, "workers", MOST_WORKERS, DEFAULT_WORKERS),
+        fuel: number_of(given, "fuel", MOST_FUEL, DEFAULT_FUEL),
+        limit: number_of(given, "steps", MOST_STEPS, DEFAULT_STEPS),
+    }
+}
+
+/// What the words ask for. The first of them is the program's name.
+///
+/// # Errors
+///
+/// `Refused` where the words aren't accepted, and `Memory` where the host's memory ran out.
+#[tactic(auto, unfolding(crate::specs::Words::line_of))]
+pub fn line_of<'a>(alloc: Global, words: &'a [String]) -> Result<RunLine<'a>, LineFault>
+    ensures accepted { IfOk result (λ said. line.line_of (map string_bytes words.entry.now) ≡ Some (line_said said)) }
+    ensures refused { IfErr result (WhyNoLine (map string_bytes words.entry.now)) }
+{
+    let given = match matches_given(alloc, words) {
+        Ok(given) => given,
+        Err(fault) => return Err(fault),
+    };
+    match given.subcommand() {
+        Some((name, below)) if name == "run" => Ok(run_line(below)),
+        // the parser takes no other command
+        _ => Err(LineFault::Refused(name_line(alloc, "words: ", "no command"))),
+    }
 }

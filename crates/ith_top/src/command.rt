@@ -1,0 +1,107 @@
+//! The command line that the program takes, as a command of `clap`.
+
+ghost use Rattle.std.specs.Prelude.{◌≡◌, IfOk, false};
+ghost use Rattle.clap.specs.Words.{app_of, rule_of, shape_of, with_rule, with_subcommand};
+ghost use Rattle.clap.specs.declared.builder.command.Command.TheViews.{out-Command};
+ghost use Rattle.ith_top.specs.Words as line;
+
+use clap::builder::ValueParser;
+use clap::{Arg, ArgAction, Command};
+use std::alloc::{AllocError, Global};
+
+/// The most workers, turns of a thunk and steps of a run that a line may ask for.
+pub const MOST_WORKERS: u32 = 16;
+
+pub const MOST_FUEL: u32 = 16_777_216;
+
+pub const MOST_STEPS: u32 = 65_536;
+
+/// An operand, which has to be there (POSIX.1-2017, XBD 12.1).
+fn operand<'a>(alloc: Global, id: &'a str, help: &'a str) -> Arg<'a>
+    ensures rule { rule_of result ≡ line.operand_rule id.entry.now }
+    ensures local { result.global ≡ false }
+{
+    Arg::new(alloc, id).required(true).help(help)
+}
+
+/// An option whose argument is a whole number, from 1 to the most.
+fn number<'a>(alloc: Global, id: &'a str, most: u32, help: &'a str) -> Arg<'a>
+    ensures rule { rule_of result ≡ line.number_rule id.entry.now most }
+    ensures local { result.global ≡ false }
+{
+    Arg::new(alloc, id)
+        .long(id)
+        .action(ArgAction::Set)
+        .value_parser(ValueParser::Unsigned(1, u64::from(most)))
+        .help(help)
+}
+
+/// A command with an argument more.
+fn with_arg<'a>(command: Command<'a>, arg: Arg<'a>) -> Result<Command<'a>, AllocError>
+    requires { arg.global ≡ false }
+    ensures shape { IfOk result (λ c. app_of c ≡ with_rule (app_of command.entry) (rule_of arg.entry)) }
+    ensures local { IfOk result (λ c. (out-Command c).has_globals ≡ (out-Command command.entry).has_globals) }
+{
+    command.arg(arg)
+}
+
+/// A command with a command below it.
+fn with_command<'a>(above: Command<'a>, below: Command<'a>) -> Result<Command<'a>, AllocError>
+    requires { (out-Command below).has_globals ≡ false }
+    ensures { IfOk result (λ c. app_of c ≡ with_subcommand (app_of above.entry) (shape_of below.entry)) }
+{
+    above.subcommand(below)
+}
+
+/// The command that runs a guest.
+fn run_command<'a>(alloc: Global) -> Result<Command<'a>, AllocError>
+    ensures shape { IfOk result (λ c. app_of c ≡ line.run_command) }
+    ensures local { IfOk result (λ c. (out-Command c).has_globals ≡ false) }
+{
+    let command = Command::new(alloc, "run");
+    let command = with_arg(command, operand(alloc, "ELF", "The name of the executable"))?;
+    let command = with_arg(command, operand(alloc, "INPUT", "The name of the input"))?;
+    let command = with_arg(
+        command,
+        number(
+            alloc,
+            "workers",
+            MOST_WORKERS,
+            "How many workers, 1 to 16 [default: 4]",
+        ),
+    )?;
+    let command = with_arg(
+        command,
+        number(
+            alloc,
+            "fuel",
+            MOST_FUEL,
+            "The most turns of a thunk, 1 to 16777216 [default: 1000000]",
+        ),
+    )?;
+    let command = with_arg(
+        command,
+        number(
+            alloc,
+            "steps",
+            MOST_STEPS,
+            "The most steps of a run, 1 to 65536 [default: 4096]",
+        ),
+    )?;
+    Ok(command)
+}
+
+/// The program's command line.
+///
+/// # Errors
+///
+/// An error where the host's memory ran out.
+pub fn command_line<'a>(alloc: Global) -> Result<Command<'a>, AllocError>
+    ensures { IfOk result (λ c. app_of c ≡ line.command_line) }
+{
+    let run = run_command(alloc)?;
+    with_command(
+        Command::new(alloc, "ithreads").subcommand_required(true),
+        run,
+    )
+}

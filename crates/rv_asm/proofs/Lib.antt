@@ -1,0 +1,4 @@
+pub mod Headers
+pub mod Pages
+pub mod Accepted
+pub mod Loaded

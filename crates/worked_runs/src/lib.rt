@@ -1,0 +1,6 @@
+//! Worked runs: small guests whose reports follow from the rules by hand, run through the top call by tests.
+#![tactic(auto)]
+
+pub mod guests;
+#[cfg(test)]
+mod tests;

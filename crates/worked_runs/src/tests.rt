@@ -1,0 +1,261 @@
+//! Worked runs of small guests: the reports and the ends that follow from the rules by hand.
+use crate::guests::{BYTES, CREATES, CROSS, Guest, HI, LATE, LENGTH, PAIR, PERM, PUTS, SELF, TRAP};
+use ith_host::{MemHost, OpenGate};
+use ith_top::top;
+use machine_spec::End;
+use release_core::{Core, Setup};
+use std::alloc::{AllocError, Global};
+use std::collections::BTreeMap;
+use std::process::Abort;
+use std::test::Fail;
+
+/// What each of these executables begins with (System V gABI, ch. 4, ELF Header).
+const HEADER: &[u8] =
+    b"\x7f\x45\x4c\x46\x01\x01\x01\x00\x00\x00\x00\x00\x00\x00\x00\x00\x02\x00\xf3\x00\x01\x00\x00\x00\x00\x00\x01\x00\x34\x00\x00\x00\x00\x00\x00\x00\x00\x00\x00\x00\x34\x00\x20\x00\x01\x00\x00\x00\x00\x00\x00\x00";
+
+/// The executable that has a guest as its one segment.
+fn executable(alloc: Global, guest: Guest) -> Result<Vec<u8>, AllocError> {
+    let length = match u32::try_from(guest.bytes.len()) {
+        Ok(length) => length,
+        Err(_) => return Err(AllocError),
+    };
+    let mut file = Vec::new(alloc);
+    file.extend_from_slice(HEADER)?;
+    for word in [1, 84, 0x10000, 0x10000, length, guest.size, 7, 4] {
+        file.extend_from_slice(&u32::to_le_bytes(word))?;
+    }
+    file.extend_from_slice(guest.bytes)?;
+    Ok(file)
+}
+
+/// A host that has a guest and an input.
+fn host_of(alloc: Global, guest: Guest, input: &[u8]) -> Result<MemHost, AllocError> {
+    let mut files = BTreeMap::new(alloc);
+    files.insert(String::from_str(alloc, "guest")?, executable(alloc, guest)?)?;
+    files.insert(
+        String::from_str(alloc, "input")?,
+        Vec::from_slice(alloc, input)?,
+    )?;
+    Ok(MemHost::new(alloc, files, Vec::new(alloc), 0))
+}
+
+/// A run: its guest and input, and the status, the report up to the digest, and the output with the line before it.
+#[derive(Clone, Copy)]
+struct Row {
+    guest: Guest,
+    input: &'static [u8],
+    status: u8,
+    report: &'static str,
+    output: &'static [u8],
+}
+
+/// Two threads that add a word each.
+const PAIR_ROW: Row = Row {
+    guest: PAIR,
+    input: b"",
+    status: 0,
+    report: "round 0\nend exit 0\nsteps 12\nreused 0\nexecuted 12\ninstructions 51\nby 12\nschedule 0+ 1+ 0+ 2+ 1+ 2+ 0+ 1+ 2+ 0+ 0+ 0+\nmemory ",
+    output: b"\noutput 4\n\x0c\x00\x00\x00\n",
+};
+
+const ROWS: [Row; 8] = [
+    Row {
+        guest: LATE,
+        input: b"",
+        status: 0,
+        report: "round 0\nend exit 51\nsteps 5\nreused 0\nexecuted 5\ninstructions 22\nby 5\nschedule 0+ 1+ 0+ 1+ 0+\nmemory ",
+        output: b"\noutput 0\n\n",
+    },
+    Row {
+        guest: LENGTH,
+        input: b"\x00\x00\x00\x00\x00",
+        status: 0,
+        report: "round 0\nend exit 5\nsteps 2\nreused 0\nexecuted 2\ninstructions 6\nby 2\nschedule 0+ 0+\nmemory ",
+        output: b"\noutput 0\n\n",
+    },
+    Row {
+        guest: CROSS,
+        input: b"",
+        status: 1,
+        report: "round 0\nend deadlock\nsteps 5\nreused 0\nexecuted 5\ninstructions 17\nby 5\nschedule 0+ 1+ 0+ 1+ 0+\nmemory ",
+        output: b"\noutput 0\n\n",
+    },
+    Row {
+        guest: PERM,
+        input: b"",
+        status: 0,
+        report: "round 0\nend exit 4294967295\nsteps 2\nreused 0\nexecuted 2\ninstructions 5\nby 2\nschedule 0+ 0+\nmemory ",
+        output: b"\noutput 0\n\n",
+    },
+    Row {
+        guest: TRAP,
+        input: b"",
+        status: 1,
+        // the digest was computed by Python's hashlib, over the pages written out by hand: byte 0x11000 is 7
+        report: "round 0\nend trap 0 0001000c 4\nsteps 1\nreused 0\nexecuted 1\ninstructions 4\nby 1\nschedule 0+\nmemory 07535d053ffd22104b8bc8fe3ee5d976f5291bac9f39dcb74674fbcfadc4511e\n",
+        output: b"\noutput 0\n\n",
+    },
+    Row {
+        guest: SELF,
+        input: b"",
+        status: 0,
+        report: "round 0\nend exit 9\nsteps 1\nreused 0\nexecuted 1\ninstructions 6\nby 1\nschedule 0+\nmemory ",
+        output: b"\noutput 0\n\n",
+    },
+    Row {
+        guest: PUTS,
+        input: b"\x01\x02\x03",
+        status: 0,
+        report: "round 0\nend exit 0\nsteps 6\n",
+        output: b"\noutput 8\n\x00\x00\x01\x02\x00\xea\xf2\x04\n",
+    },
+    Row {
+        guest: CREATES,
+        input: b"",
+        status: 0,
+        report: "round 0\nend exit 0\nsteps 66\n",
+        output: b"\noutput 33\n\x01\x02\x03\x04\x05\x06\x07\x08\x09\x0a\x0b\x0c\x0d\x0e\x0f\x10\x11\x12\x13\x14\x15\x16\x17\x18\x19\x1a\x1b\x1c\x1d\x1e\x1f\xf5\xea\n",
+    },
+];
+
+/// The status of a line, whose words stand between spaces.
+fn status_of<R: Sync>(
+    rt: &R,
+    alloc: Global,
+    host: &mut MemHost,
+    line: &str,
+) -> Result<u8, AllocError> {
+    let mut words = Vec::new(alloc);
+    for word in line.split_whitespace() {
+        words.push(String::from_str(alloc, word)?)?;
+    }
+    Ok(top(rt, alloc, &words, host, &OpenGate))
+}
+
+/// Runs a guest on an input, and compares.
+fn compare<R: Sync + Abort>(rt: &R, alloc: Global, row: &Row, input: &[u8]) -> Result<(), Fail> {
+    let mut host = host_of(alloc, row.guest, input)?;
+    let status = status_of(rt, alloc, &mut host, "ithreads run guest input --workers 1")?;
+    assert_eq!(rt; status, row.status);
+    assert!(rt; host.printed().starts_with(row.report.as_bytes()));
+    assert!(rt; host.printed().ends_with(row.output));
+    Ok(())
+}
+
+#[test]
+fn guests_end_as_worked_out(rt: HostRuntime) -> Result<(), Fail> {
+    let alloc = rt.alloc();
+    for row in ROWS {
+        compare(&rt, alloc, &row, row.input)?;
+    }
+    // zeros, but for a 5 at the beginning and a 7 at the beginning of the second page
+    let mut input = vec![in alloc; 0u8; 4100]?;
+    input[0] = 5;
+    input[4096] = 7;
+    compare(&rt, alloc, &PAIR_ROW, input.as_slice())
+}
+
+/// What comes of a schedule: how many of its steps could be made, how many turns they took, and how the run ended.
+#[derive(Drop)]
+struct Played {
+    steps: usize,
+    turns: u64,
+    ending: Option<End>,
+}
+
+/// Makes the steps of a schedule, up to one that can't be made.
+fn play(alloc: Global, setup: &Setup, schedule: &[u8]) -> Result<Played, AllocError> {
+    let mut core = Core::new(alloc, setup)?;
+    let mut turns = 0u64;
+    for (steps, &thread) in schedule.iter().enumerate() {
+        if core.ended().is_some() || !core.ready(thread) {
+            return Ok(Played {
+                steps,
+                turns,
+                ending: core.ended(),
+            });
+        }
+        turns = turns.wrapping_add(u64::from(core.step(thread)?));
+    }
+    Ok(Played {
+        steps: schedule.len(),
+        turns,
+        ending: core.ended(),
+    })
+}
+
+/// The setup of a guest with no input, or none where it is too long or isn't taken.
+fn setup_of(alloc: Global, guest: Guest) -> Result<Option<Setup>, AllocError> {
+    let file = executable(alloc, guest)?;
+    if file.len() > 4096 {
+        return Ok(None);
+    }
+    match Setup::new(alloc, file, Vec::new(alloc), 1_000_000, 4096) {
+        Ok(setup) => Ok(Some(setup)),
+        Err(_) => Ok(None),
+    }
+}
+
+#[test]
+fn schedules_are_followed_as_far_as_they_are_permitted(rt: HostRuntime) -> Result<(), Fail> {
+    let alloc = rt.alloc();
+    let rows: [(Guest, &[u8], usize, u64, Option<End>); 6] = [
+        (CROSS, &[0, 0, 1, 0, 1], 5, 17, Some(End::Deadlock)),
+        (
+            CROSS,
+            &[0, 0, 0, 0, 0, 1, 1, 1, 1, 1, 0, 0],
+            12,
+            38,
+            Some(End::Exit(0)),
+        ),
+        (CROSS, &[0, 0, 1, 0, 1, 0], 5, 17, Some(End::Deadlock)),
+        (CROSS, &[0, 0, 1], 3, 11, None),
+        (CROSS, &[1], 0, 0, None),
+        (BYTES, &[0, 0, 1, 2, 0, 0, 0, 0], 8, 35, Some(End::Exit(0))),
+    ];
+    for (guest, schedule, steps, turns, ending) in rows {
+        match setup_of(alloc, guest)? {
+            Some(setup) => {
+                let played = play(alloc, &setup, schedule)?;
+                assert_eq!(rt; played.steps, steps);
+                assert_eq!(rt; played.turns, turns);
+                assert!(rt; played.ending == ending);
+            }
+            None => assert!(rt; false),
+        }
+    }
+    Ok(())
+}
+
+#[test]
+fn limits_end_a_run(rt: HostRuntime) -> Result<(), Fail> {
+    let alloc = rt.alloc();
+    for (line, status, report) in [
+        (
+            "ithreads run guest input --fuel 5",
+            0,
+            "round 0\nend exit 0\nsteps 2\nreused 0\nexecuted 2\ninstructions 8\nby 2 0 0 0\nschedule 0+ 0+\n",
+        ),
+        (
+            "ithreads run guest input --fuel 4",
+            1,
+            "round 0\nend spent\nsteps 1\nreused 0\nexecuted 1\ninstructions 4\nby 1 0 0 0\nschedule 0+\n",
+        ),
+        (
+            "ithreads run guest input --steps 2",
+            0,
+            "round 0\nend exit 0\nsteps 2\nreused 0\nexecuted 2\ninstructions 8\nby 2 0 0 0\nschedule 0+ 0+\n",
+        ),
+        (
+            "ithreads run guest input --steps 1",
+            1,
+            "round 0\nend spent\nsteps 1\nreused 0\nexecuted 1\ninstructions 5\nby 1 0 0 0\nschedule 0+\n",
+        ),
+    ] {
+        let mut host = host_of(alloc, HI, b"")?;
+        let got = status_of(&rt, alloc, &mut host, line)?;
+        assert_eq!(rt; got, status, "at {line}");
+        assert!(rt; host.printed().starts_with(report.as_bytes()), "at {line}");
+    }
+    Ok(())
+}
