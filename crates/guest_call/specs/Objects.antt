@@ -9,6 +9,9 @@ use Rattle.guest_call.specs.Effect.{Effect, answers, exits}
 use Rattle.guest_call.specs.Queues.{waits}
 use Rattle.guest_call.specs.Tables.{at_cell}
 use Rattle.guest_call.specs.Mutexes.{Mutex, unlocked, mutex_queue, lock_row, unlock_row}
+use Rattle.guest_call.specs.Semaphores.{Semaphore, unposted}
+use Rattle.guest_call.specs.Barriers.{Barrier, uninitialised}
+use Rattle.guest_call.specs.Conditions.{Condition, unawaited}
 use Rattle.guest_call.specs.Threads.{Member, fresh, member_queue, member_at, create_row, thread_exit_row, join_row}
 
 -- the threads and the objects of each kind (this project's own)
@@ -19,6 +22,18 @@ pub record Objects : Type 0 where
 -- 64 free mutexes (this project's own)
 unfoldable pub all_unlocked : List Mutex
 all_unlocked = replicate 64 unlocked
+
+-- 64 semaphores of value 0 (this project's own)
+unfoldable pub all_unposted : List Semaphore
+all_unposted = replicate 64 unposted
+
+-- 64 barriers that aren't initialised (this project's own)
+unfoldable pub all_uninitialised : List Barrier
+all_uninitialised = replicate 64 uninitialised
+
+-- 64 conditions for which nobody waits (this project's own)
+unfoldable pub all_unawaited : List Condition
+all_unawaited = replicate 64 unawaited
 
 -- the objects at the start: thread 0 alone exists, and nothing is in use (this project's own)
 abbrev pub opening : Objects

@@ -10,7 +10,7 @@ ghost use Rattle.guest_call.specs.Queues.{Keeps};
 ghost use Rattle.guest_call.specs.Objects.{Objects, opening, act, acts_on, put_answer, appends, waits_at, ended_at, created_count, IsKept};
 ghost use Rattle.guest_call.specs.Locality.{IsLocalBy};
 ghost use Rattle.guest_call.specs.Numbers.{call_of};
-ghost use Rattle.guest_call.specs.Answers.{answer_eperm, answer_esrch, answer_eagain, answer_efault, answer_ebusy, answer_einval, answer_edeadlk};
+ghost use Rattle.guest_call.specs.Answers.{answer_eperm, answer_esrch, answer_eagain, answer_efault, answer_ebusy, answer_einval, answer_eoverflow, answer_edeadlk};
 
 /// The answer for EPERM (POSIX.1-2017, `<errno.h>`): the caller isn't the owner.
 pub const EPERM: u32 = 0xFFFF_FFFF;
@@ -24,6 +24,8 @@ pub const EFAULT: u32 = 0xFFFF_FFF2;
 pub const EBUSY: u32 = 0xFFFF_FFF0;
 /// The answer for EINVAL (POSIX.1-2017, `<errno.h>`): an argument is out of its range.
 pub const EINVAL: u32 = 0xFFFF_FFEA;
+/// The answer for EOVERFLOW (POSIX.1-2017, `<errno.h>`): a number would pass its largest value.
+pub const EOVERFLOW: u32 = 0xFFFF_FFB5;
 /// The answer for EDEADLK (POSIX.1-2017, `<errno.h>`): the caller would wait for itself.
 pub const EDEADLK: u32 = 0xFFFF_FFDD;
 
@@ -148,5 +150,6 @@ pub fn answers_are_negated()
     ensures efault { EFAULT ≡ answer_efault }
     ensures ebusy { EBUSY ≡ answer_ebusy }
     ensures einval { EINVAL ≡ answer_einval }
+    ensures eoverflow { EOVERFLOW ≡ answer_eoverflow }
     ensures edeadlk { EDEADLK ≡ answer_edeadlk }
 {}
