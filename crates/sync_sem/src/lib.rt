@@ -223,3 +223,6 @@ impl Semaphores {
         init_in(&mut self.cells, s, n)
     }
 }
+
+#[cfg(test)]
+mod tests;
