@@ -1,6 +1,6 @@
 -- Semaphores that count, and hand a post over to who has waited longest.
-use Rattle.std.specs.Prelude.{ℕ, ◌+◌, ◌-◌, ◌==◌, not, nat_lt, nat_le, List, [], ◌∷◌, ◌++◌, length, None, if◌then◌else◌}
-use Rattle.guest_call.specs.Answers.{answer_eagain, answer_ebusy, answer_einval, answer_eoverflow}
+use Rattle.std.specs.Prelude.{ℕ, ◌+◌, ◌-◌, ◌==◌, nat_lt, nat_le, List, [], ◌∷◌, ◌++◌, length, None, if◌then◌else◌}
+use Rattle.guest_call.specs.Answers.{answer_eagain, answer_ebusy, answer_eoverflow}
 use Rattle.guest_call.specs.Effect.{Effect, Returns, answers, blocks, wakes}
 use Rattle.guest_call.specs.Tables.{at_cell, checked}
 

@@ -47,8 +47,28 @@ pub enum Call {
     Yield,
     /// 6, `lock(mutex)`: as `pthread_mutex_lock` at a mutex that checks for errors.
     Lock(u32),
+    /// 7, `trylock(mutex)`: as `pthread_mutex_trylock`.
+    TryLock(u32),
     /// 8, `unlock(mutex)`: as `pthread_mutex_unlock` at a mutex that checks for errors.
     Unlock(u32),
+    /// 9, `sem_wait(semaphore)`: as `sem_wait`.
+    SemWait(u32),
+    /// 10, `sem_trywait(semaphore)`: as `sem_trywait`.
+    SemTryWait(u32),
+    /// 11, `sem_post(semaphore)`: as `sem_post`.
+    SemPost(u32),
+    /// 12, `sem_init(semaphore, value)`: as `sem_init`, of a semaphore that is there from the start with the value 0.
+    SemInit(u32, u32),
+    /// 13, `barrier_init(barrier, count)`: as `pthread_barrier_init`.
+    BarrierInit(u32, u32),
+    /// 14, `barrier_wait(barrier)`: as `pthread_barrier_wait`; who comes last gets 1, the others 0.
+    BarrierWait(u32),
+    /// 15, `cond_wait(condition, mutex)`: as `pthread_cond_wait`, without spurious wake-ups.
+    CondWait(u32, u32),
+    /// 16, `signal(condition)`: as `pthread_cond_signal`, for who has waited longest.
+    Signal(u32),
+    /// 17, `broadcast(condition)`: as `pthread_cond_broadcast`, in the order in which they came.
+    Broadcast(u32),
 }
 
 impl Call {
@@ -65,7 +85,17 @@ impl Call {
             4 => Some(Call::Join(a0)),
             5 => Some(Call::Yield),
             6 => Some(Call::Lock(a0)),
+            7 => Some(Call::TryLock(a0)),
             8 => Some(Call::Unlock(a0)),
+            9 => Some(Call::SemWait(a0)),
+            10 => Some(Call::SemTryWait(a0)),
+            11 => Some(Call::SemPost(a0)),
+            12 => Some(Call::SemInit(a0, a1)),
+            13 => Some(Call::BarrierInit(a0, a1)),
+            14 => Some(Call::BarrierWait(a0)),
+            15 => Some(Call::CondWait(a0, a1)),
+            16 => Some(Call::Signal(a0)),
+            17 => Some(Call::Broadcast(a0)),
             _ => None,
         }
     }
@@ -80,6 +110,12 @@ pub enum Object {
     ThreadTable,
     /// The mutex of this number.
     Mutex(u32),
+    /// The semaphore of this number.
+    Semaphore(u32),
+    /// The barrier of this number.
+    Barrier(u32),
+    /// The condition of this number.
+    Condition(u32),
 }
 
 /// What becomes of the thread that makes a call.
