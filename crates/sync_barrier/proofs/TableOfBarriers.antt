@@ -1,24 +1,14 @@
 -- What the table of barriers keeps by each of its rows.
-use Rattle.std.proofs.Common.{◌≡◌, ℕ, ◌+◌, ◌<◌, Bool, true, false, List, [], ◌∷◌, Option, arith, refl, subst, sym, ap}
+use Rattle.std.proofs.Common.{◌≡◌, ℕ, ◌<◌, Bool, true, false, List, arith, refl, subst, sym, ap}
 use Rattle.std.proofs.lemmas.List.{length-replicate}
 use Rattle.guest_call.specs.Effect.{Effect}
-use Rattle.guest_call.specs.Queues.{places, waits, entering}
-use Rattle.guest_call.specs.Tables.{IsTable, IsFair, at_cell, checked}
+use Rattle.guest_call.specs.Queues.{waits}
+use Rattle.guest_call.specs.Tables.{IsTable, at_cell, checked}
 use Rattle.guest_call.specs.Barriers.{Barrier, uninitialised, barrier_queue, is_count, barrier_init_row, barrier_init_at, barrier_wait_row}
 use Rattle.guest_call.specs.Objects.{all_uninitialised}
-use Rattle.guest_call.proofs.Counting.{places-nil, places-push, entering-returns, entering-blocks, waits-replicate}
+use Rattle.guest_call.proofs.Counting.{waits-replicate}
+use Rattle.guest_call.proofs.Rows.{barrier_init_fair, barrier_wait_fair}
 use Rattle.call_effect.proofs.TableKept.{at_cell_kept}
-
-pub barrier_init_fair : (t n : ℕ) (c : Barrier) → IsFair barrier_queue t c (barrier_init_row n c)
-barrier_init_fair t n c u = by_queue c.count c.queue
-  where
-    by_queue : (count : Option ℕ) (q : List ℕ) → let r = barrier_init_row n (record { count = count; queue = q }) in
-        places u r.1.queue + places u r.0.woken ≡ places u q + entering t r.0.fate u
-    by_queue count [] = grind (arith, places-nil, entering-returns)
-    by_queue count (v ∷ rest) = grind (arith, places-nil, entering-returns)
-
-pub barrier_wait_fair : (t : ℕ) (c : Barrier) → IsFair barrier_queue t c (barrier_wait_row t c)
-barrier_wait_fair t c u = grind (arith, places-nil, places-push, entering-returns, entering-blocks)
 
 -- barriers that aren't initialised are a table
 pub uninitialised_table : IsTable barrier_queue all_uninitialised

@@ -160,3 +160,6 @@ impl Barriers {
         wait_in(&mut self.cells, t, b)
     }
 }
+
+#[cfg(test)]
+mod tests;

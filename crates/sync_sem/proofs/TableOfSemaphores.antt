@@ -4,22 +4,11 @@ use Rattle.std.proofs.lemmas.List.{length-replicate}
 use Rattle.guest_call.specs.Effect.{Effect}
 use Rattle.guest_call.specs.Queues.{waits}
 use Rattle.guest_call.specs.Tables.{IsTable, IsFair, at_cell, checked}
-use Rattle.guest_call.specs.Semaphores.{Semaphore, unposted, semaphore_queue, largest_value, sem_wait_row, sem_trywait_row, sem_post_row, sem_init_row, sem_init_at}
+use Rattle.guest_call.specs.Semaphores.{Semaphore, unposted, semaphore_queue, largest_value, sem_init_row, sem_init_at}
 use Rattle.guest_call.specs.Objects.{all_unposted}
-use Rattle.guest_call.proofs.Counting.{places-nil, places-cons, places-push, entering-returns, entering-blocks, waits-replicate}
+use Rattle.guest_call.proofs.Counting.{waits-replicate}
+use Rattle.guest_call.proofs.Rows.{sem_init_fair}
 use Rattle.call_effect.proofs.TableKept.{at_cell_kept}
-
-pub sem_wait_fair : (t : ℕ) (c : Semaphore) → IsFair semaphore_queue t c (sem_wait_row t c)
-sem_wait_fair t c u = grind (arith, places-nil, places-push, entering-returns, entering-blocks)
-
-pub sem_trywait_fair : (t : ℕ) (c : Semaphore) → IsFair semaphore_queue t c (sem_trywait_row c)
-sem_trywait_fair t c u = grind (arith, places-nil, entering-returns)
-
-pub sem_post_fair : (t : ℕ) (c : Semaphore) → IsFair semaphore_queue t c (sem_post_row c)
-sem_post_fair t c u = grind (arith, places-nil, places-cons, entering-returns)
-
-pub sem_init_fair : (t n : ℕ) (c : Semaphore) → IsFair semaphore_queue t c (sem_init_row n c)
-sem_init_fair t n c u = grind (arith, places-nil, entering-returns)
 
 -- semaphores of value 0 are a table
 pub unposted_table : IsTable semaphore_queue all_unposted

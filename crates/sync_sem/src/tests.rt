@@ -51,6 +51,7 @@ fn init(rt: &impl Abort, semaphores: &mut Semaphores, t: u8, s: u32, n: u32) -> 
 /// The caller returns this answer, and these threads are woken.
 fn assert_returns(rt: &impl Abort, effect: Effect, answer: u32, woken: &[u8]) {
     assert_eq!(rt; effect.fate(), Fate::Returns(answer, None));
+    assert!(rt; effect.told().is_none());
     assert!(rt; effect.woken().threads() == woken);
 }
 

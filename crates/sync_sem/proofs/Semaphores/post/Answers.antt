@@ -1,5 +1,6 @@
 use Rattle.guest_call.specs.Semaphores.{sem_post_row}
-use Rattle.sync_sem.proofs.TableOfSemaphores.{row_kept, sem_post_fair}
+use Rattle.guest_call.proofs.Rows.{sem_post_fair}
+use Rattle.sync_sem.proofs.TableOfSemaphores.{row_kept}
 use Rattle.sync_sem.proofs.Semaphores.post.Goals as goal
 
 pub invariant_of-self : goal.invariant_of-self

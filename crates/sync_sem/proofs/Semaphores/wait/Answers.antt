@@ -1,6 +1,7 @@
 use Rattle.guest_call.specs.Semaphores.{unposted, semaphore_queue, sem_wait_row}
 use Rattle.call_effect.proofs.TableKept.{queue-room}
-use Rattle.sync_sem.proofs.TableOfSemaphores.{row_kept, sem_wait_fair}
+use Rattle.guest_call.proofs.Rows.{sem_wait_fair}
+use Rattle.sync_sem.proofs.TableOfSemaphores.{row_kept}
 use Rattle.sync_sem.proofs.Semaphores.wait.Goals as goal
 
 pub invariant_of-self : goal.invariant_of-self
