@@ -1,15 +1,14 @@
 -- What the table of conditions keeps by each of its rows.
-use Rattle.std.proofs.Common.{◌≡◌, ℕ, ◌+◌, ◌<◌, ◌≤◌, ◌==◌, Bool, true, false, List, [], ◌∷◌, length, nat_lt, slice_index_or, slice_set, Option, Some, None, All, cond, arith, refl, subst, sym, ap, ◌∙◌, if◌then◌else◌}
+use Rattle.std.proofs.Common.{◌≡◌, ℕ, ◌+◌, ◌<◌, ◌≤◌, Bool, true, false, List, [], ◌∷◌, length, nat_lt, slice_index_or, slice_set, Option, Some, None, arith, refl, subst, sym, ap, ◌∙◌, if◌then◌else◌}
 use Rattle.std.specs.Option.{IfSome}
 use Rattle.std.proofs.lemmas.Bool.Decides.{nat_tests}
 use Rattle.std.proofs.lemmas.List.{length-replicate, length-set}
 use Rattle.std.proofs.lemmas.List.Elements.{All-replicate, All-get_or, All-set}
 use Rattle.guest_call.specs.Effect.{Effect, answers, blocks}
 use Rattle.guest_call.specs.Queues.{places, waits, entering, Keeps}
-use Rattle.guest_call.specs.Tables.{IsTable}
 use Rattle.guest_call.specs.Conditions.{Condition, Leaving as Left, unawaited, condition_queue, first_leaves, signal_leaving, broadcast_leaving}
 use Rattle.guest_call.specs.Objects.{all_unawaited}
-use Rattle.guest_call.proofs.Counting.{places-nil, places-cons, places-push, entering-returns, entering-blocks, waits-set, places-le-waits, waits-replicate}
+use Rattle.guest_call.proofs.Counting.{places-nil, places-push, entering-returns, entering-blocks, waits-set, places-le-waits, waits-replicate}
 use Rattle.guest_call.proofs.Kept.{once_kept, known_kept}
 use Rattle.sync_cond.specs.declared.Leaving.{Leaving}
 use Rattle.sync_cond.specs.ConditionTable.{IsConditionTable, wait_row, wait_at}
@@ -64,28 +63,18 @@ wait_kept cells after does t i m is kept lt idle there mutex =
 
 -- who leaves a condition waited for it, and who doesn't still waits (this project's own)
 abbrev pub IsLeaving : (Condition → Left) → Type 0
-IsLeaving leaving = (c : Condition) (u : ℕ) → places u (leaving c).rest.queue + places u (leaving c).threads ≡ places u c.queue
+IsLeaving leaving = (c : Condition) (u : ℕ) → places u (leaving c).threads + places u (leaving c).rest.queue ≡ places u c.queue
 
 -- a condition that threads leave goes on to name its mutex (this project's own)
 abbrev pub IsNamed : (Condition → Left) → Type 0
 IsNamed leaving = (c : Condition) → (leaving c).rest.mutex ≡ c.mutex
 
-first-places : (m : ℕ) (q : List ℕ) (u : ℕ) → places u (first_leaves m q).rest.queue + places u (first_leaves m q).threads ≡ places u q
-first-places m [] u = omega (arith, places-nil u)
-first-places m (v ∷ rest) u = omega (arith, places-nil u, places-cons u v rest, places-cons u v [])
-
 first-named : (m : ℕ) (q : List ℕ) → (first_leaves m q).rest.mutex ≡ m
 first-named m [] = refl
 first-named m (v ∷ rest) = refl
 
-pub signal-places : IsLeaving signal_leaving
-signal-places c u = first-places c.mutex c.queue u
-
 pub signal-named : IsNamed signal_leaving
 signal-named c = first-named c.mutex c.queue
-
-pub broadcast-places : IsLeaving broadcast_leaving
-broadcast-places c u = omega (arith, places-nil u)
 
 pub broadcast-named : IsNamed broadcast_leaving
 broadcast-named c = refl

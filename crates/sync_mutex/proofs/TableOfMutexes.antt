@@ -3,12 +3,12 @@ use Rattle.std.proofs.Common.{◌≡◌, ℕ, ◌+◌, ◌<◌, ◌≤◌, List,
 use Rattle.std.proofs.lemmas.List.{length-replicate, length-set}
 use Rattle.guest_call.specs.Effect.{Effect}
 use Rattle.guest_call.specs.Queues.{places, waits}
-use Rattle.guest_call.specs.Tables.{IsTable, IsFair, at_cell}
+use Rattle.guest_call.specs.Tables.{IsTable, at_cell}
 use Rattle.guest_call.specs.Mutexes.{Mutex, unlocked, mutex_queue, lock_row, trylock_row, unlock_row}
-use Rattle.guest_call.specs.Conditions.{admit, admit_each}
+use Rattle.guest_call.specs.Conditions.{admit_each}
 use Rattle.guest_call.specs.Objects.{all_unlocked}
-use Rattle.guest_call.proofs.Counting.{places-nil, places-cons, places-append, places-push, entering-returns, waits-set, places-le-waits, waits-replicate}
-use Rattle.guest_call.proofs.Conservation.{lock_fair, unlock_fair}
+use Rattle.guest_call.proofs.Counting.{places-append, waits-set, places-le-waits, waits-replicate}
+use Rattle.guest_call.proofs.Rows.{lock_fair, trylock_fair, unlock_fair, admit_each_places}
 use Rattle.call_effect.proofs.Room.{length-few}
 use Rattle.call_effect.proofs.TableKept.{at_cell_kept}
 use Rattle.sync_mutex.specs.Admitting.{admit_each_at}
@@ -31,23 +31,9 @@ pub unlock_kept : (cells after : List Mutex) (e : Effect) (t m : ℕ) → (e, af
 unlock_kept cells after e t m is table lt idle =
     subst (IsTable mutex_queue) (sym (ap (λ (r : Effect × List Mutex). r.1) is)) (at_cell_kept mutex_queue unlocked (unlock_row t) cells m t (unlock_fair t) table lt idle)
 
--- trylock loses nobody and doubles nobody
-pub trylock_fair : (t : ℕ) (c : Mutex) → IsFair mutex_queue t c (trylock_row t c)
-trylock_fair t c u = grind (arith, places-nil, entering-returns)
-
 pub trylock_kept : (cells after : List Mutex) (e : Effect) (t m : ℕ) → (e, after) ≡ at_cell unlocked (trylock_row t) cells m → IsTable mutex_queue cells → t < 32 → waits mutex_queue cells t ≡ 0 → IsTable mutex_queue after
 trylock_kept cells after e t m is table lt idle =
     subst (IsTable mutex_queue) (sym (ap (λ (r : Effect × List Mutex). r.1) is)) (at_cell_kept mutex_queue unlocked (trylock_row t) cells m t (trylock_fair t) table lt idle)
-
--- who comes to a mutex has it then or waits for it, and who waited for it still does
-admit-places : (u v : ℕ) (x : Mutex) → places v (admit u x).1.queue + places v (admit u x).0 ≡ places v x.queue + places v (u ∷ [])
-admit-places u v x = grind (arith, places-nil, places-cons, places-push)
-
-pub admit_each-places : (threads : List ℕ) (x : Mutex) (v : ℕ) → places v (admit_each threads x).1.queue + places v (admit_each threads x).0 ≡ places v x.queue + places v threads
-admit_each-places [] x v = refl
-admit_each-places (u ∷ rest) x v =
-    let next : Mutex = (admit u x).1 in
-    omega (arith, admit-places u v x, admit_each-places rest next v, places-append v (admit u x).0 (admit_each rest next).0, places-cons v u rest, places-cons v u [], places-nil v)
 
 -- the table after these threads came to one of its mutexes
 admit_each_at-kept : (cells : List Mutex) (m : ℕ) (threads : List ℕ) → IsTable mutex_queue cells → m < 64 →
@@ -58,8 +44,8 @@ admit_each_at-kept cells m threads table lt low once =
     let inside : m < length cells = omega (arith, table.objects) in
     record {
       objects = length-set cells m y ∙ table.objects;
-      low = λ u le. omega (arith, waits-set mutex_queue cells m y unlocked u inside, admit_each-places threads x u, table.low u le, low u le);
-      once = λ u. omega (arith, waits-set mutex_queue cells m y unlocked u inside, admit_each-places threads x u, once u);
+      low = λ u le. omega (arith, waits-set mutex_queue cells m y unlocked u inside, admit_each_places u threads x, table.low u le, low u le);
+      once = λ u. omega (arith, waits-set mutex_queue cells m y unlocked u inside, admit_each_places u threads x, once u);
     }
 
 pub admit_each_kept : (cells after : List Mutex) (admitted : List ℕ) (m : ℕ) (threads : List ℕ) → (admitted, after) ≡ admit_each_at cells m threads → IsTable mutex_queue cells → m < 64 →
