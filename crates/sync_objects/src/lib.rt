@@ -2,7 +2,7 @@
 //! answers and changes. No call takes memory.
 #![tactic(auto)]
 
-ghost use Rattle.std.specs.Prelude.{◌≡◌, ℕ, ◌+◌, ◌<◌, ◌≤◌, Bool, false, None, length};
+ghost use Rattle.std.specs.Prelude.{◌≡◌, ℕ, ◌==◌, ◌+◌, ◌<◌, ◌≤◌, Bool, false, not, nat_lt, None, length};
 ghost use Rattle.guest_call.specs.Queues.{places, waits};
 ghost use Rattle.guest_call.specs.Effect.{wakes};
 ghost use Rattle.guest_call.specs.Mutexes.{mutex_queue};
@@ -176,6 +176,24 @@ impl Objects {
         )
     }
 
+    /// Whether thread `t` exists, ended ones counted.
+    pub fn exists(&self, t: u8) -> bool
+        ensures { result ≡ nat_lt t (length self.now.threads) }
+    {
+        (t as usize) < self.threads.len()
+    }
+
+    /// Whether thread `t` waits somewhere.
+    pub fn is_waiting(&self, t: u8) -> bool
+        ensures { result ≡ not (spec.waits_at self.now t == 0) }
+    {
+        self.threads.is_waiting(t)
+            || self.mutexes.is_waiting(t)
+            || self.semaphores.is_waiting(t)
+            || self.barriers.is_waiting(t)
+            || self.conditions.is_waiting(t)
+    }
+
     /// The value with which thread `u` has ended. None exactly where there is no such thread or it has not ended.
     pub fn ended(&self, u: u8) -> Option<u32>
         ensures { result ≡ spec.ended_at self.now u }
@@ -183,3 +201,6 @@ impl Objects {
         self.threads.value(u)
     }
 }
+
+#[cfg(test)]
+mod tests;
