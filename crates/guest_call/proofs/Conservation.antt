@@ -1,7 +1,6 @@
 -- Nobody is lost and nobody doubled: for each row, and for all calls.
 use Rattle.std.proofs.Common.{◌≡◌, ℕ, ◌+◌, ◌<◌, ◌≤◌, Bool, true, false, List, length, nat_lt, nat_le, slice_index_or, slice_set, Option, Some, None, if◌then◌else◌, not, ◌&&◌, is_some, ◌==◌, ap, arith, refl, ltb-true}
 use Rattle.std.proofs.lemmas.Bool.{and_parts}
-use Rattle.std.proofs.lemmas.List.Elements.{All-get_or}
 use Rattle.guest_call.specs.Answers.{answer_esrch, answer_edeadlk}
 use Rattle.guest_call.specs.declared.Call.{Call}
 use Rattle.guest_call.specs.declared.Call.TheVariants.{Exit, Put, Create, ThreadExit, Join, Yield, Lock, TryLock, Unlock, SemWait, SemTryWait, SemPost, SemInit, BarrierInit, BarrierWait, CondWait, Signal, Broadcast}
@@ -16,7 +15,8 @@ use Rattle.guest_call.specs.Conditions.{Condition, Leaving, unawaited, condition
 use Rattle.guest_call.specs.Threads.{Member, fresh, member_queue, member_at, waiting_joiner, joins, create_row, ended_with, joined_by, thread_exit_row, join_row}
 use Rattle.guest_call.specs.Objects.{Objects, on_threads, on_mutex, on_semaphore, on_barrier, on_pair, condition_at, mutex_at, leave, waits_at, put_answer, act, IsKept}
 use Rattle.guest_call.proofs.Counting.{places-nil, entering-returns, entering-ends, entering-exits, entering-blocks, waits-push, waits-set, places-cons}
-use Rattle.guest_call.proofs.Rows.{IsFairPair, lock_fair, trylock_fair, unlock_fair, sem_wait_fair, sem_trywait_fair, sem_post_fair, sem_init_fair, barrier_init_fair, barrier_wait_fair, cond_wait_fair, leave_fair, signal_leaves, broadcast_leaves}
+use Rattle.guest_call.proofs.Shape.{kept_shaped, condition_named}
+pub use Rattle.guest_call.proofs.Rows.{IsFairPair, lock_fair, trylock_fair, unlock_fair, sem_wait_fair, sem_trywait_fair, sem_post_fair, sem_init_fair, barrier_init_fair, barrier_wait_fair, cond_wait_fair, leave_fair, signal_leaves, broadcast_leaves}
 
 -- a call that changes nothing and wakes nobody
 pub same_keeps : (w : ℕ → ℕ) (t a : ℕ) → Keeps w t (answers a) w
@@ -118,10 +118,6 @@ cond_wait_keeps t c m o kept in_range =
     (ltb-true m 64 (and_parts (nat_lt c 64) (nat_lt m 64) in_range).1)
     (cond_wait_fair t m (condition_at o c) (mutex_at o m)) kept
 
--- the mutex of a condition is there
-pub condition_mutex : (o : Objects) (c : ℕ) → IsKept o → c < 64 → (condition_at o c).mutex < 64
-condition_mutex o c kept c_in = All-get_or (λ (x : Condition). x.mutex < 64) o.conditions c unawaited (omega (arith, kept.all_conditions)) kept.named
-
 -- threads that leave a condition, where they are some of those that waited
 pub leave_keeps : (leaving : Condition → Leaving) (t c : ℕ) (o : Objects) →
     ((x : Condition) (u : ℕ) → places u (leaving x).threads + places u (leaving x).rest.queue ≡ places u x.queue) → IsKept o →
@@ -130,7 +126,7 @@ leave_keeps leaving t c o leaves kept =
     checked_keeps (nat_lt c 64) t o (on_pair (leave_row leaving) o c (condition_at o c).mutex)
     (λ is.
     let c_in : c < 64 = ltb-true c 64 is in
-    on_pair_keeps (leave_row leaving) t c (condition_at o c).mutex o c_in (condition_mutex o c kept c_in)
+    on_pair_keeps (leave_row leaving) t c (condition_at o c).mutex o c_in (condition_named o c (kept_shaped o kept) c_in)
     (leave_fair leaving t (condition_at o c) (mutex_at o (condition_at o c).mutex) leaves) kept)
 
 -- a row done on the table of threads, where it is fair

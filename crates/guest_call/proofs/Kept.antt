@@ -15,6 +15,7 @@ use Rattle.guest_call.specs.Threads.{Member, fresh, member_at, ended_with, joine
 use Rattle.guest_call.specs.Objects.{Objects, all_unlocked, all_unposted, all_uninitialised, all_unawaited, opening, waits_at, ended_at, put_answer, appends, act, created_count, IsKept}
 use Rattle.guest_call.proofs.Counting.{places-nil, entering-other, entering-le, waits-replicate}
 use Rattle.guest_call.proofs.Conservation.{act_keeps}
+pub use Rattle.guest_call.proofs.Shape.{length-at_cell}
 use Rattle.guest_call.proofs.Shape.{IsShaped, kept_shaped, act_shaped, opening_shaped}
 
 -- as many threads as before and as many more as are created, after each row on the table of threads

@@ -12,3 +12,6 @@ pub mod ThreadsLocal
 pub mod PairLocal
 pub mod Local
 pub mod ActingExamples
+pub mod SemaphoreExamples
+pub mod BarrierExamples
+pub mod ConditionExamples

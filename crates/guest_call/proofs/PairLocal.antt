@@ -11,7 +11,7 @@ use Rattle.guest_call.specs.Mutexes.{Mutex, unlocked}
 use Rattle.guest_call.specs.Conditions.{Condition, Leaving, unawaited, cond_wait_row, first_leaves, signal_leaving, broadcast_leaving, admit_each, leave_row}
 use Rattle.guest_call.specs.Objects.{Objects, condition_at, mutex_at, on_pair, leave, one_of, leave_objects, IsKept}
 use Rattle.guest_call.specs.Locality.{Part, MutexPart, ConditionPart, NoPart, part_of, is_among, Agree, IsLocalBy}
-use Rattle.guest_call.proofs.Conservation.{condition_mutex}
+use Rattle.guest_call.proofs.Shape.{kept_shaped, condition_named}
 use Rattle.guest_call.proofs.Locality.{nothing_local, seen_local, like_local}
 
 -- a condition and a mutex as parts (this project's own)
@@ -126,7 +126,7 @@ leave_there leaving c o quiet c_in kept = by_queue (length (condition_at o c).qu
         (λ x. waiting_objects c (condition_at x c)) named o at_o
         (λ other alike. ap (waiting_objects c) (condition_alike (MutexOf (condition_at o c).mutex ∷ []) other alike) ∙ at_o)
         (λ other alike. ap (λ (d : Condition). on_pair (leave_row leaving) other c d.mutex) (condition_alike (MutexOf (condition_at o c).mutex ∷ []) other alike))
-        (pair_local (leave_row leaving) c (condition_at o c).mutex o c_in (condition_mutex o c kept c_in) kept)
+        (pair_local (leave_row leaving) c (condition_at o c).mutex o c_in (condition_named o c (kept_shaped o kept) c_in) kept)
 
     nobody : length (condition_at o c).queue == 0 ≡ true →
         IsLocalBy (λ x. on_pair (leave_row leaving) x c (condition_at x c).mutex) (λ x. waiting_objects c (condition_at x c)) o
