@@ -10,9 +10,8 @@ ghost use Rattle.guest_call.specs.Objects.{all_uninitialised};
 
 use call_effect::Effect;
 use guest_call::{EBUSY, EINVAL, Fate};
-use std::array;
 use std::marker::Model;
-use std::mem;
+use std::{array, mem};
 use wait_queue::Queue;
 
 /// The answer to the thread that lets the others go (POSIX.1-2017, pthread_barrier_wait, PTHREAD_BARRIER_SERIAL_THREAD; the
