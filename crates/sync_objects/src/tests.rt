@@ -64,7 +64,12 @@ fn errors_have_their_numbers(rt: HostRuntime) {
     let mut objects = Objects::new();
     let o = &mut objects;
     // EINVAL is 22, ESRCH 3, EDEADLK 35
-    assert_returns(&rt, act(&rt, o, 0, Call::Create(0x1_0002, 0)), negated(22), &[]);
+    assert_returns(
+        &rt,
+        act(&rt, o, 0, Call::Create(0x1_0002, 0)),
+        negated(22),
+        &[],
+    );
     assert_returns(&rt, act(&rt, o, 0, Call::Join(1)), negated(3), &[]);
     assert_returns(&rt, act(&rt, o, 0, Call::Join(0)), negated(35), &[]);
     assert_returns(&rt, act(&rt, o, 0, Call::Create(0x1_0000, 0)), 1, &[]);
@@ -75,7 +80,12 @@ fn errors_have_their_numbers(rt: HostRuntime) {
     assert_returns(&rt, act(&rt, o, 1, Call::TryLock(63)), negated(16), &[]);
     assert_returns(&rt, act(&rt, o, 1, Call::CondWait(0, 63)), negated(1), &[]);
     assert_returns(&rt, act(&rt, o, 1, Call::Lock(64)), negated(22), &[]);
-    assert_returns(&rt, act(&rt, o, 0, Call::CondWait(64, 63)), negated(22), &[]);
+    assert_returns(
+        &rt,
+        act(&rt, o, 0, Call::CondWait(64, 63)),
+        negated(22),
+        &[],
+    );
     assert_returns(&rt, act(&rt, o, 0, Call::Signal(64)), negated(22), &[]);
     assert_returns(&rt, act(&rt, o, 0, Call::Broadcast(64)), negated(22), &[]);
     // a condition has one mutex at a time
@@ -93,5 +103,10 @@ fn threads_are_32_at_most(rt: HostRuntime) {
         let _ = act(&rt, &mut objects, 0, Call::Create(0x1_0000, 0));
     }
     // EAGAIN is 11
-    assert_returns(&rt, act(&rt, &mut objects, 0, Call::Create(0x1_0000, 0)), negated(11), &[]);
+    assert_returns(
+        &rt,
+        act(&rt, &mut objects, 0, Call::Create(0x1_0000, 0)),
+        negated(11),
+        &[],
+    );
 }
