@@ -4,3 +4,4 @@ pub mod ChoiceExamples
 pub mod Fits
 pub mod Happening
 pub mod Leaving
+pub mod Agreeing

@@ -1,16 +1,21 @@
 //! Rounds, as definitions: what happens to a round at each event, which steps are reused, which thread
 //! is due, which is chosen, and the schedule of one worker; with the laws that whatever happens, the
 //! round is at the machine from scratch, its records are those of the steps, its marks are exact, and
-//! what it leaves is an honest history. No code but two plain types.
+//! what it leaves is an honest history; and that with no history one worker does as in a run with no
+//! earlier run. No code but two plain types.
 #![tactic(auto)]
 
-ghost use Rattle.std.specs.Prelude.{◌≡◌, ℕ, List, Option, Some, true, is_some};
+ghost use Rattle.std.specs.Prelude.{◌≡◌, ℕ, List, Option, Some, None, true, is_some};
+ghost use Rattle.machine_spec.specs.Machine.{Machine};
+ghost use Rattle.machine_spec.specs.Choice.{choice, alone};
 ghost use Rattle.machine_spec.specs.Setup.{Setup, IsSetup, scratch, is_permitted, records};
 ghost use Rattle.history_spec.specs.History.{History, IsHonest, IsSameProgram, IsSound};
 ghost use Rattle.report_spec.specs.Report.{threads_of};
 ghost use Rattle.round_spec.specs.declared.events.Event.{Event};
 ghost use Rattle.round_spec.specs.Marks.{marked, sourced};
-ghost use Rattle.round_spec.specs.Rounds.{RoundState, happens, is_out, round_after, history_of};
+ghost use Rattle.round_spec.specs.Rounds.{RoundState, nobody_out, happens, is_out, round_after, history_of};
+ghost use Rattle.round_spec.specs.Choice.{choice_by};
+ghost use Rattle.round_spec.specs.Alone.{one_worker};
 ghost use Rattle.round_spec.specs.Keeping.{IsHeld, IsInOrder};
 
 mod events;
@@ -79,4 +84,11 @@ pub fn rounds_leave_honest_histories()
         → is_some (round_after setup past events).machine.ending ≡ true
         → IsSameProgram setup edited
         → IsSound (Some (history_of (round_after setup past events))) edited }
+{}
+
+/// With no history to go by, the choice is that of a run with no earlier run, and so is the schedule of
+/// one worker.
+pub fn no_history_changes_nothing()
+    ensures choice { (m : Machine) → choice_by None m nobody_out ≡ choice m }
+    ensures schedule { (setup : Setup) → one_worker setup None ≡ alone setup }
 {}
