@@ -5,3 +5,4 @@ pub mod Fits
 pub mod Happening
 pub mod Leaving
 pub mod Agreeing
+pub mod Counting

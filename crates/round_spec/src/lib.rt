@@ -16,7 +16,7 @@ ghost use Rattle.round_spec.specs.Marks.{marked, sourced};
 ghost use Rattle.round_spec.specs.Rounds.{RoundState, nobody_out, happens, is_out, round_after, history_of};
 ghost use Rattle.round_spec.specs.Choice.{choice_by};
 ghost use Rattle.round_spec.specs.Alone.{one_worker};
-ghost use Rattle.round_spec.specs.Keeping.{IsHeld, IsInOrder};
+ghost use Rattle.round_spec.specs.Keeping.{IsCounted, IsHeld, IsInOrder};
 
 mod events;
 
@@ -33,6 +33,16 @@ pub fn rounds_stay_in_order()
         → IsSetup setup
         → is_out (round_after setup past events) t ≡ true
         → IsHeld (round_after setup past events) t }
+{}
+
+/// Whatever happens, a round counts right: its machine has made as many steps as the schedule has
+/// entries, and each thread as many as there are of it; its records are of the entries' threads, numbered
+/// so; and the record of a reused entry is the history's own. By which history it goes doesn't matter.
+pub fn rounds_count_right()
+    ensures event { (w : RoundState) (e : Event) → IsInOrder w → IsCounted w → IsCounted (happens w e) }
+    ensures events { (setup : Setup) (past : Option History) (events : List Event)
+        → IsSetup setup
+        → IsCounted (round_after setup past events) }
 {}
 
 /// Whatever happens, a round is of the setup that it was opened with, and goes by the same history.
