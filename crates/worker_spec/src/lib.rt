@@ -1,0 +1,2 @@
+//! The round of one worker.
+#![tactic(auto)]
