@@ -1,8 +1,7 @@
 -- What holds of the thread that is chosen with nobody out, and that there is one where any is ready.
-use Rattle.std.proofs.Common.{◌≡◌, ◌⊎◌, ◌<◌, ◌≤◌, ◌+◌, ℕ, zero, suc, Bool, true, false, not, ◌&&◌, ◌||◌, eqb, ltb, cond, List, [], ◌∷◌, length, map, Option, Some, None, is_some, is_none, replicate, refl, ap, sym, ◌∙◌, subst, inl, inr, arith}
+use Rattle.std.proofs.Common.{◌≡◌, ◌⊎◌, ◌≤◌, ◌+◌, ℕ, Bool, true, false, ◌&&◌, eqb, List, [], ◌∷◌, length, map, Option, Some, is_some, refl, ap, sym, ◌∙◌, subst, inl, inr, arith}
 use Rattle.std.proofs.lemmas.Bool.{eqb-true}
-use Rattle.std.proofs.lemmas.Bool.Decides.{nat_tests}
-use Rattle.std.specs.List.{AllByRecursion, filter, list_any, list_all, position_or_len, range_with_len}
+use Rattle.std.specs.List.{AllByRecursion, filter, list_any, range_with_len}
 use Rattle.machine_spec.specs.Machine.{Hart, Machine, hart_in, hart_of, is_ready}
 use Rattle.machine_spec.specs.Choice.{least}
 use Rattle.machine_spec.proofs.Harts.{ready-below}

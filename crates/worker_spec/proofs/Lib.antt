@@ -1,7 +1,10 @@
 pub mod Lists
 pub mod Choosing
-pub mod NoHistory
 pub mod Numbers
 pub mod Turns
 pub mod Lone
 pub mod Picked
+pub mod Following
+pub mod Unedited
+pub mod Cost
+pub mod Replay

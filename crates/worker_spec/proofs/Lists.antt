@@ -1,8 +1,7 @@
 -- What is needed of lists of thread numbers: the first of them, those that pass a test, and the least of a measure.
-use Rattle.std.proofs.Common.{◌≡◌, ◌<◌, ◌≤◌, ◌+◌, ℕ, zero, suc, Bool, true, false, not, ◌&&◌, ◌||◌, eqb, ltb, cond, min, List, [], ◌∷◌, length, map, Option, Some, None, is_some, replicate, get_or, set, refl, ap, sym, ◌∙◌, subst, inl, inr, arith}
+use Rattle.std.proofs.Common.{◌≡◌, ◌<◌, ◌≤◌, ◌+◌, ℕ, zero, suc, Bool, true, false, ◌||◌, eqb, cond, List, [], ◌∷◌, length, map, Some, is_some, replicate, get_or, set, refl, ap, sym, ◌∙◌, subst, inl, inr, arith}
 use Rattle.std.proofs.lemmas.Bool.{eq-eqb, cases_lt, cases_eq}
-use Rattle.std.proofs.lemmas.Bool.Decides.{nat_tests}
-use Rattle.std.specs.List.{AllByRecursion, filter, list_any, list_all, position_or_len, range_with_len}
+use Rattle.std.specs.List.{AllByRecursion, filter, list_any, range_with_len}
 use Rattle.machine_spec.specs.Machine.{Hart, hart_in}
 use Rattle.machine_spec.specs.Choice.{least}
 use Rattle.round_spec.specs.Choice.{first_of, least_by}

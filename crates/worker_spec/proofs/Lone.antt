@@ -1,37 +1,27 @@
 -- The whole round of one worker: its schedule is permitted and complete, no turn waits, and each entry was picked rightly.
-use Rattle.std.proofs.Common.{◌≡◌, ◌≢◌, ◌⊎◌, ◌<◌, ◌≤◌, ◌+◌, ℕ, zero, suc, Bool, true, false, not, ◌&&◌, ◌||◌, eqb, cond, List, [], ◌∷◌, ◌++◌, length, map, take, get_or, Option, Some, None, is_some, is_none, unwrap_or, find, refl, ap, sym, ◌∙◌, subst, append_assoc, append-nil, inl, inr, arith}
-use Rattle.std.proofs.lemmas.Bool.{eq-eqb}
-use Rattle.std.proofs.lemmas.Bool.Decides.{nat_tests}
-use Rattle.std.specs.List.{AllByRecursion, list_any, position_or_len, range_with_len, take-map}
-use Rattle.thunk_spec.specs.Thunk.{Frame}
+use Rattle.std.proofs.Common.{◌≡◌, ◌≢◌, ◌≤◌, ◌+◌, ℕ, zero, suc, Bool, true, false, cond, List, [], ◌∷◌, ◌++◌, Option, Some, None, is_some, unwrap_or, refl, ap, sym, ◌∙◌, subst, append_assoc, append-nil, arith}
 use Rattle.record_spec.specs.Record.{Record}
 use Rattle.machine_spec.specs.declared.states.End.{End}
-use Rattle.machine_spec.specs.Machine.{Hart, Machine, hart_of, is_ready}
-use Rattle.machine_spec.specs.Step.{step, fits, can_step}
-use Rattle.machine_spec.specs.Schedule.{scratch_from, is_permitted_from, is_complete_from, record_of, records_from}
+use Rattle.machine_spec.specs.Machine.{Machine, hart_of}
+use Rattle.machine_spec.specs.Step.{step, can_step}
+use Rattle.machine_spec.specs.Schedule.{is_permitted_from, is_complete_from, record_of, records_from}
 use Rattle.machine_spec.specs.Setup.{Setup, IsSetup, first, scratch, is_permitted, is_complete, records}
-use Rattle.machine_spec.specs.Choice.{chosen_first}
 use Rattle.machine_spec.specs.Whole.{IsWhole}
 use Rattle.machine_spec.proofs.Beginning.{IsWhole-first}
 use Rattle.machine_spec.proofs.Steps.{step-whole}
 use Rattle.machine_spec.proofs.Alone.{step-limit, step-steps}
-use Rattle.history_spec.specs.History.{History, IsSound, is_of, past_records, found}
+use Rattle.history_spec.specs.History.{History, IsSound}
 use Rattle.history_spec.proofs.Scratch.{and-left, and-right, step-frame, scratch-whole, scratch-more, permitted-more}
 use Rattle.history_spec.proofs.Truth.{reuse-record}
-use Rattle.report_spec.specs.declared.Entry.{Entry}
 use Rattle.report_spec.specs.Report.{threads_of}
 use Rattle.round_spec.specs.declared.events.Pick.{Pick}
 use Rattle.round_spec.specs.declared.events.Pick.TheVariants as pick
-use Rattle.round_spec.specs.Marks.{record_for, is_fitting, fits_next, marked_from, marked, source_of, sourced_from, sourced}
-use Rattle.round_spec.specs.Rounds.{RoundState, nobody_out, opening}
-use Rattle.round_spec.specs.Due.{place_in, is_due}
-use Rattle.round_spec.specs.Choice.{choice_by, pick_of}
-use Rattle.round_spec.specs.Alone.{guided_from, one_worker, turned, turns, lone_round}
+use Rattle.round_spec.specs.Marks.{record_for, is_fitting, fits_next, marked_from, marked, source_of, sourced_from}
+use Rattle.round_spec.specs.Rounds.{RoundState, opening}
+use Rattle.round_spec.specs.Choice.{pick_of}
+use Rattle.round_spec.specs.Alone.{guided_from, one_worker, turns, lone_round}
 use Rattle.round_spec.specs.Keeping.{IsFromScratch}
-use Rattle.round_spec.specs.Picking.{is_ready_and_due, any_thread, is_picked_on, machine_after, IsPicked}
 use Rattle.worker_spec.specs.OneWorker.{made_by}
-use Rattle.worker_spec.proofs.Lists.{none-any, range-all}
-use Rattle.worker_spec.proofs.Choosing.{IsChosen, choice_by-chosen}
 use Rattle.worker_spec.proofs.Turns.{marked-threads, turn-made, turn-over, guided-over, guided-next, Stands, Over, Goes, stands, pick-over, pick-chosen, running}
 
 -- the schedule of one worker is permitted
@@ -181,3 +171,25 @@ made-scratch setup past ts valid sound permitted =
       sources = sources-are past setup (first setup) ts sound (IsWhole-first setup valid) refl permitted;
       marks = ap (marked past setup) threads;
     }
+
+pub lone-threads :
+    (setup : Setup) (past : Option History)
+    → IsSetup setup → IsSound past setup
+    → threads_of (lone_round setup past).schedule ≡ one_worker setup past
+lone-threads setup past valid sound =
+    ap (λ (w : RoundState). threads_of w.schedule) (rounds-made setup past setup.limit valid sound)
+    ∙ marked-threads past (first setup) (one_worker setup past)
+
+pub lone-scratch :
+    (setup : Setup) (past : Option History)
+    → IsSetup setup → IsSound past setup → IsFromScratch (lone_round setup past)
+lone-scratch setup past valid sound =
+    subst IsFromScratch (sym (rounds-made setup past setup.limit valid sound))
+    (made-scratch setup past (one_worker setup past) valid sound (one_worker-permitted setup past valid))
+
+pub lone-ends :
+    (setup : Setup) (past : Option History)
+    → IsSetup setup → IsSound past setup → is_some (lone_round setup past).machine.ending ≡ true
+lone-ends setup past valid sound =
+    ap (λ (w : RoundState). is_some w.machine.ending) (rounds-made setup past setup.limit valid sound)
+    ∙ one_worker-complete setup past valid

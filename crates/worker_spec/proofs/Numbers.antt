@@ -1,11 +1,9 @@
 -- How many steps each thread has made: a step of a thread counts for it and for no other, so each step of a schedule is made after it.
-use Rattle.std.proofs.Common.{◌≡◌, ◌≢◌, ◌<◌, ◌≤◌, ◌+◌, ℕ, zero, suc, Bool, true, false, ◌&&◌, List, [], ◌∷◌, ◌++◌, length, set, Option, Some, None, is_none, refl, ap, sym, ◌∙◌, inl, inr, arith}
+use Rattle.std.proofs.Common.{◌≡◌, ◌≢◌, ◌<◌, ◌≤◌, ℕ, zero, suc, true, List, [], ◌∷◌, ◌++◌, length, set, Option, Some, None, is_none, refl, ap, ◌∙◌, inl, inr, arith}
 use Rattle.std.proofs.lemmas.Bool.{cases_eq}
-use Rattle.std.proofs.lemmas.Bool.Decides.{nat_tests}
 use Rattle.std.proofs.lemmas.List.{get_or-set_same, get_or-set_other}
 use Rattle.std.specs.List.{AllByRecursion}
 use Rattle.memory_spec.specs.Pages.{Memory}
-use Rattle.memory_spec.specs.Stores.{laid}
 use Rattle.isa_spec.specs.Registers.{Registers}
 use Rattle.guest_call.specs.declared.Fate.{Fate}
 use Rattle.guest_call.specs.declared.Fate.TheVariants.{Returns, Blocks, Ends, Exits}
@@ -13,14 +11,13 @@ use Rattle.guest_call.specs.Effect.{Effect}
 use Rattle.guest_call.specs.Objects.{act}
 use Rattle.thunk_spec.specs.declared.ends.ThunkEnd.{ThunkEnd}
 use Rattle.thunk_spec.specs.Put.{is_readable}
-use Rattle.thunk_spec.specs.Thunk.{thunk}
 use Rattle.record_spec.specs.Record.{Record}
 use Rattle.machine_spec.specs.declared.states.Asked.{Asked}
 use Rattle.machine_spec.specs.declared.states.Asked.TheVariants.{Asks, Stops}
 use Rattle.machine_spec.specs.Machine.{Hart, Machine, hart_in, hart_of, nobody, is_ready}
 use Rattle.machine_spec.specs.Performing.{returned, fated, woken, first_hart, with_created, settled}
 use Rattle.machine_spec.specs.Step.{written, asked, done_as_asked, finished, step, can_step}
-use Rattle.machine_spec.specs.Schedule.{scratch_from, is_permitted_from, record_of, records_from}
+use Rattle.machine_spec.specs.Schedule.{scratch_from, is_permitted_from, records_from}
 use Rattle.machine_spec.proofs.Harts.{ready-below}
 use Rattle.history_spec.proofs.Scratch.{and-left, and-right}
 

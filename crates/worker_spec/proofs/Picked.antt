@@ -1,7 +1,7 @@
 -- Each entry of the round of one worker was picked rightly.
-use Rattle.std.proofs.Common.{◌≡◌, ◌≢◌, ◌⊎◌, ◌<◌, ◌≤◌, ◌+◌, ℕ, zero, suc, Bool, true, false, not, ◌&&◌, ◌||◌, eqb, cond, List, [], ◌∷◌, ◌++◌, length, map, take, get_or, Option, Some, None, is_some, is_none, find, refl, ap, sym, ◌∙◌, subst, inl, inr, arith}
+use Rattle.std.proofs.Common.{◌≡◌, ◌<◌, ◌≤◌, ◌+◌, ℕ, zero, suc, Bool, true, false, not, ◌&&◌, ◌||◌, eqb, cond, List, [], ◌∷◌, length, take, get_or, Option, Some, None, is_some, find, refl, ap, sym, ◌∙◌, subst, inl, inr, arith}
 use Rattle.std.proofs.lemmas.Bool.{eq-eqb}
-use Rattle.std.specs.List.{AllByRecursion, list_any, position_or_len, range_with_len, take-map}
+use Rattle.std.specs.List.{position_or_len, range_with_len, take-map}
 use Rattle.record_spec.specs.Record.{Record}
 use Rattle.machine_spec.specs.Machine.{Machine, hart_of, is_ready}
 use Rattle.machine_spec.specs.Step.{step, can_step}
@@ -12,15 +12,15 @@ use Rattle.machine_spec.proofs.Beginning.{IsWhole-first}
 use Rattle.machine_spec.proofs.Steps.{step-whole}
 use Rattle.history_spec.specs.History.{History, IsSound, is_of, past_records, found}
 use Rattle.report_spec.specs.declared.Entry.{Entry}
-use Rattle.report_spec.specs.Report.{threads_of}
-use Rattle.round_spec.specs.Marks.{record_for, is_fitting, fits_next, marked_from, marked}
-use Rattle.round_spec.specs.Rounds.{nobody_out}
+use Rattle.round_spec.specs.Marks.{is_fitting, fits_next, marked_from, marked}
+use Rattle.round_spec.specs.Rounds.{RoundState, nobody_out}
 use Rattle.round_spec.specs.Due.{place_in, is_due}
 use Rattle.round_spec.specs.Choice.{choice_by}
-use Rattle.round_spec.specs.Alone.{guided_from, one_worker}
+use Rattle.round_spec.specs.Alone.{guided_from, one_worker, lone_round}
 use Rattle.round_spec.specs.Picking.{is_ready_and_due, any_thread, is_picked_on, machine_after, IsPicked}
 use Rattle.worker_spec.proofs.Lists.{none-any, range-all}
 use Rattle.worker_spec.proofs.Choosing.{IsChosen, choice_by-chosen}
+use Rattle.worker_spec.proofs.Lone.{rounds-made}
 use Rattle.worker_spec.proofs.Turns.{marked-threads, guided-over, guided-next, Stands, Over, Goes, stands}
 
 -- each entry is the choice after those before it
@@ -159,3 +159,14 @@ guided-picked setup past i e valid below is =
           (chosen-picked past (scratch setup (take i (one_worker setup past))) e.thread
           (choice_by-chosen past (scratch setup (take i (one_worker setup past))) e.thread chosen));
     }
+
+pub lone-picked :
+    (setup : Setup) (past : Option History) (i : ℕ) (e : Entry)
+    → IsSetup setup → IsSound past setup
+    → i < length (lone_round setup past).schedule
+    → get_or (lone_round setup past).schedule i e ≡ e
+    → IsPicked setup past (lone_round setup past).schedule i e i
+lone-picked setup past i e valid sound =
+    subst (λ (w : RoundState). i < length w.schedule → get_or w.schedule i e ≡ e → IsPicked setup past w.schedule i e i)
+    (sym (rounds-made setup past setup.limit valid sound))
+    (guided-picked setup past i e valid)

@@ -1,35 +1,27 @@
 -- The round of one worker is the one that its schedule makes, turn by turn.
-use Rattle.std.proofs.Common.{◌≡◌, ◌≢◌, ◌<◌, ◌≤◌, ◌+◌, ℕ, zero, suc, Bool, true, false, not, ◌&&◌, cond, List, [], ◌∷◌, ◌++◌, length, map, get_or, set, Option, Some, None, is_some, is_none, unwrap_or, refl, ap, sym, ◌∙◌, subst, append_assoc, append-nil, arith}
-use Rattle.std.proofs.lemmas.Bool.Decides.{nat_tests}
-use Rattle.std.specs.List.{list_any}
-use Rattle.thunk_spec.specs.Thunk.{Frame}
+use Rattle.std.proofs.Common.{◌≡◌, ◌<◌, ℕ, zero, suc, Bool, true, false, cond, List, [], ◌∷◌, ◌++◌, get_or, set, Option, Some, None, is_some, refl, ap, sym, ◌∙◌, arith}
 use Rattle.record_spec.specs.Record.{Record}
 use Rattle.machine_spec.specs.declared.states.End.{End}
-use Rattle.machine_spec.specs.Machine.{Hart, Machine, hart_of, is_ready}
+use Rattle.machine_spec.specs.Machine.{Machine, hart_of, is_ready}
 use Rattle.machine_spec.specs.Step.{step, lay, fits, can_step}
-use Rattle.machine_spec.specs.Schedule.{scratch_from, is_permitted_from, is_complete_from, record_of, records_from}
-use Rattle.machine_spec.specs.Setup.{Setup, IsSetup, first, scratch, is_permitted, is_complete, records}
+use Rattle.machine_spec.specs.Schedule.{scratch_from, record_of}
+use Rattle.machine_spec.specs.Setup.{Setup, first, scratch, records}
 use Rattle.machine_spec.specs.Choice.{chosen_first}
 use Rattle.machine_spec.specs.Whole.{IsWhole}
 use Rattle.machine_spec.proofs.Harts.{ready-below}
-use Rattle.machine_spec.proofs.Beginning.{IsWhole-first}
-use Rattle.machine_spec.proofs.Steps.{step-whole}
-use Rattle.machine_spec.proofs.Alone.{step-limit, step-steps}
 use Rattle.history_spec.specs.History.{History, IsSound}
-use Rattle.history_spec.proofs.Scratch.{and-left, and-right, step-frame, scratch-frame, scratch-whole, scratch-more, permitted-more, records-more}
+use Rattle.history_spec.proofs.Scratch.{scratch-frame, scratch-more, records-more}
 use Rattle.history_spec.proofs.Truth.{reuse-record, reuse-lay}
 use Rattle.report_spec.specs.declared.Entry.{Entry}
 use Rattle.report_spec.specs.Report.{threads_of}
-use Rattle.round_spec.specs.declared.events.Pick.{Pick}
 use Rattle.round_spec.specs.declared.events.Pick.TheVariants as pick
-use Rattle.round_spec.specs.Marks.{record_for, is_fitting, fits_next, marked_from, marked, source_of, sourced_from, sourced}
-use Rattle.round_spec.specs.Rounds.{RoundState, nobody_out, opening, happens}
-use Rattle.round_spec.specs.Choice.{choice_by, with_choice, pick_of}
-use Rattle.round_spec.specs.Alone.{guided_from, one_worker, turned, turns, lone_round}
-use Rattle.round_spec.specs.Keeping.{IsFromScratch}
+use Rattle.round_spec.specs.Marks.{record_for, is_fitting, fits_next, marked_from, marked}
+use Rattle.round_spec.specs.Rounds.{RoundState, nobody_out, happens}
+use Rattle.round_spec.specs.Choice.{choice_by, pick_of}
+use Rattle.round_spec.specs.Alone.{guided_from, turned}
 use Rattle.worker_spec.specs.OneWorker.{made_by}
 use Rattle.worker_spec.proofs.Lists.{get-raised, set-lowered}
-use Rattle.worker_spec.proofs.Choosing.{out-nobody, choice_by-some, IsChosen, choice_by-chosen}
+use Rattle.worker_spec.proofs.Choosing.{out-nobody, choice_by-some, choice_by-chosen}
 
 -- marks
 

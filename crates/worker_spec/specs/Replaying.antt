@@ -1,5 +1,5 @@
 -- Rounds that have done nothing yet but what the history that they go by did, step by step.
-use Rattle.std.specs.Prelude.{◌≡◌, ℕ, Bool, true, false, ◌==◌, List, length, map, take, Option, Some}
+use Rattle.std.specs.Prelude.{◌≡◌, Bool, true, false, ◌==◌, List, length, map, take, Some}
 use Rattle.machine_spec.specs.Setup.{scratch}
 use Rattle.history_spec.specs.History.{History, schedule_of}
 use Rattle.report_spec.specs.declared.Entry.{Entry}
