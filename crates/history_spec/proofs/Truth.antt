@@ -192,3 +192,7 @@ reuse-lay setup past m t number r sound whole frame there fit =
 pub fits-hart : (m n : Machine) (r : Record) → hart_of n r.thread ≡ hart_of m r.thread → fits n r ≡ fits m r
 unfolding fits
 fits-hart m n r same = ap (λ (h : Hart). is_ready h.status && fits_at r h.number h.regs h.view) same
+
+-- setups of the same program with the same input
+pub same-setup : (a b : Setup) → IsSameProgram a b → a.input ≡ b.input → a ≡ b
+same-setup a b same input = rw (← same.elf, ← same.fuel, ← same.limit, ← input) refl

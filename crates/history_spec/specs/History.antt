@@ -1,5 +1,5 @@
 -- What is kept of a finished run: its setup, and a record of each step.
-use Rattle.std.specs.Prelude.{◌≡◌, ℕ, Bool, true, ◌&&◌, ◌==◌, List, [], ◌∷◌, map, find, Option, Some, None, is_none, is_some, ⊤}
+use Rattle.std.specs.Prelude.{◌≡◌, ℕ, Bool, true, ◌&&◌, ◌==◌, List, [], ◌∷◌, ◌++◌, map, find, count_by, Option, Some, None, is_none, is_some, ⊤}
 use Rattle.record_spec.specs.Record.{Record}
 use Rattle.machine_spec.specs.Machine.{Machine}
 use Rattle.machine_spec.specs.Step.{lay, fits}
@@ -61,3 +61,14 @@ past_records (Some h) = h.records
 -- The record of a thread at a number of steps made, if there is one. (this project's own)
 abbrev pub found : Option History → ℕ → ℕ → Option Record
 found past t number = find (is_of t number) (past_records past)
+
+-- Whether the number of each record is how many records of its thread come before it, where others of these threads come first. (this
+-- project's own)
+abbrev pub is_numbered_after : List ℕ → List Record → Bool
+is_numbered_after earlier [] = true
+is_numbered_after earlier (r ∷ rs) =
+    (r.number == count_by (λ t. t == r.thread) earlier) && is_numbered_after (earlier ++ r.thread ∷ []) rs
+
+-- The same from the first record on. (this project's own)
+abbrev pub is_numbered : List Record → Bool
+is_numbered rs = is_numbered_after [] rs

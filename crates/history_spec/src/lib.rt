@@ -4,7 +4,7 @@
 //! history is coherent, and that a ready thread's view is fixed until it makes its step. No code.
 #![tactic(auto)]
 
-ghost use Rattle.std.specs.Prelude.{◌≡◌, ℕ, List, All, Option, Some, true, false, ◌==◌};
+ghost use Rattle.std.specs.Prelude.{◌≡◌, ℕ, List, All, Option, count_by, Some, true, false, ◌==◌};
 ghost use Rattle.std.specs.List.{list_any};
 ghost use Rattle.record_spec.specs.Record.{Record, IsTrue};
 ghost use Rattle.machine_spec.specs.Machine.{Machine, hart_of, is_ready};
@@ -12,7 +12,7 @@ ghost use Rattle.machine_spec.specs.Step.{step, lay, fits};
 ghost use Rattle.machine_spec.specs.Schedule.{scratch_from, is_permitted_from, record_of};
 ghost use Rattle.machine_spec.specs.Setup.{Setup, IsSetup, first, is_permitted, records, scratch};
 ghost use Rattle.machine_spec.specs.Whole.{IsWhole};
-ghost use Rattle.history_spec.specs.History.{History, IsHonest, IsSound, is_coherent, found};
+ghost use Rattle.history_spec.specs.History.{History, IsHonest, IsSameProgram, IsSound, is_coherent, found, is_numbered};
 
 /// The record of each step of a permitted schedule is true.
 pub fn records_are_true()
@@ -66,4 +66,18 @@ pub fn view_is_fixed()
         → list_any (λ u. u == r.thread) schedule ≡ false
         → is_ready (hart_of m r.thread).status ≡ true
         → fits (scratch_from m schedule) r ≡ fits m r }
+{}
+
+/// A thread has made as many steps as the schedule has entries of it; and so each record of an honest
+/// history has as its number how many records of its thread come before it.
+pub fn numbers_count_steps()
+    ensures harts { (setup : Setup) (schedule : List ℕ) (t : ℕ)
+        → is_permitted setup schedule ≡ true
+        → (hart_of (scratch setup schedule) t).number ≡ count_by (λ u. u == t) schedule }
+    ensures records { (h : History) → IsHonest h → is_numbered h.records ≡ true }
+{}
+
+/// Two setups of the same program and with the same input are the same.
+pub fn same_input_is_same_setup()
+    ensures { (a b : Setup) → IsSameProgram a b → a.input ≡ b.input → a ≡ b }
 {}

@@ -55,7 +55,7 @@ still_out out t u is =
 -- conditions
 
 -- what holds where a thread's next step can be begun
-record CanBegin (w : RoundState) (t : ℕ) : Type 0 where
+pub record CanBegin (w : RoundState) (t : ℕ) : Type 0 where
   pub none : is_none w.machine.ending ≡ true
   pub ready : is_ready (hart_of w.machine t).status ≡ true
   pub inside : is_out w t ≡ false
@@ -82,7 +82,7 @@ not-true : (b : Bool) → not b ≡ true → b ≡ false
 not-true true h = cc
 not-true false h = refl
 
-can_begin-parts : (w : RoundState) (t : ℕ) → can_begin w t ≡ true → CanBegin w t
+pub can_begin-parts : (w : RoundState) (t : ℕ) → can_begin w t ≡ true → CanBegin w t
 can_begin-parts w t can =
     let parts = begin-parts w.machine.ending w.stopped (is_ready (hart_of w.machine t).status) (is_out w t) can in
     record { none = parts.0; ready = parts.1; inside = parts.2 }

@@ -5,3 +5,6 @@ pub mod Fits
 pub mod Happening
 pub mod Leaving
 pub mod Agreeing
+pub mod Counting
+pub mod Conditions
+pub mod PickingExamples
