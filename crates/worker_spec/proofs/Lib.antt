@@ -8,3 +8,4 @@ pub mod Following
 pub mod Unedited
 pub mod Cost
 pub mod Replay
+pub mod Examples
