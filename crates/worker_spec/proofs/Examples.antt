@@ -1,5 +1,5 @@
 -- Worked examples of one worker, each computed by the checker. Orders, marks and counts were worked out by hand.
-use Rattle.std.proofs.Common.{◌≡◌, Bool, true, false, List, [], ◌∷◌, map, Option, Some, None, refl}
+use Rattle.std.proofs.Common.{◌≡◌, true, false, [], ◌∷◌, map, Option, None, refl}
 use Rattle.isa_spec.specs.Fields.{i_immediate, s_immediate, u_immediate}
 use Rattle.isa_spec.specs.Registers.{with_register}
 use Rattle.isa_spec.specs.Operations.{immediate_result, shift_result, register_result}

@@ -8,4 +8,5 @@ pub mod Following
 pub mod Unedited
 pub mod Cost
 pub mod Replay
+pub mod Events
 pub mod Examples

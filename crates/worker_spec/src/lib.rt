@@ -5,14 +5,14 @@
 //! code.
 #![tactic(auto)]
 
-ghost use Rattle.std.specs.Prelude.{◌≡◌, ◌≢◌, ◌<◌, ℕ, true, false, length, slice_index_or, Option, Some, is_some};
+ghost use Rattle.std.specs.Prelude.{◌≡◌, ◌≢◌, ◌<◌, ℕ, true, false, List, length, slice_index_or, Option, Some, is_some};
 ghost use Rattle.machine_spec.specs.Setup.{Setup, IsSetup, first, scratch, is_permitted, is_complete};
 ghost use Rattle.history_spec.specs.History.{History, IsSound, IsHonest, schedule_of};
 ghost use Rattle.report_spec.specs.declared.Entry.{Entry};
 ghost use Rattle.report_spec.specs.Report.{threads_of, instructions_from};
 ghost use Rattle.round_spec.specs.declared.events.Event.{Event};
 ghost use Rattle.round_spec.specs.declared.events.Pick.TheVariants as pick;
-ghost use Rattle.round_spec.specs.Rounds.{RoundState, opening, happens, is_over};
+ghost use Rattle.round_spec.specs.Rounds.{RoundState, opening, happens, is_over, round_after, history_of};
 ghost use Rattle.round_spec.specs.Choice.{pick_of};
 ghost use Rattle.round_spec.specs.Alone.{guided_from, one_worker, turns, lone_round};
 ghost use Rattle.round_spec.specs.Keeping.{IsFromScratch};
@@ -56,6 +56,21 @@ pub fn one_worker_makes_its_schedule()
         → IsSetup setup
         → IsSound past setup
         → is_some (lone_round setup past).machine.ending ≡ true }
+{}
+
+/// What one worker does is one event after the other, whatever it goes by. So what holds of every round
+/// that events reach holds of its round, after each turn.
+pub fn one_worker_does_events()
+    ensures { (setup : Setup) (past : Option History) (n : ℕ)
+        → (events : List Event) × (turns n (opening setup past) ≡ round_after setup past events) }
+{}
+
+/// What one worker leaves that went by a sound history is an honest history.
+pub fn one_worker_leaves_an_honest_history()
+    ensures { (setup : Setup) (past : Option History)
+        → IsSetup setup
+        → IsSound past setup
+        → IsHonest (history_of (lone_round setup past)) }
 {}
 
 /// One worker never has to wait: with nobody out there is always something to do, or the round is over.
