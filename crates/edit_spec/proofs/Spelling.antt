@@ -59,7 +59,7 @@ same_bytes (high ∷ low ∷ digits) (x ∷ a) (y ∷ b) p q =
     cc
 
 -- no line begins with both words: they differ in the second letter
-other_word : {a b : List ℕ} (text : List ℕ) → codes "set " ++ a ≡ text → codes "size " ++ b ≡ text → ⊥
+pub other_word : {a b : List ℕ} (text : List ℕ) → codes "set " ++ a ≡ text → codes "size " ++ b ≡ text → ⊥
 other_word text p q =
     let e : get_or text 1 0 ≡ 101 = ap (λ (t : List ℕ). get_or t 1 0) (sym p) in
     let i : get_or text 1 0 ≡ 105 = ap (λ (t : List ℕ). get_or t 1 0) (sym q) in

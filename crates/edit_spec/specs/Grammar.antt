@@ -1,5 +1,5 @@
 -- The grammar of a list of edits: what its lines spell.
-use Rattle.std.specs.Prelude.{ℕ, ◌≡◌, ◌<◌, ◌/◌, ◌%◌, ◌==◌, nat_lt, List, [], ◌∷◌, ◌++◌, filter, length, codes, decimal, Some, Result, Ok, Err, ◌⊎◌}
+use Rattle.std.specs.Prelude.{ℕ, ◌≡◌, ◌<◌, ◌/◌, ◌%◌, ◌==◌, Bool, true, false, List, [], ◌∷◌, ◌++◌, filter, length, codes, decimal, Some, Result, Ok, Err, ◌⊎◌}
 use Rattle.std.specs.List.{AllZip, enumerate_from, slice_split}
 use Rattle.hex.specs.Hex.{hex_digit_value}
 use Rattle.edit_spec.specs.Edit.{Edit, Set, Size, LineEdit}
@@ -35,9 +35,14 @@ IsEdit text = (edit : Edit) × Spells text edit
 abbrev pub Line : Type 0
 Line = ℕ × List ℕ
 
+-- Some byte is there. (this project's own)
+abbrev pub is_filled : List ℕ → Bool
+is_filled [] = false
+is_filled (byte ∷ bytes) = true
+
 -- The lines of a list: the pieces between newline bytes, numbered from 1; empty ones are numbered and left out. (this project's own)
 unfoldable pub lines : List ℕ → List Line
-lines bytes = filter (λ line. nat_lt 0 (length line.1)) (enumerate_from 1 (slice_split (λ byte. byte == newline) bytes))
+lines bytes = filter (λ line. is_filled line.1) (enumerate_from 1 (slice_split (λ byte. byte == newline) bytes))
 
 -- The lines spell the edits, each line one edit, in order. (this project's own)
 abbrev pub SpellAll : List Line → List LineEdit → Type 0

@@ -1,0 +1,4 @@
+pub mod Numerals
+pub mod Digits
+pub mod Words
+pub mod Parsing
