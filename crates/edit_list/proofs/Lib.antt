@@ -2,3 +2,4 @@ pub mod Numerals
 pub mod Digits
 pub mod Words
 pub mod Parsing
+pub mod Room

@@ -1,5 +1,5 @@
 -- How long an input is between edits.
-use Rattle.std.specs.Prelude.{ℕ, ◌≡◌, ◌≤◌, List, [], ◌∷◌, length, Option, Some, None, if◌then◌else◌}
+use Rattle.std.specs.Prelude.{ℕ, ◌≡◌, ◌≤◌, false, List, [], ◌∷◌, Option, Some, None, if◌then◌else◌}
 use Rattle.edit_spec.specs.Edit.{Edit, Set, Size, LineEdit}
 use Rattle.edit_spec.specs.Editing.{is_out_of_range}
 

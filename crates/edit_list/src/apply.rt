@@ -4,7 +4,7 @@ ghost use Rattle.std.specs.Prelude.{◌≡◌, ◌≤◌, ◌<◌, false, length
 ghost use Rattle.edit_spec.specs.Editing.{edited, edited_once, is_out_of_range};
 ghost use Rattle.edit_list.specs.Said.{edit_said, line_said};
 ghost use Rattle.edit_list.specs.Refusals.{WhyNotApplied, WhyNoRoom};
-ghost use Rattle.edit_list.specs.Room.{HaveRoom, length_after};
+ghost use Rattle.edit_list.specs.Room.{HaveRoom, length_after, new_length};
 
 use super::edits::{Edit, Edits, LineEdit};
 
@@ -21,15 +21,15 @@ pub enum ApplyError {
 }
 
 /// How long an input of this length is after an edit, or `None` where the edit passes its bound.
-fn length_after(edit: &Edit, length: usize) -> Option<usize>
-    ensures { result ≡ length_after (edit_said edit.now) length }
+fn length_after(edit: &Edit, input_length: usize) -> Option<usize>
+    ensures { result ≡ length_after (edit_said edit.now) input_length }
 {
     match edit {
         Edit::Set { offset, bytes } => {
-            if bytes.len() > length || *offset as usize > length - bytes.len() {
+            if bytes.len() > input_length || *offset as usize > input_length - bytes.len() {
                 return None;
             }
-            Some(length)
+            Some(input_length)
         }
         Edit::Size(size) => {
             if *size as usize > LONGEST_INPUT {
@@ -45,41 +45,82 @@ fn length_after(edit: &Edit, length: usize) -> Option<usize>
 /// # Errors
 ///
 /// `OutOfRange` with the line of the first edit that passes its bound.
-fn room_for(lines: &[LineEdit], length: usize) -> Result<usize, ApplyError>
-    ensures room { IfOk result (HaveRoom (map line_said lines.now) length) }
-    ensures refused { IfErr result (WhyNoRoom (map line_said lines.now) length) }
+fn room_for(lines: &[LineEdit], input_length: usize) -> Result<usize, ApplyError>
+    ensures room { IfOk result (HaveRoom (map line_said lines.now) input_length) }
+    ensures refused { IfErr result (WhyNoRoom (map line_said lines.now) input_length) }
 {
-    let mut room = length;
-    let mut length = length;
+    let mut room = input_length;
+    let mut current = input_length;
     for line in lines {
-        length = match length_after(&line.edit, length) {
+        current = match length_after(&line.edit, current) {
             Some(after) => after,
             None => return Err(ApplyError::OutOfRange(line.line)),
         };
-        room = room.max(length);
+        room = room.max(current);
     }
     Ok(room)
 }
 
 /// Does an edit to the first bytes of a buffer, of which this many are the input, and gives how many then are.
-fn write_edit(edit: &Edit, buffer: &mut [u8], length: usize) -> usize
-    requires within { is_out_of_range (edit_said edit.now) length ≡ false }
-    requires before { length ≤ length buffer.old }
-    requires after { length (edited_once (edit_said edit.now) (take length buffer.old)) ≤ length buffer.old }
-    ensures { take result buffer.new ≡ edited_once (edit_said edit.now) (take length buffer.old) }
+fn write_edit(edit: &Edit, buffer: &mut [u8], input_length: usize) -> usize
+    requires within { is_out_of_range (edit_said edit.now) input_length ≡ false }
+    requires before { input_length ≤ length buffer.old }
+    requires after { new_length (edit_said edit.now) input_length ≤ length buffer.old }
+    ensures count { result ≡ new_length (edit_said edit.now) input_length }
+    ensures written { take result buffer.new ≡ edited_once (edit_said edit.now) (take input_length buffer.old) }
 {
     match edit {
         Edit::Set { offset, bytes } => {
             let offset = *offset as usize;
-            buffer[offset..offset + bytes.len()].copy_from_slice(bytes);
-            length
+            buffer[offset..offset + bytes.len()].copy_from_slice(bytes.as_slice());
+            input_length
         }
         Edit::Size(size) => {
             let size = *size as usize;
-            if size > length {
-                buffer[length..size].fill(0);
+            if size > input_length {
+                buffer[input_length..size].fill(0);
             }
             size
         }
+    }
+}
+
+/// Does edits to the first bytes of a buffer, of which this many are the input, and gives how many then are.
+fn write_edits(lines: &[LineEdit], buffer: &mut [u8], input_length: usize) -> usize
+    requires { HaveRoom (map line_said lines.now) input_length (length buffer.old) }
+    ensures { edited (map line_said lines.now) (take input_length buffer.old) ≡ Ok (take result buffer.new) }
+{
+    let mut current = input_length;
+    for line in lines {
+        current = write_edit(&line.edit, buffer, current);
+    }
+    current
+}
+
+impl Edits {
+    /// Does the edits to an input, one after the other.
+    ///
+    /// # Errors
+    ///
+    /// `OutOfRange` with the line of the first edit that passes its bound: `set` where it would write past the end
+    /// of the input as the lines before left it, `size` above 1,048,576. Or `NoMemory`. After either the input is
+    /// as before.
+    pub fn apply(&self, input: &mut Vec<u8>) -> Result<(), ApplyError>
+        ensures done { OnOk result (edited self.now input.old.items ≡ Ok input.new.items) }
+        ensures same { OnErr result (input.new.items ≡ input.old.items) }
+        ensures refused { IfErr result (WhyNotApplied self.now input.old.items) }
+    {
+        let room = match room_for(&self.lines, input.len()) {
+            Ok(room) => room,
+            Err(error) => return Err(error),
+        };
+        let before = input.len();
+        match input.resize(room, 0) {
+            Ok(()) => {}
+            Err(_) => return Err(ApplyError::NoMemory),
+        }
+        let after = write_edits(&self.lines, input.as_mut_slice(), before);
+        input.truncate(after);
+        Ok(())
     }
 }

@@ -11,16 +11,16 @@ pub returns-in-None-number_of-clause-refused : goal.returns-in-None-number_of-cl
 returns-in-None-number_of-clause-refused c = λ is.
     let s = set_line c.args.rest.now is in
     let same =
-        around_first_space c.in-Some.parts.0.now (decimal s.0) c.in-Some.parts.1.now s.2 c.in-Some.ensures.0 (no_space-decimal s.0 s.3)
-        (sym c.in-Some.ensures.1 ∙ s.6) in
+    around_first_space c.in-Some.parts.0.now (decimal s.0) c.in-Some.parts.1.now s.2 c.in-Some.ensures.0 (no_space-decimal s.0 s.3)
+    (sym c.in-Some.ensures.1 ∙ s.6) in
     c.in-None-number_of.ensures s.0 s.3 same.0
 
 pub returns-in-Err-clause-refused : goal.returns-in-Err-clause-refused
 returns-in-Err-clause-refused c =
     no_set_without_bytes c.args.rest.now c.in-Some.parts.1.now c.in-Err.fault c.in-Err.ensures.refused
     (λ is.
-        let s = set_line c.args.rest.now is in
-        let same =
-            around_first_space c.in-Some.parts.0.now (decimal s.0) c.in-Some.parts.1.now s.2 c.in-Some.ensures.0 (no_space-decimal s.0 s.3)
-            (sym c.in-Some.ensures.1 ∙ s.6) in
-        (s.1, s.4, subst (λ (ds : List ℕ). SpellBytes ds s.1) (sym same.1) s.5))
+    let s = set_line c.args.rest.now is in
+    let same =
+    around_first_space c.in-Some.parts.0.now (decimal s.0) c.in-Some.parts.1.now s.2 c.in-Some.ensures.0 (no_space-decimal s.0 s.3)
+    (sym c.in-Some.ensures.1 ∙ s.6) in
+    (s.1, s.4, subst (λ (ds : List ℕ). SpellBytes ds s.1) (sym same.1) s.5))
