@@ -1,9 +1,9 @@
 -- A text is a numeral exactly where it is the decimal spelling of a small number.
-use Rattle.std.proofs.Common.{Bool, ◌&&◌, ◌||◌, ◌==◌, not, nat_lt, nat_le, slice_index, inl, inr, ◌≡◌, ◌≢◌, ℕ, ◌+◌, ◌-◌, ◌*◌, ◌<◌, ◌≤◌, ◌^◌, zero, suc, true, false, List, [], ◌∷◌, length, get_or, take, refl, sym, ap, arith, ◌∙◌, rules}
+use Rattle.std.proofs.Common.{Bool, ◌&&◌, ◌||◌, ◌==◌, not, nat_lt, nat_le, slice_index, inl, inr, ◌≡◌, ℕ, ◌+◌, ◌-◌, ◌*◌, ◌<◌, ◌≤◌, true, List, length, get_or, take, refl, sym, ap, arith, rules}
 use Rattle.std.specs.Prelude.{decimal}
 use Rattle.std.specs.List.{list_all}
 use Rattle.std.specs.Int.{IsInRange}
-use Rattle.std.specs.Char.{is_ascii_digit, digit_value}
+use Rattle.std.specs.Char.{is_ascii_digit}
 use Rattle.std.specs.Str.Parse.{digits_value}
 use Rattle.std.proofs.lemmas.Bool.{and_parts, cases_lt}
 use Rattle.std.proofs.lemmas.Bool.Decides.{nat_tests}

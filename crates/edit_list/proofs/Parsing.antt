@@ -1,5 +1,5 @@
 -- A list is read line by line.
-use Rattle.std.proofs.Common.{◌≡◌, ℕ, ◌+◌, ◌<◌, ◌==◌, nat_lt, true, false, List, [], ◌∷◌, ◌++◌, length, Result, Ok, Err, refl, sym, ap, subst, ◌∙◌, arith, append_assoc, length-append, inl, inr}
+use Rattle.std.proofs.Common.{◌≡◌, ℕ, ◌+◌, ◌<◌, ◌==◌, false, List, [], ◌∷◌, ◌++◌, length, Result, Ok, Err, refl, sym, ap, subst, ◌∙◌, arith, append_assoc, length-append, inl, inr}
 use Rattle.std.specs.List.{All, slice_split}
 use Rattle.std.proofs.lemmas.List.Splits.{slice_split_at, slice_split_none}
 use Rattle.edit_list.specs.declared.parser.ParseError.{ParseError}
@@ -7,7 +7,7 @@ use Rattle.edit_list.specs.declared.parser.ParseError.TheVariants.{BadLine, NoMe
 use Rattle.edit_list.specs.Refusals.{WhyNotAdded, WhyNotParsed}
 use Rattle.std.proofs.lemmas.List.{append-nil}
 use Rattle.edit_spec.specs.Edit.{Edit, LineEdit}
-use Rattle.edit_spec.specs.Grammar.{Line, lines, IsEdit, Spells, SpellAll, IsFirstBad, Say, Says, newline}
+use Rattle.edit_spec.specs.Grammar.{lines, IsEdit, Spells, SpellAll, Say, Says, newline}
 use Rattle.edit_list.specs.Adding.{lines_from, AddsLine}
 
 -- an answer about lines, with the edits of the lines before them

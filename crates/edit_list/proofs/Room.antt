@@ -1,10 +1,9 @@
 -- Room for edits, and what they do to the first bytes of a buffer.
-use Rattle.std.proofs.Common.{◌≡◌, ◌≤◌, ◌<◌, ℕ, ◌+◌, ◌-◌, Bool, true, false, List, [], ◌∷◌, ◌++◌, length, take, drop, map, replicate, Option, Some, None, Result, Ok, Err, if◌then◌else◌, refl, sym, ap, subst, ◌∙◌, arith, append_assoc, length-append, inl, inr, ◌⊎◌}
+use Rattle.std.proofs.Common.{◌≡◌, ◌≤◌, ℕ, ◌+◌, ◌-◌, Bool, true, false, List, [], ◌∷◌, ◌++◌, length, take, drop, replicate, Some, Err, if◌then◌else◌, refl, ap, subst, ◌∙◌, arith, append_assoc, length-append, inl, inr, ◌⊎◌}
 use Rattle.std.proofs.lemmas.Grind.{common_steps}
 use Rattle.std.proofs.lemmas.Bool.Decides.{nat_tests}
 use borrow.Rule.Slice.PartMut.{put_mid}
 use Rattle.std.proofs.lemmas.List.{take-append-drop, take-append-le, take_at, drop-append-le, drop-drop, length-drop}
-use Rattle.std.proofs.lemmas.Slice.{overwrites}
 use Rattle.edit_spec.specs.Edit.{Edit, Set, Size, LineEdit}
 use Rattle.edit_spec.specs.Editing.{edited, edited_once, is_out_of_range}
 use Rattle.edit_list.specs.declared.apply.ApplyError.{ApplyError}

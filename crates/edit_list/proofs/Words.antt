@@ -1,5 +1,5 @@
 -- The parts of a line.
-use Rattle.std.proofs.Common.{◌≡◌, ◌≢◌, ℕ, ◌<◌, ◌==◌, true, false, List, [], ◌∷◌, ◌++◌, length, get_or, refl, sym, ap, subst, ◌∙◌, arith}
+use Rattle.std.proofs.Common.{◌≡◌, ◌≢◌, ℕ, ◌<◌, ◌==◌, true, false, List, [], ◌∷◌, ◌++◌, length, refl, sym, subst, arith}
 use Rattle.std.specs.Prelude.{codes, decimal}
 use Rattle.std.specs.List.{All, list_all}
 use Rattle.std.specs.Char.{is_ascii_digit}
@@ -7,8 +7,8 @@ use Rattle.std.proofs.lemmas.Bool.{and_parts}
 use Rattle.std.proofs.lemmas.Bool.Decides.{nat_tests}
 use Rattle.std.proofs.lemmas.List.Elements.{All-cons, All-head, All-tail}
 use Rattle.std.proofs.lemmas.Fmt.{digits_decimal}
-use Rattle.edit_spec.specs.Edit.{Edit, Set, Size}
-use Rattle.edit_spec.specs.Grammar.{SpellBytes, Spells, IsEdit, number_limit, space}
+use Rattle.edit_spec.specs.Edit.{Set, Size}
+use Rattle.edit_spec.specs.Grammar.{SpellBytes, IsEdit, number_limit}
 use Rattle.edit_spec.proofs.Spelling.{other_word}
 use Rattle.edit_list.specs.declared.line.LineFault.{LineFault}
 use Rattle.edit_list.specs.declared.line.LineFault.TheVariants as fault

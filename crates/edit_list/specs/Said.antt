@@ -1,5 +1,4 @@
 -- The edits that the code keeps, as edits of the grammar.
-use Rattle.std.specs.Prelude.{List, map}
 use Rattle.edit_spec.specs.Edit as said
 use Rattle.edit_spec.specs.Edit.{LineEdit as LineEditSaid}
 use Rattle.edit_list.specs.declared.edits.Edit.{Edit}

@@ -1,4 +1,4 @@
-use Rattle.std.proofs.Common.{◌≡◌, List, ◌∷◌, length, drop, map, sym, ap, subst, ◌∙◌, arith, ◌+◌}
+use Rattle.std.proofs.Common.{◌≡◌, List, ◌∷◌, length, drop, map, sym, ap, subst, ◌∙◌, ◌+◌}
 use Rattle.std.proofs.lemmas.List.{drop_more}
 use Rattle.edit_list.specs.declared.edits.LineEdit.{LineEdit}
 use Rattle.edit_list.specs.Said.{line_said, edit_said}

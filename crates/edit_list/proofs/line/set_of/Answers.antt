@@ -1,4 +1,4 @@
-use Rattle.std.proofs.Common.{◌≡◌, ℕ, List, sym, ◌∙◌, subst}
+use Rattle.std.proofs.Common.{ℕ, List, sym, ◌∙◌, subst}
 use Rattle.std.specs.Prelude.{decimal}
 use Rattle.edit_spec.specs.Grammar.{SpellBytes}
 use Rattle.edit_list.proofs.Words.{set_line, around_first_space, no_space-decimal, space_is_there, no_set_without_bytes}

@@ -1,5 +1,5 @@
-use Rattle.std.proofs.Common.{arith, rules, ap, ◌∙◌, sym}
-use Rattle.edit_list.proofs.Numerals.{digit_there, one_more, small_so_far}
+use Rattle.std.proofs.Common.{arith}
+use Rattle.edit_list.proofs.Numerals.{one_more, small_so_far}
 use Rattle.edit_list.proofs.number.value_of.Goals as goal
 
 pub overflow_mul-value : goal.overflow_mul-value

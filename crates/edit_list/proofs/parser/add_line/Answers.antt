@@ -1,4 +1,4 @@
-use Rattle.std.proofs.Common.{◌≡◌, ◌<◌, ◌==◌, ℕ, List, ap, sym, false, ◌∙◌, arith, map, length}
+use Rattle.std.proofs.Common.{◌≡◌, ◌==◌, ap, sym, false, ◌∙◌, arith, map, length}
 use Rattle.std.proofs.lemmas.Bool.Decides.{nat_tests}
 use Rattle.std.proofs.lemmas.List.{map_push}
 use Rattle.edit_list.specs.Said.{edit_said, line_said}

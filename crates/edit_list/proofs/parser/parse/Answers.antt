@@ -1,4 +1,4 @@
-use Rattle.std.proofs.Common.{◌+◌, ◌≡◌, ℕ, ◌==◌, List, [], map, sym, ◌∙◌, arith}
+use Rattle.std.proofs.Common.{◌+◌, ◌==◌, [], map, arith}
 use Rattle.std.specs.List.{slice_split}
 use Rattle.edit_list.specs.Said.{line_said}
 use Rattle.edit_list.proofs.Parsing.{no_line_yet, one_line_more, all_lines, cut_leads, last_leads, refused_there, after_is_shorter}

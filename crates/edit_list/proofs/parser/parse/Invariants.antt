@@ -1,4 +1,4 @@
-use Rattle.std.proofs.Common.{ℕ, ◌≤◌, ◌+◌, ◌==◌, map, length}
+use Rattle.std.proofs.Common.{◌≤◌, ◌+◌, ◌==◌, map, length}
 use Rattle.std.specs.List.{slice_split}
 use Rattle.edit_list.specs.Said.{line_said}
 use Rattle.edit_list.proofs.Parsing.{Leads}

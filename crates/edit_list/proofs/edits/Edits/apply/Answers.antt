@@ -1,4 +1,4 @@
-use Rattle.std.proofs.Common.{◌++◌, ◌-◌, replicate, vec_len, ◌≡◌, ◌≤◌, ℕ, List, map, take, length, Ok, Result, sym, ap, subst, ◌∙◌, arith}
+use Rattle.std.proofs.Common.{◌++◌, ◌-◌, replicate, vec_len, ◌≡◌, ◌≤◌, ℕ, List, map, take, length, Ok, sym, ap, subst, ◌∙◌, arith}
 use Rattle.edit_spec.specs.Edit.{LineEdit}
 use Rattle.edit_spec.specs.Editing.{edited}
 use Rattle.edit_list.specs.Said.{line_said}
