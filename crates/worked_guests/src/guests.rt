@@ -108,12 +108,7 @@ pub const LATE: Guest = Guest {
 
 /// Exits with the length of the input.
 pub const LENGTH: Guest = Guest {
-    lines: &[
-        Call(5),
-        Lui(T0, 0xc0000),
-        Lw(A0, 0, T0),
-        Call(0),
-    ],
+    lines: &[Call(5), Lui(T0, 0xc0000), Lw(A0, 0, T0), Call(0)],
     bss: 0,
 };
 
@@ -177,11 +172,7 @@ pub const CROSS: Guest = Guest {
 
 /// Unlocks a mutex that nobody owns, and exits with the answer.
 pub const PERM: Guest = Guest {
-    lines: &[
-        Addi(A0, Zero, 0),
-        Call(8),
-        Call(0),
-    ],
+    lines: &[Addi(A0, Zero, 0), Call(8), Call(0)],
     bss: 0,
 };
 

@@ -4,9 +4,7 @@ ghost use Rattle.std.specs.Prelude.{◌≡◌, ◌<◌, All, OnOk};
 ghost use Rattle.isa_spec.specs.Encoding.{InRange, IsUpper};
 ghost use Rattle.rv_asm.specs.Items.{IsWritable};
 
-use isa_spec::{
-    BranchTest, ImmediateOperation, Load, RegisterOperation, ShiftOperation, Store,
-};
+use isa_spec::{BranchTest, ImmediateOperation, Load, RegisterOperation, ShiftOperation, Store};
 use rv_asm::{Instr, Item};
 use std::alloc::AllocError;
 
