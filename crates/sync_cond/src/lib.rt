@@ -8,7 +8,7 @@ ghost use Rattle.std.specs.Option.{IfSome};
 ghost use Rattle.guest_call.specs.Queues.{places, waits};
 ghost use Rattle.guest_call.specs.Conditions.{unawaited, condition_queue, signal_leaving, broadcast_leaving};
 ghost use Rattle.guest_call.specs.Objects.{all_unawaited};
-ghost use Rattle.sync_cond.specs.ConditionTable.{wait_row, wait_at};
+ghost use Rattle.sync_cond.specs.ConditionTable.{wait_row, wait_at, awaited_with};
 ghost use Rattle.sync_cond.specs.Leaving.{leaving_of, leaving_at};
 
 use std::marker::Model;
@@ -203,6 +203,19 @@ impl Conditions {
         ensures waited { IfSome result (λ l. (u : ℕ) → places u l.threads ≤ waits condition_queue self.old u) }
     {
         broadcast_in(&mut self.cells, c)
+    }
+
+    /// The mutex with which threads wait for the condition of number `c`. None exactly where nobody waits for it.
+    pub fn awaited_with(&self, c: u32) -> Option<u32>
+        requires { c < 64 }
+        ensures { result ≡ awaited_with (slice_index_or self.now c unawaited) }
+    {
+        let cell = &self.cells[c as usize];
+        if cell.queue.is_empty() {
+            None
+        } else {
+            Some(cell.mutex)
+        }
     }
 
     /// Whether thread `t` waits for a condition.

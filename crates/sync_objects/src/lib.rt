@@ -11,7 +11,11 @@ ghost use Rattle.guest_call.specs.Objects as spec;
 ghost use Rattle.sync_mutex.specs.Admitting.{admit_each_at};
 ghost use Rattle.sync_objects.specs.Pairs.{objects_of, cond_wait_at, leave_at};
 ghost use Rattle.sync_objects.specs.Puts.{is_put};
+ghost use Rattle.sync_objects.specs.Acting.{objects_in};
 
+mod acting;
+
+pub use acting::ActedOn;
 use call_effect::Effect;
 use guest_call::{Call, EINVAL, EPERM, Fate};
 use std::marker::Model;
@@ -174,6 +178,15 @@ impl Objects {
             t,
             call,
         )
+    }
+
+    /// The objects on which a call would act, exactly: all that it reads and changes. A put acts on the output, where
+    /// the pages are.
+    pub fn acts_on(&self, call: Call) -> ActedOn
+        requires { is_put call ≡ false }
+        ensures { (readable : ℕ → ℕ → Bool) → objects_in result ≡ spec.acts_on readable self.now call }
+    {
+        acting::acts_on(&self.conditions, call)
     }
 
     /// Whether thread `t` exists, ended ones counted.
