@@ -8,3 +8,4 @@ pub mod Agreeing
 pub mod Counting
 pub mod Conditions
 pub mod PickingExamples
+pub mod Executed

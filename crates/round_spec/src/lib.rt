@@ -13,14 +13,15 @@ ghost use Rattle.report_spec.specs.declared.Entry.{Entry};
 ghost use Rattle.round_spec.specs.declared.events.Event.TheVariants.{Commit};
 ghost use Rattle.machine_spec.specs.Machine.{Machine};
 ghost use Rattle.machine_spec.specs.Choice.{choice, alone};
-ghost use Rattle.machine_spec.specs.Setup.{Setup, IsSetup, scratch, is_permitted, records};
+ghost use Rattle.machine_spec.specs.Setup.{Setup, IsSetup, first, scratch, is_permitted, records};
 ghost use Rattle.history_spec.specs.History.{History, IsHonest, IsSameProgram, IsSound};
-ghost use Rattle.report_spec.specs.Report.{threads_of};
+ghost use Rattle.report_spec.specs.Report.{threads_of, instructions_from};
 ghost use Rattle.round_spec.specs.declared.events.Event.{Event};
 ghost use Rattle.round_spec.specs.Marks.{marked, sourced};
 ghost use Rattle.round_spec.specs.Rounds.{RoundState, nobody_out, happens, is_out, is_over, round_after, history_of};
 ghost use Rattle.round_spec.specs.Choice.{choice_by};
 ghost use Rattle.round_spec.specs.Alone.{one_worker};
+ghost use Rattle.round_spec.specs.Instructions.{executed_instructions};
 ghost use Rattle.round_spec.specs.Keeping.{IsCounted, IsHeld, IsInOrder};
 
 mod events;
@@ -117,6 +118,16 @@ pub fn rounds_leave_honest_histories()
         → is_some (round_after setup past events).machine.ending ≡ true
         → IsSameProgram setup edited
         → IsSound (Some (history_of (round_after setup past events))) edited }
+{}
+
+/// The counts of the records of executed entries add up to the number of instructions that the report of
+/// a round tells, where the round goes by a sound history.
+pub fn rounds_count_instructions()
+    ensures { (setup : Setup) (past : Option History) (events : List Event)
+        → IsSetup setup
+        → IsSound past setup
+        → executed_instructions (round_after setup past events).schedule (round_after setup past events).records
+        ≡ instructions_from (first setup) (round_after setup past events).schedule }
 {}
 
 /// With no history to go by, the choice is that of a run with no earlier run, and so is the schedule of
