@@ -101,7 +101,7 @@ next-place past m front t back next =
         → length front + position_or_len (is_of t (hart_of m t).number) (record_of m t ∷ back) ≡ length front
     here own = rw own (omega arith)
 
-other-place :
+pub other-place :
     (past : Option History) (m : Machine) (front : List Record) (t : ℕ) (back : List Record) (u : ℕ)
     → IsNext past m front t back → u ≢ t → length front < place_in past m u
 other-place past m front t back u next other =
@@ -132,7 +132,7 @@ pub next-fits :
 next-fits past m front t back next =
     ap (is_fitting m) (next-found past m front t back next) ∙ record-fits m t (can_step-ready m t next.can)
 
-next-due :
+pub next-due :
     (past : Option History) (m : Machine) (front : List Record) (t : ℕ) (back : List Record)
     → IsNext past m front t back → is_due past m t ≡ true
 unfolding is_due

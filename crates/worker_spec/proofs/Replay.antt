@@ -21,11 +21,12 @@ use Rattle.round_spec.specs.declared.events.Pick.{Pick}
 use Rattle.round_spec.specs.declared.events.Pick.TheVariants as pick
 use Rattle.round_spec.specs.Marks.{record_for, fits_next}
 use Rattle.round_spec.specs.Rounds.{RoundState, opening, is_over, is_out, is_out_of, reused_by, with_stop, happens}
+use Rattle.round_spec.specs.Due.{place_in, is_due}
 use Rattle.round_spec.specs.Choice.{choice_by, pick_of}
-use Rattle.worker_spec.specs.Replaying.{all_reused_of, IsReplaying, goes_on_by}
+use Rattle.worker_spec.specs.Replaying.{all_reused_of, IsReplaying, IsNextStep, goes_on_by}
 use Rattle.worker_spec.proofs.Choosing.{out-nobody}
 use Rattle.worker_spec.proofs.Numbers.{can_step-ready}
-use Rattle.worker_spec.proofs.Following.{IsNext, honest-next, honest-whole, honest-end, next-found, next-fits, next-chosen, can_step-none}
+use Rattle.worker_spec.proofs.Following.{IsNext, honest-next, honest-whole, honest-end, next-place, other-place, next-due, next-found, next-fits, next-chosen, can_step-none}
 use Rattle.worker_spec.proofs.Unedited.{reused-instructions}
 
 -- a list's first elements
@@ -249,12 +250,36 @@ replays-on h w Stop honest replays goes =
       discarded = replays.discarded;
     })
 
-pub replays-picks : (h : History) (w : RoundState) → IsHonest h → IsReplaying h w → is_over w ≡ false → (t : ℕ) × (pick_of w ≡ pick.Reuse t)
-replays-picks h w honest replays going = by (where-it-stands h w honest replays)
+-- what comes next is due, comes first, and is picked
+next-step :
+    (h : History) (w : RoundState) (t : ℕ) (ys : List ℕ)
+    → IsReplaying h w → is_over w ≡ false → IsWhole w.machine
+    → IsNext (Some h) w.machine (records h.setup (threads_of w.schedule)) t (records_from (step w.machine t) ys)
+    → IsNextStep w t
+next-step h w t ys replays going whole next =
+    let long : length (records h.setup (threads_of w.schedule)) ≡ length w.schedule =
+    length-records (first h.setup) (threads_of w.schedule) ∙ length-threads w.schedule in
+    let back : List Record = records_from (step w.machine t) ys in
+    record {
+      picked = replay-pick h w t ys replays going whole next;
+      due =
+          ap (λ (past : Option History). is_due past w.machine t) replays.past
+          ∙ next-due (Some h) w.machine (records h.setup (threads_of w.schedule)) t back next;
+      place =
+          ap (λ (past : Option History). place_in past w.machine t) replays.past
+          ∙ next-place (Some h) w.machine (records h.setup (threads_of w.schedule)) t back next ∙ long;
+      least = λ other apart.
+          let here = ap (λ (past : Option History). place_in past w.machine other) replays.past in
+          let far = other-place (Some h) w.machine (records h.setup (threads_of w.schedule)) t back other next apart in
+          omega arith;
+    }
+
+pub replays-next : (h : History) (w : RoundState) → IsHonest h → IsReplaying h w → is_over w ≡ false → (t : ℕ) × IsNextStep w t
+replays-next h w honest replays going = by (where-it-stands h w honest replays)
   where
-    by : Replays h w → (t : ℕ) × (pick_of w ≡ pick.Reuse t)
+    by : Replays h w → (t : ℕ) × IsNextStep w t
     by (Done split ended) = absurd (let over = rw ended at going in cc)
-    by (Next t ys split whole next) = (t, replay-pick h w t ys replays going whole next)
+    by (Next t ys split whole next) = (t, next-step h w t ys replays going whole next)
 
 -- at its end it is the history's
 pub replays-end :

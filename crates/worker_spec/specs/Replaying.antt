@@ -1,5 +1,5 @@
 -- Rounds that have done nothing yet but what the history that they go by did, step by step.
-use Rattle.std.specs.Prelude.{◌≡◌, Bool, true, false, ◌==◌, List, length, map, take, Some}
+use Rattle.std.specs.Prelude.{◌≡◌, ◌≢◌, ◌<◌, ℕ, Bool, true, false, ◌==◌, List, length, map, take, Some}
 use Rattle.machine_spec.specs.Setup.{scratch}
 use Rattle.history_spec.specs.History.{History, schedule_of}
 use Rattle.report_spec.specs.declared.Entry.{Entry}
@@ -9,6 +9,8 @@ use Rattle.round_spec.specs.declared.events.Event.TheVariants.{Take, Reuse, Comm
 use Rattle.round_spec.specs.declared.events.Pick.{Pick}
 use Rattle.round_spec.specs.declared.events.Pick.TheVariants as pick
 use Rattle.round_spec.specs.Rounds.{RoundState, nobody_out}
+use Rattle.round_spec.specs.Due.{place_in, is_due}
+use Rattle.round_spec.specs.Choice.{pick_of}
 
 -- The schedule in which each step of a history is reused, in the history's order. (this project's own)
 abbrev pub all_reused_of : History → List Entry
@@ -24,6 +26,14 @@ pub record IsReplaying (h : History) (w : RoundState) : Type 0 where
   pub records : w.records ≡ take (length w.schedule) h.records
   pub out : w.out ≡ nobody_out
   pub discarded : w.discarded ≡ 0
+
+-- The step that a round which replays its history makes next: it is picked, to be reused; it is due; its place is after all entries so
+-- far; and every other thread's place is after it. (this project's own)
+pub record IsNextStep (w : RoundState) (t : ℕ) : Type 0 where
+  pub picked : pick_of w ≡ pick.Reuse t
+  pub due : is_due w.past w.machine t ≡ true
+  pub place : place_in w.past w.machine t ≡ length w.schedule
+  pub least : (other : ℕ) → other ≢ t → length w.schedule < place_in w.past w.machine other
 
 -- Whether an event is one by which a round may go on after a pick: a step is begun only where it was picked; what was begun may end, and
 -- the round may be stopped, at any time. (this project's own)

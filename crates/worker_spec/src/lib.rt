@@ -19,7 +19,7 @@ ghost use Rattle.round_spec.specs.Keeping.{IsFromScratch};
 ghost use Rattle.round_spec.specs.Picking.{IsPicked};
 ghost use Rattle.round_spec.specs.Unedited.{IsUnedited, is_all_reused};
 ghost use Rattle.worker_spec.specs.OneWorker.{made_by, executed_in};
-ghost use Rattle.worker_spec.specs.Replaying.{all_reused_of, IsReplaying, goes_on_by};
+ghost use Rattle.worker_spec.specs.Replaying.{all_reused_of, IsReplaying, IsNextStep, goes_on_by};
 
 /// The schedule that follows the choice is permitted, and there is an end after it, within the step
 /// limit. By which history it goes doesn't matter.
@@ -138,9 +138,9 @@ pub fn no_edit_reuses_all()
 {}
 
 /// Without an edit the same holds by any number of workers, at each moment: as long as a step is begun
-/// only where it was picked, a round replays its history. Nobody is ever out, until it is over a step to
-/// reuse is picked and never one to execute, no instruction is executed, and at its end the round is the
-/// history's.
+/// only where it was picked, a round replays its history. Nobody is ever out; until it is over, the history's
+/// next step is due, comes first, and is picked to be reused; no instruction is executed; and at its end
+/// the round is the history's.
 pub fn no_edit_replays_the_history()
     ensures start { (h : History) (setup : Setup)
         → IsUnedited h setup
@@ -150,11 +150,11 @@ pub fn no_edit_replays_the_history()
         → IsReplaying h w
         → goes_on_by (pick_of w) e ≡ true
         → IsReplaying h (happens w e) }
-    ensures picks { (h : History) (w : RoundState)
+    ensures next { (h : History) (w : RoundState)
         → IsHonest h
         → IsReplaying h w
         → is_over w ≡ false
-        → (t : ℕ) × (pick_of w ≡ pick.Reuse t) }
+        → (t : ℕ) × IsNextStep w t }
     ensures instructions { (h : History) (w : RoundState)
         → IsReplaying h w
         → instructions_from (first h.setup) w.schedule ≡ 0 }

@@ -2,7 +2,7 @@ use Rattle.std.proofs.Common.{Some, subst}
 use Rattle.machine_spec.specs.Setup.{Setup}
 use Rattle.round_spec.specs.Rounds.{opening}
 use Rattle.worker_spec.specs.Replaying.{IsReplaying}
-use Rattle.worker_spec.proofs.Replay.{replays-start, replays-on, replays-picks, replays-end, replays-instructions}
+use Rattle.worker_spec.proofs.Replay.{replays-start, replays-on, replays-next, replays-end, replays-instructions}
 use Rattle.worker_spec.proofs.no_edit_replays_the_history.Goals as goal
 
 pub returns-clause-start : goal.returns-clause-start
@@ -11,8 +11,8 @@ returns-clause-start c = λ h setup unedited. subst (λ (s : Setup). IsReplaying
 pub returns-clause-event : goal.returns-clause-event
 returns-clause-event c = replays-on
 
-pub returns-clause-picks : goal.returns-clause-picks
-returns-clause-picks c = replays-picks
+pub returns-clause-next : goal.returns-clause-next
+returns-clause-next c = replays-next
 
 pub returns-clause-instructions : goal.returns-clause-instructions
 returns-clause-instructions c = replays-instructions
