@@ -1,6 +1,6 @@
 -- Whether a line spells an edit is decided, so each list of edits says something. Numbers of lines are bounded, so each is tried; no
 -- definition computes this.
-use Rattle.std.proofs.Common.{◌≡◌, ◌<◌, ◌+◌, ◌*◌, ◌/◌, ◌%◌, ℕ, zero, suc, true, false, List, [], ◌∷◌, ◌++◌, length, Option, Some, None, Result, Ok, Err, ◌⊎◌, inl, inr, refl, ap, sym, ◌∙◌, subst, append_assoc, arith}
+use Rattle.std.proofs.Common.{◌≡◌, ◌<◌, ◌+◌, ◌*◌, ◌/◌, ◌%◌, ℕ, zero, suc, List, [], ◌∷◌, ◌++◌, length, Option, Some, None, Result, Ok, Err, ◌⊎◌, inl, inr, refl, ap, sym, ◌∙◌, subst, append_assoc, arith}
 use Rattle.std.proofs.lemmas.List.{append_cancel_left}
 use Rattle.std.proofs.lemmas.Bool.{cases_eq}
 use Rattle.std.proofs.lemmas.Bool.Decides.{leb_tells}
@@ -27,13 +27,14 @@ some-below P each (suc n) = by (some-below P each n) (each n)
         elim (cases_eq found.0 n) [
           | inl same ↦ other (subst P same found.2)
           | inr less ↦
-              none
-              (found.0,
-              elim (leb_tells n found.0) [
-                | inl above ↦ absurd (less (let below : found.0 < suc n = found.1 in let least = above.1 in omega arith))
-                | inr below ↦ below.1
-              ],
-              found.2)
+              none (
+                found.0,
+                elim (leb_tells n found.0) [
+                  | inl above ↦ absurd (less (let below : found.0 < suc n = found.1 in let least = above.1 in omega arith))
+                  | inr below ↦ below.1
+                ],
+                found.2,
+              )
         ])
 
 same-list : (a b : List ℕ) → Decided (a ≡ b)
@@ -88,7 +89,7 @@ no-byte-rest :
 no-byte-rest high low digits [] none spelled = spelled
 no-byte-rest high low digits (byte ∷ bytes) none spelled = none bytes spelled.2
 
-no-byte-odd : (high : ℕ) (bytes : List ℕ) → SpellBytes (high ∷ []) bytes → ⊥
+pub no-byte-odd : (high : ℕ) (bytes : List ℕ) → SpellBytes (high ∷ []) bytes → ⊥
 no-byte-odd high [] spelled = spelled
 no-byte-odd high (byte ∷ bytes) spelled = spelled
 
@@ -114,9 +115,10 @@ bytes-spelled (high ∷ low ∷ digits) = by (hex_digit_value high) (hex_digit_v
         elim (leb_tells 16 b) [
           | inl large ↦ inr (λ found. no-byte-large high low b digits found.0 is_b large.1 found.1)
           | inr small ↦
-              inl
-              ((16 * a + b) ∷ rest.0,
-              (is_a ∙ ap (λ (n : ℕ). Some n) (higher a b small.1), is_b ∙ ap (λ (n : ℕ). Some n) (lower a b small.1), rest.1))
+              inl (
+                (16 * a + b) ∷ rest.0,
+                (is_a ∙ ap (λ (n : ℕ). Some n) (higher a b small.1), is_b ∙ ap (λ (n : ℕ). Some n) (lower a b small.1), rest.1),
+              )
         ]
 
 -- at least one byte

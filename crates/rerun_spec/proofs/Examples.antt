@@ -57,9 +57,11 @@ last_byte_is_said = ((refl, last_byte_is_spelled), tt)
 
 -- The second list is refused by its second line, whatever comes after it.
 pub refused-second : (rest : List (List ℕ)) → IsFirstRefused five (codes "size 0" ∷ codes "\nset 4 00" ∷ rest) 1 (OutOfRange 2)
-refused-second rest =
-    ([], record { edits = record { line = 1; edit = Size 0 } ∷ []; said = empty_is_said; done = refl },
-    (record { line = 2; edit = Set 4 (0 ∷ []) } ∷ [], last_byte_is_said, refl))
+refused-second rest = (
+  [],
+  record { edits = record { line = 1; edit = Size 0 } ∷ []; said = empty_is_said; done = refl },
+  (record { line = 2; edit = Set 4 (0 ∷ []) } ∷ [], last_byte_is_said, refl),
+)
 
 -- one digit spells no byte
 half_byte : (edit : Edit) → Spells (codes "set 4 0") edit → ⊥

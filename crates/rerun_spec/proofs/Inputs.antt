@@ -1,5 +1,5 @@
 -- The inputs are there, or a list is the first that is refused, and not both; each is as short as an input may be.
-use Rattle.std.proofs.Common.{◌≡◌, ◌≤◌, ℕ, zero, suc, List, [], ◌∷◌, length, Result, Ok, Err, ◌⊎◌, inl, inr, refl, ap, sym, ◌∙◌, subst}
+use Rattle.std.proofs.Common.{◌≡◌, ◌≤◌, ◌<◌, ℕ, zero, suc, List, [], ◌∷◌, length, Result, Ok, Err, ◌⊎◌, inl, inr, refl, ap, sym, ◌∙◌, subst, arith}
 use Rattle.std.specs.List.{AllByRecursion}
 use Rattle.edit_spec.specs.Edit.{LineEdit}
 use Rattle.edit_spec.specs.Grammar.{lines, Says}
@@ -121,6 +121,11 @@ refused-one (list ∷ lists) input (suc m) (suc n) why other p q =
     refused-one lists p.0 m n why other p.2
     (subst (λ (i : List ℕ). IsFirstRefused i lists n other) (makes-one list input q.0 p.0 q.1 p.1) q.2) in
     (ap (λ (k : ℕ). suc k) same.0, same.1)
+
+pub refused-below : (lists : List (List ℕ)) (input : List ℕ) (place : ℕ) (why : Refusal) → IsFirstRefused input lists place why → place < length lists
+refused-below [] input place why p = absurd p
+refused-below (list ∷ lists) input zero why p = omega arith
+refused-below (list ∷ lists) input (suc place) why p = let rest = refused-below lists p.0 place why p.2 in omega arith
 
 -- the inputs
 pub inputs-one :

@@ -1,9 +1,8 @@
 -- A round on the input of the round before it reuses every step.
-use Rattle.std.proofs.Common.{◌≡◌, ◌≢◌, ℕ, true, List, Option, Some, None, refl, ap, sym, ◌∙◌, subst}
-use Rattle.machine_spec.specs.Setup.{Setup, IsSetup, first, scratch, records}
+use Rattle.std.proofs.Common.{◌≡◌, ◌≢◌, ℕ, true, List, Option, Some, None, ap, sym, ◌∙◌, subst}
+use Rattle.machine_spec.specs.Setup.{Setup, IsSetup, first, scratch}
 use Rattle.history_spec.specs.History.{History, IsHonest, schedule_of, threads_of_records}
 use Rattle.history_spec.proofs.Scratch.{records-threads}
-use Rattle.report_spec.specs.declared.Entry.{Entry}
 use Rattle.report_spec.specs.Report.{instructions_from}
 use Rattle.round_spec.specs.declared.events.Pick.TheVariants as pick
 use Rattle.round_spec.specs.Marks.{marked}

@@ -1,5 +1,5 @@
 -- Without lists of edits there is one report, that of the run from scratch; reports and shares count right.
-use Rattle.std.proofs.Common.{◌≡◌, ◌≤◌, ◌+◌, ◌-◌, ℕ, zero, suc, Bool, true, false, ◌&&◌, List, [], ◌∷◌, length, map, replicate, sum, fold, Option, Some, None, refl, ap, sym, ◌∙◌, subst, arith}
+use Rattle.std.proofs.Common.{◌≡◌, ◌≤◌, ◌+◌, ◌-◌, ℕ, zero, suc, Bool, true, false, ◌&&◌, List, [], ◌∷◌, length, map, replicate, sum, fold, Option, Some, None, refl, ap, ◌∙◌, arith}
 use Rattle.std.proofs.lemmas.List.{length-replicate}
 use Rattle.machine_spec.specs.Machine.{Machine}
 use Rattle.machine_spec.specs.Step.{step}
@@ -12,7 +12,7 @@ use Rattle.round_spec.specs.Marks.{marked_from, marked}
 use Rattle.round_spec.specs.Alone.{one_worker}
 use Rattle.round_spec.proofs.Agreeing.{one_worker-nothing}
 use Rattle.rerun_spec.specs.Inputs.{AreInputs}
-use Rattle.rerun_spec.specs.Rounds.{Round, left_by, round_on, rounds_from}
+use Rattle.rerun_spec.specs.Rounds.{left_by, round_on, rounds_from}
 use Rattle.rerun_spec.specs.Reports.{all_executed, shares_of_first, report_of, reports_of, is_exit, all_exit}
 
 -- with no history nothing is reused

@@ -1,5 +1,5 @@
 -- Each round may be made, and follows the one before it.
-use Rattle.std.proofs.Common.{◌≡◌, ◌≤◌, ◌<◌, ◌+◌, ℕ, zero, suc, true, List, [], ◌∷◌, length, map, slice_get, slice_index_or, All, Option, Some, None, is_some, refl, ap, sym, ◌∙◌, subst, arith}
+use Rattle.std.proofs.Common.{◌≡◌, ◌≤◌, ◌+◌, ℕ, zero, suc, true, List, [], ◌∷◌, length, map, slice_get, slice_index_or, All, Option, Some, None, is_some, refl, ap, sym, ◌∙◌, subst}
 use Rattle.std.specs.List.{AllByRecursion, range_with_len}
 use Rattle.std.proofs.lemmas.Option.{same_Some}
 use Rattle.std.proofs.lemmas.List.Elements.{All-from_recursion}
@@ -51,9 +51,10 @@ left-sound :
     (number : ℕ) (past : Option History) (s : Setup) (input : List ℕ)
     → IsRound (round_on number past s input) → IsSound (Some (left_by (round_on number past s input))) s
 left-sound number past s input is =
-    let same = left-setup (round_on number past s input) is in
-    (round-honest (round_on number past s input) is,
-    record { elf = ap (λ (t : Setup). t.elf) same; fuel = ap (λ (t : Setup). t.fuel) same; limit = ap (λ (t : Setup). t.limit) same })
+    let same = left-setup (round_on number past s input) is in (
+      round-honest (round_on number past s input) is,
+      record { elf = ap (λ (t : Setup). t.elf) same; fuel = ap (λ (t : Setup). t.fuel) same; limit = ap (λ (t : Setup). t.limit) same },
+    )
 
 each-from :
     (number : ℕ) (past : Option History) (s : Setup) (inputs : List (List ℕ))
@@ -122,6 +123,13 @@ setups-from number past s (input ∷ inputs) =
 pub first-past : (s : Setup) (inputs : List (List ℕ)) (r : Round) → slice_get (rounds_of s inputs) 0 ≡ Some r → r.past ≡ None
 first-past s [] r is = let no : None ≡ Some r = is in cc
 first-past s (input ∷ inputs) r is = ap (λ (q : Round). q.past) (sym (same_Some (round_on 0 None s input) r is))
+
+pub first-setup :
+    (s : Setup) (lists inputs : List (List ℕ)) (r : Round)
+    → AreInputs s.input lists inputs → slice_get (rounds_of s inputs) 0 ≡ Some r → r.setup ≡ s
+first-setup s lists [] r are is = absurd are
+first-setup s lists (input ∷ inputs) r are is =
+    ap (λ (q : Round). q.setup) (sym (same_Some (round_on 0 None s input) r is)) ∙ ap (with_input s) are.0
 
 -- one round and the next after it
 pub record IsNext (s : Setup) (before after : Round) : Type 0 where

@@ -4,7 +4,7 @@
 //! round holds of each of them, and that without lists there is the one run from scratch. No code.
 #![tactic(auto)]
 
-ghost use Rattle.std.specs.Prelude.{◌≡◌, ◌≢◌, ◌≤◌, ℕ, suc, true, List, [], ◌∷◌, All, length, map, sum, slice_get, Option, Some, None, is_some, Result, ◌⊎◌};
+ghost use Rattle.std.specs.Prelude.{◌≡◌, ◌≢◌, ◌≤◌, ◌<◌, ℕ, suc, true, List, [], ◌∷◌, All, length, map, sum, slice_get, Option, Some, None, is_some, Result, ◌⊎◌};
 ghost use Rattle.std.specs.List.{range_with_len};
 ghost use Rattle.edit_spec.specs.Edit.{LineEdit};
 ghost use Rattle.edit_spec.specs.Grammar.{Says};
@@ -30,7 +30,8 @@ pub fn every_list_says_something()
 {}
 
 /// For each first input and lists of edits either the inputs of the rounds are there, or a list is the
-/// first that is refused; never both; and there is one answer.
+/// first that is refused; never both; and there is one answer. The place of the refused list is one of
+/// the lists'.
 pub fn inputs_or_a_refusal()
     ensures either { (input : List ℕ) (lists : List (List ℕ))
         → ((inputs : List (List ℕ)) × AreInputs input lists inputs)
@@ -47,6 +48,9 @@ pub fn inputs_or_a_refusal()
         → IsFirstRefused input lists place why
         → IsFirstRefused input lists elsewhere other
         → (place ≡ elsewhere) × (why ≡ other) }
+    ensures place { (input : List ℕ) (lists : List (List ℕ)) (place : ℕ) (why : Refusal)
+        → IsFirstRefused input lists place why
+        → place < length lists }
 {}
 
 /// There is one input more than lists; each is as short as an input may be, where the first is; and
@@ -62,13 +66,17 @@ pub fn inputs_fit_their_lists()
     ensures none { (input : List ℕ) → AreInputs input [] (input ∷ []) }
 {}
 
-/// The rounds are numbered from 0 on; each is of the same program, on its own input; round 0 goes by no
-/// history, and each other round by what the one before it leaves.
+/// The rounds are numbered from 0 on; each is of the same program, on its own input, and round 0 is of the
+/// setup itself; round 0 goes by no history, and each other round by what the one before it leaves.
 pub fn rounds_follow_each_other()
     ensures numbers { (setup : Setup) (inputs : List (List ℕ))
         → map (λ (r : Round). r.number) (rounds_of setup inputs) ≡ range_with_len 0 (length inputs) }
     ensures setups { (setup : Setup) (inputs : List (List ℕ))
         → map (λ (r : Round). r.setup) (rounds_of setup inputs) ≡ map (with_input setup) inputs }
+    ensures start { (setup : Setup) (lists inputs : List (List ℕ)) (r : Round)
+        → AreInputs setup.input lists inputs
+        → slice_get (rounds_of setup inputs) 0 ≡ Some r
+        → r.setup ≡ setup }
     ensures none { (setup : Setup) (inputs : List (List ℕ)) (r : Round)
         → slice_get (rounds_of setup inputs) 0 ≡ Some r
         → r.past ≡ None }

@@ -1,4 +1,4 @@
-use Rattle.rerun_spec.proofs.Inputs.{inputs-one, inputs-unrefused, inputs-or-refused, refused-one}
+use Rattle.rerun_spec.proofs.Inputs.{inputs-one, inputs-unrefused, inputs-or-refused, refused-one, refused-below}
 use Rattle.rerun_spec.proofs.inputs_or_a_refusal.Goals as goal
 
 pub returns-clause-either : goal.returns-clause-either
@@ -12,3 +12,6 @@ returns-clause-one_list c = inputs-one
 
 pub returns-clause-one_refusal : goal.returns-clause-one_refusal
 returns-clause-one_refusal c = λ input lists. refused-one lists input
+
+pub returns-clause-place : goal.returns-clause-place
+returns-clause-place c = λ input lists. refused-below lists input

@@ -1,5 +1,5 @@
 use Rattle.std.specs.Prelude.{None}
-use Rattle.rerun_spec.proofs.Rounds.{numbers-from, setups-from, first-past, next-from}
+use Rattle.rerun_spec.proofs.Rounds.{numbers-from, setups-from, first-past, first-setup, next-from}
 use Rattle.rerun_spec.proofs.rounds_follow_each_other.Goals as goal
 
 pub returns-clause-numbers : goal.returns-clause-numbers
@@ -13,3 +13,6 @@ returns-clause-none c = first-past
 
 pub returns-clause-left : goal.returns-clause-left
 returns-clause-left c = λ setup inputs place before after one next. (next-from 0 None setup inputs place before after one next).left
+
+pub returns-clause-start : goal.returns-clause-start
+returns-clause-start c = first-setup
