@@ -22,7 +22,7 @@ ghost use Rattle.round_spec.specs.Unedited.{is_all_reused};
 ghost use Rattle.worker_spec.specs.OneWorker.{executed_in};
 ghost use Rattle.rerun_spec.specs.Inputs.{AreInputs, Refusal, IsFirstRefused};
 ghost use Rattle.rerun_spec.specs.Rounds.{Round, with_input, made, left_by, rounds_of, IsRound, schedule_in, entries_of, machine_of, IsRepeated};
-ghost use Rattle.rerun_spec.specs.Reports.{all_executed, shares_of_first, reports_of, is_exit, all_exit};
+ghost use Rattle.rerun_spec.specs.Reports.{all_executed, shares_of_first, report_of, reports_of, is_exit, exits, all_exit};
 
 /// The bytes of a list of edits say something: edits, or which line is the first bad one.
 pub fn every_list_says_something()
@@ -101,8 +101,10 @@ pub fn each_round_may_be_made()
 
 /// Each round, as one worker makes it, is what its report tells: its entries have exact marks, and their
 /// threads are the schedule, which is permitted and complete; its machine is the one from scratch under
-/// it, and has an end; and what was executed is what the report says.
+/// it, and has an end; and what was executed is what the report says. So its report, and whether it ends
+/// by exit, can be told of the round as it was made.
 pub fn each_round_is_from_scratch()
+    ensures threads { (r : Round) → threads_of (entries_of r) ≡ schedule_in r }
     ensures permitted { (setup : Setup) (lists inputs : List (List ℕ))
         → IsSetup setup
         → AreInputs setup.input lists inputs
@@ -131,6 +133,14 @@ pub fn each_round_is_from_scratch()
         → IsSetup setup
         → AreInputs setup.input lists inputs
         → All (λ (r : Round). executed_in r.setup.limit (opening r.setup r.past) ≡ instructions_from (first r.setup) (entries_of r)) (rounds_of setup inputs) }
+    ensures report { (setup : Setup) (lists inputs : List (List ℕ)) (workers : ℕ)
+        → IsSetup setup
+        → AreInputs setup.input lists inputs
+        → All (λ r. report_of workers r ≡ report r.number r.setup (made r).schedule (shares_of_first workers (length (made r).schedule))) (rounds_of setup inputs) }
+    ensures exit { (setup : Setup) (lists inputs : List (List ℕ))
+        → IsSetup setup
+        → AreInputs setup.input lists inputs
+        → All (λ r. exits r ≡ is_exit (made r).machine.ending) (rounds_of setup inputs) }
 {}
 
 /// Where the input of a round equals that of the round before, each step is reused: no step is picked to
