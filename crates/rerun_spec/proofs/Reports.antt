@@ -88,7 +88,7 @@ pub report-made :
     → IsRound r → report_of workers r ≡ report r.number r.setup (made r).schedule (shares_of_first workers (length (made r).schedule))
 report-made workers r is =
     let long : length (schedule_in r) ≡ length (entries_of r) =
-    ap (λ (ts : List ℕ). length ts) (sym (round-threads r)) ∙ length-map (λ (e : Entry). e.thread) (entries_of r) in
+    ap (λ (ts : List ℕ). length ts) (sym (round-threads r)) ∙ length-map (entries_of r) (λ (e : Entry). e.thread) in
     ap (λ (n : ℕ). report r.number r.setup (entries_of r) (shares_of_first workers n)) long
     ∙ ap (λ (es : List Entry). report r.number r.setup es (shares_of_first workers (length es))) (sym (round-entries r is))
 
