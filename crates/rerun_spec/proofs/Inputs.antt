@@ -1,5 +1,6 @@
 -- The inputs are there, or a list is the first that is refused, and not both; each is as short as an input may be.
-use Rattle.std.proofs.Common.{◌≡◌, ◌≤◌, ◌<◌, ℕ, zero, suc, List, [], ◌∷◌, length, Result, Ok, Err, ◌⊎◌, inl, inr, refl, ap, sym, ◌∙◌, subst, arith}
+use Rattle.std.proofs.Common.{◌≡◌, ◌≤◌, ◌<◌, ℕ, zero, suc, List, [], ◌∷◌, ◌++◌, slice_get, Some, length, Result, Ok, Err, ◌⊎◌, inl, inr, refl, ap, sym, ◌∙◌, subst, arith}
+use Rattle.std.proofs.lemmas.Option.{same_Some}
 use Rattle.std.specs.List.{AllByRecursion}
 use Rattle.edit_spec.specs.Edit.{LineEdit}
 use Rattle.edit_spec.specs.Grammar.{lines, Says}
@@ -180,3 +181,45 @@ pub inputs-short :
 inputs-short input lists [] short p = tt
 inputs-short input lists (x ∷ inputs) short p =
     (subst (λ (i : List ℕ). length i ≤ longest_input) (sym p.0) short, made-short lists input inputs short p.1)
+
+-- one list more
+made-more :
+    (lists : List (List ℕ)) (input : List ℕ) (inputs : List (List ℕ)) (current list next : List ℕ)
+    → AreMade input lists inputs → slice_get (input ∷ inputs) (length lists) ≡ Some current → Makes list current next
+    → AreMade input (lists ++ list ∷ []) (inputs ++ next ∷ [])
+made-more [] input [] current list next p last makes =
+    (subst (λ (i : List ℕ). Makes list i next) (sym (same_Some input current last)) makes, tt)
+made-more [] input (x ∷ inputs) current list next p last makes = absurd p
+made-more (l ∷ lists) input [] current list next p last makes = absurd p
+made-more (l ∷ lists) input (x ∷ inputs) current list next p last makes =
+    (p.0, made-more lists x inputs current list next p.1 last makes)
+
+refused-more :
+    (lists : List (List ℕ)) (input : List ℕ) (inputs : List (List ℕ)) (current list : List ℕ) (why : Refusal) (later : List (List ℕ))
+    → AreMade input lists inputs → slice_get (input ∷ inputs) (length lists) ≡ Some current → Refuses list current why
+    → IsFirstRefused input (lists ++ list ∷ later) (length lists) why
+refused-more [] input inputs current list why later p last refuses =
+    subst (λ (i : List ℕ). Refuses list i why) (sym (same_Some input current last)) refuses
+refused-more (l ∷ lists) input [] current list why later p last refuses = absurd p
+refused-more (l ∷ lists) input (x ∷ inputs) current list why later p last refuses =
+    (x, p.0, refused-more lists x inputs current list why later p.1 last refuses)
+
+pub inputs-more :
+    (input : List ℕ) (lists inputs : List (List ℕ)) (current list next : List ℕ)
+    → AreInputs input lists inputs → slice_get inputs (length lists) ≡ Some current → Makes list current next
+    → AreInputs input (lists ++ list ∷ []) (inputs ++ next ∷ [])
+inputs-more input lists [] current list next are last makes = absurd are
+inputs-more input lists (x ∷ inputs) current list next are last makes = (
+  are.0,
+  made-more lists input inputs current list next are.1
+      (subst (λ (i : List ℕ). slice_get (i ∷ inputs) (length lists) ≡ Some current) are.0 last) makes,
+)
+
+pub inputs-refused :
+    (input : List ℕ) (lists inputs : List (List ℕ)) (current list : List ℕ) (why : Refusal) (later : List (List ℕ))
+    → AreInputs input lists inputs → slice_get inputs (length lists) ≡ Some current → Refuses list current why
+    → IsFirstRefused input (lists ++ list ∷ later) (length lists) why
+inputs-refused input lists [] current list why later are last refuses = absurd are
+inputs-refused input lists (x ∷ inputs) current list why later are last refuses =
+    refused-more lists input inputs current list why later are.1
+    (subst (λ (i : List ℕ). slice_get (i ∷ inputs) (length lists) ≡ Some current) are.0 last) refuses

@@ -1,5 +1,5 @@
 -- Each round may be made, and follows the one before it.
-use Rattle.std.proofs.Common.{◌≡◌, ◌≤◌, ◌+◌, ℕ, zero, suc, true, List, [], ◌∷◌, length, map, slice_get, slice_index_or, All, Option, Some, None, is_some, refl, ap, sym, ◌∙◌, subst}
+use Rattle.std.proofs.Common.{◌≡◌, ◌≤◌, ◌+◌, ℕ, zero, suc, true, List, [], ◌∷◌, length, map, slice_get, slice_index_or, All, Option, Some, None, is_some, refl, ap, sym, ◌∙◌, subst, arith}
 use Rattle.std.specs.List.{AllByRecursion, range_with_len}
 use Rattle.std.proofs.lemmas.Option.{same_Some}
 use Rattle.std.proofs.lemmas.List.Elements.{All-from_recursion}
@@ -119,6 +119,19 @@ pub setups-from :
 setups-from number past s [] = refl
 setups-from number past s (input ∷ inputs) =
     ap (λ (ss : List Setup). with_input s input ∷ ss) (setups-from (number + 1) (Some (left_by (round_on number past s input))) s inputs)
+
+-- the round at a place
+pub at-from :
+    (number : ℕ) (past : Option History) (s : Setup) (inputs : List (List ℕ)) (place : ℕ) (input : List ℕ)
+    → slice_get inputs place ≡ Some input
+    → (r : Round) × (slice_get (rounds_from number past s inputs) place ≡ Some r) × (r.number ≡ number + place)
+    × (r.setup ≡ with_input s input)
+at-from number past s [] place input is = absurd (let no : None ≡ Some input = is in cc)
+at-from number past s (x ∷ inputs) zero input is =
+    (round_on number past s x, refl, omega arith, ap (with_input s) (same_Some x input is))
+at-from number past s (x ∷ inputs) (suc place) input is =
+    let rest = at-from (number + 1) (Some (left_by (round_on number past s x))) s inputs place input is in
+    (rest.0, rest.1, (let later : rest.0.number ≡ number + 1 + place = rest.2 in omega arith), rest.3)
 
 pub first-past : (s : Setup) (inputs : List (List ℕ)) (r : Round) → slice_get (rounds_of s inputs) 0 ≡ Some r → r.past ≡ None
 first-past s [] r is = let no : None ≡ Some r = is in cc

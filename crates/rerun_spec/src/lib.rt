@@ -4,7 +4,7 @@
 //! round holds of each of them, and that without lists there is the one run from scratch. No code.
 #![tactic(auto)]
 
-ghost use Rattle.std.specs.Prelude.{◌≡◌, ◌≢◌, ◌≤◌, ◌<◌, ℕ, suc, true, List, [], ◌∷◌, All, length, map, sum, slice_get, Option, Some, None, is_some, Result, ◌⊎◌};
+ghost use Rattle.std.specs.Prelude.{◌≡◌, ◌≢◌, ◌≤◌, ◌<◌, ℕ, suc, true, List, [], ◌∷◌, ◌++◌, All, length, map, sum, slice_get, Option, Some, None, is_some, Result, ◌⊎◌};
 ghost use Rattle.std.specs.List.{range_with_len};
 ghost use Rattle.edit_spec.specs.Edit.{LineEdit};
 ghost use Rattle.edit_spec.specs.Grammar.{Says};
@@ -20,7 +20,7 @@ ghost use Rattle.round_spec.specs.Choice.{pick_of};
 ghost use Rattle.round_spec.specs.Alone.{turns};
 ghost use Rattle.round_spec.specs.Unedited.{is_all_reused};
 ghost use Rattle.worker_spec.specs.OneWorker.{executed_in};
-ghost use Rattle.rerun_spec.specs.Inputs.{AreInputs, Refusal, IsFirstRefused};
+ghost use Rattle.rerun_spec.specs.Inputs.{Makes, AreInputs, Refusal, Refuses, IsFirstRefused};
 ghost use Rattle.rerun_spec.specs.Rounds.{Round, with_input, made, left_by, rounds_of, IsRound, schedule_in, entries_of, machine_of, IsRepeated};
 ghost use Rattle.rerun_spec.specs.Reports.{all_executed, shares_of_first, report_of, reports_of, is_exit, exits, all_exit};
 
@@ -66,6 +66,21 @@ pub fn inputs_fit_their_lists()
     ensures none { (input : List ℕ) → AreInputs input [] (input ∷ []) }
 {}
 
+/// Who reads the lists one after the other, and does each to the last input, comes to all inputs, or to the
+/// first list that is refused, whatever lists come after it.
+pub fn inputs_go_on()
+    ensures made { (input : List ℕ) (lists inputs : List (List ℕ)) (current list next : List ℕ)
+        → AreInputs input lists inputs
+        → slice_get inputs (length lists) ≡ Some current
+        → Makes list current next
+        → AreInputs input (lists ++ list ∷ []) (inputs ++ next ∷ []) }
+    ensures refused { (input : List ℕ) (lists inputs : List (List ℕ)) (current list : List ℕ) (why : Refusal) (later : List (List ℕ))
+        → AreInputs input lists inputs
+        → slice_get inputs (length lists) ≡ Some current
+        → Refuses list current why
+        → IsFirstRefused input (lists ++ list ∷ later) (length lists) why }
+{}
+
 /// The rounds are numbered from 0 on; each is of the same program, on its own input, and round 0 is of the
 /// setup itself; round 0 goes by no history, and each other round by what the one before it leaves.
 pub fn rounds_follow_each_other()
@@ -73,6 +88,9 @@ pub fn rounds_follow_each_other()
         → map (λ (r : Round). r.number) (rounds_of setup inputs) ≡ range_with_len 0 (length inputs) }
     ensures setups { (setup : Setup) (inputs : List (List ℕ))
         → map (λ (r : Round). r.setup) (rounds_of setup inputs) ≡ map (with_input setup) inputs }
+    ensures at { (setup : Setup) (inputs : List (List ℕ)) (place : ℕ) (input : List ℕ)
+        → slice_get inputs place ≡ Some input
+        → (r : Round) × (slice_get (rounds_of setup inputs) place ≡ Some r) × (r.number ≡ place) × (r.setup ≡ with_input setup input) }
     ensures start { (setup : Setup) (lists inputs : List (List ℕ)) (r : Round)
         → AreInputs setup.input lists inputs
         → slice_get (rounds_of setup inputs) 0 ≡ Some r
