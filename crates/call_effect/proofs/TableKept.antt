@@ -5,7 +5,8 @@ use Rattle.guest_call.specs.Queues.{waits}
 use Rattle.guest_call.specs.Tables.{at_cell, IsTable, IsFair}
 use Rattle.guest_call.proofs.Counting.{places-le-waits}
 use Rattle.guest_call.proofs.Conservation.{at_cell_keeps}
-use Rattle.guest_call.proofs.Kept.{length-at_cell, once_kept, known_kept}
+use Rattle.guest_call.proofs.Kept.{once_kept, known_kept}
+use Rattle.guest_call.proofs.Shape.{length-at_cell}
 use Rattle.call_effect.proofs.Room.{length-room}
 
 -- a row that is fair at each object keeps the table, where its caller waits nowhere in it

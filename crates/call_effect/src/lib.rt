@@ -98,6 +98,13 @@ impl Effect {
         &self.woken
     }
 
+    /// Who is woken, in order, where the rest of the effect is of no use.
+    pub fn into_woken(self) -> Queue
+        ensures { result ≡ self.woken }
+    {
+        self.woken
+    }
+
     /// What the woken are told in a1, where they are told anything.
     pub fn told(&self) -> Option<u32>
         ensures { result ≡ self.now.told }

@@ -1,6 +1,6 @@
--- Worked examples of what calls act on, and of the numbers that are no call, which the checker computes.
-use Rattle.std.proofs.Common.{◌≡◌, [], ◌∷◌, None, refl}
-use Rattle.guest_call.specs.declared.Call.TheVariants.{Exit, ThreadExit, Yield}
+-- Worked examples of what calls act on, and of the numbers of the calls, which the checker computes.
+use Rattle.std.proofs.Common.{◌≡◌, [], ◌∷◌, Some, refl}
+use Rattle.guest_call.specs.declared.Call.TheVariants.{Exit, ThreadExit, Yield, TryLock, SemWait, SemTryWait, SemPost, SemInit, BarrierInit, BarrierWait, CondWait, Signal, Broadcast}
 use Rattle.guest_call.specs.declared.Object.TheVariants as object
 use Rattle.guest_call.specs.Numbers.{call_of}
 use Rattle.guest_call.specs.Objects.{opening, acts_on}
@@ -17,9 +17,35 @@ yield-acts-on-nothing = refl
 pub thread_exit-acts-on-the-threads : acts_on all_readable opening (ThreadExit 0) ≡ object.ThreadTable ∷ []
 thread_exit-acts-on-the-threads = refl
 
--- 7 and 9 stand in no line of the table
-pub call-7-is-bad : call_of 7 0 0 ≡ None
-call-7-is-bad = refl
+-- 7 and 9 are calls, which read a0 alone, by the table of calls
+pub call-7-is-trylock : call_of 7 9 5 ≡ Some (TryLock 9)
+call-7-is-trylock = refl
 
-pub call-9-is-bad : call_of 9 0 0 ≡ None
-call-9-is-bad = refl
+pub call-9-is-sem_wait : call_of 9 9 5 ≡ Some (SemWait 9)
+call-9-is-sem_wait = refl
+
+-- so are 10 to 12, of which 12 reads a1 too
+pub call-10-is-sem_trywait : call_of 10 9 5 ≡ Some (SemTryWait 9)
+call-10-is-sem_trywait = refl
+
+pub call-11-is-sem_post : call_of 11 9 5 ≡ Some (SemPost 9)
+call-11-is-sem_post = refl
+
+pub call-12-is-sem_init : call_of 12 9 5 ≡ Some (SemInit 9 5)
+call-12-is-sem_init = refl
+
+-- 13 and 15 read both, and 14, 16 and 17 a0 alone
+pub call-13-is-barrier_init : call_of 13 9 5 ≡ Some (BarrierInit 9 5)
+call-13-is-barrier_init = refl
+
+pub call-14-is-barrier_wait : call_of 14 9 5 ≡ Some (BarrierWait 9)
+call-14-is-barrier_wait = refl
+
+pub call-15-is-cond_wait : call_of 15 9 5 ≡ Some (CondWait 9 5)
+call-15-is-cond_wait = refl
+
+pub call-16-is-signal : call_of 16 9 5 ≡ Some (Signal 9)
+call-16-is-signal = refl
+
+pub call-17-is-broadcast : call_of 17 9 5 ≡ Some (Broadcast 9)
+call-17-is-broadcast = refl

@@ -1,22 +1,22 @@
 -- Nobody is lost and nobody doubled: for each row, and for all calls.
-use Rattle.std.proofs.Common.{◌≡◌, ℕ, ◌+◌, ◌<◌, ◌≤◌, Bool, true, false, List, length, nat_lt, slice_index_or, slice_set, Option, Some, None, if◌then◌else◌, not, is_some, ◌==◌, ap, arith, refl, ltb-true}
+use Rattle.std.proofs.Common.{◌≡◌, ℕ, ◌+◌, ◌<◌, ◌≤◌, Bool, true, false, List, length, nat_lt, nat_le, slice_index_or, slice_set, Option, Some, None, if◌then◌else◌, not, ◌&&◌, is_some, ◌==◌, ap, arith, refl, ltb-true}
+use Rattle.std.proofs.lemmas.Bool.{and_parts}
 use Rattle.guest_call.specs.Answers.{answer_esrch, answer_edeadlk}
 use Rattle.guest_call.specs.declared.Call.{Call}
-use Rattle.guest_call.specs.declared.Call.TheVariants.{Exit, Put, Create, ThreadExit, Join, Yield, Lock, Unlock}
+use Rattle.guest_call.specs.declared.Call.TheVariants.{Exit, Put, Create, ThreadExit, Join, Yield, Lock, TryLock, Unlock, SemWait, SemTryWait, SemPost, SemInit, BarrierInit, BarrierWait, CondWait, Signal, Broadcast}
 use Rattle.guest_call.specs.Answers.{answer_einval}
 use Rattle.guest_call.specs.Effect.{Effect, answers}
 use Rattle.guest_call.specs.Queues.{places, waits, entering, Keeps}
-use Rattle.guest_call.specs.Tables.{at_cell, IsFair}
-use Rattle.guest_call.specs.Mutexes.{Mutex, unlocked, mutex_queue, lock_row, unlock_row}
+use Rattle.guest_call.specs.Tables.{at_cell, checked, IsFair}
+use Rattle.guest_call.specs.Mutexes.{Mutex, unlocked, mutex_queue, lock_row, trylock_row, unlock_row}
+use Rattle.guest_call.specs.Semaphores.{Semaphore, unposted, semaphore_queue, largest_value, sem_wait_row, sem_trywait_row, sem_post_row, sem_init_row}
+use Rattle.guest_call.specs.Barriers.{Barrier, uninitialised, barrier_queue, is_count, barrier_init_row, barrier_wait_row}
+use Rattle.guest_call.specs.Conditions.{Condition, Leaving, unawaited, condition_queue, cond_wait_row, signal_leaving, broadcast_leaving, leave_row}
 use Rattle.guest_call.specs.Threads.{Member, fresh, member_queue, member_at, waiting_joiner, joins, create_row, ended_with, joined_by, thread_exit_row, join_row}
-use Rattle.guest_call.specs.Objects.{Objects, on_threads, on_mutex, waits_at, put_answer, act, IsKept}
-use Rattle.guest_call.proofs.Counting.{places-nil, places-cons, places-push, entering-returns, entering-ends, entering-exits, entering-blocks, waits-push, waits-set}
-
-pub lock_fair : (t : ℕ) (c : Mutex) → IsFair mutex_queue t c (lock_row t c)
-lock_fair t c u = grind (arith, places-nil, places-push, entering-returns, entering-blocks)
-
-pub unlock_fair : (t : ℕ) (c : Mutex) → IsFair mutex_queue t c (unlock_row t c)
-unlock_fair t c u = grind (arith, places-nil, places-cons, entering-returns)
+use Rattle.guest_call.specs.Objects.{Objects, on_threads, on_mutex, on_semaphore, on_barrier, on_pair, condition_at, mutex_at, leave, waits_at, put_answer, act, IsKept}
+use Rattle.guest_call.proofs.Counting.{places-nil, entering-returns, entering-ends, entering-exits, entering-blocks, waits-push, waits-set, places-cons}
+use Rattle.guest_call.proofs.Shape.{kept_shaped, condition_named}
+pub use Rattle.guest_call.proofs.Rows.{IsFairPair, lock_fair, trylock_fair, unlock_fair, sem_wait_fair, sem_trywait_fair, sem_post_fair, sem_init_fair, barrier_init_fair, barrier_wait_fair, cond_wait_fair, leave_fair, signal_leaves, broadcast_leaves}
 
 -- a call that changes nothing and wakes nobody
 pub same_keeps : (w : ℕ → ℕ) (t a : ℕ) → Keeps w t (answers a) w
@@ -79,6 +79,56 @@ pub on_mutex_keeps : (row : Mutex → Effect × Mutex) (t m : ℕ) (o : Objects)
 on_mutex_keeps row t m o fair kept u =
     omega (arith, at_cell_keeps mutex_queue unlocked row o.mutexes m t (omega (arith, kept.all_mutexes)) fair u)
 
+-- a row done on a semaphore, where it is fair
+pub on_semaphore_keeps : (row : Semaphore → Effect × Semaphore) (t s : ℕ) (o : Objects) → ((c : Semaphore) → IsFair semaphore_queue t c (row c)) → IsKept o →
+    Keeps (waits_at o) t (on_semaphore row o s).0 (waits_at (on_semaphore row o s).1)
+on_semaphore_keeps row t s o fair kept u =
+    omega (arith, at_cell_keeps semaphore_queue unposted row o.semaphores s t (omega (arith, kept.all_semaphores)) fair u)
+
+-- a row done on a barrier, where it is fair
+pub on_barrier_keeps : (row : Barrier → Effect × Barrier) (t b : ℕ) (o : Objects) → ((c : Barrier) → IsFair barrier_queue t c (row c)) → IsKept o →
+    Keeps (waits_at o) t (on_barrier row o b).0 (waits_at (on_barrier row o b).1)
+on_barrier_keeps row t b o fair kept u =
+    omega (arith, at_cell_keeps barrier_queue uninitialised row o.barriers b t (omega (arith, kept.all_barriers)) fair u)
+
+-- a row done on a condition and a mutex that are there, where it is fair
+pub on_pair_keeps : (row : Condition → Mutex → Effect × Condition × Mutex) (t c m : ℕ) (o : Objects) → c < 64 → m < 64 →
+    IsFairPair t (condition_at o c) (mutex_at o m) (row (condition_at o c) (mutex_at o m)) → IsKept o →
+    Keeps (waits_at o) t (on_pair row o c m).0 (waits_at (on_pair row o c m).1)
+on_pair_keeps row t c m o c_in m_in fair kept u =
+    let r = row (condition_at o c) (mutex_at o m) in
+    omega (
+      arith,
+      waits-set condition_queue o.conditions c r.1 unawaited u (omega (arith, kept.all_conditions)),
+      waits-set mutex_queue o.mutexes m r.2 unlocked u (omega (arith, kept.all_mutexes)),
+      fair u,
+    )
+
+-- a call that is refused out of its range
+pub checked_keeps : (b : Bool) (t : ℕ) (o : Objects) (r : Effect × Objects) → (b ≡ true → Keeps (waits_at o) t r.0 (waits_at r.1)) →
+    Keeps (waits_at o) t (checked b o r).0 (waits_at (checked b o r).1)
+checked_keeps true t o r keeps = keeps refl
+checked_keeps false t o r keeps = same_keeps (waits_at o) t answer_einval
+
+pub cond_wait_keeps : (t c m : ℕ) (o : Objects) → IsKept o → nat_lt c 64 && nat_lt m 64 ≡ true →
+    Keeps (waits_at o) t (on_pair (cond_wait_row t m) o c m).0 (waits_at (on_pair (cond_wait_row t m) o c m).1)
+cond_wait_keeps t c m o kept in_range =
+    on_pair_keeps (cond_wait_row t m) t c m o
+    (ltb-true c 64 (and_parts (nat_lt c 64) (nat_lt m 64) in_range).0)
+    (ltb-true m 64 (and_parts (nat_lt c 64) (nat_lt m 64) in_range).1)
+    (cond_wait_fair t m (condition_at o c) (mutex_at o m)) kept
+
+-- threads that leave a condition, where they are some of those that waited
+pub leave_keeps : (leaving : Condition → Leaving) (t c : ℕ) (o : Objects) →
+    ((x : Condition) (u : ℕ) → places u (leaving x).threads + places u (leaving x).rest.queue ≡ places u x.queue) → IsKept o →
+    Keeps (waits_at o) t (leave leaving o c).0 (waits_at (leave leaving o c).1)
+leave_keeps leaving t c o leaves kept =
+    checked_keeps (nat_lt c 64) t o (on_pair (leave_row leaving) o c (condition_at o c).mutex)
+    (λ is.
+    let c_in : c < 64 = ltb-true c 64 is in
+    on_pair_keeps (leave_row leaving) t c (condition_at o c).mutex o c_in (condition_named o c (kept_shaped o kept) c_in)
+    (leave_fair leaving t (condition_at o c) (mutex_at o (condition_at o c).mutex) leaves) kept)
+
 -- a row done on the table of threads, where it is fair
 pub on_threads_keeps : (row : List Member → Effect × List Member) (t : ℕ) (o : Objects) → IsFairTable member_queue t o.threads (row o.threads) →
     Keeps (waits_at o) t (on_threads row o).0 (waits_at (on_threads row o).1)
@@ -94,4 +144,17 @@ act_keeps readable o t (ThreadExit v) kept lt = on_threads_keeps (thread_exit_ro
 act_keeps readable o t (Join u) kept lt = on_threads_keeps (join_row t u) t o (join_fair t u o.threads)
 act_keeps readable o t Yield kept lt = same_keeps (waits_at o) t 0
 act_keeps readable o t (Lock m) kept lt = on_mutex_keeps (lock_row t) t m o (lock_fair t) kept
+act_keeps readable o t (TryLock m) kept lt = on_mutex_keeps (trylock_row t) t m o (trylock_fair t) kept
 act_keeps readable o t (Unlock m) kept lt = on_mutex_keeps (unlock_row t) t m o (unlock_fair t) kept
+act_keeps readable o t (SemWait s) kept lt = on_semaphore_keeps (sem_wait_row t) t s o (sem_wait_fair t) kept
+act_keeps readable o t (SemTryWait s) kept lt = on_semaphore_keeps sem_trywait_row t s o (sem_trywait_fair t) kept
+act_keeps readable o t (SemPost s) kept lt = on_semaphore_keeps sem_post_row t s o (sem_post_fair t) kept
+act_keeps readable o t (SemInit s n) kept lt =
+    checked_keeps (nat_le n largest_value) t o (on_semaphore (sem_init_row n) o s) (λ _. on_semaphore_keeps (sem_init_row n) t s o (sem_init_fair t n) kept)
+act_keeps readable o t (BarrierInit b n) kept lt =
+    checked_keeps (is_count n) t o (on_barrier (barrier_init_row n) o b) (λ _. on_barrier_keeps (barrier_init_row n) t b o (barrier_init_fair t n) kept)
+act_keeps readable o t (BarrierWait b) kept lt = on_barrier_keeps (barrier_wait_row t) t b o (barrier_wait_fair t) kept
+act_keeps readable o t (CondWait c m) kept lt =
+    checked_keeps (nat_lt c 64 && nat_lt m 64) t o (on_pair (cond_wait_row t m) o c m) (cond_wait_keeps t c m o kept)
+act_keeps readable o t (Signal c) kept lt = leave_keeps signal_leaving t c o signal_leaves kept
+act_keeps readable o t (Broadcast c) kept lt = leave_keeps broadcast_leaving t c o broadcast_leaves kept

@@ -2,21 +2,21 @@
 use Rattle.std.proofs.Common.{◌≡◌, ℕ, ◌+◌, ◌<◌, ◌≤◌, ◌≢◌, Bool, true, false, List, [], ◌∷◌, ◌++◌, length, nat_lt, slice_set, arith, refl, sym, ap, ◌∙◌, ltb-true, ltb-false, ⊎_elim}
 use Rattle.std.proofs.lemmas.Bool.{cases_eq}
 use Rattle.std.proofs.lemmas.Bool.Decides.{nat_tests}
-use Rattle.std.proofs.lemmas.List.{length-replicate, length-set, length_push, get_or-set_same, get_or-set_other, get_or_push, get_or_append_left, get_or_past}
+use Rattle.std.proofs.lemmas.List.{length-set, length_push, get_or-set_same, get_or-set_other, get_or_push, get_or_append_left, get_or_past}
 use Rattle.guest_call.specs.declared.Call.{Call}
-use Rattle.guest_call.specs.declared.Call.TheVariants.{Exit, Put, Create, ThreadExit, Join, Yield, Lock, Unlock}
+use Rattle.guest_call.specs.declared.Call.TheVariants.{Exit, Put, Create, ThreadExit, Join, Yield, Lock, TryLock, Unlock, SemWait, SemTryWait, SemPost, SemInit, BarrierInit, BarrierWait, CondWait, Signal, Broadcast}
 use Rattle.guest_call.specs.Effect.{Effect, ended_after}
 use Rattle.guest_call.specs.Queues.{waits, Keeps}
-use Rattle.guest_call.specs.Tables.{at_cell}
-use Rattle.guest_call.specs.Mutexes.{unlocked, mutex_queue, lock_row, unlock_row}
+use Rattle.guest_call.specs.Mutexes.{unlocked, mutex_queue}
+use Rattle.guest_call.specs.Semaphores.{unposted, semaphore_queue}
+use Rattle.guest_call.specs.Barriers.{uninitialised, barrier_queue}
+use Rattle.guest_call.specs.Conditions.{unawaited, condition_queue}
 use Rattle.guest_call.specs.Threads.{Member, fresh, member_at, ended_with, joined_by, create_row, thread_exit_row, join_row}
-use Rattle.guest_call.specs.Objects.{Objects, all_unlocked, opening, waits_at, ended_at, put_answer, appends, act, created_count, IsKept}
+use Rattle.guest_call.specs.Objects.{Objects, all_unlocked, all_unposted, all_uninitialised, all_unawaited, opening, waits_at, ended_at, put_answer, appends, act, created_count, IsKept}
 use Rattle.guest_call.proofs.Counting.{places-nil, entering-other, entering-le, waits-replicate}
 use Rattle.guest_call.proofs.Conservation.{act_keeps}
-
--- as many objects as before, after a row in a table
-pub length-at_cell : {C : Type 0} (free : C) (row : C → Effect × C) (cells : List C) (i : ℕ) → length (at_cell free row cells i).1 ≡ length cells
-length-at_cell free row cells i = grind (arith, length-set)
+pub use Rattle.guest_call.proofs.Shape.{length-at_cell}
+use Rattle.guest_call.proofs.Shape.{IsShaped, kept_shaped, act_shaped, opening_shaped}
 
 -- as many threads as before and as many more as are created, after each row on the table of threads
 pub length-create : (pc argument : ℕ) (members : List Member) → length (create_row pc argument members).1 ≡ length members + created_count (create_row pc argument members).0.created
@@ -38,7 +38,17 @@ act_creates readable o t (ThreadExit v) = omega (arith, length-set o.threads t (
 act_creates readable o t (Join u) = length-join t u o.threads
 act_creates readable o t Yield = omega arith
 act_creates readable o t (Lock m) = grind arith
+act_creates readable o t (TryLock m) = grind arith
 act_creates readable o t (Unlock m) = grind arith
+act_creates readable o t (SemWait s) = grind arith
+act_creates readable o t (SemTryWait s) = grind arith
+act_creates readable o t (SemPost s) = grind arith
+act_creates readable o t (SemInit s n) = grind arith
+act_creates readable o t (BarrierInit b n) = grind arith
+act_creates readable o t (BarrierWait b) = grind arith
+act_creates readable o t (CondWait c m) = grind arith
+act_creates readable o t (Signal c) = grind arith
+act_creates readable o t (Broadcast c) = grind arith
 
 -- no call makes a thread beyond 32
 pub act_few : (readable : ℕ → ℕ → Bool) (o : Objects) (t : ℕ) (call : Call) → length o.threads ≤ 32 → length (act readable o t call).1.threads ≤ 32
@@ -49,18 +59,17 @@ act_few readable o t (ThreadExit v) few = omega (arith, length-set o.threads t (
 act_few readable o t (Join u) few = grind (arith, length-set)
 act_few readable o t Yield few = few
 act_few readable o t (Lock m) few = few
+act_few readable o t (TryLock m) few = few
 act_few readable o t (Unlock m) few = few
-
--- no call changes how many mutexes there are
-pub act_mutexes : (readable : ℕ → ℕ → Bool) (o : Objects) (t : ℕ) (call : Call) → length (act readable o t call).1.mutexes ≡ length o.mutexes
-act_mutexes readable o t (Exit code) = refl
-act_mutexes readable o t (Put p n) = refl
-act_mutexes readable o t (Create pc argument) = refl
-act_mutexes readable o t (ThreadExit v) = refl
-act_mutexes readable o t (Join u) = refl
-act_mutexes readable o t Yield = refl
-act_mutexes readable o t (Lock m) = length-at_cell unlocked (lock_row t) o.mutexes m
-act_mutexes readable o t (Unlock m) = length-at_cell unlocked (unlock_row t) o.mutexes m
+act_few readable o t (SemWait s) few = grind arith
+act_few readable o t (SemTryWait s) few = grind arith
+act_few readable o t (SemPost s) few = grind arith
+act_few readable o t (SemInit s n) few = grind arith
+act_few readable o t (BarrierInit b n) few = grind arith
+act_few readable o t (BarrierWait b) few = grind arith
+act_few readable o t (CondWait c m) few = grind arith
+act_few readable o t (Signal c) few = grind arith
+act_few readable o t (Broadcast c) few = grind arith
 
 -- each thread still waits in at most one place, where the caller waited in none
 pub once_kept : (w after : ℕ → ℕ) (t : ℕ) (e : Effect) → Keeps w t e after → w t ≡ 0 → ((u : ℕ) → w u ≤ 1) → (u : ℕ) → after u ≤ 1
@@ -77,26 +86,42 @@ pub act_kept : (readable : ℕ → ℕ → Bool) (o : Objects) (t : ℕ) (call :
 act_kept readable o t call kept there free =
     let r : Effect × Objects = act readable o t call in
     let keeps : Keeps (waits_at o) t r.0 (waits_at r.1) = act_keeps readable o t call kept there in
+    let shaped : IsShaped r.1 = act_shaped readable o t call (kept_shaped o kept) in
     let more : length r.1.threads ≡ length o.threads + created_count r.0.created = act_creates readable o t call in
     record {
       some_thread = omega (arith, more, kept.some_thread);
       few_threads = act_few readable o t call kept.few_threads;
-      all_mutexes = act_mutexes readable o t call ∙ kept.all_mutexes;
+      all_mutexes = shaped.all_mutexes;
+      all_semaphores = shaped.all_semaphores;
+      all_barriers = shaped.all_barriers;
+      all_conditions = shaped.all_conditions;
+      named = shaped.named;
       once = once_kept (waits_at o) (waits_at r.1) t r.0 keeps free kept.once;
       known = λ u beyond. known_kept (waits_at o) (waits_at r.1) t (length o.threads) r.0 keeps there kept.known u (omega (arith, more));
     }
 
 pub opening_waits : (t : ℕ) → waits_at opening t ≡ 0
-unfolding all_unlocked waits
-opening_waits t = omega (arith, waits-replicate mutex_queue 64 unlocked t refl, places-nil t)
+unfolding all_unlocked all_unposted all_uninitialised all_unawaited waits
+opening_waits t =
+    omega (
+      arith,
+      waits-replicate mutex_queue 64 unlocked t refl,
+      waits-replicate semaphore_queue 64 unposted t refl,
+      waits-replicate barrier_queue 64 uninitialised t refl,
+      waits-replicate condition_queue 64 unawaited t refl,
+      places-nil t,
+    )
 
 -- what holds of the objects holds at the start
 pub opening_kept : IsKept opening
-unfolding all_unlocked
 opening_kept = record {
   some_thread = omega arith;
   few_threads = omega arith;
-  all_mutexes = length-replicate 64 unlocked;
+  all_mutexes = opening_shaped.all_mutexes;
+  all_semaphores = opening_shaped.all_semaphores;
+  all_barriers = opening_shaped.all_barriers;
+  all_conditions = opening_shaped.all_conditions;
+  named = opening_shaped.named;
   once = λ t. omega (arith, opening_waits t);
   known = λ t beyond. opening_waits t;
 }
@@ -155,7 +180,17 @@ act_ended readable o t (ThreadExit v) there u = thread_exit_ended t v o.threads 
 act_ended readable o t (Join v) there u = join_ended t v o.threads u
 act_ended readable o t Yield there u = refl
 act_ended readable o t (Lock m) there u = grind arith
+act_ended readable o t (TryLock m) there u = grind arith
 act_ended readable o t (Unlock m) there u = grind arith
+act_ended readable o t (SemWait s) there u = grind arith
+act_ended readable o t (SemTryWait s) there u = grind arith
+act_ended readable o t (SemPost s) there u = grind arith
+act_ended readable o t (SemInit s n) there u = grind arith
+act_ended readable o t (BarrierInit b n) there u = grind arith
+act_ended readable o t (BarrierWait b) there u = grind arith
+act_ended readable o t (CondWait c m) there u = grind arith
+act_ended readable o t (Signal c) there u = grind arith
+act_ended readable o t (Broadcast c) there u = grind arith
 
 -- where put appends its bytes it answers how many they are
 pub put_answer-appends : (readable : ℕ → ℕ → Bool) (p n : ℕ) → appends readable p n ≡ true → put_answer readable p n ≡ n

@@ -29,6 +29,10 @@ answer_ebusy = negated 16
 abbrev pub answer_einval : ℕ
 answer_einval = negated 22
 
+-- a number would pass its largest value (POSIX.1-2017, <errno.h>, EOVERFLOW)
+abbrev pub answer_eoverflow : ℕ
+answer_eoverflow = negated 75
+
 -- the caller would wait for itself (POSIX.1-2017, <errno.h>, EDEADLK)
 abbrev pub answer_edeadlk : ℕ
 answer_edeadlk = negated 35

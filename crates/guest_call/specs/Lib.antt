@@ -4,6 +4,9 @@ pub mod Effect
 pub mod Queues
 pub mod Tables
 pub mod Mutexes
+pub mod Semaphores
+pub mod Barriers
+pub mod Conditions
 pub mod Threads
 pub mod Objects
 pub mod Locality

@@ -2,15 +2,21 @@
 use Rattle.std.specs.Prelude.{◌==◌, ◌≡◌, Bool, true, false, List, slice_index_or}
 use Rattle.std.specs.List.{list_any}
 use Rattle.guest_call.specs.declared.Object.{Object}
-use Rattle.guest_call.specs.declared.Object.TheVariants.{Output, ThreadTable, Mutex as MutexOf}
+use Rattle.guest_call.specs.declared.Object.TheVariants.{Output, ThreadTable, Mutex as MutexOf, Semaphore as SemaphoreOf, Barrier as BarrierOf, Condition as ConditionOf}
 use Rattle.guest_call.specs.Effect.{Effect}
 use Rattle.guest_call.specs.Mutexes.{Mutex, unlocked}
+use Rattle.guest_call.specs.Semaphores.{Semaphore, unposted}
+use Rattle.guest_call.specs.Barriers.{Barrier, uninitialised}
+use Rattle.guest_call.specs.Conditions.{Condition, unawaited}
 use Rattle.guest_call.specs.Threads.{Member}
 use Rattle.guest_call.specs.Objects.{Objects, IsKept}
 
--- how an object stands: a mutex, the table of threads, or nothing, for the output, which the machine keeps (this project's own)
+-- how an object stands: an object of its kind, the table of threads, or nothing, for the output, which the machine keeps (this project's own)
 pub data Part : Type 0 where
   MutexPart : Mutex → Part
+  SemaphorePart : Semaphore → Part
+  BarrierPart : Barrier → Part
+  ConditionPart : Condition → Part
   ThreadsPart : List Member → Part
   NoPart : Part
 
@@ -19,18 +25,19 @@ abbrev pub part_of : Objects → Object → Part
 part_of o Output = NoPart
 part_of o ThreadTable = ThreadsPart o.threads
 part_of o (MutexOf m) = MutexPart (slice_index_or o.mutexes m unlocked)
+part_of o (SemaphoreOf s) = SemaphorePart (slice_index_or o.semaphores s unposted)
+part_of o (BarrierOf b) = BarrierPart (slice_index_or o.barriers b uninitialised)
+part_of o (ConditionOf c) = ConditionPart (slice_index_or o.conditions c unawaited)
 
 -- whether two names are of one object (this project's own)
 abbrev pub same_object : Object → Object → Bool
 same_object Output Output = true
-same_object Output ThreadTable = false
-same_object Output (MutexOf m) = false
-same_object ThreadTable Output = false
 same_object ThreadTable ThreadTable = true
-same_object ThreadTable (MutexOf m) = false
-same_object (MutexOf k) Output = false
-same_object (MutexOf k) ThreadTable = false
 same_object (MutexOf k) (MutexOf m) = k == m
+same_object (SemaphoreOf k) (SemaphoreOf s) = k == s
+same_object (BarrierOf k) (BarrierOf b) = k == b
+same_object (ConditionOf k) (ConditionOf c) = k == c
+same_object _ _ = false
 
 -- whether an object is among some (this project's own)
 abbrev pub is_among : Object → List Object → Bool

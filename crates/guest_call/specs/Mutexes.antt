@@ -1,6 +1,6 @@
 -- Mutexes that check for errors, and hand themselves over to who has waited longest.
 use Rattle.std.specs.Prelude.{ℕ, ◌==◌, Bool, false, List, [], ◌∷◌, ◌++◌, Option, Some, None, is_none, if◌then◌else◌}
-use Rattle.guest_call.specs.Answers.{answer_eperm, answer_edeadlk}
+use Rattle.guest_call.specs.Answers.{answer_eperm, answer_ebusy, answer_edeadlk}
 use Rattle.guest_call.specs.Effect.{Effect, Returns, answers, blocks, wakes}
 
 -- who owns a mutex, if anybody, and who waits for it, the first to come first (POSIX.1-2017, pthread_mutex_lock)
@@ -40,6 +40,10 @@ lock_row t c =
     if is_none c.owner then (answers 0, owned_by t c)
     else if owns c.owner t then (answers answer_edeadlk, c)
     else (blocks, waited_for t c)
+
+-- trylock, called by t: a free mutex becomes its own; any other is refused (POSIX.1-2017, pthread_mutex_trylock)
+abbrev pub trylock_row : ℕ → Mutex → Effect × Mutex
+trylock_row t c = if is_none c.owner then (answers 0, owned_by t c) else (answers answer_ebusy, c)
 
 -- unlock, called by t: who isn't the owner is refused; else the mutex is handed over (POSIX.1-2017, pthread_mutex_unlock)
 abbrev pub unlock_row : ℕ → Mutex → Effect × Mutex

@@ -1,7 +1,7 @@
 -- The table of environment calls: which number in a7 is which call, and which of a0 and a1 it reads.
 use Rattle.std.specs.Prelude.{ℕ, List, [], ◌∷◌, Option, option_map, find, ◌==◌}
 use Rattle.guest_call.specs.declared.Call.{Call}
-use Rattle.guest_call.specs.declared.Call.TheVariants.{Exit, Put, Create, ThreadExit, Join, Yield, Lock, Unlock}
+use Rattle.guest_call.specs.declared.Call.TheVariants.{Exit, Put, Create, ThreadExit, Join, Yield, Lock, TryLock, Unlock, SemWait, SemTryWait, SemPost, SemInit, BarrierInit, BarrierWait, CondWait, Signal, Broadcast}
 
 -- one line of the table: a number, and the call that it makes of a0 and a1 (this project's own)
 pub record Numbered : Type 0 where
@@ -18,8 +18,18 @@ call_table =
     ∷ (record { number = 4; call = λ a0 a1. Join a0 }
     ∷ (record { number = 5; call = λ a0 a1. Yield }
     ∷ (record { number = 6; call = λ a0 a1. Lock a0 }
+    ∷ (record { number = 7; call = λ a0 a1. TryLock a0 }
     ∷ (record { number = 8; call = λ a0 a1. Unlock a0 }
-    ∷ [])))))))
+    ∷ (record { number = 9; call = λ a0 a1. SemWait a0 }
+    ∷ (record { number = 10; call = λ a0 a1. SemTryWait a0 }
+    ∷ (record { number = 11; call = λ a0 a1. SemPost a0 }
+    ∷ (record { number = 12; call = λ a0 a1. SemInit a0 a1 }
+    ∷ (record { number = 13; call = λ a0 a1. BarrierInit a0 a1 }
+    ∷ (record { number = 14; call = λ a0 a1. BarrierWait a0 }
+    ∷ (record { number = 15; call = λ a0 a1. CondWait a0 a1 }
+    ∷ (record { number = 16; call = λ a0 a1. Signal a0 }
+    ∷ (record { number = 17; call = λ a0 a1. Broadcast a0 }
+    ∷ [])))))))))))))))))
 
 -- the call that a7, a0 and a1 make, or None where the table has no such number: a bad call (this project's own)
 abbrev pub call_of : ℕ → ℕ → ℕ → Option Call

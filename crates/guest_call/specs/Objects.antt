@@ -1,36 +1,86 @@
 -- All objects of synchronisation, and what each environment call answers and changes.
-use Rattle.std.specs.Prelude.{ℕ, ◌+◌, ◌^◌, ◌%◌, ◌==◌, ◌≡◌, ◌≤◌, Bool, not, ◌&&◌, nat_lt, nat_le, List, [], ◌∷◌, length, replicate, Option, Some, None, if◌then◌else◌}
+use Rattle.std.specs.Prelude.{ℕ, ◌+◌, ◌^◌, ◌%◌, ◌==◌, ◌≡◌, ◌≤◌, ◌<◌, Bool, not, ◌&&◌, nat_lt, nat_le, List, [], ◌∷◌, length, replicate, slice_index_or, slice_set, Option, Some, None, All, if◌then◌else◌}
 use Rattle.guest_call.specs.declared.Call.{Call}
-use Rattle.guest_call.specs.declared.Call.TheVariants.{Exit, Put, Create, ThreadExit, Join, Yield, Lock, Unlock}
+use Rattle.guest_call.specs.declared.Call.TheVariants.{Exit, Put, Create, ThreadExit, Join, Yield, Lock, TryLock, Unlock, SemWait, SemTryWait, SemPost, SemInit, BarrierInit, BarrierWait, CondWait, Signal, Broadcast}
 use Rattle.guest_call.specs.declared.Object.{Object}
 use Rattle.guest_call.specs.declared.Object.TheVariants as object
 use Rattle.guest_call.specs.Answers.{answer_einval, answer_efault}
 use Rattle.guest_call.specs.Effect.{Effect, answers, exits}
 use Rattle.guest_call.specs.Queues.{waits}
-use Rattle.guest_call.specs.Tables.{at_cell}
-use Rattle.guest_call.specs.Mutexes.{Mutex, unlocked, mutex_queue, lock_row, unlock_row}
+use Rattle.guest_call.specs.Tables.{at_cell, checked}
+use Rattle.guest_call.specs.Mutexes.{Mutex, unlocked, mutex_queue, lock_row, trylock_row, unlock_row}
+use Rattle.guest_call.specs.Semaphores.{Semaphore, unposted, semaphore_queue, largest_value, sem_wait_row, sem_trywait_row, sem_post_row, sem_init_row}
+use Rattle.guest_call.specs.Barriers.{Barrier, uninitialised, barrier_queue, is_count, barrier_init_row, barrier_wait_row}
+use Rattle.guest_call.specs.Conditions.{Condition, Leaving, unawaited, condition_queue, cond_wait_row, signal_leaving, broadcast_leaving, leave_row}
 use Rattle.guest_call.specs.Threads.{Member, fresh, member_queue, member_at, create_row, thread_exit_row, join_row}
 
 -- the threads and the objects of each kind (this project's own)
 pub record Objects : Type 0 where
   pub threads : List Member
   pub mutexes : List Mutex
+  pub semaphores : List Semaphore
+  pub barriers : List Barrier
+  pub conditions : List Condition
 
 -- 64 free mutexes (this project's own)
 unfoldable pub all_unlocked : List Mutex
 all_unlocked = replicate 64 unlocked
 
+-- 64 semaphores of value 0 (this project's own)
+unfoldable pub all_unposted : List Semaphore
+all_unposted = replicate 64 unposted
+
+-- 64 barriers that aren't initialised (this project's own)
+unfoldable pub all_uninitialised : List Barrier
+all_uninitialised = replicate 64 uninitialised
+
+-- 64 conditions for which nobody waits (this project's own)
+unfoldable pub all_unawaited : List Condition
+all_unawaited = replicate 64 unawaited
+
 -- the objects at the start: thread 0 alone exists, and nothing is in use (this project's own)
 abbrev pub opening : Objects
-opening = record { threads = fresh ∷ []; mutexes = all_unlocked }
+opening =
+    record {
+      threads = fresh ∷ [];
+      mutexes = all_unlocked;
+      semaphores = all_unposted;
+      barriers = all_uninitialised;
+      conditions = all_unawaited;
+    }
 
 -- a row done on the table of threads (this project's own)
 abbrev pub on_threads : (List Member → Effect × List Member) → Objects → Effect × Objects
-on_threads row o = let r = row o.threads in (r.0, record { threads = r.1; mutexes = o.mutexes })
+on_threads row o = let r = row o.threads in (r.0, record o { threads = r.1 })
 
 -- a row done on the mutex of number m (this project's own)
 abbrev pub on_mutex : (Mutex → Effect × Mutex) → Objects → ℕ → Effect × Objects
-on_mutex row o m = let r = at_cell unlocked row o.mutexes m in (r.0, record { threads = o.threads; mutexes = r.1 })
+on_mutex row o m = let r = at_cell unlocked row o.mutexes m in (r.0, record o { mutexes = r.1 })
+
+-- a row done on the semaphore of number s (this project's own)
+abbrev pub on_semaphore : (Semaphore → Effect × Semaphore) → Objects → ℕ → Effect × Objects
+on_semaphore row o s = let r = at_cell unposted row o.semaphores s in (r.0, record o { semaphores = r.1 })
+
+-- a row done on the barrier of number b (this project's own)
+abbrev pub on_barrier : (Barrier → Effect × Barrier) → Objects → ℕ → Effect × Objects
+on_barrier row o b = let r = at_cell uninitialised row o.barriers b in (r.0, record o { barriers = r.1 })
+
+-- the condition of number c, and the mutex of number m (this project's own)
+abbrev pub condition_at : Objects → ℕ → Condition
+condition_at o c = slice_index_or o.conditions c unawaited
+
+abbrev pub mutex_at : Objects → ℕ → Mutex
+mutex_at o m = slice_index_or o.mutexes m unlocked
+
+-- a row done on the condition of number c and the mutex of number m (this project's own)
+abbrev pub on_pair : (Condition → Mutex → Effect × Condition × Mutex) → Objects → ℕ → ℕ → Effect × Objects
+on_pair row o c m =
+    let r = row (condition_at o c) (mutex_at o m) in
+    (r.0, record o { mutexes = slice_set o.mutexes m r.2; conditions = slice_set o.conditions c r.1 })
+
+-- who leaves the condition of number c comes to the mutex with which it waited (POSIX.1-2017, pthread_cond_broadcast)
+abbrev pub leave : (Condition → Leaving) → Objects → ℕ → Effect × Objects
+leave leaving o c = checked (nat_lt c 64) o (on_pair (leave_row leaving) o c (condition_at o c).mutex)
 
 -- whether the n bytes from p lie below 2^32 and may all be read (this project's own)
 abbrev pub can_read : (ℕ → ℕ → Bool) → ℕ → ℕ → Bool
@@ -57,13 +107,30 @@ act readable o t (ThreadExit v) = on_threads (thread_exit_row t v) o
 act readable o t (Join u) = on_threads (join_row t u) o
 act readable o t Yield = (answers 0, o)
 act readable o t (Lock m) = on_mutex (lock_row t) o m
+act readable o t (TryLock m) = on_mutex (trylock_row t) o m
 act readable o t (Unlock m) = on_mutex (unlock_row t) o m
+act readable o t (SemWait s) = on_semaphore (sem_wait_row t) o s
+act readable o t (SemTryWait s) = on_semaphore sem_trywait_row o s
+act readable o t (SemPost s) = on_semaphore sem_post_row o s
+act readable o t (SemInit s n) = checked (nat_le n largest_value) o (on_semaphore (sem_init_row n) o s)
+act readable o t (BarrierInit b n) = checked (is_count n) o (on_barrier (barrier_init_row n) o b)
+act readable o t (BarrierWait b) = on_barrier (barrier_wait_row t) o b
+act readable o t (CondWait c m) = checked (nat_lt c 64 && nat_lt m 64) o (on_pair (cond_wait_row t m) o c m)
+act readable o t (Signal c) = leave signal_leaving o c
+act readable o t (Broadcast c) = leave broadcast_leaving o c
 
 -- the object where a test holds, and else none (this project's own)
 abbrev pub one_of : Bool → Object → List Object
 one_of test p = if test then p ∷ [] else []
 
--- the objects on which a call acts: put on the output, where it appends; create, lock and unlock on theirs, where the argument is in range; thread_exit and join on the threads; exit and yield on none (this project's own)
+-- the objects on which a condition's waiters come and go: the condition, and its mutex if somebody waits (this project's own)
+abbrev pub leave_objects : Objects → ℕ → List Object
+leave_objects o c =
+    if nat_lt c 64 then object.Condition c ∷ one_of (not (length (condition_at o c).queue == 0)) (object.Mutex (condition_at o c).mutex)
+    else []
+
+-- the objects on which a call acts: put on the output, where it appends; thread_exit and join on the threads; exit and yield on none; signal
+-- and broadcast on a mutex too, if a thread leaves; all others on the objects that they name, where the arguments are in range (this project's own)
 abbrev pub acts_on : (ℕ → ℕ → Bool) → Objects → Call → List Object
 acts_on readable o (Exit code) = []
 acts_on readable o (Put p n) = one_of (appends readable p n) object.Output
@@ -72,21 +139,37 @@ acts_on readable o (ThreadExit v) = object.ThreadTable ∷ []
 acts_on readable o (Join u) = object.ThreadTable ∷ []
 acts_on readable o Yield = []
 acts_on readable o (Lock m) = one_of (nat_lt m 64) (object.Mutex m)
+acts_on readable o (TryLock m) = one_of (nat_lt m 64) (object.Mutex m)
 acts_on readable o (Unlock m) = one_of (nat_lt m 64) (object.Mutex m)
+acts_on readable o (SemWait s) = one_of (nat_lt s 64) (object.Semaphore s)
+acts_on readable o (SemTryWait s) = one_of (nat_lt s 64) (object.Semaphore s)
+acts_on readable o (SemPost s) = one_of (nat_lt s 64) (object.Semaphore s)
+acts_on readable o (SemInit s n) = one_of (nat_lt s 64 && nat_le n largest_value) (object.Semaphore s)
+acts_on readable o (BarrierInit b n) = one_of (nat_lt b 64 && is_count n) (object.Barrier b)
+acts_on readable o (BarrierWait b) = one_of (nat_lt b 64) (object.Barrier b)
+acts_on readable o (CondWait c m) = if nat_lt c 64 && nat_lt m 64 then object.Condition c ∷ object.Mutex m ∷ [] else []
+acts_on readable o (Signal c) = leave_objects o c
+acts_on readable o (Broadcast c) = leave_objects o c
 
 -- in how many places thread t waits (this project's own)
 abbrev pub waits_at : Objects → ℕ → ℕ
-waits_at o t = waits member_queue o.threads t + waits mutex_queue o.mutexes t
+waits_at o t =
+    waits member_queue o.threads t + waits mutex_queue o.mutexes t + waits semaphore_queue o.semaphores t + waits barrier_queue o.barriers t
+    + waits condition_queue o.conditions t
 
 -- the value with which thread u has ended, if it has (POSIX.1-2017, pthread_exit)
 abbrev pub ended_at : Objects → ℕ → Option ℕ
 ended_at o u = (member_at o.threads u).value
 
--- one thread at least and 32 at most, 64 mutexes; only threads of the table wait, and each in at most one place (this project's own)
+-- one thread at least and 32 at most, 64 objects of each kind; a condition's mutex is one of them; only threads of the table wait, and each in at most one place (this project's own)
 pub record IsKept (o : Objects) : Type 0 where
   pub some_thread : 1 ≤ length o.threads
   pub few_threads : length o.threads ≤ 32
   pub all_mutexes : length o.mutexes ≡ 64
+  pub all_semaphores : length o.semaphores ≡ 64
+  pub all_barriers : length o.barriers ≡ 64
+  pub all_conditions : length o.conditions ≡ 64
+  pub named : All (λ (c : Condition). c.mutex < 64) o.conditions
   pub once : (t : ℕ) → waits_at o t ≤ 1
   pub known : (t : ℕ) → length o.threads ≤ t → waits_at o t ≡ 0
 

@@ -1,8 +1,12 @@
 -- Tables of 64 objects of one kind, each with a queue of threads.
-use Rattle.std.specs.Prelude.{ℕ, ◌≡◌, ◌≤◌, List, length, nat_lt, slice_index_or, slice_set, if◌then◌else◌}
+use Rattle.std.specs.Prelude.{ℕ, ◌≡◌, ◌≤◌, Bool, List, length, nat_lt, slice_index_or, slice_set, if◌then◌else◌}
 use Rattle.guest_call.specs.Answers.{answer_einval}
 use Rattle.guest_call.specs.Effect.{Effect, answers}
 use Rattle.guest_call.specs.Queues.{places, waits, Keeps}
+
+-- what a call does where its arguments are in range; else it is refused, and nothing changes (this project's own)
+abbrev pub checked : {S : Type 0} → Bool → S → Effect × S → Effect × S
+checked in_range state done = if in_range then done else (answers answer_einval, state)
 
 -- a row done at the object of number i; a number above 63 is refused (this project's own)
 abbrev pub at_cell : {C : Type 0} → C → (C → Effect × C) → List C → ℕ → Effect × List C

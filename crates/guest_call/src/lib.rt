@@ -10,7 +10,7 @@ ghost use Rattle.guest_call.specs.Queues.{Keeps};
 ghost use Rattle.guest_call.specs.Objects.{Objects, opening, act, acts_on, put_answer, appends, waits_at, ended_at, created_count, IsKept};
 ghost use Rattle.guest_call.specs.Locality.{IsLocalBy};
 ghost use Rattle.guest_call.specs.Numbers.{call_of};
-ghost use Rattle.guest_call.specs.Answers.{answer_eperm, answer_esrch, answer_eagain, answer_efault, answer_ebusy, answer_einval, answer_edeadlk};
+ghost use Rattle.guest_call.specs.Answers.{answer_eperm, answer_esrch, answer_eagain, answer_efault, answer_ebusy, answer_einval, answer_eoverflow, answer_edeadlk};
 
 /// The answer for EPERM (POSIX.1-2017, `<errno.h>`): the caller isn't the owner.
 pub const EPERM: u32 = 0xFFFF_FFFF;
@@ -24,6 +24,8 @@ pub const EFAULT: u32 = 0xFFFF_FFF2;
 pub const EBUSY: u32 = 0xFFFF_FFF0;
 /// The answer for EINVAL (POSIX.1-2017, `<errno.h>`): an argument is out of its range.
 pub const EINVAL: u32 = 0xFFFF_FFEA;
+/// The answer for EOVERFLOW (POSIX.1-2017, `<errno.h>`): a number would pass its largest value.
+pub const EOVERFLOW: u32 = 0xFFFF_FFB5;
 /// The answer for EDEADLK (POSIX.1-2017, `<errno.h>`): the caller would wait for itself.
 pub const EDEADLK: u32 = 0xFFFF_FFDD;
 
@@ -45,8 +47,28 @@ pub enum Call {
     Yield,
     /// 6, `lock(mutex)`: as `pthread_mutex_lock` at a mutex that checks for errors.
     Lock(u32),
+    /// 7, `trylock(mutex)`: as `pthread_mutex_trylock`.
+    TryLock(u32),
     /// 8, `unlock(mutex)`: as `pthread_mutex_unlock` at a mutex that checks for errors.
     Unlock(u32),
+    /// 9, `sem_wait(semaphore)`: as `sem_wait`.
+    SemWait(u32),
+    /// 10, `sem_trywait(semaphore)`: as `sem_trywait`.
+    SemTryWait(u32),
+    /// 11, `sem_post(semaphore)`: as `sem_post`.
+    SemPost(u32),
+    /// 12, `sem_init(semaphore, value)`: as `sem_init`, of a semaphore that is there from the start with the value 0.
+    SemInit(u32, u32),
+    /// 13, `barrier_init(barrier, count)`: as `pthread_barrier_init`.
+    BarrierInit(u32, u32),
+    /// 14, `barrier_wait(barrier)`: as `pthread_barrier_wait`; who comes last gets 1, the others 0.
+    BarrierWait(u32),
+    /// 15, `cond_wait(condition, mutex)`: as `pthread_cond_wait`, without spurious wake-ups.
+    CondWait(u32, u32),
+    /// 16, `signal(condition)`: as `pthread_cond_signal`, for who has waited longest.
+    Signal(u32),
+    /// 17, `broadcast(condition)`: as `pthread_cond_broadcast`, in the order in which they came.
+    Broadcast(u32),
 }
 
 impl Call {
@@ -63,7 +85,17 @@ impl Call {
             4 => Some(Call::Join(a0)),
             5 => Some(Call::Yield),
             6 => Some(Call::Lock(a0)),
+            7 => Some(Call::TryLock(a0)),
             8 => Some(Call::Unlock(a0)),
+            9 => Some(Call::SemWait(a0)),
+            10 => Some(Call::SemTryWait(a0)),
+            11 => Some(Call::SemPost(a0)),
+            12 => Some(Call::SemInit(a0, a1)),
+            13 => Some(Call::BarrierInit(a0, a1)),
+            14 => Some(Call::BarrierWait(a0)),
+            15 => Some(Call::CondWait(a0, a1)),
+            16 => Some(Call::Signal(a0)),
+            17 => Some(Call::Broadcast(a0)),
             _ => None,
         }
     }
@@ -78,6 +110,12 @@ pub enum Object {
     ThreadTable,
     /// The mutex of this number.
     Mutex(u32),
+    /// The semaphore of this number.
+    Semaphore(u32),
+    /// The barrier of this number.
+    Barrier(u32),
+    /// The condition of this number.
+    Condition(u32),
 }
 
 /// What becomes of the thread that makes a call.
@@ -148,5 +186,6 @@ pub fn answers_are_negated()
     ensures efault { EFAULT ≡ answer_efault }
     ensures ebusy { EBUSY ≡ answer_ebusy }
     ensures einval { EINVAL ≡ answer_einval }
+    ensures eoverflow { EOVERFLOW ≡ answer_eoverflow }
     ensures edeadlk { EDEADLK ≡ answer_edeadlk }
 {}

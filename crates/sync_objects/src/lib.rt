@@ -2,25 +2,101 @@
 //! answers and changes. No call takes memory.
 #![tactic(auto)]
 
-ghost use Rattle.std.specs.Prelude.{◌≡◌, ℕ, ◌<◌, Bool, true, false, length};
+ghost use Rattle.std.specs.Prelude.{◌≡◌, ℕ, ◌+◌, ◌<◌, ◌≤◌, Bool, false, None, length};
+ghost use Rattle.guest_call.specs.Queues.{places, waits};
+ghost use Rattle.guest_call.specs.Effect.{wakes};
+ghost use Rattle.guest_call.specs.Mutexes.{mutex_queue};
+ghost use Rattle.guest_call.specs.Conditions.{condition_queue, signal_leaving, broadcast_leaving};
 ghost use Rattle.guest_call.specs.Objects as spec;
+ghost use Rattle.sync_mutex.specs.Admitting.{admit_each_at};
+ghost use Rattle.sync_objects.specs.Pairs.{objects_of, cond_wait_at, leave_at};
 ghost use Rattle.sync_objects.specs.Puts.{is_put};
 
 use call_effect::Effect;
-use guest_call::Call;
+use guest_call::{Call, EINVAL, EPERM, Fate};
 use std::marker::Model;
+use sync_barrier::Barriers;
+use sync_cond::{Conditions, Leaving};
 use sync_join::Threads;
 use sync_mutex::Mutexes;
+use sync_sem::Semaphores;
+
+/// How many objects of each kind there are.
+const OBJECTS: u32 = 64;
+
+/// Thread `t` gives up mutex `m`, and waits for condition `c`.
+fn cond_wait(conditions: &mut Conditions, mutexes: &mut Mutexes, t: u8, c: u32, m: u32) -> Effect
+    requires thread { t < 32 }
+    requires waits_for_no_mutex { waits mutex_queue mutexes.old t ≡ 0 }
+    requires waits_for_no_condition { waits condition_queue conditions.old t ≡ 0 }
+    ensures { (result, (conditions.new, mutexes.new)) ≡ cond_wait_at t conditions.old mutexes.old c m }
+{
+    if c >= OBJECTS || m >= OBJECTS {
+        return Effect::answers(EINVAL);
+    }
+    if mutexes.owner(m) != Some(t) {
+        return Effect::answers(EPERM);
+    }
+    if !conditions.wait(t, c, m) {
+        return Effect::answers(EINVAL);
+    }
+    let released = mutexes.unlock(t, m);
+    Effect::wakes(Fate::Blocks, released.into_woken())
+}
+
+/// The threads that left a condition come to its mutex: who has it now is woken, and the caller gets 0.
+fn come_back(mutexes: &mut Mutexes, leaving: &Leaving) -> Effect
+    requires mutex { leaving.now.mutex < 64 }
+    requires low { (u : ℕ) → 32 ≤ u → places u leaving.now.threads ≡ 0 }
+    requires once { (u : ℕ) → waits mutex_queue mutexes.old u + places u leaving.now.threads ≤ 1 }
+    ensures effect { result ≡ wakes (Fate.Returns 0 None) (admit_each_at mutexes.old leaving.now.mutex leaving.now.threads).0 }
+    ensures mutexes { mutexes.new ≡ (admit_each_at mutexes.old leaving.now.mutex leaving.now.threads).1 }
+{
+    let woken = mutexes.admit_each(leaving.mutex, &leaving.threads);
+    Effect::wakes(Fate::Returns(0, None), woken)
+}
+
+/// The first who waits for condition `c` comes to its mutex.
+fn signal(conditions: &mut Conditions, mutexes: &mut Mutexes, c: u32) -> Effect
+    requires low { (u : ℕ) → 32 ≤ u → waits condition_queue conditions.old u ≡ 0 }
+    requires once { (u : ℕ) → waits mutex_queue mutexes.old u + waits condition_queue conditions.old u ≤ 1 }
+    ensures { (result, (conditions.new, mutexes.new)) ≡ leave_at signal_leaving conditions.old mutexes.old c }
+{
+    match conditions.signal(c) {
+        None => Effect::answers(EINVAL),
+        Some(leaving) => come_back(mutexes, &leaving),
+    }
+}
+
+/// All who wait for condition `c` come to its mutex.
+fn broadcast(conditions: &mut Conditions, mutexes: &mut Mutexes, c: u32) -> Effect
+    requires low { (u : ℕ) → 32 ≤ u → waits condition_queue conditions.old u ≡ 0 }
+    requires once { (u : ℕ) → waits mutex_queue mutexes.old u + waits condition_queue conditions.old u ≤ 1 }
+    ensures { (result, (conditions.new, mutexes.new)) ≡ leave_at broadcast_leaving conditions.old mutexes.old c }
+{
+    match conditions.broadcast(c) {
+        None => Effect::answers(EINVAL),
+        Some(leaving) => come_back(mutexes, &leaving),
+    }
+}
 
 /// What a call of thread `t` does to the tables.
-fn act_on(threads: &mut Threads, mutexes: &mut Mutexes, t: u8, call: Call) -> Effect
-    requires kept { spec.IsKept (record { threads = threads.old; mutexes = mutexes.old }) }
+fn act_on(
+    threads: &mut Threads,
+    mutexes: &mut Mutexes,
+    semaphores: &mut Semaphores,
+    barriers: &mut Barriers,
+    conditions: &mut Conditions,
+    t: u8,
+    call: Call,
+) -> Effect
+    requires kept { spec.IsKept (objects_of threads.old mutexes.old semaphores.old barriers.old conditions.old) }
     requires exists { t < length threads.old }
-    requires free { spec.waits_at (record { threads = threads.old; mutexes = mutexes.old }) t ≡ 0 }
+    requires free { spec.waits_at (objects_of threads.old mutexes.old semaphores.old barriers.old conditions.old) t ≡ 0 }
     requires no_put { is_put call ≡ false }
     ensures { (readable : ℕ → ℕ → Bool)
-        → (result, record { threads = threads.new; mutexes = mutexes.new })
-        ≡ spec.act readable (record { threads = threads.old; mutexes = mutexes.old }) t call }
+        → (result, objects_of threads.new mutexes.new semaphores.new barriers.new conditions.new)
+        ≡ spec.act readable (objects_of threads.old mutexes.old semaphores.old barriers.old conditions.old) t call }
 {
     match call {
         Call::Exit(code) => Effect::exits(code),
@@ -30,7 +106,17 @@ fn act_on(threads: &mut Threads, mutexes: &mut Mutexes, t: u8, call: Call) -> Ef
         Call::Join(thread) => threads.join(t, thread),
         Call::Yield => Effect::answers(0),
         Call::Lock(mutex) => mutexes.lock(t, mutex),
+        Call::TryLock(mutex) => mutexes.trylock(t, mutex),
         Call::Unlock(mutex) => mutexes.unlock(t, mutex),
+        Call::SemWait(semaphore) => semaphores.wait(t, semaphore),
+        Call::SemTryWait(semaphore) => semaphores.trywait(t, semaphore),
+        Call::SemPost(semaphore) => semaphores.post(t, semaphore),
+        Call::SemInit(semaphore, value) => semaphores.init(t, semaphore, value),
+        Call::BarrierInit(barrier, count) => barriers.init(t, barrier, count),
+        Call::BarrierWait(barrier) => barriers.wait(t, barrier),
+        Call::CondWait(condition, mutex) => cond_wait(conditions, mutexes, t, condition, mutex),
+        Call::Signal(condition) => signal(conditions, mutexes, condition),
+        Call::Broadcast(condition) => broadcast(conditions, mutexes, condition),
     }
 }
 
@@ -40,16 +126,20 @@ fn act_on(threads: &mut Threads, mutexes: &mut Mutexes, t: u8, call: Call) -> Ef
 pub struct Objects {
     threads: Threads,
     mutexes: Mutexes,
+    semaphores: Semaphores,
+    barriers: Barriers,
+    conditions: Conditions,
 }
 
 impl Model for Objects {
     ghost use Rattle.guest_call.specs.Objects as spec;
+    ghost use Rattle.sync_objects.specs.Pairs.{objects_of};
 
     ghost Value = { spec.Objects };
 
-    ghost view = { λ o. record { threads = o.threads; mutexes = o.mutexes } };
+    ghost view = { λ o. objects_of o.threads o.mutexes o.semaphores o.barriers o.conditions };
 
-    ghost invariant = { λ o. spec.IsKept (record { threads = o.threads; mutexes = o.mutexes }) };
+    ghost invariant = { λ o. spec.IsKept (objects_of o.threads o.mutexes o.semaphores o.barriers o.conditions) };
 }
 
 impl Objects {
@@ -61,6 +151,9 @@ impl Objects {
         Objects {
             threads: Threads::new(),
             mutexes: Mutexes::new(),
+            semaphores: Semaphores::new(),
+            barriers: Barriers::new(),
+            conditions: Conditions::new(),
         }
     }
 
@@ -72,7 +165,15 @@ impl Objects {
         requires no_put { is_put call ≡ false }
         ensures { (readable : ℕ → ℕ → Bool) → (result, self.new) ≡ spec.act readable self.old t call }
     {
-        act_on(&mut self.threads, &mut self.mutexes, t, call)
+        act_on(
+            &mut self.threads,
+            &mut self.mutexes,
+            &mut self.semaphores,
+            &mut self.barriers,
+            &mut self.conditions,
+            t,
+            call,
+        )
     }
 
     /// The value with which thread `u` has ended. None exactly where there is no such thread or it has not ended.

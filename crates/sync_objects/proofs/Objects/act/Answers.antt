@@ -2,11 +2,12 @@ use Rattle.std.proofs.Common.{ℕ, ◌<◌, ◌≡◌, Bool, false, length, ap, 
 use Rattle.guest_call.specs.Effect.{Effect}
 use Rattle.guest_call.specs.Objects.{Objects, IsKept, waits_at}
 use Rattle.guest_call.proofs.Kept.{act_kept}
+use Rattle.sync_objects.specs.Pairs.{objects_of}
 use Rattle.sync_objects.proofs.Objects.act.Goals as goal
 
 pub invariant_of-self : goal.invariant_of-self
 invariant_of-self c =
-    let o : Objects = record { threads = c.self.inside.threads; mutexes = c.self.inside.mutexes } in
+    let o : Objects = objects_of c.self.inside.threads c.self.inside.mutexes c.self.inside.semaphores c.self.inside.barriers c.self.inside.conditions in
     let exists : c.args.t < length c.self.inside.threads = subst (λ (x : Objects). c.args.t < length x.threads) (sym c.self.view_is) c.requires.exists in
     let free : waits_at o c.args.t ≡ 0 = subst (λ (x : Objects). waits_at x c.args.t ≡ 0) (sym c.self.view_is) c.requires.free in
     subst IsKept (sym (ap (λ (r : Effect × Objects). r.1) (c.act_on.ensures (λ p n. false))))

@@ -1,0 +1,2 @@
+pub mod ConditionTable
+pub mod Leaving
