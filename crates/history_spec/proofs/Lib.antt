@@ -1,0 +1,4 @@
+pub mod Scratch
+pub mod Laying
+pub mod Truth
+pub mod Numbers

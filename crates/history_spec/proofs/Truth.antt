@@ -1,0 +1,198 @@
+-- The records of a permitted schedule are true, so those of an honest history are; laid where they fit they are the steps.
+use Rattle.std.proofs.Common.{◌≡◌, ℕ, Bool, true, false, cond, ◌&&◌, eqb, List, [], ◌∷◌, Option, Some, None, is_none, is_some, find, refl, ap, sym, ◌∙◌, subst, arith}
+use Rattle.std.proofs.lemmas.Bool.{eq-eqb, eqb-true}
+use Rattle.std.proofs.lemmas.Bool.Decides.{nat_tests}
+use Rattle.std.proofs.lemmas.Slice.Eq.{bytes_eq-Decides}
+use Rattle.std.specs.List.{AllByRecursion}
+use Rattle.std.specs.Str.{bytes_eq}
+use Rattle.isa_spec.specs.Registers.{Registers}
+use Rattle.memory_spec.specs.Pages.{IsMemory}
+use Rattle.thunk_spec.specs.Thunk.{Frame}
+use Rattle.record_spec.specs.Reads.{has}
+use Rattle.record_spec.specs.Record.{Kept, Record, IsTrue, kept_thunk, fits_at, same_registers}
+use Rattle.record_spec.proofs.Truth.{has-kept, IsTrue-kept}
+use Rattle.machine_spec.specs.Machine.{Hart, Machine, hart_of, is_ready}
+use Rattle.machine_spec.specs.Step.{step, lay, fits, can_step}
+use Rattle.machine_spec.specs.Schedule.{scratch_from, is_permitted_from, record_of, records_from}
+use Rattle.machine_spec.specs.Setup.{Setup, first, map_of}
+use Rattle.machine_spec.specs.Whole.{IsWhole}
+use Rattle.machine_spec.proofs.Harts.{ready-below}
+use Rattle.machine_spec.proofs.Beginning.{IsWhole-first}
+use Rattle.machine_spec.proofs.Steps.{hart-at, step-whole, lay-step}
+use Rattle.history_spec.specs.History.{History, IsHonest, IsSameProgram, schedule_of, laid_from, can_lay_from, is_coherent, IsSound, is_of, past_records, found}
+use Rattle.history_spec.proofs.Scratch.{and-left, and-right, step-frame}
+
+-- a record that is true in a frame
+abbrev pub IsTrueIn : Frame → Record → Type 0
+IsTrueIn frame r = IsTrue frame r.start r.kept
+
+view-whole : (m : Machine) (t : ℕ) → IsWhole m → is_ready (hart_of m t).status ≡ true → IsMemory m.frame.map (hart_of m t).view
+view-whole m t whole ready = (hart-at m.frame.map m.steps m.harts t (ready-below m.harts t ready) whole.harts).view
+
+-- the record of a step is true
+pub record-true : (m : Machine) (t : ℕ) → IsWhole m → can_step m t ≡ true → IsTrueIn m.frame (record_of m t)
+record-true m t whole can =
+    IsTrue-kept m.frame (hart_of m t).view (hart_of m t).regs
+    (view-whole m t whole (and-right (is_none m.ending) (is_ready (hart_of m t).status) can))
+
+-- the records of a permitted schedule are true
+pub records-true : (m : Machine) (ts : List ℕ) → IsWhole m → is_permitted_from m ts ≡ true → AllByRecursion (IsTrueIn m.frame) (records_from m ts)
+records-true m [] whole permitted = tt
+records-true m (t ∷ ts) whole permitted =
+    let can : can_step m t ≡ true = and-left (can_step m t) (is_permitted_from (step m t) ts) permitted in (
+      record-true m t whole can,
+      subst (λ (f : Frame). AllByRecursion (IsTrueIn f) (records_from (step m t) ts)) (step-frame m t)
+          (records-true (step m t) ts (step-whole m t whole can) (and-right (can_step m t) (is_permitted_from (step m t) ts) permitted)),
+    )
+
+-- the records of an honest history are true
+pub honest-true : (h : History) → IsHonest h → AllByRecursion (IsTrueIn (first h.setup).frame) h.records
+honest-true h honest =
+    subst (λ (rs : List Record). AllByRecursion (IsTrueIn (first h.setup).frame) rs) (sym honest.recorded)
+    (records-true (first h.setup) (schedule_of h) (IsWhole-first h.setup honest.valid) honest.permitted)
+
+-- what is found among true records is true
+pub found-true :
+    (f : Frame) (t number : ℕ) (rs : List Record) (r : Record)
+    → AllByRecursion (IsTrueIn f) rs → find (is_of t number) rs ≡ Some r → IsTrueIn f r
+found-true f t number [] r all there = cc
+found-true f t number (x ∷ rs) r all there = here (is_of t number x) (found-true f t number rs r all.1) there
+  where
+    here : (b : Bool) → (find (is_of t number) rs ≡ Some r → IsTrueIn f r) → cond b (Some x) (find (is_of t number) rs) ≡ Some r → IsTrueIn f r
+    here true later h = let same : x ≡ r = cc in subst (IsTrueIn f) same all.0
+    here false later h = later h
+
+-- what is found is of the thread, at the number
+pub found-of : (t number : ℕ) (rs : List Record) (r : Record) → find (is_of t number) rs ≡ Some r → (r.thread ≡ t) × (r.number ≡ number)
+found-of t number [] r there = cc
+found-of t number (x ∷ rs) r there = here (is_of t number x) refl (found-of t number rs r) there
+  where
+    here :
+        (b : Bool) → is_of t number x ≡ b
+        → (find (is_of t number) rs ≡ Some r → (r.thread ≡ t) × (r.number ≡ number))
+        → cond b (Some x) (find (is_of t number) rs) ≡ Some r → (r.thread ≡ t) × (r.number ≡ number)
+    here true is later h =
+        let same : x ≡ r = cc in
+        subst (λ (y : Record). (y.thread ≡ t) × (y.number ≡ number)) same
+        (eqb-true x.thread t (and-left (eqb x.thread t) (eqb x.number number) is), eqb-true x.number number (and-right (eqb x.thread t) (eqb x.number number) is))
+    here false is later h = later h
+
+-- setups of the same program have the same frame
+pub same-frame : (a b : Setup) → IsSameProgram a b → (first a).frame ≡ (first b).frame
+unfolding first map_of
+same-frame a b same = rw (same.elf, same.fuel) refl
+
+same_registers-true : (a b : Registers) → same_registers a b ≡ true → a ≡ b
+same_registers-true a b same =
+    let pc : a.pc ≡ b.pc = eqb-true a.pc b.pc (and-left (eqb a.pc b.pc) (bytes_eq a.x b.x) same) in
+    let x : a.x ≡ b.x = (bytes_eq-Decides a.x b.x).0 (and-right (eqb a.pc b.pc) (bytes_eq a.x b.x) same) in
+    ap (λ (n : ℕ). record { pc = n; x = a.x }) pc ∙ ap (λ (xs : List ℕ). record { pc = b.pc; x = xs }) x
+
+same-record : (r : Record) (n : ℕ) (x : Registers) (k : Kept) → r.number ≡ n → r.start ≡ x → r.kept ≡ k → r ≡ record { thread = r.thread; number = n; start = x; kept = k }
+same-record r n x k number start kept = rw (← number, ← start, ← kept) refl
+
+-- a true record that fits is the record of its thread's next step
+pub fits-record : (m : Machine) (r : Record) → IsWhole m → IsTrueIn m.frame r → fits m r ≡ true → r ≡ record_of m r.thread
+unfolding fits fits_at
+fits-record m r whole honest fit =
+    let ready : is_ready (hart_of m r.thread).status ≡ true = grind (arith, nat_tests) in
+    let number : r.number ≡ (hart_of m r.thread).number = grind (arith, nat_tests) in
+    let regs : r.start ≡ (hart_of m r.thread).regs = same_registers-true r.start (hart_of m r.thread).regs (grind (arith, nat_tests)) in
+    let reads : has (hart_of m r.thread).view r.kept.reads ≡ true = grind (arith, nat_tests) in
+    same-record r (hart_of m r.thread).number (hart_of m r.thread).regs (kept_thunk m.frame (hart_of m r.thread).view (hart_of m r.thread).regs) number regs
+    (rw (← regs) (sym (honest.same (hart_of m r.thread).view (view-whole m r.thread whole ready) reads)))
+
+own-registers : (r : Registers) → same_registers r r ≡ true
+own-registers r =
+    let pc : eqb r.pc r.pc ≡ true = eq-eqb r.pc r.pc refl in
+    let x : bytes_eq r.x r.x ≡ true = (bytes_eq-Decides r.x r.x).1 refl in
+    rw (pc, x) refl
+
+-- the record of a ready thread's next step fits
+pub record-fits : (m : Machine) (t : ℕ) → is_ready (hart_of m t).status ≡ true → fits m (record_of m t) ≡ true
+unfolding fits fits_at
+record-fits m t ready =
+    let number : eqb (hart_of m t).number (hart_of m t).number ≡ true = eq-eqb (hart_of m t).number (hart_of m t).number refl in
+    let regs : same_registers (hart_of m t).regs (hart_of m t).regs ≡ true = own-registers (hart_of m t).regs in
+    let reads : has (hart_of m t).view (kept_thunk m.frame (hart_of m t).view (hart_of m t).regs).reads ≡ true =
+    has-kept m.frame (hart_of m t).view (hart_of m t).regs in
+    rw (ready, number, regs, reads) refl
+
+-- laid, it is the step
+pub record-lay : (m : Machine) (t : ℕ) → IsWhole m → can_step m t ≡ true → lay m (record_of m t) ≡ step m t
+record-lay m t whole can =
+    lay-step m (record_of m t) whole (record-true m t whole can)
+    (record-fits m t (and-right (is_none m.ending) (is_ready (hart_of m t).status) can))
+
+-- laying the records of a permitted schedule is making its steps
+pub records-laid : (m : Machine) (ts : List ℕ) → IsWhole m → is_permitted_from m ts ≡ true → laid_from m (records_from m ts) ≡ scratch_from m ts
+records-laid m [] whole permitted = refl
+records-laid m (t ∷ ts) whole permitted =
+    let can : can_step m t ≡ true = and-left (can_step m t) (is_permitted_from (step m t) ts) permitted in
+    ap (λ (x : Machine). laid_from x (records_from (step m t) ts)) (record-lay m t whole can)
+    ∙ (records-laid (step m t) ts (step-whole m t whole can) (and-right (can_step m t) (is_permitted_from (step m t) ts) permitted))
+
+pub records-can_lay : (m : Machine) (ts : List ℕ) → IsWhole m → is_permitted_from m ts ≡ true → can_lay_from m (records_from m ts) ≡ true
+records-can_lay m [] whole permitted = refl
+records-can_lay m (t ∷ ts) whole permitted =
+    let can : can_step m t ≡ true = and-left (can_step m t) (is_permitted_from (step m t) ts) permitted in
+    let none : is_none m.ending ≡ true = and-left (is_none m.ending) (is_ready (hart_of m t).status) can in
+    let fit : fits m (record_of m t) ≡ true = record-fits m t (and-right (is_none m.ending) (is_ready (hart_of m t).status) can) in
+    rw (none, fit, record-lay m t whole can)
+    (records-can_lay (step m t) ts (step-whole m t whole can) (and-right (can_step m t) (is_permitted_from (step m t) ts) permitted))
+
+-- an honest history is coherent
+pub honest-coherent : (h : History) → IsHonest h → is_coherent h ≡ true
+honest-coherent h honest =
+    let whole : IsWhole (first h.setup) = IsWhole-first h.setup honest.valid in
+    let can : can_lay_from (first h.setup) h.records ≡ true =
+    ap (λ (rs : List Record). can_lay_from (first h.setup) rs) honest.recorded ∙ records-can_lay (first h.setup) (schedule_of h) whole honest.permitted in
+    let laid : laid_from (first h.setup) h.records ≡ scratch_from (first h.setup) (schedule_of h) =
+    ap (λ (rs : List Record). laid_from (first h.setup) rs) honest.recorded ∙ records-laid (first h.setup) (schedule_of h) whole honest.permitted in
+    let ended : is_some (laid_from (first h.setup) h.records).ending ≡ true =
+    ap (λ (m : Machine). is_some m.ending) laid ∙ honest.complete in
+    rw (can, ended) refl
+
+-- what a run may go by has true records
+pub sound-true :
+    (past : Option History) (setup : Setup) (t number : ℕ) (r : Record)
+    → IsSound past setup → found past t number ≡ Some r → IsTrueIn (first setup).frame r
+sound-true None setup t number r sound there = cc
+sound-true (Some h) setup t number r sound there =
+    subst (λ (f : Frame). IsTrueIn f r) (same-frame h.setup setup sound.1)
+    (found-true (first h.setup).frame t number h.records r (honest-true h sound.0) there)
+
+-- what is found is of the thread, at the number
+pub past-of :
+    (past : Option History) (t number : ℕ) (r : Record)
+    → found past t number ≡ Some r → (r.thread ≡ t) × (r.number ≡ number)
+past-of past t number r there = found-of t number (past_records past) r there
+
+-- a record that is found, and fits a machine of a run, is that of the thread's next step
+pub reuse-record :
+    (setup : Setup) (past : Option History) (m : Machine) (t number : ℕ) (r : Record)
+    → IsSound past setup → IsWhole m → m.frame ≡ (first setup).frame
+    → found past t number ≡ Some r → fits m r ≡ true
+    → r ≡ record_of m t
+reuse-record setup past m t number r sound whole frame there fit =
+    let honest : IsTrueIn m.frame r = subst (λ (f : Frame). IsTrueIn f r) (sym frame) (sound-true past setup t number r sound there) in
+    fits-record m r whole honest fit ∙ ap (record_of m) (past-of past t number r there).0
+
+-- and laid it is the step
+pub reuse-lay :
+    (setup : Setup) (past : Option History) (m : Machine) (t number : ℕ) (r : Record)
+    → IsSound past setup → IsWhole m → m.frame ≡ (first setup).frame
+    → found past t number ≡ Some r → fits m r ≡ true
+    → lay m r ≡ step m t
+reuse-lay setup past m t number r sound whole frame there fit =
+    let honest : IsTrueIn m.frame r = subst (λ (f : Frame). IsTrueIn f r) (sym frame) (sound-true past setup t number r sound there) in
+    lay-step m r whole honest fit ∙ ap (step m) (past-of past t number r there).0
+
+-- a record fits by its thread's hart alone
+pub fits-hart : (m n : Machine) (r : Record) → hart_of n r.thread ≡ hart_of m r.thread → fits n r ≡ fits m r
+unfolding fits
+fits-hart m n r same = ap (λ (h : Hart). is_ready h.status && fits_at r h.number h.regs h.view) same
+
+-- setups of the same program with the same input
+pub same-setup : (a b : Setup) → IsSameProgram a b → a.input ≡ b.input → a ≡ b
+same-setup a b same input = rw (← same.elf, ← same.fuel, ← same.limit, ← input) refl

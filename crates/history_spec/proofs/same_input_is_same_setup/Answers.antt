@@ -1,0 +1,5 @@
+use Rattle.history_spec.proofs.Truth.{same-setup}
+use Rattle.history_spec.proofs.same_input_is_same_setup.Goals as goal
+
+pub returns : goal.returns
+returns c = same-setup

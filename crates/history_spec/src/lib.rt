@@ -1,0 +1,83 @@
+//! Histories of finished runs, as definitions: when a history is honest, when it is coherent, when a
+//! new run may go by it, and which of its records stands for a step; with the laws that each record
+//! of an honest history is true, that to lay one that fits is the step of its thread, that an honest
+//! history is coherent, and that a ready thread's view is fixed until it makes its step. No code.
+#![tactic(auto)]
+
+ghost use Rattle.std.specs.Prelude.{◌≡◌, ℕ, List, All, Option, count_by, Some, true, false, ◌==◌};
+ghost use Rattle.std.specs.List.{list_any};
+ghost use Rattle.record_spec.specs.Record.{Record, IsTrue};
+ghost use Rattle.machine_spec.specs.Machine.{Machine, hart_of, is_ready};
+ghost use Rattle.machine_spec.specs.Step.{step, lay, fits};
+ghost use Rattle.machine_spec.specs.Schedule.{scratch_from, is_permitted_from, record_of};
+ghost use Rattle.machine_spec.specs.Setup.{Setup, IsSetup, first, is_permitted, records, scratch};
+ghost use Rattle.machine_spec.specs.Whole.{IsWhole};
+ghost use Rattle.history_spec.specs.History.{History, IsHonest, IsSameProgram, IsSound, is_coherent, found, is_numbered};
+
+/// The record of each step of a permitted schedule is true.
+pub fn records_are_true()
+    ensures { (setup : Setup) (schedule : List ℕ)
+        → IsSetup setup
+        → is_permitted setup schedule ≡ true
+        → All (λ (r : Record). IsTrue (first setup).frame r.start r.kept) (records setup schedule) }
+{}
+
+/// Each record of an honest history is true.
+pub fn honest_records_are_true()
+    ensures { (h : History) → IsHonest h → All (λ (r : Record). IsTrue (first h.setup).frame r.start r.kept) h.records }
+{}
+
+/// An honest history is coherent.
+pub fn honest_is_coherent()
+    ensures { (h : History) → IsHonest h → is_coherent h ≡ true }
+{}
+
+/// Where a record that is found fits the machine from scratch, it is the record of the step that its
+/// thread would make there, and to lay it is that step.
+pub fn reuse_is_step()
+    ensures record { (setup : Setup) (past : Option History) (schedule : List ℕ) (t number : ℕ) (r : Record)
+        → IsSetup setup
+        → IsSound past setup
+        → is_permitted setup schedule ≡ true
+        → found past t number ≡ Some r
+        → fits (scratch setup schedule) r ≡ true
+        → r ≡ record_of (scratch setup schedule) t }
+    ensures lay { (setup : Setup) (past : Option History) (schedule : List ℕ) (t number : ℕ) (r : Record)
+        → IsSetup setup
+        → IsSound past setup
+        → is_permitted setup schedule ≡ true
+        → found past t number ≡ Some r
+        → fits (scratch setup schedule) r ≡ true
+        → lay (scratch setup schedule) r ≡ step (scratch setup schedule) t }
+{}
+
+/// A thread that is ready, and makes none of the steps of a schedule, keeps its registers, its number
+/// of steps, its status and its view. So a record of it fits after them where it fitted before.
+pub fn view_is_fixed()
+    ensures hart { (m : Machine) (schedule : List ℕ) (t : ℕ)
+        → IsWhole m
+        → is_permitted_from m schedule ≡ true
+        → list_any (λ u. u == t) schedule ≡ false
+        → is_ready (hart_of m t).status ≡ true
+        → hart_of (scratch_from m schedule) t ≡ hart_of m t }
+    ensures fit { (m : Machine) (schedule : List ℕ) (r : Record)
+        → IsWhole m
+        → is_permitted_from m schedule ≡ true
+        → list_any (λ u. u == r.thread) schedule ≡ false
+        → is_ready (hart_of m r.thread).status ≡ true
+        → fits (scratch_from m schedule) r ≡ fits m r }
+{}
+
+/// A thread has made as many steps as the schedule has entries of it; and so each record of an honest
+/// history has as its number how many records of its thread come before it.
+pub fn numbers_count_steps()
+    ensures harts { (setup : Setup) (schedule : List ℕ) (t : ℕ)
+        → is_permitted setup schedule ≡ true
+        → (hart_of (scratch setup schedule) t).number ≡ count_by (λ u. u == t) schedule }
+    ensures records { (h : History) → IsHonest h → is_numbered h.records ≡ true }
+{}
+
+/// Two setups of the same program and with the same input are the same.
+pub fn same_input_is_same_setup()
+    ensures { (a b : Setup) → IsSameProgram a b → a.input ≡ b.input → a ≡ b }
+{}

@@ -1,0 +1,104 @@
+//! Rounds, as definitions: what happens to a round at each event, which steps are reused, which thread
+//! is due, which is chosen, and the schedule of one worker; with the laws that whatever happens, the
+//! round is at the machine from scratch, its records are those of the steps, its marks are exact, and
+//! what it leaves is an honest history; and that with no history one worker does as in a run with no
+//! earlier run. No code but two plain types.
+#![tactic(auto)]
+
+ghost use Rattle.std.specs.Prelude.{◌≡◌, ℕ, List, Option, Some, None, true, is_some};
+ghost use Rattle.machine_spec.specs.Machine.{Machine};
+ghost use Rattle.machine_spec.specs.Choice.{choice, alone};
+ghost use Rattle.machine_spec.specs.Setup.{Setup, IsSetup, scratch, is_permitted, records};
+ghost use Rattle.history_spec.specs.History.{History, IsHonest, IsSameProgram, IsSound};
+ghost use Rattle.report_spec.specs.Report.{threads_of};
+ghost use Rattle.round_spec.specs.declared.events.Event.{Event};
+ghost use Rattle.round_spec.specs.Marks.{marked, sourced};
+ghost use Rattle.round_spec.specs.Rounds.{RoundState, nobody_out, happens, is_out, round_after, history_of};
+ghost use Rattle.round_spec.specs.Choice.{choice_by};
+ghost use Rattle.round_spec.specs.Alone.{one_worker};
+ghost use Rattle.round_spec.specs.Keeping.{IsCounted, IsHeld, IsInOrder};
+
+mod events;
+
+pub use events::{Event, Pick};
+
+/// What holds of every round holds at its start, and after each event: in particular, who is out is
+/// ready still, and no record of its next step fits. By which history the round goes doesn't matter.
+pub fn rounds_stay_in_order()
+    ensures event { (w : RoundState) (e : Event) → IsInOrder w → IsInOrder (happens w e) }
+    ensures events { (setup : Setup) (past : Option History) (events : List Event)
+        → IsSetup setup
+        → IsInOrder (round_after setup past events) }
+    ensures held { (setup : Setup) (past : Option History) (events : List Event) (t : ℕ)
+        → IsSetup setup
+        → is_out (round_after setup past events) t ≡ true
+        → IsHeld (round_after setup past events) t }
+{}
+
+/// Whatever happens, a round counts right: its machine has made as many steps as the schedule has
+/// entries, and each thread as many as there are of it; its records are of the entries' threads, numbered
+/// so; and the record of a reused entry is the history's own. By which history it goes doesn't matter.
+pub fn rounds_count_right()
+    ensures event { (w : RoundState) (e : Event) → IsInOrder w → IsCounted w → IsCounted (happens w e) }
+    ensures events { (setup : Setup) (past : Option History) (events : List Event)
+        → IsSetup setup
+        → IsCounted (round_after setup past events) }
+{}
+
+/// Whatever happens, a round is of the setup that it was opened with, and goes by the same history.
+pub fn rounds_stay_of_their_setup()
+    ensures setup { (setup : Setup) (past : Option History) (events : List Event)
+        → (round_after setup past events).setup ≡ setup }
+    ensures past { (setup : Setup) (past : Option History) (events : List Event)
+        → (round_after setup past events).past ≡ past }
+{}
+
+/// Whatever happens to a round that goes by a sound history: its schedule is permitted, and its machine
+/// is the one from scratch under it; its records are those of the steps, where that of a reused entry is
+/// the history's own; and exactly the steps whose record fitted are marked as reused.
+pub fn rounds_are_from_scratch()
+    ensures permitted { (setup : Setup) (past : Option History) (events : List Event)
+        → IsSetup setup
+        → IsSound past setup
+        → is_permitted setup (threads_of (round_after setup past events).schedule) ≡ true }
+    ensures machine { (setup : Setup) (past : Option History) (events : List Event)
+        → IsSetup setup
+        → IsSound past setup
+        → (round_after setup past events).machine ≡ scratch setup (threads_of (round_after setup past events).schedule) }
+    ensures records { (setup : Setup) (past : Option History) (events : List Event)
+        → IsSetup setup
+        → IsSound past setup
+        → (round_after setup past events).records ≡ records setup (threads_of (round_after setup past events).schedule) }
+    ensures sources { (setup : Setup) (past : Option History) (events : List Event)
+        → IsSetup setup
+        → IsSound past setup
+        → (round_after setup past events).records ≡ sourced past setup (round_after setup past events).schedule }
+    ensures marks { (setup : Setup) (past : Option History) (events : List Event)
+        → IsSetup setup
+        → IsSound past setup
+        → (round_after setup past events).schedule
+        ≡ marked past setup (threads_of (round_after setup past events).schedule) }
+{}
+
+/// What a round leaves that goes by a sound history and has an end is an honest history, and so a sound
+/// one for the next round of the same program.
+pub fn rounds_leave_honest_histories()
+    ensures honest { (setup : Setup) (past : Option History) (events : List Event)
+        → IsSetup setup
+        → IsSound past setup
+        → is_some (round_after setup past events).machine.ending ≡ true
+        → IsHonest (history_of (round_after setup past events)) }
+    ensures sound { (setup edited : Setup) (past : Option History) (events : List Event)
+        → IsSetup setup
+        → IsSound past setup
+        → is_some (round_after setup past events).machine.ending ≡ true
+        → IsSameProgram setup edited
+        → IsSound (Some (history_of (round_after setup past events))) edited }
+{}
+
+/// With no history to go by, the choice is that of a run with no earlier run, and so is the schedule of
+/// one worker.
+pub fn no_history_changes_nothing()
+    ensures choice { (m : Machine) → choice_by None m nobody_out ≡ choice m }
+    ensures schedule { (setup : Setup) → one_worker setup None ≡ alone setup }
+{}
