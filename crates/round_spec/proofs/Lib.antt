@@ -6,3 +6,6 @@ pub mod Happening
 pub mod Leaving
 pub mod Agreeing
 pub mod Counting
+pub mod Conditions
+pub mod PickingExamples
+pub mod Executed

@@ -6,3 +6,4 @@ pub mod Alone
 pub mod Picking
 pub mod Unedited
 pub mod Keeping
+pub mod Instructions

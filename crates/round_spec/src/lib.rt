@@ -5,17 +5,23 @@
 //! earlier run. No code but two plain types.
 #![tactic(auto)]
 
-ghost use Rattle.std.specs.Prelude.{◌≡◌, ℕ, List, Option, Some, None, true, is_some};
+ghost use Rattle.std.specs.Prelude.{◌≡◌, ℕ, List, [], ◌∷◌, ◌++◌, slice_set, Option, Some, None, true, false, is_some};
+ghost use Rattle.record_spec.specs.Record.{Record, IsTrue};
+ghost use Rattle.machine_spec.specs.Step.{lay, fits};
+ghost use Rattle.machine_spec.specs.Whole.{IsWhole};
+ghost use Rattle.report_spec.specs.declared.Entry.{Entry};
+ghost use Rattle.round_spec.specs.declared.events.Event.TheVariants.{Commit};
 ghost use Rattle.machine_spec.specs.Machine.{Machine};
 ghost use Rattle.machine_spec.specs.Choice.{choice, alone};
-ghost use Rattle.machine_spec.specs.Setup.{Setup, IsSetup, scratch, is_permitted, records};
+ghost use Rattle.machine_spec.specs.Setup.{Setup, IsSetup, first, scratch, is_permitted, records};
 ghost use Rattle.history_spec.specs.History.{History, IsHonest, IsSameProgram, IsSound};
-ghost use Rattle.report_spec.specs.Report.{threads_of};
+ghost use Rattle.report_spec.specs.Report.{threads_of, instructions_from};
 ghost use Rattle.round_spec.specs.declared.events.Event.{Event};
 ghost use Rattle.round_spec.specs.Marks.{marked, sourced};
-ghost use Rattle.round_spec.specs.Rounds.{RoundState, nobody_out, happens, is_out, round_after, history_of};
+ghost use Rattle.round_spec.specs.Rounds.{RoundState, nobody_out, happens, is_out, is_over, round_after, history_of};
 ghost use Rattle.round_spec.specs.Choice.{choice_by};
 ghost use Rattle.round_spec.specs.Alone.{one_worker};
+ghost use Rattle.round_spec.specs.Instructions.{executed_instructions};
 ghost use Rattle.round_spec.specs.Keeping.{IsCounted, IsHeld, IsInOrder};
 
 mod events;
@@ -33,6 +39,24 @@ pub fn rounds_stay_in_order()
         → IsSetup setup
         → is_out (round_after setup past events) t ≡ true
         → IsHeld (round_after setup past events) t }
+{}
+
+/// To commit the step of a thread that is out, in a round that isn't over, is to lay a true record of it
+/// that fits.
+pub fn commit_lays_its_record()
+    ensures { (w : RoundState) (r : Record)
+        → IsWhole w.machine
+        → IsTrue w.machine.frame r.start r.kept
+        → is_out w r.thread ≡ true
+        → is_over w ≡ false
+        → fits w.machine r ≡ true
+        → happens w (Commit r.thread)
+        ≡ record w {
+          machine = lay w.machine r;
+          schedule = w.schedule ++ record { thread = r.thread; reused = false } ∷ [];
+          records = w.records ++ r ∷ [];
+          out = slice_set w.out r.thread false;
+        } }
 {}
 
 /// Whatever happens, a round counts right: its machine has made as many steps as the schedule has
@@ -94,6 +118,16 @@ pub fn rounds_leave_honest_histories()
         → is_some (round_after setup past events).machine.ending ≡ true
         → IsSameProgram setup edited
         → IsSound (Some (history_of (round_after setup past events))) edited }
+{}
+
+/// The counts of the records of executed entries add up to the number of instructions that the report of
+/// a round tells, where the round goes by a sound history.
+pub fn rounds_count_instructions()
+    ensures { (setup : Setup) (past : Option History) (events : List Event)
+        → IsSetup setup
+        → IsSound past setup
+        → executed_instructions (round_after setup past events).schedule (round_after setup past events).records
+        ≡ instructions_from (first setup) (round_after setup past events).schedule }
 {}
 
 /// With no history to go by, the choice is that of a run with no earlier run, and so is the schedule of

@@ -1,0 +1,79 @@
+-- An event where its condition holds, and where it doesn't; and that to commit is to lay a true record that fits.
+use Rattle.std.proofs.Common.{◌≡◌, ℕ, true, false, cond, [], ◌∷◌, ◌++◌, set, Some, refl, ap, sym, ◌∙◌}
+use Rattle.record_spec.specs.Record.{Record, IsTrue}
+use Rattle.machine_spec.specs.Machine.{Machine}
+use Rattle.machine_spec.specs.Step.{step, lay, fits}
+use Rattle.machine_spec.specs.Schedule.{record_of}
+use Rattle.machine_spec.specs.Whole.{IsWhole}
+use Rattle.machine_spec.proofs.Steps.{lay-step}
+use Rattle.history_spec.proofs.Truth.{fits-record}
+use Rattle.round_spec.specs.declared.events.Event.TheVariants.{Take, Reuse, Commit, GiveBack, Stop}
+use Rattle.round_spec.specs.Marks.{record_for}
+use Rattle.round_spec.specs.Rounds.{RoundState, is_over, is_out, can_take, can_reuse, taken, reused_by, committed, given_back, with_stop, happens}
+
+pub happens-take : (w : RoundState) (t : ℕ) → can_take w t ≡ true → happens w (Take t) ≡ taken w t
+unfolding happens
+happens-take w t is = ap (λ b. cond b (taken w t) w) is
+
+pub happens-take_not : (w : RoundState) (t : ℕ) → can_take w t ≡ false → happens w (Take t) ≡ w
+unfolding happens
+happens-take_not w t is = ap (λ b. cond b (taken w t) w) is
+
+pub happens-reuse : (w : RoundState) (t : ℕ) (r : Record) → can_reuse w t ≡ true → record_for w.past w.machine t ≡ Some r → happens w (Reuse t) ≡ reused_by w t (Some r)
+unfolding happens
+happens-reuse w t r is there =
+    ap (λ b. cond b (reused_by w t (record_for w.past w.machine t)) w) is ∙ ap (reused_by w t) there
+
+pub happens-reuse_not : (w : RoundState) (t : ℕ) → can_reuse w t ≡ false → happens w (Reuse t) ≡ w
+unfolding happens
+happens-reuse_not w t is = ap (λ b. cond b (reused_by w t (record_for w.past w.machine t)) w) is
+
+pub happens-commit : (w : RoundState) (t : ℕ) → is_out w t ≡ true → is_over w ≡ false → happens w (Commit t) ≡ committed w t
+unfolding happens
+happens-commit w t out over =
+    ap (λ b. cond b (cond (is_over w) (given_back w t) (committed w t)) w) out ∙ ap (λ b. cond b (given_back w t) (committed w t)) over
+
+pub happens-commit_over : (w : RoundState) (t : ℕ) → is_out w t ≡ true → is_over w ≡ true → happens w (Commit t) ≡ given_back w t
+unfolding happens
+happens-commit_over w t out over =
+    ap (λ b. cond b (cond (is_over w) (given_back w t) (committed w t)) w) out ∙ ap (λ b. cond b (given_back w t) (committed w t)) over
+
+pub happens-commit_not : (w : RoundState) (t : ℕ) → is_out w t ≡ false → happens w (Commit t) ≡ w
+unfolding happens
+happens-commit_not w t out = ap (λ b. cond b (cond (is_over w) (given_back w t) (committed w t)) w) out
+
+pub happens-give_back : (w : RoundState) (t : ℕ) → is_out w t ≡ true → happens w (GiveBack t) ≡ given_back w t
+unfolding happens
+happens-give_back w t out = ap (λ b. cond b (given_back w t) w) out
+
+pub happens-give_back_not : (w : RoundState) (t : ℕ) → is_out w t ≡ false → happens w (GiveBack t) ≡ w
+unfolding happens
+happens-give_back_not w t out = ap (λ b. cond b (given_back w t) w) out
+
+pub happens-stop : (w : RoundState) → happens w Stop ≡ with_stop w
+unfolding happens
+happens-stop w = refl
+
+same-commit :
+    (w : RoundState) (t : ℕ) (m n : Machine) (r s : Record)
+    → m ≡ n → r ≡ s
+    → record w { machine = m; schedule = w.schedule ++ record { thread = t; reused = false } ∷ []; records = w.records ++ r ∷ []; out = set w.out t false }
+    ≡ record w { machine = n; schedule = w.schedule ++ record { thread = t; reused = false } ∷ []; records = w.records ++ s ∷ []; out = set w.out t false }
+same-commit w t m n r s machine is = rw (machine, is) refl
+
+-- to commit is to lay a true record that fits
+pub commit-lays :
+    (w : RoundState) (r : Record)
+    → IsWhole w.machine → IsTrue w.machine.frame r.start r.kept
+    → is_out w r.thread ≡ true → is_over w ≡ false → fits w.machine r ≡ true
+    → happens w (Commit r.thread)
+    ≡ record w {
+      machine = lay w.machine r;
+      schedule = w.schedule ++ record { thread = r.thread; reused = false } ∷ [];
+      records = w.records ++ r ∷ [];
+      out = set w.out r.thread false;
+    }
+commit-lays w r whole honest out over fit =
+    happens-commit w r.thread out over
+    ∙ same-commit w r.thread (step w.machine r.thread) (lay w.machine r) (record_of w.machine r.thread) r
+    (sym (lay-step w.machine r whole honest fit)) (sym (fits-record w.machine r whole honest fit))

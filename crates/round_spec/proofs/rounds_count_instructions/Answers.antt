@@ -1,0 +1,5 @@
+use Rattle.round_spec.proofs.Executed.{round-executed}
+use Rattle.round_spec.proofs.rounds_count_instructions.Goals as goal
+
+pub returns : goal.returns
+returns c = round-executed

@@ -1,0 +1,11 @@
+-- How many instructions a round has executed, by what it keeps.
+use Rattle.std.specs.Prelude.{ℕ, ◌+◌, if◌then◌else◌, List, [], ◌∷◌}
+use Rattle.record_spec.specs.Record.{Record}
+use Rattle.report_spec.specs.declared.Entry.{Entry}
+
+-- The sum of the counts of the records of executed entries. (this project's own)
+abbrev pub executed_instructions : List Entry → List Record → ℕ
+executed_instructions [] records = 0
+executed_instructions (e ∷ schedule) [] = 0
+executed_instructions (e ∷ schedule) (r ∷ records) =
+    (if e.reused then 0 else r.kept.count) + executed_instructions schedule records
