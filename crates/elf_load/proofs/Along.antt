@@ -1,13 +1,13 @@
 -- What a loop along the program headers gathers of their segments.
-use Rattle.std.proofs.Common.{◌≡◌, ℕ, ◌+◌, max, Bool, true, false, cond, ◌&&◌, ◌||◌, List, [], ◌∷◌, ◌++◌, map, filter, fold, bit_or, length, refl, ap, ◌∙◌, zero-add, add-zero, append-nil, length-append}
+use Rattle.std.proofs.Common.{◌≡◌, ℕ, ◌+◌, max, Bool, true, false, cond, ◌&&◌, ◌||◌, List, [], ◌∷◌, ◌++◌, map, filter, fold, length, refl, ap, ◌∙◌, zero-add, add-zero, append-nil, length-append}
 use Rattle.std.specs.List.{range_with_len, list_any}
 use Rattle.std.proofs.lemmas.List.FromFn.{filter_of_map_range_with_len_more}
 use Rattle.std.proofs.lemmas.List.Folds.{list_any-append}
 use Rattle.std.proofs.lemmas.List.{map-append}
 use Rattle.std.proofs.lemmas.List.Elements.{filter-append}
 use Rattle.std.proofs.lemmas.List.Sums.{fold-append}
-use Rattle.elf_spec.specs.Header.{ProgramHeader, program_header, is_segment}
-use Rattle.elf_spec.specs.Segments.{touches, last_page, highest_page, segment_permission, page_permission}
+use Rattle.elf_spec.specs.Header.{program_header, is_segment}
+use Rattle.elf_spec.specs.Segments.{touches, last_page, highest_page}
 use Rattle.elf_load.specs.Header.{segments_below}
 use Rattle.elf_load.proofs.Searches.{range_split}
 
@@ -35,19 +35,6 @@ highest_more bytes i =
     elim (is_segment header) as (λ b. highest_page (before ++ cond b (header ∷ []) []) ≡ cond b (max (highest_page before) (last_page header)) (highest_page before)) [
       | true ↦ ap (fold max 0) (map-append last_page before (header ∷ [])) ∙ fold-append max 0 (map last_page before) (last_page header ∷ [])
       | false ↦ ap highest_page (append-nil before)
-    ]
-
-pub rights_more : (number : ℕ) (bytes : List ℕ) (i : ℕ) → page_permission (segments_below bytes (i + 1)) number ≡ cond (is_segment (program_header bytes i) && touches number (program_header bytes i)) (bit_or (page_permission (segments_below bytes i) number) (segment_permission (program_header bytes i))) (page_permission (segments_below bytes i) number)
-rights_more number bytes i =
-    let header = program_header bytes i in
-    let before = segments_below bytes i in
-    let gather : List ProgramHeader → ℕ = λ list. page_permission list number in
-    let apart : (list : List ProgramHeader) → gather (before ++ list) ≡ fold bit_or (gather before) (map segment_permission (filter (touches number) list)) = λ list.
-    ap (λ kept. fold bit_or 0 (map segment_permission kept)) (filter-append (touches number) before list) ∙ ap (fold bit_or 0) (map-append segment_permission (filter (touches number) before) (filter (touches number) list)) ∙ fold-append bit_or 0 (map segment_permission (filter (touches number) before)) (map segment_permission (filter (touches number) list)) in
-    ap gather (segments_more bytes i) ∙ apart _ ∙
-    elim (is_segment header) as (λ b. fold bit_or (gather before) (map segment_permission (filter (touches number) (cond b (header ∷ []) []))) ≡ cond (b && touches number header) (bit_or (gather before) (segment_permission header)) (gather before)) [
-      | true ↦ elim (touches number header) as (λ t. fold bit_or (gather before) (map segment_permission (cond t (header ∷ []) [])) ≡ cond t (bit_or (gather before) (segment_permission header)) (gather before)) [ true ↦ refl | false ↦ refl ]
-      | false ↦ refl
     ]
 
 -- how many numbers of a range pass a test, with one number more

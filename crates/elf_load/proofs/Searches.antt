@@ -1,5 +1,5 @@
 -- A search along the numbers from one on, as a loop makes it.
-use Rattle.std.proofs.Common.{◌≡◌, ℕ, zero, suc, ◌+◌, ◌-◌, ◌<◌, Bool, true, false, cond, List, [], ◌∷◌, ◌++◌, map, find, flat_map, Option, Some, None, option_map, refl, ap, sym, ◌∙◌, arith, subst, add-zero, append-nil}
+use Rattle.std.proofs.Common.{◌≡◌, ℕ, zero, suc, ◌+◌, ◌-◌, ◌<◌, Bool, true, false, cond, List, [], ◌∷◌, ◌++◌, map, find, filter, flat_map, Option, Some, None, option_map, refl, ap, sym, ◌∙◌, arith, subst, add-zero, append-nil}
 use Rattle.std.specs.List.{range_with_len}
 use Rattle.std.proofs.lemmas.List.Concat.{flat_map-append}
 
@@ -76,3 +76,23 @@ rows_here test row i total found below none here =
     let split = ap (λ n. flat_map row (range_with_len 0 n)) size ∙ ap (flat_map row) (range_split 0 i (suc (total - suc i))) ∙ flat_map-append row (range_with_len 0 i) (range_with_len (0 + i) (suc (total - suc i))) in
     let first : find test (row (0 + i)) ≡ Some found = ap (λ n. find test (row n)) (sym at) ∙ here in
     ap (find test) split ∙ find_behind test (flat_map row (range_with_len 0 i)) _ none ∙ find_before test (row (0 + i)) _ found first
+
+-- one that isn't kept isn't found
+not_found : {X : Type 0} (t : Bool) (x : X) (kept all : Option X) → (t ≡ true → false ≡ true) → kept ≡ all → kept ≡ cond t (Some x) all
+not_found true x kept all passes same = let bad : false ≡ true = passes refl in absurd (cc)
+not_found false x kept all passes same = same
+
+-- a search with one more, which is kept or not
+find-filter-one : {X : Type 0} (test : X → Bool) (k : Bool) (x : X) (kept all : List X) → (test x ≡ true → k ≡ true) → find test kept ≡ find test all → find test (cond k (x ∷ kept) kept) ≡ find test (x ∷ all)
+find-filter-one test true x kept all passes same = ap (λ rest. cond (test x) (Some x) rest) same
+find-filter-one test false x kept all passes same = not_found (test x) x (find test kept) (find test all) passes same
+
+-- a search among those that are kept, where all that it could find are
+pub find-filter : {X : Type 0} (test keeps : X → Bool) → ((x : X) → test x ≡ true → keeps x ≡ true) → (xs : List X) → find test (filter keeps xs) ≡ find test xs
+find-filter test keeps passes [] = refl
+find-filter test keeps passes (x ∷ xs) = find-filter-one test (keeps x) x (filter keeps xs) xs (passes x) (find-filter test keeps passes xs)
+
+-- the images of those that are kept are the images that are kept
+pub map-filter : {X Y : Type 0} (f : X → Y) (keeps : Y → Bool) (xs : List X) → map f (filter (λ x. keeps (f x)) xs) ≡ filter keeps (map f xs)
+map-filter f keeps [] = refl
+map-filter f keeps (x ∷ xs) = elim (keeps (f x)) as (λ b. map f (cond b (x ∷ filter (λ x. keeps (f x)) xs) (filter (λ x. keeps (f x)) xs)) ≡ cond b (f x ∷ filter keeps (map f xs)) (filter keeps (map f xs))) [ true ↦ ap (λ rest. f x ∷ rest) (map-filter f keeps xs) | false ↦ map-filter f keeps xs ]

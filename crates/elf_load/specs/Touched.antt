@@ -1,9 +1,14 @@
 -- The pages that segments touch, as far as they were looked at.
-use Rattle.std.specs.Prelude.{ℕ, List, filter}
+use Rattle.std.specs.Prelude.{ℕ, ◌≡◌, ◌+◌, ◌<◌, Bool, false, List, filter, get_or, length}
 use Rattle.std.specs.List.{range_with_len, list_any}
 use Rattle.memory_spec.specs.Pages.{Mapped}
 use Rattle.elf_spec.specs.Header.{segments}
-use Rattle.elf_spec.specs.Segments.{touches, page_permission}
+use Rattle.elf_spec.specs.Segments.{touches, page_permission, highest_page}
+
+-- Each page up to the highest that a segment touches has a mark, which says whether a segment touches it. (this project's own)
+pub record MarksTouched (bytes : List ℕ) (marks : List Bool) : Type 0 where
+  pub count : length marks ≡ highest_page (segments bytes) + 1
+  pub each : (number : ℕ) → number < length marks → get_or marks number false ≡ list_any (touches number) (segments bytes)
 
 -- The numbers below a count of the pages that a segment touches. (this project's own)
 abbrev pub touched_below : List ℕ → ℕ → List ℕ

@@ -1,9 +1,10 @@
-ghost use Rattle.std.specs.Prelude.{◌≡◌, ◌<◌};
+ghost use Rattle.std.specs.Prelude.{◌≡◌, ◌<◌, map, IfOk};
 ghost use Rattle.elf_spec.specs.Header as segment;
-ghost use Rattle.elf_spec.specs.Header.{e_phnum, program_header};
+ghost use Rattle.elf_spec.specs.Header.{e_phnum, program_header, program_headers};
 ghost use Rattle.elf_load.specs.Header.{header_of};
 
 use crate::fields::{half_word_at, word_at};
+use std::alloc::{AllocError, Global};
 
 /// A program header, without its physical address and its alignment.
 #[derive(Clone, Copy)]
@@ -38,6 +39,26 @@ pub fn header_at(bytes: &[u8], number: u32) -> Header
         memsz: word_at(bytes, at + 20),
         flags: word_at(bytes, at + 24),
     }
+}
+
+/// All program headers, in their order; or want of memory.
+pub fn headers_of(alloc: Global, bytes: &[u8]) -> Result<Vec<Header>, AllocError>
+    ensures { IfOk result (λ headers. map header_of headers.items ≡ program_headers bytes.now) }
+{
+    let mut headers = Vec::new(alloc);
+    for number in 0..header_count(bytes) {
+        headers.push(header_at(bytes, number))?;
+    }
+    Ok(headers)
+}
+
+/// The program header of a number, of all that were read.
+pub fn header_read(bytes: &[u8], headers: &[Header], number: u32) -> Header
+    requires headers { map header_of headers.now ≡ program_headers bytes.now }
+    requires number { number < e_phnum bytes.now }
+    ensures { header_of result ≡ program_header bytes.now number }
+{
+    headers[number as usize]
 }
 
 /// Whether a header is of a loadable segment that takes memory.

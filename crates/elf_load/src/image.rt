@@ -1,4 +1,4 @@
-ghost use Rattle.std.specs.Prelude.{◌≡◌, ◌<◌, ◌≤◌, ◌*◌, ◌+◌, ◌^◌, [], ◌∷◌, ◌++◌, if◌then◌else◌, map, find, IfOk, OnOk, Some};
+ghost use Rattle.std.specs.Prelude.{◌≡◌, ◌<◌, ◌≤◌, ◌*◌, ◌+◌, ◌^◌, [], ◌∷◌, ◌++◌, if◌then◌else◌, ◌/◌, map, filter, find, IfOk, OnOk, Some};
 ghost use Rattle.elf_spec.specs.Header.{segments};
 ghost use Rattle.elf_spec.specs.Header as segment_header;
 ghost use Rattle.elf_spec.specs.Segments as segment;
@@ -7,6 +7,7 @@ ghost use Rattle.elf_load.specs.Header.{header_of};
 
 use crate::fields::byte_at;
 use crate::header::{Header, header_at, header_count, is_segment};
+use crate::pages::touches;
 use std::alloc::{AllocError, Global};
 
 /// The headers of the segments, in their order.
@@ -25,6 +26,31 @@ fn push_segment(found: &mut Vec<Header>, header: Header) -> Result<(), AllocErro
     ensures { OnOk result (found.new.items ≡ (if segment_header.is_segment (header_of header) then found.old.items ++ header ∷ [] else found.old.items)) }
 {
     if is_segment(header) {
+        found.push(header)?;
+    }
+    Ok(())
+}
+
+/// The headers of the segments that touch the page of a number, in their order.
+pub fn segments_on(
+    alloc: Global,
+    headers: &[Header],
+    number: u32,
+) -> Result<Vec<Header>, AllocError>
+    ensures { IfOk result (λ found. found.items ≡ filter (λ header. segment.touches number (header_of header)) headers.now) }
+{
+    let mut found = Vec::new(alloc);
+    for header in headers {
+        push_touching(&mut found, *header, number)?;
+    }
+    Ok(found)
+}
+
+/// Puts a header behind the others, if it touches the page of a number.
+fn push_touching(found: &mut Vec<Header>, header: Header, number: u32) -> Result<(), AllocError>
+    ensures { OnOk result (found.new.items ≡ (if segment.touches number (header_of header) then found.old.items ++ header ∷ [] else found.old.items)) }
+{
+    if touches(number, header) {
         found.push(header)?;
     }
     Ok(())
@@ -61,28 +87,28 @@ fn segment_at(headers: &[Header], address: u64) -> Option<Header>
         .find(|header| has_address(*header, address))
 }
 
-/// The byte of the image at an address.
-fn image_byte_at(bytes: &[u8], headers: &[Header], address: u64) -> u8
-    requires headers { map header_of headers.now ≡ segments bytes.now }
+/// The byte of the image at an address, from the segments that touch its page.
+fn image_byte_at(bytes: &[u8], near: &[Header], address: u64) -> u8
+    requires near { map header_of near.now ≡ filter (segment.touches (address / 4096)) (segments bytes.now) }
     requires address { address < 2 ^ 33 }
     ensures { result ≡ image_byte bytes.now address }
 {
-    match segment_at(headers, address) {
+    match segment_at(near, address) {
         Some(header) => byte_of(bytes, header, address),
         None => 0,
     }
 }
 
-/// The bytes of the image on the page of a number.
-pub fn page_bytes(bytes: &[u8], headers: &[Header], number: u32) -> [u8; 4096]
-    requires headers { map header_of headers.now ≡ segments bytes.now }
+/// The bytes of the image on the page of a number, from the segments that touch it.
+pub fn page_bytes(bytes: &[u8], near: &[Header], number: u32) -> [u8; 4096]
+    requires near { map header_of near.now ≡ filter (segment.touches number) (segments bytes.now) }
     requires number { number < 2 ^ 21 }
     ensures { result ≡ image_page bytes.now number }
 {
     let mut page = [0; 4096];
     let start = u64::from(number) * 4096;
     for offset in 0..4096 {
-        page[offset] = image_byte_at(bytes, headers, start + offset as u64);
+        page[offset] = image_byte_at(bytes, near, start + offset as u64);
     }
     page
 }

@@ -1,15 +1,14 @@
 ghost use Rattle.std.specs.Prelude.{◌≡◌, ◌<◌, ◌^◌, [], ◌∷◌, ◌++◌, true, if◌then◌else◌, map, IfOk, IfErr, OnOk};
-ghost use Rattle.std.specs.List.{list_any};
 ghost use Rattle.elf_spec.specs.Header.{segments};
-ghost use Rattle.elf_spec.specs.Segments.{touches, page_permission};
+ghost use Rattle.elf_spec.specs.Segments.{page_permission};
 ghost use Rattle.elf_spec.specs.Image.{image_pages, image_memory, image_page, is_image};
 ghost use Rattle.elf_load.specs.Header.{header_of};
 ghost use Rattle.elf_load.specs.Load.{IsImageOf, Refuses};
 
 use crate::fields::word_at;
 use crate::header::Header;
-use crate::image::{page_bytes, segments_of};
-use crate::pages::{highest_page, is_touched, page_rights};
+use crate::image::{page_bytes, segments_of, segments_on};
+use crate::pages::{highest_page, rights_of, touched_pages};
 use crate::refusals::refusal;
 use bitflags::Flags;
 use elf_spec::{Refusal, accepted_is_inside};
@@ -46,9 +45,10 @@ pub fn load(alloc: Global, bytes: &[u8]) -> Result<Image, LoadError>
     ensures loaded { IfOk result (λ image. IsImageOf bytes.now image) }
     ensures refused { IfErr result (Refuses bytes.now) }
 {
-    match refusal(bytes) {
-        Some(refusal) => return Err(LoadError::Refused(refusal)),
-        None => {}
+    match refusal(alloc, bytes) {
+        Ok(Some(refusal)) => return Err(LoadError::Refused(refusal)),
+        Ok(None) => {}
+        Err(_) => return Err(LoadError::NoMemory),
     }
     match pages_of(alloc, bytes) {
         Ok(pages) => Ok(image_of(pages, bytes)),
@@ -83,39 +83,44 @@ fn pages_of(alloc: Global, bytes: &[u8]) -> Result<Pages, AllocError>
     ensures mapped { IfOk result (λ pages. pages.mapped.items ≡ image_pages bytes.now) }
     ensures table { IfOk result (λ pages. pages.table ≡ image_memory bytes.now) }
 {
+    let marks = touched_pages(alloc, bytes)?;
     let headers = segments_of(alloc, bytes)?;
     let mut pages = Pages {
         mapped: Vec::new(alloc),
         table: PageTable::empty(alloc),
     };
     for number in 0..highest_page(bytes) + 1 {
-        add_page(&mut pages, bytes, &headers, number)?;
+        let touched = marks[number as usize];
+        add_page(alloc, &mut pages, bytes, &headers, number, touched)?;
     }
     Ok(pages)
 }
 
 /// Puts the page of a number behind the others, if a segment touches it.
 fn add_page(
+    alloc: Global,
     pages: &mut Pages,
     bytes: &[u8],
     headers: &[Header],
     number: u32,
+    touched: bool,
 ) -> Result<(), AllocError>
     requires headers { map header_of headers.now ≡ segments bytes.now }
     requires number { number < 2 ^ 21 }
-    ensures mapped { OnOk result (pages.new.mapped.items ≡ (if list_any (touches number) (segments bytes.now)
+    ensures mapped { OnOk result (pages.new.mapped.items ≡ (if touched
         then pages.old.mapped.items ++ record { number = number; permission = page_permission (segments bytes.now) number } ∷ []
         else pages.old.mapped.items)) }
-    ensures table { OnOk result (pages.new.table ≡ (if list_any (touches number) (segments bytes.now)
+    ensures table { OnOk result (pages.new.table ≡ (if touched
         then pages.old.table ++ image_page bytes.now number ∷ []
         else pages.old.table)) }
 {
-    if is_touched(bytes, number) {
-        let rights = Perm::from_bits_retain(page_rights(bytes, number));
+    if touched {
+        let near = segments_on(alloc, headers, number)?;
+        let rights = Perm::from_bits_retain(rights_of(near.as_slice()));
         pages.mapped.push(MappedPage::new(number, rights))?;
         pages
             .table
-            .push(Page::new(page_bytes(bytes, headers, number)))?;
+            .push(Page::new(page_bytes(bytes, near.as_slice(), number)))?;
     }
     Ok(())
 }

@@ -1,11 +1,13 @@
-ghost use Rattle.std.specs.Prelude.{◌≡◌, ◌<◌, ◌≤◌, ◌+◌, ◌^◌, ◌&&◌, max, length, bit_or, if◌then◌else◌};
+ghost use Rattle.std.specs.Prelude.{ℕ, ◌≡◌, ◌<◌, ◌≤◌, ◌+◌, ◌^◌, ◌&&◌, ◌||◌, nat_le, false, get_or, max, length, map, fold, bit_or, if◌then◌else◌, IfOk};
 ghost use Rattle.std.specs.List.{list_any};
 ghost use Rattle.elf_spec.specs.Header.{segments, is_segment as is_segment_of};
 ghost use Rattle.elf_spec.specs.Segments as segment;
 ghost use Rattle.elf_spec.specs.Refusals as row;
 ghost use Rattle.elf_load.specs.Header.{header_of};
+ghost use Rattle.elf_load.specs.Touched.{MarksTouched};
 
 use crate::header::{Header, header_at, header_count, is_segment};
+use std::alloc::{AllocError, Global};
 
 /// The number of the page on which a segment's last byte lies.
 fn last_page(header: Header) -> u32
@@ -16,7 +18,7 @@ fn last_page(header: Header) -> u32
 }
 
 /// Whether a segment touches the page of a number.
-fn touches(number: u32, header: Header) -> bool
+pub fn touches(number: u32, header: Header) -> bool
     ensures { result ≡ segment.touches number (header_of header) }
 {
     (header.vaddr / 4096 <= number) & (number <= last_page(header))
@@ -47,53 +49,70 @@ pub fn highest_page(bytes: &[u8]) -> u32
     highest
 }
 
-/// Whether a header is of a segment that touches the page of a number.
-fn is_touching(number: u32, header: Header) -> bool
-    ensures { result ≡ (is_segment_of (header_of header) && segment.touches number (header_of header)) }
+/// Marks the pages from one to another, as far as there are marks.
+fn mark_pages(marks: &mut [bool], first: usize, last: usize)
+    requires { last < 2 ^ 21 }
+    ensures same { length marks.new ≡ length marks.old }
+    ensures each { (k : ℕ) → k < length marks.old → get_or marks.new k false ≡ (get_or marks.old k false || (nat_le first k && nat_le k last)) }
 {
-    is_segment(header) & touches(number, header)
+    for number in first..(last + 1).min(marks.len()) {
+        marks[number] = true;
+    }
 }
 
-/// Whether a segment touches the page of a number.
-pub fn is_touched(bytes: &[u8], number: u32) -> bool
-    ensures { result ≡ list_any (segment.touches number) (segments bytes.now) }
+/// Marks the pages that a header touches, if it is a segment's.
+fn mark_segment(marks: &mut [bool], header: Header)
+    ensures same { length marks.new ≡ length marks.old }
+    ensures each { (k : ℕ) → k < length marks.old → get_or marks.new k false ≡ (get_or marks.old k false || (is_segment_of (header_of header) && segment.touches k (header_of header))) }
 {
-    let mut touched = false;
+    if is_segment(header) {
+        mark_pages(
+            marks,
+            (header.vaddr / 4096) as usize,
+            last_page(header) as usize,
+        );
+    }
+}
+
+/// Marks the pages that all segments touch, where no page has a mark yet.
+fn mark_all(marks: &mut [bool], bytes: &[u8])
+    requires { (k : ℕ) → k < length marks.old → get_or marks.old k false ≡ false }
+    ensures same { length marks.new ≡ length marks.old }
+    ensures each { (k : ℕ) → k < length marks.old → get_or marks.new k false ≡ list_any (segment.touches k) (segments bytes.now) }
+{
     for i in 0..header_count(bytes) {
-        touched = touched | is_touching(number, header_at(bytes, i));
+        mark_segment(marks, header_at(bytes, i));
     }
-    touched
 }
 
-/// The rights together with those of a header, if it is of a segment that touches the page of a number.
-fn more_rights(rights: u8, number: u32, header: Header) -> u8
-    ensures { result ≡ (if is_segment_of (header_of header) && segment.touches number (header_of header) then bit_or rights (segment.segment_permission (header_of header)) else rights) }
+/// For each page up to the highest that a segment touches, whether one touches it; or want of memory.
+pub fn touched_pages(alloc: Global, bytes: &[u8]) -> Result<Vec<bool>, AllocError>
+    ensures { IfOk result (λ marks. MarksTouched bytes.now marks.items) }
 {
-    if is_touching(number, header) {
-        rights | (header.flags % 8) as u8
-    } else {
-        rights
-    }
+    let mut marks = vec![in alloc; false; highest_page(bytes) as usize + 1]?;
+    mark_all(&mut marks, bytes);
+    Ok(marks)
 }
 
-/// The access rights on the page of a number.
-pub fn page_rights(bytes: &[u8], number: u32) -> u8
-    ensures { result ≡ segment.page_permission (segments bytes.now) number }
+/// The access rights of segments together.
+pub fn rights_of(headers: &[Header]) -> u8
+    ensures { result ≡ fold bit_or 0 (map segment.segment_permission (map header_of headers.now)) }
 {
     let mut rights = 0;
-    for i in 0..header_count(bytes) {
-        rights = more_rights(rights, number, header_at(bytes, i));
+    for header in headers {
+        rights = rights | (header.flags % 8) as u8;
     }
     rights
 }
 
-/// The number of pages that the segments touch.
-pub fn page_count(bytes: &[u8]) -> u32
+/// The number of pages that the segments touch, of which each is marked.
+pub fn page_count(bytes: &[u8], marks: &[bool]) -> u32
+    requires { MarksTouched bytes.now marks.now }
     ensures { result ≡ row.page_count bytes.now }
 {
     let mut count = 0;
     for number in 0..highest_page(bytes) + 1 {
-        count = count_with(count, is_touched(bytes, number));
+        count = count_with(count, marks[number as usize]);
     }
     count
 }

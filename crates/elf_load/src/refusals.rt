@@ -1,15 +1,19 @@
-ghost use Rattle.std.specs.Prelude.{◌≡◌, ◌<◌, ◌≤◌, ◌-◌, find};
+ghost use Rattle.std.specs.Prelude.{◌≡◌, ◌<◌, ◌≤◌, ◌-◌, ◌/◌, filter, find, map, IfOk};
 ghost use Rattle.std.specs.List.{range_with_len};
-ghost use Rattle.elf_spec.specs.Header.{e_phnum, program_header};
+ghost use Rattle.elf_spec.specs.Header.{e_entry, e_phnum, program_header, program_headers, segments};
+ghost use Rattle.elf_spec.specs.Segments as segment;
 ghost use Rattle.elf_load.specs.Header.{header_of};
 ghost use Rattle.elf_load.specs.Questions.{test_of};
-ghost use Rattle.elf_load.specs.Rows.{header_rows, table_rows};
+ghost use Rattle.elf_load.specs.Rows.{header_rows, table_rows, page_rows};
+ghost use Rattle.elf_load.specs.Touched.{MarksTouched};
 ghost use Rattle.elf_spec.specs.Refusals as row;
 
 use crate::fields::{byte_at, half_word_at, word_at};
-use crate::header::{Header, header_at, header_count, is_segment};
-use crate::pages::{page_count, page_rights};
+use crate::header::{Header, header_at, header_count, header_read, headers_of, is_segment};
+use crate::image::{segments_of, segments_on};
+use crate::pages::{page_count, rights_of, touched_pages};
 use elf_spec::Refusal;
+use std::alloc::{AllocError, Global};
 
 /// ELF's magic number.
 const MAGIC: [u8; 4] = [0x7f, b'E', b'L', b'F'];
@@ -182,14 +186,15 @@ fn overlaps(one: Header, other: Header) -> bool
 }
 
 /// The first header from a number on that shares an address with an earlier one.
-fn overlap_from(bytes: &[u8], earlier: u32, from: u32) -> Option<u32>
-    requires earlier { earlier < 65536 }
+fn overlap_from(bytes: &[u8], headers: &[Header], earlier: u32, from: u32) -> Option<u32>
+    requires headers { map header_of headers.now ≡ program_headers bytes.now }
+    requires earlier { earlier < e_phnum bytes.now }
     requires from { from ≤ e_phnum bytes.now }
     ensures { result ≡ find (λ j. row.overlaps (program_header bytes.now earlier) (program_header bytes.now j)) (range_with_len from (e_phnum bytes.now - from)) }
 {
-    let one = header_at(bytes, earlier);
+    let one = header_read(bytes, headers, earlier);
     for number in from..header_count(bytes) {
-        if overlaps(one, header_at(bytes, number)) {
+        if overlaps(one, header_read(bytes, headers, number)) {
             return Some(number);
         }
     }
@@ -197,11 +202,12 @@ fn overlap_from(bytes: &[u8], earlier: u32, from: u32) -> Option<u32>
 }
 
 /// The first two segments that share an address.
-fn overlap(bytes: &[u8]) -> Option<Refusal>
+fn overlap(bytes: &[u8], headers: &[Header]) -> Option<Refusal>
+    requires { map header_of headers.now ≡ program_headers bytes.now }
     ensures { result ≡ row.overlap bytes.now }
 {
     for earlier in 0..header_count(bytes) {
-        match overlap_from(bytes, earlier, earlier + 1) {
+        match overlap_from(bytes, headers, earlier, earlier + 1) {
             Some(later) => return Some(Refusal::Overlap(earlier, later)),
             None => {}
         }
@@ -210,19 +216,28 @@ fn overlap(bytes: &[u8]) -> Option<Refusal>
 }
 
 /// Whether the segments touch more pages than 1,024.
-fn too_many_pages(bytes: &[u8]) -> Option<Refusal>
+fn too_many_pages(bytes: &[u8], marks: &[bool]) -> Option<Refusal>
+    requires { MarksTouched bytes.now marks.now }
     ensures { result ≡ row.too_many_pages bytes.now }
 {
-    let count = page_count(bytes);
+    let count = page_count(bytes, marks);
     refuse_if(count > 1024, Refusal::TooManyPages(count))
 }
 
-/// Whether no instruction can stand at the entry point.
-fn entry_refusal(bytes: &[u8]) -> Option<Refusal>
+/// The number of the page of the entry point.
+fn entry_page(bytes: &[u8]) -> u32
+    ensures { result ≡ e_entry bytes.now / 4096 }
+{
+    word_at(bytes, 24) / 4096
+}
+
+/// Whether no instruction can stand at the entry point, whose page these segments touch.
+fn entry_refusal(bytes: &[u8], near: &[Header]) -> Option<Refusal>
+    requires { map header_of near.now ≡ filter (segment.touches (e_entry bytes.now / 4096)) (segments bytes.now) }
     ensures { result ≡ row.entry_refusal bytes.now }
 {
     let start = word_at(bytes, 24);
-    let executable = page_rights(bytes, start / 4096) % 2 == 1;
+    let executable = rights_of(near) % 2 == 1;
     refuse_if(!((start % 4 == 0) & executable), Refusal::Entry)
 }
 
@@ -254,7 +269,8 @@ fn header_refusal(bytes: &[u8]) -> Option<Refusal>
 }
 
 /// The first refusal of the program headers' rows.
-fn table_refusal(bytes: &[u8]) -> Option<Refusal>
+fn table_refusal(bytes: &[u8], headers: &[Header]) -> Option<Refusal>
+    requires { map header_of headers.now ≡ program_headers bytes.now }
     ensures { result ≡ row.first_given (table_rows bytes.now) }
 {
     match short_table(bytes) {
@@ -273,24 +289,36 @@ fn table_refusal(bytes: &[u8]) -> Option<Refusal>
         Some(refusal) => return Some(refusal),
         None => {}
     }
-    overlap(bytes)
+    overlap(bytes, headers)
 }
 
-/// The first refusal of a file, or none where it is accepted.
-pub fn refusal(bytes: &[u8]) -> Option<Refusal>
-    ensures { result ≡ row.refusal_of bytes.now }
+/// The first refusal of the pages' rows, or want of memory.
+fn page_refusal(alloc: Global, bytes: &[u8]) -> Result<Option<Refusal>, AllocError>
+    ensures { IfOk result (λ refusal. refusal ≡ row.first_given (page_rows bytes.now)) }
+{
+    let marks = touched_pages(alloc, bytes)?;
+    match too_many_pages(bytes, marks.as_slice()) {
+        Some(refusal) => return Ok(Some(refusal)),
+        None => {}
+    }
+    let segments = segments_of(alloc, bytes)?;
+    let page = entry_page(bytes);
+    let near = segments_on(alloc, segments.as_slice(), page)?;
+    Ok(entry_refusal(bytes, near.as_slice()))
+}
+
+/// The first refusal of a file, or none where it is accepted; or want of memory.
+pub fn refusal(alloc: Global, bytes: &[u8]) -> Result<Option<Refusal>, AllocError>
+    ensures { IfOk result (λ refusal. refusal ≡ row.refusal_of bytes.now) }
 {
     match header_refusal(bytes) {
-        Some(refusal) => return Some(refusal),
+        Some(refusal) => return Ok(Some(refusal)),
         None => {}
     }
-    match table_refusal(bytes) {
-        Some(refusal) => return Some(refusal),
+    let headers = headers_of(alloc, bytes)?;
+    match table_refusal(bytes, headers.as_slice()) {
+        Some(refusal) => return Ok(Some(refusal)),
         None => {}
     }
-    match too_many_pages(bytes) {
-        Some(refusal) => return Some(refusal),
-        None => {}
-    }
-    entry_refusal(bytes)
+    page_refusal(alloc, bytes)
 }

@@ -39,6 +39,7 @@ abbrev pub first_leaves : ℕ → List ℕ → Leaving
 first_leaves m [] = record { threads = []; rest = record { mutex = m; queue = [] } }
 first_leaves m (u ∷ rest) = record { threads = u ∷ []; rest = record { mutex = m; queue = rest } }
 
+-- who leaves by a signal (POSIX.1-2017, pthread_cond_signal)
 abbrev pub signal_leaving : Condition → Leaving
 signal_leaving c = first_leaves c.mutex c.queue
 

@@ -65,10 +65,11 @@ on_semaphore row o s = let r = at_cell unposted row o.semaphores s in (r.0, reco
 abbrev pub on_barrier : (Barrier → Effect × Barrier) → Objects → ℕ → Effect × Objects
 on_barrier row o b = let r = at_cell uninitialised row o.barriers b in (r.0, record o { barriers = r.1 })
 
--- the condition of number c, and the mutex of number m (this project's own)
+-- the condition of number c (this project's own)
 abbrev pub condition_at : Objects → ℕ → Condition
 condition_at o c = slice_index_or o.conditions c unawaited
 
+-- the mutex of number m (this project's own)
 abbrev pub mutex_at : Objects → ℕ → Mutex
 mutex_at o m = slice_index_or o.mutexes m unlocked
 

@@ -1,7 +1,8 @@
 //! The 64 barriers of a guest, at which threads wait until as many have come as the barrier counts. No call takes memory.
 #![tactic(auto)]
 
-ghost use Rattle.std.specs.Prelude.{◌≡◌, ◌<◌, length, slice_index_or};
+ghost use Rattle.std.specs.Prelude.{◌≡◌, ◌==◌, ◌<◌, length, slice_index_or, not};
+ghost use Rattle.std.specs.List.{list_any};
 ghost use Rattle.guest_call.specs.Queues.{waits};
 ghost use Rattle.guest_call.specs.Tables.{at_cell};
 ghost use Rattle.guest_call.specs.Barriers.{uninitialised, barrier_queue, barrier_init_row, barrier_init_at, barrier_wait_row};
@@ -9,9 +10,8 @@ ghost use Rattle.guest_call.specs.Objects.{all_uninitialised};
 
 use call_effect::Effect;
 use guest_call::{EBUSY, EINVAL, Fate};
-use std::array;
 use std::marker::Model;
-use std::mem;
+use std::{array, mem};
 use wait_queue::Queue;
 
 /// The answer to the thread that lets the others go (POSIX.1-2017, pthread_barrier_wait, PTHREAD_BARRIER_SERIAL_THREAD; the
@@ -111,6 +111,17 @@ fn wait_in(cells: &mut [Cell; 64], t: u8, b: u32) -> Effect
     cell.wait(t)
 }
 
+/// Whether thread `t` waits at a barrier.
+fn is_waiting_in(cells: &[Cell; 64], t: u8) -> bool
+    ensures { result ≡ list_any (λ c. list_any (λ u. u == t) (barrier_queue c)) cells.now }
+{
+    cells.iter().any(
+        |cell: &Cell| -> bool
+            ensures { result ≡ list_any (λ u. u == t) (barrier_queue cell.now) }
+        { cell.queue.threads().iter().any(|u: &u8| *u == t) },
+    )
+}
+
 /// The barriers of a guest, numbered from 0 to 63. No thread waits in more than one place of them.
 #[derive(Drop)]
 pub struct Barriers {
@@ -158,6 +169,13 @@ impl Barriers {
         ensures { (result, self.new) ≡ at_cell uninitialised (barrier_wait_row t) self.old b }
     {
         wait_in(&mut self.cells, t, b)
+    }
+
+    /// Whether thread `t` waits at a barrier.
+    pub fn is_waiting(&self, t: u8) -> bool
+        ensures { result ≡ not (waits barrier_queue self.now t == 0) }
+    {
+        is_waiting_in(&self.cells, t)
     }
 }
 

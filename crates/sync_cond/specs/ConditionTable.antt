@@ -1,5 +1,5 @@
 -- The table of conditions, and who begins to wait in it.
-use Rattle.std.specs.Prelude.{ℕ, ◌<◌, ◌==◌, ◌&&◌, Bool, true, false, not, List, length, slice_index_or, slice_set, All, if◌then◌else◌}
+use Rattle.std.specs.Prelude.{ℕ, ◌<◌, ◌==◌, ◌&&◌, Bool, true, false, not, List, length, slice_index_or, slice_set, Option, Some, None, All, if◌then◌else◌}
 use Rattle.guest_call.specs.Tables.{IsTable}
 use Rattle.guest_call.specs.Conditions.{Condition, unawaited, condition_queue, awaited_by}
 
@@ -16,3 +16,7 @@ wait_row t m c = if not (length c.queue == 0) && not (c.mutex == m) then (false,
 -- the same at the condition of number c of a table (POSIX.1-2017, pthread_cond_wait)
 abbrev pub wait_at : ℕ → ℕ → List Condition → ℕ → Bool × List Condition
 wait_at t m cells c = let r = wait_row t m (slice_index_or cells c unawaited) in (r.0, slice_set cells c r.1)
+
+-- the mutex with which threads wait for a condition, if any wait (POSIX.1-2017, pthread_cond_wait)
+abbrev pub awaited_with : Condition → Option ℕ
+awaited_with c = if length c.queue == 0 then None else Some c.mutex

@@ -2,12 +2,13 @@
 //! the caller's to do. No call takes memory.
 #![tactic(auto)]
 
-ghost use Rattle.std.specs.Prelude.{◌≡◌, ℕ, ◌<◌, ◌≤◌, length, slice_index_or};
+ghost use Rattle.std.specs.Prelude.{◌≡◌, ◌==◌, ℕ, ◌<◌, ◌≤◌, length, slice_index_or, not};
+ghost use Rattle.std.specs.List.{list_any};
 ghost use Rattle.std.specs.Option.{IfSome};
 ghost use Rattle.guest_call.specs.Queues.{places, waits};
 ghost use Rattle.guest_call.specs.Conditions.{unawaited, condition_queue, signal_leaving, broadcast_leaving};
 ghost use Rattle.guest_call.specs.Objects.{all_unawaited};
-ghost use Rattle.sync_cond.specs.ConditionTable.{wait_row, wait_at};
+ghost use Rattle.sync_cond.specs.ConditionTable.{wait_row, wait_at, awaited_with};
 ghost use Rattle.sync_cond.specs.Leaving.{leaving_of, leaving_at};
 
 use std::marker::Model;
@@ -131,6 +132,17 @@ fn broadcast_in(cells: &mut [Cell; 64], c: u32) -> Option<Leaving>
     Some(cell.broadcast())
 }
 
+/// Whether thread `t` waits for a condition.
+fn is_waiting_in(cells: &[Cell; 64], t: u8) -> bool
+    ensures { result ≡ list_any (λ c. list_any (λ u. u == t) (condition_queue c)) cells.now }
+{
+    cells.iter().any(
+        |cell: &Cell| -> bool
+            ensures { result ≡ list_any (λ u. u == t) (condition_queue cell.now) }
+        { cell.queue.threads().iter().any(|u: &u8| *u == t) },
+    )
+}
+
 /// The conditions of a guest, numbered from 0 to 63. No thread waits in more than one place of them, and each names a
 /// mutex from 0 to 63.
 #[derive(Drop)]
@@ -191,5 +203,25 @@ impl Conditions {
         ensures waited { IfSome result (λ l. (u : ℕ) → places u l.threads ≤ waits condition_queue self.old u) }
     {
         broadcast_in(&mut self.cells, c)
+    }
+
+    /// The mutex with which threads wait for the condition of number `c`. None exactly where nobody waits for it.
+    pub fn awaited_with(&self, c: u32) -> Option<u32>
+        requires { c < 64 }
+        ensures { result ≡ awaited_with (slice_index_or self.now c unawaited) }
+    {
+        let cell = &self.cells[c as usize];
+        if cell.queue.is_empty() {
+            None
+        } else {
+            Some(cell.mutex)
+        }
+    }
+
+    /// Whether thread `t` waits for a condition.
+    pub fn is_waiting(&self, t: u8) -> bool
+        ensures { result ≡ not (waits condition_queue self.now t == 0) }
+    {
+        is_waiting_in(&self.cells, t)
     }
 }

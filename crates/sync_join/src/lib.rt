@@ -1,7 +1,8 @@
 //! The threads of a guest: who has ended with which value, and who joins whom. No call takes memory.
 #![tactic(auto)]
 
-ghost use Rattle.std.specs.Prelude.{◌≡◌, ◌<◌, ◌≤◌, ◌∷◌, [], None, is_some, slice_index_or, length};
+ghost use Rattle.std.specs.Prelude.{◌≡◌, ◌==◌, ◌<◌, ◌≤◌, ◌∷◌, [], None, is_some, slice_index_or, length, not};
+ghost use Rattle.std.specs.List.{list_any};
 ghost use Rattle.guest_call.specs.Queues.{waits};
 ghost use Rattle.guest_call.specs.Threads.{fresh, joins, ended_with, joined_by, member_queue, member_at, create_row, thread_exit_row, join_row};
 
@@ -126,6 +127,17 @@ fn join_in(seats: &mut ArrayVec<Seat, 32>, t: u8, u: u32) -> Effect
     seat.join(t)
 }
 
+/// Whether thread `t` waits to join one of these.
+fn is_waiting_in(seats: &ArrayVec<Seat, 32>, t: u8) -> bool
+    ensures { result ≡ list_any (λ c. list_any (λ u. u == t) (member_queue c)) seats.now.items }
+{
+    seats.as_slice().iter().any(
+        |seat: &Seat| -> bool
+            ensures { result ≡ list_any (λ u. u == t) (member_queue seat.now) }
+        { seat.waiting().threads().iter().any(|u: &u8| *u == t) },
+    )
+}
+
 /// The threads of a guest, numbered from 0 in the order in which they were created; thread 0 is there from the start.
 /// No thread waits to join more than one.
 #[derive(Drop)]
@@ -172,6 +184,13 @@ impl Threads {
         }
         let seat = &self.seats[u as usize];
         seat.value
+    }
+
+    /// Whether thread `t` waits to join another.
+    pub fn is_waiting(&self, t: u8) -> bool
+        ensures { result ≡ not (waits member_queue self.now t == 0) }
+    {
+        is_waiting_in(&self.seats, t)
     }
 
     /// `create(pc, argument)`, called by thread `t`: the answer is the new thread's number, the least that is unused. A pc

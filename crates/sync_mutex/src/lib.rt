@@ -2,7 +2,8 @@
 //! No call takes memory.
 #![tactic(auto)]
 
-ghost use Rattle.std.specs.Prelude.{◌≡◌, ℕ, ◌+◌, ◌<◌, ◌≤◌, ◌++◌, length, slice_index_or};
+ghost use Rattle.std.specs.Prelude.{◌≡◌, ◌==◌, ℕ, ◌+◌, ◌<◌, ◌≤◌, ◌++◌, length, slice_index_or, not};
+ghost use Rattle.std.specs.List.{list_any};
 ghost use Rattle.guest_call.specs.Queues.{places, waits};
 ghost use Rattle.guest_call.specs.Tables.{at_cell};
 ghost use Rattle.guest_call.specs.Mutexes.{unlocked, mutex_queue, lock_row, trylock_row, unlock_row};
@@ -170,6 +171,17 @@ fn admit_each_in(cells: &mut [Cell; 64], m: u32, threads: &Queue) -> Queue
     cell.admit_each(threads)
 }
 
+/// Whether thread `t` waits for a mutex.
+fn is_waiting_in(cells: &[Cell; 64], t: u8) -> bool
+    ensures { result ≡ list_any (λ c. list_any (λ u. u == t) (mutex_queue c)) cells.now }
+{
+    cells.iter().any(
+        |cell: &Cell| -> bool
+            ensures { result ≡ list_any (λ u. u == t) (mutex_queue cell.now) }
+        { cell.queue.threads().iter().any(|u: &u8| *u == t) },
+    )
+}
+
 /// The mutexes of a guest, numbered from 0 to 63. No thread waits in more than one place of them.
 #[derive(Drop)]
 pub struct Mutexes {
@@ -247,5 +259,12 @@ impl Mutexes {
     {
         let cell = &self.cells[m as usize];
         cell.owner
+    }
+
+    /// Whether thread `t` waits for a mutex.
+    pub fn is_waiting(&self, t: u8) -> bool
+        ensures { result ≡ not (waits mutex_queue self.now t == 0) }
+    {
+        is_waiting_in(&self.cells, t)
     }
 }

@@ -1,5 +1,5 @@
 -- The tables taken together, and rows on a condition and a mutex at once.
-use Rattle.std.specs.Prelude.{ℕ, ◌&&◌, nat_lt, List, slice_index_or, slice_set}
+use Rattle.std.specs.Prelude.{ℕ, ◌&&◌, ◌==◌, not, nat_lt, List, [], ◌∷◌, length, slice_index_or, slice_set, if◌then◌else◌}
 use Rattle.guest_call.specs.Effect.{Effect}
 use Rattle.guest_call.specs.Tables.{checked}
 use Rattle.guest_call.specs.Mutexes.{Mutex, unlocked}
@@ -7,7 +7,9 @@ use Rattle.guest_call.specs.Semaphores.{Semaphore}
 use Rattle.guest_call.specs.Barriers.{Barrier}
 use Rattle.guest_call.specs.Conditions.{Condition, Leaving, unawaited, cond_wait_row, leave_row}
 use Rattle.guest_call.specs.Threads.{Member}
-use Rattle.guest_call.specs.Objects.{Objects}
+use Rattle.guest_call.specs.declared.Object.{Object}
+use Rattle.guest_call.specs.declared.Object.TheVariants as object
+use Rattle.guest_call.specs.Objects.{Objects, one_of}
 
 -- the objects whose tables are these (this project's own)
 abbrev pub objects_of : List Member → List Mutex → List Semaphore → List Barrier → List Condition → Objects
@@ -28,3 +30,10 @@ cond_wait_at t conditions mutexes c m =
 abbrev pub leave_at : (Condition → Leaving) → List Condition → List Mutex → ℕ → Effect × (List Condition × List Mutex)
 leave_at leaving conditions mutexes c =
     checked (nat_lt c 64) (conditions, mutexes) (at_pair (leave_row leaving) conditions mutexes c (slice_index_or conditions c unawaited).mutex)
+
+-- the objects on which a condition's waiters come and go: the condition, and its mutex if somebody waits (this project's own)
+abbrev pub leave_objects_in : List Condition → ℕ → List Object
+leave_objects_in conditions c =
+    if nat_lt c 64
+    then object.Condition c ∷ one_of (not (length (slice_index_or conditions c unawaited).queue == 0)) (object.Mutex (slice_index_or conditions c unawaited).mutex)
+    else []

@@ -2,7 +2,7 @@
 //! answers and changes. No call takes memory.
 #![tactic(auto)]
 
-ghost use Rattle.std.specs.Prelude.{◌≡◌, ℕ, ◌+◌, ◌<◌, ◌≤◌, Bool, false, None, length};
+ghost use Rattle.std.specs.Prelude.{◌≡◌, ℕ, ◌==◌, ◌+◌, ◌<◌, ◌≤◌, Bool, false, not, nat_lt, None, length};
 ghost use Rattle.guest_call.specs.Queues.{places, waits};
 ghost use Rattle.guest_call.specs.Effect.{wakes};
 ghost use Rattle.guest_call.specs.Mutexes.{mutex_queue};
@@ -11,7 +11,11 @@ ghost use Rattle.guest_call.specs.Objects as spec;
 ghost use Rattle.sync_mutex.specs.Admitting.{admit_each_at};
 ghost use Rattle.sync_objects.specs.Pairs.{objects_of, cond_wait_at, leave_at};
 ghost use Rattle.sync_objects.specs.Puts.{is_put};
+ghost use Rattle.sync_objects.specs.Acting.{objects_in};
 
+mod acting;
+
+pub use acting::ActedOn;
 use call_effect::Effect;
 use guest_call::{Call, EINVAL, EPERM, Fate};
 use std::marker::Model;
@@ -176,6 +180,33 @@ impl Objects {
         )
     }
 
+    /// The objects on which a call would act, exactly: all that it reads and changes. A put acts on the output, where
+    /// the pages are.
+    pub fn acts_on(&self, call: Call) -> ActedOn
+        requires { is_put call ≡ false }
+        ensures { (readable : ℕ → ℕ → Bool) → objects_in result ≡ spec.acts_on readable self.now call }
+    {
+        acting::acts_on(&self.conditions, call)
+    }
+
+    /// Whether thread `t` exists, ended ones counted.
+    pub fn exists(&self, t: u8) -> bool
+        ensures { result ≡ nat_lt t (length self.now.threads) }
+    {
+        (t as usize) < self.threads.len()
+    }
+
+    /// Whether thread `t` waits somewhere.
+    pub fn is_waiting(&self, t: u8) -> bool
+        ensures { result ≡ not (spec.waits_at self.now t == 0) }
+    {
+        self.threads.is_waiting(t)
+            || self.mutexes.is_waiting(t)
+            || self.semaphores.is_waiting(t)
+            || self.barriers.is_waiting(t)
+            || self.conditions.is_waiting(t)
+    }
+
     /// The value with which thread `u` has ended. None exactly where there is no such thread or it has not ended.
     pub fn ended(&self, u: u8) -> Option<u32>
         ensures { result ≡ spec.ended_at self.now u }
@@ -183,3 +214,6 @@ impl Objects {
         self.threads.value(u)
     }
 }
+
+#[cfg(test)]
+mod tests;

@@ -1,7 +1,8 @@
 //! The 64 semaphores of a guest, which hand a post over to who has waited longest. No call takes memory.
 #![tactic(auto)]
 
-ghost use Rattle.std.specs.Prelude.{◌≡◌, ◌<◌, ◌≤◌, length, slice_index_or};
+ghost use Rattle.std.specs.Prelude.{◌≡◌, ◌==◌, ◌<◌, ◌≤◌, length, slice_index_or, not};
+ghost use Rattle.std.specs.List.{list_any};
 ghost use Rattle.guest_call.specs.Queues.{waits};
 ghost use Rattle.guest_call.specs.Tables.{at_cell};
 ghost use Rattle.guest_call.specs.Semaphores.{unposted, semaphore_queue, largest_value, sem_wait_row, sem_trywait_row, sem_post_row, sem_init_row, sem_init_at};
@@ -154,6 +155,17 @@ fn init_in(cells: &mut [Cell; 64], s: u32, n: u32) -> Effect
     cell.init(n)
 }
 
+/// Whether thread `t` waits at a semaphore.
+fn is_waiting_in(cells: &[Cell; 64], t: u8) -> bool
+    ensures { result ≡ list_any (λ c. list_any (λ u. u == t) (semaphore_queue c)) cells.now }
+{
+    cells.iter().any(
+        |cell: &Cell| -> bool
+            ensures { result ≡ list_any (λ u. u == t) (semaphore_queue cell.now) }
+        { cell.queue.threads().iter().any(|u: &u8| *u == t) },
+    )
+}
+
 /// The semaphores of a guest, numbered from 0 to 63. No thread waits in more than one place of them.
 #[derive(Drop)]
 pub struct Semaphores {
@@ -221,6 +233,13 @@ impl Semaphores {
         ensures { (result, self.new) ≡ sem_init_at n self.old s }
     {
         init_in(&mut self.cells, s, n)
+    }
+
+    /// Whether thread `t` waits at a semaphore.
+    pub fn is_waiting(&self, t: u8) -> bool
+        ensures { result ≡ not (waits semaphore_queue self.now t == 0) }
+    {
+        is_waiting_in(&self.cells, t)
     }
 }
 

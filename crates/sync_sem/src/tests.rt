@@ -75,7 +75,12 @@ fn calls_answer_as_worked_out(rt: HostRuntime) {
     assert_returns(&rt, trywait(&rt, table, 0, 64), negated(22), &[]);
     assert_returns(&rt, post(&rt, table, 0, 64), negated(22), &[]);
     assert_returns(&rt, init(&rt, table, 0, 64, 0), negated(22), &[]);
-    assert_returns(&rt, init(&rt, table, 0, 63, 2_147_483_648), negated(22), &[]);
+    assert_returns(
+        &rt,
+        init(&rt, table, 0, 63, 2_147_483_648),
+        negated(22),
+        &[],
+    );
     // the largest value: EOVERFLOW is 75
     assert_returns(&rt, init(&rt, table, 0, 63, 2_147_483_647), 0, &[]);
     assert_returns(&rt, post(&rt, table, 0, 63), negated(75), &[]);

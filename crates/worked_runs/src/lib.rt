@@ -1,6 +1,5 @@
 //! Worked runs: small guests whose reports follow from the rules by hand, run through the top call by tests.
 #![tactic(auto)]
 
-pub mod guests;
 #[cfg(test)]
 mod tests;

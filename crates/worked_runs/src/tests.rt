@@ -1,5 +1,4 @@
 //! Worked runs of small guests: the reports and the ends that follow from the rules by hand.
-use crate::guests::{BYTES, CREATES, CROSS, Guest, HI, LATE, LENGTH, PAIR, PERM, PUTS, SELF, TRAP};
 use ith_host::{MemHost, OpenGate};
 use ith_top::top;
 use machine_spec::End;
@@ -8,24 +7,17 @@ use std::alloc::{AllocError, Global};
 use std::collections::BTreeMap;
 use std::process::Abort;
 use std::test::Fail;
+use worked_guests::guests::{
+    BYTES, CREATES, CROSS, HI, LATE, LENGTH, PAIR, PERM, PUTS, SELF, TRAP,
+};
+use worked_guests::{Guest, file_of};
 
-/// What each of these executables begins with (System V gABI, ch. 4, ELF Header).
-const HEADER: &[u8] =
-    b"\x7f\x45\x4c\x46\x01\x01\x01\x00\x00\x00\x00\x00\x00\x00\x00\x00\x02\x00\xf3\x00\x01\x00\x00\x00\x00\x00\x01\x00\x34\x00\x00\x00\x00\x00\x00\x00\x00\x00\x00\x00\x34\x00\x20\x00\x01\x00\x00\x00\x00\x00\x00\x00";
-
-/// The executable that has a guest as its one segment.
+/// The executable of a guest.
 fn executable(alloc: Global, guest: Guest) -> Result<Vec<u8>, AllocError> {
-    let length = match u32::try_from(guest.bytes.len()) {
-        Ok(length) => length,
-        Err(_) => return Err(AllocError),
-    };
-    let mut file = Vec::new(alloc);
-    file.extend_from_slice(HEADER)?;
-    for word in [1, 84, 0x10000, 0x10000, length, guest.size, 7, 4] {
-        file.extend_from_slice(&u32::to_le_bytes(word))?;
+    match file_of(alloc, guest)? {
+        Some(file) => Ok(file),
+        None => Ok(Vec::new(alloc)),
     }
-    file.extend_from_slice(guest.bytes)?;
-    Ok(file)
 }
 
 /// A host that has a guest and an input.

@@ -1,6 +1,6 @@
-use Rattle.std.proofs.Common.{◌≡◌, ◌+◌, ℕ, Bool, true, false, cond, List, [], ◌∷◌, ◌++◌, map, filter, refl, sym, ap, ◌∙◌, arith, zero-add, append-nil}
+use Rattle.std.proofs.Common.{◌≡◌, ◌+◌, ◌<◌, length, ℕ, Bool, true, false, cond, List, [], ◌∷◌, ◌++◌, map, filter, refl, sym, ap, ◌∙◌, arith, zero-add, append-nil}
 use Rattle.std.specs.List.{range_with_len, list_any}
-use Rattle.std.proofs.lemmas.List.{map-append}
+use Rattle.std.proofs.lemmas.List.{map-append, get_or_default}
 use Rattle.std.proofs.lemmas.List.Elements.{filter-append}
 use Rattle.memory_spec.specs.Pages.{Mapped}
 use Rattle.elf_spec.specs.Header.{segments}
@@ -32,10 +32,12 @@ loop-number-preserved c =
     let bytes = c.args.bytes.now in
     let n = c.loop-number.number in
     let test = list_any (touches n) (segments bytes) in
+    let inside : n < length c.in_ok-marks.marks.items = omega (arith, c.in_ok-marks.ensures.count, c.highest_page-number-end.ensures.page, c.loop-number-test.true) in
+    let marked : c.index-touched.result.now ≡ test = c.index-touched.ensures ∙ get_or_default c.in_ok-marks.marks.items n c.index-touched.result.now false inside ∙ c.in_ok-marks.ensures.each n inside in
     let more = sym (touched_more bytes n) in (
       c.loop-number.invariant.0,
-      c.in_ok-add_page.ensures.mapped ∙ map-pushed (mapped_at bytes) test (touched_below bytes n) n c.loop-number.pages.mapped.items c.loop-number.invariant.1 ∙ ap (map (mapped_at bytes)) more,
-      c.in_ok-add_page.ensures.table ∙ map-pushed (image_page bytes) test (touched_below bytes n) n c.loop-number.pages.table c.loop-number.invariant.2 ∙ ap (map (image_page bytes)) more,
+      c.in_ok-add_page.ensures.mapped ∙ ap (λ b. cond b (c.loop-number.pages.mapped.items ++ mapped_at bytes n ∷ []) c.loop-number.pages.mapped.items) marked ∙ map-pushed (mapped_at bytes) test (touched_below bytes n) n c.loop-number.pages.mapped.items c.loop-number.invariant.1 ∙ ap (map (mapped_at bytes)) more,
+      c.in_ok-add_page.ensures.table ∙ ap (λ b. cond b (c.loop-number.pages.table ++ image_page bytes n ∷ []) c.loop-number.pages.table) marked ∙ map-pushed (image_page bytes) test (touched_below bytes n) n c.loop-number.pages.table c.loop-number.invariant.2 ∙ ap (map (image_page bytes)) more,
     )
 
 pub returns-clause-mapped : goal.returns-clause-mapped

@@ -1,4 +1,4 @@
-use Rattle.std.proofs.Common.{ℕ, ◌<◌, ◌≡◌, Bool, false, length, ap, sym, subst}
+use Rattle.std.proofs.Common.{◌<◌, ◌≡◌, false, length, ap, sym, subst}
 use Rattle.guest_call.specs.Effect.{Effect}
 use Rattle.guest_call.specs.Objects.{Objects, IsKept, waits_at}
 use Rattle.guest_call.proofs.Kept.{act_kept}

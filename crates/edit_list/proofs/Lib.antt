@@ -1,0 +1,5 @@
+pub mod Numerals
+pub mod Digits
+pub mod Words
+pub mod Parsing
+pub mod Room

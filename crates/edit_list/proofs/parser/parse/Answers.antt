@@ -1,0 +1,49 @@
+use Rattle.std.proofs.Common.{◌+◌, ◌==◌, [], map, arith}
+use Rattle.std.specs.List.{slice_split}
+use Rattle.edit_list.specs.Said.{line_said}
+use Rattle.edit_list.proofs.Parsing.{no_line_yet, one_line_more, all_lines, cut_leads, last_leads, refused_there, after_is_shorter}
+use Rattle.edit_list.proofs.parser.parse.Goals as goal
+
+pub loop-text-init : goal.loop-text-init
+loop-text-init c = record { leads = λ answer said. rw c.new-lines.ensures.items (no_line_yet c.args.bytes.now answer said); count = omega arith }
+
+pub returns-in-Err-clause-refused : goal.returns-in-Err-clause-refused
+returns-in-Err-clause-refused c =
+    let leads =
+    cut_leads c.args.bytes.now c.loop-text.number c.loop-text.rest.now c.in-Some.text.now c.in-Some.after.now (map line_said c.loop-text.lines.items)
+    c.in-Some.ensures c.loop-text.invariant.leads in
+    refused_there c.args.bytes.now c.loop-text.number c.in-Some.text.now (slice_split (λ byte. byte == 10) c.in-Some.after.now) (map line_said c.loop-text.lines.items)
+    c.in-Err.error c.in-Err.ensures.refused leads
+
+pub overflow_add-number : goal.overflow_add-number
+overflow_add-number c =
+    let shorter = after_is_shorter c.loop-text.rest.now c.in-Some.text.now c.in-Some.after.now c.in-Some.ensures.1 in
+    omega (arith, c.loop-text.invariant.count)
+
+pub loop-text-preserved : goal.loop-text-preserved
+loop-text-preserved c =
+    let shorter = after_is_shorter c.loop-text.rest.now c.in-Some.text.now c.in-Some.after.now c.in-Some.ensures.1 in
+    let leads =
+    cut_leads c.args.bytes.now c.loop-text.number c.loop-text.rest.now c.in-Some.text.now c.in-Some.after.now (map line_said c.loop-text.lines.items)
+    c.in-Some.ensures c.loop-text.invariant.leads in
+    record {
+      leads =
+          one_line_more c.args.bytes.now c.loop-text.number c.in-Some.text.now (slice_split (λ byte. byte == 10) c.in-Some.after.now)
+          (map line_said c.loop-text.lines.items) (map line_said c.add_line.new.lines.items) c.in-Ok.ensures.added leads;
+      count = omega (arith, c.loop-text.invariant.count);
+    }
+
+pub returns-in-Ok-add_line-clause-spelled : goal.returns-in-Ok-add_line-clause-spelled
+returns-in-Ok-add_line-clause-spelled c =
+    let leads =
+    last_leads c.args.bytes.now c.loop-text.number c.loop-text.rest.now (map line_said c.loop-text.lines.items) c.in_default.ensures c.loop-text.invariant.leads in
+    all_lines c.args.bytes.now (c.loop-text.number + 1) (map line_said c.add_line-2.new.lines.items)
+    (one_line_more c.args.bytes.now c.loop-text.number c.loop-text.rest.now [] (map line_said c.loop-text.lines.items) (map line_said c.add_line-2.new.lines.items)
+    c.in-Ok-add_line.ensures.added leads)
+
+pub returns-in-Err-add_line-clause-refused : goal.returns-in-Err-add_line-clause-refused
+returns-in-Err-add_line-clause-refused c =
+    let leads =
+    last_leads c.args.bytes.now c.loop-text.number c.loop-text.rest.now (map line_said c.loop-text.lines.items) c.in_default.ensures c.loop-text.invariant.leads in
+    refused_there c.args.bytes.now c.loop-text.number c.loop-text.rest.now [] (map line_said c.loop-text.lines.items) c.in-Err-add_line.error
+    c.in-Err-add_line.ensures.refused leads

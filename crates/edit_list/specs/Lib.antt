@@ -1,0 +1,5 @@
+pub mod Said
+pub mod Numerals
+pub mod Refusals
+pub mod Adding
+pub mod Room

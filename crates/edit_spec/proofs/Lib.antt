@@ -1,0 +1,4 @@
+pub mod Spelling
+pub mod Saying
+pub mod Lengths
+pub mod Examples

@@ -1,0 +1,41 @@
+//! Lists of edits of an input: their grammar, and what they do.
+//!
+//! This crate holds definitions alone. `specs/` says what the bytes of a list spell, or which line is the first
+//! that spells nothing, and what edits make of an input. Each public function is a law: its contract is the
+//! statement, and its body does nothing.
+#![tactic(auto)]
+
+ghost use Rattle.std.specs.Prelude.{ℕ, ◌≡◌, ◌≤◌, List, [], ◌∷◌, ◌++◌, length, map, Contains, Result};
+ghost use Rattle.edit_spec.specs.Edit.{Edit, LineEdit};
+ghost use Rattle.edit_spec.specs.Grammar.{Spells, Says};
+ghost use Rattle.edit_spec.specs.Editing.{edited, longest_input};
+
+/// A line spells at most one edit.
+pub fn line_spells_one_edit()
+    ensures { (text : List ℕ) (a b : Edit) → Spells text a → Spells text b → a ≡ b }
+{}
+
+/// A list says one thing: these edits and no others, or that this line is the first bad one, and not both.
+pub fn list_says_one_thing()
+    ensures { (bytes : List ℕ) (a b : Result (List LineEdit) ℕ) → Says bytes a → Says bytes b → a ≡ b }
+{}
+
+/// No edits change nothing.
+pub fn no_edits_change_nothing()
+    ensures { (input : List ℕ) → edited [] input ≡ Ok input }
+{}
+
+/// Edits may be done in two parts, the second on what the first made of the input.
+pub fn edits_go_on()
+    ensures { (first second : List LineEdit) (input between : List ℕ) → edited first input ≡ Ok between → edited (first ++ second) input ≡ edited second between }
+{}
+
+/// An input that isn't too long isn't too long after edits.
+pub fn edited_is_short()
+    ensures { (edits : List LineEdit) (input after : List ℕ) → length input ≤ longest_input → edited edits input ≡ Ok after → length after ≤ longest_input }
+{}
+
+/// The line that passes its bound is a line of the edits.
+pub fn refused_line_is_there()
+    ensures { (edits : List LineEdit) (input : List ℕ) (number : ℕ) → edited edits input ≡ Err number → Contains (map (λ e. e.line) edits) number }
+{}

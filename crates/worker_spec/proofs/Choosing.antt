@@ -1,0 +1,156 @@
+-- What holds of the thread that is chosen with nobody out, and that there is one where any is ready.
+use Rattle.std.proofs.Common.{◌≡◌, ◌⊎◌, ◌≤◌, ◌+◌, ℕ, Bool, true, false, ◌&&◌, eqb, List, [], ◌∷◌, length, map, Option, Some, is_some, refl, ap, sym, ◌∙◌, subst, inl, inr, arith}
+use Rattle.std.proofs.lemmas.Bool.{eqb-true}
+use Rattle.std.specs.List.{AllByRecursion, filter, list_any, range_with_len}
+use Rattle.machine_spec.specs.Machine.{Hart, Machine, hart_in, hart_of, is_ready}
+use Rattle.machine_spec.specs.Choice.{least}
+use Rattle.machine_spec.proofs.Harts.{ready-below}
+use Rattle.history_spec.specs.History.{History}
+use Rattle.round_spec.specs.Rounds.{nobody_out, is_out_of, is_free_in}
+use Rattle.round_spec.specs.Due.{place_in, is_due}
+use Rattle.round_spec.specs.Choice.{free_threads, first_of, least_by, best, is_any_out, eligible, choice_by}
+use Rattle.worker_spec.proofs.Lists.{some-filter, any-range, first-all, all-filter, all-pass, all-unfiltered, range-at, least-under, some-least_by, get-false}
+
+and-from : (a b : Bool) → a ≡ true → b ≡ true → (a && b) ≡ true
+and-from a b x y = rw (x, y) refl
+
+pub out-nobody : (v : ℕ) → is_out_of nobody_out v ≡ false
+unfolding nobody_out
+out-nobody v = get-false 32 v
+
+-- with nobody out, who is ready is free
+pub free-ready : (m : Machine) (v : ℕ) → is_free_in m nobody_out v ≡ is_ready (hart_of m v).status
+free-ready m v = rw (out-nobody v) (right (is_ready (hart_of m v).status))
+  where
+    right : (a : Bool) → (a && true) ≡ a
+    right true = refl
+    right false = refl
+
+pub any-nobody : is_any_out nobody_out ≡ false
+unfolding nobody_out
+any-nobody = refl
+
+-- a test of the free threads is one of the harts
+pub free-at :
+    (m : Machine) (i k : ℕ) → 0 + i ≡ k → is_free_in m nobody_out k ≡ is_ready (hart_in m.harts i).status
+free-at m i k is = let same : k ≡ i = omega arith in rw same (free-ready m i)
+
+some-free : (m : Machine) → is_some (first_of (free_threads m nobody_out)) ≡ list_any (λ (h : Hart). is_ready h.status) m.harts
+unfolding free_threads
+some-free m =
+    some-filter (is_free_in m nobody_out) (range_with_len 0 (length m.harts))
+    ∙ any-range (is_free_in m nobody_out) (λ (h : Hart). is_ready h.status) m.harts 0 (free-at m)
+
+some-best : (past : Option History) (m : Machine) (xs : List ℕ) → is_some (best past m xs) ≡ is_some (first_of xs)
+unfolding best
+some-best past m xs =
+    some-least_by (λ t. (hart_of m t).number) (least_by (place_in past m) xs) ∙ some-least_by (place_in past m) xs
+
+some-eligible : (p : ℕ → Bool) (free : List ℕ) → is_some (first_of (eligible (filter p free) free false)) ≡ is_some (first_of free)
+some-eligible p [] = refl
+some-eligible p (t ∷ free) = either (filter p (t ∷ free))
+  where
+    either : (due : List ℕ) → is_some (first_of (eligible due (t ∷ free) false)) ≡ true
+    either [] = refl
+    either (u ∷ due) = refl
+
+-- with nobody out a thread is chosen exactly where one is ready
+pub choice_by-some :
+    (past : Option History) (m : Machine) → is_some (choice_by past m nobody_out) ≡ list_any (λ (h : Hart). is_ready h.status) m.harts
+unfolding choice_by
+choice_by-some past m =
+    some-best past m (eligible (filter (is_due past m) (free_threads m nobody_out)) (free_threads m nobody_out) (is_any_out nobody_out))
+    ∙ ap (λ (b : Bool). is_some (first_of (eligible (filter (is_due past m) (free_threads m nobody_out)) (free_threads m nobody_out) b))) any-nobody
+    ∙ some-eligible (is_due past m) (free_threads m nobody_out)
+    ∙ some-free m
+
+-- who is best is one of those
+best-all :
+    (P : ℕ → Type 0) (past : Option History) (m : Machine) (xs : List ℕ) (u : ℕ)
+    → AllByRecursion P xs → best past m xs ≡ Some u → P u
+unfolding best least_by
+best-all P past m xs u all is =
+    first-all P _ u (all-filter P _ _ (all-filter P _ xs all)) is
+
+-- and of the least place
+best-least :
+    (past : Option History) (m : Machine) (xs : List ℕ) (u : ℕ)
+    → best past m xs ≡ Some u → AllByRecursion (λ v. place_in past m u ≤ place_in past m v) xs
+unfolding best least_by
+best-least past m [] u is = tt
+best-least past m (x ∷ xs) u is =
+    let test : eqb (place_in past m u) (least (map (place_in past m) (x ∷ xs))) ≡ true =
+    first-all (λ v. eqb (place_in past m v) (least (map (place_in past m) (x ∷ xs))) ≡ true) _ u
+    (all-filter (λ v. eqb (place_in past m v) (least (map (place_in past m) (x ∷ xs))) ≡ true) _ _
+    (all-pass (λ v. eqb (place_in past m v) (least (map (place_in past m) (x ∷ xs)))) (x ∷ xs))) is in
+    least-under (place_in past m) x xs (place_in past m u)
+    (let same = eqb-true (place_in past m u) (least (map (place_in past m) (x ∷ xs))) test in omega arith)
+
+best-none : (past : Option History) (m : Machine) (u : ℕ) → best past m [] ≡ Some u → ⊥
+unfolding best least_by
+best-none past m u is = cc
+
+chosen-cases :
+    (past : Option History) (m : Machine) (due free : List ℕ) (any : Bool) (u : ℕ)
+    → best past m (eligible due free any) ≡ Some u
+    → (best past m due ≡ Some u) ⊎ ((due ≡ []) × (best past m free ≡ Some u))
+chosen-cases past m (t ∷ due) free any u is = inl is
+chosen-cases past m [] free false u is = inr (refl, is)
+chosen-cases past m [] free true u is = absurd (best-none past m u is)
+
+-- the one that is chosen: ready; of the least place among those that are ready and due; and due, where anybody ready is
+pub record IsChosen (past : Option History) (m : Machine) (u : ℕ) : Type 0 where
+  pub ready : is_ready (hart_of m u).status ≡ true
+  pub least : (v : ℕ) → is_ready (hart_of m v).status ≡ true → is_due past m v ≡ true → place_in past m u ≤ place_in past m v
+  pub due : (is_due past m u ≡ true) ⊎ ((v : ℕ) → is_ready (hart_of m v).status ≡ true → is_due past m v ≡ false)
+
+all-free : (m : Machine) → AllByRecursion (λ v. is_ready (hart_of m v).status ≡ true) (free_threads m nobody_out)
+unfolding free_threads
+all-free m = each (filter (is_free_in m nobody_out) (range_with_len 0 (length m.harts))) (all-pass (is_free_in m nobody_out) (range_with_len 0 (length m.harts)))
+  where
+    each : (xs : List ℕ) → AllByRecursion (λ v. is_free_in m nobody_out v ≡ true) xs → AllByRecursion (λ v. is_ready (hart_of m v).status ≡ true) xs
+    each [] all = tt
+    each (x ∷ xs) all = (sym (free-ready m x) ∙ all.0, each xs all.1)
+
+-- what holds of all free threads that pass a test
+free-due :
+    (P : ℕ → Type 0) (m : Machine) (p : ℕ → Bool) (v : ℕ)
+    → AllByRecursion P (filter p (free_threads m nobody_out)) → is_ready (hart_of m v).status ≡ true → p v ≡ true → P v
+unfolding free_threads
+free-due P m p v all ready pass =
+    range-at (λ u. is_free_in m nobody_out u ≡ true → p u ≡ true → P u) (length m.harts) 0 v
+    (all-unfiltered (λ u. p u ≡ true → P u) (is_free_in m nobody_out) (range_with_len 0 (length m.harts))
+    (all-unfiltered P p (filter (is_free_in m nobody_out) (range_with_len 0 (length m.harts))) all))
+    (omega arith) (let below = ready-below m.harts v ready in omega arith) (free-ready m v ∙ ready) pass
+
+pub choice_by-chosen : (past : Option History) (m : Machine) (u : ℕ) → choice_by past m nobody_out ≡ Some u → IsChosen past m u
+unfolding choice_by
+choice_by-chosen past m u is =
+    elim (chosen-cases past m (filter (is_due past m) (free_threads m nobody_out)) (free_threads m nobody_out) (is_any_out nobody_out) u is) [
+      | inl one ↦ record {
+        ready =
+            best-all (λ v. is_ready (hart_of m v).status ≡ true) past m (filter (is_due past m) (free_threads m nobody_out)) u
+            (all-filter (λ v. is_ready (hart_of m v).status ≡ true) (is_due past m) (free_threads m nobody_out) (all-free m)) one;
+        least =
+            λ v ready due. free-due (λ v. place_in past m u ≤ place_in past m v) m (is_due past m) v
+            (best-least past m (filter (is_due past m) (free_threads m nobody_out)) u one) ready due;
+        due =
+            inl (best-all (λ v. is_due past m v ≡ true) past m (filter (is_due past m) (free_threads m nobody_out)) u
+            (all-pass (is_due past m) (free_threads m nobody_out)) one);
+      }
+      | inr none ↦ record {
+        ready = best-all (λ v. is_ready (hart_of m v).status ≡ true) past m (free_threads m nobody_out) u (all-free m) none.1;
+        least = λ v ready due. absurd (not-due none.0 v ready due);
+        due = inr (λ v ready. either (is_due past m v) (not-due none.0 v ready));
+      }
+    ]
+  where
+    not-due :
+        filter (is_due past m) (free_threads m nobody_out) ≡ [] → (v : ℕ)
+        → is_ready (hart_of m v).status ≡ true → is_due past m v ≡ true → ⊥
+    not-due empty v ready due =
+        free-due (λ v. ⊥) m (is_due past m) v (subst (λ (xs : List ℕ). AllByRecursion (λ v. ⊥) xs) (sym empty) tt) ready due
+
+    either : (b : Bool) → (b ≡ true → ⊥) → b ≡ false
+    either true never = absurd (never refl)
+    either false never = refl

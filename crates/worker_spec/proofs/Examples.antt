@@ -1,0 +1,95 @@
+-- Worked examples of one worker, each computed by the checker. Orders, marks and counts were worked out by hand.
+use Rattle.std.proofs.Common.{◌≡◌, true, false, [], ◌∷◌, map, Option, None, refl}
+use Rattle.isa_spec.specs.Fields.{i_immediate, s_immediate, u_immediate}
+use Rattle.isa_spec.specs.Registers.{with_register}
+use Rattle.isa_spec.specs.Operations.{immediate_result, shift_result, register_result}
+use Rattle.isa_spec.specs.Table.{decoded, reading_of}
+use Rattle.memory_spec.specs.Pages.{permission_at}
+use Rattle.memory_spec.specs.Stores.{with_byte}
+use Rattle.memory_spec.specs.Access.{number_in, number_at, loaded, fetched, may_store, bytes_stored}
+use Rattle.guest_call.specs.Objects.{all_unlocked}
+use Rattle.thunk_spec.specs.Put.{is_readable, put_addresses}
+use Rattle.thunk_spec.specs.Turn.{turn}
+use Rattle.thunk_spec.specs.Thunk.{thunk}
+use Rattle.record_spec.specs.Reads.{reads_of}
+use Rattle.record_spec.specs.Record.{put_of, fits_at}
+use Rattle.machine_spec.specs.Machine.{Machine}
+use Rattle.machine_spec.specs.Performing.{first_registers}
+use Rattle.machine_spec.specs.Step.{step, finished, lay, fits}
+use Rattle.machine_spec.proofs.Guests.{begins, late}
+use Rattle.history_spec.specs.History.{History}
+use Rattle.round_spec.specs.declared.events.Event.TheVariants.{Take, Reuse, Commit, GiveBack, Stop}
+use Rattle.round_spec.specs.declared.events.Pick.TheVariants as pick
+use Rattle.round_spec.specs.Rounds.{nobody_out, happens}
+use Rattle.round_spec.specs.Due.{is_due}
+use Rattle.round_spec.specs.Choice.{free_threads, least_by, best, choice_by, pick_of}
+use Rattle.round_spec.specs.Alone.{turns}
+use Rattle.round_spec.proofs.Samples.{past_of, starts, recorded, reuses, executes, seen, forgets}
+use Rattle.worker_spec.specs.OneWorker.{executed_in}
+use Rattle.worker_spec.specs.Replaying.{goes_on_by}
+
+-- the machine after main created the thread; after main loaded a byte, too; and after the thread stored one then
+abbrev one : Machine
+one = step (begins 9 9 late) 0
+
+abbrev two : Machine
+two = step one 0
+
+abbrev three : Machine
+three = step two 1
+
+-- what was done in the order 0, 0, 1, 0, which isn't that of one worker with nothing to go by
+abbrev main_first : Option History
+main_first =
+    past_of
+    (recorded (begins 9 9 late) 0 [] ∷ recorded one 0 [] ∷ recorded two 1 (record { slot = 1; mask = true ∷ []; bytes = 51 ∷ [] } ∷ [])
+    ∷ recorded three 0 [] ∷ [])
+
+-- main alone, whose byte was 4
+abbrev was_4 : Option History
+was_4 = past_of (recorded (begins 9 9 (forgets 4)) 0 [] ∷ recorded (step (begins 9 9 (forgets 4)) 0) 0 [] ∷ [])
+
+-- Without an edit the order is the old one, and all is reused.
+pub turns-main_first : seen (turns 9 (starts (begins 9 9 late) main_first)) ≡ (reuses 0 ∷ reuses 0 ∷ reuses 1 ∷ reuses 0 ∷ [], [], 0, false)
+unfolding nobody_out is_due free_threads least_by best choice_by pick_of happens step finished lay fits fits_at put_of reads_of thunk turn fetched number_at number_in permission_at decoded reading_of u_immediate i_immediate s_immediate immediate_result shift_result register_result with_register is_readable put_addresses loaded may_store bytes_stored with_byte first_registers all_unlocked
+turns-main_first = refl
+
+-- Nothing is executed then.
+pub executed-main_first : executed_in 9 (starts (begins 9 9 late) main_first) ≡ 0
+unfolding nobody_out is_due free_threads least_by best choice_by pick_of happens step finished lay fits fits_at put_of reads_of thunk turn fetched number_at number_in permission_at decoded reading_of u_immediate i_immediate s_immediate immediate_result shift_result register_result with_register is_readable put_addresses loaded may_store bytes_stored with_byte first_registers all_unlocked
+executed-main_first = refl
+
+-- With nothing to go by all is executed: 5 instructions to create, 5 to store, 4 to load, 2 to end, 6 to exit.
+pub executed-alone : executed_in 9 (starts (begins 9 9 late) None) ≡ 22
+unfolding nobody_out is_due free_threads least_by best choice_by pick_of happens step finished lay fits fits_at put_of reads_of thunk turn fetched number_at number_in permission_at decoded reading_of u_immediate i_immediate s_immediate immediate_result shift_result register_result with_register is_readable put_addresses loaded may_store bytes_stored with_byte first_registers all_unlocked
+executed-alone = refl
+
+-- So much in the first two turns.
+pub executed-two : executed_in 2 (starts (begins 9 9 late) None) ≡ 10
+unfolding nobody_out is_due free_threads least_by best choice_by pick_of happens step finished lay fits fits_at put_of reads_of thunk turn fetched number_at number_in permission_at decoded reading_of u_immediate i_immediate s_immediate immediate_result shift_result register_result with_register is_readable put_addresses loaded may_store bytes_stored with_byte first_registers all_unlocked
+executed-two = refl
+
+-- After an edit of the byte the first step is executed, of 5 instructions, and the second is reused.
+pub turns-edited : seen (turns 9 (starts (begins 9 9 (forgets 7)) was_4)) ≡ (executes 0 ∷ reuses 0 ∷ [], [], 0, false)
+unfolding nobody_out is_due free_threads least_by best choice_by pick_of happens step finished lay fits fits_at put_of reads_of thunk turn fetched number_at number_in permission_at decoded reading_of u_immediate i_immediate s_immediate immediate_result shift_result register_result with_register is_readable put_addresses loaded may_store bytes_stored with_byte first_registers all_unlocked
+turns-edited = refl
+
+-- These 5 are all.
+pub executed-edited : executed_in 9 (starts (begins 9 9 (forgets 7)) was_4) ≡ 5
+unfolding nobody_out is_due free_threads least_by best choice_by pick_of happens step finished lay fits fits_at put_of reads_of thunk turn fetched number_at number_in permission_at decoded reading_of u_immediate i_immediate s_immediate immediate_result shift_result register_result with_register is_readable put_addresses loaded may_store bytes_stored with_byte first_registers all_unlocked
+executed-edited = refl
+
+-- What was picked to be reused may be reused, and nothing else may be begun.
+pub goes-reuse : map (goes_on_by (pick.Reuse 1)) (Reuse 1 ∷ Reuse 2 ∷ Take 1 ∷ Commit 3 ∷ GiveBack 3 ∷ Stop ∷ []) ≡ true ∷ false ∷ false ∷ true ∷ true ∷ true ∷ []
+goes-reuse = refl
+
+-- So it is with what was picked to be executed.
+pub goes-run : map (goes_on_by (pick.Run 1)) (Take 1 ∷ Take 2 ∷ Reuse 1 ∷ Commit 3 ∷ GiveBack 3 ∷ Stop ∷ []) ≡ true ∷ false ∷ false ∷ true ∷ true ∷ true ∷ []
+goes-run = refl
+
+-- Who has to wait begins nothing, and after the end nobody does.
+pub goes-hold : map (goes_on_by pick.Hold) (Take 0 ∷ Reuse 0 ∷ Commit 0 ∷ GiveBack 0 ∷ Stop ∷ []) ≡ false ∷ false ∷ true ∷ true ∷ true ∷ []
+goes-hold = refl
+
+pub goes-over : map (goes_on_by pick.Over) (Take 0 ∷ Reuse 0 ∷ Commit 0 ∷ GiveBack 0 ∷ Stop ∷ []) ≡ false ∷ false ∷ true ∷ true ∷ true ∷ []
+goes-over = refl

@@ -1,0 +1,278 @@
+-- Where a history is honest and its own setup is run again, its next step is due, is the one that is chosen, and its record fits.
+use Rattle.std.proofs.Common.{◌≡◌, ◌≢◌, ◌<◌, ◌≤◌, ◌+◌, ℕ, zero, suc, Bool, true, false, ◌&&◌, ◌||◌, eqb, ltb, List, [], ◌∷◌, ◌++◌, length, map, take, Option, Some, None, is_some, is_none, find, refl, ap, sym, ◌∙◌, append_assoc, append-nil, inl, inr, arith}
+use Rattle.std.proofs.Math.Seq.{take-append_seam}
+use Rattle.std.proofs.lemmas.Bool.{eq-eqb, ne_eqb, lt-ltb, cases_eq}
+use Rattle.std.specs.List.{AllByRecursion, list_all, position_or_len}
+use Rattle.record_spec.specs.Record.{Record}
+use Rattle.machine_spec.specs.declared.states.End.{End}
+use Rattle.machine_spec.specs.Machine.{Machine, hart_of, is_ready}
+use Rattle.machine_spec.specs.Step.{step, can_step}
+use Rattle.machine_spec.specs.Schedule.{scratch_from, is_permitted_from, record_of, records_from}
+use Rattle.machine_spec.specs.Setup.{Setup, first, scratch, records}
+use Rattle.machine_spec.specs.Whole.{IsWhole}
+use Rattle.machine_spec.proofs.Beginning.{IsWhole-first}
+use Rattle.machine_spec.proofs.Alone.{step-limit, step-steps}
+use Rattle.history_spec.specs.History.{History, IsHonest, schedule_of, is_of, past_records}
+use Rattle.history_spec.proofs.Scratch.{and-left, and-right, scratch-whole, scratch-more}
+use Rattle.history_spec.proofs.Truth.{record-fits}
+use Rattle.report_spec.specs.declared.Entry.{Entry}
+use Rattle.round_spec.specs.Marks.{record_for, is_fitting, fits_next, marked_from}
+use Rattle.round_spec.specs.Rounds.{nobody_out}
+use Rattle.round_spec.specs.Due.{place_in, is_passed, must_come_before, is_due}
+use Rattle.round_spec.specs.Choice.{choice_by}
+use Rattle.round_spec.specs.Alone.{guided_from}
+use Rattle.worker_spec.proofs.Choosing.{choice_by-chosen}
+use Rattle.worker_spec.proofs.Numbers.{IsMadeOn, made-all, can_step-ready}
+use Rattle.worker_spec.proofs.Turns.{guided-over, guided-next, Stands, Over, Goes, stands}
+
+-- where nothing in front passes a test
+
+position-after :
+    (p : Record → Bool) (front rest : List Record)
+    → AllByRecursion (λ r. p r ≡ false) front
+    → position_or_len p (front ++ rest) ≡ length front + position_or_len p rest
+position-after p [] rest all = omega arith
+position-after p (r ∷ front) rest all = rw all.0 (let later = position-after p front rest all.1 in omega arith)
+
+find-after :
+    (p : Record → Bool) (front rest : List Record)
+    → AllByRecursion (λ r. p r ≡ false) front → find p (front ++ rest) ≡ find p rest
+find-after p [] rest all = refl
+find-after p (r ∷ front) rest all = rw all.0 (find-after p front rest all.1)
+
+-- a record whose step has been made is none of a next step
+made-not_next : (m : Machine) (u : ℕ) (r : Record) → IsMadeOn m r → is_of u (hart_of m u).number r ≡ false
+made-not_next m u r made =
+    elim (cases_eq r.thread u) [
+      | inl same ↦
+          let number : eqb r.number (hart_of m u).number ≡ false =
+          ne_eqb r.number (hart_of m u).number
+          (λ is.
+          let now : (hart_of m r.thread).number ≡ (hart_of m u).number = ap (λ (t : ℕ). (hart_of m t).number) same in
+          omega arith) in
+          right (eqb r.thread u) (eqb r.number (hart_of m u).number) number
+      | inr other ↦ left (eqb r.thread u) (eqb r.number (hart_of m u).number) (ne_eqb r.thread u other)
+    ]
+  where
+    left : (a b : Bool) → a ≡ false → (a && b) ≡ false
+    left a b none = rw none refl
+
+    right : (a b : Bool) → b ≡ false → (a && b) ≡ false
+    right true b none = none
+    right false b none = refl
+
+made-none_next : (m : Machine) (u : ℕ) (rs : List Record) → AllByRecursion (IsMadeOn m) rs → AllByRecursion (λ r. is_of u (hart_of m u).number r ≡ false) rs
+made-none_next m u [] all = tt
+made-none_next m u (r ∷ rs) all = (made-not_next m u r all.0, made-none_next m u rs all.1)
+
+passed-all : (m : Machine) (rs : List Record) → AllByRecursion (IsMadeOn m) rs → list_all (is_passed m) rs ≡ true
+passed-all m [] all = refl
+passed-all m (r ∷ rs) all =
+    let made : ltb r.number (hart_of m r.thread).number ≡ true = lt-ltb r.number (hart_of m r.thread).number all.0 in
+    rw made (passed-all m rs all.1)
+
+-- the records in front are those of steps that have been made, and then comes the record of a step that can be made
+pub record IsNext (past : Option History) (m : Machine) (front : List Record) (t : ℕ) (back : List Record) : Type 0 where
+  pub split : past_records past ≡ front ++ record_of m t ∷ back
+  pub made : AllByRecursion (IsMadeOn m) front
+  pub can : can_step m t ≡ true
+
+own-record : (m : Machine) (t : ℕ) → is_of t (hart_of m t).number (record_of m t) ≡ true
+own-record m t =
+    let thread : eqb t t ≡ true = eq-eqb t t refl in
+    let number : eqb (hart_of m t).number (hart_of m t).number ≡ true = eq-eqb (hart_of m t).number (hart_of m t).number refl in
+    rw (thread, number) refl
+
+other-record : (m : Machine) (t u : ℕ) → u ≢ t → is_of u (hart_of m u).number (record_of m t) ≡ false
+other-record m t u other =
+    let thread : eqb t u ≡ false = ne_eqb t u (λ same. other (sym same)) in
+    rw thread refl
+
+pub next-place :
+    (past : Option History) (m : Machine) (front : List Record) (t : ℕ) (back : List Record)
+    → IsNext past m front t back → place_in past m t ≡ length front
+next-place past m front t back next =
+    ap (position_or_len (is_of t (hart_of m t).number)) next.split
+    ∙ position-after (is_of t (hart_of m t).number) front (record_of m t ∷ back) (made-none_next m t front next.made)
+    ∙ here (own-record m t)
+  where
+    here :
+        is_of t (hart_of m t).number (record_of m t) ≡ true
+        → length front + position_or_len (is_of t (hart_of m t).number) (record_of m t ∷ back) ≡ length front
+    here own = rw own (omega arith)
+
+pub other-place :
+    (past : Option History) (m : Machine) (front : List Record) (t : ℕ) (back : List Record) (u : ℕ)
+    → IsNext past m front t back → u ≢ t → length front < place_in past m u
+other-place past m front t back u next other =
+    let split = ap (position_or_len (is_of u (hart_of m u).number)) next.split in
+    let after = position-after (is_of u (hart_of m u).number) front (record_of m t ∷ back) (made-none_next m u front next.made) in
+    let here = later (other-record m t u other) in
+    omega arith
+  where
+    later :
+        is_of u (hart_of m u).number (record_of m t) ≡ false
+        → 1 ≤ position_or_len (is_of u (hart_of m u).number) (record_of m t ∷ back)
+    later not_own = rw not_own (omega arith)
+
+pub next-found :
+    (past : Option History) (m : Machine) (front : List Record) (t : ℕ) (back : List Record)
+    → IsNext past m front t back → record_for past m t ≡ Some (record_of m t)
+next-found past m front t back next =
+    ap (find (is_of t (hart_of m t).number)) next.split
+    ∙ find-after (is_of t (hart_of m t).number) front (record_of m t ∷ back) (made-none_next m t front next.made)
+    ∙ here (own-record m t)
+  where
+    here : is_of t (hart_of m t).number (record_of m t) ≡ true → find (is_of t (hart_of m t).number) (record_of m t ∷ back) ≡ Some (record_of m t)
+    here own = rw own refl
+
+pub next-fits :
+    (past : Option History) (m : Machine) (front : List Record) (t : ℕ) (back : List Record)
+    → IsNext past m front t back → fits_next past m t ≡ true
+next-fits past m front t back next =
+    ap (is_fitting m) (next-found past m front t back next) ∙ record-fits m t (can_step-ready m t next.can)
+
+pub next-due :
+    (past : Option History) (m : Machine) (front : List Record) (t : ℕ) (back : List Record)
+    → IsNext past m front t back → is_due past m t ≡ true
+unfolding is_due
+next-due past m front t back next =
+    let before : must_come_before (past_records past) (place_in past m t) ≡ front =
+    ap (must_come_before (past_records past)) (next-place past m front t back next)
+    ∙ ap (take (length front)) next.split ∙ take-append_seam front (record_of m t ∷ back) in
+    let passed : list_all (is_passed m) (must_come_before (past_records past) (place_in past m t)) ≡ true =
+    ap (list_all (is_passed m)) before ∙ passed-all m front next.made in
+    or-right (is_none (record_for past m t)) (list_all (is_passed m) (must_come_before (past_records past) (place_in past m t))) passed
+  where
+    or-right : (a b : Bool) → b ≡ true → (a || b) ≡ true
+    or-right true b h = refl
+    or-right false b h = h
+
+pub can_step-none : (m : Machine) (t : ℕ) → can_step m t ≡ true → m.ending ≡ None
+can_step-none m t can = none (m.ending) (and-left (is_none m.ending) (is_ready (hart_of m t).status) can)
+  where
+    none : (e : Option End) → is_none e ≡ true → e ≡ None
+    none (Some e) h = cc
+    none None h = refl
+
+-- it is what is chosen
+pub next-chosen :
+    (past : Option History) (m : Machine) (front : List Record) (t : ℕ) (back : List Record)
+    → IsWhole m → IsNext past m front t back → choice_by past m nobody_out ≡ Some t
+next-chosen past m front t back whole next = by (stands past m whole)
+  where
+    by : Stands past m → choice_by past m nobody_out ≡ Some t
+    by (Over e is) = absurd (let none = can_step-none m t next.can in cc)
+    by (Goes u none chosen can) =
+        elim (cases_eq u t) [
+          | inl same ↦ chosen ∙ ap (λ (n : ℕ). Some n) same
+          | inr other ↦ absurd
+              (let least =
+              (choice_by-chosen past m u chosen).least t (can_step-ready m t next.can) (next-due past m front t back next) in
+              let own = next-place past m front t back next in
+              let far = other-place past m front t back u next other in
+              omega arith)
+        ]
+
+-- schedules in two parts
+
+pub permitted-front : (m : Machine) (xs ys : List ℕ) → is_permitted_from m (xs ++ ys) ≡ true → is_permitted_from m xs ≡ true
+permitted-front m [] ys permitted = refl
+permitted-front m (x ∷ xs) ys permitted =
+    rw (and-left (can_step m x) (is_permitted_from (step m x) (xs ++ ys)) permitted)
+    (permitted-front (step m x) xs ys (and-right (can_step m x) (is_permitted_from (step m x) (xs ++ ys)) permitted))
+
+pub permitted-back : (m : Machine) (xs ys : List ℕ) → is_permitted_from m (xs ++ ys) ≡ true → is_permitted_from (scratch_from m xs) ys ≡ true
+permitted-back m [] ys permitted = permitted
+permitted-back m (x ∷ xs) ys permitted =
+    permitted-back (step m x) xs ys (and-right (can_step m x) (is_permitted_from (step m x) (xs ++ ys)) permitted)
+
+pub records-both : (m : Machine) (xs ys : List ℕ) → records_from m (xs ++ ys) ≡ records_from m xs ++ records_from (scratch_from m xs) ys
+records-both m [] ys = refl
+records-both m (x ∷ xs) ys = ap (λ (rs : List Record). record_of m x ∷ rs) (records-both (step m x) xs ys)
+
+-- the machine after some first steps of an honest history
+pub honest-whole : (h : History) (xs ys : List ℕ) → IsHonest h → schedule_of h ≡ xs ++ ys → IsWhole (scratch h.setup xs)
+honest-whole h xs ys honest split =
+    scratch-whole (first h.setup) xs (IsWhole-first h.setup honest.valid)
+    (permitted-front (first h.setup) xs ys (ap (is_permitted_from (first h.setup)) (sym split) ∙ honest.permitted))
+
+-- what comes next in an honest history
+pub honest-next :
+    (h : History) (xs : List ℕ) (t : ℕ) (ys : List ℕ)
+    → IsHonest h → schedule_of h ≡ xs ++ t ∷ ys
+    → IsNext (Some h) (scratch h.setup xs) (records h.setup xs) t (records_from (step (scratch h.setup xs) t) ys)
+honest-next h xs t ys honest split =
+    let permitted : is_permitted_from (first h.setup) (xs ++ t ∷ ys) ≡ true =
+    ap (is_permitted_from (first h.setup)) (sym split) ∙ honest.permitted in
+    let back : is_permitted_from (scratch h.setup xs) (t ∷ ys) ≡ true = permitted-back (first h.setup) xs (t ∷ ys) permitted in
+    record {
+      split = honest.recorded ∙ ap (records h.setup) split ∙ records-both (first h.setup) xs (t ∷ ys);
+      made = made-all (first h.setup) xs (permitted-front (first h.setup) xs (t ∷ ys) permitted);
+      can = and-left (can_step (scratch h.setup xs) t) (is_permitted_from (step (scratch h.setup xs) t) ys) back;
+    }
+
+-- after all steps of it there is an end
+pub honest-end : (h : History) (xs : List ℕ) → IsHonest h → schedule_of h ≡ xs ++ [] → is_some (scratch h.setup xs).ending ≡ true
+honest-end h xs honest split =
+    ap (λ (ts : List ℕ). is_some (scratch h.setup ts).ending) (sym (split ∙ append-nil xs)) ∙ honest.complete
+
+pub some-is : {X : Type 0} (o : Option X) → is_some o ≡ true → (x : X) × (o ≡ Some x)
+some-is (Some x) h = (x, refl)
+some-is None h = cc
+
+-- one worker follows it
+pub follow :
+    (h : History) (n : ℕ) (xs ys : List ℕ)
+    → IsHonest h → schedule_of h ≡ xs ++ ys
+    → guided_from (Some h) n (scratch h.setup xs) ≡ take n ys
+follow h zero xs ys honest split = refl
+follow h (suc n) xs [] honest split =
+    let some = some-is (scratch h.setup xs).ending (honest-end h xs honest split) in
+    guided-over (Some h) (suc n) (scratch h.setup xs) some.0 some.1
+follow h (suc n) xs (t ∷ ys) honest split =
+    let next = honest-next h xs t ys honest split in
+    guided-next (Some h) n (scratch h.setup xs) t (can_step-none (scratch h.setup xs) t next.can)
+    (next-chosen (Some h) (scratch h.setup xs) (records h.setup xs) t (records_from (step (scratch h.setup xs) t) ys)
+    (honest-whole h xs (t ∷ ys) honest split) next)
+    ∙ ap (λ (m : Machine). t ∷ guided_from (Some h) n m) (sym (scratch-more (first h.setup) xs t))
+    ∙ ap (λ (us : List ℕ). t ∷ us) (follow h n (xs ++ t ∷ []) ys honest (split ∙ sym (append_assoc xs (t ∷ []) ys)))
+
+-- and each of its steps is marked as reused
+pub follow-marks :
+    (h : History) (xs ys : List ℕ)
+    → IsHonest h → schedule_of h ≡ xs ++ ys
+    → marked_from (Some h) (scratch h.setup xs) ys ≡ map (λ t. record { thread = t; reused = true }) ys
+follow-marks h xs [] honest split = refl
+follow-marks h xs (t ∷ ys) honest split =
+    let next = honest-next h xs t ys honest split in
+    ap (λ (b : Bool). record { thread = t; reused = b } ∷ marked_from (Some h) (step (scratch h.setup xs) t) ys)
+    (next-fits (Some h) (scratch h.setup xs) (records h.setup xs) t (records_from (step (scratch h.setup xs) t) ys) next)
+    ∙ ap (λ (m : Machine). record { thread = t; reused = true } ∷ marked_from (Some h) m ys) (sym (scratch-more (first h.setup) xs t))
+    ∙ ap (λ (es : List Entry). record { thread = t; reused = true } ∷ es)
+    (follow-marks h (xs ++ t ∷ []) ys honest (split ∙ sym (append_assoc xs (t ∷ []) ys)))
+
+-- it is no longer than the limit
+scratch-steps : (m : Machine) (ts : List ℕ) → (scratch_from m ts).steps ≡ m.steps + length ts
+scratch-steps m [] = omega arith
+scratch-steps m (t ∷ ts) = let here = step-steps m t in let later = scratch-steps (step m t) ts in omega arith
+
+scratch-limit : (m : Machine) (ts : List ℕ) → (scratch_from m ts).limit ≡ m.limit
+scratch-limit m [] = refl
+scratch-limit m (t ∷ ts) = scratch-limit (step m t) ts ∙ step-limit m t
+
+first-limit : (s : Setup) → ((first s).limit ≡ s.limit) × ((first s).steps ≡ 0)
+unfolding first
+first-limit s = (refl, refl)
+
+pub honest-length : (h : History) → IsHonest h → length (schedule_of h) ≤ h.setup.limit
+honest-length h honest =
+    let whole : IsWhole (scratch h.setup (schedule_of h)) =
+    scratch-whole (first h.setup) (schedule_of h) (IsWhole-first h.setup honest.valid) honest.permitted in
+    let few = whole.few_steps in
+    let steps = scratch-steps (first h.setup) (schedule_of h) in
+    let limit = scratch-limit (first h.setup) (schedule_of h) in
+    let begins = first-limit h.setup in
+    let most : (first h.setup).limit ≡ h.setup.limit = begins.0 in
+    let none : (first h.setup).steps ≡ 0 = begins.1 in
+    omega arith

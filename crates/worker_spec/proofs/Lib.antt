@@ -1,0 +1,12 @@
+pub mod Lists
+pub mod Choosing
+pub mod Numbers
+pub mod Turns
+pub mod Lone
+pub mod Picked
+pub mod Following
+pub mod Unedited
+pub mod Cost
+pub mod Replay
+pub mod Events
+pub mod Examples

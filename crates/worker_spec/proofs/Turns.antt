@@ -1,0 +1,180 @@
+-- The round of one worker is the one that its schedule makes, turn by turn.
+use Rattle.std.proofs.Common.{◌≡◌, ◌<◌, ℕ, zero, suc, Bool, true, false, cond, List, [], ◌∷◌, ◌++◌, get_or, set, Option, Some, None, is_some, refl, ap, sym, ◌∙◌, arith}
+use Rattle.record_spec.specs.Record.{Record}
+use Rattle.machine_spec.specs.declared.states.End.{End}
+use Rattle.machine_spec.specs.Machine.{Machine, hart_of, is_ready}
+use Rattle.machine_spec.specs.Step.{step, lay, fits, can_step}
+use Rattle.machine_spec.specs.Schedule.{scratch_from, record_of}
+use Rattle.machine_spec.specs.Setup.{Setup, first, scratch, records}
+use Rattle.machine_spec.specs.Choice.{chosen_first}
+use Rattle.machine_spec.specs.Whole.{IsWhole}
+use Rattle.machine_spec.proofs.Harts.{ready-below}
+use Rattle.history_spec.specs.History.{History, IsSound}
+use Rattle.history_spec.proofs.Scratch.{scratch-frame, scratch-more, records-more}
+use Rattle.history_spec.proofs.Truth.{reuse-record, reuse-lay}
+use Rattle.report_spec.specs.declared.Entry.{Entry}
+use Rattle.report_spec.specs.Report.{threads_of}
+use Rattle.round_spec.specs.declared.events.Pick.TheVariants as pick
+use Rattle.round_spec.specs.Marks.{record_for, is_fitting, fits_next, marked_from, marked}
+use Rattle.round_spec.specs.Rounds.{RoundState, nobody_out, happens}
+use Rattle.round_spec.specs.Choice.{choice_by, pick_of}
+use Rattle.round_spec.specs.Alone.{guided_from, turned}
+use Rattle.worker_spec.specs.OneWorker.{made_by}
+use Rattle.worker_spec.proofs.Lists.{get-raised, set-lowered}
+use Rattle.worker_spec.proofs.Choosing.{out-nobody, choice_by-some, choice_by-chosen}
+
+-- marks
+
+pub marked-threads : (past : Option History) (m : Machine) (ts : List ℕ) → threads_of (marked_from past m ts) ≡ ts
+marked-threads past m [] = refl
+marked-threads past m (t ∷ ts) = ap (λ (us : List ℕ). t ∷ us) (marked-threads past (step m t) ts)
+
+pub marked-more :
+    (past : Option History) (m : Machine) (ts : List ℕ) (t : ℕ)
+    → marked_from past m (ts ++ t ∷ [])
+    ≡ marked_from past m ts ++ record { thread = t; reused = fits_next past (scratch_from m ts) t } ∷ []
+marked-more past m [] t = refl
+marked-more past m (u ∷ ts) t =
+    ap (λ (es : List Entry). record { thread = u; reused = fits_next past m u } ∷ es) (marked-more past (step m u) ts t)
+
+-- a round of one worker by its parts
+abbrev pub lone_state : Setup → Option History → Machine → List Entry → List Record → RoundState
+lone_state setup past m schedule rs =
+    record {
+      setup = setup;
+      past = past;
+      machine = m;
+      schedule = schedule;
+      records = rs;
+      out = nobody_out;
+      discarded = 0;
+      stopped = false;
+    }
+
+pub made-more :
+    (setup : Setup) (past : Option History) (ts : List ℕ) (t : ℕ)
+    → made_by setup past (ts ++ t ∷ [])
+    ≡ lone_state setup past (step (scratch setup ts) t)
+    (marked past setup ts ++ record { thread = t; reused = fits_next past (scratch setup ts) t } ∷ [])
+    (records setup ts ++ record_of (scratch setup ts) t ∷ [])
+made-more setup past ts t =
+    rw (scratch-more (first setup) ts t, marked-more past (first setup) ts t, records-more (first setup) ts t) refl
+
+-- one turn
+
+turn-reuse :
+    (setup : Setup) (past : Option History) (m : Machine) (schedule : List Entry) (rs : List Record) (t : ℕ) (r : Record)
+    → is_some m.ending ≡ false → is_ready (hart_of m t).status ≡ true
+    → record_for past m t ≡ Some r → fits m r ≡ true
+    → turned (lone_state setup past m schedule rs) (pick.Reuse t)
+    ≡ lone_state setup past (lay m r) (schedule ++ record { thread = t; reused = true } ∷ []) (rs ++ r ∷ [])
+unfolding happens
+turn-reuse setup past m schedule rs t r none ready there fit = rw (none, ready, out-nobody t, there, fit) refl
+
+raised : (t : ℕ) → t < 32 → get_or (set nobody_out t true) t false ≡ true
+unfolding nobody_out
+raised t below = get-raised 32 t below
+
+lowered : (t : ℕ) → set (set nobody_out t true) t false ≡ nobody_out
+unfolding nobody_out
+lowered t = set-lowered 32 t
+
+turn-run :
+    (setup : Setup) (past : Option History) (m : Machine) (schedule : List Entry) (rs : List Record) (t : ℕ)
+    → is_some m.ending ≡ false → is_ready (hart_of m t).status ≡ true → t < 32
+    → fits_next past m t ≡ false
+    → turned (lone_state setup past m schedule rs) (pick.Run t)
+    ≡ lone_state setup past (step m t) (schedule ++ record { thread = t; reused = false } ∷ []) (rs ++ record_of m t ∷ [])
+unfolding happens
+turn-run setup past m schedule rs t none ready below unfit =
+    rw (none, ready, out-nobody t, unfit, raised t below, lowered t, none) refl
+
+pub pick-over : (setup : Setup) (past : Option History) (m : Machine) (schedule : List Entry) (rs : List Record) → is_some m.ending ≡ true → pick_of (lone_state setup past m schedule rs) ≡ pick.Over
+unfolding pick_of
+pick-over setup past m schedule rs is = rw is refl
+
+pub pick-chosen :
+    (setup : Setup) (past : Option History) (m : Machine) (schedule : List Entry) (rs : List Record) (t : ℕ)
+    → is_some m.ending ≡ false → choice_by past m nobody_out ≡ Some t
+    → pick_of (lone_state setup past m schedule rs) ≡ cond (fits_next past m t) (pick.Reuse t) (pick.Run t)
+unfolding pick_of
+pick-chosen setup past m schedule rs t none chosen = rw (none, chosen) refl
+
+pub running : (m : Machine) → m.ending ≡ None → is_some m.ending ≡ false
+running m none = rw none refl
+
+below-32 : (m : Machine) (t : ℕ) → IsWhole m → is_ready (hart_of m t).status ≡ true → t < 32
+below-32 m t whole ready =
+    let below = ready-below m.harts t ready in
+    let threads = whole.tied.threads in
+    let few = whole.tied.kept.few_threads in
+    omega arith
+
+-- the chosen thread's turn makes its step, by its record where that fits
+turn-chosen :
+    (setup : Setup) (past : Option History) (m : Machine) (schedule : List Entry) (rs : List Record) (t : ℕ) (o : Option Record) (b : Bool)
+    → IsSound past setup → IsWhole m → m.frame ≡ (first setup).frame
+    → m.ending ≡ None → is_ready (hart_of m t).status ≡ true
+    → record_for past m t ≡ o → is_fitting m o ≡ b
+    → turned (lone_state setup past m schedule rs) (cond b (pick.Reuse t) (pick.Run t))
+    ≡ lone_state setup past (step m t) (schedule ++ record { thread = t; reused = b } ∷ []) (rs ++ record_of m t ∷ [])
+turn-chosen setup past m schedule rs t None true sound whole frame none ready there fit = cc
+turn-chosen setup past m schedule rs t (Some r) true sound whole frame none ready there fit =
+    turn-reuse setup past m schedule rs t r (running m none) ready there fit
+    ∙ ap (λ (n : Machine). lone_state setup past n (schedule ++ record { thread = t; reused = true } ∷ []) (rs ++ r ∷ []))
+    (reuse-lay setup past m t (hart_of m t).number r sound whole frame there fit)
+    ∙ ap (λ (x : Record). lone_state setup past (step m t) (schedule ++ record { thread = t; reused = true } ∷ []) (rs ++ x ∷ []))
+    (reuse-record setup past m t (hart_of m t).number r sound whole frame there fit)
+turn-chosen setup past m schedule rs t o false sound whole frame none ready there fit =
+    turn-run setup past m schedule rs t (running m none) ready (below-32 m t whole ready) (ap (is_fitting m) there ∙ fit)
+
+pub turn-made :
+    (setup : Setup) (past : Option History) (ts : List ℕ) (t : ℕ)
+    → IsSound past setup → IsWhole (scratch setup ts)
+    → (scratch setup ts).ending ≡ None
+    → choice_by past (scratch setup ts) nobody_out ≡ Some t
+    → turned (made_by setup past ts) (pick_of (made_by setup past ts)) ≡ made_by setup past (ts ++ t ∷ [])
+turn-made setup past ts t sound whole none chosen =
+    ap (turned (made_by setup past ts))
+    (pick-chosen setup past (scratch setup ts) (marked past setup ts) (records setup ts) t (running (scratch setup ts) none) chosen)
+    ∙ turn-chosen setup past (scratch setup ts) (marked past setup ts) (records setup ts) t (record_for past (scratch setup ts) t)
+    (fits_next past (scratch setup ts) t) sound whole (scratch-frame (first setup) ts) none
+    (choice_by-chosen past (scratch setup ts) t chosen).ready refl refl
+    ∙ sym (made-more setup past ts t)
+
+pub turn-over :
+    (setup : Setup) (past : Option History) (ts : List ℕ) (e : End)
+    → (scratch setup ts).ending ≡ Some e
+    → turned (made_by setup past ts) (pick_of (made_by setup past ts)) ≡ made_by setup past ts
+turn-over setup past ts e is =
+    ap (turned (made_by setup past ts))
+    (pick-over setup past (scratch setup ts) (marked past setup ts) (records setup ts) (ap (λ (o : Option End). is_some o) is))
+
+-- nothing is chosen after an end, and somebody before it
+pub guided-over : (past : Option History) (n : ℕ) (m : Machine) (e : End) → m.ending ≡ Some e → guided_from past n m ≡ []
+guided-over past zero m e is = refl
+guided-over past (suc n) m e is = ap (λ (o : Option End). chosen_first o (choice_by past m nobody_out) (λ t. guided_from past n (step m t))) is
+
+pub guided-next :
+    (past : Option History) (n : ℕ) (m : Machine) (t : ℕ)
+    → m.ending ≡ None → choice_by past m nobody_out ≡ Some t
+    → guided_from past (suc n) m ≡ t ∷ guided_from past n (step m t)
+guided-next past n m t none chosen =
+    ap (λ (o : Option End). chosen_first o (choice_by past m nobody_out) (λ u. guided_from past n (step m u))) none
+    ∙ ap (λ (o : Option ℕ). chosen_first None o (λ u. guided_from past n (step m u))) chosen
+
+-- how things stand after a permitted schedule: at an end, or before the step of the chosen thread
+pub data Stands (past : Option History) (m : Machine) : Type 0 where
+  Over : (e : End) → m.ending ≡ Some e → Stands past m
+  Goes : (t : ℕ) → m.ending ≡ None → choice_by past m nobody_out ≡ Some t → can_step m t ≡ true → Stands past m
+
+pub stands : (past : Option History) (m : Machine) → IsWhole m → Stands past m
+stands past m whole = by m.ending (choice_by past m nobody_out) refl refl
+  where
+    by : (e : Option End) (o : Option ℕ) → m.ending ≡ e → choice_by past m nobody_out ≡ o → Stands past m
+    by (Some e) o is chosen = Over e is
+    by None None is chosen =
+        absurd (let some = choice_by-some past m ∙ whole.some_ready is in let impossible = rw chosen at some in cc)
+    by None (Some t) is chosen =
+        let ready : is_ready (hart_of m t).status ≡ true = (choice_by-chosen past m t chosen).ready in
+        Goes t is chosen (rw (is, ready) refl)

@@ -1,0 +1,27 @@
+use Rattle.std.proofs.Common.{Some, subst}
+use Rattle.machine_spec.specs.Setup.{Setup}
+use Rattle.round_spec.specs.Rounds.{opening}
+use Rattle.worker_spec.specs.Replaying.{IsReplaying}
+use Rattle.worker_spec.proofs.Replay.{replays-start, replays-on, replays-next, replays-end, replays-instructions}
+use Rattle.worker_spec.proofs.no_edit_replays_the_history.Goals as goal
+
+pub returns-clause-start : goal.returns-clause-start
+returns-clause-start c = λ h setup unedited. subst (λ (s : Setup). IsReplaying h (opening s (Some h))) unedited.same (replays-start h)
+
+pub returns-clause-event : goal.returns-clause-event
+returns-clause-event c = replays-on
+
+pub returns-clause-next : goal.returns-clause-next
+returns-clause-next c = replays-next
+
+pub returns-clause-instructions : goal.returns-clause-instructions
+returns-clause-instructions c = replays-instructions
+
+pub returns-clause-schedule : goal.returns-clause-schedule
+returns-clause-schedule c = λ h w honest replays ended. (replays-end h w honest replays ended).0
+
+pub returns-clause-machine : goal.returns-clause-machine
+returns-clause-machine c = λ h w honest replays ended. (replays-end h w honest replays ended).2
+
+pub returns-clause-records : goal.returns-clause-records
+returns-clause-records c = λ h w honest replays ended. (replays-end h w honest replays ended).1

@@ -1,0 +1,8 @@
+use Rattle.worker_spec.proofs.Lone.{one_worker-permitted, one_worker-complete}
+use Rattle.worker_spec.proofs.one_worker_comes_to_an_end.Goals as goal
+
+pub returns-clause-permitted : goal.returns-clause-permitted
+returns-clause-permitted c = one_worker-permitted
+
+pub returns-clause-complete : goal.returns-clause-complete
+returns-clause-complete c = one_worker-complete

@@ -1,0 +1,5 @@
+use Rattle.worker_spec.proofs.Events.{lone-honest}
+use Rattle.worker_spec.proofs.one_worker_leaves_an_honest_history.Goals as goal
+
+pub returns : goal.returns
+returns c = lone-honest

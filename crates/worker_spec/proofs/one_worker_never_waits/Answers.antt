@@ -1,0 +1,5 @@
+use Rattle.worker_spec.proofs.Lone.{never-hold}
+use Rattle.worker_spec.proofs.one_worker_never_waits.Goals as goal
+
+pub returns : goal.returns
+returns c = never-hold

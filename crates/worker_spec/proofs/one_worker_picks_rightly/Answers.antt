@@ -1,0 +1,5 @@
+use Rattle.worker_spec.proofs.Picked.{lone-picked}
+use Rattle.worker_spec.proofs.one_worker_picks_rightly.Goals as goal
+
+pub returns : goal.returns
+returns c = lone-picked

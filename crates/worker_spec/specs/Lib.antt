@@ -1,0 +1,2 @@
+pub mod OneWorker
+pub mod Replaying

@@ -1,0 +1,39 @@
+-- What one worker makes of a round: a round that is known by its schedule alone, and how many instructions were executed.
+use Rattle.std.specs.Prelude.{ℕ, zero, suc, ◌+◌, false, List, Option}
+use Rattle.thunk_spec.specs.Thunk.{thunk}
+use Rattle.machine_spec.specs.Machine.{hart_of}
+use Rattle.machine_spec.specs.Setup.{Setup, scratch, records}
+use Rattle.history_spec.specs.History.{History}
+use Rattle.round_spec.specs.declared.events.Pick.{Pick}
+use Rattle.round_spec.specs.declared.events.Pick.TheVariants as pick
+use Rattle.round_spec.specs.Marks.{marked}
+use Rattle.round_spec.specs.Rounds.{RoundState, nobody_out}
+use Rattle.round_spec.specs.Choice.{pick_of}
+use Rattle.round_spec.specs.Alone.{turned}
+
+-- The round whose steps were made under a schedule, where nobody is out, nothing was discarded and nobody stopped it: its machine and
+-- its records are those from scratch, and its marks are exact. (this project's own)
+abbrev pub made_by : Setup → Option History → List ℕ → RoundState
+made_by setup past schedule =
+    record {
+      setup = setup;
+      past = past;
+      machine = scratch setup schedule;
+      schedule = marked past setup schedule;
+      records = records setup schedule;
+      out = nobody_out;
+      discarded = 0;
+      stopped = false;
+    }
+
+-- How many instructions a worker executes for what it picked: those of the thunk that it runs, and else none. (this project's own)
+abbrev pub cost_of : RoundState → Pick → ℕ
+cost_of w (pick.Run t) = (thunk w.machine.frame (hart_of w.machine t).view (hart_of w.machine t).regs).count
+cost_of w (pick.Reuse t) = 0
+cost_of w pick.Hold = 0
+cost_of w pick.Over = 0
+
+-- How many instructions one worker executes in so many turns. (this project's own)
+abbrev pub executed_in : ℕ → RoundState → ℕ
+executed_in zero w = 0
+executed_in (suc n) w = cost_of w (pick_of w) + executed_in n (turned w (pick_of w))
