@@ -136,3 +136,8 @@ own_fits m r ready number start kept =
     let third : has (hart_of m r.thread).view r.kept.reads ≡ true =
     rw kept (has-kept m.frame (hart_of m r.thread).view (hart_of m r.thread).regs) in
     rw (ready, first, second, third) refl
+
+-- a record that fits is of a ready thread
+pub fitting_can : (m : Machine) (r : Record) → fits m r ≡ true → is_ready (hart_of m r.thread).status ≡ true
+unfolding fits
+fitting_can m r fit = and_left _ _ fit
