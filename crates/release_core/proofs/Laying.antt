@@ -1,6 +1,6 @@
 -- Laying a record, part by part, and that the record of a thread's own thunk fits.
 use Rattle.std.proofs.Common.{◌≡◌, ◌<◌, ◌≤◌, ◌+◌, ℕ, zero, suc, Bool, true, false, ◌&&◌, eqb, List, [], ◌∷◌, ◌++◌, Option, length, set, refl, ap, sym, ◌∙◌, arith}
-use Rattle.std.proofs.lemmas.Bool.{eq-eqb}
+use Rattle.std.proofs.lemmas.Bool.{eq-eqb, and_parts}
 use Rattle.std.proofs.lemmas.Bool.Decides.{nat_tests}
 use Rattle.std.proofs.lemmas.List.{length-set, get_or_past}
 use Rattle.std.proofs.lemmas.List.Elements.{recursion_from_All, All-from_recursion}
@@ -140,4 +140,4 @@ own_fits m r ready number start kept =
 -- a record that fits is of a ready thread
 pub fitting_can : (m : Machine) (r : Record) → fits m r ≡ true → is_ready (hart_of m r.thread).status ≡ true
 unfolding fits
-fitting_can m r fit = and_left _ _ fit
+fitting_can m r fit = (and_parts _ _ fit).0
