@@ -1,6 +1,6 @@
 //! The records of a run's steps, each found by its thread and its number.
 
-ghost use Rattle.std.specs.Prelude.{◌≡◌, ◌<◌, ◌≤◌, ◌==◌, ◌++◌, ◌-◌, take, [], ◌∷◌, true, length, count_by, find, option_map, slice_get, slice_index_or, OnOk, OnErr, Some};
+ghost use Rattle.std.specs.Prelude.{◌≡◌, ◌<◌, ◌≤◌, ◌==◌, ◌++◌, ◌-◌, take, [], ◌∷◌, true, All, length, count_by, find, option_map, slice_get, slice_index_or, slice_set, OnOk, OnErr, Some};
 ghost use Rattle.std.specs.Arc.{arc_value};
 ghost use Rattle.std.specs.List.{position_or_len};
 ghost use Rattle.history_spec.specs.History.{is_of, is_numbered, threads_of_records};
@@ -66,6 +66,32 @@ impl Row {
     }
 }
 
+/// One place more in row `t`.
+fn add_place(rows: &mut [Row; THREADS], t: usize, place: u32) -> Result<(), AllocError>
+    requires { t < 32 }
+    ensures ok { OnOk result (rows.new ≡ slice_set rows.old t (slice_index_or rows.old t [] ++ place ∷ [])) }
+    ensures err { OnErr result (rows.new ≡ rows.old) }
+    ensures count { length rows.old ≡ 32 }
+{
+    rows[t].push(place)
+}
+
+/// The last place of row `t` is taken away.
+fn drop_place(rows: &mut [Row; THREADS], t: usize)
+    requires { t < 32 }
+    ensures rest { rows.new ≡ slice_set rows.old t (take (length (slice_index_or rows.old t []) - 1) (slice_index_or rows.old t [])) }
+    ensures count { length rows.old ≡ 32 }
+{
+    rows[t].pop();
+}
+
+/// Rows with no place.
+fn no_places(alloc: Global) -> [Row; THREADS]
+    ensures { All (λ row. row ≡ []) result }
+{
+    array::from_fn(|_| -> Row ensures { result ≡ [] } { Row::new(alloc) })
+}
+
 /// Records of steps in order, at most 65,536, of threads below 32. The number of each is how many
 /// records of its thread come before it. A clause sees the list of them.
 #[derive(Drop)]
@@ -94,7 +120,7 @@ impl Records {
     {
         Records {
             list: Vec::new(alloc),
-            rows: array::from_fn(|_| Row::new(alloc)),
+            rows: no_places(alloc),
         }
     }
 
@@ -142,10 +168,16 @@ impl Records {
     }
 
     /// The record of thread `t` at this number of steps made, if there is one.
+    #[tactic(auto, using(crate::proofs::Placing::found_at, crate::proofs::Placing::found_none))]
     pub fn find(&self, t: u8, number: u32) -> Option<&Arc<Record>>
         ensures { option_map (λ r. arc_value r.now) result ≡ find (is_of t number) self.now }
     {
-        self.list.get(self.place(t, number))
+        let place = self.place(t, number);
+        if place < self.len() {
+            Some(self.at(place))
+        } else {
+            None
+        }
     }
 
     /// A record more. Its number is how many records of its thread there are.
@@ -163,7 +195,7 @@ impl Records {
         let place = self.list.len() as u32;
         let t = usize::from(rec.thread());
         self.list.reserve(1)?;
-        self.rows[t].push(place)?;
+        add_place(&mut self.rows, t, place)?;
         self.list.push(rec)?;
         Ok(())
     }
@@ -174,7 +206,7 @@ impl Records {
         ensures { self.new ≡ take (length self.old - 1) self.old }
     {
         match self.list.pop() {
-            Some(rec) => self.rows[usize::from(rec.thread())].pop(),
+            Some(rec) => drop_place(&mut self.rows, usize::from(rec.thread())),
             None => unreachable!(),
         }
     }
