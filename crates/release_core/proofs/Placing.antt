@@ -1,5 +1,5 @@
 -- Where the records of each thread stand, as records come and go at the end.
-use Rattle.std.proofs.Common.{◌≡◌, ◌<◌, ◌≤◌, ◌+◌, ◌-◌, ℕ, zero, suc, Bool, true, false, ◌&&◌, cond, eqb, ltb, List, [], ◌∷◌, ◌++◌, All, take, length, set, get_or, count_by, length-append, slice_get, Option, Some, None, absurd, inl, inr, refl, ap, sym, subst, ◌∙◌, arith}
+use Rattle.std.proofs.Common.{◌≡◌, ◌<◌, ◌≤◌, ◌+◌, ◌-◌, ℕ, zero, suc, Bool, true, false, ◌&&◌, cond, eqb, ltb, List, [], ◌∷◌, ◌++◌, All, take, length, set, get_or, count_by, length-append, slice_get, Option, Some, None, inl, inr, refl, ap, sym, subst, ◌∙◌, arith}
 use Rattle.std.proofs.lemmas.Bool.{and_parts, and_from, eq-eqb, eqb-true, ne_eqb, cases_eq, cases_lt, lt-ltb, ltb-true}
 use Rattle.std.proofs.lemmas.Bool.Decides.{nat_tests}
 use Rattle.std.proofs.lemmas.List.{get_or-set_same, get_or-set_other, get_or_past}
@@ -181,15 +181,19 @@ indexed-more places rs r kept rows few below number =
       few = rw (length-append rs (r ∷ [])) (omega arith);
     }
 
-front : (xs : List ℕ) (x : ℕ) → take (length xs) (xs ++ x ∷ []) ≡ xs
+front : {X : Type 0} (xs : List X) (x : X) → take (length xs) (xs ++ x ∷ []) ≡ xs
 front [] x = refl
 front (y ∷ xs) x = ap (λ ys. y ∷ ys) (front xs x)
 
-without-last : (xs : List ℕ) (x : ℕ) → take (length (xs ++ x ∷ []) - 1) (xs ++ x ∷ []) ≡ xs
+without-last : {X : Type 0} (xs : List X) (x : X) → take (length (xs ++ x ∷ []) - 1) (xs ++ x ∷ []) ≡ xs
 without-last xs x =
     let more = length-append xs (x ∷ []) in
     let count : length (xs ++ x ∷ []) - 1 ≡ length xs = omega arith in
     ap (λ n. take n (xs ++ x ∷ [])) count ∙ front xs x
+
+-- a list without its last element is what stood before that one came
+pub undone : (before after rs : List Record) (r : Record) → after ≡ take (length before - 1) before → before ≡ rs ++ r ∷ [] → after ≡ rs
+undone before after rs r is pushed = is ∙ ap (λ xs. take (length xs - 1) xs) pushed ∙ without-last rs r
 
 -- one record fewer
 pub indexed-less :

@@ -1,8 +1,9 @@
 //! The records of a run's steps, each found by its thread and its number.
 
-ghost use Rattle.std.specs.Prelude.{◌≡◌, ◌<◌, ◌≤◌, ◌==◌, ◌++◌, ◌-◌, take, [], ◌∷◌, true, All, length, count_by, find, option_map, slice_get, slice_index_or, slice_set, OnOk, OnErr, Some};
+ghost use Rattle.std.specs.Prelude.{◌≡◌, ◌<◌, ◌≤◌, ◌==◌, ◌++◌, ◌-◌, take, [], ◌∷◌, true, List, All, length, count_by, find, option_map, slice_get, slice_index_or, slice_set, OnOk, OnErr, Some};
 ghost use Rattle.std.specs.Arc.{arc_value};
 ghost use Rattle.std.specs.List.{position_or_len};
+ghost use Rattle.record_spec.specs.Record.{Record as Recorded};
 ghost use Rattle.history_spec.specs.History.{is_of, is_numbered, threads_of_records};
 ghost use Rattle.release_core.specs.Records.{HaveThreads};
 
@@ -200,10 +201,12 @@ impl Records {
         Ok(())
     }
 
-    /// The last record is taken away.
+    /// The last record is taken away: what undoes a `push`. Takes no memory.
+    #[tactic(auto, using(crate::proofs::Placing::undone))]
     pub fn pop(&mut self)
         requires { 0 < length self.old }
-        ensures { self.new ≡ take (length self.old - 1) self.old }
+        ensures rest { self.new ≡ take (length self.old - 1) self.old }
+        ensures undo { (rs : List Recorded) (rec : Recorded) → self.old ≡ rs ++ rec ∷ [] → self.new ≡ rs }
     {
         match self.list.pop() {
             Some(rec) => drop_place(&mut self.rows, usize::from(rec.thread())),
