@@ -1,5 +1,5 @@
 -- Where the records of each thread stand, as records come and go at the end.
-use Rattle.std.proofs.Common.{◌≡◌, ◌<◌, ◌≤◌, ◌+◌, ◌-◌, ℕ, zero, suc, Bool, true, false, ◌&&◌, cond, eqb, ltb, List, [], ◌∷◌, ◌++◌, All, take, length, set, get_or, count_by, length-append, slice_get, Option, Some, None, inl, inr, refl, ap, sym, subst, ◌∙◌, arith}
+use Rattle.std.proofs.Common.{◌≡◌, ◌<◌, ◌≤◌, ◌+◌, ◌-◌, ℕ, zero, suc, Bool, true, false, ◌&&◌, cond, eqb, List, [], ◌∷◌, ◌++◌, All, take, length, set, get_or, count_by, length-append, slice_get, Some, None, inl, inr, refl, ap, sym, subst, ◌∙◌, arith}
 use Rattle.std.proofs.lemmas.Bool.{and_parts, and_from, eq-eqb, eqb-true, ne_eqb, cases_eq, cases_lt, lt-ltb, ltb-true}
 use Rattle.std.proofs.lemmas.Bool.Decides.{nat_tests}
 use Rattle.std.proofs.lemmas.List.{get_or-set_same, get_or-set_other, get_or_past}
@@ -7,7 +7,7 @@ use Rattle.std.proofs.lemmas.List.Sums.{sum_by_push}
 use Rattle.std.proofs.lemmas.List.Folds.{find_at}
 use Rattle.std.specs.List.{find, position_or_len}
 use Rattle.record_spec.specs.Record.{Record}
-use Rattle.history_spec.specs.History.{is_of, is_numbered, is_numbered_after, threads_of_records}
+use Rattle.history_spec.specs.History.{is_of, is_numbered_after, threads_of_records}
 use Rattle.history_spec.proofs.Numbers.{numbered-more}
 use Rattle.release_core.specs.Records.{places_from, IsIndexed, HaveThreads}
 
@@ -99,7 +99,8 @@ nowhere t n [] all past = refl
 nowhere t n (r ∷ rs) all past =
     let below : r.thread < 32 = ltb-true _ _ (and_parts _ _ all).0 in
     let here : is_of t n r ≡ false = grind (arith, nat_tests) in
-    let next : position_or_len (is_of t n) rs ≡ length rs = nowhere t n rs (and_parts _ _ all).1 past in
+    let others : HaveThreads rs = (and_parts _ _ all).1 in
+    let next : position_or_len (is_of t n) rs ≡ length rs = nowhere t n rs others past in
     rw here (omega arith)
 
 -- the place that the index gives, where there is a thread of that number
@@ -169,12 +170,12 @@ indexed-more places rs r kept rows few below number =
           λ t inside.
           elim (cases_eq r.thread t) [
             | inl same ↦
-              let here : get_or (set places r.thread (get_or places r.thread [] ++ length rs ∷ [])) t [] ≡ get_or places t [] ++ length rs ∷ [] =
-              subst (λ u. get_or (set places u (get_or places u [] ++ length rs ∷ [])) t [] ≡ get_or places t [] ++ length rs ∷ []) (sym same)
-              (get_or-set_same places t _ [] (omega arith)) in
-              here ∙ ap (λ xs. xs ++ length rs ∷ []) (kept.index t inside) ∙ sym (places-first t rs r (eq-eqb _ _ same))
+                let here : get_or (set places r.thread (get_or places r.thread [] ++ length rs ∷ [])) t [] ≡ get_or places t [] ++ length rs ∷ [] =
+                subst (λ u. get_or (set places u (get_or places u [] ++ length rs ∷ [])) t [] ≡ get_or places t [] ++ length rs ∷ []) (sym same)
+                (get_or-set_same places t _ [] (omega arith)) in
+                here ∙ ap (λ xs. xs ++ length rs ∷ []) (kept.index t inside) ∙ sym (places-first t rs r (eq-eqb _ _ same))
             | inr other ↦
-              get_or-set_other places r.thread t _ [] (λ e. other (sym e)) ∙ kept.index t inside ∙ sym (places-other 0 t rs r (ne_eqb _ _ other))
+                get_or-set_other places r.thread t _ [] (λ e. other (sym e)) ∙ kept.index t inside ∙ sym (places-other 0 t rs r (ne_eqb _ _ other))
           ];
       numbered = numbered-more [] rs r kept.numbered number;
       threads = threads-more rs r kept.threads below;
@@ -208,13 +209,13 @@ indexed-less places rs r kept rows =
           λ t inside.
           elim (cases_eq r.thread t) [
             | inl same ↦
-              let here : get_or (set places r.thread (take (length (get_or places r.thread []) - 1) (get_or places r.thread []))) t [] ≡ take (length (get_or places t []) - 1) (get_or places t []) =
-              subst (λ u. get_or (set places u (take (length (get_or places u []) - 1) (get_or places u []))) t [] ≡ take (length (get_or places t []) - 1) (get_or places t [])) (sym same)
-              (get_or-set_same places t _ [] (omega arith)) in
-              let row : get_or places t [] ≡ places_from 0 t rs ++ length rs ∷ [] = kept.index t inside ∙ places-first t rs r (eq-eqb _ _ same) in
-              here ∙ ap (λ xs. take (length xs - 1) xs) row ∙ without-last (places_from 0 t rs) (length rs)
+                let here : get_or (set places r.thread (take (length (get_or places r.thread []) - 1) (get_or places r.thread []))) t [] ≡ take (length (get_or places t []) - 1) (get_or places t []) =
+                subst (λ u. get_or (set places u (take (length (get_or places u []) - 1) (get_or places u []))) t [] ≡ take (length (get_or places t []) - 1) (get_or places t [])) (sym same)
+                (get_or-set_same places t _ [] (omega arith)) in
+                let row : get_or places t [] ≡ places_from 0 t rs ++ length rs ∷ [] = kept.index t inside ∙ places-first t rs r (eq-eqb _ _ same) in
+                here ∙ ap (λ xs. take (length xs - 1) xs) row ∙ without-last (places_from 0 t rs) (length rs)
             | inr other ↦
-              get_or-set_other places r.thread t _ [] (λ e. other (sym e)) ∙ kept.index t inside ∙ places-other 0 t rs r (ne_eqb _ _ other)
+                get_or-set_other places r.thread t _ [] (λ e. other (sym e)) ∙ kept.index t inside ∙ places-other 0 t rs r (ne_eqb _ _ other)
           ];
       numbered = numbered-less [] rs r kept.numbered;
       threads = threads.0;

@@ -90,7 +90,11 @@ fn drop_place(rows: &mut [Row; THREADS], t: usize)
 fn no_places(alloc: Global) -> [Row; THREADS]
     ensures { All (λ row. row ≡ []) result }
 {
-    array::from_fn(|_| -> Row ensures { result ≡ [] } { Row::new(alloc) })
+    array::from_fn(
+        |_| -> Row
+            ensures { result ≡ [] }
+        { Row::new(alloc) },
+    )
 }
 
 /// Records of steps in order, at most 65,536, of threads below 32. The number of each is how many

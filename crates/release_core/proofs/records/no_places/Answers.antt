@@ -1,5 +1,4 @@
-use Rattle.std.proofs.Common.{rules, ◌≡◌, ◌<◌, [], length, slice_index_or, List, ℕ, sym, subst, arith}
-use Rattle.std.proofs.lemmas.Grind.{common_steps}
+use Rattle.std.proofs.Common.{◌<◌, subst}
 use Rattle.release_core.proofs.records.no_places.Goals as goal
 
 pub returns : goal.returns

@@ -1,4 +1,4 @@
-use Rattle.std.proofs.Common.{◌≡◌, ◌∙◌, ap, sym, List, ℕ, length, arith, map}
+use Rattle.std.proofs.Common.{◌≡◌, ◌∙◌, ap, List, length, arith, map}
 use Rattle.std.proofs.lemmas.Grind.{common_steps}
 use Rattle.std.specs.Arc.{arc_value}
 use Rattle.std.specs.List.{position_or_len}
