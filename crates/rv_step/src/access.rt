@@ -1,6 +1,8 @@
 //! Turns that load and store (RISC-V unprivileged ISA 20191213, 2.6).
 
 ghost use Rattle.std.specs.Prelude.{◌≡◌, ◌<◌, ◌%◌, ◌*◌, ◌^◌, ◌==◌, IfOk, OnErr};
+ghost use Rattle.isa_spec.specs.Registers.{register};
+ghost use Rattle.isa_spec.specs.Words.{sum_of};
 ghost use Rattle.memory_spec.specs.Access.{byte_count};
 ghost use Rattle.memory_spec.specs.Workspace.{OnlyTook};
 ghost use Rattle.thunk_spec.specs.Turn.{load_size, load_result, load_turn, store_size, store_turn};
@@ -63,9 +65,9 @@ fn extended(kind: Load, value: u32) -> u32
     }
 }
 
-/// A load. Alignment is looked at before the access.
+/// A load of a kind. Alignment is looked at before the access.
 #[inline(always)]
-pub(super) fn execute_load<M: Mem>(
+fn load_kind<M: Mem>(
     regs: &mut Regs,
     mem: &mut M,
     kind: Load,
@@ -91,9 +93,34 @@ pub(super) fn execute_load<M: Mem>(
     }
 }
 
-/// A store. Alignment is looked at before the access.
+/// A load, by its kind: so the number of bytes is known in each of the arms.
 #[inline(always)]
-pub(super) fn execute_store<M: Mem>(
+pub(super) fn execute_load<M: Mem>(
+    regs: &mut Regs,
+    mem: &mut M,
+    kind: Load,
+    rd: u8,
+    rs1: u8,
+    offset: u32,
+) -> Result<Outcome, AllocError>
+    requires rd { rd < 32 }
+    requires rs1 { rs1 < 32 }
+    ensures ok { IfOk result (λ outcome. Makes (load_turn (M.workspace mem.old).map (M.workspace mem.old).memory regs.old kind rd (sum_of (register regs.old rs1) offset)) (M.workspace mem.old) outcome regs.new (M.workspace mem.new)) }
+    ensures err { OnErr result ((regs.new ≡ regs.old) × OnlyTook (M.workspace mem.old) (M.workspace mem.new)) }
+{
+    let address = regs.get(rs1).wrapping_add(offset);
+    match kind {
+        Load::Byte => load_kind(regs, mem, Load::Byte, rd, address),
+        Load::Half => load_kind(regs, mem, Load::Half, rd, address),
+        Load::Word => load_kind(regs, mem, Load::Word, rd, address),
+        Load::ByteUnsigned => load_kind(regs, mem, Load::ByteUnsigned, rd, address),
+        Load::HalfUnsigned => load_kind(regs, mem, Load::HalfUnsigned, rd, address),
+    }
+}
+
+/// A store of a kind. Alignment is looked at before the access.
+#[inline(always)]
+fn store_kind<M: Mem>(
     regs: &mut Regs,
     mem: &mut M,
     kind: Store,
@@ -114,5 +141,29 @@ pub(super) fn execute_store<M: Mem>(
         }
         Err(MemoryError::Access) => Ok(Outcome::Trap(Cause::StoreAccess)),
         Err(MemoryError::NoMemory) => Err(AllocError),
+    }
+}
+
+/// A store, by its kind: so the number of bytes is known in each of the arms.
+#[inline(always)]
+pub(super) fn execute_store<M: Mem>(
+    regs: &mut Regs,
+    mem: &mut M,
+    kind: Store,
+    rs1: u8,
+    rs2: u8,
+    offset: u32,
+) -> Result<Outcome, AllocError>
+    requires rs1 { rs1 < 32 }
+    requires rs2 { rs2 < 32 }
+    ensures ok { IfOk result (λ outcome. Makes (store_turn (M.workspace mem.old).map regs.old kind (sum_of (register regs.old rs1) offset) (register regs.old rs2)) (M.workspace mem.old) outcome regs.new (M.workspace mem.new)) }
+    ensures err { OnErr result ((regs.new ≡ regs.old) × OnlyTook (M.workspace mem.old) (M.workspace mem.new)) }
+{
+    let address = regs.get(rs1).wrapping_add(offset);
+    let value = regs.get(rs2);
+    match kind {
+        Store::Byte => store_kind(regs, mem, Store::Byte, address, value),
+        Store::Half => store_kind(regs, mem, Store::Half, address, value),
+        Store::Word => store_kind(regs, mem, Store::Word, address, value),
     }
 }

@@ -7,11 +7,14 @@ ghost use Rattle.thunk_spec.specs.Turn.{executed, turn};
 ghost use Rattle.rv_step.specs.Step.{Makes};
 
 use super::access::{execute_load, execute_store};
-use super::control::{advance, branch, compute, jump};
+use super::control::{
+    add_to_pc, branch, compute, go_on, jump_by, jump_to, operate_immediate, operate_register,
+    operate_shift,
+};
 use isa_spec::{Cause, Instr};
 use memory_spec::MemoryError;
 use page_map::Mem;
-use rv_alu::{Regs, immediate, register, shift};
+use rv_alu::Regs;
 use rv_decode::decode;
 use std::alloc::AllocError;
 use thunk_spec::Outcome;
@@ -25,73 +28,41 @@ fn execute<M: Mem>(regs: &mut Regs, mem: &mut M, instr: Instr) -> Result<Outcome
 {
     match instr {
         Instr::Lui { rd, imm } => Ok(compute(regs, rd, imm)),
-        Instr::Auipc { rd, imm } => {
-            let value = regs.pc().wrapping_add(imm);
-            Ok(compute(regs, rd, value))
-        }
-        Instr::Jal { rd, imm } => {
-            let target = regs.pc().wrapping_add(imm);
-            Ok(jump(regs, rd, target))
-        }
-        Instr::Jalr { rd, rs1, imm } => {
-            let target = regs.get(rs1).wrapping_add(imm) & 0xffff_fffe;
-            Ok(jump(regs, rd, target))
-        }
+        Instr::Auipc { rd, imm } => Ok(add_to_pc(regs, rd, imm)),
+        Instr::Jal { rd, imm } => Ok(jump_by(regs, rd, imm)),
+        Instr::Jalr { rd, rs1, imm } => Ok(jump_to(regs, rd, rs1, imm)),
         Instr::Branch {
             test,
             rs1,
             rs2,
             imm,
-        } => {
-            let a = regs.get(rs1);
-            let b = regs.get(rs2);
-            Ok(branch(regs, test, a, b, imm))
-        }
-        Instr::Load { load, rd, rs1, imm } => {
-            let address = regs.get(rs1).wrapping_add(imm);
-            execute_load(regs, mem, load, rd, address)
-        }
+        } => Ok(branch(regs, test, rs1, rs2, imm)),
+        Instr::Load { load, rd, rs1, imm } => execute_load(regs, mem, load, rd, rs1, imm),
         Instr::Store {
             store,
             rs1,
             rs2,
             imm,
-        } => {
-            let address = regs.get(rs1).wrapping_add(imm);
-            let value = regs.get(rs2);
-            execute_store(regs, mem, store, address, value)
-        }
+        } => execute_store(regs, mem, store, rs1, rs2, imm),
         Instr::Immediate {
             operation,
             rd,
             rs1,
             imm,
-        } => {
-            let value = immediate(operation, regs.get(rs1), imm);
-            Ok(compute(regs, rd, value))
-        }
+        } => Ok(operate_immediate(regs, operation, rd, rs1, imm)),
         Instr::Shift {
-            shift: kind,
+            shift,
             rd,
             rs1,
             amount,
-        } => {
-            let value = shift(kind, regs.get(rs1), amount);
-            Ok(compute(regs, rd, value))
-        }
+        } => Ok(operate_shift(regs, shift, rd, rs1, amount)),
         Instr::Register {
             operation,
             rd,
             rs1,
             rs2,
-        } => {
-            let value = register(operation, regs.get(rs1), regs.get(rs2));
-            Ok(compute(regs, rd, value))
-        }
-        Instr::Fence => {
-            advance(regs);
-            Ok(Outcome::Next)
-        }
+        } => Ok(operate_register(regs, operation, rd, rs1, rs2)),
+        Instr::Fence => Ok(go_on(regs)),
         Instr::Ecall => Ok(Outcome::Call),
         Instr::Ebreak => Ok(Outcome::Trap(Cause::Breakpoint)),
     }

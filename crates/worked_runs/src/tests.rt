@@ -8,7 +8,7 @@ use std::collections::BTreeMap;
 use std::process::Abort;
 use std::test::Fail;
 use worked_guests::guests::{
-    BYTES, CREATES, CROSS, HI, LATE, LENGTH, PAIR, PERM, PUTS, SELF, TRAP,
+    BYTES, CREATES, CROSS, HI, LATE, LENGTH, PAIR, PERM, PUTS, SELF, TRAP, TRY,
 };
 use worked_guests::{Guest, file_of};
 
@@ -50,7 +50,21 @@ const PAIR_ROW: Row = Row {
     output: b"\noutput 4\n\x0c\x00\x00\x00\n",
 };
 
-const ROWS: [Row; 8] = [
+const ROWS: [Row; 10] = [
+    Row {
+        guest: TRY,
+        input: b"\x01",
+        status: 0,
+        report: "round 0\nend exit 4294967280\nsteps 6\nreused 0\nexecuted 6\ninstructions 23\nby 6\nschedule 0+ 0+ 1+ 1+ 0+ 0+\nmemory ",
+        output: b"\noutput 0\n\n",
+    },
+    Row {
+        guest: TRY,
+        input: b"\x00",
+        status: 0,
+        report: "round 0\nend exit 0\nsteps 6\nreused 0\nexecuted 6\ninstructions 22\nby 6\nschedule 0+ 0+ 1+ 1+ 0+ 0+\nmemory ",
+        output: b"\noutput 0\n\n",
+    },
     Row {
         guest: LATE,
         input: b"",

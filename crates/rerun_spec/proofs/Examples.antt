@@ -1,0 +1,110 @@
+-- Worked examples, on an input of the five bytes 1 to 5. The expected values follow by hand.
+use Rattle.std.proofs.Common.{◌≡◌, ℕ, true, false, List, [], ◌∷◌, ◌++◌, inl, Some, None, Ok, refl, sym, subst, lit<}
+use Rattle.std.specs.Prelude.{codes, decimal}
+use Rattle.std.specs.Fmt.{digits}
+use Rattle.machine_spec.specs.declared.states.End.TheVariants.{Exit, Deadlock, Spent}
+use Rattle.machine_spec.specs.Setup.{Setup}
+use Rattle.edit_spec.specs.Edit.{Edit, Set, Size}
+use Rattle.edit_spec.specs.Grammar.{Spells, IsEdit, Says, SpellBytes, lines}
+use Rattle.edit_spec.proofs.Spelling.{digits-decimal, same_around_space, other_word}
+use Rattle.edit_spec.proofs.Examples.{five, zero_is_spelled}
+use Rattle.rerun_spec.specs.Inputs.{Makes, AreInputs, BadLine, OutOfRange, IsFirstRefused}
+use Rattle.rerun_spec.specs.Rounds.{with_input, left_by, round_on, rounds_of, IsRepeated}
+use Rattle.rerun_spec.specs.Reports.{shares_of_first, is_exit}
+use Rattle.rerun_spec.proofs.Deciding.{no-byte-odd}
+
+-- the byte at offset 1 is 2 already
+same_byte_is_spelled : Spells (codes "set 1 02") (Set 1 (2 ∷ []))
+unfolding digits
+same_byte_is_spelled = (lit< tt, lit< tt, codes "02", (refl, refl, tt), refl)
+
+same_byte_is_said : Says (codes "set 1 02\n") (Ok (record { line = 1; edit = Set 1 (2 ∷ []) } ∷ []))
+unfolding lines
+same_byte_is_said = ((refl, same_byte_is_spelled), tt)
+
+same_byte : Makes (codes "set 1 02\n") five five
+same_byte = record { edits = record { line = 1; edit = Set 1 (2 ∷ []) } ∷ []; said = same_byte_is_said; done = refl }
+
+-- a list of no lines
+nothing_is_said : Says [] (Ok [])
+unfolding lines
+nothing_is_said = tt
+
+nothing : Makes [] five five
+nothing = record { edits = []; said = nothing_is_said; done = refl }
+
+-- Two lists that change nothing make three rounds on one input.
+pub inputs-unchanged : AreInputs five (codes "set 1 02\n" ∷ [] ∷ []) (five ∷ five ∷ five ∷ [])
+inputs-unchanged = (refl, (same_byte, (nothing, tt)))
+
+-- the length 0
+empty_is_said : Says (codes "size 0") (Ok (record { line = 1; edit = Size 0 } ∷ []))
+unfolding lines
+empty_is_said = ((refl, zero_is_spelled), tt)
+
+-- The input of the second round is empty.
+pub inputs-emptied : AreInputs five (codes "size 0" ∷ []) (five ∷ [] ∷ [])
+inputs-emptied = (refl, (record { edits = record { line = 1; edit = Size 0 } ∷ []; said = empty_is_said; done = refl }, tt))
+
+-- offset 4, of an input that the list before has emptied
+last_byte_is_spelled : Spells (codes "set 4 00") (Set 4 (0 ∷ []))
+unfolding digits
+last_byte_is_spelled = (lit< tt, lit< tt, codes "00", (refl, refl, tt), refl)
+
+last_byte_is_said : Says (codes "\nset 4 00") (Ok (record { line = 2; edit = Set 4 (0 ∷ []) } ∷ []))
+unfolding lines
+last_byte_is_said = ((refl, last_byte_is_spelled), tt)
+
+-- The second list is refused by its second line, whatever comes after it.
+pub refused-second : (rest : List (List ℕ)) → IsFirstRefused five (codes "size 0" ∷ codes "\nset 4 00" ∷ rest) 1 (OutOfRange 2)
+refused-second rest = (
+  [],
+  record { edits = record { line = 1; edit = Size 0 } ∷ []; said = empty_is_said; done = refl },
+  (record { line = 2; edit = Set 4 (0 ∷ []) } ∷ [], last_byte_is_said, refl),
+)
+
+-- one digit spells no byte
+half_byte : (edit : Edit) → Spells (codes "set 4 0") edit → ⊥
+half_byte (Set offset bytes) spelled =
+    let same = same_around_space (codes "4") (decimal offset) (codes "0") spelled.2 refl (digits-decimal offset spelled.0) (let all : codes "set 4 0" ≡ codes "set " ++ (decimal offset ++ 32 ∷ spelled.2) = spelled.4 in cc) in
+    no-byte-odd 48 bytes (subst (λ (ds : List ℕ). SpellBytes ds bytes) (sym same.1) spelled.3)
+half_byte (Size size) spelled = other_word (codes "set 4 0") refl (sym spelled.1)
+
+half_byte_is_bad : (edit : IsEdit (codes "set 4 0")) → ⊥
+half_byte_is_bad edit = half_byte edit.0 edit.1
+
+-- The first list is refused by its first line, where the second would be refused, too.
+pub refused-first : IsFirstRefused five (codes "set 4 0" ∷ codes "set 5 00" ∷ []) 0 (BadLine 1)
+unfolding lines
+refused-first = inl (half_byte_is_bad, refl)
+
+-- Round 0 goes by nothing, and round 1 by what round 0 leaves.
+pub rounds-two :
+    (s : Setup) (a b : List ℕ)
+    → rounds_of s (a ∷ b ∷ [])
+    ≡ record { number = 0; setup = with_input s a; past = None }
+    ∷ record { number = 1; setup = with_input s b; past = Some (left_by (round_on 0 None s a)) }
+    ∷ []
+rounds-two s a b = refl
+
+-- The third round is without an edit, though the second isn't.
+pub repeated-third :
+    (s : Setup) (a b : List ℕ)
+    → IsRepeated (rounds_of s (a ∷ b ∷ b ∷ []))
+    (round_on 1 (Some (left_by (round_on 0 None s a))) s b)
+    (round_on 2 (Some (left_by (round_on 1 (Some (left_by (round_on 0 None s a))) s b))) s b)
+repeated-third s a b = record { place = 1; one = refl; next = refl; same = refl }
+
+-- One worker of three makes all twelve steps.
+pub shares-three : shares_of_first 3 12 ≡ 12 ∷ 0 ∷ 0 ∷ []
+shares-three = refl
+
+-- An exit with another code than 0 is an exit; no other end is one.
+pub exit-five : is_exit (Some (Exit 5)) ≡ true
+exit-five = refl
+
+pub exit-deadlock : is_exit (Some Deadlock) ≡ false
+exit-deadlock = refl
+
+pub exit-spent : is_exit (Some Spent) ≡ false
+exit-spent = refl

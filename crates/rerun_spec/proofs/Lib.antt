@@ -1,0 +1,6 @@
+pub mod Deciding
+pub mod Inputs
+pub mod Rounds
+pub mod Repeating
+pub mod Reports
+pub mod Examples

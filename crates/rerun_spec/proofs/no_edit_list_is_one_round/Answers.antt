@@ -1,0 +1,12 @@
+use Rattle.machine_spec.specs.Setup.{first}
+use Rattle.rerun_spec.proofs.Reports.{marks-nothing, only-report, only-exits}
+use Rattle.rerun_spec.proofs.no_edit_list_is_one_round.Goals as goal
+
+pub returns-clause-marks : goal.returns-clause-marks
+returns-clause-marks c = λ setup. marks-nothing (first setup)
+
+pub returns-clause-reports : goal.returns-clause-reports
+returns-clause-reports c = only-report
+
+pub returns-clause-exits : goal.returns-clause-exits
+returns-clause-exits c = only-exits

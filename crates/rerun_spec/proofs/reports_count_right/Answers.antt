@@ -1,0 +1,11 @@
+use Rattle.rerun_spec.proofs.Reports.{reports-count, shares-count, shares-sum}
+use Rattle.rerun_spec.proofs.reports_count_right.Goals as goal
+
+pub returns-clause-reports : goal.returns-clause-reports
+returns-clause-reports c = reports-count
+
+pub returns-clause-shares : goal.returns-clause-shares
+returns-clause-shares c = shares-count
+
+pub returns-clause-steps : goal.returns-clause-steps
+returns-clause-steps c = shares-sum
