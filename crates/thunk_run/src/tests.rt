@@ -75,7 +75,7 @@ fn put_ends_the_first_thunk(rt: HostRuntime) -> Result<(), AllocError> {
     assert!(rt; fits(&run.rec, 7, &job.regs, &job.view));
     assert!(rt; !fits(&run.rec, 8, &job.regs, &job.view));
     let short = job_of(rt.alloc(), &HI, 4)?;
-    let run = execute(rt.alloc(), &short)?;
+    let run = uncounted(rt.alloc(), &short)?;
     assert_eq!(rt; run.rec.count(), 4);
     assert!(rt; run.rec.end() == ThunkEnd::Fuel);
     Ok(())
