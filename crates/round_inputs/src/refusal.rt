@@ -1,0 +1,20 @@
+//! Why there are no inputs.
+
+/// Why a line of an edit list is refused.
+#[derive(Clone, Copy, Debug, PartialEq, Eq)]
+pub enum Why {
+    /// It spells no edit.
+    BadLine,
+    /// Its edit passes its bound.
+    OutOfRange,
+}
+
+/// Why there are no inputs.
+#[derive(Clone, Copy, Debug, PartialEq, Eq)]
+pub enum InputsError {
+    /// An edit list is the first that is refused: its place, counted from 0, with its line, counted from 1, and
+    /// the cause.
+    Refused { list: usize, line: usize, why: Why },
+    /// The host's memory ran out.
+    NoMemory,
+}
