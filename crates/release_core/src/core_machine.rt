@@ -124,6 +124,13 @@ impl Core {
         self.steps
     }
 
+    /// The page map and the fuel.
+    pub fn frame(&self) -> &Frame
+        ensures { result.now ≡ self.now.frame }
+    {
+        &self.frame
+    }
+
     /// How many steps thread `t`, which exists, has made.
     pub fn number(&self, t: u8) -> u32
         requires { t < length self.now.harts }
