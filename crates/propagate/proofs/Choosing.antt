@@ -1,6 +1,7 @@
 -- The leaders of some threads, the choice, and what may be done with a pick.
 use Rattle.std.proofs.Common.{◌≡◌, ◌+◌, ℕ, add-one, Bool, true, false, ◌||◌, cond, List, [], ◌∷◌, ◌++◌, append-nil, length, filter, Option, Some, None, is_some, refl, ap, sym, ◌∙◌, arith}
 use Rattle.std.specs.Prelude.{option_map}
+use Rattle.std.proofs.lemmas.Bool.{or_right}
 use Rattle.std.specs.List.{AllByRecursion, range_with_len}
 use Rattle.machine_spec.specs.Machine.{Machine, hart_of}
 use Rattle.history_spec.specs.History.{History}
@@ -229,6 +230,9 @@ choice-is_free w t is =
 pub pick-over : (w : RoundState) → is_over w ≡ true → pick_of w ≡ pick.Over
 unfolding pick_of
 pick-over w over = rw over refl
+
+pub pick-stopped : (w : RoundState) → w.stopped ≡ true → pick_of w ≡ pick.Over
+pick-stopped w stopped = pick-over w (or_right (is_some w.machine.ending) w.stopped stopped)
 
 pick-going : (w : RoundState) → is_over w ≡ false → pick_of w ≡ with_choice w.past w.machine (choice_by w.past w.machine w.out)
 unfolding pick_of

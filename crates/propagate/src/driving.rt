@@ -57,7 +57,7 @@ impl Driven {
     }
 
     /// Takes the next step of thread `t`, where it can be taken.
-    fn take(&mut self, t: u8) -> Result<(), AllocError>
+    fn on_take(&mut self, t: u8) -> Result<(), AllocError>
         ensures { OnOk result (self.new.round ≡ happens self.old.round (event.Take t)) }
     {
         let Driven { round, jobs, .. } = self;
@@ -71,7 +71,7 @@ impl Driven {
     }
 
     /// Reuses the record of the next step of thread `t`, where it can be reused.
-    fn reuse(&mut self, t: u8) -> Result<(), AllocError>
+    fn on_reuse(&mut self, t: u8) -> Result<(), AllocError>
         ensures { OnOk result (self.new.round ≡ happens self.old.round (event.Reuse t)) }
     {
         self.round.keeps();
@@ -83,7 +83,7 @@ impl Driven {
 
     /// Executes and commits the job that is out for thread `t`, if one is. After the round is over it
     /// is discarded.
-    fn commit(&mut self, alloc: Global, t: u8) -> Result<(), AllocError>
+    fn on_commit(&mut self, alloc: Global, t: u8) -> Result<(), AllocError>
         ensures { OnOk result (self.new.round ≡ happens self.old.round (event.Commit t)) }
     {
         self.round.keeps();
@@ -106,7 +106,7 @@ impl Driven {
     }
 
     /// Discards the job that is out for thread `t`, if one is.
-    fn give_back(&mut self, t: u8)
+    fn on_give_back(&mut self, t: u8)
         ensures { self.new.round ≡ happens self.old.round (event.GiveBack t) }
     {
         self.round.keeps();
@@ -116,7 +116,7 @@ impl Driven {
     }
 
     /// Stops the round.
-    fn stop(&mut self)
+    fn on_stop(&mut self)
         ensures { self.new.round ≡ happens self.old.round event.Stop }
     {
         self.round.keeps();
@@ -128,15 +128,15 @@ impl Driven {
         ensures { OnOk result (self.new.round ≡ happens self.old.round event) }
     {
         match event {
-            Event::Take(t) => self.take(t),
-            Event::Reuse(t) => self.reuse(t),
-            Event::Commit(t) => self.commit(alloc, t),
+            Event::Take(t) => self.on_take(t),
+            Event::Reuse(t) => self.on_reuse(t),
+            Event::Commit(t) => self.on_commit(alloc, t),
             Event::GiveBack(t) => {
-                self.give_back(t);
+                self.on_give_back(t);
                 Ok(())
             }
             Event::Stop => {
-                self.stop();
+                self.on_stop();
                 Ok(())
             }
         }

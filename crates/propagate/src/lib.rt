@@ -14,3 +14,6 @@ pub use alone::run_alone;
 pub use driving::drive;
 pub use events::Committed;
 pub use round::Round;
+
+#[cfg(test)]
+mod tests;

@@ -239,6 +239,7 @@ impl Round {
     /// What a worker may do next. Takes no memory, and compares one record at most.
     pub fn pick(&self) -> Pick
         ensures pick { result ≡ pick_of self.now }
+        ensures stopped { self.now.stopped ≡ true → result ≡ pick.Over }
         ensures reuse { (t : ℕ) → result ≡ pick.Reuse t → can_reuse self.now t ≡ true }
         ensures run { (t : ℕ) → result ≡ pick.Run t → can_take self.now t ≡ true }
     {

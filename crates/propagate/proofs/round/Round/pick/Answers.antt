@@ -1,5 +1,5 @@
 use Rattle.std.proofs.Common.{true, false, sym, ◌∙◌}
-use Rattle.propagate.proofs.Choosing.{pick-over, pick-hold, pick-chosen, picked-run}
+use Rattle.propagate.proofs.Choosing.{pick-over, pick-stopped, pick-hold, pick-chosen, picked-run}
 use Rattle.propagate.proofs.round.Round.pick.Goals as goal
 
 pub returns-then-is_over-clause-pick : goal.returns-then-is_over-clause-pick
@@ -21,3 +21,12 @@ returns-in-Some-2-clause-run c = λ t same. picked-run c.args.self.now t (sym (r
 pub returns-in-None-clause-pick : goal.returns-in-None-clause-pick
 returns-in-None-clause-pick c =
     sym (pick-hold c.args.self.now (sym c.is_over.ensures ∙ c.if-is_over.false) (sym c.choice.ensures ∙ c.in-None.is))
+
+pub returns-in-Some-clause-stopped : goal.returns-in-Some-clause-stopped
+returns-in-Some-clause-stopped c = λ stopped. returns-in-Some-clause-pick c ∙ pick-stopped c.args.self.now stopped
+
+pub returns-in-Some-2-clause-stopped : goal.returns-in-Some-2-clause-stopped
+returns-in-Some-2-clause-stopped c = λ stopped. returns-in-Some-2-clause-pick c ∙ pick-stopped c.args.self.now stopped
+
+pub returns-in-None-clause-stopped : goal.returns-in-None-clause-stopped
+returns-in-None-clause-stopped c = λ stopped. returns-in-None-clause-pick c ∙ pick-stopped c.args.self.now stopped

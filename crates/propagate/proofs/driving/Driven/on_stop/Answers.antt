@@ -1,6 +1,6 @@
 use Rattle.round_spec.specs.declared.events.Event.TheVariants.{Stop}
 use Rattle.propagate.proofs.Jobs.{jobs-stay}
-use Rattle.propagate.proofs.driving.Driven.stop.Goals as goal
+use Rattle.propagate.proofs.driving.Driven.on_stop.Goals as goal
 
 pub invariant_of-self : goal.invariant_of-self
 invariant_of-self c =

@@ -2,7 +2,7 @@ use Rattle.std.proofs.Common.{Some, set, sym, subst, ◌∙◌}
 use Rattle.round_spec.proofs.Conditions.{happens-take_not}
 use Rattle.propagate.specs.Jobs.{IsJobOf, HaveJobs}
 use Rattle.propagate.proofs.Jobs.{jobs-take}
-use Rattle.propagate.proofs.driving.Driven.take.Goals as goal
+use Rattle.propagate.proofs.driving.Driven.on_take.Goals as goal
 
 pub returns-then-not-can_take : goal.returns-then-not-can_take
 returns-then-not-can_take c = sym (happens-take_not c.args.self.now.round c.args.t (sym c.can_take.ensures ∙ c.if-not-can_take.true))

@@ -3,7 +3,7 @@ use Rattle.round_spec.specs.declared.events.Event.TheVariants.{GiveBack}
 use Rattle.round_spec.proofs.Conditions.{happens-commit_not}
 use Rattle.round_spec.specs.Rounds.{is_out}
 use Rattle.propagate.proofs.Jobs.{jobs-stay, jobs-commit, job-held, run-commits, over-discards}
-use Rattle.propagate.proofs.driving.Driven.commit.Goals as goal
+use Rattle.propagate.proofs.driving.Driven.on_commit.Goals as goal
 
 pub returns-then-not-is_out : goal.returns-then-not-is_out
 returns-then-not-is_out c = sym (happens-commit_not c.args.self.now.round c.args.t (sym c.is_out.ensures ∙ c.if-not-is_out.true))

@@ -1,7 +1,7 @@
 use Rattle.std.proofs.Common.{sym, ◌∙◌}
 use Rattle.round_spec.proofs.Conditions.{happens-reuse_not}
 use Rattle.propagate.proofs.Jobs.{jobs-reuse}
-use Rattle.propagate.proofs.driving.Driven.reuse.Goals as goal
+use Rattle.propagate.proofs.driving.Driven.on_reuse.Goals as goal
 
 pub returns-then-not-can_reuse : goal.returns-then-not-can_reuse
 returns-then-not-can_reuse c = sym (happens-reuse_not c.args.self.now.round c.args.t (sym c.can_reuse.ensures ∙ c.if-not-can_reuse.true))
