@@ -2,4 +2,6 @@ pub mod Numerals
 pub mod Digits
 pub mod Words
 pub mod Parsing
-pub mod Room
+pub mod Lengths
+pub mod Showing
+pub mod Going

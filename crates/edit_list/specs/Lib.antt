@@ -2,4 +2,5 @@ pub mod Said
 pub mod Numerals
 pub mod Refusals
 pub mod Adding
-pub mod Room
+pub mod Lengths
+pub mod Showing

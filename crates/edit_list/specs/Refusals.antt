@@ -3,7 +3,7 @@ use Rattle.std.specs.Prelude.{ℕ, ◌≡◌, ◌<◌, List, length, Err, Some}
 use Rattle.edit_spec.specs.Edit.{LineEdit}
 use Rattle.edit_spec.specs.Grammar.{SpellBytes, IsEdit, Says}
 use Rattle.edit_spec.specs.Editing.{edited}
-use Rattle.edit_list.specs.Room.{line_out_of_range}
+use Rattle.edit_list.specs.Lengths.{line_out_of_range}
 use Rattle.edit_list.specs.declared.line.LineFault.{LineFault}
 use Rattle.edit_list.specs.declared.line.LineFault.TheVariants as fault
 use Rattle.edit_list.specs.declared.parser.ParseError.{ParseError}
@@ -37,7 +37,7 @@ abbrev pub WhyNotApplied : List LineEdit → List ℕ → ApplyError → Type 0
 WhyNotApplied edits input (OutOfRange number) = edited edits input ≡ Err number
 WhyNotApplied edits input applying.NoMemory = Unit {0}
 
--- why there is no room for edits: the first that passes its bound stands on this line (this project's own)
-abbrev pub WhyNoRoom : List LineEdit → ℕ → ApplyError → Type 0
-WhyNoRoom edits len (OutOfRange number) = line_out_of_range edits len ≡ Some number
-WhyNoRoom edits len applying.NoMemory = ⊥
+-- why edits give no length: the first that passes its bound stands on this line (this project's own)
+abbrev pub WhyNoLength : List LineEdit → ℕ → ApplyError → Type 0
+WhyNoLength edits len (OutOfRange number) = line_out_of_range edits len ≡ Some number
+WhyNoLength edits len applying.NoMemory = ⊥

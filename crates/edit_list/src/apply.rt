@@ -1,12 +1,15 @@
 //! Edits done to an input.
 
-ghost use Rattle.std.specs.Prelude.{◌≡◌, ◌≤◌, ◌<◌, false, length, map, take, Ok, IfOk, IfErr, OnOk, OnErr};
+ghost use Rattle.std.specs.Prelude.{ℕ, ◌≡◌, ◌≤◌, ◌<◌, ◌+◌, ◌-◌, ◌++◌, false, List, length, map, min, slice_index_or, take, replicate, Ok, IfOk, IfErr, OnOk, OnErr};
+ghost use Rattle.edit_spec.specs.Edit as said;
 ghost use Rattle.edit_spec.specs.Editing.{edited, edited_once, is_out_of_range};
 ghost use Rattle.edit_list.specs.Said.{edit_said, line_said};
-ghost use Rattle.edit_list.specs.Refusals.{WhyNotApplied, WhyNoRoom};
-ghost use Rattle.edit_list.specs.Room.{HaveRoom, length_after, new_length};
+ghost use Rattle.edit_list.specs.Refusals.{WhyNotApplied, WhyNoLength};
+ghost use Rattle.edit_list.specs.Lengths.{ComesTo, length_after, lesser, leasts, new_length};
+ghost use Rattle.edit_list.specs.Showing.{Shows};
 
 use super::edits::{Edit, Edits, LineEdit};
+use std::alloc::{AllocError, Global};
 
 /// The most bytes that an edit may lengthen an input to.
 const LONGEST_INPUT: usize = 1_048_576;
@@ -40,65 +43,125 @@ fn length_after(edit: &Edit, input_length: usize) -> Option<usize>
     }
 }
 
-/// The most bytes that an input of this length has before, between and after edits.
+/// How long an input of this length is after edits.
 ///
 /// # Errors
 ///
 /// `OutOfRange` with the line of the first edit that passes its bound.
-fn room_for(lines: &[LineEdit], input_length: usize) -> Result<usize, ApplyError>
-    ensures room { IfOk result (HaveRoom (map line_said lines.now) input_length) }
-    ensures refused { IfErr result (WhyNoRoom (map line_said lines.now) input_length) }
+fn last_length(lines: &[LineEdit], input_length: usize) -> Result<usize, ApplyError>
+    ensures last { IfOk result (λ last. ComesTo (map line_said lines.now) input_length last) }
+    ensures refused { IfErr result (WhyNoLength (map line_said lines.now) input_length) }
 {
-    let mut room = input_length;
     let mut current = input_length;
     for line in lines {
         current = match length_after(&line.edit, current) {
             Some(after) => after,
             None => return Err(ApplyError::OutOfRange(line.line)),
         };
-        room = room.max(current);
     }
-    Ok(room)
+    Ok(current)
 }
 
-/// Does an edit to the first bytes of a buffer, of which this many are the input, and gives how many then are.
-fn write_edit(edit: &Edit, buffer: &mut [u8], input_length: usize) -> usize
-    requires within { is_out_of_range (edit_said edit.now) input_length ≡ false }
-    requires before { input_length ≤ length buffer.old }
-    requires after { new_length (edit_said edit.now) input_length ≤ length buffer.old }
-    ensures count { result ≡ new_length (edit_said edit.now) input_length }
-    ensures written { take result buffer.new ≡ edited_once (edit_said edit.now) (take input_length buffer.old) }
+/// The lesser of a length and the one that an edit gives.
+fn lesser(edit: &Edit, length: usize) -> usize
+    ensures { result ≡ lesser (edit_said edit.now) length }
+{
+    match edit {
+        Edit::Set { .. } => length,
+        Edit::Size(size) => length.min(*size as usize),
+    }
+}
+
+/// For each edit the least length that it and those after it give, at most this one.
+fn leasts_of(alloc: Global, lines: &[LineEdit], most: usize) -> Result<Vec<usize>, AllocError>
+    ensures { IfOk result (λ lengths. lengths.items ≡ leasts (map line_said lines.now) most) }
+{
+    let mut lengths = Vec::new(alloc);
+    lengths.resize(lines.len(), most)?;
+    let mut least = most;
+    let mut place = lines.len();
+    while place > 0 {
+        place -= 1;
+        least = lesser(&lines[place].edit, least);
+        lengths[place] = least;
+    }
+    Ok(lengths)
+}
+
+/// Writes bytes over those of a buffer from an offset on, as far as they stand below a count.
+fn write_below(buffer: &mut [u8], offset: usize, bytes: &[u8], count: usize)
+    requires { count ≤ length buffer.old }
+    ensures { (input : List ℕ)
+        → offset + length bytes.now ≤ length input
+        → Shows buffer.old input count
+        → Shows buffer.new (edited_once (said.Set offset bytes.now) input) count }
+{
+    if offset < count {
+        let written = bytes.len().min(count - offset);
+        buffer[offset..offset + written].copy_from_slice(&bytes[..written]);
+    }
+}
+
+/// Does an edit to a buffer that shows the first bytes of an input of this length, as many as the edit and those after
+/// it keep of it, and gives how long the input then is.
+fn write_edit(edit: &Edit, buffer: &mut [u8], input_length: usize, least: usize) -> usize
+    requires { least ≤ length buffer.old }
+    ensures length { result ≡ new_length (edit_said edit.now) input_length }
+    ensures shown { (input : List ℕ) (after : ℕ)
+        → length input ≡ input_length
+        → is_out_of_range (edit_said edit.now) input_length ≡ false
+        → least ≡ lesser (edit_said edit.now) after
+        → Shows buffer.old input (min input_length least)
+        → Shows buffer.new (edited_once (edit_said edit.now) input) (min result after) }
 {
     match edit {
         Edit::Set { offset, bytes } => {
-            let offset = *offset as usize;
-            buffer[offset..offset + bytes.len()].copy_from_slice(bytes.as_slice());
+            write_below(buffer, *offset as usize, bytes, input_length.min(least));
             input_length
         }
-        Edit::Size(size) => {
-            let size = *size as usize;
-            if size > input_length {
-                buffer[input_length..size].fill(0);
-            }
-            size
-        }
+        Edit::Size(size) => *size as usize,
     }
 }
 
-/// Does edits to the first bytes of a buffer, of which this many are the input, and gives how many then are.
-fn write_edits(lines: &[LineEdit], buffer: &mut [u8], input_length: usize) -> usize
-    requires { HaveRoom (map line_said lines.now) input_length (length buffer.old) }
-    ensures { edited (map line_said lines.now) (take input_length buffer.old) ≡ Ok (take result buffer.new) }
+/// The first of some lengths, or this one where there is none.
+fn first_or(lengths: &[usize], most: usize) -> usize
+    ensures { result ≡ slice_index_or lengths.now 0 most }
 {
-    let mut current = input_length;
-    for line in lines {
-        current = write_edit(&line.edit, buffer, current);
+    match lengths.first() {
+        Some(first) => *first,
+        None => most,
     }
-    current
+}
+
+/// Clears the bytes of a buffer from this one on.
+fn clear_from(buffer: &mut [u8], start: usize)
+    requires { start ≤ length buffer.old }
+    ensures { buffer.new ≡ take start buffer.old ++ replicate (length buffer.old - start) 0 }
+{
+    buffer[start..].fill(0);
+}
+
+/// Does edits to a buffer as long as the input is after them, which shows the input so far. What a later edit cuts
+/// off is never written, so each byte of an edit is written at most once, and no new length writes anything.
+fn write_edits(lines: &[LineEdit], lengths: &[usize], buffer: &mut [u8], input_length: usize)
+    requires last { ComesTo (map line_said lines.now) input_length (length buffer.old) }
+    requires lengths { lengths.now ≡ leasts (map line_said lines.now) (length buffer.old) }
+    ensures { (input : List ℕ)
+        → length input ≡ input_length
+        → Shows buffer.old input (length buffer.old)
+        → edited (map line_said lines.now) input ≡ Ok buffer.new }
+{
+    let kept = first_or(lengths, buffer.len());
+    clear_from(buffer, kept);
+    let mut current = input_length;
+    for (place, line) in lines.iter().enumerate() {
+        current = write_edit(&line.edit, buffer, current, lengths[place]);
+    }
 }
 
 impl Edits {
-    /// Does the edits to an input, one after the other.
+    /// Does the edits to an input, one after the other, in time linear in their number, the bytes that they write, and
+    /// the lengths of the input before and after them.
     ///
     /// # Errors
     ///
@@ -110,17 +173,20 @@ impl Edits {
         ensures same { OnErr result (input.new.items ≡ input.old.items) }
         ensures refused { IfErr result (WhyNotApplied self.now input.old.items) }
     {
-        let room = match room_for(&self.lines, input.len()) {
-            Ok(room) => room,
+        let before = input.len();
+        let last = match last_length(&self.lines, before) {
+            Ok(last) => last,
             Err(error) => return Err(error),
         };
-        let before = input.len();
-        match input.resize(room, 0) {
+        let lengths = match leasts_of(*input.allocator(), &self.lines, last) {
+            Ok(lengths) => lengths,
+            Err(_) => return Err(ApplyError::NoMemory),
+        };
+        match input.resize(last, 0) {
             Ok(()) => {}
             Err(_) => return Err(ApplyError::NoMemory),
         }
-        let after = write_edits(&self.lines, input.as_mut_slice(), before);
-        input.truncate(after);
+        write_edits(&self.lines, &lengths, input.as_mut_slice(), before);
         Ok(())
     }
 }

@@ -77,6 +77,10 @@ fn edits_are_done(rt: HostRuntime) -> Result<(), Fail> {
             [1, 2, 0, 9].as_slice(),
         ),
         (b"size 0".as_slice(), [].as_slice()),
+        (
+            b"set 3 0607\nsize 8\nset 6 0a0b\nsize 4\nset 2 0c\nsize 6".as_slice(),
+            [1, 2, 12, 6, 0, 0].as_slice(),
+        ),
     ];
     for (list, after) in rows {
         let mut input = five(rt.alloc())?;

@@ -1,9 +1,9 @@
 -- One list more: it makes the next input, or it is the first that is refused.
-use Rattle.std.proofs.Common.{◌≡◌, ◌<◌, ℕ, suc, ◌+◌, List, [], ◌∷◌, ◌++◌, length, take, drop, map, get_or, slice_get, Some, Vec, refl, ap, sym, subst, ◌∙◌, arith}
+use Rattle.std.proofs.Common.{◌≡◌, ◌<◌, ℕ, ◌+◌, List, [], ◌∷◌, ◌++◌, length, take, drop, get_or, slice_get, Some, Vec, refl, ap, sym, subst, ◌∙◌, arith}
 use Rattle.std.specs.Global.{Global}
 use Rattle.std.proofs.lemmas.Grind.{common_steps}
-use Rattle.std.proofs.lemmas.List.{map_more, map_push, take-append-drop, drop_more, map-append, length-map, length-take}
-use Rattle.rerun_spec.specs.Inputs.{Makes, AreInputs, Refuses, IsFirstRefused}
+use Rattle.std.proofs.lemmas.List.{map_more, map_push, take-append-drop, drop_more, map-append, length-map}
+use Rattle.rerun_spec.specs.Inputs.{Makes, AreInputs, IsFirstRefused}
 use Rattle.rerun_spec.proofs.Inputs.{inputs-more, inputs-refused}
 use Rattle.round_inputs.specs.declared.refusal.InputsError.{InputsError}
 use Rattle.round_inputs.specs.declared.refusal.InputsError.TheVariants.{Refused, NoMemory}

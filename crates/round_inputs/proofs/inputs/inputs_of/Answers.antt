@@ -6,7 +6,6 @@ use Rattle.edit_spec.specs.Editing.{longest_input}
 use Rattle.rerun_spec.proofs.Inputs.{inputs-short}
 use Rattle.rerun_spec.specs.Inputs.{Makes}
 use Rattle.round_inputs.specs.Lists.{bytes_of_each}
-use Rattle.round_inputs.specs.Refusals.{WhyNotMade}
 use Rattle.round_inputs.proofs.Going.{one-more, refused-there}
 use Rattle.round_inputs.proofs.inputs.inputs_of.Goals as goal
 

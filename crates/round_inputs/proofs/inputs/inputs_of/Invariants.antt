@@ -1,4 +1,4 @@
-use Rattle.std.proofs.Common.{◌≡◌, List, ◌∷◌, [], ◌++◌, length, take}
+use Rattle.std.proofs.Common.{◌≡◌, ◌∷◌, [], ◌++◌, length, take}
 use Rattle.rerun_spec.specs.Inputs.{AreInputs}
 use Rattle.round_inputs.specs.Lists.{bytes_of_each}
 use Rattle.round_inputs.proofs.inputs.inputs_of.Given as goal
