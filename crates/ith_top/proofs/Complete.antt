@@ -1,13 +1,16 @@
 -- Where nothing stands in its way, a line is done, or the host's memory ran out.
-use Rattle.std.proofs.Common.{◌≡◌, ◌<◌, ◌≤◌, ℕ, true, false, List, [], ◌∷◌, length, Option, Some, None, ◌⊎◌, inl, inr, ap, ◌∙◌, subst, arith}
+use Rattle.std.proofs.Common.{◌≡◌, ◌<◌, ◌≤◌, ℕ, true, false, List, [], ◌∷◌, length, Option, Some, None, ◌⊎◌, inl, inr, refl, ap, ◌∙◌, subst, arith}
 use Rattle.std.specs.Prelude.{IfSome}
+use Rattle.std.specs.List.{AllZip}
 use Rattle.ith_host.specs.World.{World}
 use Rattle.elf_spec.specs.Image.{is_image}
+use Rattle.rerun_spec.specs.Inputs.{AreInputs}
+use Rattle.rerun_spec.proofs.Inputs.{inputs-unrefused}
 use Rattle.ith_top.specs.declared.status.Status.{Status}
 use Rattle.ith_top.specs.declared.status.Status.TheVariants as status
-use Rattle.ith_top.specs.Words.{Line, Runs, RunLine}
+use Rattle.ith_top.specs.Words.{Text, Line, Runs, RunLine}
 use Rattle.ith_top.specs.Statuses.{code_of}
-use Rattle.ith_top.specs.Ends.{Named, OfOne, OfNone, FailedToRead, IsLong, files_named, IsSmooth, RunEnds, Answers, Completes, elf_most, input_most}
+use Rattle.ith_top.specs.Ends.{Named, OfOne, OfNone, FailedToRead, IsLong, files_named, lists_named, AreLists, IsSmooth, RunEnds, Answers, Completes, elf_most, input_most, list_most}
 
 none_of_one : (fact : Named → Type 0) (files : List Named) → OfNone fact files → OfOne fact files → ⊥
 none_of_one fact [] none one = one
@@ -22,6 +25,28 @@ short-told : (told : Option (List ℕ)) (bytes : List ℕ) (most : ℕ) → told
 short-told told bytes most is within long =
     let h = subst (λ (o : Option (List ℕ)). IfSome o (λ t. most < length t)) is long in absurd (omega arith)
 
+-- the same of edit lists
+lists-told :
+    (before : World) (names : List Text) (told lists : List (List ℕ))
+    → AllZip (λ name list. before.files name ≡ Some list) names told → AreLists before names lists → told ≡ lists
+lists-told before [] [] [] is says = refl
+lists-told before [] [] (list ∷ lists) is says = absurd says
+lists-told before [] (t ∷ told) lists is says = absurd is
+lists-told before (name ∷ names) [] lists is says = absurd is
+lists-told before (name ∷ names) (t ∷ told) [] is says = absurd says
+lists-told before (name ∷ names) (t ∷ told) (list ∷ lists) is says =
+    let first : t ≡ list = content-told (before.files name) t list is.0 says.0.0 in
+    let rest : told ≡ lists = lists-told before names told lists is.1 says.1 in
+    rw (first, rest) refl
+
+lists-short :
+    (before : World) (names : List Text) (told : List (List ℕ))
+    → AllZip (λ name list. before.files name ≡ Some list) names told → AreLists before names told → OfNone (IsLong before) (lists_named names)
+lists-short before [] told is within = tt
+lists-short before (name ∷ names) [] is within = absurd is
+lists-short before (name ∷ names) (t ∷ told) is within =
+    (short-told (before.files name) t list_most is.0 within.0.1, lists-short before names told is.1 within.1)
+
 by_status :
     (line : RunLine) (before after : World) (answer : ℕ) (s : Status)
     → answer ≡ code_of s → RunEnds line before after s → IsSmooth line before after
@@ -35,9 +60,18 @@ by_status line before after answer status.Image is ends smooth =
     let taken : is_image smooth.contents.elf ≡ true = smooth.read.accepted in
     let refused : is_image smooth.contents.elf ≡ false = ap is_image same ∙ ends.refused in
     absurd (cc)
+by_status line before after answer status.EditList is ends smooth =
+    let input : smooth.contents.input ≡ ends.contents.input =
+    content-told (before.files line.input) smooth.contents.input ends.contents.input smooth.input ends.read.contents.input in
+    let lists : smooth.contents.lists ≡ ends.contents.lists =
+    lists-told before line.edits smooth.contents.lists ends.contents.lists smooth.lists ends.read.contents.lists in
+    let edited : AreInputs ends.contents.input ends.contents.lists smooth.inputs =
+    subst (λ (i : List ℕ). AreInputs i ends.contents.lists smooth.inputs) input
+    (subst (λ (ls : List (List ℕ)). AreInputs smooth.contents.input ls smooth.inputs) lists smooth.edited) in
+    absurd (inputs-unrefused ends.contents.input ends.contents.lists smooth.inputs ends.place ends.why edited ends.refused)
 by_status line before after answer status.ReadFault is ends smooth =
     absurd (none_of_one (FailedToRead before after) (files_named line) smooth.no_read_fault ends.cause)
-by_status line before after answer status.WriteFault is ends smooth = absurd (smooth.no_print_fault ends.cause)
+by_status line before after answer status.WriteFault is ends smooth = absurd (smooth.no_print_fault ends.part.cause)
 by_status line before after answer status.Memory is ends smooth = inr (inr is)
 by_status line before after answer status.TooLarge is ends smooth =
     absurd
@@ -45,7 +79,7 @@ by_status line before after answer status.TooLarge is ends smooth =
       short-told (before.files line.elf) smooth.contents.elf elf_most smooth.elf smooth.read.contents.elf_within,
       (
         short-told (before.files line.input) smooth.contents.input input_most smooth.input smooth.read.contents.input_within,
-        tt,
+        lists-short before line.edits smooth.contents.lists smooth.lists smooth.read.contents.lists,
       ),
     )
     ends.cause)

@@ -1,18 +1,21 @@
 -- What the readers of the parser's findings give, by the rows that the definitions speak of.
 use Rattle.std.proofs.Common.{◌≡◌, ◌<◌, ◌≤◌, ◌^◌, ◌&&◌, ℕ, Bool, cond, true, false, List, Option, Some, None, refl, ap, ◌∙◌, arith, nat_lt, true≢false}
-use Rattle.std.specs.Prelude.{nat_le, is_some}
+use Rattle.std.specs.Prelude.{nat_le, is_some, option_map}
 use Rattle.std.specs.Str.Parse.{IsNumeral, digits_value, without_leading_plus}
 use Rattle.std.proofs.lemmas.Bool.{le-leb, lt-leb, lt-ltb}
-use Rattle.clap.specs.Words.{Text, first_of, first_value, one_of, one_text, rows_of}
+use Rattle.clap.specs.Words.{Text, all_of, first_of, first_value, matched_of, one_of, one_text, raw_values, rows_of}
 use Rattle.clap.specs.ValueTests.{is_numeral, is_unsigned_in}
 use Rattle.clap.specs.declared.builder.value_parser.ValueParser.TheVariants as parser
 use Rattle.clap.specs.declared.parser.matches.Found.{Found}
 use Rattle.clap.proofs.ValueTestLemmas.{accepts-Accepts, Accepts-accepts}
-use Rattle.clap.proofs.WalkLemmas.{both, first_value-rows, one_text-rows}
+use Rattle.clap.proofs.WalkLemmas.{both, first_value-rows, one_text-rows, raw_values-rows}
 use Rattle.ith_top.specs.Words.{number_or}
 
 pub first_value_of_rows : (f : Found) (id : Text) → first_value f id ≡ first_of id (rows_of f)
 first_value_of_rows = first_value-rows
+
+pub values_of_rows : (f : Found) (id : Text) → option_map raw_values (matched_of f id) ≡ all_of id (rows_of f)
+values_of_rows = raw_values-rows
 
 -- the number that a text writes
 abbrev value : Text → ℕ

@@ -1,7 +1,9 @@
 pub mod Complete
 pub mod Worlds
-pub mod PartWay
-pub mod Reporting
+pub mod Reading
 pub mod Ending
+pub mod Making
+pub mod Going
+pub mod Done
 pub mod NoLine
 pub mod Given

@@ -1,40 +1,52 @@
 -- How a call of the program may end: for each status what was read, what was printed, what stays, and what caused it.
-use Rattle.std.specs.Prelude.{◌≡◌, ℕ, ◌<◌, ◌≤◌, ◌-◌, Bool, true, false, ◌⊎◌, List, [], ◌∷◌, length, map, take, replicate, IfSome, Option, Some, None}
-use Rattle.std.specs.List.{concat}
+use Rattle.std.specs.Prelude.{◌≡◌, ℕ, ◌<◌, ◌≤◌, Bool, true, false, ◌⊎◌, List, [], ◌∷◌, ◌++◌, length, map, take, slice_get, IfSome, Option, Some, None}
+use Rattle.std.specs.List.{AllZip, concat}
 use Rattle.std.specs.Io.KnownBytes.{Appends}
 use Rattle.ith_host.specs.World.{World, Rose, Stays, IsContent}
 use Rattle.elf_spec.specs.Image.{is_image}
-use Rattle.machine_spec.specs.declared.states.End.{End}
-use Rattle.machine_spec.specs.declared.states.End.TheVariants as end
-use Rattle.machine_spec.specs.Setup.{Setup, scratch, is_permitted, is_complete}
-use Rattle.machine_spec.specs.Choice.{alone}
-use Rattle.report_spec.specs.declared.Entry.{Entry}
-use Rattle.report_spec.specs.Report.{report}
+use Rattle.machine_spec.specs.Setup.{Setup}
+use Rattle.rerun_spec.specs.Inputs.{AreInputs, Refusal, IsFirstRefused}
+use Rattle.rerun_spec.specs.Rounds.{rounds_of}
+use Rattle.rerun_spec.specs.Reports.{reports_of, all_exit}
 use Rattle.ith_top.specs.declared.status.Status.{Status}
 use Rattle.ith_top.specs.declared.status.Status.TheVariants as status
 use Rattle.ith_top.specs.Words.{Text, Line, Runs, RunLine}
 use Rattle.ith_top.specs.Statuses.{code_of}
+use Rattle.ith_top.specs.Rounds.{ArePromised}
 
--- The most bytes of an executable, and of an input. (this project's own)
+-- The most bytes of an executable, of an input, and of an edit list. (this project's own)
 abbrev pub elf_most : ℕ
 elf_most = 16777216
 
 abbrev pub input_most : ℕ
 input_most = 1048576
 
+abbrev pub list_most : ℕ
+list_most = 1048576
+
 -- A file that a line names to read: its name, and the most bytes that it may have. (this project's own)
 pub record Named : Type 0 where
   pub name : Text
   pub most : ℕ
 
+-- The edit lists of these names. (this project's own)
+abbrev pub lists_named : List Text → List Named
+lists_named names = map (λ name. record { name = name; most = list_most }) names
+
 -- The files that a line names to read, in the order in which they are read. (this project's own)
 abbrev pub files_named : RunLine → List Named
-files_named line = record { name = line.elf; most = elf_most } ∷ record { name = line.input; most = input_most } ∷ []
+files_named line =
+    record { name = line.elf; most = elf_most } ∷ record { name = line.input; most = input_most } ∷ lists_named line.edits
 
 -- What the named files hold. (this project's own)
 pub record Contents : Type 0 where
   pub elf : List ℕ
   pub input : List ℕ
+  pub lists : List (List ℕ)
+
+-- The contents of edit lists, which agree with each that is told, and are within their limit. (this project's own)
+abbrev pub AreLists : World → List Text → List (List ℕ) → Type 0
+AreLists before names lists = AllZip (λ name list. IsContent before name list × (length list ≤ list_most)) names lists
 
 -- Contents that agree with each file that is told, and are within their limits. (this project's own)
 pub record AreContents (before : World) (line : RunLine) (c : Contents) : Type 0 where
@@ -42,41 +54,30 @@ pub record AreContents (before : World) (line : RunLine) (c : Contents) : Type 0
   pub elf_within : length c.elf ≤ elf_most
   pub input : IsContent before line.input c.input
   pub input_within : length c.input ≤ input_most
+  pub lists : AreLists before line.edits c.lists
 
 -- The setup of a line and of what its files hold. (this project's own)
 abbrev pub setup_of : RunLine → Contents → Setup
 setup_of line c = record { elf = c.elf; input = c.input; fuel = line.fuel; limit = line.limit }
 
--- A schedule of which each step is executed. (this project's own)
-abbrev pub all_executed : List ℕ → List Entry
-all_executed schedule = map (λ t. record { thread = t; reused = false }) schedule
-
--- The shares where the first worker made all steps. (this project's own)
-abbrev pub shares_of_first : ℕ → ℕ → List ℕ
-shares_of_first workers steps = steps ∷ replicate (workers - 1) 0
-
--- The reports of a line's rounds, in order: round 0 is the run from scratch under the schedule that the choice gives. (this project's own)
-unfoldable pub reports : RunLine → Contents → List (List ℕ)
-reports line c =
-    report 0 (setup_of line c) (all_executed (alone (setup_of line c))) (shares_of_first line.workers (length (alone (setup_of line c)))) ∷ []
-
--- Whether an end is an exit. (this project's own)
-abbrev pub is_exit : Option End → Bool
-is_exit (Some (end.Exit code)) = true
-is_exit _ = false
-
--- Whether each of a line's rounds ends by exit. (this project's own)
-unfoldable pub all_exit : RunLine → Contents → Bool
-all_exit line c = is_exit (scratch (setup_of line c) (alone (setup_of line c))).ending
-
--- The schedule of a line's first round. (this project's own)
-abbrev pub schedule_of : RunLine → Contents → List ℕ
-schedule_of line c = alone (setup_of line c)
-
--- What was read, and accepted. (this project's own)
+-- What was read, and of which the executable is accepted. (this project's own)
 pub record WasRead (line : RunLine) (before : World) (c : Contents) : Type 0 where
   pub contents : AreContents before line c
   pub accepted : is_image c.elf ≡ true
+
+-- What a line's rounds come from: what was read and accepted, and the input of each round, which the edit lists make in order; and what is
+-- promised of these rounds. (this project's own)
+pub record HasRounds (line : RunLine) (before : World) : Type 0 where
+  pub contents : Contents
+  pub read : WasRead line before contents
+  pub inputs : List (List ℕ)
+  pub edited : AreInputs contents.input contents.lists inputs
+  pub promised : ArePromised (rounds_of (setup_of line contents) inputs)
+
+-- The reports of a line's rounds, in order: round 0 is the run from scratch on the input, and each other is on the input of the round
+-- before it after the next edit list. (this project's own)
+abbrev pub reports : (line : RunLine) → (before : World) → HasRounds line before → List (List ℕ)
+reports line before has = reports_of line.workers (setup_of line has.contents) has.inputs
 
 -- Of the files nothing changed, and these bytes were printed. (this project's own)
 pub record Prints (before after : World) (bytes : List ℕ) : Type 0 where
@@ -84,15 +85,11 @@ pub record Prints (before after : World) (bytes : List ℕ) : Type 0 where
   pub files : after.files ≡ before.files
   pub printed : Appends before.printed after.printed bytes
 
--- All is done: exactly the reports were printed, each of the machine from scratch under the schedule that it prints, which is permitted
--- and complete; and whether each round ended by exit. (this project's own)
+-- All is done: exactly the reports of all rounds were printed; and whether each round ended by exit. (this project's own)
 pub record IsDone (line : RunLine) (exits : Bool) (before after : World) : Type 0 where
-  pub contents : Contents
-  pub read : WasRead line before contents
-  pub prints : Prints before after (concat (reports line contents))
-  pub permitted : is_permitted (setup_of line contents) (schedule_of line contents) ≡ true
-  pub complete : is_complete (setup_of line contents) (schedule_of line contents) ≡ true
-  pub ends : all_exit line contents ≡ exits
+  pub has : HasRounds line before
+  pub prints : Prints before after (concat (reports line before has))
+  pub ends : all_exit (setup_of line has.contents) has.inputs ≡ exits
 
 -- A fact holds of one of these files, and of none of them. (this project's own)
 abbrev pub OfOne : (Named → Type 0) → List Named → Type 0
@@ -118,6 +115,16 @@ pub record IsRefused (line : RunLine) (before after : World) : Type 0 where
   pub refused : is_image contents.elf ≡ false
   pub stays : Stays before after
 
+-- The executable is accepted, and an edit list is the first that is refused, by its place among the lists, its line and why; and nothing
+-- was printed. (this project's own)
+pub record IsListRefused (line : RunLine) (before after : World) : Type 0 where
+  pub contents : Contents
+  pub read : WasRead line before contents
+  pub place : ℕ
+  pub why : Refusal
+  pub refused : IsFirstRefused contents.input contents.lists place why
+  pub stays : Stays before after
+
 -- Reading a file that the line names failed, and nothing was printed. (this project's own)
 pub record IsUnread (line : RunLine) (before after : World) : Type 0 where
   pub cause : OfOne (FailedToRead before after) (files_named line)
@@ -128,20 +135,25 @@ pub record IsTooLarge (line : RunLine) (before after : World) : Type 0 where
   pub cause : OfOne (IsLong before) (files_named line)
   pub stays : Stays before after
 
--- Printing failed, and the first of the reports' bytes may have been printed. (this project's own)
-pub record IsUnprinted (line : RunLine) (before after : World) : Type 0 where
-  pub contents : Contents
-  pub read : WasRead line before contents
+-- Printing failed: of some texts the first so many were printed, and the first bytes of the next, any number of them. (this project's own)
+pub record IsPrintedInPart (texts : List (List ℕ)) (before after : World) : Type 0 where
   pub cause : Rose before.print_faults after.print_faults
+  pub whole : ℕ
+  pub next : List ℕ
+  pub is_next : slice_get texts whole ≡ Some next
   pub count : ℕ
-  pub prints : Prints before after (take count (concat (reports line contents)))
+  pub prints : Prints before after (concat (take whole texts) ++ take count next)
+
+-- Printing failed, and the reports of the first rounds were printed, and of the next one's a part. (this project's own)
+pub record IsUnprinted (line : RunLine) (before after : World) : Type 0 where
+  pub has : HasRounds line before
+  pub part : IsPrintedInPart (reports line before has) before after
 
 -- The host's memory ran out, and the first rounds' reports were printed, none to all of them. (this project's own)
 pub record IsCutShort (line : RunLine) (before after : World) : Type 0 where
-  pub contents : Contents
-  pub read : WasRead line before contents
+  pub has : HasRounds line before
   pub rounds : ℕ
-  pub prints : Prints before after (concat (take rounds (reports line contents)))
+  pub prints : Prints before after (concat (take rounds (reports line before has)))
 
 -- How a line that runs a guest may end, status by status. (this project's own)
 abbrev pub RunEnds : RunLine → World → World → Status → Type 0
@@ -149,6 +161,7 @@ RunEnds line before after status.Finished = IsDone line true before after
 RunEnds line before after status.Unfinished = IsDone line false before after
 RunEnds line before after status.Words = ⊥
 RunEnds line before after status.Image = IsRefused line before after
+RunEnds line before after status.EditList = IsListRefused line before after
 RunEnds line before after status.ReadFault = IsUnread line before after
 RunEnds line before after status.WriteFault = IsUnprinted line before after
 RunEnds line before after status.Memory = Stays before after ⊎ IsCutShort line before after
@@ -163,12 +176,16 @@ Ends (Some (Runs line)) before after s = RunEnds line before after s
 abbrev pub Answers : Option Line → World → World → ℕ → Type 0
 Answers line before after answer = (s : Status) × (answer ≡ code_of s) × Ends line before after s
 
--- Nothing stands in a line's way: its files are told and within their limits, the executable is accepted, and no count of faults rose. (this project's own)
+-- Nothing stands in a line's way: its files are told and within their limits, the executable and the edit lists are accepted, and no count
+-- of faults rose. (this project's own)
 pub record IsSmooth (line : RunLine) (before after : World) : Type 0 where
   pub contents : Contents
   pub elf : before.files line.elf ≡ Some contents.elf
   pub input : before.files line.input ≡ Some contents.input
+  pub lists : AllZip (λ name list. before.files name ≡ Some list) line.edits contents.lists
   pub read : WasRead line before contents
+  pub inputs : List (List ℕ)
+  pub edited : AreInputs contents.input contents.lists inputs
   pub no_read_fault : OfNone (FailedToRead before after) (files_named line)
   pub no_print_fault : Rose before.print_faults after.print_faults → ⊥
 

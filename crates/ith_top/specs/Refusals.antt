@@ -10,7 +10,9 @@ use Rattle.clap.specs.declared.error.kind.ErrorKind.TheVariants.{OutOfMemory}
 use Rattle.ith_top.specs.declared.words.LineFault.{LineFault}
 use Rattle.ith_top.specs.declared.words.LineFault.TheVariants as fault
 use Rattle.ith_top.specs.Words.{Text, line_of}
-use Rattle.ith_top.specs.Ends.{Named, FailedToRead, IsLong, Prints}
+use Rattle.rerun_spec.specs.Inputs.{Refusal, IsFirstRefused}
+use Rattle.std.specs.List.{concat}
+use Rattle.ith_top.specs.Ends.{Named, OfOne, FailedToRead, IsLong, Prints, IsPrintedInPart}
 
 -- Why a file wasn't read. (this project's own)
 abbrev pub WhyUnread : Named → World → World → Status → Type 0
@@ -19,11 +21,30 @@ WhyUnread file before after status.TooLarge = IsLong before file
 WhyUnread file before after status.Memory = ⊤
 WhyUnread file before after _ = ⊥
 
+-- Why one of some files wasn't read. (this project's own)
+abbrev pub WhyUnreadAmong : List Named → World → World → Status → Type 0
+WhyUnreadAmong files before after status.ReadFault = OfOne (FailedToRead before after) files
+WhyUnreadAmong files before after status.TooLarge = OfOne (IsLong before) files
+WhyUnreadAmong files before after status.Memory = ⊤
+WhyUnreadAmong files before after _ = ⊥
+
 -- Why no setup was made of an executable. (this project's own)
 abbrev pub WhyNoSetup : List ℕ → Status → Type 0
 WhyNoSetup elf status.Image = is_image elf ≡ false
 WhyNoSetup elf status.Memory = ⊤
 WhyNoSetup elf _ = ⊥
+
+-- Why edit lists made no inputs of a first one: a list is the first that is refused. (this project's own)
+abbrev pub WhyUnedited : List ℕ → List (List ℕ) → Status → Type 0
+WhyUnedited first lists status.EditList = (place : ℕ) × (why : Refusal) × IsFirstRefused first lists place why
+WhyUnedited first lists status.Memory = ⊤
+WhyUnedited first lists _ = ⊥
+
+-- Why of some texts not all were printed, and which were. (this project's own)
+abbrev pub WhyCutShort : List (List ℕ) → World → World → Status → Type 0
+WhyCutShort texts before after status.WriteFault = IsPrintedInPart texts before after
+WhyCutShort texts before after status.Memory = (whole : ℕ) × Prints before after (concat (take whole texts))
+WhyCutShort texts before after _ = ⊥
 
 -- Why a text wasn't printed whole, and what of it was. (this project's own)
 abbrev pub WhyUnprinted : List ℕ → World → World → Status → Type 0

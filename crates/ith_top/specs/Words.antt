@@ -2,20 +2,21 @@
 use Rattle.std.specs.Prelude.{ℕ, true, List, [], ◌∷◌, codes, if◌then◌else◌, Option, Some, None, unwrap_or, option_and_then}
 use Rattle.std.specs.Str.{bytes_eq}
 use Rattle.std.specs.Str.Parse.{digits_value, without_leading_plus}
-use Rattle.clap.specs.Words.{App, Kinds, Row, Rule, fault_of, first_of, new_app, new_rule, one_of, subcommand_of, with_rule, with_subcommand}
+use Rattle.clap.specs.Words.{App, Kinds, Row, Rule, all_of, fault_of, first_of, new_app, new_rule, one_of, subcommand_of, with_rule, with_subcommand}
 use Rattle.clap.specs.Simple.{on_top}
 use Rattle.clap.specs.ValueTests.{is_unsigned_in}
-use Rattle.clap.specs.declared.builder.action.ArgAction.TheVariants.{Set}
+use Rattle.clap.specs.declared.builder.action.ArgAction.TheVariants.{Set, Append}
 use Rattle.clap.specs.declared.builder.value_parser.ValueParser.TheVariants as parser
 
 -- A word, by its bytes. (this project's own)
 abbrev pub Text : Type 0
 Text = List ℕ
 
--- A line that runs a guest: the names of the executable and of the input, how many workers, and the limits. (this project's own)
+-- A line that runs a guest: the names of the executable, of the input and of the edit lists, in order, how many workers, and the limits. (this project's own)
 pub record RunLine : Type 0 where
   pub elf : Text
   pub input : Text
+  pub edits : List Text
   pub workers : ℕ
   pub fuel : ℕ
   pub limit : ℕ
@@ -49,18 +50,26 @@ default_limit = 4096
 abbrev pub operand_rule : Text → Rule
 operand_rule id = record (new_rule id) { required = true }
 
+-- An operand that may be given any number of times, or not at all. (POSIX.1-2017, XBD 12.1)
+abbrev pub operands_rule : Text → Rule
+operands_rule id = record (new_rule id) { action = Some Append }
+
 -- An option whose argument is a whole number, from 1 to the most. (this project's own)
 abbrev pub number_rule : Text → ℕ → Rule
 number_rule id most = record (new_rule id) { long = Some id; action = Some Set; parser = Some (parser.Unsigned 1 most) }
 
--- The command that runs a guest: two operands and three options. (this project's own)
+-- The operands of the command that runs a guest: two, and then any number of edit lists. (this project's own)
+abbrev pub run_operands : App
+run_operands =
+    with_rule
+    (with_rule (with_rule (new_app (codes "run")) (operand_rule (codes "ELF"))) (operand_rule (codes "INPUT")))
+    (operands_rule (codes "EDITS"))
+
+-- The command that runs a guest: its operands, and three options. (this project's own)
 abbrev pub run_command : App
 run_command =
     with_rule
-    (with_rule
-    (with_rule (with_rule (with_rule (new_app (codes "run")) (operand_rule (codes "ELF"))) (operand_rule (codes "INPUT")))
-    (number_rule (codes "workers") workers_most))
-    (number_rule (codes "fuel") fuel_most))
+    (with_rule (with_rule run_operands (number_rule (codes "workers") workers_most)) (number_rule (codes "fuel") fuel_most))
     (number_rule (codes "steps") limit_most)
 
 -- The program's command line: one of its commands has to be named. (this project's own)
@@ -78,6 +87,7 @@ run_line rows =
     record {
       elf = unwrap_or (first_of (codes "ELF") rows) [];
       input = unwrap_or (first_of (codes "INPUT") rows) [];
+      edits = unwrap_or (all_of (codes "EDITS") rows) [];
       workers = number_or workers_most default_workers (one_of (codes "workers") rows);
       fuel = number_or fuel_most default_fuel (one_of (codes "fuel") rows);
       limit = number_or limit_most default_limit (one_of (codes "steps") rows);

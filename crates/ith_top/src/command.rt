@@ -24,6 +24,14 @@ fn operand<'a>(alloc: Global, id: &'a str, help: &'a str) -> Arg<'a>
     Arg::new(alloc, id).required(true).help(help)
 }
 
+/// An operand that may be given any number of times, or not at all (POSIX.1-2017, XBD 12.1).
+fn operands<'a>(alloc: Global, id: &'a str, help: &'a str) -> Arg<'a>
+    ensures rule { rule_of result ≡ line.operands_rule id.entry.now }
+    ensures local { result.global ≡ false }
+{
+    Arg::new(alloc, id).action(ArgAction::Append).help(help)
+}
+
 /// An option whose argument is a whole number, from 1 to the most.
 fn number<'a>(alloc: Global, id: &'a str, most: u32, help: &'a str) -> Arg<'a>
     ensures rule { rule_of result ≡ line.number_rule id.entry.now most }
@@ -53,14 +61,26 @@ fn with_command<'a>(above: Command<'a>, below: Command<'a>) -> Result<Command<'a
     above.subcommand(below)
 }
 
-/// The command that runs a guest.
-fn run_command<'a>(alloc: Global) -> Result<Command<'a>, AllocError>
-    ensures shape { IfOk result (λ c. app_of c ≡ line.run_command) }
+/// The operands of the command that runs a guest.
+fn run_operands<'a>(alloc: Global) -> Result<Command<'a>, AllocError>
+    ensures shape { IfOk result (λ c. app_of c ≡ line.run_operands) }
     ensures local { IfOk result (λ c. (out-Command c).has_globals ≡ false) }
 {
     let command = Command::new(alloc, "run");
     let command = with_arg(command, operand(alloc, "ELF", "The name of the executable"))?;
     let command = with_arg(command, operand(alloc, "INPUT", "The name of the input"))?;
+    with_arg(
+        command,
+        operands(alloc, "EDITS", "The names of edit lists, for a round each"),
+    )
+}
+
+/// The command that runs a guest.
+fn run_command<'a>(alloc: Global) -> Result<Command<'a>, AllocError>
+    ensures shape { IfOk result (λ c. app_of c ≡ line.run_command) }
+    ensures local { IfOk result (λ c. (out-Command c).has_globals ≡ false) }
+{
+    let command = run_operands(alloc)?;
     let command = with_arg(
         command,
         number(

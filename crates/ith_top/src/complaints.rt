@@ -3,6 +3,7 @@
 use clap::Error;
 use elf_spec::Refusal;
 use ith_text::decimal;
+use round_inputs::Why;
 use std::alloc::{AllocError, Global};
 
 /// What there is to say where the host's memory ran out.
@@ -31,6 +32,26 @@ pub fn image_line(alloc: Global, refusal: Refusal) -> Vec<u8> {
     let _ = append_number(alloc, first, &mut line);
     let _ = append_number(alloc, second, &mut line);
     line
+}
+
+/// Why an edit list is refused, with its name, if it has one, and the line's number.
+pub fn edits_line(alloc: Global, name: Option<&&str>, line: usize, why: Why) -> Vec<u8> {
+    let mut text = match name {
+        Some(name) => name_line(alloc, "edits ", name),
+        None => name_line(alloc, "edits ", ""),
+    };
+    let _ = text.extend_from_slice(b" line ");
+    let _ = decimal(alloc, line as u64, &mut text);
+    let _ = text.extend_from_slice(cause(why));
+    text
+}
+
+/// The cause for which a line of an edit list is refused.
+fn cause(why: Why) -> &'static [u8] {
+    match why {
+        Why::BadLine => b": BadLine",
+        Why::OutOfRange => b": OutOfRange",
+    }
 }
 
 /// Appends a space and a number, if there is one.

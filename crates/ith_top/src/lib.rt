@@ -10,11 +10,13 @@ use std::alloc::Global;
 
 mod command;
 mod complaints;
+mod files;
 mod line;
 mod outside;
+mod plan;
 mod program;
 mod report;
-mod round;
+mod rounds;
 mod status;
 #[cfg(test)]
 mod tests;
@@ -26,8 +28,9 @@ pub use status::Status;
 
 /// Does what the words ask for, and gives the exit status. The words begin with the program's name.
 ///
-/// `run ELF INPUT --workers W --fuel F --steps S` runs the executable on the input from scratch, and prints the report of the round.
-/// The options may be left out.
+/// `run ELF INPUT [EDITS].. --workers W --fuel F --steps S` runs the executable on the input from scratch, and then once for each edit
+/// list, on the input of the round before after the list's edits. Each of these rounds takes from the round before it the steps whose
+/// records fit, and executes the others. The report of each round is printed before the next round begins. The options may be left out.
 #[tactic(auto, using(crate::proofs::Complete::complete))]
 pub fn top<R: Sync, H: Host, G: Gate + Sync>(
     rt: &R,

@@ -3,12 +3,14 @@
 ghost use Rattle.std.specs.Prelude.{◌≤◌};
 
 /// A line that runs a guest.
-#[derive(Clone, Copy, Debug)]
+#[derive(Debug, Drop)]
 pub struct RunLine<'a> {
     /// The name of the executable.
     pub elf: &'a str,
     /// The name of the input.
     pub input: &'a str,
+    /// The names of the edit lists, in order.
+    pub edits: Vec<&'a str>,
     /// How many workers there are.
     pub workers: u32,
     /// The most turns of a thunk.

@@ -1,29 +1,61 @@
-//! The report of a round that one worker made.
+//! A round that one worker makes, and its report.
 
-ghost use Rattle.std.specs.Prelude.{◌≡◌, ◌≤◌, IfOk};
-ghost use Rattle.report_spec.specs.Report.{report_text};
-ghost use Rattle.ith_top.specs.Ends as ends;
-ghost use Rattle.ith_top.specs.Alone.{told_by, alone_report, alone_exits};
+ghost use Rattle.std.specs.Prelude.{◌≡◌, ◌<◌, ◌≤◌, length, option_map, IfOk};
+ghost use Rattle.std.specs.Arc.{arc_value};
+ghost use Rattle.history_spec.specs.History.{IsSound};
+ghost use Rattle.report_spec.specs.Report.{report};
+ghost use Rattle.round_spec.specs.Alone.{lone_round};
+ghost use Rattle.rerun_spec.specs.Rounds.{IsRound, left_by};
+ghost use Rattle.rerun_spec.specs.Reports as reports;
+ghost use Rattle.ith_top.specs.Playing.{round_at};
 
-use super::round::{Round, run_alone};
 use machine_spec::End;
-use release_core::Setup;
+use propagate::{Round, run_alone};
+use release_core::{History, Setup};
 use round_report::{Told, text};
 use std::alloc::{AllocError, Global};
+use std::marker::Brand;
+use std::sync::Arc;
+use std::sync::ledger::{Blank, Ledger};
+use thunk_run::Steps;
 
-/// The report of a round.
+/// What there is of a round that was made.
 #[derive(Drop)]
-pub struct Report {
-    /// Its text.
+pub struct Played {
+    /// The text of its report.
     pub text: Vec<u8>,
-    /// Whether the round ended by exit.
+    /// Whether it ended by exit.
     pub exits: bool,
+    /// What it leaves to the next round.
+    pub left: Arc<History>,
+}
+
+/// The round of one worker, with a counter of its own.
+fn counted<L: Ledger>(
+    alloc: Global,
+    setup: Setup,
+    past: Option<Arc<History>>,
+    blank: Blank,
+) -> Result<Round, AllocError>
+    requires name { blank.name ≡ L.name }
+    requires parts { blank.parts ≡ L.parts }
+    requires some { 0 < L.parts }
+    ensures { IfOk result (λ round. round ≡ lone_round setup (option_map arc_value past)) }
+{
+    run_alone(alloc, setup, past, &mut Steps::<L>::new(blank))
+}
+
+/// The round of one worker, with nobody who looks at the counter.
+fn uncounted(alloc: Global, setup: Setup, past: Option<Arc<History>>) -> Result<Round, AllocError>
+    ensures { IfOk result (λ round. round ≡ lone_round setup (option_map arc_value past)) }
+{
+    counted::<Brand>(alloc, setup, past, Blank::new(1))
 }
 
 /// The shares where the first worker made all steps.
 fn shares_of_first(alloc: Global, workers: u32, steps: usize) -> Result<Vec<u64>, AllocError>
     requires { 1 ≤ workers }
-    ensures { IfOk result (λ shares. shares.items ≡ ends.shares_of_first workers steps) }
+    ensures { IfOk result (λ shares. shares.items ≡ reports.shares_of_first workers steps) }
 {
     let mut shares = vec![in alloc; steps as u64]?;
     let others = vec![in alloc; 0u64; (workers - 1) as usize]?;
@@ -31,44 +63,60 @@ fn shares_of_first(alloc: Global, workers: u32, steps: usize) -> Result<Vec<u64>
     Ok(shares)
 }
 
-/// The text of the report of round 0.
-fn round_text(alloc: Global, workers: u32, round: &Round) -> Result<Vec<u8>, AllocError>
-    requires { 1 ≤ workers }
+/// The text of the report of a round that one worker made, by a sound history if by any.
+#[tactic(auto, using(crate::proofs::Making::told_text))]
+fn round_text(
+    alloc: Global,
+    number: u64,
+    workers: u32,
+    round: &Round,
+) -> Result<Vec<u8>, AllocError>
+    requires some { 1 ≤ workers }
+    requires sound { IsSound round.now.past round.now.setup }
     ensures { IfOk result (λ text. text.items
-        ≡ report_text 0 (told_by workers round.now.core round.now.schedule.items round.now.instructions)) }
+        ≡ report number round.now.setup round.now.schedule (reports.shares_of_first workers (length round.now.schedule))) }
 {
-    let shares = shares_of_first(alloc, workers, round.schedule.len())?;
+    round.keeps();
+    let shares = shares_of_first(alloc, workers, round.schedule().len())?;
     let told = Told {
-        ending: round.core.ended(),
-        schedule: round.schedule.as_slice(),
-        instructions: round.instructions,
+        ending: round.end(),
+        schedule: round.schedule(),
+        instructions: round.instructions(),
         shares: shares.as_slice(),
-        memory: round.core.memory(),
-        output: round.core.output(),
+        memory: round.memory(),
+        output: round.output(),
     };
-    text(alloc, 0, &told)
+    text(alloc, number, &told)
 }
 
 /// Whether an end is an exit.
 fn is_exit(ending: Option<End>) -> bool
-    ensures { result ≡ ends.is_exit ending }
+    ensures { result ≡ reports.is_exit ending }
 {
     matches!(ending, Some(End::Exit(_)))
 }
 
-/// The report of the run from scratch that follows the choice.
+/// The round of a setup that goes by a history, if there is one, with its report.
 ///
 /// # Errors
 ///
 /// An error where the host's memory ran out.
-#[tactic(auto, using(crate::proofs::Reporting::text_alone, crate::proofs::Reporting::exits_alone))]
-pub fn first_report(alloc: Global, setup: &Setup, workers: u32) -> Result<Report, AllocError>
-    requires { 1 ≤ workers }
-    ensures text { IfOk result (λ report. report.text.items ≡ alone_report setup.now workers) }
-    ensures exits { IfOk result (λ report. report.exits ≡ alone_exits setup.now) }
+pub fn make_round(
+    alloc: Global,
+    number: usize,
+    setup: Setup,
+    past: Option<Arc<History>>,
+    workers: u32,
+) -> Result<Played, AllocError>
+    requires some { 1 ≤ workers }
+    requires sound { IsRound (round_at number setup (option_map arc_value past)) }
+    ensures text { IfOk result (λ played. played.text.items ≡ reports.report_of workers (round_at number setup (option_map arc_value past))) }
+    ensures exits { IfOk result (λ played. played.exits ≡ reports.exits (round_at number setup (option_map arc_value past))) }
+    ensures left { IfOk result (λ played. arc_value played.left ≡ left_by (round_at number setup (option_map arc_value past))) }
 {
-    let round = run_alone(alloc, setup)?;
-    let text = round_text(alloc, workers, &round)?;
-    let exits = is_exit(round.core.ended());
-    Ok(Report { text, exits })
+    let round = uncounted(alloc, setup, past)?;
+    let text = round_text(alloc, number as u64, workers, &round)?;
+    let exits = is_exit(round.end());
+    let left = Arc::new(alloc, round.into_history())?;
+    Ok(Played { text, exits, left })
 }

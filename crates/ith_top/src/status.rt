@@ -14,6 +14,8 @@ pub enum Status {
     Words,
     /// 3: the executable is refused.
     Image,
+    /// 5: an edit list is refused.
+    EditList,
     /// 6: a file that the line names couldn't be read.
     ReadFault,
     /// 7: printing failed.
@@ -34,6 +36,7 @@ impl Status {
             Status::Unfinished => 1,
             Status::Words => 2,
             Status::Image => 3,
+            Status::EditList => 5,
             Status::ReadFault => 6,
             Status::WriteFault => 7,
             Status::Memory => 8,

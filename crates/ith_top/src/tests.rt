@@ -19,6 +19,10 @@ const SEGMENT: &[u8] =
 const REPORT: &[u8] =
     b"round 0\nend exit 0\nsteps 2\nreused 0\nexecuted 2\ninstructions 8\nby 2\nschedule 0+ 0+\nmemory e067f7df6c32cd794e71b125b718964257c850acbbafd68793e5e4808bcb3984\noutput 3\nhi\n\n";
 
+/// The report of a further round without an edit: each step is reused, and all else is as before.
+const REPEATED: &[u8] =
+    b"round 1\nend exit 0\nsteps 2\nreused 2\nexecuted 0\ninstructions 0\nby 2\nschedule 0= 0=\nmemory e067f7df6c32cd794e71b125b718964257c850acbbafd68793e5e4808bcb3984\noutput 3\nhi\n\n";
+
 /// Puts a file of a name, made of three parts, beside others.
 fn put(
     alloc: Global,
@@ -51,6 +55,10 @@ fn host_with(alloc: Global, failing: &[u64], part: u64) -> Result<MemHost, Alloc
     )?;
     put(alloc, &mut files, "cut.elf", [HEADER, b"", b""])?;
     put(alloc, &mut files, "empty", [b"", b"", b""])?;
+    put(alloc, &mut files, "five", [b"hello", b"", b""])?;
+    put(alloc, &mut files, "inside", [b"set 4 00\n", b"size 2\n", b""])?;
+    put(alloc, &mut files, "behind", [b"\n", b"set 5 00\n", b""])?;
+    put(alloc, &mut files, "odd", [b"set 4 0\n", b"", b""])?;
     let long = vec![in alloc; 0u8; 1_048_577]?;
     put(alloc, &mut files, "long", [long.as_slice(), b"", b""])?;
     Ok(MemHost::new(alloc, files, Vec::from_slice(alloc, failing)?, part))
@@ -99,6 +107,20 @@ fn a_round_is_reported(rt: HostRuntime) -> Result<(), Fail> {
 }
 
 #[test]
+fn a_round_without_an_edit_reuses_all(rt: HostRuntime) -> Result<(), Fail> {
+    let alloc = rt.alloc();
+    let mut host = host_with(alloc, &[], 0)?;
+    let line = "ithreads run hi.elf empty empty --workers 1";
+    let status = status_of(&rt, alloc, &mut host, line)?;
+    assert_eq!(rt; status, 0);
+    assert_eq!(rt; host.printed().len(), REPORT.len().wrapping_add(REPEATED.len()));
+    assert!(rt; host.printed().starts_with(REPORT));
+    assert!(rt; host.printed().ends_with(REPEATED));
+    assert_eq!(rt; host.complained().len(), 0);
+    Ok(())
+}
+
+#[test]
 fn bad_words_and_files_are_refused(rt: HostRuntime) -> Result<(), Fail> {
     let alloc = rt.alloc();
     for (line, status, complaint) in [
@@ -118,6 +140,25 @@ fn bad_words_and_files_are_refused(rt: HostRuntime) -> Result<(), Fail> {
             "ithreads run hi.elf long --workers 1",
             9,
             "too large long\n",
+        ),
+        ("ithreads run hi.elf five inside absent", 6, "read absent\n"),
+        ("ithreads run hi.elf five long", 9, "too large long\n"),
+        ("ithreads run cut.elf five absent", 6, "read absent\n"),
+        ("ithreads run cut.elf five odd", 3, "image: ShortTable 0\n"),
+        (
+            "ithreads run hi.elf five behind",
+            5,
+            "edits behind line 2: OutOfRange\n",
+        ),
+        (
+            "ithreads run hi.elf five odd behind",
+            5,
+            "edits odd line 1: BadLine\n",
+        ),
+        (
+            "ithreads run hi.elf five inside inside",
+            5,
+            "edits inside line 1: OutOfRange\n",
         ),
     ] {
         let mut host = host_with(alloc, &[], 0)?;
@@ -154,6 +195,22 @@ fn a_call_of_the_host_that_fails_is_told(rt: HostRuntime) -> Result<(), Fail> {
         assert!(rt; REPORT.starts_with(host.printed()));
         assert_eq!(rt; host.printed().len() as u64, part);
         assert_eq!(rt; host.complained(), complaint.as_bytes());
+    }
+    Ok(())
+}
+
+#[test]
+fn a_report_that_fails_in_part_leaves_those_before_it(rt: HostRuntime) -> Result<(), Fail> {
+    let alloc = rt.alloc();
+    for part in [0, 1, REPEATED.len() as u64 - 1] {
+        let mut host = host_with(alloc, &[4], part)?;
+        let line = "ithreads run hi.elf empty empty --workers 1";
+        let got = status_of(&rt, alloc, &mut host, line)?;
+        assert_eq!(rt; got, 7);
+        assert!(rt; host.printed().starts_with(REPORT));
+        let printed = host.printed().len() as u64;
+        assert_eq!(rt; printed, part.wrapping_add(REPORT.len() as u64));
+        assert_eq!(rt; host.complained(), b"write output\n".as_slice());
     }
     Ok(())
 }

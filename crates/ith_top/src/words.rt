@@ -1,7 +1,7 @@
 //! The words of the command line.
 
 ghost use Rattle.std.specs.Prelude.{◌≡◌, ◌≤◌, map, string_bytes, unwrap_or, [], IfOk, IfErr};
-ghost use Rattle.clap.specs.Words.{fault_of, first_of, found_of, one_of, rows_of, subcommand_of, subcommand_rows_of};
+ghost use Rattle.clap.specs.Words.{all_of, fault_of, first_of, found_of, one_of, rows_of, subcommand_of, subcommand_rows_of};
 ghost use Rattle.ith_top.specs.Words as line;
 ghost use Rattle.ith_top.specs.Said.{run_said, line_said};
 ghost use Rattle.ith_top.specs.Refusals.{WhyNoLine, WhyFault};
@@ -11,7 +11,7 @@ use super::complaints::{name_line, words_line};
 use super::line::RunLine;
 use clap::error::ErrorKind;
 use clap::{ArgMatches, Error};
-use std::alloc::Global;
+use std::alloc::{AllocError, Global};
 
 /// How many workers, turns of a thunk and steps of a run there are where the line doesn't say.
 const DEFAULT_WORKERS: u32 = 4;
@@ -68,6 +68,21 @@ fn text_of<'a>(given: &ArgMatches<'a>, id: &str) -> &'a str
     }
 }
 
+/// The texts of an operand that may be given any number of times.
+#[tactic(auto, using(crate::proofs::Given::values_of_rows))]
+fn texts_of<'a>(
+    alloc: Global,
+    given: &ArgMatches<'a>,
+    id: &str,
+) -> Result<Vec<&'a str>, AllocError>
+    ensures { IfOk result (λ texts. map (λ text. text.now) texts.items ≡ unwrap_or (all_of id.now (rows_of (found_of given.now))) []) }
+{
+    match given.get_raw(id) {
+        Some(texts) => Vec::from_slice(alloc, texts),
+        None => Ok(Vec::new(alloc)),
+    }
+}
+
 /// The number of an option, or the default where the line has no such option.
 fn number_of(given: &ArgMatches<'_>, id: &str, most: u32, default: u32) -> u32
     requires some { 1 ≤ default }
@@ -83,16 +98,21 @@ fn number_of(given: &ArgMatches<'_>, id: &str, most: u32, default: u32) -> u32
 }
 
 /// The line of what was found for the command that runs a guest.
-fn run_line<'a>(given: &ArgMatches<'a>) -> RunLine<'a>
-    ensures { run_said result ≡ line.run_line (rows_of (found_of given.now)) }
+fn run_line<'a>(alloc: Global, given: &ArgMatches<'a>) -> Result<RunLine<'a>, AllocError>
+    ensures { IfOk result (λ said. run_said said ≡ line.run_line (rows_of (found_of given.now))) }
 {
-    RunLine {
+    let edits = match texts_of(alloc, given, "EDITS") {
+        Ok(edits) => edits,
+        Err(error) => return Err(error),
+    };
+    Ok(RunLine {
         elf: text_of(given, "ELF"),
         input: text_of(given, "INPUT"),
+        edits,
         workers: number_of(given, "workers", MOST_WORKERS, DEFAULT_WORKERS),
         fuel: number_of(given, "fuel", MOST_FUEL, DEFAULT_FUEL),
         limit: number_of(given, "steps", MOST_STEPS, DEFAULT_STEPS),
-    }
+    })
 }
 
 /// What the words ask for. The first of them is the program's name.
@@ -110,7 +130,10 @@ pub fn line_of<'a>(alloc: Global, words: &'a [String]) -> Result<RunLine<'a>, Li
         Err(fault) => return Err(fault),
     };
     match given.subcommand() {
-        Some((name, below)) if name == "run" => Ok(run_line(below)),
+        Some((name, below)) if name == "run" => match run_line(alloc, below) {
+            Ok(line) => Ok(line),
+            Err(_) => Err(LineFault::Memory),
+        },
         // the parser takes no other command
         _ => Err(LineFault::Refused(name_line(alloc, "words: ", "no command"))),
     }

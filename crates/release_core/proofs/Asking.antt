@@ -1,7 +1,7 @@
 -- What a ready thread's call may count on.
 use Rattle.std.proofs.Common.{◌≡◌, ◌<◌, ◌≤◌, ◌+◌, ℕ, Bool, true, List, length, ◌∙◌, arith}
 use Rattle.guest_call.specs.declared.Call.{Call}
-use Rattle.guest_call.specs.Objects.{Objects, act, waits_at, created_count, IsKept}
+use Rattle.guest_call.specs.Objects.{Objects, act, waits_at, created_count}
 use Rattle.guest_call.proofs.Kept.{act_creates, act_kept}
 use Rattle.machine_spec.specs.Machine.{Hart, Machine, hart_in, is_ready}
 use Rattle.machine_spec.specs.Whole.{IsTied, IsWhole}

@@ -2,3 +2,4 @@ pub mod DataPages
 pub mod Asking
 pub mod Least
 pub mod Laying
+pub mod Placing

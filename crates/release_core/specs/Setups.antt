@@ -1,5 +1,4 @@
 -- What a setup in code keeps.
-use Rattle.std.specs.Prelude.{ℕ, List}
 use Rattle.machine_spec.specs.Setup.{Setup, IsSetup}
 use Rattle.elf_load.specs.declared.loader.Image.{Image}
 use Rattle.elf_load.specs.Load.{IsImageOf}

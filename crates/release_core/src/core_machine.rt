@@ -1,12 +1,13 @@
 //! The guest machine.
 
-ghost use Rattle.std.specs.Prelude.{◌≡◌, ◌<◌, ◌≤◌, true, [], ◌∷◌, length, vec_len, Some, IfOk, OnOk, OnErr};
+ghost use Rattle.std.specs.Prelude.{◌≡◌, ◌<◌, ◌≤◌, ◌+◌, ◌&&◌, true, [], ◌∷◌, length, nat_lt, vec_len, Some, IfOk, IfErr, OnOk, OnErr};
 ghost use Rattle.std.specs.Arc.{arc_value};
 ghost use Rattle.thunk_spec.specs.Thunk.{thunk};
 ghost use Rattle.record_spec.specs.Delta.{masked};
-ghost use Rattle.record_spec.specs.Record.{put_of};
+ghost use Rattle.record_spec.specs.Record.{put_of, IsTrue};
 ghost use Rattle.release_core.specs.Views.{AreViewsOf};
-ghost use Rattle.machine_spec.specs.Machine.{Machine, hart_of, is_ready};
+ghost use Rattle.release_core.specs.Applying.{can_apply, IsCauseOf};
+ghost use Rattle.machine_spec.specs.Machine.{Machine, hart_of, is_ready, is_ended};
 ghost use Rattle.machine_spec.specs.Setup.{first, map_of, start_memory};
 ghost use Rattle.machine_spec.specs.Performing.{first_hart};
 ghost use Rattle.machine_spec.specs.Choice.{choice};
@@ -24,12 +25,24 @@ use machine_spec::{End, Status};
 use page_commit::commit;
 use page_map::PageMap;
 use page_store::PageTable;
+use rv_alu::Regs;
 use std::alloc::{AllocError, Global};
 use std::marker::Model;
 use std::sync::Arc;
+use std::sync::ledger::Ledger;
 use sync_objects::Objects;
-use thunk_record::{Frame, Record};
-use thunk_run::{Job, execute};
+use thunk_record::{Frame, Record, fits};
+use thunk_run::{Job, Steps, execute};
+
+/// Why a record wasn't laid.
+#[derive(Debug, PartialEq, Eq, Clone, Copy, Drop)]
+pub enum ApplyError {
+    /// The machine has ended, or the record doesn't fit: its thread isn't ready at its number of
+    /// steps, or has other registers, or its view has other bytes in a read page.
+    Stale,
+    /// The host's memory ran out.
+    NoMemory,
+}
 
 /// The guest machine between two steps.
 #[derive(Drop)]
@@ -111,6 +124,13 @@ impl Core {
         self.steps
     }
 
+    /// The page map and the fuel.
+    pub fn frame(&self) -> &Frame
+        ensures { result.now ≡ self.now.frame }
+    {
+        &self.frame
+    }
+
     /// How many steps thread `t`, which exists, has made.
     pub fn number(&self, t: u8) -> u32
         requires { t < length self.now.harts }
@@ -129,6 +149,60 @@ impl Core {
         }
         let hart = &self.harts[usize::from(t)];
         hart.status() == Status::Ready
+    }
+
+    /// Whether thread `t` exists and has ended.
+    pub fn gone(&self, t: u8) -> bool
+        ensures { result ≡ nat_lt t (length self.now.harts) && is_ended (hart_of self.now t).status }
+    {
+        if usize::from(t) >= self.harts.len() {
+            return false;
+        }
+        let hart = &self.harts[usize::from(t)];
+        match hart.status() {
+            Status::Ended(_) => true,
+            Status::Ready | Status::Blocked => false,
+        }
+    }
+
+    /// How many threads there are, those that have ended among them.
+    pub fn threads(&self) -> usize
+        ensures { result ≡ length self.now.harts }
+    {
+        self.harts.len()
+    }
+
+    /// The registers of thread `t`, which is ready.
+    #[tactic(auto, using(crate::proofs::Asking::below))]
+    pub fn regs(&self, t: u8) -> &Regs
+        requires { is_ready (hart_of self.now t).status ≡ true }
+        ensures { result.now ≡ (hart_of self.now t).regs }
+    {
+        let hart = &self.harts[usize::from(t)];
+        hart.regs()
+    }
+
+    /// The view of thread `t`, which is ready.
+    #[tactic(auto, using(crate::proofs::Asking::below))]
+    pub fn view(&self, t: u8) -> &PageTable
+        requires { is_ready (hart_of self.now t).status ≡ true }
+        ensures { result.now ≡ (hart_of self.now t).view }
+    {
+        view_at(self.harts.as_slice(), t)
+    }
+
+    /// Whether a record stands for the next step of its thread: the thread is ready and has made as
+    /// many steps, and has the record's first registers, and its view has the bytes of each read
+    /// page. Takes no memory.
+    #[tactic(auto, using(crate::proofs::Asking::below), unfolding(machine_spec::specs::Step::fits))]
+    pub fn fits(&self, rec: &Record) -> bool
+        ensures { result ≡ step.fits self.now rec.now }
+    {
+        if !self.ready(rec.thread()) {
+            return false;
+        }
+        let hart = &self.harts[usize::from(rec.thread())];
+        fits(rec, hart.number(), hart.regs(), hart.view())
     }
 
     /// The ready thread that has made the fewest steps, and of these the one of the lowest number; none where no thread is ready.
@@ -305,22 +379,50 @@ impl Core {
         Ok(())
     }
 
-    /// One step of thread `t`, which may make one. The answer is how many turns its thunk made.
+    /// Lays a record that fits in place of a step of its thread.
     ///
     /// # Errors
     ///
-    /// An error where the host's memory ran out; the machine is then as before.
+    /// `Stale` exactly where the machine has ended or the record doesn't fit, and `NoMemory` where
+    /// the host's memory ran out; the machine is then as before.
+    #[tactic(auto, using(crate::proofs::Laying::fitting_can))]
+    pub fn apply(&mut self, rec: &Record) -> Result<(), ApplyError>
+        ensures ok { OnOk result (self.new ≡ step.lay self.old rec.now) }
+        ensures fitting { OnOk result (can_apply self.old rec.now ≡ true) }
+        ensures simulates { OnOk result (IsTrue self.old.frame rec.now.start rec.now.kept → self.new ≡ step.step self.old rec.now.thread) }
+        ensures cause { IfErr result (λ e. IsCauseOf self.old rec.now e) }
+        ensures err { OnErr result (self.new ≡ self.old) }
+    {
+        self.whole();
+        machine_spec::lay_is_step();
+        if self.ended().is_some() || !self.fits(rec) {
+            return Err(ApplyError::Stale);
+        }
+        match self.lay(rec) {
+            Ok(()) => Ok(()),
+            Err(_) => Err(ApplyError::NoMemory),
+        }
+    }
+
+    /// One step of thread `t`, which may make one. The answer is how many turns its thunk made, and
+    /// the counter rises by it.
+    ///
+    /// # Errors
+    ///
+    /// An error where the host's memory ran out; the machine is then as before, and the counter may
+    /// have risen.
     #[tactic(auto, using(crate::proofs::Laying::own_fits, crate::proofs::Laying::kept_count))]
-    pub fn step(&mut self, t: u8) -> Result<u32, AllocError>
+    pub fn step<L: Ledger>(&mut self, t: u8, steps: &mut Steps<L>) -> Result<u32, AllocError>
         requires { step.can_step self.old t ≡ true }
         ensures ok { OnOk result (self.new ≡ step.step self.old t) }
         ensures count { IfOk result (λ n. n ≡ (thunk self.old.frame (hart_of self.old t).view (hart_of self.old t).regs).count) }
+        ensures cost { IfOk result (λ n. steps.new ≡ steps.old + n) }
         ensures err { OnErr result (self.new ≡ self.old) }
     {
         self.whole();
         machine_spec::lay_is_step();
         let job = self.start_of(t)?;
-        let run = execute(self.alloc, &job)?;
+        let run = execute(self.alloc, &job, steps)?;
         self.lay(&run.rec)?;
         Ok(run.rec.count())
     }

@@ -1,15 +1,20 @@
-//! The guest machine in code: a setup, the machine that it starts as, and one step of a ready thread.
+//! The guest machine in code: a setup, the machine that it starts as, one step of a ready thread, a
+//! record laid in place of one, and the history that a run leaves.
 #![tactic(auto)]
 
 mod choosing;
 mod core_machine;
 mod doing;
 mod hart;
+mod history;
 mod performing;
 mod put;
+mod records;
 mod setup;
 mod start;
 
-pub use core_machine::Core;
+pub use core_machine::{ApplyError, Core};
 pub use hart::Hart;
+pub use history::History;
+pub use records::Records;
 pub use setup::Setup;

@@ -5,28 +5,37 @@ ghost use Rattle.elf_load.specs.Load.{IsImageOf, Refuses};
 ghost use Rattle.machine_spec.specs.Setup as setup;
 
 use elf_load::{Image, LoadError, load};
-use std::alloc::Global;
+use std::alloc::{AllocError, Global};
 use std::marker::Model;
+use std::sync::Arc;
 
-/// An executable that is accepted, an input, the most turns of a thunk, and the most steps of a run.
+/// An executable that is accepted, and what it starts as.
 #[derive(Drop)]
-pub struct Setup {
+struct Program {
     elf: Vec<u8>,
-    input: Vec<u8>,
-    fuel: u32,
-    limit: u32,
     image: Image,
 }
 
+/// An executable that is accepted, an input, the most turns of a thunk, and the most steps of a run.
+/// Setups of one executable share its bytes.
+#[derive(Drop)]
+pub struct Setup {
+    program: Arc<Program>,
+    input: Vec<u8>,
+    fuel: u32,
+    limit: u32,
+}
+
 impl Model for Setup {
+    ghost use Rattle.std.specs.Arc.{arc_value};
     ghost use Rattle.machine_spec.specs.Setup as setup;
     ghost use Rattle.release_core.specs.Setups.{IsLoaded};
 
     ghost Value = { setup.Setup };
 
-    ghost view = { λ s. record { elf = s.elf.items; input = s.input.items; fuel = s.fuel; limit = s.limit } };
+    ghost view = { λ s. record { elf = (arc_value s.program).elf.items; input = s.input.items; fuel = s.fuel; limit = s.limit } };
 
-    ghost invariant = { λ s. IsLoaded (record { elf = s.elf.items; input = s.input.items; fuel = s.fuel; limit = s.limit }) s.image };
+    ghost invariant = { λ s. IsLoaded (record { elf = (arc_value s.program).elf.items; input = s.input.items; fuel = s.fuel; limit = s.limit }) (arc_value s.program).image };
 }
 
 impl Setup {
@@ -52,30 +61,56 @@ impl Setup {
         ensures sound { IfOk result (λ s. setup.IsSetup s) }
         ensures refused { IfErr result (λ e. Refuses elf.items e) }
     {
-        match load(alloc, elf.as_slice()) {
-            Ok(image) => Ok(Setup {
-                elf,
+        let image = match load(alloc, elf.as_slice()) {
+            Ok(image) => image,
+            Err(error) => return Err(error),
+        };
+        match Arc::new(alloc, Program { elf, image }) {
+            Ok(program) => Ok(Setup {
+                program,
                 input,
                 fuel,
                 limit,
-                image,
             }),
-            Err(error) => Err(error),
+            Err(_) => Err(LoadError::NoMemory),
         }
+    }
+
+    /// The setup of the same executable with this input, this fuel and this step limit. The
+    /// executable is shared.
+    ///
+    /// # Errors
+    ///
+    /// An error where the host's memory ran out.
+    pub fn with(&self, input: Vec<u8>, fuel: u32, limit: u32) -> Result<Setup, AllocError>
+        requires input_size { length input.items ≤ 1048576 }
+        requires some_fuel { 1 ≤ fuel }
+        requires most_fuel { fuel ≤ 16777216 }
+        requires some_steps { 1 ≤ limit }
+        requires most_steps { limit ≤ 65536 }
+        ensures { IfOk result (λ s. s ≡ record { elf = self.now.elf; input = input.items; fuel = fuel; limit = limit }) }
+    {
+        let program = Arc::try_clone(&self.program)?;
+        Ok(Setup {
+            program,
+            input,
+            fuel,
+            limit,
+        })
     }
 
     /// It may be run: what a caller learns of any setup.
     pub fn sound(&self)
         ensures { setup.IsSetup self.now }
     {
-        let _image = &self.image;
+        let _program = &self.program;
     }
 
     /// The bytes of its executable.
     pub fn elf(&self) -> &[u8]
         ensures { result.now ≡ self.now.elf }
     {
-        self.elf.as_slice()
+        self.program.elf.as_slice()
     }
 
     /// The bytes of its input.
@@ -103,6 +138,6 @@ impl Setup {
     pub fn image(&self) -> &Image
         ensures { IsImageOf self.now.elf result.now }
     {
-        &self.image
+        &self.program.image
     }
 }

@@ -15,11 +15,11 @@ use std::alloc::{AllocError, Global};
 /// # Errors
 ///
 /// An error where the host's memory ran out.
-pub fn text(alloc: Global, number: u32, told: &Told<'_>) -> Result<Vec<u8>, AllocError>
+pub fn text(alloc: Global, number: u64, told: &Told<'_>) -> Result<Vec<u8>, AllocError>
     ensures { IfOk result (λ text. text.items ≡ report_text number told.now) }
 {
     let mut text = Vec::new(alloc);
-    number_line(alloc, "round", u64::from(number), &mut text)?;
+    number_line(alloc, "round", number, &mut text)?;
     append_steps(alloc, told, &mut text)?;
     append_work(alloc, told, &mut text)?;
     append_outcome(alloc, told, &mut text)?;

@@ -1,13 +1,15 @@
 //! The turns of a thunk.
 
-ghost use Rattle.std.specs.Prelude.{◌≡◌, IfOk};
+ghost use Rattle.std.specs.Prelude.{◌≡◌, ◌+◌, IfOk};
 ghost use Rattle.thunk_run.specs.Left.{Left, left_after, with_put_taken};
 
 use super::put::{put_range, take_range};
+use super::steps::Steps;
 use page_map::Mem;
 use rv_alu::Regs;
 use rv_step::step;
 use std::alloc::AllocError;
+use std::sync::ledger::Ledger;
 use thunk_record::Frame;
 use thunk_spec::{Outcome, ThunkEnd};
 
@@ -25,16 +27,19 @@ pub(super) struct Turned {
 /// # Errors
 ///
 /// An error where the host's memory ran out.
-pub(super) fn make_turns<M: Mem>(
+pub(super) fn make_turns<M: Mem, L: Ledger>(
     regs: &mut Regs,
     mem: &mut M,
     fuel: u32,
+    steps: &mut Steps<L>,
 ) -> Result<Turned, AllocError>
-    ensures { IfOk result (λ turned. record { regs = regs.new; end = turned.end; count = turned.count; workspace = M.workspace mem.new } ≡ left_after fuel (M.workspace mem.old) regs.old) }
+    ensures cost { IfOk result (λ turned. steps.new ≡ steps.old + turned.count) }
+    ensures left { IfOk result (λ turned. record { regs = regs.new; end = turned.end; count = turned.count; workspace = M.workspace mem.new } ≡ left_after fuel (M.workspace mem.old) regs.old) }
 {
     let mut count = 0;
     while count < fuel {
         count += 1;
+        steps.tick();
         match step(regs, mem)? {
             Outcome::Next => {}
             Outcome::Call => {
@@ -62,15 +67,17 @@ pub(super) fn make_turns<M: Mem>(
 /// # Errors
 ///
 /// An error where the host's memory ran out.
-pub(super) fn make_thunk<M: Mem>(
+pub(super) fn make_thunk<M: Mem, L: Ledger>(
     frame: &Frame,
     regs: &mut Regs,
     mem: &mut M,
+    steps: &mut Steps<L>,
 ) -> Result<Turned, AllocError>
     requires { (M.workspace mem.old).map ≡ frame.now.map }
-    ensures { IfOk result (λ turned. record { regs = regs.new; end = turned.end; count = turned.count; workspace = M.workspace mem.new } ≡ with_put_taken (left_after frame.now.fuel (M.workspace mem.old) regs.old)) }
+    ensures cost { IfOk result (λ turned. steps.new ≡ steps.old + turned.count) }
+    ensures left { IfOk result (λ turned. record { regs = regs.new; end = turned.end; count = turned.count; workspace = M.workspace mem.new } ≡ with_put_taken (left_after frame.now.fuel (M.workspace mem.old) regs.old)) }
 {
-    let turned = make_turns(regs, mem, frame.fuel())?;
+    let turned = make_turns(regs, mem, frame.fuel(), steps)?;
     let range = put_range(frame.map(), turned.end, regs);
     take_range(mem, range)?;
     Ok(turned)

@@ -1,12 +1,18 @@
 //! Worked runs of small guests: the reports and the ends that follow from the rules by hand.
+
+ghost use Rattle.std.specs.Prelude.{◌≡◌, ◌<◌};
+
 use ith_host::{MemHost, OpenGate};
 use ith_top::top;
 use machine_spec::End;
 use release_core::{Core, Setup};
 use std::alloc::{AllocError, Global};
 use std::collections::BTreeMap;
+use std::marker::Brand;
 use std::process::Abort;
+use std::sync::ledger::{Blank, Ledger};
 use std::test::Fail;
+use thunk_run::Steps;
 use worked_guests::guests::{
     BYTES, CREATES, CROSS, HI, LATE, LENGTH, PAIR, PERM, PUTS, SELF, TRAP, TRY,
 };
@@ -20,13 +26,22 @@ fn executable(alloc: Global, guest: Guest) -> Result<Vec<u8>, AllocError> {
     }
 }
 
-/// A host that has a guest and an input.
-fn host_of(alloc: Global, guest: Guest, input: &[u8]) -> Result<MemHost, AllocError> {
+/// A host that has a guest, an input and an edit list.
+fn host_of(
+    alloc: Global,
+    guest: Guest,
+    input: &[u8],
+    edits: &[u8],
+) -> Result<MemHost, AllocError> {
     let mut files = BTreeMap::new(alloc);
     files.insert(String::from_str(alloc, "guest")?, executable(alloc, guest)?)?;
     files.insert(
         String::from_str(alloc, "input")?,
         Vec::from_slice(alloc, input)?,
+    )?;
+    files.insert(
+        String::from_str(alloc, "edits")?,
+        Vec::from_slice(alloc, edits)?,
     )?;
     Ok(MemHost::new(alloc, files, Vec::new(alloc), 0))
 }
@@ -140,7 +155,7 @@ fn status_of<R: Sync>(
 
 /// Runs a guest on an input, and compares.
 fn compare<R: Sync + Abort>(rt: &R, alloc: Global, row: &Row, input: &[u8]) -> Result<(), Fail> {
-    let mut host = host_of(alloc, row.guest, input)?;
+    let mut host = host_of(alloc, row.guest, input, b"")?;
     let status = status_of(rt, alloc, &mut host, "ithreads run guest input --workers 1")?;
     assert_eq!(rt; status, row.status);
     assert!(rt; host.printed().starts_with(row.report.as_bytes()));
@@ -161,6 +176,131 @@ fn guests_end_as_worked_out(rt: HostRuntime) -> Result<(), Fail> {
     compare(&rt, alloc, &PAIR_ROW, input.as_slice())
 }
 
+/// A round: its report up to the digest, and the output with the line before it.
+#[derive(Clone, Copy)]
+struct Told {
+    report: &'static str,
+    output: &'static [u8],
+}
+
+/// A run with an edit list: the guest, the list, and the two rounds.
+#[derive(Clone, Copy)]
+struct Edited {
+    guest: Guest,
+    edits: &'static [u8],
+    first: Told,
+    second: Told,
+}
+
+/// Edit lists for two threads that add a word each, and their second rounds.
+const PAIR_SECOND: [(&[u8], Told); 2] = [
+    (
+        b"set 4096 08",
+        Told {
+            report: "round 1\nend exit 0\nsteps 12\nreused 8\nexecuted 4\ninstructions 18\nby 12\nschedule 0= 1= 0= 2+ 1= 2+ 0= 1= 2+ 0= 0+ 0=\nmemory ",
+            output: b"\noutput 4\n\x0d\x00\x00\x00\n",
+        },
+    ),
+    (
+        b"set 4096 07",
+        Told {
+            report: "round 1\nend exit 0\nsteps 12\nreused 12\nexecuted 0\ninstructions 0\nby 12\nschedule 0= 1= 0= 2= 1= 2= 0= 1= 2= 0= 0= 0=\nmemory ",
+            output: b"\noutput 4\n\x0c\x00\x00\x00\n",
+        },
+    ),
+];
+
+/// The guest that exits with the length of its input, five bytes that are cut off.
+const LENGTH_EDITED: Edited = Edited {
+    guest: LENGTH,
+    edits: b"size 0\n",
+    first: Told {
+        report: "round 0\nend exit 5\nsteps 2\nreused 0\nexecuted 2\ninstructions 6\nby 2\nschedule 0+ 0+\nmemory ",
+        output: b"\noutput 0\n\n",
+    },
+    second: Told {
+        report: "round 1\nend exit 0\nsteps 2\nreused 1\nexecuted 1\ninstructions 4\nby 2\nschedule 0= 0+\nmemory ",
+        output: b"\noutput 0\n\n",
+    },
+};
+
+/// The guest whose second thread tries a lock, which is held at first.
+const TRY_EDITED: Edited = Edited {
+    guest: TRY,
+    edits: b"set 0 00",
+    first: Told {
+        report: "round 0\nend exit 4294967280\nsteps 6\nreused 0\nexecuted 6\ninstructions 23\nby 6\nschedule 0+ 0+ 1+ 1+ 0+ 0+\nmemory ",
+        output: b"\noutput 0\n\n",
+    },
+    second: Told {
+        report: "round 1\nend exit 0\nsteps 6\nreused 1\nexecuted 5\ninstructions 19\nby 6\nschedule 0+ 0+ 1= 1+ 0+ 0+\nmemory ",
+        output: b"\noutput 0\n\n",
+    },
+};
+
+/// How long a round's text is, with the digest's 64 digits.
+fn length_of(told: Told) -> usize {
+    told.report
+        .len()
+        .wrapping_add(64)
+        .wrapping_add(told.output.len())
+}
+
+/// Whether a text is a round's.
+fn is_told(text: &[u8], told: Told) -> bool {
+    text.len() == length_of(told)
+        && text.starts_with(told.report.as_bytes())
+        && text.ends_with(told.output)
+}
+
+/// Whether a text is that of two rounds.
+fn are_told(text: &[u8], first: Told, second: Told) -> bool {
+    let end = length_of(first);
+    if text.len() < end {
+        return false;
+    }
+    let (front, rest) = text.split_at(end);
+    is_told(front, first) && is_told(rest, second)
+}
+
+/// Runs a guest on an input and after an edit, and compares.
+fn compare_edited<R: Sync + Abort>(
+    rt: &R,
+    alloc: Global,
+    row: &Edited,
+    input: &[u8],
+) -> Result<(), Fail> {
+    let mut host = host_of(alloc, row.guest, input, row.edits)?;
+    let line = "ithreads run guest input edits --workers 1";
+    let status = status_of(rt, alloc, &mut host, line)?;
+    assert_eq!(rt; status, 0);
+    assert!(rt; are_told(host.printed(), row.first, row.second));
+    Ok(())
+}
+
+#[test]
+fn edits_execute_what_they_reach(rt: HostRuntime) -> Result<(), Fail> {
+    let alloc = rt.alloc();
+    let mut input = vec![in alloc; 0u8; 4100]?;
+    input[0] = 5;
+    input[4096] = 7;
+    let first = Told {
+        report: PAIR_ROW.report,
+        output: PAIR_ROW.output,
+    };
+    for (edits, second) in PAIR_SECOND {
+        let row = Edited {
+            guest: PAIR,
+            edits,
+            first,
+            second,
+        };
+        compare_edited(&rt, alloc, &row, input.as_slice())?;
+    }
+    compare_edited(&rt, alloc, &LENGTH_EDITED, &[0; 5])?;
+    compare_edited(&rt, alloc, &TRY_EDITED, &[1])
+}
+
 /// What comes of a schedule: how many of its steps could be made, how many turns they took, and how the run ended.
 #[derive(Drop)]
 struct Played {
@@ -170,7 +310,17 @@ struct Played {
 }
 
 /// Makes the steps of a schedule, up to one that can't be made.
-fn play(alloc: Global, setup: &Setup, schedule: &[u8]) -> Result<Played, AllocError> {
+fn play_counted<L: Ledger>(
+    alloc: Global,
+    setup: &Setup,
+    schedule: &[u8],
+    blank: Blank,
+) -> Result<Played, AllocError>
+    requires name { blank.name ≡ L.name }
+    requires parts { blank.parts ≡ L.parts }
+    requires some { 0 < L.parts }
+{
+    let mut counter = Steps::<L>::new(blank);
     let mut core = Core::new(alloc, setup)?;
     let mut turns = 0u64;
     for (steps, &thread) in schedule.iter().enumerate() {
@@ -181,13 +331,18 @@ fn play(alloc: Global, setup: &Setup, schedule: &[u8]) -> Result<Played, AllocEr
                 ending: core.ended(),
             });
         }
-        turns = turns.wrapping_add(u64::from(core.step(thread)?));
+        turns = turns.wrapping_add(u64::from(core.step(thread, &mut counter)?));
     }
     Ok(Played {
         steps: schedule.len(),
         turns,
         ending: core.ended(),
     })
+}
+
+/// The same, with nobody who looks at the counter.
+fn play(alloc: Global, setup: &Setup, schedule: &[u8]) -> Result<Played, AllocError> {
+    play_counted::<Brand>(alloc, setup, schedule, Blank::new(1))
 }
 
 /// The setup of a guest with no input, or none where it is too long or isn't taken.
@@ -258,7 +413,7 @@ fn limits_end_a_run(rt: HostRuntime) -> Result<(), Fail> {
             "round 0\nend spent\nsteps 1\nreused 0\nexecuted 1\ninstructions 5\nby 1 0 0 0\nschedule 0+\n",
         ),
     ] {
-        let mut host = host_of(alloc, HI, b"")?;
+        let mut host = host_of(alloc, HI, b"", b"")?;
         let got = status_of(&rt, alloc, &mut host, line)?;
         assert_eq!(rt; got, status, "at {line}");
         assert!(rt; host.printed().starts_with(report.as_bytes()), "at {line}");

@@ -1,4 +1,4 @@
-use Rattle.std.proofs.Common.{set, subst, length-set, ◌≡◌, ◌<◌, ◌+◌, ◌*◌, ℕ, zero, suc, List, ◌∷◌, length, get_or, map, refl, sym, ap, ◌∙◌, arith, add-zero}
+use Rattle.std.proofs.Common.{set, subst, length-set, ◌≡◌, ◌<◌, ◌+◌, ◌*◌, ℕ, zero, suc, ◌∷◌, length, get_or, map, refl, sym, ap, ◌∙◌, arith, add-zero}
 use Rattle.std.specs.List.{range_with_len}
 use Rattle.std.proofs.lemmas.List.FromFn.{fill_by_all}
 use Rattle.std.proofs.lemmas.List.Edits.{fill_by_more}

@@ -1,6 +1,4 @@
-use Rattle.std.proofs.Common.{◌≡◌, ◌+◌, ◌-◌, ℕ, List, ◌++◌, refl, ◌∙◌, arith}
-use Rattle.memory_spec.specs.Pages.{Mapped}
-use Rattle.machine_spec.specs.Setup.{data_pages}
+use Rattle.std.proofs.Common.{◌≡◌, ◌+◌, ◌-◌, refl, ◌∙◌, arith}
 use Rattle.release_core.proofs.DataPages.{data_pages-done, data_pages-next}
 use Rattle.release_core.proofs.start.push_data.Goals as goal
 

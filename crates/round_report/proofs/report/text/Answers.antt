@@ -52,6 +52,5 @@ appended a b c d e e1 e2 e3 e4 =
 pub returns : goal.returns
 returns c =
     let t = c.args.told.now in
-    let round = rw c.from.ensures at c.in_ok-number_line.ensures in
-    appended (line (codes "round") (decimal c.args.number)) (steps_part t) (work_part t) (outcome_part t) c.new-text.ensures.items round c.in_ok-append_steps.ensures c.in_ok-append_work.ensures c.in_ok-append_outcome.ensures
+    appended (line (codes "round") (decimal c.args.number)) (steps_part t) (work_part t) (outcome_part t) c.new-text.ensures.items c.in_ok-number_line.ensures c.in_ok-append_steps.ensures c.in_ok-append_work.ensures c.in_ok-append_outcome.ensures
     ∙ sym (report_text_is c.args.number t)

@@ -1,11 +1,12 @@
-use Rattle.std.proofs.Common.{◌-◌, ◌≡◌}
+use Rattle.std.proofs.Common.{◌-◌, ◌+◌, ◌≡◌}
 use Rattle.thunk_run.specs.Left.{left_after, counted}
 use Rattle.thunk_run.proofs.turns.make_turns.Given as goal
 
 abbrev pub invariant-loop-count : goal.invariant-loop-count
 invariant-loop-count g l =
-    counted l.count (left_after (l.fuel - l.count) (g.M.Mem.workspace l.mem) l.regs)
-    ≡ left_after l.fuel (g.M.Mem.workspace l.fn.mem) l.fn.regs
+    (counted l.count (left_after (l.fuel - l.count) (g.M.Mem.workspace l.mem) l.regs)
+    ≡ left_after l.fuel (g.M.Mem.workspace l.fn.mem) l.fn.regs)
+    × (l.steps ≡ l.fn.steps + l.count)
 
 abbrev pub decreases-loop-count : goal.decreases-loop-count
 decreases-loop-count g l = l.fuel - l.count

@@ -1,15 +1,11 @@
-use Rattle.std.proofs.Common.{◌≡◌, true, ◌+◌, suc, ℕ, List, ◌++◌, slice_set, Option, refl, ap, sym, subst, ◌∙◌, arith, add-one}
+use Rattle.std.proofs.Common.{◌≡◌, true, ◌+◌, suc, ◌++◌, slice_set, refl, ap, sym, subst, ◌∙◌, arith}
 use Rattle.std.proofs.lemmas.Grind.{common_steps}
 use Rattle.std.specs.Arc.{arc_value}
-use Rattle.memory_spec.specs.Pages.{Memory}
 use Rattle.record_spec.specs.Delta.{masked}
 use Rattle.record_spec.specs.Record.{Record, put_of}
-use Rattle.machine_spec.specs.declared.states.Asked.{Asked}
-use Rattle.machine_spec.specs.declared.states.End.{End}
-use Rattle.guest_call.specs.Objects.{Objects}
-use Rattle.machine_spec.specs.Machine.{Machine, Hart, hart_of, is_ready}
+use Rattle.machine_spec.specs.Machine.{Machine, hart_of}
 use Rattle.machine_spec.specs.Step as step
-use Rattle.machine_spec.specs.Whole.{IsWhole, IsTied}
+use Rattle.machine_spec.specs.Whole.{IsWhole}
 use Rattle.machine_spec.proofs.Tied.{tied-written}
 use Rattle.release_core.specs.Doing.{harts_after, objects_after, ending_after}
 use Rattle.release_core.proofs.Laying.{laid-parts, lay-whole}

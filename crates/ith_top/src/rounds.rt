@@ -1,0 +1,79 @@
+//! The rounds of a line, one after the other.
+
+ghost use Rattle.std.specs.Prelude.{◌≡◌, ◌≤◌, option_map, IfOk, IfErr};
+ghost use Rattle.std.specs.Arc.{arc_value};
+ghost use Rattle.std.specs.List.{concat};
+ghost use Rattle.ith_host.specs.World.{NoneFell};
+ghost use Rattle.rerun_spec.specs.Rounds.{IsRound, round_on, left_by};
+ghost use Rattle.rerun_spec.specs.Reports.{report_of, exits, reports_of, all_exit};
+ghost use Rattle.round_inputs.specs.Lists.{bytes_of_each};
+ghost use Rattle.ith_top.specs.Ends.{Prints};
+ghost use Rattle.ith_top.specs.Refusals.{WhyCutShort};
+ghost use Rattle.ith_top.specs.Playing.{AreMadeByLists};
+
+use super::complaints::NO_MEMORY;
+use super::outside::print_text;
+use super::report::{Played, make_round};
+use super::status::Status;
+use ith_host::Host;
+use release_core::{History, Setup};
+use std::alloc::{AllocError, Global};
+use std::sync::Arc;
+
+/// The round of a setup's program on an input that goes by a history, if there is one.
+fn next_round(
+    alloc: Global,
+    number: usize,
+    setup: &Setup,
+    input: Vec<u8>,
+    past: Option<Arc<History>>,
+    workers: u32,
+) -> Result<Played, AllocError>
+    requires some { 1 ≤ workers }
+    requires sound { IsRound (round_on number (option_map arc_value past) setup.now input.items) }
+    ensures text { IfOk result (λ played. played.text.items ≡ report_of workers (round_on number (option_map arc_value past) setup.now input.items)) }
+    ensures exits { IfOk result (λ played. played.exits ≡ exits (round_on number (option_map arc_value past) setup.now input.items)) }
+    ensures left { IfOk result (λ played. arc_value played.left ≡ left_by (round_on number (option_map arc_value past) setup.now input.items)) }
+{
+    setup.sound();
+    let next = setup.with(input, setup.fuel(), setup.limit())?;
+    make_round(alloc, number, next, past, workers)
+}
+
+/// Makes the rounds of a setup's program on these inputs, each going by what the one before it leaves, and prints the report of each before
+/// the next begins. The answer is whether each ended by exit.
+pub fn play<H: Host>(
+    alloc: Global,
+    host: &mut H,
+    setup: &Setup,
+    inputs: Vec<Vec<u8>>,
+    workers: u32,
+) -> Result<bool, Status>
+    requires some { 1 ≤ workers }
+    requires edited { AreMadeByLists setup.now.input (bytes_of_each inputs.items) }
+    ensures printed { IfOk result (λ exits. Prints (H.world host.old) (H.world host.new) (concat (reports_of workers setup.now (bytes_of_each inputs.items)))) }
+    ensures exits { IfOk result (λ exits. exits ≡ all_exit setup.now (bytes_of_each inputs.items)) }
+    ensures refused { IfErr result (λ status. WhyCutShort (reports_of workers setup.now (bytes_of_each inputs.items)) (H.world host.old) (H.world host.new) status) }
+    ensures counts { NoneFell (H.world host.old) (H.world host.new) }
+{
+    setup.sound();
+    let mut past = None;
+    let mut all_exit = true;
+    for (number, input) in inputs.into_iter().enumerate() {
+        let Played { text, exits, left } =
+            match next_round(alloc, number, setup, input, past, workers) {
+                Ok(played) => played,
+                Err(_) => {
+                    host.complain(NO_MEMORY);
+                    return Err(Status::Memory);
+                }
+            };
+        match print_text(alloc, host, text.as_slice()) {
+            Ok(()) => {}
+            Err(status) => return Err(status),
+        }
+        past = Some(left);
+        all_exit &= exits;
+    }
+    Ok(all_exit)
+}

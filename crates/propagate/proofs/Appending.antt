@@ -1,0 +1,128 @@
+-- When a record may be appended, and what is there after an event.
+use Rattle.std.proofs.Common.{◌≡◌, ◌<◌, ◌≤◌, ℕ, zero, suc, Bool, true, false, not, ◌&&◌, ◌||◌, eqb, List, [], ◌∷◌, length, count_by, Option, Some, None, is_some, is_none, refl, ap, sym, ◌∙◌, arith}
+use Rattle.std.proofs.lemmas.Bool.{eqb-true, and_parts}
+use Rattle.record_spec.specs.Record.{Record, fits_at, same_registers}
+use Rattle.record_spec.specs.Reads.{has}
+use Rattle.machine_spec.specs.declared.states.End.{End}
+use Rattle.machine_spec.specs.Machine.{Machine, hart_of, is_ready}
+use Rattle.machine_spec.specs.Step.{lay, fits, can_step}
+use Rattle.machine_spec.specs.Whole.{IsWhole}
+use Rattle.machine_spec.proofs.Harts.{ready-below}
+use Rattle.history_spec.specs.History.{History, threads_of_records}
+use Rattle.history_spec.proofs.Truth.{past-of}
+use Rattle.round_spec.specs.Marks.{record_for, is_fitting, fits_next}
+use Rattle.round_spec.specs.Rounds.{RoundState, is_over, is_out_of, can_begin, can_take, can_reuse}
+use Rattle.round_spec.specs.Keeping.{IsInOrder, IsCounted}
+use Rattle.round_spec.proofs.Happening.{CanBegin, can_begin-parts}
+use Rattle.propagate.specs.Kept.{front_in}
+use Rattle.propagate.proofs.Passing.{passed-prefix}
+use Rattle.propagate.proofs.Keeping.{record_count}
+
+pub few-harts : (m : Machine) → IsWhole m → length m.harts ≤ 32
+few-harts m whole = omega (arith, whole.tied.threads, whole.tied.kept.few_threads)
+
+pub below-32 : (m : Machine) (t : ℕ) → IsWhole m → is_ready (hart_of m t).status ≡ true → t < 32
+below-32 m t whole ready = omega (arith, few-harts m whole, ready-below m.harts t ready)
+
+pub out-below : (out : List Bool) (t : ℕ) → is_out_of out t ≡ true → t < length out
+out-below [] t is = cc
+out-below (b ∷ out) zero is = omega arith
+out-below (b ∷ out) (suc t) is = let below = out-below out t is in omega arith
+
+none-is : (e : Option End) → is_none e ≡ true → e ≡ None
+none-is (Some e) h = cc
+none-is None h = refl
+
+going-none : (e : Option End) (stopped : Bool) → (is_some e || stopped) ≡ false → is_none e ≡ true
+going-none (Some e) stopped h = cc
+going-none None stopped h = refl
+
+-- a record that may be appended
+pub record CanAppend (w : RoundState) (r : Record) : Type 0 where
+  pub can : can_step w.machine r.thread ≡ true
+  pub ready : is_ready (hart_of w.machine r.thread).status ≡ true
+  pub few : length w.records < 65536
+  pub thread : r.thread < 32
+  pub number : r.number ≡ count_by (λ t. eqb t r.thread) (threads_of_records w.records)
+
+can-append :
+    (w : RoundState) (r : Record)
+    → IsInOrder w → IsCounted w
+    → is_none w.machine.ending ≡ true → is_ready (hart_of w.machine r.thread).status ≡ true
+    → r.number ≡ (hart_of w.machine r.thread).number
+    → CanAppend w r
+can-append w r kept counted none ready number =
+    let left = kept.whole.steps_left (none-is w.machine.ending none) in
+    let most = kept.whole.most_steps in
+    let count = record_count w counted in
+    let steps = counted.steps in
+    record {
+      can = rw (none, ready) refl;
+      ready = ready;
+      few = omega arith;
+      thread = below-32 w.machine r.thread kept.whole ready;
+      number =
+          number ∙ counted.numbers r.thread
+          ∙ ap (λ (ts : List ℕ). count_by (λ t. eqb t r.thread) ts) (sym counted.threads);
+    }
+
+fits-parts :
+    (m : Machine) (r : Record) → fits m r ≡ true
+    → (is_ready (hart_of m r.thread).status ≡ true) × (r.number ≡ (hart_of m r.thread).number)
+unfolding fits fits_at
+fits-parts m r fit =
+    let parts = and_parts (is_ready (hart_of m r.thread).status)
+    ((eqb r.number (hart_of m r.thread).number && same_registers r.start (hart_of m r.thread).regs) && has (hart_of m r.thread).view r.kept.reads) fit in
+    let left = and_parts (eqb r.number (hart_of m r.thread).number && same_registers r.start (hart_of m r.thread).regs) (has (hart_of m r.thread).view r.kept.reads) parts.1 in
+    let number = and_parts (eqb r.number (hart_of m r.thread).number) (same_registers r.start (hart_of m r.thread).regs) left.0 in
+    (parts.0, eqb-true r.number (hart_of m r.thread).number number.0)
+
+-- one that fits, in a round that isn't over
+pub fitting-append : (w : RoundState) (r : Record) → IsInOrder w → IsCounted w → is_over w ≡ false → fits w.machine r ≡ true → CanAppend w r
+fitting-append w r kept counted going fit =
+    let parts = fits-parts w.machine r fit in
+    can-append w r kept counted (going-none w.machine.ending w.stopped going) parts.0 parts.1
+
+-- the history's record, where it can be reused
+pub record Reusable (w : RoundState) (t : ℕ) (r : Record) : Type 0 where
+  pub append : CanAppend w r
+  pub thread : r.thread ≡ t
+
+pub reusable :
+    (w : RoundState) (t : ℕ) (r : Record)
+    → IsInOrder w → IsCounted w → can_reuse w t ≡ true → record_for w.past w.machine t ≡ Some r → Reusable w t r
+reusable w t r kept counted can there =
+    let parts = and_parts (can_begin w t) (fits_next w.past w.machine t) can in
+    let begins : CanBegin w t = can_begin-parts w t parts.0 in
+    let of = past-of w.past t (hart_of w.machine t).number r there in
+    let thread : r.thread ≡ t = of.0 in
+    record {
+      append =
+          can-append w r kept counted begins.none
+          (ap (λ u. is_ready (hart_of w.machine u).status) thread ∙ begins.ready)
+          (of.1 ∙ ap (λ u. (hart_of w.machine u).number) (sym thread));
+      thread = thread;
+    }
+
+-- and there is one
+pub reuses-some : (w : RoundState) (t : ℕ) → can_reuse w t ≡ true → record_for w.past w.machine t ≡ None → ⊥
+reuses-some w t can none =
+    let parts = and_parts (can_begin w t) (fits_next w.past w.machine t) can in
+    let fit : fits_next w.past w.machine t ≡ false = ap (is_fitting w.machine) none in
+    cc
+
+pub reuse-ready : (w : RoundState) (t : ℕ) → can_reuse w t ≡ true → is_ready (hart_of w.machine t).status ≡ true
+reuse-ready w t can =
+    let begins : CanBegin w t = can_begin-parts w t (and_parts (can_begin w t) (fits_next w.past w.machine t) can).0 in begins.ready
+
+pub take-ready : (w : RoundState) (t : ℕ) → can_take w t ≡ true → is_ready (hart_of w.machine t).status ≡ true
+take-ready w t can =
+    let begins : CanBegin w t = can_begin-parts w t (and_parts (can_begin w t) (not (fits_next w.past w.machine t)) can).0 in begins.ready
+
+-- as many steps of the history are passed at least
+pub front-lay :
+    (past : Option History) (m : Machine) (r : Record)
+    → IsWhole m → is_ready (hart_of m r.thread).status ≡ true
+    → front_in past m ≤ front_in past (lay m r)
+front-lay None m r whole ready = omega arith
+front-lay (Some h) m r whole ready = passed-prefix m r h.records whole ready

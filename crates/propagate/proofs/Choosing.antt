@@ -1,0 +1,282 @@
+-- The leaders of some threads, the choice, and what may be done with a pick.
+use Rattle.std.proofs.Common.{◌≡◌, ◌+◌, ℕ, add-one, Bool, true, false, ◌||◌, cond, List, [], ◌∷◌, ◌++◌, append-nil, length, filter, Option, Some, None, is_some, refl, ap, sym, ◌∙◌, arith}
+use Rattle.std.specs.Prelude.{option_map}
+use Rattle.std.proofs.lemmas.Bool.{or_right}
+use Rattle.std.specs.List.{AllByRecursion, range_with_len}
+use Rattle.machine_spec.specs.Machine.{Machine, hart_of}
+use Rattle.history_spec.specs.History.{History}
+use Rattle.round_spec.specs.declared.events.Pick.{Pick}
+use Rattle.round_spec.specs.declared.events.Pick.TheVariants as pick
+use Rattle.round_spec.specs.Marks.{fits_next}
+use Rattle.round_spec.specs.Rounds.{RoundState, is_over, is_free_in, can_take, can_reuse}
+use Rattle.round_spec.specs.Due.{place_in, is_due}
+use Rattle.round_spec.specs.Choice.{free_threads, is_any_out, eligible, choice_by, best, with_choice, pick_of}
+use Rattle.worker_spec.proofs.Lists.{all-filter, all-pass}
+use Rattle.propagate.specs.declared.picking.Candidate.{Candidate}
+use Rattle.propagate.specs.declared.picking.Leaders.{Leaders}
+use Rattle.propagate.specs.Choosing.{candidate_of, free_below, due_below, leader_of, AreLeadersBelow, comes_before, better}
+use Rattle.propagate.proofs.Best.{filter-more, range-more, best-nobody, best-more, best-first, best-none, best-all}
+
+-- the better of a leader and of one more leads all
+
+leads-first :
+    (past : Option History) (m : Machine) (threads : List ℕ) (next : Candidate) (o : Option ℕ)
+    → best past m threads ≡ o → None ≡ option_map (candidate_of past m) o
+    → next ≡ candidate_of past m next.thread
+    → Some next ≡ option_map (candidate_of past m) (best past m (threads ++ next.thread ∷ []))
+leads-first past m threads next None is none same = ap (λ (c : Candidate). Some c) same ∙ ap (option_map (candidate_of past m)) (sym (best-first past m threads next.thread is))
+leads-first past m threads next (Some u) is none same = cc
+
+leads-chosen :
+    (past : Option History) (m : Machine) (t u : ℕ) (b : Bool)
+    → cond b (candidate_of past m t) (candidate_of past m u) ≡ candidate_of past m (cond b t u)
+leads-chosen past m t u true = refl
+leads-chosen past m t u false = refl
+
+leads-more :
+    (past : Option History) (m : Machine) (threads : List ℕ) (leader next : Candidate) (o : Option ℕ)
+    → best past m threads ≡ o → Some leader ≡ option_map (candidate_of past m) o
+    → next ≡ candidate_of past m next.thread
+    → Some (cond (comes_before next leader) next leader) ≡ option_map (candidate_of past m) (best past m (threads ++ next.thread ∷ []))
+leads-more past m threads leader next None is some same = cc
+leads-more past m threads leader next (Some u) is some same =
+    let leads : leader ≡ candidate_of past m u = cc in
+    ap (λ (c : Candidate). Some (cond (comes_before c leader) c leader)) same
+    ∙ ap (λ (c : Candidate). Some (cond (comes_before (candidate_of past m next.thread) c) (candidate_of past m next.thread) c)) leads
+    ∙ ap (λ (c : Candidate). Some c)
+    (leads-chosen past m next.thread u (comes_before (candidate_of past m next.thread) (candidate_of past m u)))
+    ∙ ap (option_map (candidate_of past m)) (sym (best-more past m threads next.thread u is))
+
+pub leader-more :
+    (past : Option History) (m : Machine) (threads : List ℕ) (leader : Option Candidate) (next : Candidate)
+    → leader ≡ option_map (candidate_of past m) (best past m threads)
+    → next ≡ candidate_of past m next.thread
+    → Some (better leader next) ≡ option_map (candidate_of past m) (best past m (threads ++ next.thread ∷ []))
+leader-more past m threads None next leads same = leads-first past m threads next (best past m threads) refl leads same
+leader-more past m threads (Some leader) next leads same = leads-more past m threads leader next (best past m threads) refl leads same
+
+-- one thread more
+
+below-more : (w : RoundState) (t : ℕ) → free_below w (t + 1) ≡ free_below w t ++ cond (is_free_in w.machine w.out t) (t ∷ []) []
+below-more w t =
+    ap (λ n. filter (is_free_in w.machine w.out) (range_with_len 0 n)) (add-one t)
+    ∙ ap (filter (is_free_in w.machine w.out)) (range-more 0 t t (omega arith))
+    ∙ filter-more (is_free_in w.machine w.out) (range_with_len 0 t) t
+
+free-skip : (w : RoundState) (t : ℕ) → is_free_in w.machine w.out t ≡ false → free_below w (t + 1) ≡ free_below w t
+free-skip w t is = below-more w t ∙ ap (λ b. free_below w t ++ cond b (t ∷ []) []) is ∙ append-nil (free_below w t)
+
+free-more : (w : RoundState) (t : ℕ) → is_free_in w.machine w.out t ≡ true → free_below w (t + 1) ≡ free_below w t ++ t ∷ []
+free-more w t is = below-more w t ∙ ap (λ b. free_below w t ++ cond b (t ∷ []) []) is
+
+due-both :
+    (w : RoundState) (t : ℕ)
+    → is_free_in w.machine w.out t ≡ true → due_below w (t + 1) ≡ due_below w t ++ cond (is_due w.past w.machine t) (t ∷ []) []
+due-both w t is =
+    ap (filter (is_due w.past w.machine)) (free-more w t is) ∙ filter-more (is_due w.past w.machine) (free_below w t) t
+
+pub leaders-none : (w : RoundState) → AreLeadersBelow w 0 (record { due = None; free = None })
+leaders-none w = record {
+  due = ap (option_map (candidate_of w.past w.machine)) (sym (best-nobody w.past w.machine));
+  free = ap (option_map (candidate_of w.past w.machine)) (sym (best-nobody w.past w.machine));
+}
+
+pub leaders-skip :
+    (w : RoundState) (t : ℕ) (found : Leaders)
+    → AreLeadersBelow w t found → is_free_in w.machine w.out t ≡ false → AreLeadersBelow w (t + 1) found
+leaders-skip w t found leads is = record {
+  due = leads.due ∙ ap (λ (ts : List ℕ). leader_of w (filter (is_due w.past w.machine) ts)) (sym (free-skip w t is));
+  free = leads.free ∙ ap (leader_of w) (sym (free-skip w t is));
+}
+
+leads-below :
+    (w : RoundState) (threads : List ℕ) (leader : Option Candidate) (t place number : ℕ)
+    → leader ≡ leader_of w threads → place ≡ place_in w.past w.machine t → number ≡ (hart_of w.machine t).number
+    → Some (better leader (record { thread = t; place = place; number = number })) ≡ leader_of w (threads ++ t ∷ [])
+leads-below w threads leader t place number leads is_place is_number =
+    leader-more w.past w.machine threads leader (record { thread = t; place = place; number = number }) leads (rw (is_place, is_number) refl)
+
+pub leaders-free :
+    (w : RoundState) (t place number : ℕ) (found : Leaders)
+    → AreLeadersBelow w t found
+    → is_free_in w.machine w.out t ≡ true → is_due w.past w.machine t ≡ false
+    → place ≡ place_in w.past w.machine t → number ≡ (hart_of w.machine t).number
+    → AreLeadersBelow w (t + 1)
+    (record { due = found.due; free = Some (better found.free (record { thread = t; place = place; number = number })) })
+leaders-free w t place number found leads free due is_place is_number = record {
+  due =
+      leads.due
+      ∙ ap (leader_of w) (sym (append-nil (due_below w t)))
+      ∙ ap (λ b. leader_of w (due_below w t ++ cond b (t ∷ []) [])) (sym due)
+      ∙ ap (leader_of w) (sym (due-both w t free));
+  free = leads-below w (free_below w t) found.free t place number leads.free is_place is_number ∙ ap (leader_of w) (sym (free-more w t free));
+}
+
+pub leaders-due :
+    (w : RoundState) (t place number : ℕ) (found : Leaders)
+    → AreLeadersBelow w t found
+    → is_free_in w.machine w.out t ≡ true → is_due w.past w.machine t ≡ true
+    → place ≡ place_in w.past w.machine t → number ≡ (hart_of w.machine t).number
+    → AreLeadersBelow w (t + 1)
+    (record {
+      due = Some (better found.due (record { thread = t; place = place; number = number }));
+      free = Some (better found.free (record { thread = t; place = place; number = number }));
+    })
+leaders-due w t place number found leads free due is_place is_number = record {
+  due =
+      leads-below w (due_below w t) found.due t place number leads.due is_place is_number
+      ∙ ap (λ b. leader_of w (due_below w t ++ cond b (t ∷ []) [])) (sym due)
+      ∙ ap (leader_of w) (sym (due-both w t free));
+  free = leads-below w (free_below w t) found.free t place number leads.free is_place is_number ∙ ap (leader_of w) (sym (free-more w t free));
+}
+
+-- the choice, by the leaders
+
+choice-below :
+    (w : RoundState)
+    → choice_by w.past w.machine w.out
+    ≡ best w.past w.machine (eligible (due_below w (length w.machine.harts)) (free_below w (length w.machine.harts)) (is_any_out w.out))
+unfolding choice_by free_threads
+choice-below w = refl
+
+-- the thread of a leader
+thread-of : (w : RoundState) (threads : List ℕ) → option_map (λ (c : Candidate). c.thread) (leader_of w threads) ≡ best w.past w.machine threads
+thread-of w threads = by (best w.past w.machine threads)
+  where
+    by : (o : Option ℕ) → option_map (λ (c : Candidate). c.thread) (option_map (candidate_of w.past w.machine) o) ≡ o
+    by None = refl
+    by (Some t) = refl
+
+eligible-due :
+    (w : RoundState) (due free : List ℕ) (any : Bool) (t : ℕ)
+    → best w.past w.machine due ≡ Some t → best w.past w.machine (eligible due free any) ≡ Some t
+eligible-due w [] free any t is = let none = best-nobody w.past w.machine in cc
+eligible-due w (u ∷ due) free any t is = is
+
+eligible-none :
+    (w : RoundState) (due free : List ℕ) (any : Bool)
+    → best w.past w.machine due ≡ None → best w.past w.machine (eligible due free any) ≡ cond any None (best w.past w.machine free)
+eligible-none w due free any is = rw (best-none w.past w.machine due is) (by any)
+  where
+    by : (b : Bool) → best w.past w.machine (eligible [] free b) ≡ cond b None (best w.past w.machine free)
+    by true = best-nobody w.past w.machine
+    by false = refl
+
+pub choice-due :
+    (w : RoundState) (found : Leaders) (leader : Candidate)
+    → AreLeadersBelow w (length w.machine.harts) found → found.due ≡ Some leader
+    → choice_by w.past w.machine w.out ≡ Some leader.thread
+choice-due w found leader leads is =
+    choice-below w
+    ∙ eligible-due w (due_below w (length w.machine.harts)) (free_below w (length w.machine.harts)) (is_any_out w.out) leader.thread
+    (sym (thread-of w (due_below w (length w.machine.harts))) ∙ ap (option_map (λ (c : Candidate). c.thread)) (sym leads.due ∙ is))
+
+pub choice-free :
+    (w : RoundState) (found : Leaders) (any : Bool)
+    → AreLeadersBelow w (length w.machine.harts) found → found.due ≡ None → is_any_out w.out ≡ any
+    → choice_by w.past w.machine w.out ≡ cond any None (option_map (λ (c : Candidate). c.thread) found.free)
+choice-free w found any leads is out =
+    choice-below w
+    ∙ ap (λ b. best w.past w.machine (eligible (due_below w (length w.machine.harts)) (free_below w (length w.machine.harts)) b)) out
+    ∙ eligible-none w (due_below w (length w.machine.harts)) (free_below w (length w.machine.harts)) any
+    (sym (thread-of w (due_below w (length w.machine.harts))) ∙ ap (option_map (λ (c : Candidate). c.thread)) (sym leads.due ∙ is))
+    ∙ ap (cond any None)
+    (sym (thread-of w (free_below w (length w.machine.harts))) ∙ ap (option_map (λ (c : Candidate). c.thread)) (sym leads.free))
+
+-- the choice is the leader of those that are due, where there is one or anybody is out, and else the leader of all
+pub choice-of :
+    (w : RoundState) (found : Leaders) (b : Bool)
+    → AreLeadersBelow w (length w.machine.harts) found → (is_some found.due || is_any_out w.out) ≡ b
+    → choice_by w.past w.machine w.out ≡ option_map (λ (c : Candidate). c.thread) (cond b found.due found.free)
+choice-of w found b leads is = by found.due (is_any_out w.out) refl refl is
+  where
+    by :
+        (due : Option Candidate) (any : Bool)
+        → found.due ≡ due → is_any_out w.out ≡ any → (is_some due || any) ≡ b
+        → choice_by w.past w.machine w.out ≡ option_map (λ (c : Candidate). c.thread) (cond b found.due found.free)
+    by (Some leader) any some out both =
+        choice-due w found leader leads some
+        ∙ ap (option_map (λ (c : Candidate). c.thread)) (sym some)
+        ∙ ap (λ x. option_map (λ (c : Candidate). c.thread) (cond x found.due found.free)) both
+    by None true none out both =
+        choice-free w found true leads none out
+        ∙ ap (option_map (λ (c : Candidate). c.thread)) (sym none)
+        ∙ ap (λ x. option_map (λ (c : Candidate). c.thread) (cond x found.due found.free)) both
+    by None false none out both =
+        choice-free w found false leads none out
+        ∙ ap (λ x. option_map (λ (c : Candidate). c.thread) (cond x found.due found.free)) both
+
+-- who is chosen is free
+
+eligible-all :
+    (P : ℕ → Type 0) (due free : List ℕ) (any : Bool)
+    → AllByRecursion P due → AllByRecursion P free → AllByRecursion P (eligible due free any)
+eligible-all P (t ∷ due) free any all_due all_free = all_due
+eligible-all P [] free true all_due all_free = tt
+eligible-all P [] free false all_due all_free = all_free
+
+choice-is_free : (w : RoundState) (t : ℕ) → choice_by w.past w.machine w.out ≡ Some t → is_free_in w.machine w.out t ≡ true
+choice-is_free w t is =
+    let all = all-pass (is_free_in w.machine w.out) (range_with_len 0 (length w.machine.harts)) in
+    best-all (λ u. is_free_in w.machine w.out u ≡ true) w.past w.machine
+    (eligible (due_below w (length w.machine.harts)) (free_below w (length w.machine.harts)) (is_any_out w.out)) t
+    (eligible-all (λ u. is_free_in w.machine w.out u ≡ true) (due_below w (length w.machine.harts)) (free_below w (length w.machine.harts)) (is_any_out w.out)
+    (all-filter (λ u. is_free_in w.machine w.out u ≡ true) (is_due w.past w.machine) (free_below w (length w.machine.harts)) all)
+    all)
+    (sym (choice-below w) ∙ is)
+
+-- what is picked
+
+pub pick-over : (w : RoundState) → is_over w ≡ true → pick_of w ≡ pick.Over
+unfolding pick_of
+pick-over w over = rw over refl
+
+pub pick-stopped : (w : RoundState) → w.stopped ≡ true → pick_of w ≡ pick.Over
+pick-stopped w stopped = pick-over w (or_right (is_some w.machine.ending) w.stopped stopped)
+
+pick-going : (w : RoundState) → is_over w ≡ false → pick_of w ≡ with_choice w.past w.machine (choice_by w.past w.machine w.out)
+unfolding pick_of
+pick-going w going = rw going refl
+
+pub pick-hold : (w : RoundState) → is_over w ≡ false → choice_by w.past w.machine w.out ≡ None → pick_of w ≡ pick.Hold
+pick-hold w going none = pick-going w going ∙ ap (with_choice w.past w.machine) none
+
+chosen-fits :
+    (w : RoundState) (t : ℕ)
+    → is_over w ≡ false → choice_by w.past w.machine w.out ≡ Some t → can_reuse w t ≡ fits_next w.past w.machine t
+chosen-fits w t going chosen = rw (going, choice-is_free w t chosen) refl
+
+pub pick-chosen :
+    (w : RoundState) (t : ℕ) (fit : Bool)
+    → is_over w ≡ false → choice_by w.past w.machine w.out ≡ Some t → can_reuse w t ≡ fit
+    → pick_of w ≡ cond fit (pick.Reuse t) (pick.Run t)
+pick-chosen w t fit going chosen can =
+    pick-going w going ∙ ap (with_choice w.past w.machine) chosen
+    ∙ ap (λ b. cond b (pick.Reuse t) (pick.Run t)) (sym (chosen-fits w t going chosen) ∙ can)
+
+-- and what was picked can be done
+
+picked-by :
+    (w : RoundState) (over : Bool) (o : Option ℕ) (p : Pick)
+    → is_over w ≡ over → choice_by w.past w.machine w.out ≡ o → pick_of w ≡ p
+    → ((t : ℕ) → p ≡ pick.Reuse t → can_reuse w t ≡ true) × ((t : ℕ) → p ≡ pick.Run t → can_take w t ≡ true)
+picked-by w true o p over chosen is = let none = pick-over w over in (λ t same. cc, λ t same. cc)
+picked-by w false None p over chosen is = let none = pick-hold w over chosen in (λ t same. cc, λ t same. cc)
+picked-by w false (Some u) p over chosen is = by (fits_next w.past w.machine u) refl
+  where
+    by :
+        (fit : Bool) → fits_next w.past w.machine u ≡ fit
+        → ((t : ℕ) → p ≡ pick.Reuse t → can_reuse w t ≡ true) × ((t : ℕ) → p ≡ pick.Run t → can_take w t ≡ true)
+    by true fit =
+        let reuses : pick_of w ≡ pick.Reuse u = pick-chosen w u true over chosen (chosen-fits w u over chosen ∙ fit) in
+        (λ t same. let is_t : u ≡ t = cc in ap (can_reuse w) (sym is_t) ∙ chosen-fits w u over chosen ∙ fit, λ t same. cc)
+    by false fit =
+        let runs : pick_of w ≡ pick.Run u = pick-chosen w u false over chosen (chosen-fits w u over chosen ∙ fit) in
+        let can : can_take w u ≡ true = rw (over, choice-is_free w u chosen, fit) refl in
+        (λ t same. cc, λ t same. let is_t : u ≡ t = cc in ap (can_take w) (sym is_t) ∙ can)
+
+pub picked-reuse : (w : RoundState) (t : ℕ) → pick_of w ≡ pick.Reuse t → can_reuse w t ≡ true
+picked-reuse w t is = (picked-by w (is_over w) (choice_by w.past w.machine w.out) (pick_of w) refl refl refl).0 t is
+
+pub picked-run : (w : RoundState) (t : ℕ) → pick_of w ≡ pick.Run t → can_take w t ≡ true
+picked-run w t is = (picked-by w (is_over w) (choice_by w.past w.machine w.out) (pick_of w) refl refl refl).1 t is

@@ -1,0 +1,235 @@
+-- Who is out keeps the hart that it had, and so the step that was taken stays its next one.
+use Rattle.std.proofs.Common.{◌≡◌, ◌≢◌, ◌<◌, ℕ, zero, suc, Bool, true, false, ◌||◌, cond, List, [], ◌∷◌, drop, get_or, set, length, Option, Some, None, is_some, is_none, Result, Ok, Err, OnOk, OnErr, refl, ap, sym, ◌∙◌, subst, inl, inr, arith}
+use Rattle.std.proofs.lemmas.Bool.{cases_eq, and_parts}
+use Rattle.std.proofs.lemmas.List.{get_or-set_same, get_or-set_other, length-set}
+use Rattle.std.specs.Arc.{arc_value}
+use Rattle.record_spec.specs.Record.{Record}
+use Rattle.thunk_spec.specs.Thunk.{Frame}
+use Rattle.machine_spec.specs.declared.states.End.{End}
+use Rattle.machine_spec.specs.Machine.{Hart, Machine, hart_of, is_ready}
+use Rattle.machine_spec.specs.Step.{can_step}
+use Rattle.machine_spec.proofs.Steps.{step-stays}
+use Rattle.history_spec.proofs.Laying.{lay-stays, lay-frame}
+use Rattle.history_spec.proofs.Scratch.{step-frame}
+use Rattle.history_spec.proofs.Truth.{past-of}
+use Rattle.thunk_run.specs.declared.job.Job.{Job}
+use Rattle.thunk_run.specs.declared.job.Run.{Run}
+use Rattle.round_spec.specs.declared.events.Event.{Event}
+use Rattle.round_spec.specs.declared.events.Event.TheVariants.{Take, Reuse, Commit, GiveBack, Stop}
+use Rattle.round_spec.specs.Marks.{record_for, fits_next}
+use Rattle.round_spec.specs.Rounds.{RoundState, nobody_out, is_over, is_out, is_out_of, can_begin, can_take, can_reuse, reused_by, committed, given_back, happens, all_happen}
+use Rattle.round_spec.specs.Keeping.{IsHeld, IsInOrder}
+use Rattle.round_spec.proofs.Conditions.{happens-take, happens-commit_over, happens-give_back}
+use Rattle.round_spec.proofs.Happening.{CanBegin, can_begin-parts, nobody_out-none}
+use Rattle.std.specs.declared.alloc.AllocError.{AllocError}
+use Rattle.propagate.specs.declared.events.Committed.{Committed}
+use Rattle.propagate.specs.declared.events.Committed.TheVariants.{Done, Stale, Memory}
+use Rattle.propagate.specs.Committing.{CanCommit, Commits}
+use Rattle.propagate.specs.Jobs.{IsJobOf, IsHeldFor, HaveJobs, IsRunOf}
+use Rattle.propagate.proofs.Appending.{out-below, take-ready, below-32}
+use Rattle.propagate.proofs.Turning.{own-record, out-commits}
+
+-- a flag that was cleared isn't set, and the others are as before
+cleared : (out : List Bool) (t : ℕ) → is_out_of (set out t false) t ≡ false
+cleared [] t = refl
+cleared (b ∷ out) zero = refl
+cleared (b ∷ out) (suc t) = cleared out t
+
+still_out : (out : List Bool) (t u : ℕ) → is_out_of (set out t false) u ≡ true → (u ≢ t) × (is_out_of out u ≡ true)
+still_out out t u is =
+    elim (cases_eq u t) [
+      | inl same ↦ absurd (let none : is_out_of (set out t false) u ≡ false = ap (is_out_of (set out t false)) same ∙ cleared out t in cc)
+      | inr other ↦ (other, sym (get_or-set_other out t u false false other) ∙ is)
+    ]
+
+-- who is out after an event that takes nobody was out before, with the same hart, in the same frame
+record Stays (w v : RoundState) (u : ℕ) : Type 0 where
+  pub out : is_out w u ≡ true
+  pub hart : hart_of v.machine u ≡ hart_of w.machine u
+  pub frame : v.machine.frame ≡ w.machine.frame
+
+abbrev AllStay : RoundState → RoundState → Type 0
+AllStay w v = (u : ℕ) → is_out v u ≡ true → Stays w v u
+
+all-same : (w : RoundState) → AllStay w w
+all-same w = λ u out. record { out = out; hart = refl; frame = refl }
+
+all-cond : (w a b : RoundState) (c : Bool) → AllStay w a → AllStay w b → AllStay w (cond c a b)
+all-cond w a b true first second = first
+all-cond w a b false first second = second
+
+given_back-stay : (w : RoundState) (t : ℕ) → AllStay w (given_back w t)
+given_back-stay w t = λ u out. record { out = (still_out w.out t u out).1; hart = refl; frame = refl }
+
+none-of : (e : Option End) (stopped : Bool) → (is_some e || stopped) ≡ false → is_none e ≡ true
+none-of (Some e) stopped h = cc
+none-of None stopped h = refl
+
+committed-stay : (w : RoundState) (t : ℕ) → IsInOrder w → is_out w t ≡ true → is_over w ≡ false → AllStay w (committed w t)
+committed-stay w t kept out going = λ u out_u.
+    let still = still_out w.out t u out_u in
+    let held : IsHeld w t = kept.held t out in
+    let before : IsHeld w u = kept.held u still.1 in
+    let can : can_step w.machine t ≡ true = rw (none-of w.machine.ending w.stopped going, held.ready) refl in
+    record { out = still.1; hart = step-stays w.machine t u kept.whole can still.0 before.ready; frame = step-frame w.machine t }
+
+commit-stay : (w : RoundState) (t : ℕ) (out over : Bool) → IsInOrder w → is_out w t ≡ out → is_over w ≡ over → AllStay w (cond out (cond over (given_back w t) (committed w t)) w)
+commit-stay w t false over kept is_out is_over = all-same w
+commit-stay w t true true kept is_out is_over = given_back-stay w t
+commit-stay w t true false kept is_out is_over = committed-stay w t kept is_out is_over
+
+reused-stay :
+    (w : RoundState) (t : ℕ) (o : Option Record)
+    → IsInOrder w → record_for w.past w.machine t ≡ o → CanBegin w t → AllStay w (reused_by w t o)
+reused-stay w t None kept there begins = all-same w
+reused-stay w t (Some r) kept there begins = λ u out.
+    let of = past-of w.past t (hart_of w.machine t).number r there in
+    let thread : r.thread ≡ t = of.0 in
+    let ready : is_ready (hart_of w.machine r.thread).status ≡ true = ap (λ v. is_ready (hart_of w.machine v).status) thread ∙ begins.ready in
+    let can : can_step w.machine r.thread ≡ true = rw (begins.none, ready) refl in
+    let before : IsHeld w u = kept.held u out in
+    let other : u ≢ r.thread = λ same. let inside : is_out w u ≡ false = ap (is_out w) (same ∙ thread) ∙ begins.inside in cc in
+    record { out = out; hart = lay-stays w.machine r u kept.whole can other before.ready; frame = lay-frame w.machine r }
+
+reuse-stay :
+    (w : RoundState) (t : ℕ) (b : Bool)
+    → IsInOrder w → can_reuse w t ≡ b → AllStay w (cond b (reused_by w t (record_for w.past w.machine t)) w)
+reuse-stay w t false kept is = all-same w
+reuse-stay w t true kept is =
+    reused-stay w t (record_for w.past w.machine t) kept refl (can_begin-parts w t (and_parts (can_begin w t) (fits_next w.past w.machine t) is).0)
+
+-- whether an event takes nobody
+abbrev pub TakesNobody : Event → Type 0
+TakesNobody (Take t) = ⊥
+TakesNobody (Reuse t) = Unit {0}
+TakesNobody (Commit t) = Unit {0}
+TakesNobody (GiveBack t) = Unit {0}
+TakesNobody Stop = Unit {0}
+
+happens-stay : (w : RoundState) (e : Event) → TakesNobody e → IsInOrder w → AllStay w (happens w e)
+unfolding happens
+happens-stay w (Take t) nobody kept = absurd nobody
+happens-stay w (Reuse t) nobody kept = reuse-stay w t (can_reuse w t) kept refl
+happens-stay w (Commit t) nobody kept = commit-stay w t (is_out w t) (is_over w) kept refl refl
+happens-stay w (GiveBack t) nobody kept = all-cond w (given_back w t) w (is_out w t) (given_back-stay w t) (all-same w)
+happens-stay w Stop nobody kept = λ u out. record { out = out; hart = refl; frame = refl }
+
+job-stays : (m n : Machine) (t : ℕ) (job : Job) → hart_of n t ≡ hart_of m t → n.frame ≡ m.frame → IsJobOf m t job → IsJobOf n t job
+job-stays m n t job hart frame is =
+    record {
+      frame = is.frame ∙ sym frame;
+      thread = is.thread;
+      number = is.number ∙ ap (λ (h : Hart). h.number) (sym hart);
+      regs = is.regs ∙ ap (λ (h : Hart). h.regs) (sym hart);
+      view = is.view ∙ ap (λ (h : Hart). h.view) (sym hart);
+    }
+
+held-stays : (m n : Machine) (t : ℕ) (held : Option Job) → hart_of n t ≡ hart_of m t → n.frame ≡ m.frame → IsHeldFor m t held → IsHeldFor n t held
+held-stays m n t held hart frame is = record { there = is.there; own = λ job same. job-stays m n t job hart frame (is.own job same) }
+
+stays-held : (w v : RoundState) (jobs : List (Option Job)) → AllStay w v → HaveJobs w jobs → HaveJobs v jobs
+stays-held w v jobs stay have = record {
+  count = have.count;
+  held = λ u out.
+      let s : Stays w v u = stay u out in
+      held-stays w.machine v.machine u (get_or jobs u None) s.hart s.frame (have.held u s.out);
+}
+
+-- the jobs stay those of who is out
+pub jobs-stay : (w v : RoundState) (e : Event) (jobs : List (Option Job)) → TakesNobody e → IsInOrder w → v ≡ happens w e → HaveJobs w jobs → HaveJobs v jobs
+jobs-stay w v e jobs nobody kept is have =
+    subst (λ (x : RoundState). HaveJobs x jobs) (sym is) (stays-held w (happens w e) jobs (happens-stay w e nobody kept) have)
+
+-- and with the job of one that is taken
+pub jobs-take :
+    (w v : RoundState) (t : ℕ) (jobs : List (Option Job)) (job : Job)
+    → can_take w t ≡ true → IsInOrder w → v ≡ happens w (Take t) → IsJobOf w.machine t job → HaveJobs w jobs
+    → HaveJobs v (set jobs t (Some job))
+jobs-take w v t jobs job can kept is own have =
+    let below : t < length jobs = omega (arith, have.count, below-32 w.machine t kept.whole (take-ready w t can)) in
+    subst (λ (x : RoundState). HaveJobs x (set jobs t (Some job))) (sym (is ∙ happens-take w t can))
+    (record {
+      count = length-set jobs t (Some job) ∙ have.count;
+      held = λ u out. elim (cases_eq u t) [
+        | inl same ↦
+            let here : get_or (set jobs t (Some job)) u None ≡ Some job =
+            ap (λ k. get_or (set jobs t (Some job)) k None) same ∙ get_or-set_same jobs t (Some job) None below in
+            subst (IsHeldFor w.machine u) (sym here)
+            (record { there = refl; own = λ other is_it. let it : job ≡ other = cc in subst (IsJobOf w.machine u) it (subst (λ k. IsJobOf w.machine k job) (sym same) own) })
+        | inr other ↦
+            subst (IsHeldFor w.machine u) (sym (get_or-set_other jobs t u (Some job) None other))
+            (have.held u (sym (get_or-set_other w.out t u true false other) ∙ out))
+      ];
+    })
+
+-- whatever comes of a reuse or of a commit
+pub jobs-reuse :
+    (w v : RoundState) (t : ℕ) (jobs : List (Option Job)) (result : Result (Unit {0}) AllocError)
+    → IsInOrder w → OnOk result (v ≡ happens w (Reuse t)) → OnErr result (v ≡ w) → HaveJobs w jobs → HaveJobs v jobs
+jobs-reuse w v t jobs (Ok done) kept ok err have = jobs-stay w v (Reuse t) jobs tt kept ok have
+jobs-reuse w v t jobs (Err e) kept ok err have = subst (λ (x : RoundState). HaveJobs x jobs) (sym err) have
+
+pub jobs-commit :
+    (w v : RoundState) (run : Run) (jobs : List (Option Job)) (result : Committed)
+    → IsInOrder w → Commits w run result v → HaveJobs w jobs → HaveJobs v jobs
+jobs-commit w v run jobs Done kept does have = jobs-stay w v (Commit (arc_value run.rec).thread) jobs tt kept does.1 have
+jobs-commit w v run jobs (Stale back) kept does have = jobs-stay w v (GiveBack (arc_value run.rec).thread) jobs tt kept does.2 have
+jobs-commit w v run jobs (Memory back) kept does have = subst (λ (x : RoundState). HaveJobs x jobs) (sym does.1) have
+
+-- at the start nobody is out
+pub jobs-none : (w : RoundState) (jobs : List (Option Job)) → length jobs ≡ 32 → w.out ≡ nobody_out → HaveJobs w jobs
+jobs-none w jobs count nobody = record {
+  count = count;
+  held = λ t out.
+      absurd (let none : is_out w t ≡ false = ap (λ (flags : List Bool). is_out_of flags t) nobody ∙ nobody_out-none t in cc);
+}
+
+-- a job that was looked up
+held-at : (jobs : List (Option Job)) (k : ℕ) (o : Option Job) → k < length jobs → o ≡ get_or jobs k o → get_or jobs k None ≡ o
+held-at [] k o below is = absurd (omega arith)
+held-at (x ∷ jobs) zero o below is = sym is
+held-at (x ∷ jobs) (suc k) o below is = held-at jobs k o (omega arith) is
+
+pub job-held :
+    (w : RoundState) (jobs : List (Option Job)) (t k : ℕ) (o : Option Job) (job : Job)
+    → IsInOrder w → HaveJobs w jobs → is_out w t ≡ true → k ≡ t → o ≡ get_or jobs k o → o ≡ Some job → IsJobOf w.machine t job
+job-held w jobs t k o job kept have out same at is =
+    let below : k < length jobs = let b = out-below w.out t out in let flags = kept.flags in let count = have.count in omega arith in
+    (have.held t out).own job (ap (λ i. get_or jobs i None) (sym same) ∙ held-at jobs k o below at ∙ is)
+
+pub job-there :
+    (w : RoundState) (jobs : List (Option Job)) (t k : ℕ) (o : Option Job)
+    → IsInOrder w → HaveJobs w jobs → is_out w t ≡ true → k ≡ t → o ≡ get_or jobs k o → o ≡ None → ⊥
+job-there w jobs t k o kept have out same at is =
+    let below : k < length jobs = let b = out-below w.out t out in let flags = kept.flags in let count = have.count in omega arith in
+    let none : get_or jobs t None ≡ None = ap (λ i. get_or jobs i None) (sym same) ∙ held-at jobs k o below at ∙ is in
+    let some : is_some (get_or jobs t None) ≡ true = (have.held t out).there in
+    let no : is_some (get_or jobs t None) ≡ false = ap (λ (x : Option Job). is_some x) none in
+    cc
+
+-- what running the job gave can be committed, while the round isn't over
+pub run-commits :
+    (w : RoundState) (t : ℕ) (job : Job) (run : Run)
+    → IsInOrder w → is_out w t ≡ true → is_over w ≡ false → IsJobOf w.machine t job → IsRunOf job run
+    → CanCommit w (arc_value run.frame) (arc_value run.rec)
+run-commits w t job run kept out going own ran =
+    subst (λ (f : Frame). CanCommit w f (arc_value run.rec)) (sym (ran.frame ∙ own.frame))
+    (out-commits w t (arc_value run.rec) kept out going
+    (own-record w.machine t (arc_value run.rec) (ran.thread ∙ own.thread) (ran.number ∙ own.number) (ran.start ∙ own.regs)
+    (ran.kept ∙ rw (own.frame, own.view, own.regs) refl)))
+
+pub run-thread : (m : Machine) (t : ℕ) (job : Job) (run : Run) → IsJobOf m t job → IsRunOf job run → (arc_value run.rec).thread ≡ t
+run-thread m t job run own ran = ran.thread ∙ own.thread
+
+-- after the round is over, to commit is to discard
+pub over-discards : (w : RoundState) (t : ℕ) → is_out w t ≡ true → is_over w ≡ true → happens w (GiveBack t) ≡ happens w (Commit t)
+over-discards w t out over = happens-give_back w t out ∙ sym (happens-commit_over w t out over)
+
+-- one event after the other
+pub events-more :
+    (w v : RoundState) (es : List Event) (i : ℕ) (e : Event)
+    → i < length es → get_or es i e ≡ e → v ≡ happens w e
+    → all_happen v (drop (suc i) es) ≡ all_happen w (drop i es)
+events-more w v [] i e below at is = absurd (omega arith)
+events-more w v (x ∷ es) zero e below at is = ap (λ (s : RoundState). all_happen s es) (is ∙ ap (happens w) (sym at))
+events-more w v (x ∷ es) (suc i) e below at is = events-more w v es i e (omega arith) at is

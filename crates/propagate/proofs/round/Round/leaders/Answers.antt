@@ -1,0 +1,5 @@
+use Rattle.propagate.proofs.Choosing.{leaders-none}
+use Rattle.propagate.proofs.round.Round.leaders.Goals as goal
+
+pub loop-t-init : goal.loop-t-init
+loop-t-init c = leaders-none c.args.self.now

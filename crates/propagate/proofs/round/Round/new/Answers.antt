@@ -1,0 +1,9 @@
+use Rattle.std.proofs.Common.{option_map}
+use Rattle.std.specs.Arc.{arc_value}
+use Rattle.propagate.proofs.Keeping.{kept_opening}
+use Rattle.propagate.proofs.round.Round.new.Goals as goal
+
+pub invariant_of-result : goal.invariant_of-result
+invariant_of-result c =
+    rw (c.in_ok-core.ensures, c.new-2.ensures.items, c.new-3.ensures, c.nobody_out.ensures)
+    (kept_opening c.args.setup (option_map arc_value c.args.past) c.sound.ensures)

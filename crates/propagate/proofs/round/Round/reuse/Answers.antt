@@ -1,0 +1,97 @@
+use Rattle.std.proofs.Common.{◌≡◌, true, Some, option_map, refl, ap, sym, subst, ◌∙◌}
+use Rattle.std.specs.Arc.{arc_value}
+use Rattle.record_spec.specs.Record.{Record}
+use Rattle.round_spec.specs.declared.events.Event.TheVariants.{Reuse}
+use Rattle.round_spec.specs.Marks.{record_for}
+use Rattle.round_spec.specs.Rounds.{RoundState, can_reuse, happens}
+use Rattle.propagate.proofs.Appending.{Reusable}
+use Rattle.propagate.proofs.Making.{appended, reuse-append, reuse-front, reuse-happens, reuse-kept}
+use Rattle.propagate.proofs.round.Round.reuse.Goals as goal
+
+-- the round before, by its parts; what holds of it; and the record that is reused
+abbrev before : goal.After-rec-2-1 → RoundState
+before c =
+    record {
+      setup = c.self.inside.setup;
+      past = option_map arc_value c.self.inside.past;
+      machine = c.self.inside.core;
+      schedule = c.self.inside.schedule.items;
+      records = c.self.inside.records;
+      out = c.self.inside.out;
+      discarded = c.self.inside.discarded;
+      stopped = c.self.inside.stopped;
+    }
+
+can : (c : goal.After-rec-2-1) → can_reuse (before c) c.args.t ≡ true
+can c = subst (λ (w : RoundState). can_reuse w c.args.t ≡ true) (sym c.self.view_is) c.requires
+
+there : (c : goal.After-rec-2-1) → record_for (before c).past (before c).machine c.args.t ≡ Some (arc_value c.in_ok-rec-in-Some.rec)
+there c =
+    ap (λ (w : RoundState). record_for w.past w.machine c.args.t) c.self.view_is
+    ∙ sym c.next_record.ensures
+    ∙ ap (option_map (λ r. arc_value r.now)) c.in-Some.is
+    ∙ ap (λ (r : Record). Some r) (sym c.in_ok-rec-in-Some.ensures)
+
+reusable : (c : goal.After-rec-2-1) → Reusable (before c) c.args.t (arc_value c.in_ok-rec-in-Some.rec)
+reusable c =
+    reuse-append (before c) c.self.inside.instructions c.self.inside.front c.args.t (arc_value c.in_ok-rec-in-Some.rec) c.self.invariant (can c) (there c)
+
+pub append-requires-clause-can : goal.append-requires-clause-can
+append-requires-clause-can c = (reusable c).append.can
+
+pub append-requires-clause-thread : goal.append-requires-clause-thread
+append-requires-clause-thread c = (reusable c).append.thread
+
+pub append-requires-clause-number : goal.append-requires-clause-number
+append-requires-clause-number c = (reusable c).append.number
+
+pub passed_from-self-inside-requires : goal.passed_from-self-inside-requires
+passed_from-self-inside-requires c =
+    reuse-front _ c.self.inside.instructions c.self.inside.front c.args.t (arc_value c.in_ok-rec-in-Some.rec) c.append.new.core c.self.invariant
+    (subst (λ (w : RoundState). can_reuse w c.args.t ≡ true) (sym c.self.view_is) c.requires)
+    (ap (λ (w : RoundState). record_for w.past w.machine c.args.t) c.self.view_is
+    ∙ sym c.next_record.ensures
+    ∙ ap (option_map (λ r. arc_value r.now)) c.in-Some.is
+    ∙ ap (λ (r : Record). Some r) (sym c.in_ok-rec-in-Some.ensures))
+    c.in_ok-append.ensures.core
+
+-- the same after it was appended
+abbrev start : goal.After-drop-rec-2 → RoundState
+start c =
+    record {
+      setup = c.self.inside.setup;
+      past = option_map arc_value c.self.inside.past;
+      machine = c.self.inside.core;
+      schedule = c.self.inside.schedule.items;
+      records = c.self.inside.records;
+      out = c.self.inside.out;
+      discarded = c.self.inside.discarded;
+      stopped = c.self.inside.stopped;
+    }
+
+abbrev after : goal.After-drop-rec-2 → RoundState
+after c = record (start c) { machine = c.append.new.core; schedule = c.append.new.schedule.items; records = c.append.new.records }
+
+can-2 : (c : goal.After-drop-rec-2) → can_reuse (start c) c.args.t ≡ true
+can-2 c = subst (λ (w : RoundState). can_reuse w c.args.t ≡ true) (sym c.self.view_is) c.requires
+
+there-2 : (c : goal.After-drop-rec-2) → record_for (start c).past (start c).machine c.args.t ≡ Some (arc_value c.in_ok-rec-in-Some.rec)
+there-2 c =
+    ap (λ (w : RoundState). record_for w.past w.machine c.args.t) c.self.view_is
+    ∙ sym c.next_record.ensures
+    ∙ ap (option_map (λ r. arc_value r.now)) c.in-Some.is
+    ∙ ap (λ (r : Record). Some r) (sym c.in_ok-rec-in-Some.ensures)
+
+made : (c : goal.After-drop-rec-2) → after c ≡ appended (start c) (arc_value c.in_ok-rec-in-Some.rec) true (start c).out
+made c = rw (c.in_ok-append.ensures.core, c.in_ok-append.ensures.schedule, c.in_ok-append.ensures.records) refl
+
+pub invariant_of-self-2 : goal.invariant_of-self-2
+invariant_of-self-2 c =
+    reuse-kept (start c) (after c) c.self.inside.instructions c.self.inside.front c.passed_from-self-inside.result c.args.t (arc_value c.in_ok-rec-in-Some.rec)
+    c.self.invariant (can-2 c) (there-2 c) (made c) c.passed_from-self-inside.ensures
+
+pub returns-clause-ok : goal.returns-clause-ok
+returns-clause-ok c =
+    reuse-happens (start c) (after c) c.self.inside.instructions c.self.inside.front c.args.t (arc_value c.in_ok-rec-in-Some.rec)
+    c.self.invariant (can-2 c) (there-2 c) (made c)
+    ∙ ap (λ (w : RoundState). happens w (Reuse c.args.t)) c.self.view_is

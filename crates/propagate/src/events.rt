@@ -1,0 +1,219 @@
+//! What happens to a round.
+
+ghost use Rattle.std.specs.Prelude.{◌≡◌, ◌<◌, ◌++◌, true, false, [], ◌∷◌, length, count_by, ◌==◌, is_ok, if◌then◌else◌, IfOk, OnOk, OnErr};
+ghost use Rattle.std.specs.Bool.{OnTrue, OnFalse};
+ghost use Rattle.std.specs.Arc.{arc_value};
+ghost use Rattle.history_spec.specs.History.{threads_of_records};
+ghost use Rattle.machine_spec.specs.Machine.{hart_of};
+ghost use Rattle.machine_spec.specs.Step.{lay, can_step};
+ghost use Rattle.round_spec.specs.declared.events.Event.TheVariants as event;
+ghost use Rattle.round_spec.specs.Rounds.{is_out, can_take, can_reuse, happens};
+ghost use Rattle.propagate.specs.Committing.{CanCommit, Commits, GoesOn, entries_of};
+
+use super::picking::passed_from;
+use super::round::{Round, THREADS};
+use page_map::PageMap;
+use release_core::{Core, Records};
+use report_spec::Entry;
+use std::alloc::AllocError;
+use std::sync::Arc;
+use thunk_record::{Frame, Record};
+use thunk_run::{Job, Run};
+
+/// What came of committing an executed step.
+#[derive(Drop)]
+pub enum Committed {
+    /// It is an entry of the schedule, and its thread is no longer out.
+    Done,
+    /// It can't be committed, and is handed back: the round is over, the step ran on another page map
+    /// or with another fuel than the round's, its thread isn't out, or its record doesn't fit. Its
+    /// thread is no longer out; if it was, one step more was discarded.
+    Stale(Run),
+    /// The host's memory ran out. The round is as before, and the step is handed back.
+    Memory(Run),
+}
+
+/// Lays a record, and appends its entry with it.
+fn append(
+    core: &mut Core,
+    schedule: &mut Vec<Entry>,
+    records: &mut Records,
+    rec: &Arc<Record>,
+    reused: bool,
+) -> Result<(), AllocError>
+    requires can { can_step core.old (arc_value rec.now).thread ≡ true }
+    requires few { length records.old < 65536 }
+    requires thread { (arc_value rec.now).thread < 32 }
+    requires number { (arc_value rec.now).number ≡ count_by (λ t. t == (arc_value rec.now).thread) (threads_of_records records.old) }
+    ensures core { OnOk result (core.new ≡ lay core.old (arc_value rec.now)) }
+    ensures schedule { OnOk result (schedule.new.items ≡ schedule.old.items ++ record { thread = (arc_value rec.now).thread; reused = reused } ∷ []) }
+    ensures records { OnOk result (records.new ≡ records.old ++ arc_value rec.now ∷ []) }
+    ensures same_core { OnErr result (core.new ≡ core.old) }
+    ensures same_schedule { OnErr result (schedule.new.items ≡ schedule.old.items) }
+    ensures same_records { OnErr result (records.new ≡ records.old) }
+{
+    let shared = Arc::try_clone(rec)?;
+    let entry = Entry {
+        thread: rec.thread(),
+        reused,
+    };
+    schedule.reserve(1)?;
+    records.push(shared)?;
+    if core.lay(rec).is_err() {
+        records.pop();
+        return Err(AllocError);
+    }
+    match schedule.push(entry) {
+        Ok(()) => Ok(()),
+        Err(_) => unreachable!(),
+    }
+}
+
+/// Whether two page maps have the same pages.
+fn are_same_maps(a: &PageMap, b: &PageMap) -> bool
+    ensures yes { OnTrue result (a.now ≡ b.now) }
+    ensures no { OnFalse result (a.now ≡ b.now → ⊥) }
+{
+    if a.len() != b.len() {
+        return false;
+    }
+    for slot in 0..a.len() {
+        let page = a.page(slot);
+        let other = b.page(slot);
+        if page.number() != other.number() || page.permission() != other.permission() {
+            return false;
+        }
+    }
+    true
+}
+
+/// Whether two frames have the same pages and the same fuel.
+fn are_same_frames(a: &Frame, b: &Frame) -> bool
+    ensures yes { OnTrue result (a.now ≡ b.now) }
+    ensures no { OnFalse result (a.now ≡ b.now → ⊥) }
+{
+    a.fuel() == b.fuel() && are_same_maps(a.map(), b.map())
+}
+
+impl Round {
+    /// Reuses the record of the next step of thread `t`, which may be reused.
+    ///
+    /// # Errors
+    ///
+    /// An error where the host's memory ran out; the round is then as before.
+    pub fn reuse(&mut self, t: u8) -> Result<(), AllocError>
+        requires { can_reuse self.old t ≡ true }
+        ensures ok { OnOk result (self.new ≡ happens self.old (event.Reuse t)) }
+        ensures same { GoesOn (if is_ok result then 1 else 0) self.old self.new }
+        ensures err { OnErr result (self.new ≡ self.old) }
+    {
+        let rec = match self.next_record(t) {
+            Some(rec) => Arc::try_clone(rec)?,
+            None => unreachable!(),
+        };
+        append(
+            &mut self.core,
+            &mut self.schedule,
+            &mut self.records,
+            &rec,
+            true,
+        )?;
+        self.front = passed_from(&self.core, &self.past, self.front);
+        Ok(())
+    }
+
+    /// Takes the next step of thread `t`, which may be taken, to be executed.
+    ///
+    /// # Errors
+    ///
+    /// An error where the host's memory ran out; the round is then as before.
+    pub fn take(&mut self, t: u8) -> Result<Job, AllocError>
+        requires { can_take self.old t ≡ true }
+        ensures ok { OnOk result (self.new ≡ happens self.old (event.Take t)) }
+        ensures frame { IfOk result (λ job. arc_value job.frame ≡ self.old.machine.frame) }
+        ensures thread { IfOk result (λ job. job.thread ≡ t) }
+        ensures number { IfOk result (λ job. job.number ≡ (hart_of self.old.machine t).number) }
+        ensures regs { IfOk result (λ job. job.regs ≡ (hart_of self.old.machine t).regs) }
+        ensures view { IfOk result (λ job. arc_value job.view ≡ (hart_of self.old.machine t).view) }
+        ensures same { GoesOn 0 self.old self.new }
+        ensures err { OnErr result (self.new ≡ self.old) }
+    {
+        let job = self.core.start_of(t)?;
+        self.out[usize::from(t)] = true;
+        Ok(job)
+    }
+
+    /// Whether an executed step can be committed.
+    fn can_commit(&self, run: &Run) -> bool
+        ensures yes { OnTrue result (CanCommit self.now (arc_value run.now.frame) (arc_value run.now.rec)) }
+        ensures no { OnFalse result (CanCommit self.now (arc_value run.now.frame) (arc_value run.now.rec) → ⊥) }
+    {
+        !self.is_over()
+            && self.is_out(run.rec.thread())
+            && are_same_frames(&run.frame, self.core.frame())
+            && self.core.fits(&run.rec)
+    }
+
+    /// Makes an executed step that can be committed an entry of the schedule.
+    fn make(&mut self, run: &Run) -> Result<(), AllocError>
+        requires { CanCommit self.old (arc_value run.now.frame) (arc_value run.now.rec) }
+        ensures ok { OnOk result (self.new ≡ happens self.old (event.Commit (arc_value run.now.rec).thread)) }
+        ensures same { GoesOn (if is_ok result then 1 else 0) self.old self.new }
+        ensures err { OnErr result (self.new ≡ self.old) }
+    {
+        append(
+            &mut self.core,
+            &mut self.schedule,
+            &mut self.records,
+            &run.rec,
+            false,
+        )?;
+        self.out[usize::from(run.rec.thread())] = false;
+        self.instructions += u64::from(run.rec.count());
+        self.front = passed_from(&self.core, &self.past, self.front);
+        Ok(())
+    }
+
+    /// Commits an executed step, or says why it can't.
+    pub fn commit(&mut self, run: Run) -> Committed
+        ensures does { Commits self.old run result self.new }
+        ensures same { GoesOn (entries_of result) self.old self.new }
+    {
+        if !self.can_commit(&run) {
+            self.discard(run.rec.thread());
+            return Committed::Stale(run);
+        }
+        match self.make(&run) {
+            Ok(()) => Committed::Done,
+            Err(_) => Committed::Memory(run),
+        }
+    }
+
+    /// Discards the step of thread `t` that was taken, if one was.
+    fn discard(&mut self, t: u8)
+        ensures event { self.new ≡ happens self.old (event.GiveBack t) }
+        ensures same { GoesOn 0 self.old self.new }
+    {
+        if self.is_out(t) {
+            self.out[usize::from(t)] = false;
+            self.discarded = self.discarded.saturating_add(1);
+        }
+    }
+
+    /// Discards the step of thread `t`, which is out.
+    pub fn give_back(&mut self, t: u8)
+        requires { is_out self.old t ≡ true }
+        ensures event { self.new ≡ happens self.old (event.GiveBack t) }
+        ensures same { GoesOn 0 self.old self.new }
+    {
+        self.discard(t);
+    }
+
+    /// Stops the round: from then on it is over.
+    pub fn stop(&mut self)
+        ensures event { self.new ≡ happens self.old event.Stop }
+        ensures same { GoesOn 0 self.old self.new }
+    {
+        self.stopped = true;
+    }
+}

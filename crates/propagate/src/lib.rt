@@ -1,0 +1,19 @@
+//! Rounds of a run: each step is taken from the records of an earlier run where its record fits, and
+//! executed where none does. One worker makes a round by itself; any number of them may, by the same
+//! events. Whatever happens, the round is the one that its definition tells, and where it goes by an
+//! honest history, it is at the machine from scratch, and its marks are exact.
+#![tactic(auto)]
+
+mod alone;
+mod driving;
+mod events;
+mod picking;
+mod round;
+
+pub use alone::run_alone;
+pub use driving::drive;
+pub use events::Committed;
+pub use round::Round;
+
+#[cfg(test)]
+mod tests;

@@ -1,0 +1,218 @@
+//! A round, and what it tells.
+
+ghost use Rattle.std.specs.Prelude.{◌≡◌, ◌<◌, true, false, length, is_some, option_map, slice_get, slice_index_or, Some, IfOk};
+ghost use Rattle.std.specs.Arc.{arc_value};
+ghost use Rattle.machine_spec.specs.Setup.{IsSetup, first};
+ghost use Rattle.history_spec.specs.History.{IsHonest, IsSound};
+ghost use Rattle.report_spec.specs.Report.{instructions_from};
+ghost use Rattle.round_spec.specs.Rounds.{nobody_out, opening, is_over, is_out, history_of};
+ghost use Rattle.round_spec.specs.Instructions.{executed_instructions};
+ghost use Rattle.round_spec.specs.Keeping.{IsInOrder, IsCounted};
+
+use machine_spec::End;
+use page_store::PageTable;
+use release_core::{Core, History, Records, Setup};
+use report_spec::Entry;
+use std::alloc::{AllocError, Global};
+use std::marker::Model;
+use std::sync::Arc;
+use thunk_record::Record;
+
+/// How many threads there can be.
+pub(super) const THREADS: usize = 32;
+
+/// A round as it stands: what it started from and goes by, the machine, the steps so far with their
+/// records, who is out, and what was discarded. A clause sees a `RoundState` of `round_spec`.
+#[derive(Drop)]
+pub struct Round {
+    pub(super) setup: Setup,
+    pub(super) past: Option<Arc<History>>,
+    pub(super) core: Core,
+    pub(super) schedule: Vec<Entry>,
+    pub(super) records: Records,
+    pub(super) out: [bool; THREADS],
+    pub(super) discarded: u64,
+    pub(super) stopped: bool,
+    pub(super) instructions: u64,
+    pub(super) front: usize,
+}
+
+impl Model for Round {
+    ghost use Rattle.std.specs.Prelude.{option_map};
+    ghost use Rattle.std.specs.Arc.{arc_value};
+    ghost use Rattle.round_spec.specs.Rounds.{RoundState};
+    ghost use Rattle.propagate.specs.Kept.{IsKept};
+
+    ghost Value = { RoundState };
+
+    ghost view = { λ r. record {
+      setup = r.setup;
+      past = option_map arc_value r.past;
+      machine = r.core;
+      schedule = r.schedule.items;
+      records = r.records;
+      out = r.out;
+      discarded = r.discarded;
+      stopped = r.stopped;
+    } };
+
+    ghost invariant = { λ r. IsKept (record {
+      setup = r.setup;
+      past = option_map arc_value r.past;
+      machine = r.core;
+      schedule = r.schedule.items;
+      records = r.records;
+      out = r.out;
+      discarded = r.discarded;
+      stopped = r.stopped;
+    }) r.instructions r.front };
+}
+
+/// None of the threads is out.
+#[tactic(auto, unfolding(round_spec::specs::Rounds::nobody_out))]
+fn nobody_out() -> [bool; THREADS]
+    ensures { result ≡ nobody_out }
+{
+    [false; THREADS]
+}
+
+impl Round {
+    /// The round of a setup that goes by an earlier run's history, if there is one, before its first
+    /// step.
+    ///
+    /// # Errors
+    ///
+    /// An error where the host's memory ran out.
+    #[tactic(auto, using(crate::proofs::Keeping::kept_opening))]
+    pub fn new(alloc: Global, setup: Setup, past: Option<Arc<History>>) -> Result<Round, AllocError>
+        ensures { IfOk result (λ round. round ≡ opening setup (option_map arc_value past)) }
+    {
+        setup.sound();
+        let core = Core::new(alloc, &setup)?;
+        Ok(Round {
+            setup,
+            past,
+            core,
+            schedule: Vec::new(alloc),
+            records: Records::new(alloc),
+            out: nobody_out(),
+            discarded: 0,
+            stopped: false,
+            instructions: 0,
+            front: 0,
+        })
+    }
+
+    /// What holds of every round holds of this one: what a caller learns of any round. In particular,
+    /// where it goes by a sound history, it is at the machine from scratch, and its marks are exact.
+    pub fn keeps(&self)
+        ensures setup { IsSetup self.now.setup }
+        ensures in_order { IsInOrder self.now }
+        ensures counted { IsCounted self.now }
+    {
+        let _stopped = &self.stopped;
+    }
+
+    /// What it started from.
+    pub fn setup(&self) -> &Setup
+        ensures { result.now ≡ self.now.setup }
+    {
+        &self.setup
+    }
+
+    /// The history that it goes by, if there is one.
+    pub fn past(&self) -> Option<&Arc<History>>
+        ensures { option_map (λ h. arc_value h.now) result ≡ self.now.past }
+    {
+        self.past.as_ref()
+    }
+
+    /// The steps so far, with their marks.
+    pub fn schedule(&self) -> &[Entry]
+        ensures { result.now ≡ self.now.schedule }
+    {
+        self.schedule.as_slice()
+    }
+
+    /// How it ended, if it has.
+    pub fn end(&self) -> Option<End>
+        ensures { result ≡ self.now.machine.ending }
+    {
+        self.core.ended()
+    }
+
+    /// Whether it was stopped.
+    pub fn stopped(&self) -> bool
+        ensures { result ≡ self.now.stopped }
+    {
+        self.stopped
+    }
+
+    /// How many instructions the executed steps made: where the round goes by a sound history, those
+    /// that its report tells.
+    #[tactic(auto, using(crate::proofs::Keeping::reported))]
+    pub fn instructions(&self) -> u64
+        ensures executed { result ≡ executed_instructions self.now.schedule self.now.records }
+        ensures reported { IsSound self.now.past self.now.setup → result ≡ instructions_from (first self.now.setup) self.now.schedule }
+    {
+        self.instructions
+    }
+
+    /// How many steps that were taken were discarded; 2 ^ 64 - 1 stands for more.
+    pub fn discarded(&self) -> u64
+        ensures { result ≡ self.now.discarded }
+    {
+        self.discarded
+    }
+
+    /// The bytes that were put out.
+    pub fn output(&self) -> &[u8]
+        ensures { result.now ≡ self.now.machine.output }
+    {
+        self.core.output()
+    }
+
+    /// Shared memory.
+    pub fn memory(&self) -> &PageTable
+        ensures { result.now ≡ self.now.machine.memory }
+    {
+        self.core.memory()
+    }
+
+    /// The record of an entry.
+    #[tactic(auto, using(crate::proofs::Keeping::record_count))]
+    pub fn entry(&self, i: usize) -> &Arc<Record>
+        requires { i < length self.now.schedule }
+        ensures { slice_get self.now.records i ≡ Some (arc_value result.now) }
+    {
+        self.records.at(i)
+    }
+
+    /// Whether it is over: the machine has an end, or the round was stopped.
+    pub fn is_over(&self) -> bool
+        ensures { result ≡ is_over self.now }
+    {
+        self.core.ended().is_some() || self.stopped
+    }
+
+    /// Whether thread `t` is out: its next step was taken.
+    pub fn is_out(&self, t: u8) -> bool
+        ensures { result ≡ is_out self.now t }
+    {
+        match self.out.get(usize::from(t)) {
+            Some(flag) => *flag,
+            None => false,
+        }
+    }
+
+    /// What it leaves to the next round: its setup, and the records of its steps. Takes no memory.
+    /// Where the round went by a sound history and has an end, this is an honest history.
+    #[tactic(auto, using(crate::proofs::Keeping::left_honest))]
+    pub fn into_history(self) -> History
+        ensures history { result ≡ history_of self }
+        ensures honest { IsSound self.past self.setup → is_some self.machine.ending ≡ true → IsHonest result }
+    {
+        let Round { setup, records, .. } = self;
+        History::new(setup, records)
+    }
+}
