@@ -15,13 +15,13 @@ pub told_text :
     (number workers : ℕ) (w : RoundState)
     → IsInOrder w → IsSound w.past w.setup
     → report_text number (record {
-        ending = w.machine.ending;
-        schedule = w.schedule;
-        instructions = instructions_from (first w.setup) w.schedule;
-        shares = shares_of_first workers (length w.schedule);
-        memory = w.machine.memory;
-        output = w.machine.output;
-      })
+      ending = w.machine.ending;
+      schedule = w.schedule;
+      instructions = instructions_from (first w.setup) w.schedule;
+      shares = shares_of_first workers (length w.schedule);
+      memory = w.machine.memory;
+      output = w.machine.output;
+    })
     ≡ report number w.setup w.schedule (shares_of_first workers (length w.schedule))
 unfolding report
 told_text number workers w in_order sound =

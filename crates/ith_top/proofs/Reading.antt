@@ -85,8 +85,10 @@ one_unread a w v names place name d lists s reading within at why = go s why
   where
     inside : place < length (texts_of names)
     inside = let same = length-map names (λ (n : Bor (List ℕ)). n.now) in omega arith
+
     there : (fact : Named → Type 0) → fact (record { name = name.now; most = list_most }) → OfOne fact (lists_named (texts_of names))
     there fact holds = of_one_at fact (texts_of names) place name.now inside (name_at names place name d within at) holds
+
     go : (s : Status) → WhyUnread (record { name = name.now; most = list_most }) w v s → WhyUnreadAmong (lists_named (texts_of names)) a v s
     go status.Finished why = why
     go status.Unfinished why = why

@@ -33,11 +33,7 @@ pub struct Files {
 }
 
 /// Reads edit lists, in order.
-fn read_lists<H: Host>(
-    alloc: Global,
-    host: &mut H,
-    names: &[&str],
-) -> Result<Vec<Vec<u8>>, Status>
+fn read_lists<H: Host>(alloc: Global, host: &mut H, names: &[&str]) -> Result<Vec<Vec<u8>>, Status>
     ensures contents { IfOk result (λ lists. AreLists (H.world host.old) (map (λ name. name.now) names.now) (bytes_of_each lists.items)) }
     ensures refused { IfErr result (λ status. WhyUnreadAmong (lists_named (map (λ name. name.now) names.now)) (H.world host.old) (H.world host.new) status) }
     ensures stays { Stays (H.world host.old) (H.world host.new) }
@@ -61,11 +57,7 @@ fn read_lists<H: Host>(
 }
 
 /// Reads the files of a line, in the order in which it names them.
-pub fn read_files<H: Host>(
-    alloc: Global,
-    host: &mut H,
-    line: &RunLine<'_>,
-) -> Result<Files, Status>
+pub fn read_files<H: Host>(alloc: Global, host: &mut H, line: &RunLine<'_>) -> Result<Files, Status>
     ensures contents { IfOk result (λ files. AreContents (H.world host.old) (run_said line.now)
         (record { elf = files.elf.items; input = files.input.items; lists = bytes_of_each files.lists.items })) }
     ensures refused { IfErr result (λ status. RunEnds (run_said line.now) (H.world host.old) (H.world host.new) status) }

@@ -108,7 +108,13 @@ pub fn prepare<H: Host>(alloc: Global, host: &mut H, line: &RunLine<'_>) -> Resu
         Ok(setup) => setup,
         Err(status) => return Err(status),
     };
-    match edit(alloc, host, setup.input(), lists.as_slice(), line.edits.as_slice()) {
+    match edit(
+        alloc,
+        host,
+        setup.input(),
+        lists.as_slice(),
+        line.edits.as_slice(),
+    ) {
         Ok(inputs) => Ok(Plan { setup, inputs }),
         Err(status) => Err(status),
     }

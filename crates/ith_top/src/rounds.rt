@@ -60,14 +60,15 @@ pub fn play<H: Host>(
     let mut past = None;
     let mut all_exit = true;
     for (number, input) in inputs.into_iter().enumerate() {
-        let Played { text, exits, left } =
-            match next_round(alloc, number, setup, input, past, workers) {
-                Ok(played) => played,
-                Err(_) => {
-                    host.complain(NO_MEMORY);
-                    return Err(Status::Memory);
-                }
-            };
+        let Played { text, exits, left } = match next_round(
+            alloc, number, setup, input, past, workers,
+        ) {
+            Ok(played) => played,
+            Err(_) => {
+                host.complain(NO_MEMORY);
+                return Err(Status::Memory);
+            }
+        };
         match print_text(alloc, host, text.as_slice()) {
             Ok(()) => {}
             Err(status) => return Err(status),

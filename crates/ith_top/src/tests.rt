@@ -56,7 +56,12 @@ fn host_with(alloc: Global, failing: &[u64], part: u64) -> Result<MemHost, Alloc
     put(alloc, &mut files, "cut.elf", [HEADER, b"", b""])?;
     put(alloc, &mut files, "empty", [b"", b"", b""])?;
     put(alloc, &mut files, "five", [b"hello", b"", b""])?;
-    put(alloc, &mut files, "inside", [b"set 4 00\n", b"size 2\n", b""])?;
+    put(
+        alloc,
+        &mut files,
+        "inside",
+        [b"set 4 00\n", b"size 2\n", b""],
+    )?;
     put(alloc, &mut files, "behind", [b"\n", b"set 5 00\n", b""])?;
     put(alloc, &mut files, "odd", [b"set 4 0\n", b"", b""])?;
     let long = vec![in alloc; 0u8; 1_048_577]?;
@@ -113,7 +118,10 @@ fn a_round_without_an_edit_reuses_all(rt: HostRuntime) -> Result<(), Fail> {
     let line = "ithreads run hi.elf empty empty --workers 1";
     let status = status_of(&rt, alloc, &mut host, line)?;
     assert_eq!(rt; status, 0);
-    assert_eq!(rt; host.printed().len(), REPORT.len().wrapping_add(REPEATED.len()));
+    assert_eq!(rt;
+        host.printed().len(),
+        REPORT.len().wrapping_add(REPEATED.len())
+    );
     assert!(rt; host.printed().starts_with(REPORT));
     assert!(rt; host.printed().ends_with(REPEATED));
     assert_eq!(rt; host.complained().len(), 0);

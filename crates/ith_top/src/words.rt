@@ -70,11 +70,7 @@ fn text_of<'a>(given: &ArgMatches<'a>, id: &str) -> &'a str
 
 /// The texts of an operand that may be given any number of times.
 #[tactic(auto, using(crate::proofs::Given::values_of_rows))]
-fn texts_of<'a>(
-    alloc: Global,
-    given: &ArgMatches<'a>,
-    id: &str,
-) -> Result<Vec<&'a str>, AllocError>
+fn texts_of<'a>(alloc: Global, given: &ArgMatches<'a>, id: &str) -> Result<Vec<&'a str>, AllocError>
     ensures { IfOk result (λ texts. map (λ text. text.now) texts.items ≡ unwrap_or (all_of id.now (rows_of (found_of given.now))) []) }
 {
     match given.get_raw(id) {

@@ -41,9 +41,21 @@ fn lines_are_accepted(rt: HostRuntime) -> Result<(), Fail> {
         ),
         ("ithreads run --fuel 1 --steps 1 -- a b", &[], 4, 1, 1),
         ("ithreads run a b c", &["c"], 4, 1_000_000, 4096),
-        ("ithreads run a b c --workers 2 d c", &["c", "d", "c"], 2, 1_000_000, 4096),
+        (
+            "ithreads run a b c --workers 2 d c",
+            &["c", "d", "c"],
+            2,
+            1_000_000,
+            4096,
+        ),
         ("ithreads run a b '' c", &["", "c"], 4, 1_000_000, 4096),
-        ("ithreads run a b -- -c --d", &["-c", "--d"], 4, 1_000_000, 4096),
+        (
+            "ithreads run a b -- -c --d",
+            &["-c", "--d"],
+            4,
+            1_000_000,
+            4096,
+        ),
     ];
     for (line, edits, workers, fuel, limit) in rows {
         let words = words_of(alloc, line)?;

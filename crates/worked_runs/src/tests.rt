@@ -27,12 +27,7 @@ fn executable(alloc: Global, guest: Guest) -> Result<Vec<u8>, AllocError> {
 }
 
 /// A host that has a guest, an input and an edit list.
-fn host_of(
-    alloc: Global,
-    guest: Guest,
-    input: &[u8],
-    edits: &[u8],
-) -> Result<MemHost, AllocError> {
+fn host_of(alloc: Global, guest: Guest, input: &[u8], edits: &[u8]) -> Result<MemHost, AllocError> {
     let mut files = BTreeMap::new(alloc);
     files.insert(String::from_str(alloc, "guest")?, executable(alloc, guest)?)?;
     files.insert(
