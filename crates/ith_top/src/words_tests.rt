@@ -24,6 +24,14 @@ fn says(said: &RunLine<'_>, edits: &[&str], workers: u32, fuel: u32, limit: u32)
         && said.limit == limit
 }
 
+/// Whether words were refused, with a text that says so.
+fn is_refusal(fault: &LineFault) -> bool {
+    match fault {
+        LineFault::Refused(text) => text.starts_with(b"words: "),
+        LineFault::Memory => false,
+    }
+}
+
 #[test]
 fn lines_are_accepted(rt: HostRuntime) -> Result<(), Fail> {
     let alloc = rt.alloc();
@@ -96,8 +104,8 @@ fn lines_are_refused(rt: HostRuntime) -> Result<(), Fail> {
     ] {
         let words = words_of(alloc, line)?;
         let refused = match line_of(alloc, &words) {
-            Err(LineFault::Refused(text)) => text.starts_with(b"words: "),
-            _ => false,
+            Ok(_said) => false,
+            Err(fault) => is_refusal(&fault),
         };
         assert!(rt; refused, "at {line}");
     }
