@@ -12,7 +12,7 @@ ghost use Rattle.ith_top.specs.Playing.{round_at};
 use machine_spec::End;
 use propagate::{Round, run_alone};
 use release_core::{History, Setup};
-use round_report::{Told, text};
+use round_report::{Digested, Told, text};
 use std::alloc::{AllocError, Global};
 use std::marker::Brand;
 use std::sync::Arc;
@@ -63,13 +63,15 @@ fn shares_of_first(alloc: Global, workers: u32, steps: usize) -> Result<Vec<u64>
     Ok(shares)
 }
 
-/// The text of the report of a round that one worker made, by a sound history if by any.
+/// The text of the report of a round that one worker made, by a sound history if by any. The digest
+/// of its memory is kept.
 #[tactic(auto, using(crate::proofs::Making::told_text))]
 fn round_text(
     alloc: Global,
     number: u64,
     workers: u32,
     round: &Round,
+    last: &mut Option<Digested>,
 ) -> Result<Vec<u8>, AllocError>
     requires some { 1 ≤ workers }
     requires sound { IsSound round.now.past round.now.setup }
@@ -86,7 +88,7 @@ fn round_text(
         memory: round.memory(),
         output: round.output(),
     };
-    text(alloc, number, &told)
+    text(alloc, number, &told, last)
 }
 
 /// Whether an end is an exit.
@@ -96,7 +98,8 @@ fn is_exit(ending: Option<End>) -> bool
     matches!(ending, Some(End::Exit(_)))
 }
 
-/// The round of a setup that goes by a history, if there is one, with its report.
+/// The round of a setup that goes by a history, if there is one, with its report. The digest of the
+/// last memory that was reported is taken where memory is the same.
 ///
 /// # Errors
 ///
@@ -107,6 +110,7 @@ pub fn make_round(
     setup: Setup,
     past: Option<Arc<History>>,
     workers: u32,
+    last: &mut Option<Digested>,
 ) -> Result<Played, AllocError>
     requires some { 1 ≤ workers }
     requires sound { IsRound (round_at number setup (option_map arc_value past)) }
@@ -115,7 +119,7 @@ pub fn make_round(
     ensures left { IfOk result (λ played. arc_value played.left ≡ left_by (round_at number setup (option_map arc_value past))) }
 {
     let round = uncounted(alloc, setup, past)?;
-    let text = round_text(alloc, number as u64, workers, &round)?;
+    let text = round_text(alloc, number as u64, workers, &round, last)?;
     let exits = is_exit(round.end());
     let left = Arc::new(alloc, round.into_history())?;
     Ok(Played { text, exits, left })

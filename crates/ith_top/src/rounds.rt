@@ -17,6 +17,7 @@ use super::report::{Played, make_round};
 use super::status::Status;
 use ith_host::Host;
 use release_core::{History, Setup};
+use round_report::Digested;
 use std::alloc::{AllocError, Global};
 use std::sync::Arc;
 
@@ -28,6 +29,7 @@ fn next_round(
     input: Vec<u8>,
     past: Option<Arc<History>>,
     workers: u32,
+    last: &mut Option<Digested>,
 ) -> Result<Played, AllocError>
     requires some { 1 ≤ workers }
     requires sound { IsRound (round_on number (option_map arc_value past) setup.now input.items) }
@@ -37,7 +39,7 @@ fn next_round(
 {
     setup.sound();
     let next = setup.with(input, setup.fuel(), setup.limit())?;
-    make_round(alloc, number, next, past, workers)
+    make_round(alloc, number, next, past, workers, last)
 }
 
 /// Makes the rounds of a setup's program on these inputs, each going by what the one before it leaves, and prints the report of each before
@@ -58,10 +60,11 @@ pub fn play<H: Host>(
 {
     setup.sound();
     let mut past = None;
+    let mut last = None;
     let mut all_exit = true;
     for (number, input) in inputs.into_iter().enumerate() {
         let Played { text, exits, left } = match next_round(
-            alloc, number, setup, input, past, workers,
+            alloc, number, setup, input, past, workers, &mut last,
         ) {
             Ok(played) => played,
             Err(_) => {

@@ -1,4 +1,4 @@
--- Laying a record, part by part, and that the record of a thread's own thunk fits.
+-- Laying a record, part by part.
 use Rattle.std.proofs.Common.{◌≡◌, ℕ, zero, suc, Bool, true, false, eqb, List, [], ◌∷◌, ◌++◌, Option, length, set, refl, ap, sym, ◌∙◌, arith}
 use Rattle.std.proofs.lemmas.Bool.{eq-eqb, and_parts}
 use Rattle.std.proofs.lemmas.List.{length-set, get_or_past}
@@ -55,10 +55,6 @@ laid-parts m r memory written_harts done objects put output steps ending a is_me
     (sym (done-parts (written m r.thread (masked m.memory r.kept.delta) r.kept.finish (put_of m.frame.map (hart_of m r.thread).view r.kept)) r.thread
     (asked r.thread r.kept.end r.kept.finish)))
 
-pub kept_count : (f : Frame) (view : Memory) (r : Registers) → (kept_thunk f view r).count ≡ (thunk f view r).count
-unfolding kept_thunk
-kept_count f view r = refl
-
 length-spread : (mask : List Bool) (bytes page : List ℕ) → length (spread mask bytes page) ≡ length page
 length-spread [] bytes page = refl
 length-spread (m ∷ mask) bytes [] = refl
@@ -112,29 +108,6 @@ unfolding lay
 lay-whole m r whole can =
     finished-whole m r.thread (masked m.memory r.kept.delta) r.kept.finish r.kept.end (put_of m.frame.map (hart_of m r.thread).view r.kept) whole can
     (IsMemory-masked m.frame.map m.memory r.kept.delta whole.memory)
-
-own-registers : (r : Registers) → same_registers r r ≡ true
-own-registers r =
-    let pc : eqb r.pc r.pc ≡ true = eq-eqb r.pc r.pc refl in
-    let x : bytes_eq r.x r.x ≡ true = (bytes_eq-Decides r.x r.x).1 refl in
-    rw (pc, x) refl
-
--- what is kept of a ready thread's own thunk fits it
-pub own_fits :
-    (m : Machine) (r : Record)
-    → is_ready (hart_of m r.thread).status ≡ true
-    → r.number ≡ (hart_of m r.thread).number
-    → r.start ≡ (hart_of m r.thread).regs
-    → r.kept ≡ kept_thunk m.frame (hart_of m r.thread).view (hart_of m r.thread).regs
-    → fits m r ≡ true
-unfolding fits fits_at
-own_fits m r ready number start kept =
-    let first : eqb r.number (hart_of m r.thread).number ≡ true = eq-eqb r.number (hart_of m r.thread).number number in
-    let second : same_registers r.start (hart_of m r.thread).regs ≡ true =
-    rw start (own-registers (hart_of m r.thread).regs) in
-    let third : has (hart_of m r.thread).view r.kept.reads ≡ true =
-    rw kept (has-kept m.frame (hart_of m r.thread).view (hart_of m r.thread).regs) in
-    rw (ready, first, second, third) refl
 
 -- a record that fits is of a ready thread
 pub fitting_can : (m : Machine) (r : Record) → fits m r ≡ true → is_ready (hart_of m r.thread).status ≡ true

@@ -1,5 +1,5 @@
 pub mod DataPages
 pub mod Asking
-pub mod Least
 pub mod Laying
 pub mod Placing
+pub mod Zeros

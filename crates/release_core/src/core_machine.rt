@@ -2,7 +2,6 @@
 
 ghost use Rattle.std.specs.Prelude.{◌≡◌, ◌<◌, ◌≤◌, ◌+◌, ◌&&◌, true, [], ◌∷◌, length, nat_lt, vec_len, Some, IfOk, IfErr, OnOk, OnErr};
 ghost use Rattle.std.specs.Arc.{arc_value};
-ghost use Rattle.thunk_spec.specs.Thunk.{thunk};
 ghost use Rattle.record_spec.specs.Delta.{masked};
 ghost use Rattle.record_spec.specs.Record.{put_of, IsTrue};
 ghost use Rattle.release_core.specs.Views.{AreViewsOf};
@@ -10,11 +9,9 @@ ghost use Rattle.release_core.specs.Applying.{can_apply, IsCauseOf};
 ghost use Rattle.machine_spec.specs.Machine.{Machine, hart_of, is_ready, is_ended};
 ghost use Rattle.machine_spec.specs.Setup.{first, map_of, start_memory};
 ghost use Rattle.machine_spec.specs.Performing.{first_hart};
-ghost use Rattle.machine_spec.specs.Choice.{choice};
 ghost use Rattle.machine_spec.specs.Step as step;
 ghost use Rattle.machine_spec.specs.Whole.{IsWhole};
 
-use super::choosing::chosen;
 use super::doing::{asked, do_as_asked};
 use super::hart::Hart;
 use super::performing::{MOST_VIEWS, view_at, views_of, write_back};
@@ -29,10 +26,9 @@ use rv_alu::Regs;
 use std::alloc::{AllocError, Global};
 use std::marker::Model;
 use std::sync::Arc;
-use std::sync::ledger::Ledger;
 use sync_objects::Objects;
 use thunk_record::{Frame, Record, fits};
-use thunk_run::{Job, Steps, execute};
+use thunk_run::Job;
 
 /// Why a record wasn't laid.
 #[derive(Debug, PartialEq, Eq, Clone, Copy, Drop)]
@@ -203,14 +199,6 @@ impl Core {
         }
         let hart = &self.harts[usize::from(rec.thread())];
         fits(rec, hart.number(), hart.regs(), hart.view())
-    }
-
-    /// The ready thread that has made the fewest steps, and of these the one of the lowest number; none where no thread is ready.
-    #[tactic(auto, using(crate::proofs::Least::few_harts), unfolding(machine_spec::specs::Choice::choice))]
-    pub fn choice(&self) -> Option<u8>
-        ensures { result ≡ choice self.now }
-    {
-        chosen(self.harts.as_slice())
     }
 }
 
@@ -402,28 +390,5 @@ impl Core {
             Ok(()) => Ok(()),
             Err(_) => Err(ApplyError::NoMemory),
         }
-    }
-
-    /// One step of thread `t`, which may make one. The answer is how many turns its thunk made, and
-    /// the counter rises by it.
-    ///
-    /// # Errors
-    ///
-    /// An error where the host's memory ran out; the machine is then as before, and the counter may
-    /// have risen.
-    #[tactic(auto, using(crate::proofs::Laying::own_fits, crate::proofs::Laying::kept_count))]
-    pub fn step<L: Ledger>(&mut self, t: u8, steps: &mut Steps<L>) -> Result<u32, AllocError>
-        requires { step.can_step self.old t ≡ true }
-        ensures ok { OnOk result (self.new ≡ step.step self.old t) }
-        ensures count { IfOk result (λ n. n ≡ (thunk self.old.frame (hart_of self.old t).view (hart_of self.old t).regs).count) }
-        ensures cost { IfOk result (λ n. steps.new ≡ steps.old + n) }
-        ensures err { OnErr result (self.new ≡ self.old) }
-    {
-        self.whole();
-        machine_spec::lay_is_step();
-        let job = self.start_of(t)?;
-        let run = execute(self.alloc, &job, steps)?;
-        self.lay(&run.rec)?;
-        Ok(run.rec.count())
     }
 }

@@ -1,8 +1,7 @@
-//! The guest machine in code: a setup, the machine that it starts as, one step of a ready thread, a
-//! record laid in place of one, and the history that a run leaves.
+//! The guest machine in code: a setup, the machine that it starts as, a record laid in
+//! place of a step, and the history that a run leaves.
 #![tactic(auto)]
 
-mod choosing;
 mod core_machine;
 mod doing;
 mod hart;

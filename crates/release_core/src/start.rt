@@ -1,6 +1,7 @@
 //! The memory and the pages that a setup starts with.
 
 ghost use Rattle.std.specs.Prelude.{◌≡◌, ◌<◌, ◌≤◌, ◌+◌, ◌*◌, ◌^◌, [], ◌∷◌, ◌++◌, length, replicate, slice_index, IfOk, OnOk};
+ghost use Rattle.std.specs.Arc.{arc_value};
 ghost use Rattle.memory_spec.specs.Pages.{zero_page};
 ghost use Rattle.machine_spec.specs.Setup as setup;
 
@@ -90,40 +91,68 @@ fn image_pages(alloc: Global, image: &PageMap) -> Result<Vec<MappedPage>, AllocE
     Ok(pages)
 }
 
+/// A page of zeros, for all places that hold one.
+fn zeros(alloc: Global) -> Result<Arc<Page>, AllocError>
+    ensures { IfOk result (λ page. arc_value page ≡ zero_page) }
+{
+    match Arc::new(alloc, Page::zero()) {
+        Ok(page) => Ok(page),
+        Err(_) => Err(AllocError),
+    }
+}
+
 /// The memory that a setup starts with: the image's pages, the input's header and pages, and zeros.
 pub fn memory_of(alloc: Global, image: &PageTable, input: &[u8]) -> Result<PageTable, AllocError>
     requires { length input.now ≤ 1048576 }
     ensures { IfOk result (λ table. table ≡ image.now ++ setup.header_page input.now ∷ [] ++ setup.input_memory input.now ++ setup.stack_memory) }
 {
+    let zero = zeros(alloc)?;
     let mut table = image.snapshot()?;
     table.push(Page::new(header_page(input)))?;
-    push_input(&mut table, input)?;
-    push_stacks(alloc, &mut table)?;
+    push_input(&mut table, input, &zero)?;
+    push_stacks(&mut table, &zero)?;
     Ok(table)
+}
+
+/// Puts a page of the input behind the others. One that begins past the input's end is the page of zeros, shared.
+#[tactic(auto, using(crate::proofs::Zeros::past_the_end))]
+fn push_input_page(
+    table: &mut PageTable,
+    input: &[u8],
+    k: usize,
+    zero: &Arc<Page>,
+) -> Result<(), AllocError>
+    requires number { k < 256 }
+    requires zero { arc_value zero.now ≡ zero_page }
+    ensures { OnOk result (table.new ≡ table.old ++ setup.input_page input.now k ∷ []) }
+{
+    if input.len() <= 4096 * k {
+        table.push_shared(zero)
+    } else {
+        table.push(Page::new(input_page(input, k)))
+    }
 }
 
 /// Puts the pages of the input behind the others.
 #[tactic(auto, unfolding(machine_spec::specs::Setup::input_memory))]
-fn push_input(table: &mut PageTable, input: &[u8]) -> Result<(), AllocError>
+fn push_input(table: &mut PageTable, input: &[u8], zero: &Arc<Page>) -> Result<(), AllocError>
+    requires { arc_value zero.now ≡ zero_page }
     ensures { OnOk result (table.new ≡ table.old ++ setup.input_memory input.now) }
 {
     for k in 0..256usize {
-        table.push(Page::new(input_page(input, k)))?;
+        push_input_page(table, input, k, zero)?;
     }
     Ok(())
 }
 
 /// Puts the pages of all stacks behind the others: one page of zeros, shared.
 #[tactic(auto, unfolding(machine_spec::specs::Setup::stack_memory))]
-fn push_stacks(alloc: Global, table: &mut PageTable) -> Result<(), AllocError>
+fn push_stacks(table: &mut PageTable, zero: &Arc<Page>) -> Result<(), AllocError>
+    requires { arc_value zero.now ≡ zero_page }
     ensures { OnOk result (table.new ≡ table.old ++ setup.stack_memory) }
 {
-    let zero = match Arc::new(alloc, Page::zero()) {
-        Ok(page) => page,
-        Err(_) => return Err(AllocError),
-    };
     for _ in 0..512usize {
-        table.push_shared(&zero)?;
+        table.push_shared(zero)?;
     }
     Ok(())
 }

@@ -1,7 +1,8 @@
 //! The digest of a memory.
 
-ghost use Rattle.std.specs.Prelude.{◌≡◌, ◌++◌, codes, OnOk};
+ghost use Rattle.std.specs.Prelude.{◌≡◌, ◌++◌, codes, IfOk, OnOk};
 ghost use Rattle.std.specs.List.{concat};
+ghost use Rattle.std.specs.Bool.{Decides};
 ghost use Rattle.sha2.specs.Sha256.{sha256};
 ghost use Rattle.report_spec.specs.Text.{line};
 ghost use Rattle.report_spec.specs.Report.{memory_digest};
@@ -10,13 +11,93 @@ use super::lines::text_line;
 use page_store::PageTable;
 use sha2::{Digest, Sha256};
 use std::alloc::{AllocError, Global};
+use std::marker::Model;
 
-/// Appends the line of a memory's digest, in hexadecimal.
+/// A memory and its digest: a later report of the same memory takes the digest from here, since to
+/// compare two memories takes far less time than to digest one. A clause sees the memory.
+#[derive(Drop)]
+pub struct Digested {
+    memory: PageTable,
+    digest: [u8; 32],
+}
+
+impl Model for Digested {
+    ghost use Rattle.std.specs.Prelude.{◌≡◌, ℕ, List};
+    ghost use Rattle.std.specs.List.{concat};
+    ghost use Rattle.sha2.specs.Sha256.{sha256};
+
+    ghost Value = { List (List ℕ) };
+
+    ghost view = { λ d. d.memory };
+
+    ghost invariant = { λ d. d.digest ≡ sha256 (concat d.memory) };
+}
+
+impl Digested {
+    /// A memory with its digest. No page is copied.
+    fn of(memory: &PageTable) -> Result<Digested, AllocError>
+        ensures { IfOk result (λ d. d ≡ memory.now) }
+    {
+        let digest = digest_of(memory);
+        Ok(Digested {
+            memory: memory.snapshot()?,
+            digest,
+        })
+    }
+
+    /// The memory's digest.
+    fn digest(&self) -> &[u8; 32]
+        ensures { result.now ≡ sha256 (concat self.now) }
+    {
+        &self.digest
+    }
+
+    /// Whether it is of this memory.
+    fn is_of(&self, memory: &PageTable) -> bool
+        ensures { Decides result (self.now ≡ memory.now) }
+    {
+        are_same(&self.memory, memory)
+    }
+}
+
+/// Whether two memories have the same pages.
+fn are_same(a: &PageTable, b: &PageTable) -> bool
+    ensures { Decides result (a.now ≡ b.now) }
+{
+    if a.len() != b.len() {
+        return false;
+    }
+    for slot in 0..a.len() {
+        if !a.page(slot).is_same(b.page(slot)) {
+            return false;
+        }
+    }
+    true
+}
+
+/// A memory with its digest, which is taken from the last one where that is of the same memory.
+fn digested_of(memory: &PageTable, last: Option<Digested>) -> Result<Digested, AllocError>
+    ensures { IfOk result (λ d. d ≡ memory.now) }
+{
+    match last {
+        Some(last) if last.is_of(memory) => Ok(last),
+        _ => Digested::of(memory),
+    }
+}
+
+/// Appends the line of a memory's digest, in hexadecimal. The digest is kept for the next report.
 #[tactic(auto, unfolding(report_spec::specs::Report::memory_digest))]
-pub fn memory_line(alloc: Global, memory: &PageTable, into: &mut Vec<u8>) -> Result<(), AllocError>
+pub fn memory_line(
+    alloc: Global,
+    memory: &PageTable,
+    last: &mut Option<Digested>,
+    into: &mut Vec<u8>,
+) -> Result<(), AllocError>
     ensures { OnOk result (into.new.items ≡ into.old.items ++ line (codes "memory") (memory_digest memory.now)) }
 {
-    let digest = hex::encode(alloc, digest_of(memory).as_slice())?;
+    let digested = digested_of(memory, last.take())?;
+    let digest = hex::encode(alloc, digested.digest().as_slice())?;
+    *last = Some(digested);
     text_line("memory", digest.as_bytes(), into)
 }
 

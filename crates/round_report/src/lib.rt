@@ -7,6 +7,7 @@ mod lines;
 mod report;
 mod told;
 
+pub use digest::Digested;
 pub use report::text;
 pub use told::Told;
 

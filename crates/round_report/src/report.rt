@@ -4,25 +4,31 @@ ghost use Rattle.std.specs.Prelude.{◌≡◌, ◌++◌, IfOk, OnOk};
 ghost use Rattle.report_spec.specs.Report.{report_text};
 ghost use Rattle.round_report.specs.Parts.{steps_part, work_part, outcome_part};
 
-use super::digest::memory_line;
+use super::digest::{Digested, memory_line};
 use super::ending::end_line;
 use super::lines::{count_lines, number_line, schedule_line, shares_line};
 use super::told::Told;
 use std::alloc::{AllocError, Global};
 
-/// The report of a round of this number: its lines, the output's bytes, and a line's end.
+/// The report of a round of this number: its lines, the output's bytes, and a line's end. The digest
+/// of the memory is kept for the next report, and taken from the last one where memory is the same.
 ///
 /// # Errors
 ///
 /// An error where the host's memory ran out.
-pub fn text(alloc: Global, number: u64, told: &Told<'_>) -> Result<Vec<u8>, AllocError>
+pub fn text(
+    alloc: Global,
+    number: u64,
+    told: &Told<'_>,
+    last: &mut Option<Digested>,
+) -> Result<Vec<u8>, AllocError>
     ensures { IfOk result (λ text. text.items ≡ report_text number told.now) }
 {
     let mut text = Vec::new(alloc);
     number_line(alloc, "round", number, &mut text)?;
     append_steps(alloc, told, &mut text)?;
     append_work(alloc, told, &mut text)?;
-    append_outcome(alloc, told, &mut text)?;
+    append_outcome(alloc, told, last, &mut text)?;
     Ok(text)
 }
 
@@ -44,10 +50,15 @@ fn append_work(alloc: Global, told: &Told<'_>, into: &mut Vec<u8>) -> Result<(),
 }
 
 /// Appends the memory's digest, the output's length, its bytes, and a line's end.
-fn append_outcome(alloc: Global, told: &Told<'_>, into: &mut Vec<u8>) -> Result<(), AllocError>
+fn append_outcome(
+    alloc: Global,
+    told: &Told<'_>,
+    last: &mut Option<Digested>,
+    into: &mut Vec<u8>,
+) -> Result<(), AllocError>
     ensures { OnOk result (into.new.items ≡ into.old.items ++ outcome_part told.now) }
 {
-    memory_line(alloc, told.memory, into)?;
+    memory_line(alloc, told.memory, last, into)?;
     number_line(alloc, "output", told.output.len() as u64, into)?;
     into.extend_from_slice(told.output)?;
     into.push(b'\n')?;

@@ -46,7 +46,9 @@ fn report_of_hi(rt: HostRuntime) -> Result<(), Fail> {
         memory: &memory,
         output: b"hi\n",
     };
-    let report = text(alloc, 0, &told)?;
+    let mut digested = None;
+    let report = text(alloc, 0, &told, &mut digested)?;
+    let again = text(alloc, 0, &told, &mut digested)?;
     let expected = "round 0
 end exit 0
 steps 2
@@ -61,5 +63,6 @@ hi
 
 ";
     assert_eq!(rt; report.as_slice(), expected.as_bytes());
+    assert_eq!(rt; again.as_slice(), expected.as_bytes());
     Ok(())
 }
