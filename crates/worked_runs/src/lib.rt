@@ -1,5 +1,8 @@
-//! Worked runs: small guests whose reports follow from the rules by hand, run through the top call by tests.
+//! Worked runs: small guests whose reports follow from the rules by hand, run through the top call, and
+//! under given schedules, by tests.
 #![tactic(auto)]
 
+#[cfg(test)]
+mod schedules;
 #[cfg(test)]
 mod tests;

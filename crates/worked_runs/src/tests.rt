@@ -1,25 +1,16 @@
 //! Worked runs of small guests: the reports and the ends that follow from the rules by hand.
 
-ghost use Rattle.std.specs.Prelude.{◌≡◌, ◌<◌};
-
 use ith_host::{MemHost, OpenGate};
 use ith_top::top;
-use machine_spec::End;
-use release_core::{Core, Setup};
 use std::alloc::{AllocError, Global};
 use std::collections::BTreeMap;
-use std::marker::Brand;
 use std::process::Abort;
-use std::sync::ledger::{Blank, Ledger};
 use std::test::Fail;
-use thunk_run::Steps;
-use worked_guests::guests::{
-    BYTES, CREATES, CROSS, HI, LATE, LENGTH, PAIR, PERM, PUTS, SELF, TRAP, TRY,
-};
+use worked_guests::guests::{CREATES, CROSS, HI, LATE, LENGTH, PAIR, PERM, PUTS, SELF, TRAP, TRY};
 use worked_guests::{Guest, file_of};
 
 /// The executable of a guest.
-fn executable(alloc: Global, guest: Guest) -> Result<Vec<u8>, AllocError> {
+pub(super) fn executable(alloc: Global, guest: Guest) -> Result<Vec<u8>, AllocError> {
     match file_of(alloc, guest)? {
         Some(file) => Ok(file),
         None => Ok(Vec::new(alloc)),
@@ -294,93 +285,6 @@ fn edits_execute_what_they_reach(rt: HostRuntime) -> Result<(), Fail> {
     }
     compare_edited(&rt, alloc, &LENGTH_EDITED, &[0; 5])?;
     compare_edited(&rt, alloc, &TRY_EDITED, &[1])
-}
-
-/// What comes of a schedule: how many of its steps could be made, how many turns they took, and how the run ended.
-#[derive(Drop)]
-struct Played {
-    steps: usize,
-    turns: u64,
-    ending: Option<End>,
-}
-
-/// Makes the steps of a schedule, up to one that can't be made.
-fn play_counted<L: Ledger>(
-    alloc: Global,
-    setup: &Setup,
-    schedule: &[u8],
-    blank: Blank,
-) -> Result<Played, AllocError>
-    requires name { blank.name ≡ L.name }
-    requires parts { blank.parts ≡ L.parts }
-    requires some { 0 < L.parts }
-{
-    let mut counter = Steps::<L>::new(blank);
-    let mut core = Core::new(alloc, setup)?;
-    let mut turns = 0u64;
-    for (steps, &thread) in schedule.iter().enumerate() {
-        if core.ended().is_some() || !core.ready(thread) {
-            return Ok(Played {
-                steps,
-                turns,
-                ending: core.ended(),
-            });
-        }
-        turns = turns.wrapping_add(u64::from(core.step(thread, &mut counter)?));
-    }
-    Ok(Played {
-        steps: schedule.len(),
-        turns,
-        ending: core.ended(),
-    })
-}
-
-/// The same, with nobody who looks at the counter.
-fn play(alloc: Global, setup: &Setup, schedule: &[u8]) -> Result<Played, AllocError> {
-    play_counted::<Brand>(alloc, setup, schedule, Blank::new(1))
-}
-
-/// The setup of a guest with no input, or none where it is too long or isn't taken.
-fn setup_of(alloc: Global, guest: Guest) -> Result<Option<Setup>, AllocError> {
-    let file = executable(alloc, guest)?;
-    if file.len() > 4096 {
-        return Ok(None);
-    }
-    match Setup::new(alloc, file, Vec::new(alloc), 1_000_000, 4096) {
-        Ok(setup) => Ok(Some(setup)),
-        Err(_) => Ok(None),
-    }
-}
-
-#[test]
-fn schedules_are_followed_as_far_as_they_are_permitted(rt: HostRuntime) -> Result<(), Fail> {
-    let alloc = rt.alloc();
-    let rows: [(Guest, &[u8], usize, u64, Option<End>); 6] = [
-        (CROSS, &[0, 0, 1, 0, 1], 5, 17, Some(End::Deadlock)),
-        (
-            CROSS,
-            &[0, 0, 0, 0, 0, 1, 1, 1, 1, 1, 0, 0],
-            12,
-            38,
-            Some(End::Exit(0)),
-        ),
-        (CROSS, &[0, 0, 1, 0, 1, 0], 5, 17, Some(End::Deadlock)),
-        (CROSS, &[0, 0, 1], 3, 11, None),
-        (CROSS, &[1], 0, 0, None),
-        (BYTES, &[0, 0, 1, 2, 0, 0, 0, 0], 8, 35, Some(End::Exit(0))),
-    ];
-    for (guest, schedule, steps, turns, ending) in rows {
-        match setup_of(alloc, guest)? {
-            Some(setup) => {
-                let played = play(alloc, &setup, schedule)?;
-                assert_eq!(rt; played.steps, steps);
-                assert_eq!(rt; played.turns, turns);
-                assert!(rt; played.ending == ending);
-            }
-            None => assert!(rt; false),
-        }
-    }
-    Ok(())
 }
 
 #[test]
