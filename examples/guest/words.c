@@ -47,26 +47,31 @@ static unsigned letter(unsigned byte)
     return place < 26 ? place + 1 : 0;
 }
 
-/* where the words begin that begin on page b or later */
-static unsigned beginning(unsigned b, unsigned length)
+/* where the words begin that begin on page b or later; at is where those of the page before begin */
+static unsigned beginning(unsigned b, unsigned at, unsigned length)
 {
     const unsigned char *input = it_input();
     unsigned place = b * IT_PAGE;
-    if (place == 0 || place >= length || !letter(input[place - 1]))
-        return place < length ? place : length;
-    while (place < length && letter(input[place]))
-        place++;
+    if (place >= length)
+        return length;
+    if (at > place) /* a word goes over the whole page before */
+        return at;
+    if (letter(input[place - 1]))
+        while (place < length && letter(input[place]))
+            place++;
     return place;
 }
 
 static IT_NOINLINE int deal(void)
 {
-    unsigned length = it_input_length();
-    for (unsigned b = 0; b < BLOCKS && b * IT_PAGE < length; b++) {
-        shares[b].first = beginning(b, length);
-        shares[b].end = beginning(b + 1, length);
+    unsigned length = it_input_length(), place = 0;
+    if (length > BLOCKS * IT_PAGE)
+        return 0;
+    for (unsigned b = 0; b * IT_PAGE < length; b++) {
+        shares[b].first = place;
+        shares[b].end = place = beginning(b + 1, place, length);
     }
-    return length <= BLOCKS * IT_PAGE;
+    return 1;
 }
 
 static int compare(const unsigned *a, const unsigned *b)
