@@ -28,8 +28,8 @@
    - a block is a function of its own (IT_NOINLINE), so that no register carries anything from it into the next block;
    - each call below first clears the registers that a function may change freely (ra, t0 to t6, a2 to a6), for what a block left there
      would be seen as a difference by the next step;
-   - the stack is pages too. What a block left there stays, and a later step that loads from the stack sees it, until another block has stored
-     over it: at most a block more is executed. Data that an edit changes is better kept out of there. */
+   - the stack is pages too. What a block leaves there stays until something else is stored over it, and until then it counts for each step of the
+     thread that loads from that page, as returning from a function does. So data that an edit changes is better kept out of there. */
 #ifndef ITHREADS_H
 #define ITHREADS_H
 
@@ -99,6 +99,15 @@ static inline __attribute__((always_inline)) int it_call(enum it_call number, un
     return it_call_value(number, first, second, &value);
 }
 
+/* Makes a call that doesn't return: no step of the thread follows, so there is nothing to clear. */
+static inline __attribute__((always_inline, noreturn)) void it_last_call(enum it_call number, unsigned value)
+{
+    register unsigned a0 __asm__("a0") = value;
+    register unsigned a7 __asm__("a7") = number;
+    __asm__ volatile("ecall" : : "r"(a0), "r"(a7) : "memory");
+    __builtin_unreachable();
+}
+
 /* ---------------------------------------------------------------------------------------------- input and output ---- */
 
 /* The input's first byte. The bytes from its length on are zero, up to IT_INPUT_MOST; they may be read. */
@@ -141,8 +150,7 @@ static inline int it_put_all(const void *bytes, unsigned count)
 /* Ends the run with the code, whatever other threads do. It doesn't return. */
 static inline __attribute__((noreturn)) void it_exit(unsigned code)
 {
-    it_call(IT_CALL_EXIT, code, 0);
-    __builtin_unreachable();
+    it_last_call(IT_CALL_EXIT, code);
 }
 
 /* ---------------------------------------------------------------------------------------------- threads ---- */
@@ -180,8 +188,7 @@ static inline int it_thread_create_at(void (*entry)(unsigned), unsigned argument
 /* Ends the calling thread with the value; mutexes that it holds stay held. It doesn't return. Where main's thread ends so, the run goes on. */
 static inline __attribute__((noreturn)) void it_thread_exit(unsigned value)
 {
-    it_call(IT_CALL_THREAD_EXIT, value, 0);
-    __builtin_unreachable();
+    it_last_call(IT_CALL_THREAD_EXIT, value);
 }
 
 /* Waits until the thread has ended. Answers 0, and *value is the thread's value (value may be null); -IT_ESRCH: no such thread; -IT_EDEADLK:
