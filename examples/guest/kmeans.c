@@ -11,8 +11,9 @@
    - centres are rounded to quarters. The mean of some thousand points seldom comes to another quarter for one point's sake; then the page of the
      centres has the bytes that it had, and of each move only the edited block is executed again. So the coarser the numbers that are passed on, the
      more is reused.
-   - each block's sums, for each move, have a page of their own, where they are zero at first. A page that a step adds to is one that it loads; were it
-     the page of the move before, or the stack, then what the move before left there would count too.
+   - each block's sums, for each move, stand on a page of their own, zero at first, and not on the stack. There they would stay behind, and the worker's
+     next step, which loads its saved registers from the same page, would see that they differ: the edited block and the worker's next one would be
+     executed again in each move.
    - squares are looked up in a table, since the machine has no multiplication; nobody stores to it after the main thread's first step. */
 #include "ithreads.h"
 

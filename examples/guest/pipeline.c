@@ -10,8 +10,9 @@
    - the reader copies an item to its slot, so that packers load one item and not the page of the input, on which there are four.
    - item k always goes through slot k mod 4, and each slot's bytes have a page of their own. So an edited item reaches one packer's step and the one
      that puts it out.
-   - a slot is used again and again, and a page counts whole: where a packed item is shorter than before the edit, bytes of an older one would
-     stay behind it, and the step that puts the slot's next item out would see a difference. So a packer clears what it doesn't fill.
+   - a slot is used again and again, and a page counts whole: where a packed item is shorter than before the edit, bytes of an older one stay behind it,
+     and the steps that put the slot's next items out see a difference until a longer one covers it. They take some 30 instructions each. To clear
+     what an item doesn't fill would avoid them, and take some thousands of instructions for each item.
    - the numbers under the mutex say which items are taken and packed, nothing of what is in them. They stand on a page of their own, and locks are
      held for some ten instructions.
    - the reader has the length in a register, so all of its steps are executed again when the length changes; the packers' are reused all the same,
@@ -82,7 +83,6 @@ static IT_NOINLINE int pack(unsigned slot)
     packed[slot].bytes[0] = (unsigned char)(length - 2);
     packed[slot].bytes[1] = (unsigned char)((length - 2) >> 8);
     packed[slot].length = items[slot].length ? length : 0;
-    memset(to, 0, sizeof packed[slot].bytes - length);
     return items[slot].length != 0;
 }
 

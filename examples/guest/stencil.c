@@ -6,9 +6,10 @@
    of two rows of cells to the other, so that nobody stores to what others load in the same sweep.
 
    What keeps an edit small:
-   - a block needs one cell of each neighbour. Were it loaded from the neighbour's cells, then after an edit anywhere in a block both of its
-     neighbours would be executed again in each sweep, and theirs in the next. So each block also writes its two outermost cells to a page of its own,
-     and only these pages are loaded by neighbours. They change once the edit has come to the block's end, a cell with each sweep.
+   - a block needs one cell of each neighbour. Were it loaded from the neighbour's cells, then after an edit anywhere in a block its neighbours would
+     be executed again in each sweep too. So each block also writes its first and its last cell to a page each, and only these pages are loaded by
+     neighbours. They change once the edit has come to the block's end, a cell with each sweep. The two don't share a page, for then a new last cell
+     would also be seen by the neighbour that needs the first.
    - a call stands behind each block, and the barrier's answer, which says who came last, goes by the order of the steps, which an edit doesn't
      change.
    - nobody asks for the input's length: the pages of the input are zero behind its end, and may be loaded. */
@@ -20,12 +21,13 @@ struct IT_PAGE_ALIGNED block {
     unsigned short cells[CELLS];
 };
 
-struct IT_PAGE_ALIGNED ends {
-    unsigned short first, last;
+struct IT_PAGE_ALIGNED cell {
+    unsigned short is;
 };
 
 static struct block blocks[2][BLOCKS];
-static struct ends ends[2][BLOCKS + 2]; /* of block b at b + 1; beyond both ends are zeros */
+static struct cell firsts[2][BLOCKS + 1]; /* of block b at b; behind the last are zeros */
+static struct cell lasts[2][BLOCKS + 1];  /* of block b at b + 1; before the first are zeros */
 static unsigned char packed[BLOCKS][IT_PAGE] IT_PAGE_ALIGNED;
 
 static IT_NOINLINE void fill(unsigned b)
@@ -33,8 +35,8 @@ static IT_NOINLINE void fill(unsigned b)
     const unsigned char *bytes = it_input() + b * IT_PAGE;
     for (unsigned k = 0; k < CELLS; k++)
         blocks[0][b].cells[k] = (unsigned short)(bytes[k] << 8);
-    ends[0][b + 1].first = (unsigned short)(bytes[0] << 8);
-    ends[0][b + 1].last = (unsigned short)(bytes[CELLS - 1] << 8);
+    firsts[0][b].is = (unsigned short)(bytes[0] << 8);
+    lasts[0][b + 1].is = (unsigned short)(bytes[CELLS - 1] << 8);
 }
 
 static unsigned smoothed(unsigned left, unsigned cell, unsigned right)
@@ -46,17 +48,17 @@ static IT_NOINLINE void smooth(unsigned sweep, unsigned b)
 {
     const unsigned short *from = blocks[sweep & 1][b].cells;
     unsigned short *to = blocks[~sweep & 1][b].cells;
-    unsigned left = ends[sweep & 1][b].last, cell = from[0];
-    ends[~sweep & 1][b + 1].first = (unsigned short)smoothed(left, cell, from[1]);
+    unsigned left = lasts[sweep & 1][b].is, cell = from[0];
+    firsts[~sweep & 1][b].is = (unsigned short)smoothed(left, cell, from[1]);
     for (unsigned k = 1; k < CELLS; k++) {
         unsigned right = from[k];
         to[k - 1] = (unsigned short)smoothed(left, cell, right);
         left = cell;
         cell = right;
     }
-    cell = smoothed(left, cell, ends[sweep & 1][b + 2].first);
+    cell = smoothed(left, cell, firsts[sweep & 1][b + 1].is);
     to[CELLS - 1] = (unsigned short)cell;
-    ends[~sweep & 1][b + 1].last = (unsigned short)cell;
+    lasts[~sweep & 1][b + 1].is = (unsigned short)cell;
 }
 
 static IT_NOINLINE void pack(unsigned b)
