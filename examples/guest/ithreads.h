@@ -1,0 +1,487 @@
+/* What a guest written in C needs: the environment calls as functions, the input, and what clang wants of a program that has no C
+   library. It is the only header, and there is no file beside it to link. A guest is an ordinary program:
+
+       #include "ithreads.h"
+
+       static unsigned work(unsigned argument) { .. return value; }       // a thread; its value is what join gives
+
+       int main(void)
+       {
+           int thread = it_thread_create(work, 7);
+           unsigned value;
+           it_thread_join(thread, &value);
+           it_put("done\n", 5);
+           return 0;                                                      // ends the run: end exit 0
+       }
+
+   Names and the order of arguments are those of POSIX threads and semaphores. Mutexes, semaphores, barriers and conditions are numbered
+   from 0 to 63; they need no memory, and only barriers must be initialised. An answer is an int: 0 or a positive number where the call was
+   done, a negated error number of enum it_error where it wasn't. Each function below says all of its answers; docs/MACHINE.md has the rules.
+
+   A thread sees what others stored only from its next call that returns; and what it stored, others see only after its next call. So
+   shared data needs no volatile: each call tells the compiler that all memory may have changed.
+
+   What is reused after an edit of the input is a step: what a thread executes from one call to the next. It is reused where the thread's 32
+   registers at its start are as they were, and each page from which it loads or fetches has the bytes that it had. Hence
+
+   - what belongs to one block of the work has a page of its own (IT_PAGE_ALIGNED), and a call (it_yield) stands between two blocks;
+   - a block is a function of its own (IT_NOINLINE), so that no register carries anything from it into the next block;
+   - each call below first clears the registers that a function may change freely (ra, t0 to t6, a2 to a6), for what a block left there
+     would be seen as a difference by the next step;
+   - the stack is pages too. What a block leaves there stays until something else is stored over it, and until then it counts for each step of the
+     thread that loads from that page, as returning from a function does. So data that an edit changes is better kept out of there. */
+#ifndef ITHREADS_H
+#define ITHREADS_H
+
+/* limits; docs/MACHINE.md has them all */
+enum it_limit {
+    IT_PAGE = 4096,               /* bytes of a page */
+    IT_THREADS = 32,              /* threads of a run, ended ones and that of main counted */
+    IT_OBJECTS = 64,              /* mutexes, semaphores, barriers and conditions: so many of each */
+    IT_INPUT_MOST = 1048576,      /* bytes of the input */
+    IT_PUT_MOST = 4096,           /* bytes of one it_put */
+    IT_STACK = 65536,             /* bytes of each thread's stack */
+    IT_BARRIER_MOST = 32,         /* threads that meet at a barrier */
+    IT_SEM_VALUE_MOST = 2147483647
+};
+
+/* errors, by Linux' numbers; an answer is one of them negated */
+enum it_error {
+    IT_EPERM = 1,
+    IT_ESRCH = 3,
+    IT_EAGAIN = 11,
+    IT_EFAULT = 14,
+    IT_EBUSY = 16,
+    IT_EINVAL = 22,
+    IT_EDEADLK = 35,
+    IT_EOVERFLOW = 75
+};
+
+/* it_barrier_wait's answer to the thread that came last */
+enum { IT_BARRIER_SERIAL_THREAD = 1 };
+
+/* Begins at a page. Said of a structure, as in `struct IT_PAGE_ALIGNED sums { unsigned of[8]; };`, it also makes its size whole pages, so
+   that nothing else stands on them. Said of a variable it doesn't: what follows may stand on its last page. */
+#define IT_PAGE_ALIGNED __attribute__((aligned(4096)))
+
+/* A function that stays one: the compiler doesn't put its instructions into its callers'. */
+#define IT_NOINLINE __attribute__((noinline))
+
+/* ---------------------------------------------------------------------------------------------- how a call is made ---- */
+
+enum it_call {
+    IT_CALL_EXIT, IT_CALL_PUT, IT_CALL_CREATE, IT_CALL_THREAD_EXIT, IT_CALL_JOIN, IT_CALL_YIELD, IT_CALL_LOCK, IT_CALL_TRYLOCK,
+    IT_CALL_UNLOCK, IT_CALL_SEM_WAIT, IT_CALL_SEM_TRYWAIT, IT_CALL_SEM_POST, IT_CALL_SEM_INIT, IT_CALL_BARRIER_INIT,
+    IT_CALL_BARRIER_WAIT, IT_CALL_COND_WAIT, IT_CALL_SIGNAL, IT_CALL_BROADCAST
+};
+
+/* The next step starts with these registers as they are here, so that what is left in them must not depend on the input. */
+#define IT_CLEAR                                                                                                                 \
+    "mv ra, zero\n\tmv t0, zero\n\tmv t1, zero\n\tmv t2, zero\n\tmv t3, zero\n\tmv t4, zero\n\tmv t5, zero\n\tmv t6, zero\n\t"     \
+    "mv a2, zero\n\tmv a3, zero\n\tmv a4, zero\n\tmv a5, zero\n\tmv a6, zero\n\t"
+#define IT_CLEARED "ra", "t0", "t1", "t2", "t3", "t4", "t5", "t6", "a2", "a3", "a4", "a5", "a6", "memory"
+
+/* Makes a call: gives what it leaves in a0, and in *value what it leaves in a1. */
+static inline __attribute__((always_inline)) int it_call_value(enum it_call number, unsigned first, unsigned second, unsigned *value)
+{
+    register unsigned a0 __asm__("a0") = first;
+    register unsigned a1 __asm__("a1") = second;
+    register unsigned a7 __asm__("a7") = number;
+    __asm__ volatile(IT_CLEAR "ecall" : "+r"(a0), "+r"(a1) : "r"(a7) : IT_CLEARED);
+    *value = a1;
+    return (int)a0;
+}
+
+/* Makes a call: gives what it leaves in a0. */
+static inline __attribute__((always_inline)) int it_call(enum it_call number, unsigned first, unsigned second)
+{
+    unsigned value;
+    return it_call_value(number, first, second, &value);
+}
+
+/* Makes a call that doesn't return: no step of the thread follows, so there is nothing to clear. */
+static inline __attribute__((always_inline, noreturn)) void it_last_call(enum it_call number, unsigned value)
+{
+    register unsigned a0 __asm__("a0") = value;
+    register unsigned a7 __asm__("a7") = number;
+    __asm__ volatile("ecall" : : "r"(a0), "r"(a7) : "memory");
+    __builtin_unreachable();
+}
+
+/* ---------------------------------------------------------------------------------------------- input and output ---- */
+
+/* The input's first byte. The bytes from its length on are zero, up to IT_INPUT_MOST; they may be read. */
+static inline const unsigned char *it_input(void)
+{
+    return (const unsigned char *)0xC0001000u;
+}
+
+/* The input's length in bytes, 0 to IT_INPUT_MOST. It stands on a page of its own: a step that asks for it is executed again when the length
+   changes, and one that holds it in a register too. */
+static inline unsigned it_input_length(void)
+{
+    return *(const volatile unsigned *)0xC0000000u;
+}
+
+/* Appends bytes to the output. Answers count; -IT_EINVAL where count is above IT_PUT_MOST; -IT_EFAULT where a byte isn't readable. The step
+   that makes the call has then loaded these bytes, and what stands beside them on their pages counts too. The next step starts with the count in
+   two registers, so it is executed again when the count changes. */
+static inline int it_put(const void *bytes, unsigned count)
+{
+    return it_call(IT_CALL_PUT, (unsigned)bytes, count);
+}
+
+/* Appends any number of bytes to the output, by as many calls as it takes. Answers count; or what the first call answered that failed, and
+   then the bytes before it are in the output. */
+static inline int it_put_all(const void *bytes, unsigned count)
+{
+    const unsigned char *from = (const unsigned char *)bytes;
+    for (unsigned left = count; left;) {
+        unsigned part = left < IT_PUT_MOST ? left : IT_PUT_MOST;
+        int answer = it_put(from, part);
+        if (answer < 0)
+            return answer;
+        from += part;
+        left -= part;
+    }
+    return (int)count;
+}
+
+/* Ends the run with the code, whatever other threads do. It doesn't return. */
+static inline __attribute__((noreturn)) void it_exit(unsigned code)
+{
+    it_last_call(IT_CALL_EXIT, code);
+}
+
+/* ---------------------------------------------------------------------------------------------- threads ---- */
+
+/* it_thread_create(function, argument): a new thread that calls function(argument), an `unsigned function(unsigned)`; what it returns is the
+   thread's value, as by it_thread_exit. Answers the thread's number, 1 to 31; -IT_EAGAIN where there are IT_THREADS threads.
+
+   The machine starts a thread at an address with one word, all other registers zero, and nothing to return to. So each use of this macro has
+   an entry of its own, the three instructions at 1:, which call the function and then make thread_exit. The function is in the call
+   instruction, and nothing is passed in memory: a table of functions and arguments would be a page that every new thread reads, and that
+   changes with each argument. Therefore `function` must be the name of a function and not a variable; for one that is only known when the
+   guest runs there is it_thread_create_at. */
+#define it_thread_create(function, argument)                                                                                     \
+    __extension__({                                                                                                              \
+        unsigned (*const it_function)(unsigned) = (function);                                                                    \
+        const unsigned it_argument = (unsigned)(argument);                                                                       \
+        register unsigned it_a0 __asm__("a0");                                                                                   \
+        register unsigned it_a1 __asm__("a1") = it_argument;                                                                     \
+        register unsigned it_a7 __asm__("a7") = IT_CALL_CREATE;                                                                  \
+        (void)it_function;                                                                                                       \
+        __asm__ volatile("la a0, 1f\n\t" IT_CLEAR "ecall\n\tj 2f\n1:\tcall %[body]\n\tli a7, %[end]\n\tecall\n2:"                     \
+                         : "=&r"(it_a0), "+r"(it_a1)                                                                             \
+                         : "r"(it_a7), [body] "i"(function), [end] "i"(IT_CALL_THREAD_EXIT)                                      \
+                         : IT_CLEARED);                                                                                          \
+        (int)it_a0;                                                                                                              \
+    })
+
+/* A new thread that starts at the entry with the argument. The entry must not return: it ends by it_thread_exit. Answers as
+   it_thread_create, and -IT_EINVAL where the entry is no multiple of 4. */
+static inline int it_thread_create_at(void (*entry)(unsigned), unsigned argument)
+{
+    return it_call(IT_CALL_CREATE, (unsigned)entry, argument);
+}
+
+/* Ends the calling thread with the value; mutexes that it holds stay held. It doesn't return. Where main's thread ends so, the run goes on. */
+static inline __attribute__((noreturn)) void it_thread_exit(unsigned value)
+{
+    it_last_call(IT_CALL_THREAD_EXIT, value);
+}
+
+/* Waits until the thread has ended. Answers 0, and *value is the thread's value (value may be null); -IT_ESRCH: no such thread; -IT_EDEADLK:
+   the caller itself; -IT_EINVAL: another thread waits for it or has waited. The value comes in a register, so the step after the call is
+   executed again when it changes. */
+static inline int it_thread_join(unsigned thread, unsigned *value)
+{
+    unsigned left;
+    int answer = it_call_value(IT_CALL_JOIN, thread, 0, &left);
+    if (answer == 0 && value)
+        *value = left;
+    return answer;
+}
+
+/* The caller's number: 0 for the thread of main. No call is made. */
+static inline unsigned it_thread_self(void)
+{
+    unsigned thread;
+    __asm__("mv %0, tp" : "=r"(thread));
+    return thread;
+}
+
+/* Ends a step, makes its stores seen, and shows what others stored. Answers 0. */
+static inline int it_yield(void)
+{
+    return it_call(IT_CALL_YIELD, 0, 0);
+}
+
+/* ---------------------------------------------------------------------------------------------- mutexes ---- */
+
+/* Waits until the mutex is the caller's. Answers 0; -IT_EINVAL: number above 63; -IT_EDEADLK: it is the caller's already. */
+static inline int it_mutex_lock(unsigned mutex)
+{
+    return it_call(IT_CALL_LOCK, mutex, 0);
+}
+
+/* Takes the mutex if it is free. Answers 0; -IT_EINVAL: number above 63; -IT_EBUSY: somebody has it, maybe the caller. */
+static inline int it_mutex_trylock(unsigned mutex)
+{
+    return it_call(IT_CALL_TRYLOCK, mutex, 0);
+}
+
+/* Gives the mutex to who waits first, or sets it free. Answers 0; -IT_EINVAL: number above 63; -IT_EPERM: it isn't the caller's. */
+static inline int it_mutex_unlock(unsigned mutex)
+{
+    return it_call(IT_CALL_UNLOCK, mutex, 0);
+}
+
+/* ---------------------------------------------------------------------------------------------- semaphores ---- */
+
+/* Sets a semaphore's value; all begin with 0. Answers 0; -IT_EINVAL: number above 63 or value above IT_SEM_VALUE_MOST; -IT_EBUSY: somebody waits. */
+static inline int it_sem_init(unsigned semaphore, unsigned value)
+{
+    return it_call(IT_CALL_SEM_INIT, semaphore, value);
+}
+
+/* Waits until the value is above 0, and takes one. Answers 0; -IT_EINVAL: number above 63. */
+static inline int it_sem_wait(unsigned semaphore)
+{
+    return it_call(IT_CALL_SEM_WAIT, semaphore, 0);
+}
+
+/* Takes one if the value is above 0. Answers 0; -IT_EINVAL: number above 63; -IT_EAGAIN: the value is 0. */
+static inline int it_sem_trywait(unsigned semaphore)
+{
+    return it_call(IT_CALL_SEM_TRYWAIT, semaphore, 0);
+}
+
+/* Lets who waits first go on, or adds one. Answers 0; -IT_EINVAL: number above 63; -IT_EOVERFLOW: the value is IT_SEM_VALUE_MOST. */
+static inline int it_sem_post(unsigned semaphore)
+{
+    return it_call(IT_CALL_SEM_POST, semaphore, 0);
+}
+
+/* ---------------------------------------------------------------------------------------------- barriers ---- */
+
+/* Sets how many threads meet. Answers 0; -IT_EINVAL: number above 63, count 0 or above IT_BARRIER_MOST; -IT_EBUSY: somebody waits. */
+static inline int it_barrier_init(unsigned barrier, unsigned count)
+{
+    return it_call(IT_CALL_BARRIER_INIT, barrier, count);
+}
+
+/* Waits until so many threads have come. Answers IT_BARRIER_SERIAL_THREAD to the last, 0 to the others; -IT_EINVAL: number above 63, or not
+   initialised. */
+static inline int it_barrier_wait(unsigned barrier)
+{
+    return it_call(IT_CALL_BARRIER_WAIT, barrier, 0);
+}
+
+/* ---------------------------------------------------------------------------------------------- conditions ---- */
+
+/* Gives the mutex up and waits for the condition, and then for the mutex. There are no spurious wake-ups, but another thread may have had the
+   mutex in between. Answers 0; -IT_EINVAL: a number above 63, or others wait for the condition with another mutex; -IT_EPERM: the mutex isn't
+   the caller's. */
+static inline int it_cond_wait(unsigned condition, unsigned mutex)
+{
+    return it_call(IT_CALL_COND_WAIT, condition, mutex);
+}
+
+/* Wakes who waits first, if somebody does. Answers 0; -IT_EINVAL: number above 63. */
+static inline int it_cond_signal(unsigned condition)
+{
+    return it_call(IT_CALL_SIGNAL, condition, 0);
+}
+
+/* Wakes all who wait, in their order. Answers 0; -IT_EINVAL: number above 63. */
+static inline int it_cond_broadcast(unsigned condition)
+{
+    return it_call(IT_CALL_BROADCAST, condition, 0);
+}
+
+/* ---------------------------------------------------------------------------------------------- text ---- */
+
+/* Writes a number in decimal, 1 to 10 digits and nothing behind them. Gives where the next byte goes. */
+static inline char *it_decimal(char *to, unsigned number)
+{
+    static const unsigned powers[] = { 1000000000, 100000000, 10000000, 1000000, 100000, 10000, 1000, 100, 10, 1 };
+    unsigned k = 0;
+    while (k < 9 && number < powers[k])
+        k++;
+    for (; k < 10; k++) {
+        char digit = '0';
+        for (; number >= powers[k]; digit++) {
+            number -= powers[k];
+            __asm__("" : "+r"(number)); /* or the compiler makes a division of this loop, which takes longer */
+        }
+        *to++ = digit;
+    }
+    return to;
+}
+
+/* Writes a text without its final zero. Gives where the next byte goes. */
+static inline char *it_text(char *to, const char *text)
+{
+    while (*text)
+        *to++ = *text++;
+    return to;
+}
+
+/* ------------------------------------------------------------------------ what clang wants of a program without a C library ---- */
+
+/* weak: two files of a guest may include this header. What isn't used the linker leaves out. */
+#define IT_LIBRARY __attribute__((weak))
+
+/* Where a guest starts: main's value ends the run. */
+IT_LIBRARY __attribute__((naked, used)) void _start(void)
+{
+    __asm__("call main\n\tli a7, 0\n\tecall");
+}
+
+IT_LIBRARY void *memcpy(void *to, const void *from, __SIZE_TYPE__ count)
+{
+    unsigned char *t = (unsigned char *)to;
+    const unsigned char *f = (const unsigned char *)from;
+    if ((((unsigned)t | (unsigned)f) & 3) == 0)
+        for (; count >= 4; count -= 4, t += 4, f += 4)
+            *(unsigned __attribute__((may_alias)) *)(void *)t = *(const unsigned __attribute__((may_alias)) *)(const void *)f;
+    while (count--)
+        *t++ = *f++;
+    return to;
+}
+
+IT_LIBRARY void *memmove(void *to, const void *from, __SIZE_TYPE__ count)
+{
+    unsigned char *t = (unsigned char *)to;
+    const unsigned char *f = (const unsigned char *)from;
+    if (t <= f || t >= f + count)
+        return memcpy(to, from, count);
+    while (count--)
+        t[count] = f[count];
+    return to;
+}
+
+IT_LIBRARY void *memset(void *to, int value, __SIZE_TYPE__ count)
+{
+    unsigned char *t = (unsigned char *)to;
+    unsigned word = (unsigned char)value;
+    word |= word << 8;
+    word |= word << 16;
+    if (((unsigned)t & 3) == 0)
+        for (; count >= 4; count -= 4, t += 4)
+            *(unsigned __attribute__((may_alias)) *)(void *)t = word;
+    while (count--)
+        *t++ = (unsigned char)value;
+    return to;
+}
+
+IT_LIBRARY int memcmp(const void *one, const void *other, __SIZE_TYPE__ count)
+{
+    const unsigned char *a = (const unsigned char *)one, *b = (const unsigned char *)other;
+    for (; count; count--, a++, b++)
+        if (*a != *b)
+            return *a < *b ? -1 : 1;
+    return 0;
+}
+
+/* RV32I has no multiplication and no division: clang calls these where a program has *, / or %. A product takes some 6 instructions for each
+   bit of the smaller factor, a quotient some 12 for each of its bits. */
+IT_LIBRARY unsigned __mulsi3(unsigned a, unsigned b)
+{
+    unsigned product = 0, few = a < b ? a : b;
+    for (unsigned many = a < b ? b : a; few; many <<= 1, few >>= 1)
+        if (few & 1)
+            product += many;
+    return product;
+}
+
+/* Both of a division, by shifting and subtracting. By 0 the quotient is all ones and the rest is the number, as RISC-V has it. */
+#define IT_DIVIDE(name, type, top)                                                                                               \
+    static inline type name(type number, type by, type *rest)                                                                    \
+    {                                                                                                                            \
+        type quotient = 0, bit = 1;                                                                                              \
+        *rest = number;                                                                                                          \
+        if (!by)                                                                                                                 \
+            return ~quotient;                                                                                                    \
+        while (by < number && !(by >> (top))) {                                                                                  \
+            by <<= 1;                                                                                                            \
+            bit <<= 1;                                                                                                           \
+        }                                                                                                                        \
+        for (; bit; bit >>= 1, by >>= 1)                                                                                         \
+            if (number >= by) {                                                                                                  \
+                number -= by;                                                                                                    \
+                quotient |= bit;                                                                                                 \
+            }                                                                                                                    \
+        *rest = number;                                                                                                          \
+        return quotient;                                                                                                         \
+    }
+
+IT_DIVIDE(it_divide, unsigned, 31)
+IT_DIVIDE(it_divide_long, unsigned long long, 63)
+
+IT_LIBRARY unsigned __udivsi3(unsigned number, unsigned by)
+{
+    unsigned rest;
+    return it_divide(number, by, &rest);
+}
+
+IT_LIBRARY unsigned __umodsi3(unsigned number, unsigned by)
+{
+    unsigned rest;
+    it_divide(number, by, &rest);
+    return rest;
+}
+
+/* C's quotient is rounded towards zero, and the rest has the sign of the number */
+IT_LIBRARY int __divsi3(int number, int by)
+{
+    unsigned rest, quotient = it_divide(number < 0 ? 0u - (unsigned)number : (unsigned)number, by < 0 ? 0u - (unsigned)by : (unsigned)by, &rest);
+    return by && (number < 0) != (by < 0) ? (int)(0u - quotient) : (int)quotient;
+}
+
+IT_LIBRARY int __modsi3(int number, int by)
+{
+    unsigned rest;
+    it_divide(number < 0 ? 0u - (unsigned)number : (unsigned)number, by < 0 ? 0u - (unsigned)by : (unsigned)by, &rest);
+    return number < 0 ? (int)(0u - rest) : (int)rest;
+}
+
+/* the same of long long; shifts of it need no function */
+IT_LIBRARY unsigned long long __muldi3(unsigned long long a, unsigned long long b)
+{
+    unsigned long long product = 0, few = a < b ? a : b;
+    for (unsigned long long many = a < b ? b : a; few; many <<= 1, few >>= 1)
+        if (few & 1)
+            product += many;
+    return product;
+}
+
+IT_LIBRARY unsigned long long __udivdi3(unsigned long long number, unsigned long long by)
+{
+    unsigned long long rest;
+    return it_divide_long(number, by, &rest);
+}
+
+IT_LIBRARY unsigned long long __umoddi3(unsigned long long number, unsigned long long by)
+{
+    unsigned long long rest;
+    it_divide_long(number, by, &rest);
+    return rest;
+}
+
+IT_LIBRARY long long __divdi3(long long number, long long by)
+{
+    unsigned long long rest, size = number < 0 ? 0ull - (unsigned long long)number : (unsigned long long)number;
+    unsigned long long quotient = it_divide_long(size, by < 0 ? 0ull - (unsigned long long)by : (unsigned long long)by, &rest);
+    return by && (number < 0) != (by < 0) ? (long long)(0ull - quotient) : (long long)quotient;
+}
+
+IT_LIBRARY long long __moddi3(long long number, long long by)
+{
+    unsigned long long rest, size = number < 0 ? 0ull - (unsigned long long)number : (unsigned long long)number;
+    it_divide_long(size, by < 0 ? 0ull - (unsigned long long)by : (unsigned long long)by, &rest);
+    return number < 0 ? (long long)(0ull - rest) : (long long)rest;
+}
+
+#endif
