@@ -1,12 +1,33 @@
 //! Writing stored bytes into the shared pages.
 #![tactic(auto)]
 
-ghost use Rattle.std.specs.Prelude.{◌≡◌, OnOk, OnErr};
+ghost use Rattle.std.specs.Prelude.{◌≡◌, IfOk, OnOk, OnErr};
 ghost use Rattle.record_spec.specs.Delta.{masked};
 
 use page_store::PageTable;
 use std::alloc::AllocError;
 use store_mask::Delta;
+
+/// A table of pages with the stored bytes of a thunk: exactly the bytes at the marked places are other
+/// ones; a slot past the table's end has no page, and nothing is written there. Pages that nothing
+/// is written to are shared with the table given.
+///
+/// # Errors
+///
+/// An error where the host's memory ran out.
+pub fn committed(table: &PageTable, delta: &Delta) -> Result<PageTable, AllocError>
+    ensures { IfOk result (λ after. after ≡ masked table.now delta.now) }
+{
+    let mut after = table.snapshot()?;
+    for stored in delta.pages() {
+        let slot = stored.slot();
+        if slot < after.len() {
+            let page = stored.written(after.page(slot));
+            after.replace(slot, page)?;
+        }
+    }
+    Ok(after)
+}
 
 /// Writes the stored bytes of a thunk into a table of pages: exactly the bytes at the marked places change;
 /// a slot past the table's end has no page, and nothing is written there.
@@ -19,15 +40,7 @@ pub fn commit(table: &mut PageTable, delta: &Delta) -> Result<(), AllocError>
     ensures ok { OnOk result (table.new ≡ masked table.old delta.now) }
     ensures err { OnErr result (table.new ≡ table.old) }
 {
-    let mut after = table.snapshot()?;
-    for stored in delta.pages() {
-        let slot = stored.slot();
-        if slot < after.len() {
-            let page = stored.written(after.page(slot));
-            after.replace(slot, page)?;
-        }
-    }
-    *table = after;
+    *table = committed(table, delta)?;
     Ok(())
 }
 

@@ -19,7 +19,7 @@ use super::put::put_bytes;
 use super::setup::Setup;
 use super::start::{memory_of, pages_of};
 use machine_spec::{End, Status};
-use page_commit::commit;
+use page_commit::committed;
 use page_map::PageMap;
 use page_store::PageTable;
 use rv_alu::Regs;
@@ -297,8 +297,7 @@ fn prepare(
     ensures views { IfOk result (λ p. AreViewsOf (arc_value p.memory) p.views.items) }
     ensures enough { IfOk result (λ p. 34 ≤ vec_len p.views) }
 {
-    let mut table = memory.snapshot()?;
-    commit(&mut table, rec.delta())?;
+    let table = committed(memory, rec.delta())?;
     let memory = match Arc::new(alloc, table) {
         Ok(memory) => memory,
         Err(_) => return Err(AllocError),

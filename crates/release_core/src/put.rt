@@ -6,7 +6,7 @@ ghost use Rattle.memory_spec.specs.Pages.{slot_of, page_of};
 ghost use Rattle.thunk_spec.specs.Put.{byte_at, bytes_at, is_readable};
 ghost use Rattle.record_spec.specs.Record.{put_of};
 
-use page_commit::commit;
+use page_commit::committed;
 use page_map::PageMap;
 use page_store::PageTable;
 use std::alloc::{AllocError, Global};
@@ -56,7 +56,9 @@ pub fn put_bytes(
     ensures { IfOk result (λ bytes. bytes.items ≡ put_of map.now view.now rec.now.kept) }
 {
     let range = put_range(map, rec.end(), rec.finish());
-    let mut table = view.snapshot()?;
-    commit(&mut table, rec.delta())?;
+    if range.len == 0 {
+        return Ok(Vec::new(alloc));
+    }
+    let table = committed(view, rec.delta())?;
     bytes_of(alloc, map, &table, range)
 }
