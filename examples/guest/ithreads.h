@@ -21,8 +21,9 @@
    A thread sees what others stored only from its next call that returns; and what it stored, others see only after its next call. So
    shared data needs no volatile: each call tells the compiler that all memory may have changed.
 
-   What is reused after an edit of the input is a step: what a thread executes from one call to the next. It is reused where the thread's 32
-   registers at its start are as they were, and each page from which it loads or fetches has the bytes that it had. Hence
+   What is reused after an edit of the input is a step: what a thread executes from one call to the next. It is reused where the thread's
+   registers at its start, with the pc, are as they were, and each page from which it loads, fetches or puts out has the bytes that it had.
+   docs/GUESTS.md says what follows from that, and what it is worth. In short,
 
    - what belongs to one block of the work has a page of its own (IT_PAGE_ALIGNED), and a call (it_yield) stands between two blocks;
    - a block is a function of its own (IT_NOINLINE), so that no register carries anything from it into the next block;
