@@ -55,32 +55,6 @@ laid-parts m r memory written_harts done objects put output steps ending a is_me
     (sym (done-parts (written m r.thread (masked m.memory r.kept.delta) r.kept.finish (put_of m.frame.map (hart_of m r.thread).view r.kept)) r.thread
     (asked r.thread r.kept.end r.kept.finish)))
 
-length-spread : (mask : List Bool) (bytes page : List ℕ) → length (spread mask bytes page) ≡ length page
-length-spread [] bytes page = refl
-length-spread (m ∷ mask) bytes [] = refl
-length-spread (false ∷ mask) bytes (b ∷ page) = ap suc (length-spread mask bytes page)
-length-spread (true ∷ mask) [] (b ∷ page) = refl
-length-spread (true ∷ mask) (w ∷ bytes) (b ∷ page) = ap suc (length-spread mask bytes page)
-
-abbrev IsPage : List ℕ → Type 0
-IsPage bytes = length bytes ≡ 4096
-
-pages-spread :
-    (m : Memory) (k : ℕ) (mask : List Bool) (bytes : List ℕ)
-    → AllByRecursion IsPage m → AllByRecursion IsPage (set m k (spread mask bytes (page_of m k)))
-pages-spread [] k mask bytes all = tt
-pages-spread (p ∷ m) zero mask bytes all = (length-spread mask bytes p ∙ all.0, all.1)
-pages-spread (p ∷ m) (suc k) mask bytes all = (all.0, pages-spread m k mask bytes all.1)
-
-masked-shape :
-    (delta : List PageDelta) (m : Memory)
-    → AllByRecursion IsPage m
-    → (length (masked m delta) ≡ length m) × AllByRecursion IsPage (masked m delta)
-masked-shape [] m all = (refl, all)
-masked-shape (d ∷ delta) m all =
-    let next = masked-shape delta (set m d.slot (spread d.mask d.bytes (page_of m d.slot))) (pages-spread m d.slot d.mask d.bytes all) in
-    (next.0 ∙ length-set m d.slot (spread d.mask d.bytes (page_of m d.slot)), next.1)
-
 -- as many pages as before
 pub masked_count : (m : Memory) (delta : List PageDelta) → length (masked m delta) ≡ length m
 masked_count m [] = refl
@@ -95,19 +69,6 @@ pub no_byte :
 no_byte map table address count past =
     let none : page_of table (slot_of map address) ≡ [] = get_or_past table (slot_of map address) [] (omega arith) in
     rw none refl
-
--- written bytes leave a memory of the map one
-pub IsMemory-masked : (map : List Mapped) (m : Memory) (delta : List PageDelta) → IsMemory map m → IsMemory map (masked m delta)
-IsMemory-masked map m delta whole =
-    let shape = masked-shape delta m (recursion_from_All IsPage m whole.pages) in
-    record { count = shape.0 ∙ whole.count; pages = All-from_recursion IsPage (masked m delta) shape.1 }
-
--- what holds of machines holds after a record was laid
-pub lay-whole : (m : Machine) (r : Record) → IsWhole m → can_step m r.thread ≡ true → IsWhole (lay m r)
-unfolding lay
-lay-whole m r whole can =
-    finished-whole m r.thread (masked m.memory r.kept.delta) r.kept.finish r.kept.end (put_of m.frame.map (hart_of m r.thread).view r.kept) whole can
-    (IsMemory-masked m.frame.map m.memory r.kept.delta whole.memory)
 
 -- a record that fits is of a ready thread
 pub fitting_can : (m : Machine) (r : Record) → fits m r ≡ true → is_ready (hart_of m r.thread).status ≡ true

@@ -8,7 +8,8 @@ use Rattle.machine_spec.specs.Step as step
 use Rattle.machine_spec.specs.Whole.{IsWhole}
 use Rattle.machine_spec.proofs.Tied.{tied-written}
 use Rattle.release_core.specs.Doing.{harts_after, objects_after, ending_after}
-use Rattle.release_core.proofs.Laying.{laid-parts, lay-whole}
+use Rattle.history_spec.proofs.Laying.{lay-whole}
+use Rattle.release_core.proofs.Laying.{laid-parts}
 use Rattle.release_core.proofs.core_machine.Core.lay.Goals as goal
 
 -- the machine before, by its parts
