@@ -78,9 +78,9 @@ module _ {X Y : Type 0} (f : Y → List X) where
       → HasOneMore count now x (items ++ z ∷ [])
   begun count items now z x is view whole made = record {
     grouped =
-      subst (AreGroupsOf (count + 1)) (ap (λ group. map f items ++ group ∷ []) (sym made) ∙ sym (map_push f items z))
-      (are_groups-push count (map f items) x is whole);
-    pages = ap joined (map_push f items z) ∙ joined-push (map f items) (f z) ∙ ap (λ pages. pages ++ f z) view ∙ ap (λ group. now ++ group) made
+        subst (AreGroupsOf (count + 1)) (ap (λ group. map f items ++ group ∷ []) (sym made) ∙ sym (map_push f items z))
+        (are_groups-push count (map f items) x is whole);
+    pages = ap joined (map_push f items z) ∙ joined-push (map f items) (f z) ∙ ap (λ pages. pages ++ f z) view ∙ ap (λ group. now ++ group) made;
   }
 
   -- the last group, where it isn't full
@@ -94,15 +94,15 @@ module _ {X Y : Type 0} (f : Y → List X) where
       → HasOneMore count now x (set items (count / 32) z)
   extended count items now y z x is view some read made =
       let made_is : f z ≡ get_or (map f items) (count / 32) [] ++ x ∷ [] =
-          made ∙ ap (λ group. group ++ x ∷ []) (sym (group_read items (count / 32) y (last_of count items is some) read)) in
+      made ∙ ap (λ group. group ++ x ∷ []) (sym (group_read items (count / 32) y (last_of count items is some) read)) in
       record {
         grouped =
-          subst (AreGroupsOf (count + 1))
-          (ap (λ group. set (map f items) (count / 32) group) (sym made_is) ∙ sym (map-set f items (count / 32) z))
-          (are_groups-extended count (count / 32) (count % 32) (map f items) x is some (omega arith) (omega arith));
+            subst (AreGroupsOf (count + 1))
+            (ap (λ group. set (map f items) (count / 32) group) (sym made_is) ∙ sym (map-set f items (count / 32) z))
+            (are_groups-extended count (count / 32) (count % 32) (map f items) x is some (omega arith) (omega arith));
         pages =
-          ap joined (map-set f items (count / 32) z)
-          ∙ ap (λ group. joined (set (map f items) (count / 32) group)) made_is
-          ∙ joined-extended count (count / 32) (count % 32) (map f items) x is some (omega arith) (omega arith)
-          ∙ ap (λ pages. pages ++ x ∷ []) view
+            ap joined (map-set f items (count / 32) z)
+            ∙ ap (λ group. joined (set (map f items) (count / 32) group)) made_is
+            ∙ joined-extended count (count / 32) (count % 32) (map f items) x is some (omega arith) (omega arith)
+            ∙ ap (λ pages. pages ++ x ∷ []) view;
       }

@@ -68,7 +68,12 @@ impl Group {
     /// # Errors
     ///
     /// An error where the host's memory ran out, or a page has as many holders as can be counted.
-    pub fn with_page(&self, alloc: Global, place: usize, page: Arc<Page>) -> Result<Group, AllocError>
+    pub fn with_page(
+        &self,
+        alloc: Global,
+        place: usize,
+        page: Arc<Page>,
+    ) -> Result<Group, AllocError>
         requires { place < length self.now }
         ensures { IfOk result (λ group. group ≡ slice_set self.now place (arc_value page)) }
     {
@@ -92,7 +97,11 @@ impl Group {
 }
 
 /// These pages again, in a list with room for so many.
-fn shared_pages(alloc: Global, pages: &[Arc<Page>], room: usize) -> Result<Vec<Arc<Page>>, AllocError>
+fn shared_pages(
+    alloc: Global,
+    pages: &[Arc<Page>],
+    room: usize,
+) -> Result<Vec<Arc<Page>>, AllocError>
     ensures { IfOk result (λ shared. map arc_value shared.items ≡ map arc_value pages.now) }
 {
     let mut shared = Vec::with_capacity(alloc, room)?;

@@ -24,16 +24,16 @@ pub invariant_of-self : goal.invariant_of-self
 invariant_of-self c =
     let t = c.self.inside in
     let made : arc_value c.in_ok-group-2.group ≡ set (arc_value c.index.result.now) (c.args.slot % 32) c.args.page =
-        c.in_ok-group-2.ensures.ok ∙ c.in_ok-group.ensures ∙ rw (c.deref.ensures, c.in_ok-shared.ensures.ok) refl in
+    c.in_ok-group-2.ensures.ok ∙ c.in_ok-group.ensures ∙ rw (c.deref.ensures, c.in_ok-shared.ensures.ok) refl in
     let pages = pages-set arc_value t.count c.args.slot t.groups.items c.args.self.now c.index.result.now c.in_ok-group-2.group c.args.page c.self.invariant.grouped c.self.view_is c.requires c.index.ensures made in
     record {
       grouped = groups-set arc_value t.count c.args.slot t.groups.items c.args.self.now c.index.result.now c.in_ok-group-2.group c.args.page c.self.invariant.grouped c.self.view_is c.requires c.index.ensures made;
-      pages = rw (pages, ← c.self.view_is) (All-set (λ (page : List ℕ). length page ≡ 4096) _ c.args.slot c.args.page c.bytes.ensures.whole c.self.invariant.pages)
+      pages = rw (pages, ← c.self.view_is) (All-set (λ (page : List ℕ). length page ≡ 4096) _ c.args.slot c.args.page c.bytes.ensures.whole c.self.invariant.pages);
     }
 
 pub returns-clause-ok : goal.returns-clause-ok
 returns-clause-ok c =
     let t = c.self.inside in
     let made : arc_value c.in_ok-group-2.group ≡ set (arc_value c.index.result.now) (c.args.slot % 32) c.args.page =
-        c.in_ok-group-2.ensures.ok ∙ c.in_ok-group.ensures ∙ rw (c.deref.ensures, c.in_ok-shared.ensures.ok) refl in
+    c.in_ok-group-2.ensures.ok ∙ c.in_ok-group.ensures ∙ rw (c.deref.ensures, c.in_ok-shared.ensures.ok) refl in
     pages-set arc_value t.count c.args.slot t.groups.items c.args.self.now c.index.result.now c.in_ok-group-2.group c.args.page c.self.invariant.grouped c.self.view_is c.requires c.index.ensures made
