@@ -1,5 +1,5 @@
 -- A slot of a table, found in its list of shared groups.
-use Rattle.std.proofs.Common.{◌≡◌, ℕ, ◌+◌, ◌-◌, ◌*◌, ◌/◌, ◌%◌, ◌<◌, List, [], ◌∷◌, ◌++◌, length, map, get_or, set, refl, ap, sym, subst, ◌∙◌, arith}
+use Rattle.std.proofs.Common.{◌≡◌, ℕ, ◌+◌, ◌*◌, ◌/◌, ◌%◌, ◌<◌, List, [], ◌∷◌, ◌++◌, length, map, get_or, set, ap, sym, subst, ◌∙◌, arith}
 use Rattle.std.proofs.lemmas.List.{get_or-map, map-set, map_push, length-map, length-set}
 use Rattle.page_store.specs.Groups.{joined, AreGroupsOf}
 use Rattle.page_store.proofs.Groups.{length-joined, place_at, get_or-joined, joined-set, are_groups-set, joined-push, are_groups-push, last_group, joined-extended, are_groups-extended}

@@ -1,4 +1,4 @@
-use Rattle.std.proofs.Common.{◌≡◌, ap, set, map, ◌∙◌}
+use Rattle.std.proofs.Common.{ap, set, map, ◌∙◌}
 use Rattle.std.proofs.lemmas.List.{map-set}
 use Rattle.std.specs.Arc.{arc_value}
 use Rattle.page_store.proofs.group.Group.with_page.Goals as goal

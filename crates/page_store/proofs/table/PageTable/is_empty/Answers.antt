@@ -1,4 +1,4 @@
-use Rattle.std.proofs.Common.{◌≡◌, ◌==◌, ap}
+use Rattle.std.proofs.Common.{◌==◌, ap}
 use Rattle.std.specs.Arc.{arc_value}
 use Rattle.page_store.proofs.Places.{count_is}
 use Rattle.page_store.proofs.table.PageTable.is_empty.Goals as goal

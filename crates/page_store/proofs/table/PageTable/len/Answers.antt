@@ -1,4 +1,3 @@
-use Rattle.std.proofs.Common.{◌≡◌}
 use Rattle.std.specs.Arc.{arc_value}
 use Rattle.page_store.proofs.Places.{count_is}
 use Rattle.page_store.proofs.table.PageTable.len.Goals as goal

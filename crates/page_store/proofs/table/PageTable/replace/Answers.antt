@@ -1,4 +1,4 @@
-use Rattle.std.proofs.Common.{◌≡◌, ◌<◌, List, ℕ, length, set, refl, ◌∙◌, ◌%◌, arith}
+use Rattle.std.proofs.Common.{◌≡◌, List, ℕ, length, set, refl, ◌∙◌, ◌%◌, arith}
 use Rattle.std.proofs.lemmas.List.Elements.{All-set}
 use Rattle.std.specs.Arc.{arc_value}
 use Rattle.page_store.proofs.Places.{group_of, place_of, pages-set, groups-set}

@@ -1,4 +1,4 @@
-use Rattle.std.proofs.Common.{◌≡◌, ◌<◌, [], ◌∙◌, arith}
+use Rattle.std.proofs.Common.{[], arith}
 use Rattle.std.specs.Arc.{arc_value}
 use Rattle.page_store.proofs.Places.{group_of, place_of, page_at}
 use Rattle.page_store.proofs.table.PageTable.share.Goals as goal
