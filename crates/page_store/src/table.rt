@@ -175,6 +175,7 @@ impl PageTable {
         ensures err { OnErr result (self.new ≡ self.old) }
     {
         page.bytes();
+        // No host has the memory for so many pointers that their number is no `usize`.
         let count = self.count.checked_add(1).ok_or(AllocError)?;
         if self.count % GROUP_SIZE == 0 {
             let group = Arc::new(self.alloc, Group::of_one(self.alloc, page)?)?;

@@ -41,7 +41,6 @@ invariant_of-self-2 c =
 pub returns-clause-ok : goal.returns-clause-ok
 returns-clause-ok c =
     let t = c.self.inside in
-    let more : c.in_ok-count.count ≡ t.count + 1 = (rw c.in_ok-count.ensures.ok_part at c.checked_add.ensures).1 in
     let next : HasOneMore arc_value t.count c.args.self.now (arc_value c.args.page) c.if-self-eq0.self-inside.groups.items =
     elim c.if-self-eq0.branch [
       | then-self-eq0+in_ok-of_one+in_ok-group+in_ok-push w ↦
