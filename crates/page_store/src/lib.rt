@@ -1,6 +1,7 @@
 //! Pages of 4,096 bytes, and tables of pages that share them.
 #![tactic(auto)]
 
+mod group;
 mod page;
 mod table;
 

@@ -4,27 +4,33 @@ ghost use Rattle.std.specs.Prelude.{◌≡◌, ◌==◌, ◌<◌, [], ◌∷◌,
 ghost use Rattle.std.specs.Arc.{arc_value};
 ghost use Rattle.memory_spec.specs.Pages.{page_of};
 
+use super::group::{GROUP_SIZE, Group};
 use super::page::Page;
 use std::alloc::{AllocError, Global};
 use std::marker::Model;
 use std::sync::Arc;
 
 /// Pages by slot, which several tables may share. A clause sees the list of their bytes.
+///
+/// The pages stand in groups of 32, all full but the last, and the tables share whole groups: a snapshot copies one
+/// pointer a group, and a change of a page makes the group anew that has it.
 #[derive(Drop)]
 pub struct PageTable {
     alloc: Global,
-    pages: Vec<Arc<Page>>,
+    count: usize,
+    groups: Vec<Arc<Group>>,
 }
 
 impl Model for PageTable {
-    ghost use Rattle.std.specs.Prelude.{◌≡◌, ℕ, List, All, length, map};
+    ghost use Rattle.std.specs.Prelude.{ℕ, List, map};
     ghost use Rattle.std.specs.Arc.{arc_value};
+    ghost use Rattle.page_store.specs.Groups.{joined, IsTable};
 
     ghost Value = { List (List ℕ) };
 
-    ghost view = { λ t. map arc_value t.pages.items };
+    ghost view = { λ t. joined (map arc_value t.groups.items) };
 
-    ghost invariant = { λ t. All (λ page. length page ≡ 4096) (map arc_value t.pages.items) };
+    ghost invariant = { λ t. IsTable t.count (map arc_value t.groups.items) };
 }
 
 impl PageTable {
@@ -34,18 +40,24 @@ impl PageTable {
     {
         PageTable {
             alloc,
-            pages: Vec::new(alloc),
+            count: 0,
+            groups: Vec::new(alloc),
         }
     }
 
     /// The table of these pages, each in its place. No byte is copied.
-    pub fn new(alloc: Global, pages: Vec<Arc<Page>>) -> PageTable
-        ensures { result ≡ map arc_value pages.items }
+    ///
+    /// # Errors
+    ///
+    /// An error where the host's memory ran out, or a page has as many holders as can be counted.
+    pub fn new(alloc: Global, pages: Vec<Arc<Page>>) -> Result<PageTable, AllocError>
+        ensures { IfOk result (λ table. table ≡ map arc_value pages.items) }
     {
+        let mut table = PageTable::empty(alloc);
         for page in &pages {
-            page.bytes();
+            table.push_shared(page)?;
         }
-        PageTable { alloc, pages }
+        Ok(table)
     }
 
     /// How many pages there are.
@@ -53,14 +65,14 @@ impl PageTable {
     pub fn len(&self) -> usize
         ensures { result ≡ length self.now }
     {
-        self.pages.len()
+        self.count
     }
 
     /// Whether there is no page.
     pub fn is_empty(&self) -> bool
         ensures { result ≡ (length self.now == 0) }
     {
-        self.pages.is_empty()
+        self.count == 0
     }
 
     /// Each page has 4,096 bytes: what a caller learns of any table.
@@ -68,7 +80,7 @@ impl PageTable {
     pub fn whole(&self)
         ensures { All (λ page. length page ≡ 4096) self.now }
     {
-        let _pages = &self.pages;
+        let _groups = &self.groups;
     }
 
     /// The page in a slot.
@@ -77,7 +89,7 @@ impl PageTable {
         requires { slot < length self.now }
         ensures { result.now ≡ page_of self.now slot }
     {
-        &self.pages[slot]
+        self.groups[slot / GROUP_SIZE].page(slot % GROUP_SIZE)
     }
 
     /// The page in a slot, to be kept beside this table. No byte is copied.
@@ -90,7 +102,7 @@ impl PageTable {
         requires { slot < length self.now }
         ensures { IfOk result (λ page. arc_value page ≡ page_of self.now slot) }
     {
-        Arc::try_clone(&self.pages[slot])
+        self.groups[slot / GROUP_SIZE].share(slot % GROUP_SIZE)
     }
 
     /// Puts a page into the next slot.
@@ -102,10 +114,8 @@ impl PageTable {
         ensures ok { OnOk result (self.new ≡ self.old ++ page ∷ []) }
         ensures err { OnErr result (self.new ≡ self.old) }
     {
-        page.bytes();
         let shared = Arc::new(self.alloc, page)?;
-        self.pages.push(shared)?;
-        Ok(())
+        self.push_owned(shared)
     }
 
     /// Puts a page that others hold too into the next slot. No byte is copied.
@@ -117,10 +127,8 @@ impl PageTable {
         ensures ok { OnOk result (self.new ≡ self.old ++ arc_value page.now ∷ []) }
         ensures err { OnErr result (self.new ≡ self.old) }
     {
-        page.bytes();
         let shared = Arc::try_clone(page)?;
-        self.pages.push(shared)?;
-        Ok(())
+        self.push_owned(shared)
     }
 
     /// A table of the same pages, which later changes of this one don't touch. No byte is copied.
@@ -131,13 +139,14 @@ impl PageTable {
     pub fn snapshot(&self) -> Result<PageTable, AllocError>
         ensures { IfOk result (λ table. table ≡ self.now) }
     {
-        let mut pages = Vec::with_capacity(self.alloc, self.pages.len())?;
-        for page in &self.pages {
-            pages.push(Arc::try_clone(page)?)?;
+        let mut groups = Vec::with_capacity(self.alloc, self.groups.len())?;
+        for group in &self.groups {
+            groups.push(Arc::try_clone(group)?)?;
         }
         Ok(PageTable {
             alloc: self.alloc,
-            pages,
+            count: self.count,
+            groups,
         })
     }
 
@@ -153,7 +162,31 @@ impl PageTable {
     {
         page.bytes();
         let shared = Arc::new(self.alloc, page)?;
-        self.pages[slot] = shared;
+        let number = slot / GROUP_SIZE;
+        let group = self.groups[number].with_page(self.alloc, slot % GROUP_SIZE, shared)?;
+        let group = Arc::new(self.alloc, group)?;
+        self.groups[number] = group;
+        Ok(())
+    }
+
+    // Puts a page into the next slot: the last group with one more, or a group of its own.
+    fn push_owned(&mut self, page: Arc<Page>) -> Result<(), AllocError>
+        ensures ok { OnOk result (self.new ≡ self.old ++ arc_value page ∷ []) }
+        ensures err { OnErr result (self.new ≡ self.old) }
+    {
+        page.bytes();
+        // No host has the memory for so many pointers that their number is no `usize`.
+        let count = self.count.checked_add(1).ok_or(AllocError)?;
+        if self.count % GROUP_SIZE == 0 {
+            let group = Arc::new(self.alloc, Group::of_one(self.alloc, page)?)?;
+            self.groups.push(group)?;
+        } else {
+            let last = self.count / GROUP_SIZE;
+            let group = self.groups[last].with_one_more(self.alloc, page)?;
+            let group = Arc::new(self.alloc, group)?;
+            self.groups[last] = group;
+        }
+        self.count = count;
         Ok(())
     }
 }

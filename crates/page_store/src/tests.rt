@@ -1,7 +1,8 @@
 //! A snapshot keeps its pages.
 
 use super::{PAGE_SIZE, Page, PageTable};
-use std::alloc::AllocError;
+use std::alloc::{AllocError, Global};
+use std::sync::Arc;
 
 #[test]
 fn snapshot_keeps_the_old_page(rt: HostRuntime) -> Result<(), AllocError> {
@@ -15,5 +16,69 @@ fn snapshot_keeps_the_old_page(rt: HostRuntime) -> Result<(), AllocError> {
     assert!(rt; table.page(0).is_same(before.page(0)));
     let shared = table.share(1)?;
     assert_eq!(rt; shared.get(0), 9);
+    Ok(())
+}
+
+/// A table of 100 pages, each filled with its slot: three groups of 32 and one of 4.
+fn numbered(alloc: Global) -> Result<PageTable, AllocError> {
+    let mut table = PageTable::empty(alloc);
+    for slot in 0..100u8 {
+        table.push(Page::new([slot; PAGE_SIZE]))?;
+    }
+    Ok(table)
+}
+
+#[test]
+fn replace_in_each_group_leaves_the_snapshot(rt: HostRuntime) -> Result<(), AllocError> {
+    let mut table = numbered(rt.alloc())?;
+    let before = table.snapshot()?;
+    assert!(rt; table.len() == 100);
+    // The first and the last place of a full group, the first of the next, and the last page of all.
+    table.replace(0, Page::new([200; PAGE_SIZE]))?;
+    table.replace(31, Page::new([201; PAGE_SIZE]))?;
+    table.replace(32, Page::new([202; PAGE_SIZE]))?;
+    table.replace(99, Page::new([203; PAGE_SIZE]))?;
+    assert_eq!(rt; before.len(), 100);
+    for slot in 0..100usize {
+        let now = match slot {
+            0 => 200,
+            31 => 201,
+            32 => 202,
+            99 => 203,
+            _ => slot as u8,
+        };
+        assert!(rt; slot < table.len());
+        assert!(rt; slot < before.len());
+        assert_eq!(rt; table.page(slot).get(0), now);
+        assert_eq!(rt; before.page(slot).get(0), slot as u8);
+    }
+    Ok(())
+}
+
+#[test]
+fn push_behind_a_snapshot_leaves_it(rt: HostRuntime) -> Result<(), AllocError> {
+    let mut table = numbered(rt.alloc())?;
+    let before = table.snapshot()?;
+    let page = Arc::new(rt.alloc(), Page::new([250; PAGE_SIZE]))?;
+    table.push_shared(&page)?;
+    assert_eq!(rt; before.len(), 100);
+    assert_eq!(rt; table.len(), 101);
+    assert!(rt; table.len() > 100);
+    assert_eq!(rt; table.page(100).get(4095), 250);
+    assert_eq!(rt; table.page(99).get(4095), 99);
+    Ok(())
+}
+
+#[test]
+fn new_keeps_each_page_in_its_place(rt: HostRuntime) -> Result<(), AllocError> {
+    let mut pages = Vec::new(rt.alloc());
+    for slot in 0..33u8 {
+        pages.push(Arc::new(rt.alloc(), Page::new([slot; PAGE_SIZE]))?)?;
+    }
+    let table = PageTable::new(rt.alloc(), pages)?;
+    assert_eq!(rt; table.len(), 33);
+    assert!(rt; table.len() > 32);
+    assert_eq!(rt; table.page(31).get(0), 31);
+    assert_eq!(rt; table.page(32).get(0), 32);
     Ok(())
 }

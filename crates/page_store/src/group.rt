@@ -1,0 +1,112 @@
+//! A group of pages, which tables share as a whole.
+
+ghost use Rattle.std.specs.Prelude.{◌≡◌, ◌<◌, [], ◌∷◌, ◌++◌, length, map, slice_set, IfOk};
+ghost use Rattle.std.specs.Arc.{arc_value};
+ghost use Rattle.memory_spec.specs.Pages.{page_of};
+
+use super::page::Page;
+use std::alloc::{AllocError, Global};
+use std::marker::Model;
+use std::sync::Arc;
+
+/// How many pages a full group has: a power of two, so that a slot's group is a shift and its place a mask.
+pub const GROUP_SIZE: usize = 32;
+
+/// Some pages that follow one another. It never changes: another group is made in its place. A clause sees the list of their bytes.
+#[derive(Drop)]
+pub struct Group {
+    pages: Vec<Arc<Page>>,
+}
+
+impl Model for Group {
+    ghost use Rattle.std.specs.Prelude.{ℕ, List, map};
+    ghost use Rattle.std.specs.Arc.{arc_value};
+
+    ghost Value = { List (List ℕ) };
+
+    ghost view = { λ g. map arc_value g.pages.items };
+}
+
+impl Group {
+    /// A group of one page.
+    ///
+    /// # Errors
+    ///
+    /// An error where the host's memory ran out.
+    pub fn of_one(alloc: Global, page: Arc<Page>) -> Result<Group, AllocError>
+        ensures { IfOk result (λ group. group ≡ arc_value page ∷ []) }
+    {
+        let mut pages = Vec::with_capacity(alloc, 1)?;
+        pages.push(page)?;
+        Ok(Group { pages })
+    }
+
+    /// The page in a place.
+    #[inline(always)]
+    pub fn page(&self, place: usize) -> &Page
+        requires { place < length self.now }
+        ensures { result.now ≡ page_of self.now place }
+    {
+        &self.pages[place]
+    }
+
+    /// The page in a place, to be kept beside this group.
+    ///
+    /// # Errors
+    ///
+    /// An error where the page has as many holders as can be counted.
+    #[inline(always)]
+    pub fn share(&self, place: usize) -> Result<Arc<Page>, AllocError>
+        requires { place < length self.now }
+        ensures { IfOk result (λ page. arc_value page ≡ page_of self.now place) }
+    {
+        Arc::try_clone(&self.pages[place])
+    }
+
+    /// A group of the same pages with another one in a place. No byte is copied.
+    ///
+    /// # Errors
+    ///
+    /// An error where the host's memory ran out, or a page has as many holders as can be counted.
+    pub fn with_page(
+        &self,
+        alloc: Global,
+        place: usize,
+        page: Arc<Page>,
+    ) -> Result<Group, AllocError>
+        requires { place < length self.now }
+        ensures { IfOk result (λ group. group ≡ slice_set self.now place (arc_value page)) }
+    {
+        let mut pages = shared_pages(alloc, &self.pages, self.pages.len())?;
+        pages[place] = page;
+        Ok(Group { pages })
+    }
+
+    /// A group of the same pages and one more behind them. No byte is copied.
+    ///
+    /// # Errors
+    ///
+    /// An error where the host's memory ran out, or a page has as many holders as can be counted.
+    pub fn with_one_more(&self, alloc: Global, page: Arc<Page>) -> Result<Group, AllocError>
+        ensures { IfOk result (λ group. group ≡ self.now ++ arc_value page ∷ []) }
+    {
+        let mut pages = shared_pages(alloc, &self.pages, self.pages.len() + 1)?;
+        pages.push(page)?;
+        Ok(Group { pages })
+    }
+}
+
+/// These pages again, in a list with room for so many.
+fn shared_pages(
+    alloc: Global,
+    pages: &[Arc<Page>],
+    room: usize,
+) -> Result<Vec<Arc<Page>>, AllocError>
+    ensures { IfOk result (λ shared. map arc_value shared.items ≡ map arc_value pages.now) }
+{
+    let mut shared = Vec::with_capacity(alloc, room)?;
+    for page in pages {
+        shared.push(Arc::try_clone(page)?)?;
+    }
+    Ok(shared)
+}
