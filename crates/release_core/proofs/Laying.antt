@@ -1,27 +1,17 @@
 -- Laying a record, part by part.
-use Rattle.std.proofs.Common.{◌≡◌, ℕ, zero, suc, Bool, true, false, eqb, List, [], ◌∷◌, ◌++◌, Option, length, set, refl, ap, sym, ◌∙◌, arith}
-use Rattle.std.proofs.lemmas.Bool.{eq-eqb, and_parts}
+use Rattle.std.proofs.Common.{◌≡◌, ℕ, suc, true, List, [], ◌∷◌, ◌++◌, Option, length, set, refl, sym, ◌∙◌, arith}
+use Rattle.std.proofs.lemmas.Bool.{and_parts}
 use Rattle.std.proofs.lemmas.List.{length-set, get_or_past}
-use Rattle.std.proofs.lemmas.List.Elements.{recursion_from_All, All-from_recursion}
-use Rattle.std.proofs.lemmas.Slice.Eq.{bytes_eq-Decides}
-use Rattle.std.specs.List.{AllByRecursion}
-use Rattle.std.specs.Str.{bytes_eq}
-use Rattle.memory_spec.specs.Pages.{Mapped, Memory, IsMemory, page_of, slot_of}
+use Rattle.memory_spec.specs.Pages.{Mapped, Memory, page_of, slot_of}
 use Rattle.thunk_spec.specs.Put.{byte_at}
 use Rattle.record_spec.specs.Delta.{PageDelta, spread, masked}
-use Rattle.record_spec.specs.Reads.{has}
-use Rattle.record_spec.specs.Record.{Record, kept_thunk, put_of, fits_at, same_registers}
-use Rattle.record_spec.proofs.Truth.{has-kept}
-use Rattle.isa_spec.specs.Registers.{Registers}
+use Rattle.record_spec.specs.Record.{Record, put_of}
 use Rattle.guest_call.specs.Objects.{Objects}
-use Rattle.thunk_spec.specs.Thunk.{Frame, thunk}
 use Rattle.machine_spec.specs.declared.states.End.{End}
 use Rattle.machine_spec.specs.Machine.{Machine, Hart, hart_of, is_ready}
 use Rattle.machine_spec.specs.declared.states.Asked.{Asked}
 use Rattle.machine_spec.specs.declared.states.Asked.TheVariants.{Asks, Stops}
-use Rattle.machine_spec.specs.Step.{written, asked, done_as_asked, finished, lay, fits, can_step}
-use Rattle.machine_spec.specs.Whole.{IsWhole}
-use Rattle.machine_spec.proofs.Steps.{finished-whole}
+use Rattle.machine_spec.specs.Step.{written, asked, done_as_asked, finished, lay, fits}
 use Rattle.release_core.specs.Doing.{harts_after, objects_after, ending_after}
 
 -- what was asked is done part by part
