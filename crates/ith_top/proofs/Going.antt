@@ -1,7 +1,5 @@
 -- Rounds on their way: those that were made were printed, and the rest is to come.
-use Rattle.std.proofs.Common.{◌≡◌, ◌+◌, ℕ, zero, suc, Bool, true, false, ◌&&◌, List, [], ◌∷◌, ◌++◌, length, take, map, slice_get, Option, Some, None, Vec, refl, ap, sym, subst, ◌∙◌, append_assoc, arith}
-use Rattle.std.specs.Global.{Global}
-use Rattle.round_inputs.specs.Lists.{bytes_of_each}
+use Rattle.std.proofs.Common.{◌≡◌, ◌+◌, ◌≤◌, ℕ, Bool, true, false, ◌&&◌, List, [], ◌∷◌, ◌++◌, length, take, map, slice_get, Option, Some, None, refl, ap, sym, subst, ◌∙◌, append_assoc, arith}
 use Rattle.std.specs.List.{concat, list_all}
 use Rattle.std.specs.Io.KnownBytes.{Appends}
 use Rattle.std.proofs.lemmas.List.{append-nil, map_push, map-append}
@@ -9,14 +7,13 @@ use Rattle.std.proofs.lemmas.List.Folds.{list_all-append}
 use Rattle.std.specs.List.{AllByRecursion}
 use Rattle.machine_spec.specs.Setup.{Setup, IsSetup}
 use Rattle.history_spec.specs.History.{History}
-use Rattle.rerun_spec.specs.Inputs.{AreInputs}
 use Rattle.rerun_spec.specs.Rounds.{Round, IsRound, round_on, rounds_from, rounds_of, left_by}
 use Rattle.rerun_spec.specs.Reports.{report_of, reports_of, exits, all_exit}
 use Rattle.rerun_spec.proofs.Rounds.{each-round}
 use Rattle.ith_host.specs.World.{World, NoneFell, Stays}
 use Rattle.ith_top.specs.declared.status.Status.{Status}
 use Rattle.ith_top.specs.declared.status.Status.TheVariants as status
-use Rattle.ith_top.specs.Ends.{Prints, IsPrintedInPart}
+use Rattle.ith_top.specs.Ends.{Prints}
 use Rattle.ith_top.specs.Refusals.{WhyUnprinted, WhyCutShort}
 use Rattle.ith_top.specs.Playing.{AreMadeByLists}
 use Rattle.ith_top.proofs.Worlds.{none_fell_trans, rose_before}
@@ -79,10 +76,10 @@ all-behind : (P : Round → Type 0) (front back : List Round) → AllByRecursion
 all-behind P [] back all = all
 all-behind P (x ∷ front) back all = all-behind P front back all.1
 
--- no inputs are left
-pub no_items : (inputs : List (Vec ℕ Global)) (count : ℕ) → count ≡ length inputs → count ≡ 0 → bytes_of_each inputs ≡ []
-no_items [] count is none = refl
-no_items (x ∷ inputs) count is none = let no : ⊥ = omega arith in absurd no
+-- of as many inputs as rounds are to come none is left after the last
+pub none_left : (rest : List (List ℕ)) (number all : ℕ) → number + length rest ≡ all → all ≤ number → rest ≡ []
+none_left [] number all count past = refl
+none_left (input ∷ rest) number all count past = let no : ⊥ = omega arith in absurd no
 
 -- before the first round
 pub going_start :

@@ -18,7 +18,7 @@ use super::status::Status;
 use elf_load::LoadError;
 use ith_host::Host;
 use release_core::Setup;
-use round_inputs::{InputsError, inputs_of};
+use round_inputs::{Inputs, InputsError, inputs_of};
 use std::alloc::Global;
 
 /// What a line runs.
@@ -26,8 +26,8 @@ use std::alloc::Global;
 pub struct Plan {
     /// The setup of its first round.
     pub setup: Setup,
-    /// The input of each round, in order.
-    pub inputs: Vec<Vec<u8>>,
+    /// The inputs of its rounds, in order, each made when the one before it is taken out.
+    pub inputs: Inputs,
 }
 
 /// Makes a setup of what was read, with the limits of a line.
@@ -67,8 +67,8 @@ fn edit<H: Host>(
     first: &[u8],
     lists: &[Vec<u8>],
     names: &[&str],
-) -> Result<Vec<Vec<u8>>, Status>
-    ensures inputs { IfOk result (λ inputs. AreInputs first.now (bytes_of_each lists.now) (bytes_of_each inputs.items)) }
+) -> Result<Inputs, Status>
+    ensures inputs { IfOk result (λ inputs. AreInputs first.now (bytes_of_each lists.now) inputs) }
     ensures refused { IfErr result (λ status. WhyUnedited first.now (bytes_of_each lists.now) status) }
     ensures stays { Stays (H.world host.old) (H.world host.new) }
     ensures counts { NoneFell (H.world host.old) (H.world host.new) }
@@ -95,7 +95,7 @@ fn edit<H: Host>(
 
 /// What a line runs: its files are read, the executable is looked at, and then the edit lists are, all of them in order.
 pub fn prepare<H: Host>(alloc: Global, host: &mut H, line: &RunLine<'_>) -> Result<Plan, Status>
-    ensures plan { IfOk result (λ plan. IsPlan (run_said line.now) (H.world host.old) plan.setup (bytes_of_each plan.inputs.items)) }
+    ensures plan { IfOk result (λ plan. IsPlan (run_said line.now) (H.world host.old) plan.setup plan.inputs) }
     ensures refused { IfErr result (λ status. RunEnds (run_said line.now) (H.world host.old) (H.world host.new) status) }
     ensures stays { Stays (H.world host.old) (H.world host.new) }
     ensures counts { NoneFell (H.world host.old) (H.world host.new) }

@@ -6,7 +6,6 @@ ghost use Rattle.std.specs.List.{concat};
 ghost use Rattle.ith_host.specs.World.{NoneFell};
 ghost use Rattle.rerun_spec.specs.Rounds.{IsRound, round_on, left_by};
 ghost use Rattle.rerun_spec.specs.Reports.{report_of, exits, reports_of, all_exit};
-ghost use Rattle.round_inputs.specs.Lists.{bytes_of_each};
 ghost use Rattle.ith_top.specs.Ends.{Prints};
 ghost use Rattle.ith_top.specs.Refusals.{WhyCutShort};
 ghost use Rattle.ith_top.specs.Playing.{AreMadeByLists};
@@ -17,6 +16,7 @@ use super::report::{Played, make_round};
 use super::status::Status;
 use ith_host::Host;
 use release_core::{History, Setup};
+use round_inputs::Inputs;
 use round_report::Digested;
 use std::alloc::{AllocError, Global};
 use std::sync::Arc;
@@ -48,21 +48,29 @@ pub fn play<H: Host>(
     alloc: Global,
     host: &mut H,
     setup: &Setup,
-    inputs: Vec<Vec<u8>>,
+    mut inputs: Inputs,
     workers: u32,
 ) -> Result<bool, Status>
     requires some { 1 ≤ workers }
-    requires edited { AreMadeByLists setup.now.input (bytes_of_each inputs.items) }
-    ensures printed { IfOk result (λ exits. Prints (H.world host.old) (H.world host.new) (concat (reports_of workers setup.now (bytes_of_each inputs.items)))) }
-    ensures exits { IfOk result (λ exits. exits ≡ all_exit setup.now (bytes_of_each inputs.items)) }
-    ensures refused { IfErr result (λ status. WhyCutShort (reports_of workers setup.now (bytes_of_each inputs.items)) (H.world host.old) (H.world host.new) status) }
+    requires edited { AreMadeByLists setup.now.input inputs }
+    ensures printed { IfOk result (λ exits. Prints (H.world host.old) (H.world host.new) (concat (reports_of workers setup.now inputs))) }
+    ensures exits { IfOk result (λ exits. exits ≡ all_exit setup.now inputs) }
+    ensures refused { IfErr result (λ status. WhyCutShort (reports_of workers setup.now inputs) (H.world host.old) (H.world host.new) status) }
     ensures counts { NoneFell (H.world host.old) (H.world host.new) }
 {
     setup.sound();
     let mut past = None;
     let mut last = None;
     let mut all_exit = true;
-    for (number, input) in inputs.into_iter().enumerate() {
+    for number in 0..inputs.len() {
+        let input = match inputs.next() {
+            Ok(Some(input)) => input,
+            Ok(None) => unreachable!(),
+            Err(_) => {
+                host.complain(NO_MEMORY);
+                return Err(Status::Memory);
+            }
+        };
         let Played { text, exits, left } = match next_round(
             alloc, number, setup, input, past, workers, &mut last,
         ) {
