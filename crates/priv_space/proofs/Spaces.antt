@@ -1,11 +1,13 @@
 -- What a space means, after each of its operations.
-use Rattle.std.proofs.Common.{◌≡◌, ℕ, ◌%◌, ◌<◌, zero, suc, Bool, false, List, [], ◌∷◌, length, take, set, replicate, refl, ap, arith, Result, Ok, Err, OnOk, OnErr}
-use Rattle.std.proofs.lemmas.List.{take_all}
+use Rattle.std.proofs.Common.{◌≡◌, ℕ, ◌%◌, ◌<◌, zero, suc, Bool, false, List, [], ◌∷◌, length, map, set, replicate, refl, ap, ◌∙◌, arith, Result, Ok, Err, IfOk, OnOk, OnErr}
 use Rattle.memory_spec.specs.declared.Size.{Size}
 use Rattle.memory_spec.specs.Pages.{Mapped, Memory, slot_of, page_of, on_each}
 use Rattle.memory_spec.specs.Access.{byte_count, bytes_stored}
 use Rattle.memory_spec.specs.Workspace.{Workspace, Masks, mask_of, no_marks, fresh, after_storing}
 use Rattle.priv_space.specs.Written.{with_number, with_marks}
+use Rattle.priv_space.specs.declared.slot.Slot.{Slot}
+use Rattle.priv_space.specs.Slots.{on_view, untouched, slot_bytes, slot_marks, slot_taken}
+use Rattle.priv_space.proofs.Views.{map-replicate, bytes-untouched}
 use Rattle.priv_space.proofs.Access.{laid-access, marked-access}
 
 pub on_ok : {T E : Type 0} {P Q : Type 0} (r : Result T E) → (P → Q) → OnOk r P → OnOk r Q
@@ -16,22 +18,29 @@ pub on_err : {T E : Type 0} {P Q : Type 0} (r : Result T E) → (P → Q) → On
 on_err (Ok value) f h = h
 on_err (Err error) f h = f h
 
+pub if_ok : {T E : Type 0} {P Q : T → Type 0} (r : Result T E) → ((value : T) → P value → Q value) → IfOk r P → IfOk r Q
+if_ok (Ok value) f h = f value h
+if_ok (Err error) f h = h
+
 on_each-replicate : {A : Type 0} (a : A) (map : List Mapped) (n : ℕ) → n ≡ length map → replicate n a ≡ on_each a map
 on_each-replicate a [] zero h = refl
 on_each-replicate a [] (suc n) h = absurd (omega arith)
 on_each-replicate a (p ∷ ps) zero h = absurd (omega arith)
 on_each-replicate a (p ∷ ps) (suc n) h = ap (λ rest. a ∷ rest) (on_each-replicate a ps n (omega arith))
 
--- slots that share a view's pages are a fresh workspace
+-- slots that weren't touched are a fresh workspace
 pub fresh_space :
-    (map map' : List Mapped) (view : Memory) (count : ℕ) (seen memory : Memory) (stored : Masks) (taken : List Bool)
-    → map' ≡ map → seen ≡ take count view → memory ≡ take count view → stored ≡ replicate count no_marks → taken ≡ replicate count false
-    → length view ≡ count → length view ≡ length map
-    → (let w : Workspace = record { map = map'; view = seen; memory = memory; stored = stored; taken = taken } in w) ≡ fresh map view
-fresh_space map map' view count seen memory stored taken map_is seen_is memory_is stored_is taken_is all same =
-    let whole : take count view ≡ view = take_all count view (omega arith) in
-    let marks : replicate count no_marks ≡ on_each no_marks map = on_each-replicate no_marks map count (omega arith) in
-    let flags : replicate count false ≡ on_each false map = on_each-replicate false map count (omega arith) in
+    (pages pages' : List Mapped) (view view' : Memory) (count : ℕ) (slots : List Slot)
+    → pages' ≡ pages → view' ≡ view → slots ≡ replicate count untouched → length view ≡ count → length view ≡ length pages
+    → (let w : Workspace = record { map = pages'; view = view'; memory = on_view slot_bytes view' slots; stored = map slot_marks slots; taken = map slot_taken slots } in w)
+    ≡ fresh pages view
+unfolding slot_marks slot_taken untouched
+fresh_space pages pages' view view' count slots pages_are view_is slots_are all same =
+    let memory : on_view slot_bytes view (replicate (length view) untouched) ≡ view = bytes-untouched view in
+    let marks : map slot_marks (replicate count untouched) ≡ on_each no_marks pages =
+    map-replicate slot_marks count untouched ∙ on_each-replicate no_marks pages count (omega arith) in
+    let flags : map slot_taken (replicate count untouched) ≡ on_each false pages =
+    map-replicate slot_taken count untouched ∙ on_each-replicate false pages count (omega arith) in
     cc
 
 -- a store into the own copy of a page is the store of its bytes

@@ -1,24 +1,27 @@
 //! One page of a thread's memory.
 
-ghost use Rattle.std.specs.Prelude.{◌≡◌, ℕ, ◌+◌, ◌*◌, ◌/◌, ◌%◌, ◌^◌, ◌<◌, ◌≤◌, ◌++◌, true, false, OnOk, OnErr};
-ghost use Rattle.std.specs.Arc.{arc_value};
+ghost use Rattle.std.specs.Prelude.{◌≡◌, ℕ, ◌+◌, ◌*◌, ◌/◌, ◌%◌, ◌^◌, ◌<◌, ◌≤◌, ◌++◌, List, true, length, IfOk, IfSome, IfNone, OnOk, OnErr};
 ghost use Rattle.memory_spec.specs.Access.{byte_count, number_in};
+ghost use Rattle.memory_spec.specs.Pages.{page_of};
 ghost use Rattle.memory_spec.specs.Workspace.{no_marks};
 ghost use Rattle.priv_space.specs.Written.{byte_of, with_number, with_marks};
 ghost use Rattle.priv_space.specs.Parts.{read_part, delta_part};
-ghost use Rattle.priv_space.specs.Slots.{slot_view, slot_bytes, slot_marks, slot_taken};
+ghost use Rattle.priv_space.specs.Slots.{untouched, slot_shared, slot_bytes, slot_marks, slot_taken};
 
 use memory_spec::Size;
-use page_store::Page;
+use page_store::{Page, PageTable};
 use std::alloc::{AllocError, Global};
 use std::sync::Arc;
 use store_mask::{Mask, PageDelta, ReadPage, StoredPage};
 
-/// A page as the view has it, the thread's own copy from its first store on, and whether the thread
-/// took a byte.
+/// A share of the view's page from the first byte on that is taken from it, the thread's own copy from
+/// its first store on, and whether the thread took a byte.
+///
+/// A slot that wasn't touched has no share, so that a view of many pages costs no count of holders for
+/// those that a thread leaves alone.
 #[derive(Drop)]
 pub(super) struct Slot {
-    pub(super) shared: Arc<Page>,
+    pub(super) shared: Option<Arc<Page>>,
     pub(super) own: Option<Box<StoredPage>>,
     pub(super) taken: bool,
 }
@@ -114,66 +117,144 @@ fn store_number(stored: &mut StoredPage, offset: usize, size: Size, value: u32)
     mark_number(&mut stored.mask, offset, size);
 }
 
+/// A copy of a page of the view, with the lowest bytes of a value stored at an offset.
+///
+/// It stands apart from the store into a copy that there is, which is the common case.
+#[cold]
+#[inline(never)]
+fn own_copy(
+    alloc: Global,
+    page: &Page,
+    offset: usize,
+    size: Size,
+    value: u32,
+) -> Result<Box<StoredPage>, AllocError>
+    requires { offset + byte_count size ≤ 4096 }
+    ensures page { IfOk result (λ own. own.value.page ≡ with_number page.now offset size value) }
+    ensures mask { IfOk result (λ own. own.value.mask ≡ with_marks no_marks offset size) }
+{
+    let mut own = Box::new(alloc, StoredPage::of(page))?;
+    store_number(&mut own, offset, size, value);
+    Ok(own)
+}
+
 impl Slot {
-    /// A page of a view, from which nothing was taken and to which nothing was stored.
-    #[tactic(auto, unfolding(crate::specs::Slots::slot_view, crate::specs::Slots::slot_bytes, crate::specs::Slots::slot_marks, crate::specs::Slots::slot_taken))]
-    pub(super) fn new(shared: Arc<Page>) -> Slot
-        ensures view { slot_view result ≡ arc_value shared }
-        ensures bytes { slot_bytes result ≡ arc_value shared }
-        ensures marks { slot_marks result ≡ no_marks }
-        ensures taken { slot_taken result ≡ false }
+    /// A slot that wasn't touched.
+    #[tactic(auto, unfolding(crate::specs::Slots::untouched))]
+    pub(super) fn new() -> Slot
+        ensures { result ≡ untouched }
     {
         Slot {
-            shared,
+            shared: None,
             own: None,
             taken: false,
         }
     }
 
-    /// The page, with the thread's stores.
+    /// The page, with the thread's stores, where the slot holds one.
     #[inline(always)]
-    #[tactic(auto, unfolding(crate::specs::Slots::slot_bytes))]
-    fn page(&self) -> &Page
-        ensures { result.now ≡ slot_bytes self.now }
+    #[tactic(auto, unfolding(crate::specs::Slots::slot_shared, crate::specs::Slots::slot_bytes))]
+    fn page(&self) -> Option<&Page>
+        ensures held { (page : List ℕ) → slot_shared page self.now ≡ page → IfSome result (λ held. held.now ≡ slot_bytes page self.now) }
+        ensures missing { IfNone result ((page : List ℕ) → slot_bytes page self.now ≡ page) }
     {
         match &self.own {
-            Some(own) => &own.page,
-            None => &self.shared,
+            Some(own) => Some(&own.page),
+            None => match &self.shared {
+                Some(shared) => Some(shared),
+                None => None,
+            },
         }
     }
 
-    /// Takes a number at an offset.
+    /// Takes a number at an offset, where the view has the slot's page in this place.
+    ///
+    /// # Errors
+    ///
+    /// An error where the page has as many holders as can be counted; nothing changes then.
     #[inline(always)]
-    #[tactic(auto, unfolding(crate::specs::Slots::slot_view, crate::specs::Slots::slot_bytes, crate::specs::Slots::slot_marks, crate::specs::Slots::slot_taken))]
-    pub(super) fn take(&mut self, offset: usize, size: Size) -> u32
-        requires { offset + byte_count size ≤ 4096 }
-        ensures value { result ≡ number_in (slot_bytes self.old) offset size }
-        ensures small { result < 2 ^ (8 * byte_count size) }
-        ensures view { slot_view self.new ≡ slot_view self.old }
-        ensures bytes { slot_bytes self.new ≡ slot_bytes self.old }
+    #[tactic(auto, unfolding(crate::specs::Slots::slot_shared, crate::specs::Slots::slot_bytes, crate::specs::Slots::slot_marks, crate::specs::Slots::slot_taken))]
+    pub(super) fn take(
+        &mut self,
+        view: &PageTable,
+        place: usize,
+        offset: usize,
+        size: Size,
+    ) -> Result<u32, AllocError>
+        requires within { place < length view.now }
+        requires inside { offset + byte_count size ≤ 4096 }
+        requires share { slot_shared (page_of view.now place) self.old ≡ page_of view.now place }
+        ensures value { IfOk result (λ number. number ≡ number_in (slot_bytes (page_of view.now place) self.old) offset size) }
+        ensures small { IfOk result (λ number. number < 2 ^ (8 * byte_count size)) }
+        ensures shared { slot_shared (page_of view.now place) self.new ≡ page_of view.now place }
+        ensures bytes { slot_bytes (page_of view.now place) self.new ≡ slot_bytes (page_of view.now place) self.old }
         ensures marks { slot_marks self.new ≡ slot_marks self.old }
-        ensures taken { slot_taken self.new ≡ true }
+        ensures taken { OnOk result (slot_taken self.new ≡ true) }
+        ensures taken_stays { OnErr result (slot_taken self.new ≡ slot_taken self.old) }
     {
+        let number = match self.page() {
+            Some(page) => number_at(page, offset, size),
+            None => self.first_number(view, place, offset, size)?,
+        };
         self.taken = true;
-        number_at(self.page(), offset, size)
+        Ok(number)
     }
 
-    /// Stores the lowest bytes of a value at an offset.
+    /// The number that stands at an offset in the view's page, of which the slot gets its share.
+    ///
+    /// It stands apart from the taking of a later number, which is the common case.
+    ///
+    /// # Errors
+    ///
+    /// An error where the page has as many holders as can be counted; nothing changes then.
+    #[cold]
+    #[inline(never)]
+    #[tactic(auto, unfolding(crate::specs::Slots::slot_shared, crate::specs::Slots::slot_bytes, crate::specs::Slots::slot_marks, crate::specs::Slots::slot_taken))]
+    fn first_number(
+        &mut self,
+        view: &PageTable,
+        place: usize,
+        offset: usize,
+        size: Size,
+    ) -> Result<u32, AllocError>
+        requires within { place < length view.now }
+        requires inside { offset + byte_count size ≤ 4096 }
+        ensures value { IfOk result (λ number. number ≡ number_in (page_of view.now place) offset size) }
+        ensures small { IfOk result (λ number. number < 2 ^ (8 * byte_count size)) }
+        ensures shared { OnOk result (slot_shared (page_of view.now place) self.new ≡ page_of view.now place) }
+        ensures shared_stays { OnErr result (self.new.shared ≡ self.old.shared) }
+        ensures own { self.new.own ≡ self.old.own }
+        ensures taken { slot_taken self.new ≡ slot_taken self.old }
+    {
+        let shared = view.share(place)?;
+        let number = number_at(&shared, offset, size);
+        self.shared = Some(shared);
+        Ok(number)
+    }
+
+    /// Stores the lowest bytes of a value at an offset, where the view has the slot's page in this place.
+    ///
+    /// # Errors
+    ///
+    /// An error where the host's memory ran out; nothing changes then.
     #[inline(always)]
-    #[tactic(auto, unfolding(crate::specs::Slots::slot_view, crate::specs::Slots::slot_bytes, crate::specs::Slots::slot_marks, crate::specs::Slots::slot_taken))]
+    #[tactic(auto, unfolding(crate::specs::Slots::slot_shared, crate::specs::Slots::slot_bytes, crate::specs::Slots::slot_marks, crate::specs::Slots::slot_taken))]
     pub(super) fn store(
         &mut self,
         alloc: Global,
+        view: &PageTable,
+        place: usize,
         offset: usize,
         size: Size,
         value: u32,
     ) -> Result<(), AllocError>
-        requires { offset + byte_count size ≤ 4096 }
-        ensures view { slot_view self.new ≡ slot_view self.old }
+        requires within { place < length view.now }
+        requires inside { offset + byte_count size ≤ 4096 }
+        ensures shared { self.new.shared ≡ self.old.shared }
         ensures taken { slot_taken self.new ≡ slot_taken self.old }
-        ensures bytes { OnOk result (slot_bytes self.new ≡ with_number (slot_bytes self.old) offset size value) }
+        ensures bytes { OnOk result (slot_bytes (page_of view.now place) self.new ≡ with_number (slot_bytes (page_of view.now place) self.old) offset size value) }
         ensures marks { OnOk result (slot_marks self.new ≡ with_marks (slot_marks self.old) offset size) }
-        ensures bytes_stay { OnErr result (slot_bytes self.new ≡ slot_bytes self.old) }
+        ensures bytes_stay { OnErr result (slot_bytes (page_of view.now place) self.new ≡ slot_bytes (page_of view.now place) self.old) }
         ensures marks_stay { OnErr result (slot_marks self.new ≡ slot_marks self.old) }
     {
         match &mut self.own {
@@ -182,33 +263,37 @@ impl Slot {
                 Ok(())
             }
             None => {
-                let mut own = Box::new(alloc, StoredPage::of(&self.shared))?;
-                store_number(&mut own, offset, size, value);
-                self.own = Some(own);
+                self.own = Some(own_copy(alloc, view.page(place), offset, size, value)?);
                 Ok(())
             }
         }
     }
 
-    /// Adds the page to the read pages, if a byte was taken.
-    #[tactic(auto, unfolding(crate::specs::Slots::slot_view, crate::specs::Slots::slot_taken))]
-    pub(super) fn add_read(&self, place: usize, pages: &mut Vec<ReadPage>) -> Result<(), AllocError>
-        ensures { OnOk result (pages.new.items ≡ pages.old.items ++ read_part place (slot_taken self.now) (slot_view self.now)) }
+    /// Adds the page that the view has in this place to the read pages, if a byte was taken.
+    #[tactic(auto, unfolding(crate::specs::Slots::slot_taken))]
+    pub(super) fn add_read(
+        &self,
+        view: &PageTable,
+        place: usize,
+        pages: &mut Vec<ReadPage>,
+    ) -> Result<(), AllocError>
+        requires { place < length view.now }
+        ensures { OnOk result (pages.new.items ≡ pages.old.items ++ read_part place (slot_taken self.now) (page_of view.now place)) }
     {
         if self.taken {
-            pages.push(ReadPage::new(place, Arc::try_clone(&self.shared)?))?;
+            pages.push(ReadPage::new(place, view.share(place)?))?;
         }
         Ok(())
     }
 
-    /// Gives the own copy to the deltas, if a byte was stored.
+    /// Gives the own copy to the deltas, if a byte was stored. Which page the view has counts for nothing.
     #[tactic(auto, unfolding(crate::specs::Slots::slot_bytes, crate::specs::Slots::slot_marks))]
     pub(super) fn give_delta(
         &mut self,
         place: usize,
         deltas: &mut Vec<PageDelta>,
     ) -> Result<(), AllocError>
-        ensures { OnOk result (deltas.new.items ≡ deltas.old.items ++ delta_part place (slot_marks self.old) (slot_bytes self.old)) }
+        ensures { (page : List ℕ) → OnOk result (deltas.new.items ≡ deltas.old.items ++ delta_part place (slot_marks self.old) (slot_bytes page self.old)) }
     {
         match self.own.take() {
             None => Ok(()),

@@ -1,49 +1,69 @@
 //! The pages of a thread's memory, by slot.
 
-ghost use Rattle.std.specs.Prelude.{◌≡◌, ◌+◌, ◌*◌, ◌^◌, ◌<◌, ◌≤◌, true, length, map, slice_set, OnOk, OnErr};
+ghost use Rattle.std.specs.Prelude.{◌≡◌, ◌+◌, ◌*◌, ◌^◌, ◌<◌, ◌≤◌, true, length, map, slice_set, IfOk, OnOk, OnErr};
 ghost use Rattle.memory_spec.specs.Access.{byte_count, number_in};
 ghost use Rattle.memory_spec.specs.Pages.{page_of};
 ghost use Rattle.memory_spec.specs.Workspace.{mask_of};
 ghost use Rattle.priv_space.specs.Written.{with_number, with_marks};
-ghost use Rattle.priv_space.specs.Slots.{slot_view, slot_bytes, slot_marks, slot_taken};
+ghost use Rattle.priv_space.specs.Slots.{on_view, slot_shared, slot_bytes, slot_marks, slot_taken};
 
 use super::slot::Slot;
 use memory_spec::Size;
+use page_store::PageTable;
 use std::alloc::{AllocError, Global};
 
 /// Takes a number from a page.
+///
+/// # Errors
+///
+/// An error where the view's page has as many holders as can be counted; nothing changes then.
 #[inline(always)]
-pub(super) fn take(slots: &mut [Slot], slot: usize, offset: usize, size: Size) -> u32
+pub(super) fn take(
+    view: &PageTable,
+    slots: &mut [Slot],
+    slot: usize,
+    offset: usize,
+    size: Size,
+) -> Result<u32, AllocError>
+    requires count { length slots.old ≡ length view.now }
     requires within { slot < length slots.old }
     requires inside { offset + byte_count size ≤ 4096 }
-    ensures value { result ≡ number_in (page_of (map slot_bytes slots.old) slot) offset size }
-    ensures small { result < 2 ^ (8 * byte_count size) }
-    ensures view { map slot_view slots.new ≡ map slot_view slots.old }
-    ensures bytes { map slot_bytes slots.new ≡ map slot_bytes slots.old }
+    requires share { on_view slot_shared view.now slots.old ≡ view.now }
+    ensures value { IfOk result (λ number. number ≡ number_in (page_of (on_view slot_bytes view.now slots.old) slot) offset size) }
+    ensures small { IfOk result (λ number. number < 2 ^ (8 * byte_count size)) }
+    ensures shared { on_view slot_shared view.now slots.new ≡ view.now }
+    ensures bytes { on_view slot_bytes view.now slots.new ≡ on_view slot_bytes view.now slots.old }
     ensures marks { map slot_marks slots.new ≡ map slot_marks slots.old }
-    ensures taken { map slot_taken slots.new ≡ slice_set (map slot_taken slots.old) slot true }
+    ensures taken { OnOk result (map slot_taken slots.new ≡ slice_set (map slot_taken slots.old) slot true) }
+    ensures taken_stays { OnErr result (map slot_taken slots.new ≡ map slot_taken slots.old) }
 {
-    slots[slot].take(offset, size)
+    slots[slot].take(view, slot, offset, size)
 }
 
 /// Stores the lowest bytes of a value into a page.
+///
+/// # Errors
+///
+/// An error where the host's memory ran out; nothing changes then.
 #[inline(always)]
 pub(super) fn store(
     alloc: Global,
+    view: &PageTable,
     slots: &mut [Slot],
     slot: usize,
     offset: usize,
     size: Size,
     value: u32,
 ) -> Result<(), AllocError>
+    requires count { length slots.old ≡ length view.now }
     requires within { slot < length slots.old }
     requires inside { offset + byte_count size ≤ 4096 }
-    ensures view { map slot_view slots.new ≡ map slot_view slots.old }
+    ensures shared { on_view slot_shared view.now slots.new ≡ on_view slot_shared view.now slots.old }
     ensures taken { map slot_taken slots.new ≡ map slot_taken slots.old }
-    ensures bytes { OnOk result (map slot_bytes slots.new ≡ slice_set (map slot_bytes slots.old) slot (with_number (page_of (map slot_bytes slots.old) slot) offset size value)) }
+    ensures bytes { OnOk result (on_view slot_bytes view.now slots.new ≡ slice_set (on_view slot_bytes view.now slots.old) slot (with_number (page_of (on_view slot_bytes view.now slots.old) slot) offset size value)) }
     ensures marks { OnOk result (map slot_marks slots.new ≡ slice_set (map slot_marks slots.old) slot (with_marks (mask_of (map slot_marks slots.old) slot) offset size)) }
-    ensures bytes_stay { OnErr result (map slot_bytes slots.new ≡ map slot_bytes slots.old) }
+    ensures bytes_stay { OnErr result (on_view slot_bytes view.now slots.new ≡ on_view slot_bytes view.now slots.old) }
     ensures marks_stay { OnErr result (map slot_marks slots.new ≡ map slot_marks slots.old) }
 {
-    slots[slot].store(alloc, offset, size, value)
+    slots[slot].store(alloc, view, slot, offset, size, value)
 }

@@ -18,27 +18,29 @@ use std::marker::Model;
 use std::sync::Arc;
 use store_mask::{Delta, Reads};
 
-/// A view that a thread works on, with its own stores laid over it: it shares the pages of the view,
-/// and has a copy of each page that it stored to. A clause sees a `Workspace` of `memory_spec`.
+/// A view that a thread works on, with its own stores laid over it: it shares the view, has a share of
+/// each page from which a byte was taken, and a copy of each page that it stored to. A clause sees a
+/// `Workspace` of `memory_spec`.
 #[derive(Drop)]
 pub struct Space {
     alloc: Global,
+    view: Arc<PageTable>,
     pages: Arc<PageMap>,
     slots: Vec<Slot>,
 }
 
 impl Model for Space {
-    ghost use Rattle.std.specs.Prelude.{◌≡◌, length, map};
+    ghost use Rattle.std.specs.Prelude.{map};
     ghost use Rattle.std.specs.Arc.{arc_value};
     ghost use Rattle.memory_spec.specs.Workspace.{Workspace};
 
     ghost Value = { Workspace };
 
-    ghost use Rattle.priv_space.specs.Slots.{slot_view, slot_bytes, slot_marks, slot_taken};
+    ghost use Rattle.priv_space.specs.Slots.{Fits, on_view, slot_bytes, slot_marks, slot_taken};
 
-    ghost view = { λ s. record { map = arc_value s.pages; view = map slot_view s.slots.items; memory = map slot_bytes s.slots.items; stored = map slot_marks s.slots.items; taken = map slot_taken s.slots.items } };
+    ghost view = { λ s. record { map = arc_value s.pages; view = arc_value s.view; memory = on_view slot_bytes (arc_value s.view) s.slots.items; stored = map slot_marks s.slots.items; taken = map slot_taken s.slots.items } };
 
-    ghost invariant = { λ s. length s.slots.items ≡ length (arc_value s.pages) };
+    ghost invariant = { λ s. Fits (arc_value s.pages) (arc_value s.view) s.slots.items };
 }
 
 /// The slot of an address, and what its page permits. None exactly where no page has it.
@@ -78,7 +80,10 @@ impl Mem for Space {
                     return Err(MemoryError::Access);
                 }
                 let offset = offset_of(address, Size::Four);
-                Ok(slots::take(&mut self.slots, slot, offset, Size::Four))
+                match slots::take(&self.view, &mut self.slots, slot, offset, Size::Four) {
+                    Ok(number) => Ok(number),
+                    Err(_) => Err(MemoryError::NoMemory),
+                }
             }
         }
     }
@@ -93,7 +98,10 @@ impl Mem for Space {
                     return Err(MemoryError::Access);
                 }
                 let offset = offset_of(address, size);
-                Ok(slots::take(&mut self.slots, slot, offset, size))
+                match slots::take(&self.view, &mut self.slots, slot, offset, size) {
+                    Ok(number) => Ok(number),
+                    Err(_) => Err(MemoryError::NoMemory),
+                }
             }
         }
     }
@@ -108,8 +116,15 @@ impl Mem for Space {
                     return Err(MemoryError::Access);
                 }
                 let offset = offset_of(address, size);
-                let Ok(()) = slots::store(self.alloc, &mut self.slots, slot, offset, size, value)
-                else {
+                let Ok(()) = slots::store(
+                    self.alloc,
+                    &self.view,
+                    &mut self.slots,
+                    slot,
+                    offset,
+                    size,
+                    value,
+                ) else {
                     return Err(MemoryError::NoMemory);
                 };
                 Ok(())
@@ -119,22 +134,27 @@ impl Mem for Space {
 }
 
 impl Space {
-    /// A view with nothing stored and nothing taken. It shares the pages of the table, and no byte is copied.
+    /// A view with nothing stored and nothing taken. It shares the table, and no byte is copied.
     ///
     /// # Errors
     ///
     /// An error where the host's memory ran out.
-    pub fn new(alloc: Global, view: &PageTable, pages: &Arc<PageMap>) -> Result<Space, AllocError>
-        requires { length view.now ≡ length (arc_value pages.now) }
-        ensures { IfOk result (λ space. space ≡ fresh (arc_value pages.now) view.now) }
+    pub fn new(
+        alloc: Global,
+        view: &Arc<PageTable>,
+        pages: &Arc<PageMap>,
+    ) -> Result<Space, AllocError>
+        requires { length (arc_value view.now) ≡ length (arc_value pages.now) }
+        ensures { IfOk result (λ space. space ≡ fresh (arc_value pages.now) (arc_value view.now)) }
     {
         let count = view.len();
         let mut slots = Vec::with_capacity(alloc, count)?;
-        for slot in 0..count {
-            slots.push(Slot::new(view.share(slot)?))?;
+        for _ in 0..count {
+            slots.push(Slot::new())?;
         }
         Ok(Space {
             alloc,
+            view: Arc::try_clone(view)?,
             pages: Arc::try_clone(pages)?,
             slots,
         })
@@ -150,7 +170,7 @@ impl Space {
     {
         let mut pages = Vec::new(self.alloc);
         for slot in 0..self.slots.len() {
-            self.slots[slot].add_read(slot, &mut pages)?;
+            self.slots[slot].add_read(&self.view, slot, &mut pages)?;
         }
         Ok(Reads::new(pages))
     }
@@ -165,9 +185,11 @@ impl Space {
     {
         let Space {
             alloc,
+            view,
             pages,
             slots,
         } = self;
+        drop(view);
         drop(pages);
         let mut slots = slots;
         let mut deltas = Vec::new(alloc);

@@ -19,6 +19,7 @@ fn stores_stay_with_the_thread(rt: HostRuntime) -> Result<(), AllocError> {
     view.push(Page::zero())?;
     view.push(Page::zero())?;
     view.push(Page::zero())?;
+    let view = Arc::new(rt.alloc(), view)?;
     let mut space = Space::new(rt.alloc(), &view, &map)?;
     assert_eq!(rt; space.fetch(0x1_0004), Ok(0));
     assert_eq!(rt; space.fetch(0x1_1000), Err(MemoryError::Access));
@@ -39,5 +40,49 @@ fn stores_stay_with_the_thread(rt: HostRuntime) -> Result<(), AllocError> {
         assert_eq!(rt; stored.written(&Page::new([9; 4096])).get(4094), 1);
         assert_eq!(rt; stored.written(&Page::new([9; 4096])).get(4093), 9);
     }
+    Ok(())
+}
+
+#[test]
+fn an_untouched_page_has_no_share_taken(rt: HostRuntime) -> Result<(), AllocError> {
+    let pages = vec![in rt.alloc();
+        MappedPage::new(0x10, Perm::R | Perm::W),
+        MappedPage::new(0x11, Perm::R | Perm::W),
+        MappedPage::new(0x12, Perm::R | Perm::W),
+    ]?;
+    let map = Arc::new(rt.alloc(), PageMap::new(pages))?;
+    let first = Arc::new(rt.alloc(), Page::new([3; 4096]))?;
+    let second = Arc::new(rt.alloc(), Page::new([5; 4096]))?;
+    let third = Arc::new(rt.alloc(), Page::new([7; 4096]))?;
+    let mut view = PageTable::empty(rt.alloc());
+    view.push_shared(&first)?;
+    view.push_shared(&second)?;
+    view.push_shared(&third)?;
+    let view = Arc::new(rt.alloc(), view)?;
+    let mut space = Space::new(rt.alloc(), &view, &map)?;
+    assert_eq!(rt; Arc::strong_count(&first), 2);
+    assert_eq!(rt; space.load(0x1_0000, Size::Two), Ok(0x0303));
+    assert_eq!(rt; Arc::strong_count(&first), 3);
+    assert_eq!(rt; space.load(0x1_0ffc, Size::Four), Ok(0x0303_0303));
+    assert_eq!(rt; Arc::strong_count(&first), 3);
+    assert_eq!(rt; space.store(0x1_2008, Size::Four, 0xaabb_ccdd), Ok(()));
+    assert_eq!(rt; space.load(0x1_200a, Size::Two), Ok(0xaabb));
+    assert_eq!(rt; space.load(0x1_200c, Size::Four), Ok(0x0707_0707));
+    let reads = space.reads()?;
+    assert_eq!(rt; reads.len(), 2);
+    assert_eq!(rt; reads.pages()[0].slot(), 0);
+    assert_eq!(rt; reads.pages()[0].page().get(0), 3);
+    assert_eq!(rt; reads.pages()[1].slot(), 2);
+    assert_eq!(rt; reads.pages()[1].page().get(8), 7);
+    let delta = space.into_delta()?;
+    assert_eq!(rt; delta.len(), 1);
+    for stored in delta.pages() {
+        assert_eq!(rt; stored.slot(), 2);
+        assert_eq!(rt; stored.written(&Page::new([9; 4096])).get(7), 9);
+        assert_eq!(rt; stored.written(&Page::new([9; 4096])).get(8), 0xdd);
+        assert_eq!(rt; stored.written(&Page::new([9; 4096])).get(11), 0xaa);
+        assert_eq!(rt; stored.written(&Page::new([9; 4096])).get(12), 9);
+    }
+    assert_eq!(rt; Arc::strong_count(&second), 2);
     Ok(())
 }

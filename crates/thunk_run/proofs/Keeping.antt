@@ -44,15 +44,15 @@ pub kept-made :
     → record { reads = reads; delta = delta; finish = l.regs; end = l.end; count = l.count } ≡ kept_thunk f view r
 kept-made f view r l reads delta whole made are stored = rw (are, stored, made) (kept-left f view r whole)
 
--- the same where the frame and the view were reached through their holders
+-- the same where the frame was reached through its holder
 pub kept-run :
-    (f g : Frame) (view v : Memory) (map : List Mapped) (r : Registers) (w : Workspace) (l : Left) (reads : List ReadPage) (delta : List PageDelta)
+    (f g : Frame) (view : Memory) (map : List Mapped) (r : Registers) (w : Workspace) (l : Left) (reads : List ReadPage) (delta : List PageDelta)
     → IsMemory f.map view
-    → g ≡ f → v ≡ view → map ≡ f.map
-    → w ≡ fresh map v
+    → g ≡ f → map ≡ f.map
+    → w ≡ fresh map view
     → l ≡ with_put_taken (left_after g.fuel w r)
     → reads ≡ reads_from 0 l.workspace.taken l.workspace.view
     → delta ≡ delta_from 0 l.workspace.stored l.workspace.memory
     → record { reads = reads; delta = delta; finish = l.regs; end = l.end; count = l.count } ≡ kept_thunk f view r
-kept-run f g view v map r w l reads delta whole frame viewed mapped begun made are stored =
-    kept-made f view r l reads delta whole (made ∙ rw (frame, begun, viewed, mapped) refl) are stored
+kept-run f g view map r w l reads delta whole frame mapped begun made are stored =
+    kept-made f view r l reads delta whole (made ∙ rw (frame, begun, mapped) refl) are stored

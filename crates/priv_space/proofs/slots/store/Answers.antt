@@ -1,26 +1,35 @@
-use Rattle.std.proofs.Common.{map, set, ap, sym, ◌∙◌, []}
+use Rattle.std.proofs.Common.{map, set, ap, sym, ◌∙◌, [], arith, ◌<◌, length}
 use Rattle.std.proofs.lemmas.List.{map-set, get_or-map}
 use Rattle.std.proofs.Math.Seq.{map-set_same}
+use Rattle.memory_spec.specs.Pages.{page_of}
 use Rattle.priv_space.specs.Written.{with_number, with_marks}
-use Rattle.priv_space.specs.Slots.{slot_view, slot_bytes, slot_marks, slot_taken}
+use Rattle.priv_space.specs.Slots.{on_view, slot_shared, slot_bytes, slot_marks, slot_taken, shared_in}
 use Rattle.priv_space.proofs.Spaces.{on_ok, on_err}
+use Rattle.priv_space.proofs.Views.{on_view-set, get_or-on_view, on_view-set_same}
 use Rattle.priv_space.proofs.slots.store.Goals as goal
 
-pub returns-clause-view : goal.returns-clause-view
-returns-clause-view c = map-set_same slot_view c.args.slots.now c.args.slot c.store.new.self c.index-slots-slot.result c.store.ensures.view
+pub returns-clause-shared : goal.returns-clause-shared
+unfolding slot_shared
+returns-clause-shared c =
+    let within : c.args.slot < length c.args.view.now = omega arith in
+    on_view-set_same slot_shared c.args.view.now c.args.slots.now c.args.slot c.store.new.self c.index-slots-slot.result within
+    c.requires.within (ap (λ shared. shared_in shared (page_of c.args.view.now c.args.slot)) c.store.ensures.shared)
 
 pub returns-clause-taken : goal.returns-clause-taken
 returns-clause-taken c = map-set_same slot_taken c.args.slots.now c.args.slot c.store.new.self c.index-slots-slot.result c.store.ensures.taken
 
 pub returns-clause-bytes : goal.returns-clause-bytes
 returns-clause-bytes c =
+    let view = c.args.view.now in
+    let slots = c.args.slots.now in
+    let within : c.args.slot < length view = omega arith in
     on_ok c.store.result
     (λ is.
-    map-set slot_bytes c.args.slots.now c.args.slot c.store.new.self
-    ∙ ap (set (map slot_bytes c.args.slots.now) c.args.slot)
+    on_view-set slot_bytes view slots c.args.slot c.store.new.self
+    ∙ ap (set (on_view slot_bytes view slots) c.args.slot)
     (is
     ∙ ap (λ p. with_number p c.args.offset c.args.size c.args.value)
-    (sym (get_or-map slot_bytes c.args.slots.now c.args.slot c.index-slots-slot.result [] c.requires.within))))
+    (sym (get_or-on_view slot_bytes view slots c.args.slot c.index-slots-slot.result within c.requires.within))))
     c.store.ensures.bytes
 
 pub returns-clause-marks : goal.returns-clause-marks
@@ -36,8 +45,11 @@ returns-clause-marks c =
 
 pub returns-clause-bytes_stay : goal.returns-clause-bytes_stay
 returns-clause-bytes_stay c =
+    let within : c.args.slot < length c.args.view.now = omega arith in
     on_err c.store.result
-    (λ is. map-set_same slot_bytes c.args.slots.now c.args.slot c.store.new.self c.index-slots-slot.result is)
+    (λ is.
+    on_view-set_same slot_bytes c.args.view.now c.args.slots.now c.args.slot c.store.new.self c.index-slots-slot.result within
+    c.requires.within is)
     c.store.ensures.bytes_stay
 
 pub returns-clause-marks_stay : goal.returns-clause-marks_stay

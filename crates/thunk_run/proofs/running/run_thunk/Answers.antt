@@ -6,7 +6,7 @@ use Rattle.thunk_run.proofs.running.run_thunk.Goals as goal
 
 pub returns-clause-kept : goal.returns-clause-kept
 returns-clause-kept g c =
-    kept-run (arc_value c.args.job.now.frame) c.deref-3.result.now (arc_value c.args.job.now.view) c.deref.result.now
+    kept-run (arc_value c.args.job.now.frame) c.deref-2.result.now (arc_value c.args.job.now.view)
     (arc_value c.shared_map.result.now) c.args.job.now.regs c.in_ok-space.space
     (record {
       regs = c.make_thunk.new.regs;
@@ -14,6 +14,6 @@ returns-clause-kept g c =
       count = c.in_ok-turned.turned.count;
       workspace = c.make_thunk.new.mem;
     })
-    c.in_ok-reads.reads c.in_ok-delta.delta c.args.job.now.whole c.deref-3.ensures c.deref.ensures
-    (c.shared_map.ensures ∙ ap (λ (f : Frame). f.map) c.deref-2.ensures) c.in_ok-space.ensures c.in_ok-turned.ensures.left c.in_ok-reads.ensures
+    c.in_ok-reads.reads c.in_ok-delta.delta c.args.job.now.whole c.deref-2.ensures
+    (c.shared_map.ensures ∙ ap (λ (f : Frame). f.map) c.deref.ensures) c.in_ok-space.ensures c.in_ok-turned.ensures.left c.in_ok-reads.ensures
     c.in_ok-delta.ensures

@@ -6,7 +6,7 @@ use Rattle.priv_space.proofs.slot.Slot.give_delta.Goals as goal
 
 pub returns-in-None : goal.returns-in-None
 unfolding slot_marks
-returns-in-None c =
+returns-in-None c page =
     let v = c.in-None.ensures.value in
     let unstored : is_stored (slot_marks c.args.self.now) ≡ false = ap (λ own. is_stored (marks_in own)) (sym v) ∙ is_stored-no_marks in
-    part_none c.args.place (slot_marks c.args.self.now) (slot_bytes c.args.self.now) c.args.deltas.now.items unstored
+    part_none c.args.place (slot_marks c.args.self.now) (slot_bytes page c.args.self.now) c.args.deltas.now.items unstored

@@ -1,10 +1,11 @@
 -- The pages so far, with what the other slots still add, are all.
 use Rattle.std.proofs.Common.{◌≡◌, ◌++◌, map, drop}
+use Rattle.std.specs.Arc.{arc_value}
 use Rattle.record_spec.specs.Reads.{reads_from}
-use Rattle.priv_space.specs.Slots.{slot_view, slot_taken}
+use Rattle.priv_space.specs.Slots.{slot_taken}
 use Rattle.priv_space.proofs.space.Space.reads.Given as goal
 
 abbrev pub invariant-loop-slot : goal.invariant-loop-slot
 invariant-loop-slot l =
-    l.pages.items ++ reads_from l.slot (drop l.slot (map slot_taken l.self-inside.slots.items)) (map slot_view l.self-inside.slots.items)
-    ≡ reads_from 0 (map slot_taken l.self-inside.slots.items) (map slot_view l.self-inside.slots.items)
+    l.pages.items ++ reads_from l.slot (drop l.slot (map slot_taken l.self-inside.slots.items)) (arc_value l.self-inside.view)
+    ≡ reads_from 0 (map slot_taken l.self-inside.slots.items) (arc_value l.self-inside.view)
