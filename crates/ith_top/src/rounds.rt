@@ -3,12 +3,13 @@
 ghost use Rattle.std.specs.Prelude.{◌≡◌, ◌≤◌, option_map, IfOk, IfErr};
 ghost use Rattle.std.specs.Arc.{arc_value};
 ghost use Rattle.std.specs.List.{concat};
-ghost use Rattle.ith_host.specs.World.{NoneFell};
+ghost use Rattle.ith_host.specs.World.{Stays, NoneFell};
 ghost use Rattle.rerun_spec.specs.Rounds.{IsRound, round_on, left_by};
 ghost use Rattle.rerun_spec.specs.Reports.{report_of, exits, reports_of, all_exit};
 ghost use Rattle.ith_top.specs.Ends.{Prints};
 ghost use Rattle.ith_top.specs.Refusals.{WhyCutShort};
 ghost use Rattle.ith_top.specs.Playing.{AreMadeByLists};
+ghost use Rattle.ith_top.specs.declared.status.Status.TheVariants as status;
 
 use super::complaints::NO_MEMORY;
 use super::outside::print_text;
@@ -42,6 +43,16 @@ fn next_round(
     make_round(alloc, number, next, past, workers, last)
 }
 
+/// Says that the host's memory ran out.
+fn no_memory<H: Host>(host: &mut H) -> Status
+    ensures status { result ≡ status.Memory }
+    ensures stays { Stays (H.world host.old) (H.world host.new) }
+    ensures counts { NoneFell (H.world host.old) (H.world host.new) }
+{
+    host.complain(NO_MEMORY);
+    Status::Memory
+}
+
 /// Makes the rounds of a setup's program on these inputs, each going by what the one before it leaves, and prints the report of each before
 /// the next begins. The answer is whether each ended by exit.
 pub fn play<H: Host>(
@@ -66,19 +77,13 @@ pub fn play<H: Host>(
         let input = match inputs.next() {
             Ok(Some(input)) => input,
             Ok(None) => unreachable!(),
-            Err(_) => {
-                host.complain(NO_MEMORY);
-                return Err(Status::Memory);
-            }
+            Err(_) => return Err(no_memory(host)),
         };
         let Played { text, exits, left } = match next_round(
             alloc, number, setup, input, past, workers, &mut last,
         ) {
             Ok(played) => played,
-            Err(_) => {
-                host.complain(NO_MEMORY);
-                return Err(Status::Memory);
-            }
+            Err(_) => return Err(no_memory(host)),
         };
         match print_text(alloc, host, text.as_slice()) {
             Ok(()) => {}

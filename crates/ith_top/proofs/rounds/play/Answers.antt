@@ -16,9 +16,10 @@ loop-number-init g c =
 pub returns-in-Err-clause-refused : goal.returns-in-Err-clause-refused
 returns-in-Err-clause-refused g c =
     let w = g.H.Host.world in
-    going_cut c.args.setup.now c.args.workers c.args.inputs (w c.args.host.now) (w c.loop-number.host) (w c.complain.new.self)
+    rw (c.no_memory.ensures.status)
+    (going_cut c.args.setup.now c.args.workers c.args.inputs (w c.args.host.now) (w c.loop-number.host) (w c.no_memory.new.host)
     c.loop-number.number (option_map arc_value c.loop-number.past) c.loop-number.inputs c.loop-number.all_exit
-    c.loop-number.invariant.going c.complain.ensures.stays
+    c.loop-number.invariant.going c.no_memory.ensures.stays)
 
 pub next_round-requires-clause-sound : goal.next_round-requires-clause-sound
 next_round-requires-clause-sound g c =
@@ -32,9 +33,10 @@ next_round-requires-clause-sound g c =
 pub returns-in-Err-next_round-clause-refused : goal.returns-in-Err-next_round-clause-refused
 returns-in-Err-next_round-clause-refused g c =
     let w = g.H.Host.world in
-    going_cut c.args.setup.now c.args.workers c.args.inputs (w c.args.host.now) (w c.loop-number.host) (w c.complain-in-Err-next_round.new.self)
+    rw (c.no_memory-in-Err-next_round.ensures.status)
+    (going_cut c.args.setup.now c.args.workers c.args.inputs (w c.args.host.now) (w c.loop-number.host) (w c.no_memory-in-Err-next_round.new.host)
     c.loop-number.number (option_map arc_value c.loop-number.past) c.loop-number.inputs c.loop-number.all_exit
-    c.loop-number.invariant.going c.complain-in-Err-next_round.ensures.stays
+    c.loop-number.invariant.going c.no_memory-in-Err-next_round.ensures.stays)
 
 pub returns-in-Err-print_text-clause-refused : goal.returns-in-Err-print_text-clause-refused
 returns-in-Err-print_text-clause-refused g c =
