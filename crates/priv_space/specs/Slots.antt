@@ -1,43 +1,45 @@
 -- What a slot of a thread's memory means, over the page that the view has in its place.
-use Rattle.std.specs.Prelude.{◌≡◌, ℕ, Bool, false, List, [], ◌∷◌, length, Option, Some, None}
+use Rattle.std.specs.Prelude.{◌≡◌, ℕ, Bool, false, List, [], ◌∷◌, length}
 use Rattle.std.specs.Arc.{arc_value}
-use Rattle.std.specs.declared.sync.Arc.{Arc}
-use Rattle.std.specs.declared.boxed.Box.{Box}
 use Rattle.memory_spec.specs.Pages.{Mapped, Memory}
 use Rattle.memory_spec.specs.Workspace.{no_marks}
-use Rattle.store_mask.specs.declared.stored.StoredPage.{StoredPage}
+use Rattle.priv_space.specs.declared.slot.Held.{Held}
+use Rattle.priv_space.specs.declared.slot.Held.TheVariants.{Untouched, Shared, Own}
 use Rattle.priv_space.specs.declared.slot.Slot.{Slot}
-
--- The bytes of the own copy, where there is one. (this project's own)
-abbrev pub bytes_in : {A : Type 0} → Option (Box StoredPage A) → List ℕ → List ℕ
-bytes_in None page = page
-bytes_in (Some own) page = own.value.page
-
--- The places that were stored to. (this project's own)
-abbrev pub marks_in : {A : Type 0} → Option (Box StoredPage A) → List Bool
-marks_in None = no_marks
-marks_in (Some own) = own.value.mask
-
--- The bytes of the shared page, where the slot has a share. (this project's own)
-abbrev pub shared_in : {A : Type 0} → Option (Arc (List ℕ) A) → List ℕ → List ℕ
-shared_in None page = page
-shared_in (Some shared) page = arc_value shared
 
 -- A slot that wasn't touched. (this project's own)
 unfoldable pub untouched : Slot
-untouched = record { shared = None; own = None; taken = false }
+untouched = record { held = Untouched; taken = false }
 
--- The bytes that the slot shares: the view's, as long as it wasn't touched. (this project's own)
+-- The bytes that are shared with the view, which are the view's where nothing is. (this project's own)
+abbrev pub shared_in : Held → List ℕ → List ℕ
+shared_in Untouched page = page
+shared_in (Shared shared) page = arc_value shared
+shared_in (Own own) page = page
+
+-- The bytes with the thread's stores. (this project's own)
+abbrev pub bytes_in : Held → List ℕ → List ℕ
+bytes_in Untouched page = page
+bytes_in (Shared shared) page = page
+bytes_in (Own own) page = own.value.page
+
+-- The places that were stored to. (this project's own)
+abbrev pub marks_in : Held → List Bool
+marks_in Untouched = no_marks
+marks_in (Shared shared) = no_marks
+marks_in (Own own) = own.value.mask
+
+-- The bytes that the slot shares with the view. (this project's own)
 unfoldable pub slot_shared : List ℕ → Slot → List ℕ
-slot_shared page s = shared_in s.shared page
+slot_shared page s = shared_in s.held page
 
 -- The bytes with the thread's stores. (this project's own)
 unfoldable pub slot_bytes : List ℕ → Slot → List ℕ
-slot_bytes page s = bytes_in s.own page
+slot_bytes page s = bytes_in s.held page
 
 -- Which places were stored to. (this project's own)
 unfoldable pub slot_marks : Slot → List Bool
-slot_marks s = marks_in s.own
+slot_marks s = marks_in s.held
 
 -- Whether a byte was taken. (this project's own)
 unfoldable pub slot_taken : Slot → Bool

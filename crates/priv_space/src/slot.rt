@@ -6,23 +6,34 @@ ghost use Rattle.memory_spec.specs.Pages.{page_of};
 ghost use Rattle.memory_spec.specs.Workspace.{no_marks};
 ghost use Rattle.priv_space.specs.Written.{byte_of, with_number, with_marks};
 ghost use Rattle.priv_space.specs.Parts.{read_part, delta_part};
+ghost use Rattle.priv_space.specs.declared.slot.Held.TheVariants.{Untouched};
 ghost use Rattle.priv_space.specs.Slots.{untouched, slot_shared, slot_bytes, slot_marks, slot_taken};
 
 use memory_spec::Size;
 use page_store::{Page, PageTable};
 use std::alloc::{AllocError, Global};
+use std::mem;
 use std::sync::Arc;
 use store_mask::{Mask, PageDelta, ReadPage, StoredPage};
 
-/// A share of the view's page from the first byte on that is taken from it, the thread's own copy from
-/// its first store on, and whether the thread took a byte.
+/// What a slot holds of its page.
 ///
-/// A slot that wasn't touched has no share, so that a view of many pages costs no count of holders for
-/// those that a thread leaves alone.
+/// One that wasn't touched has no share, so that a view of many pages costs no count of holders for those
+/// that a thread leaves alone.
+#[derive(Drop)]
+pub(super) enum Held {
+    /// Nothing: its page is the view's.
+    Untouched,
+    /// A share of the view's page, from the first byte on that was taken from it.
+    Shared(Arc<Page>),
+    /// The thread's own copy, from the first store on.
+    Own(Box<StoredPage>),
+}
+
+/// What the thread holds of a page, and whether it took a byte of it.
 #[derive(Drop)]
 pub(super) struct Slot {
-    pub(super) shared: Option<Arc<Page>>,
-    pub(super) own: Option<Box<StoredPage>>,
+    pub(super) held: Held,
     pub(super) taken: bool,
 }
 
@@ -145,8 +156,7 @@ impl Slot {
         ensures { result ≡ untouched }
     {
         Slot {
-            shared: None,
-            own: None,
+            held: Held::Untouched,
             taken: false,
         }
     }
@@ -156,14 +166,12 @@ impl Slot {
     #[tactic(auto, unfolding(crate::specs::Slots::slot_shared, crate::specs::Slots::slot_bytes))]
     fn page(&self) -> Option<&Page>
         ensures held { (page : List ℕ) → slot_shared page self.now ≡ page → IfSome result (λ held. held.now ≡ slot_bytes page self.now) }
-        ensures missing { IfNone result ((page : List ℕ) → slot_bytes page self.now ≡ page) }
+        ensures missing { IfNone result (self.now.held ≡ Untouched) }
     {
-        match &self.own {
-            Some(own) => Some(&own.page),
-            None => match &self.shared {
-                Some(shared) => Some(shared),
-                None => None,
-            },
+        match &self.held {
+            Held::Own(own) => Some(&own.page),
+            Held::Shared(shared) => Some(shared),
+            Held::Untouched => None,
         }
     }
 
@@ -219,16 +227,17 @@ impl Slot {
     ) -> Result<u32, AllocError>
         requires within { place < length view.now }
         requires inside { offset + byte_count size ≤ 4096 }
+        requires untouched { self.old.held ≡ Untouched }
         ensures value { IfOk result (λ number. number ≡ number_in (page_of view.now place) offset size) }
         ensures small { IfOk result (λ number. number < 2 ^ (8 * byte_count size)) }
-        ensures shared { OnOk result (slot_shared (page_of view.now place) self.new ≡ page_of view.now place) }
-        ensures shared_stays { OnErr result (self.new.shared ≡ self.old.shared) }
-        ensures own { self.new.own ≡ self.old.own }
+        ensures shared { slot_shared (page_of view.now place) self.new ≡ page_of view.now place }
+        ensures bytes { slot_bytes (page_of view.now place) self.new ≡ page_of view.now place }
+        ensures marks { slot_marks self.new ≡ no_marks }
         ensures taken { slot_taken self.new ≡ slot_taken self.old }
     {
         let shared = view.share(place)?;
         let number = number_at(&shared, offset, size);
-        self.shared = Some(shared);
+        self.held = Held::Shared(shared);
         Ok(number)
     }
 
@@ -250,20 +259,21 @@ impl Slot {
     ) -> Result<(), AllocError>
         requires within { place < length view.now }
         requires inside { offset + byte_count size ≤ 4096 }
-        ensures shared { self.new.shared ≡ self.old.shared }
+        requires share { slot_shared (page_of view.now place) self.old ≡ page_of view.now place }
+        ensures shared { slot_shared (page_of view.now place) self.new ≡ page_of view.now place }
         ensures taken { slot_taken self.new ≡ slot_taken self.old }
         ensures bytes { OnOk result (slot_bytes (page_of view.now place) self.new ≡ with_number (slot_bytes (page_of view.now place) self.old) offset size value) }
         ensures marks { OnOk result (slot_marks self.new ≡ with_marks (slot_marks self.old) offset size) }
         ensures bytes_stay { OnErr result (slot_bytes (page_of view.now place) self.new ≡ slot_bytes (page_of view.now place) self.old) }
         ensures marks_stay { OnErr result (slot_marks self.new ≡ slot_marks self.old) }
     {
-        match &mut self.own {
-            Some(own) => {
+        match &mut self.held {
+            Held::Own(own) => {
                 store_number(own, offset, size, value);
                 Ok(())
             }
-            None => {
-                self.own = Some(own_copy(alloc, view.page(place), offset, size, value)?);
+            Held::Shared(_) | Held::Untouched => {
+                self.held = Held::Own(own_copy(alloc, view.page(place), offset, size, value)?);
                 Ok(())
             }
         }
@@ -295,9 +305,10 @@ impl Slot {
     ) -> Result<(), AllocError>
         ensures { (page : List ℕ) → OnOk result (deltas.new.items ≡ deltas.old.items ++ delta_part place (slot_marks self.old) (slot_bytes page self.old)) }
     {
-        match self.own.take() {
-            None => Ok(()),
-            Some(own) => {
+        match mem::replace(&mut self.held, Held::Untouched) {
+            Held::Untouched => Ok(()),
+            Held::Shared(_) => Ok(()),
+            Held::Own(own) => {
                 if own.mask.is_empty() {
                     return Ok(());
                 }

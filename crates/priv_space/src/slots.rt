@@ -58,7 +58,8 @@ pub(super) fn store(
     requires count { length slots.old ≡ length view.now }
     requires within { slot < length slots.old }
     requires inside { offset + byte_count size ≤ 4096 }
-    ensures shared { on_view slot_shared view.now slots.new ≡ on_view slot_shared view.now slots.old }
+    requires share { on_view slot_shared view.now slots.old ≡ view.now }
+    ensures shared { on_view slot_shared view.now slots.new ≡ view.now }
     ensures taken { map slot_taken slots.new ≡ map slot_taken slots.old }
     ensures bytes { OnOk result (on_view slot_bytes view.now slots.new ≡ slice_set (on_view slot_bytes view.now slots.old) slot (with_number (page_of (on_view slot_bytes view.now slots.old) slot) offset size value)) }
     ensures marks { OnOk result (map slot_marks slots.new ≡ slice_set (map slot_marks slots.old) slot (with_marks (mask_of (map slot_marks slots.old) slot) offset size)) }

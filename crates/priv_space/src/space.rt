@@ -18,9 +18,9 @@ use std::marker::Model;
 use std::sync::Arc;
 use store_mask::{Delta, Reads};
 
-/// A view that a thread works on, with its own stores laid over it: it shares the view, has a share of
-/// each page from which a byte was taken, and a copy of each page that it stored to. A clause sees a
-/// `Workspace` of `memory_spec`.
+/// A view that a thread works on, with its own stores laid over it. It shares the view, takes a share of
+/// a page when it first takes a byte of it, and copies a page when it first stores to it; the pages that
+/// it doesn't touch cost it no share. A clause sees a `Workspace` of `memory_spec`.
 #[derive(Drop)]
 pub struct Space {
     alloc: Global,

@@ -1,19 +1,26 @@
 use Rattle.std.proofs.Common.{map, set, ap, sym, ◌∙◌, [], arith, ◌<◌, length}
 use Rattle.std.proofs.lemmas.List.{map-set, get_or-map}
 use Rattle.std.proofs.Math.Seq.{map-set_same}
-use Rattle.memory_spec.specs.Pages.{page_of}
 use Rattle.priv_space.specs.Written.{with_number, with_marks}
-use Rattle.priv_space.specs.Slots.{on_view, slot_shared, slot_bytes, slot_marks, slot_taken, shared_in}
+use Rattle.priv_space.specs.Slots.{on_view, slot_shared, slot_bytes, slot_marks, slot_taken}
 use Rattle.priv_space.proofs.Spaces.{on_ok, on_err}
-use Rattle.priv_space.proofs.Views.{on_view-set, get_or-on_view, on_view-set_same}
+use Rattle.priv_space.proofs.Views.{on_view-set, get_or-on_view, fitting-on_view, on_view-set_same}
 use Rattle.priv_space.proofs.slots.store.Goals as goal
 
-pub returns-clause-shared : goal.returns-clause-shared
-unfolding slot_shared
-returns-clause-shared c =
+pub store-requires-clause-share : goal.store-requires-clause-share
+store-requires-clause-share c =
     let within : c.args.slot < length c.args.view.now = omega arith in
-    on_view-set_same slot_shared c.args.view.now c.args.slots.now c.args.slot c.store.new.self c.index-slots-slot.result within
-    c.requires.within (ap (λ shared. shared_in shared (page_of c.args.view.now c.args.slot)) c.store.ensures.shared)
+    fitting-on_view slot_shared c.args.view.now c.args.slots.now c.args.slot c.index-slots-slot.result within c.requires.within c.requires.share
+
+pub returns-clause-shared : goal.returns-clause-shared
+returns-clause-shared c =
+    let view = c.args.view.now in
+    let slots = c.args.slots.now in
+    let within : c.args.slot < length view = omega arith in
+    on_view-set_same slot_shared view slots c.args.slot c.store.new.self c.index-slots-slot.result within c.requires.within
+    (c.store.ensures.shared
+    ∙ sym (fitting-on_view slot_shared view slots c.args.slot c.index-slots-slot.result within c.requires.within c.requires.share))
+    ∙ c.requires.share
 
 pub returns-clause-taken : goal.returns-clause-taken
 returns-clause-taken c = map-set_same slot_taken c.args.slots.now c.args.slot c.store.new.self c.index-slots-slot.result c.store.ensures.taken
