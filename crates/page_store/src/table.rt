@@ -13,7 +13,7 @@ use std::sync::Arc;
 /// Pages by slot, which several tables may share. A clause sees the list of their bytes.
 ///
 /// The pages stand in groups of 32, all full but the last, and the tables share whole groups: a snapshot copies one
-/// pointer a group, and a change of a page makes the group anew that has it.
+/// pointer a group; a change of a page makes the group anew that has it, and one page more the last group.
 #[derive(Drop)]
 pub struct PageTable {
     alloc: Global,
@@ -109,7 +109,8 @@ impl PageTable {
     ///
     /// # Errors
     ///
-    /// An error where the host's memory ran out; the table is then as before.
+    /// An error where the host's memory ran out, or a page has as many holders as can be counted; the table is then as
+    /// before.
     pub fn push(&mut self, page: Page) -> Result<(), AllocError>
         ensures ok { OnOk result (self.new ≡ self.old ++ page ∷ []) }
         ensures err { OnErr result (self.new ≡ self.old) }
@@ -122,7 +123,8 @@ impl PageTable {
     ///
     /// # Errors
     ///
-    /// An error where the host's memory ran out; the table is then as before.
+    /// An error where the host's memory ran out, or a page has as many holders as can be counted; the table is then as
+    /// before.
     pub fn push_shared(&mut self, page: &Arc<Page>) -> Result<(), AllocError>
         ensures ok { OnOk result (self.new ≡ self.old ++ arc_value page.now ∷ []) }
         ensures err { OnErr result (self.new ≡ self.old) }
@@ -135,7 +137,7 @@ impl PageTable {
     ///
     /// # Errors
     ///
-    /// An error where the host's memory ran out.
+    /// An error where the host's memory ran out, or a group has as many holders as can be counted.
     pub fn snapshot(&self) -> Result<PageTable, AllocError>
         ensures { IfOk result (λ table. table ≡ self.now) }
     {
@@ -154,7 +156,8 @@ impl PageTable {
     ///
     /// # Errors
     ///
-    /// An error where the host's memory ran out; the table is then as before.
+    /// An error where the host's memory ran out, or a page has as many holders as can be counted; the table is then as
+    /// before.
     pub fn replace(&mut self, slot: usize, page: Page) -> Result<(), AllocError>
         requires { slot < length self.old }
         ensures ok { OnOk result (self.new ≡ slice_set self.old slot page) }
@@ -169,7 +172,7 @@ impl PageTable {
         Ok(())
     }
 
-    // Puts a page into the next slot: the last group with one more, or a group of its own.
+    /// Puts a page into the next slot: the last group with one more, or a group of its own.
     fn push_owned(&mut self, page: Arc<Page>) -> Result<(), AllocError>
         ensures ok { OnOk result (self.new ≡ self.old ++ arc_value page ∷ []) }
         ensures err { OnErr result (self.new ≡ self.old) }

@@ -5,7 +5,9 @@ use memory_spec::{MemoryError, Size};
 use page_map::{MappedPage, Mem, PageMap, Perm};
 use page_store::{Page, PageTable};
 use std::alloc::AllocError;
+use std::process::Abort;
 use std::sync::Arc;
+use store_mask::Delta;
 
 #[test]
 fn stores_stay_with_the_thread(rt: HostRuntime) -> Result<(), AllocError> {
@@ -43,6 +45,18 @@ fn stores_stay_with_the_thread(rt: HostRuntime) -> Result<(), AllocError> {
     Ok(())
 }
 
+/// Compares a delta with that of one store: the word 0xaabbccdd at 8 of the third page.
+fn compare_word<R: Abort>(rt: &R, delta: &Delta) {
+    assert_eq!(rt; delta.len(), 1);
+    for stored in delta.pages() {
+        assert_eq!(rt; stored.slot(), 2);
+        assert_eq!(rt; stored.written(&Page::new([9; 4096])).get(7), 9);
+        assert_eq!(rt; stored.written(&Page::new([9; 4096])).get(8), 0xdd);
+        assert_eq!(rt; stored.written(&Page::new([9; 4096])).get(11), 0xaa);
+        assert_eq!(rt; stored.written(&Page::new([9; 4096])).get(12), 9);
+    }
+}
+
 #[test]
 fn an_untouched_page_has_no_share_taken(rt: HostRuntime) -> Result<(), AllocError> {
     let pages = vec![in rt.alloc();
@@ -74,15 +88,7 @@ fn an_untouched_page_has_no_share_taken(rt: HostRuntime) -> Result<(), AllocErro
     assert_eq!(rt; reads.pages()[0].page().get(0), 3);
     assert_eq!(rt; reads.pages()[1].slot(), 2);
     assert_eq!(rt; reads.pages()[1].page().get(8), 7);
-    let delta = space.into_delta()?;
-    assert_eq!(rt; delta.len(), 1);
-    for stored in delta.pages() {
-        assert_eq!(rt; stored.slot(), 2);
-        assert_eq!(rt; stored.written(&Page::new([9; 4096])).get(7), 9);
-        assert_eq!(rt; stored.written(&Page::new([9; 4096])).get(8), 0xdd);
-        assert_eq!(rt; stored.written(&Page::new([9; 4096])).get(11), 0xaa);
-        assert_eq!(rt; stored.written(&Page::new([9; 4096])).get(12), 9);
-    }
+    compare_word(&rt, &space.into_delta()?);
     assert_eq!(rt; Arc::strong_count(&second), 2);
     Ok(())
 }
