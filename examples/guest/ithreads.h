@@ -14,9 +14,11 @@
            return 0;                                                      // ends the run: end exit 0
        }
 
-   Names and the order of arguments are those of POSIX threads and semaphores. Mutexes, semaphores, barriers and conditions are numbered
-   from 0 to 63; they need no memory, and only barriers must be initialised. An answer is an int: 0 or a positive number where the call was
-   done, a negated error number of enum it_error where it wasn't. Each function below says all of its answers; docs/MACHINE.md has the rules.
+   Names follow those of POSIX threads and semaphores. So does the order of the arguments, as far as both have them: there are
+   no attributes, a semaphore's `pshared` isn't there, and a new thread's number is it_thread_create's answer. Mutexes, semaphores, barriers and
+   conditions are numbered from 0 to 63; they need no memory, and only barriers must be initialised. An answer is an int: 0 or a positive number
+   where the call was done, a negated error number of enum it_error where it wasn't. Each function below says all of its answers; docs/MACHINE.md
+   has the rules.
 
    A thread sees what others stored only from its next call that returns; and what it stored, others see only after its next call. So
    shared data needs no volatile: each call tells the compiler that all memory may have changed.
@@ -166,17 +168,17 @@ static inline __attribute__((noreturn)) void it_exit(unsigned code)
    guest runs there is it_thread_create_at. */
 #define it_thread_create(function, argument)                                                                                     \
     __extension__({                                                                                                              \
-        unsigned (*const it_function)(unsigned) = (function);                                                                    \
-        const unsigned it_argument = (unsigned)(argument);                                                                       \
-        register unsigned it_a0 __asm__("a0");                                                                                   \
-        register unsigned it_a1 __asm__("a1") = it_argument;                                                                     \
-        register unsigned it_a7 __asm__("a7") = IT_CALL_CREATE;                                                                  \
-        (void)it_function;                                                                                                       \
-        __asm__ volatile("la a0, 1f\n\t" IT_CLEAR "ecall\n\tj 2f\n1:\tcall %[body]\n\tli a7, %[end]\n\tecall\n2:"                     \
-                         : "=&r"(it_a0), "+r"(it_a1)                                                                             \
-                         : "r"(it_a7), [body] "i"(function), [end] "i"(IT_CALL_THREAD_EXIT)                                      \
+        const unsigned it_argument_of_create__ = (unsigned)(argument);                                                           \
+        unsigned (*const it_function_of_create__)(unsigned) = (function);                                                        \
+        register unsigned it_a0_of_create__ __asm__("a0");                                                                       \
+        register unsigned it_a1_of_create__ __asm__("a1") = it_argument_of_create__;                                             \
+        register unsigned it_a7_of_create__ __asm__("a7") = IT_CALL_CREATE;                                                      \
+        (void)it_function_of_create__;                                                                                           \
+        __asm__ volatile("la a0, 1f\n\t" IT_CLEAR "ecall\n\tj 2f\n1:\tcall %[body]\n\tli a7, %[end]\n\tecall\n2:"                \
+                         : "=&r"(it_a0_of_create__), "+r"(it_a1_of_create__)                                                     \
+                         : "r"(it_a7_of_create__), [body] "i"(function), [end] "i"(IT_CALL_THREAD_EXIT)                          \
                          : IT_CLEARED);                                                                                          \
-        (int)it_a0;                                                                                                              \
+        (int)it_a0_of_create__;                                                                                                  \
     })
 
 /* A new thread that starts at the entry with the argument. The entry must not return: it ends by it_thread_exit. Answers as
@@ -193,8 +195,8 @@ static inline __attribute__((noreturn)) void it_thread_exit(unsigned value)
 }
 
 /* Waits until the thread has ended. Answers 0, and *value is the thread's value (value may be null); -IT_ESRCH: no such thread; -IT_EDEADLK:
-   the caller itself; -IT_EINVAL: another thread waits for it or has waited. The value comes in a register, so the step after the call is
-   executed again when it changes. */
+   the caller itself; -IT_EINVAL: somebody waits for it or has waited, the caller counted. The value comes in a register, so the step after the
+   call is executed again when it changes. */
 static inline int it_thread_join(unsigned thread, unsigned *value)
 {
     unsigned left;
@@ -397,12 +399,12 @@ IT_LIBRARY unsigned __mulsi3(unsigned a, unsigned b)
     return product;
 }
 
-/* Both of a division, by shifting and subtracting. By 0 the quotient is all ones and the rest is the number, as RISC-V has it. */
+/* Both of a division, by shifting and subtracting. By 0 the quotient is all ones and the remainder is the number, as RISC-V has it. */
 #define IT_DIVIDE(name, type, top)                                                                                               \
-    static inline type name(type number, type by, type *rest)                                                                    \
+    static inline type name(type number, type by, type *remainder)                                                               \
     {                                                                                                                            \
         type quotient = 0, bit = 1;                                                                                              \
-        *rest = number;                                                                                                          \
+        *remainder = number;                                                                                                     \
         if (!by)                                                                                                                 \
             return ~quotient;                                                                                                    \
         while (by < number && !(by >> (top))) {                                                                                  \
@@ -414,7 +416,7 @@ IT_LIBRARY unsigned __mulsi3(unsigned a, unsigned b)
                 number -= by;                                                                                                    \
                 quotient |= bit;                                                                                                 \
             }                                                                                                                    \
-        *rest = number;                                                                                                          \
+        *remainder = number;                                                                                                     \
         return quotient;                                                                                                         \
     }
 
@@ -423,32 +425,32 @@ IT_DIVIDE(it_divide_long, unsigned long long, 63)
 
 IT_LIBRARY unsigned __udivsi3(unsigned number, unsigned by)
 {
-    unsigned rest;
-    return it_divide(number, by, &rest);
+    unsigned remainder;
+    return it_divide(number, by, &remainder);
 }
 
 IT_LIBRARY unsigned __umodsi3(unsigned number, unsigned by)
 {
-    unsigned rest;
-    it_divide(number, by, &rest);
-    return rest;
+    unsigned remainder;
+    it_divide(number, by, &remainder);
+    return remainder;
 }
 
-/* C's quotient is rounded towards zero, and the rest has the sign of the number */
+/* C's quotient is rounded towards zero, and the remainder has the sign of the number */
 IT_LIBRARY int __divsi3(int number, int by)
 {
-    unsigned rest, quotient = it_divide(number < 0 ? 0u - (unsigned)number : (unsigned)number, by < 0 ? 0u - (unsigned)by : (unsigned)by, &rest);
+    unsigned remainder, quotient = it_divide(number < 0 ? 0u - (unsigned)number : (unsigned)number, by < 0 ? 0u - (unsigned)by : (unsigned)by, &remainder);
     return by && (number < 0) != (by < 0) ? (int)(0u - quotient) : (int)quotient;
 }
 
 IT_LIBRARY int __modsi3(int number, int by)
 {
-    unsigned rest;
-    it_divide(number < 0 ? 0u - (unsigned)number : (unsigned)number, by < 0 ? 0u - (unsigned)by : (unsigned)by, &rest);
-    return number < 0 ? (int)(0u - rest) : (int)rest;
+    unsigned remainder;
+    it_divide(number < 0 ? 0u - (unsigned)number : (unsigned)number, by < 0 ? 0u - (unsigned)by : (unsigned)by, &remainder);
+    return number < 0 ? (int)(0u - remainder) : (int)remainder;
 }
 
-/* the same of long long; shifts of it need no function */
+/* the same of long long; at the -O2 of examples/guest/build shifts of it need no function */
 IT_LIBRARY unsigned long long __muldi3(unsigned long long a, unsigned long long b)
 {
     unsigned long long product = 0, few = a < b ? a : b;
@@ -460,29 +462,29 @@ IT_LIBRARY unsigned long long __muldi3(unsigned long long a, unsigned long long 
 
 IT_LIBRARY unsigned long long __udivdi3(unsigned long long number, unsigned long long by)
 {
-    unsigned long long rest;
-    return it_divide_long(number, by, &rest);
+    unsigned long long remainder;
+    return it_divide_long(number, by, &remainder);
 }
 
 IT_LIBRARY unsigned long long __umoddi3(unsigned long long number, unsigned long long by)
 {
-    unsigned long long rest;
-    it_divide_long(number, by, &rest);
-    return rest;
+    unsigned long long remainder;
+    it_divide_long(number, by, &remainder);
+    return remainder;
 }
 
 IT_LIBRARY long long __divdi3(long long number, long long by)
 {
-    unsigned long long rest, size = number < 0 ? 0ull - (unsigned long long)number : (unsigned long long)number;
-    unsigned long long quotient = it_divide_long(size, by < 0 ? 0ull - (unsigned long long)by : (unsigned long long)by, &rest);
+    unsigned long long remainder, size = number < 0 ? 0ull - (unsigned long long)number : (unsigned long long)number;
+    unsigned long long quotient = it_divide_long(size, by < 0 ? 0ull - (unsigned long long)by : (unsigned long long)by, &remainder);
     return by && (number < 0) != (by < 0) ? (long long)(0ull - quotient) : (long long)quotient;
 }
 
 IT_LIBRARY long long __moddi3(long long number, long long by)
 {
-    unsigned long long rest, size = number < 0 ? 0ull - (unsigned long long)number : (unsigned long long)number;
-    it_divide_long(size, by < 0 ? 0ull - (unsigned long long)by : (unsigned long long)by, &rest);
-    return number < 0 ? (long long)(0ull - rest) : (long long)rest;
+    unsigned long long remainder, size = number < 0 ? 0ull - (unsigned long long)number : (unsigned long long)number;
+    it_divide_long(size, by < 0 ? 0ull - (unsigned long long)by : (unsigned long long)by, &remainder);
+    return number < 0 ? (long long)(0ull - remainder) : (long long)remainder;
 }
 
 #endif
