@@ -1,5 +1,5 @@
 -- The marks of words, at one place and as a whole.
-use Rattle.std.proofs.Common.{◌≡◌, ◌≢◌, ℕ, ◌+◌, ◌*◌, ◌/◌, ◌%◌, ◌^◌, ◌<◌, zero, suc, Bool, true, false, ◌==◌, inl, inr, List, [], ◌∷◌, length, get_or, set, replicate, refl, ap, sym, ◌∙◌, arith, w64}
+use Rattle.std.proofs.Common.{◌≡◌, ◌≢◌, ℕ, ◌+◌, ◌*◌, ◌/◌, ◌%◌, ◌^◌, ◌<◌, ◌≤◌, zero, suc, Bool, true, false, ◌==◌, inl, inr, List, [], ◌∷◌, length, get_or, set, replicate, refl, ap, sym, ◌∙◌, arith, w64}
 use Rattle.std.specs.Int.{bit_at, trailing_zeros}
 use Rattle.std.specs.Int.RustNames.{bit_or, bit_and}
 use Rattle.std.proofs.lemmas.Bool.{cases_eq}
@@ -120,3 +120,15 @@ is_stored-word words k lt some small =
     ∙ ap (λ j. bit_at (get_or words j 0) ((64 * k + t) % 64) == 1) whole
     ∙ ap (λ i. bit_at (get_or words k 0) i == 1) rest
     ∙ ap (λ b. b == 1) found.1)
+
+-- a word that is zero marks none of its places
+pub blank_at :
+    (words : List ℕ) (place k : ℕ)
+    → k < 4096 → place % 64 ≡ 0 → get_or words (place / 64) 0 ≡ 0 → place ≤ k → k < place + 64
+    → get_or (flags_of words) k false ≡ false
+blank_at words place k within first zeros from below =
+    let same : k / 64 ≡ place / 64 = omega (arith, first, from, below) in
+    flags_of-at words k false within
+    ∙ ap (λ j. bit_at (get_or words j 0) (k % 64) == 1) same
+    ∙ ap (λ w. bit_at w (k % 64) == 1) zeros
+    ∙ ap (λ b. b == 1) (bit_at-zero (k % 64))

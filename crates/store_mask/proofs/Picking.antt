@@ -1,5 +1,5 @@
 -- Merging pages byte by byte.
-use Rattle.std.proofs.Common.{◌≡◌, ℕ, ◌<◌, ◌+◌, zero, suc, Bool, false, cond, List, [], ◌∷◌, length, get_or, set, take, refl, ap, sym, ◌∙◌, arith}
+use Rattle.std.proofs.Common.{◌≡◌, ℕ, ◌<◌, ◌≤◌, ◌+◌, zero, suc, Bool, false, cond, List, [], ◌∷◌, length, get_or, set, take, refl, ap, sym, ◌∙◌, arith}
 use Rattle.std.proofs.lemmas.List.{take_all}
 use Rattle.record_spec.specs.Delta.{chosen, spread}
 use Rattle.record_spec.proofs.Merging.{merged, spread-chosen}
@@ -43,3 +43,30 @@ merged-step o n page m i picked marked is marks picks p q lt =
     ∙ ap (λ start. cond (get_or m i false) (get_or n i 0) (get_or start i 0)) is)
     ∙ merged-more o n m i p q lt
     ∙ ap (λ k. merged o n (take k m)) next
+
+-- a place that isn't marked changes nothing
+merged-unmarked :
+    (o n : List ℕ) (m : List Bool) (i : ℕ)
+    → length n ≡ length o → length m ≡ length o → i < length o → get_or m i false ≡ false
+    → merged o n (take (suc i) m) ≡ merged o n (take i m)
+merged-unmarked [] n m i p q lt unmarked = absurd (omega arith)
+merged-unmarked (o ∷ os) [] m i p q lt unmarked = absurd (omega arith)
+merged-unmarked (o ∷ os) (n ∷ ns) [] i p q lt unmarked = absurd (omega arith)
+merged-unmarked (o ∷ os) (n ∷ ns) (m ∷ ms) zero p q lt unmarked =
+    ap (λ b. cond b n o ∷ merged os ns []) unmarked ∙ ap (λ rest. o ∷ rest) (merged-nil os ns)
+merged-unmarked (o ∷ os) (n ∷ ns) (m ∷ ms) (suc i) p q lt unmarked =
+    ap (λ rest. cond m n o ∷ rest) (merged-unmarked os ns ms i (omega arith) (omega arith) (omega arith) unmarked)
+
+-- and so many of them
+pub merged-blank :
+    (count : ℕ) (o n : List ℕ) (m : List Bool) (i : ℕ)
+    → length n ≡ length o → length m ≡ length o → i + count ≤ length o
+    → ((k : ℕ) → i ≤ k → k < i + count → get_or m k false ≡ false)
+    → merged o n (take (i + count) m) ≡ merged o n (take i m)
+merged-blank zero o n m i p q within blank =
+    let same : i + 0 ≡ i = omega arith in ap (λ k. merged o n (take k m)) same
+merged-blank (suc count) o n m i p q within blank =
+    let next : i + suc count ≡ suc (i + count) = omega arith in
+    ap (λ k. merged o n (take k m)) next
+    ∙ merged-unmarked o n m (i + count) p q (omega (arith, within)) (blank (i + count) (omega arith) (omega arith))
+    ∙ merged-blank count o n m i p q (omega (arith, within)) (λ k from below. blank k from (omega (arith, below)))

@@ -1,6 +1,6 @@
 //! Marks of the places of a page.
 
-ghost use Rattle.std.specs.Prelude.{◌≡◌, ◌<◌, ◌^◌, ℕ, false, true, not, length, slice_index, slice_index_or, slice_set, IfSome, IfNone, if◌then◌else◌};
+ghost use Rattle.std.specs.Prelude.{◌≡◌, ◌<◌, ◌≤◌, ◌+◌, ◌%◌, ◌^◌, ℕ, false, true, not, length, slice_index, slice_index_or, slice_set, IfSome, IfNone, if◌then◌else◌};
 ghost use Rattle.memory_spec.specs.Workspace.{no_marks};
 ghost use Rattle.record_spec.specs.Delta.{is_stored, chosen, spread};
 ghost use Rattle.store_mask.specs.Flags.{flags_of};
@@ -92,15 +92,33 @@ impl Mask {
         }
     }
 
-    /// Writes the bytes of another page at the marked places of a page.
+    /// Writes the bytes of another page at the marked places of a page. Words without a mark, which are most,
+    /// are passed over whole.
     pub fn merge(&self, page: &mut [u8], written: &[u8])
         requires page_is_whole { length page.old ≡ 4096 }
         requires written_is_whole { length written.now ≡ 4096 }
         ensures { page.new ≡ spread self.now (chosen self.now written.now) page.old }
     {
         self.whole();
-        for place in 0..4096 {
-            page[place] = pick(self.get(place), written[place], page[place]);
+        let mut place = 0;
+        while place < 4096 {
+            if self.begins_blank_word(place) {
+                place += 64;
+            } else {
+                page[place] = pick(self.get(place), written[place], page[place]);
+                place += 1;
+            }
         }
+    }
+
+    /// Whether a place is the first of a word, and none of the word's places is marked.
+    #[inline(always)]
+    #[tactic(auto, using(crate::proofs::Marks::blank_at))]
+    fn begins_blank_word(&self, place: usize) -> bool
+        requires { place < 4096 }
+        ensures first { result ≡ true → place % 64 ≡ 0 }
+        ensures blank { result ≡ true → (k : ℕ) → place ≤ k → k < place + 64 → slice_index_or self.now k false ≡ false }
+    {
+        place % 64 == 0 && self.words[place / 64] == 0
     }
 }
