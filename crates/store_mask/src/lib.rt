@@ -11,3 +11,6 @@ pub use delta::{Delta, PageDelta};
 pub use mask::Mask;
 pub use reads::{ReadPage, Reads};
 pub use stored::StoredPage;
+
+#[cfg(test)]
+mod tests;
