@@ -12,6 +12,13 @@ ghost use Rattle.guest_call.specs.Locality.{IsLocalBy};
 ghost use Rattle.guest_call.specs.Numbers.{call_of};
 ghost use Rattle.guest_call.specs.Answers.{answer_eperm, answer_esrch, answer_eagain, answer_efault, answer_ebusy, answer_einval, answer_eoverflow, answer_edeadlk};
 
+mod thread_number;
+
+pub use thread_number::{THREADS, Thread};
+
+/// How many objects there are of each kind.
+pub const OBJECTS: usize = 64;
+
 /// The answer for EPERM (POSIX.1-2017, `<errno.h>`): the caller isn't the owner.
 pub const EPERM: u32 = 0xFFFF_FFFF;
 /// The answer for ESRCH (POSIX.1-2017, `<errno.h>`): there is no such thread.
