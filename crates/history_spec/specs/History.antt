@@ -1,74 +1,89 @@
--- What is kept of a finished run: its setup, and a record of each step.
-use Rattle.std.specs.Prelude.{◌≡◌, ℕ, Bool, true, ◌&&◌, ◌==◌, List, [], ◌∷◌, ◌++◌, map, find, count_by, Option, Some, None, is_none, is_some, ⊤}
+-- Histories: what is kept of a finished run, when it is honest or coherent, and when a new run may go by it.
+use Rattle.std.specs.Prelude.{◌≡◌, ◌<◌, ℕ, Bool, true, ◌&&◌, ◌==◌, List, [], ◌∷◌, ◌++◌, All, length, map, find, count_by, Option, Some, None, is_none, is_some, ⊤}
+use Rattle.record_spec.specs.Delta.{PageDelta}
+use Rattle.record_spec.specs.Reads.{ReadPage}
 use Rattle.record_spec.specs.Record.{Record}
 use Rattle.machine_spec.specs.Machine.{Machine}
 use Rattle.machine_spec.specs.Step.{lay, fits}
-use Rattle.machine_spec.specs.Setup.{Setup, IsSetup, first, is_permitted, is_complete, records}
+use Rattle.machine_spec.specs.Setup.{Setup, IsSetup, first, map_of, is_permitted, is_complete, records}
 
--- A history: what a run started from, and the records of its steps in order. (this project's own)
+-- A history: what a run started from, and the records of its steps in order.
 pub record History : Type 0 where
   pub setup : Setup
   pub records : List Record
 
--- The threads of some records, in order: the schedule that they were made under. (this project's own)
+-- The threads of some records, in order: the schedule that they were made under.
 abbrev pub threads_of_records : List Record → List ℕ
 threads_of_records rs = map (λ (r : Record). r.thread) rs
 
 abbrev pub schedule_of : History → List ℕ
 schedule_of h = threads_of_records h.records
 
--- An honest history: its schedule is permitted and complete, and its records are those of the machine from scratch. (this project's own)
+-- An honest history: its schedule is permitted and complete, and its records are those of the machine from scratch.
 pub record IsHonest (h : History) : Type 0 where
   pub valid : IsSetup h.setup
   pub permitted : is_permitted h.setup (schedule_of h) ≡ true
   pub complete : is_complete h.setup (schedule_of h) ≡ true
   pub recorded : h.records ≡ records h.setup (schedule_of h)
 
--- The machine after records were laid one after the other. (this project's own)
+-- The machine after records were laid one after the other.
 abbrev pub laid_from : Machine → List Record → Machine
 laid_from m [] = m
 laid_from m (r ∷ rs) = laid_from (lay m r) rs
 
--- Whether each record fits the machine that those before it leave, and no end came before it. (this project's own)
+-- Whether each record fits the machine that those before it leave, and no end came before it.
 abbrev pub can_lay_from : Machine → List Record → Bool
 can_lay_from m [] = true
 can_lay_from m (r ∷ rs) = (is_none m.ending && fits m r) && can_lay_from (lay m r) rs
 
--- Whether a history holds together: laid in order, each record fits, no end comes before the last, and one comes after it. (this project's own)
+-- Whether a history holds together: laid in order, each record fits, no end comes before the last, and one comes after it.
 abbrev pub is_coherent : History → Bool
 is_coherent h = can_lay_from (first h.setup) h.records && is_some (laid_from (first h.setup) h.records).ending
 
--- Two setups that differ in nothing but the input. (this project's own)
+-- Two setups that differ in nothing but the input.
 pub record IsSameProgram (a b : Setup) : Type 0 where
   pub elf : a.elf ≡ b.elf
   pub fuel : a.fuel ≡ b.fuel
   pub limit : a.limit ≡ b.limit
 
--- What a run of a setup may go by: no history, or an honest one of the same program. (this project's own)
+-- What a run of a setup may go by: no history, or an honest one of the same program.
 abbrev pub IsSound : Option History → Setup → Type 0
 IsSound None setup = ⊤
 IsSound (Some h) setup = IsHonest h × IsSameProgram h.setup setup
 
--- Whether a record is that of a thread at a number of steps made. (this project's own)
+-- A run of a setup that goes by this history, if there is one: the setup may be run, and the history is sound for it.
+pub record CanGoBy (past : Option History) (setup : Setup) : Type 0 where
+  pub valid : IsSetup setup
+  pub sound : IsSound past setup
+
+-- A record whose slots, those of its read pages and of its stored bytes, are among so many pages.
+pub record IsMappedIn (pages : ℕ) (r : Record) : Type 0 where
+  pub reads : All (λ (p : ReadPage). p.slot < pages) r.kept.reads
+  pub delta : All (λ (d : PageDelta). d.slot < pages) r.kept.delta
+
+-- A history whose records have their slots in the page map of its setup.
+abbrev pub IsMapped : History → Type 0
+IsMapped h = All (IsMappedIn (length (map_of h.setup))) h.records
+
+-- Whether a record is that of a thread at a number of steps made.
 abbrev pub is_of : ℕ → ℕ → Record → Bool
 is_of t number r = (r.thread == t) && (r.number == number)
 
--- The records that there are to go by. (this project's own)
+-- The records that there are to go by.
 abbrev pub past_records : Option History → List Record
 past_records None = []
 past_records (Some h) = h.records
 
--- The record of a thread at a number of steps made, if there is one. (this project's own)
+-- The record of a thread at a number of steps made, if there is one.
 abbrev pub found : Option History → ℕ → ℕ → Option Record
 found past t number = find (is_of t number) (past_records past)
 
--- Whether the number of each record is how many records of its thread come before it, where others of these threads come first. (this
--- project's own)
+-- Whether the number of each record is how many records of its thread come before it, where others of these threads come first.
 abbrev pub is_numbered_after : List ℕ → List Record → Bool
 is_numbered_after earlier [] = true
 is_numbered_after earlier (r ∷ rs) =
     (r.number == count_by (λ t. t == r.thread) earlier) && is_numbered_after (earlier ++ r.thread ∷ []) rs
 
--- The same from the first record on. (this project's own)
+-- The same from the first record on.
 abbrev pub is_numbered : List Record → Bool
 is_numbered rs = is_numbered_after [] rs

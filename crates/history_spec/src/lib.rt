@@ -1,18 +1,19 @@
 //! Histories of finished runs, as definitions: when a history is honest, when it is coherent, when a
 //! new run may go by it, and which of its records stands for a step; with the laws that each record
 //! of an honest history is true, that to lay one that fits is the step of its thread, that an honest
-//! history is coherent, and that a ready thread's view is fixed until it makes its step. No code.
+//! history is coherent, that a ready thread's view is fixed until it makes its step, and that records
+//! have their slots in the page map. No code.
 #![tactic(auto)]
 
-ghost use Rattle.std.specs.Prelude.{◌≡◌, ℕ, List, All, Option, count_by, Some, true, false, ◌==◌};
+ghost use Rattle.std.specs.Prelude.{◌≡◌, ℕ, List, All, length, Option, count_by, Some, true, false, ◌==◌};
 ghost use Rattle.std.specs.List.{list_any};
 ghost use Rattle.record_spec.specs.Record.{Record, IsTrue};
 ghost use Rattle.machine_spec.specs.Machine.{Machine, hart_of, is_ready};
 ghost use Rattle.machine_spec.specs.Step.{step, lay, fits};
 ghost use Rattle.machine_spec.specs.Schedule.{scratch_from, is_permitted_from, record_of};
-ghost use Rattle.machine_spec.specs.Setup.{Setup, IsSetup, first, is_permitted, records, scratch};
+ghost use Rattle.machine_spec.specs.Setup.{Setup, IsSetup, first, map_of, is_permitted, records, scratch};
 ghost use Rattle.machine_spec.specs.Whole.{IsWhole};
-ghost use Rattle.history_spec.specs.History.{History, IsHonest, IsSameProgram, IsSound, is_coherent, found, is_numbered};
+ghost use Rattle.history_spec.specs.History.{History, IsHonest, IsSameProgram, CanGoBy, IsMappedIn, IsMapped, is_coherent, found, is_numbered};
 
 /// The record of each step of a permitted schedule is true.
 pub fn records_are_true()
@@ -36,15 +37,13 @@ pub fn honest_is_coherent()
 /// thread would make there, and to lay it is that step.
 pub fn reuse_is_step()
     ensures record { (setup : Setup) (past : Option History) (schedule : List ℕ) (t number : ℕ) (r : Record)
-        → IsSetup setup
-        → IsSound past setup
+        → CanGoBy past setup
         → is_permitted setup schedule ≡ true
         → found past t number ≡ Some r
         → fits (scratch setup schedule) r ≡ true
         → r ≡ record_of (scratch setup schedule) t }
     ensures lay { (setup : Setup) (past : Option History) (schedule : List ℕ) (t number : ℕ) (r : Record)
-        → IsSetup setup
-        → IsSound past setup
+        → CanGoBy past setup
         → is_permitted setup schedule ≡ true
         → found past t number ≡ Some r
         → fits (scratch setup schedule) r ≡ true
@@ -80,4 +79,13 @@ pub fn numbers_count_steps()
 /// Two setups of the same program and with the same input are the same.
 pub fn same_input_is_same_setup()
     ensures { (a b : Setup) → IsSameProgram a b → a.input ≡ b.input → a ≡ b }
+{}
+
+/// The slots of a record of a step, those of its read pages and of its stored bytes, are in the map of
+/// the machine that made it. So the records from scratch, and those of an honest history, have theirs in
+/// their setup's map.
+pub fn records_are_mapped()
+    ensures step { (m : Machine) (t : ℕ) → IsMappedIn (length m.frame.map) (record_of m t) }
+    ensures scratch { (setup : Setup) (schedule : List ℕ) → All (IsMappedIn (length (map_of setup))) (records setup schedule) }
+    ensures honest { (h : History) → IsHonest h → IsMapped h }
 {}

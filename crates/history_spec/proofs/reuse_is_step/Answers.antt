@@ -5,13 +5,13 @@ use Rattle.history_spec.proofs.Truth.{reuse-record, reuse-lay}
 use Rattle.history_spec.proofs.reuse_is_step.Goals as goal
 
 pub returns-clause-record : goal.returns-clause-record
-returns-clause-record c = λ setup past schedule t number r valid sound permitted there fit.
-    reuse-record setup past (scratch setup schedule) t number r sound
-    (scratch-whole (first setup) schedule (IsWhole-first setup valid) permitted)
+returns-clause-record c = λ setup past schedule t number r premise permitted there fit.
+    reuse-record setup past (scratch setup schedule) t number r premise.sound
+    (scratch-whole (first setup) schedule (IsWhole-first setup premise.valid) permitted)
     (scratch-frame (first setup) schedule) there fit
 
 pub returns-clause-lay : goal.returns-clause-lay
-returns-clause-lay c = λ setup past schedule t number r valid sound permitted there fit.
-    reuse-lay setup past (scratch setup schedule) t number r sound
-    (scratch-whole (first setup) schedule (IsWhole-first setup valid) permitted)
+returns-clause-lay c = λ setup past schedule t number r premise permitted there fit.
+    reuse-lay setup past (scratch setup schedule) t number r premise.sound
+    (scratch-whole (first setup) schedule (IsWhole-first setup premise.valid) permitted)
     (scratch-frame (first setup) schedule) there fit
