@@ -3,8 +3,9 @@ use Rattle.std.proofs.Common.{suc, ◌≡◌, ◌≤◌, ℕ, Bool, true, false,
 use Rattle.std.specs.List.{Contains}
 use Rattle.std.proofs.lemmas.Grind.{common_steps}
 use Rattle.std.proofs.lemmas.Bool.Decides.{nat_tests}
+use Rattle.machine_spec.specs.declared.TheConstants.{MOST_INPUT_BYTES}
 use Rattle.edit_spec.specs.Edit.{Edit, Set, Size, LineEdit}
-use Rattle.edit_spec.specs.Editing.{is_out_of_range, edited_once, edited, longest_input}
+use Rattle.edit_spec.specs.Editing.{is_out_of_range, edited_once, edited}
 
 -- which way a choice of answers went
 chosen : {A : Type 0} (b : Bool) (x y z : A) → (if b then x else y) ≡ z → ((b ≡ true) × (x ≡ z)) ⊎ ((b ≡ false) × (y ≡ z))
@@ -12,12 +13,12 @@ chosen true x y z e = inl (refl, e)
 chosen false x y z e = inr (refl, e)
 
 -- an input that isn't too long isn't too long after one edit
-once_is_short : (edit : Edit) (input : List ℕ) → length input ≤ longest_input → is_out_of_range edit (length input) ≡ false → length (edited_once edit input) ≤ longest_input
+once_is_short : (edit : Edit) (input : List ℕ) → length input ≤ MOST_INPUT_BYTES → is_out_of_range edit (length input) ≡ false → length (edited_once edit input) ≤ MOST_INPUT_BYTES
 once_is_short (Set offset bytes) input short within = grind (arith, common_steps, nat_tests, within)
 once_is_short (Size size) input short within = grind (arith, common_steps, nat_tests, within)
 
-pub stays_short : (edits : List LineEdit) (input after : List ℕ) → length input ≤ longest_input → edited edits input ≡ Ok after → length after ≤ longest_input
-stays_short [] input after short is = let same : input ≡ after = cc in subst (λ (l : List ℕ). length l ≤ longest_input) same short
+pub stays_short : (edits : List LineEdit) (input after : List ℕ) → length input ≤ MOST_INPUT_BYTES → edited edits input ≡ Ok after → length after ≤ MOST_INPUT_BYTES
+stays_short [] input after short is = let same : input ≡ after = cc in subst (λ (l : List ℕ). length l ≤ MOST_INPUT_BYTES) same short
 stays_short (e ∷ edits) input after short is =
     elim (chosen (is_out_of_range e.edit (length input)) (Err e.line) (edited edits (edited_once e.edit input)) (Ok after) is) [
       | inl out ↦ absurd (let no : Err e.line ≡ Ok after = out.1 in cc)

@@ -1,15 +1,16 @@
 -- What edits do to an input.
 use Rattle.std.specs.Prelude.{ℕ, ◌+◌, ◌-◌, Bool, nat_lt, List, [], ◌∷◌, ◌++◌, take, drop, replicate, length, if◌then◌else◌, Result, Ok, Err}
+use Rattle.machine_spec.specs.declared.TheConstants.{MOST_INPUT_BYTES}
 use Rattle.edit_spec.specs.Edit.{Edit, Set, Size, LineEdit}
 
--- The most bytes that an edit may lengthen an input to. (this project's own)
+-- The most bytes of an input, by its older name.
 abbrev pub longest_input : ℕ
-longest_input = 1048576
+longest_input = MOST_INPUT_BYTES
 
 -- An edit passes its bound: it writes past the end of an input of this length, or its new length is too long. (this project's own)
 abbrev pub is_out_of_range : Edit → ℕ → Bool
 is_out_of_range (Set offset bytes) len = nat_lt len (offset + length bytes)
-is_out_of_range (Size size) len = nat_lt longest_input size
+is_out_of_range (Size size) len = nat_lt MOST_INPUT_BYTES size
 
 -- What an edit makes of an input: bytes are written over, or it is cut, or it grows by zero bytes. (this project's own)
 abbrev pub edited_once : Edit → List ℕ → List ℕ

@@ -8,7 +8,12 @@
 ghost use Rattle.std.specs.Prelude.{ℕ, ◌≡◌, ◌≤◌, List, [], ◌∷◌, ◌++◌, length, map, Contains, Result};
 ghost use Rattle.edit_spec.specs.Edit.{Edit, LineEdit};
 ghost use Rattle.edit_spec.specs.Grammar.{Spells, Says};
-ghost use Rattle.edit_spec.specs.Editing.{edited, longest_input};
+ghost use Rattle.edit_spec.specs.Editing.{edited};
+
+use machine_spec::MOST_INPUT_BYTES;
+
+/// The most bytes of a list of edits.
+pub const MOST_LIST_BYTES: usize = 1_048_576;
 
 /// A line spells at most one edit.
 pub fn line_spells_one_edit()
@@ -32,7 +37,7 @@ pub fn edits_go_on()
 
 /// An input that isn't too long isn't too long after edits.
 pub fn edited_is_short()
-    ensures { (edits : List LineEdit) (input after : List ℕ) → length input ≤ longest_input → edited edits input ≡ Ok after → length after ≤ longest_input }
+    ensures { (edits : List LineEdit) (input after : List ℕ) → length input ≤ MOST_INPUT_BYTES → edited edits input ≡ Ok after → length after ≤ MOST_INPUT_BYTES }
 {}
 
 /// The line that passes its bound is a line of the edits.

@@ -12,6 +12,9 @@ ghost use Rattle.elf_spec.specs.Header.{segments};
 ghost use Rattle.elf_spec.specs.Segments.{page_numbers, IsTouched, page_permission};
 ghost use Rattle.elf_spec.specs.Image.{image_pages, image_memory, entry_of, is_image, HasPageWith};
 
+/// The most bytes of an executable file.
+pub const MOST_ELF_BYTES: usize = 16_777_216;
+
 /// Why a file isn't taken as an executable.
 ///
 /// Program headers are numbered from 0, and sums are exact. Where several conditions hold, the first in the

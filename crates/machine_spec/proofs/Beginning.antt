@@ -107,11 +107,10 @@ IsWhole-first s sound =
       memory = IsMemory-start s;
       harts = (record { view = IsMemory-start s; number = omega arith }, tt);
       tied = IsTied-opening (first_hart (start_memory s) 0 (entry_of s.elf) 0xC0000000) refl;
-      most_fuel = sound.most_fuel;
-      most_steps = sound.most_steps;
+      limits = sound.limits;
       few_steps = omega arith;
       some_ready = λ none. refl;
-      steps_left = λ none. let some = sound.some_steps in omega arith;
+      steps_left = λ none. let some = sound.limits.some_steps in omega arith;
     }
 
 -- the map ascends

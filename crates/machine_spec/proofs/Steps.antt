@@ -24,6 +24,7 @@ use Rattle.record_spec.specs.Record.{Kept, Record, IsTrue, StandsFor, put_of, fi
 use Rattle.record_spec.proofs.Truth.{StandsFor-true}
 use Rattle.machine_spec.specs.declared.states.Status.{Status}
 use Rattle.machine_spec.specs.declared.states.End.{End}
+use Rattle.machine_spec.specs.Limits.{AreLimits}
 use Rattle.machine_spec.specs.Machine.{Hart, Machine, hart_in, hart_of, nobody, is_ready, is_ended}
 use Rattle.machine_spec.specs.Performing.{returned, fated, woken, first_hart, with_created, settled}
 use Rattle.machine_spec.specs.Step.{written, Asked, Asks, Stops, asked, fate_end, state_end, end_after, performed, done_as_asked, finished, step, lay, fits, can_step}
@@ -194,8 +195,7 @@ record IsWritten (m : Machine) (t : ℕ) : Type 0 where
   pub harts : AllByRecursion (IsHartOf m.frame.map m.steps) m.harts
   pub tied : IsTied m.objects m.harts
   pub ready : is_ready (hart_of m t).status ≡ true
-  pub most_fuel : m.frame.fuel ≤ 16777216
-  pub most_steps : m.limit ≤ 65536
+  pub limits : AreLimits m.frame.fuel m.limit
   pub few_steps : m.steps ≤ m.limit
 
 done-whole : (m : Machine) (t : ℕ) (a : Asked) → IsWritten m t → IsWhole (done_as_asked m t a)
@@ -206,8 +206,7 @@ done-whole m t (Asks call) w =
           hart-settled m.frame.map m.steps (act (is_readable m.frame.map) m.objects t call).0 m.memory t m.harts (ready-below m.harts t w.ready)
           w.memory w.harts;
       tied = tied-called (is_readable m.frame.map) m.objects m.harts t call m.memory w.tied w.ready;
-      most_fuel = w.most_fuel;
-      most_steps = w.most_steps;
+      limits = w.limits;
       few_steps = w.few_steps;
       some_ready = λ none.
           end_after-ready (fate_end (act (is_readable m.frame.map) m.objects t call).0.fate)
@@ -221,8 +220,7 @@ done-whole m t (Stops e) w =
       memory = w.memory;
       harts = w.harts;
       tied = w.tied;
-      most_fuel = w.most_fuel;
-      most_steps = w.most_steps;
+      limits = w.limits;
       few_steps = w.few_steps;
       some_ready = λ none. cc;
       steps_left = λ none. cc;
@@ -254,8 +252,7 @@ finished-whole m t memory regs e put whole can fit =
           (hart-later m.frame.map m.steps m.harts whole.harts);
       tied = tied-after_writing m t memory regs put whole.tied;
       ready = ready-written m t memory regs put ready;
-      most_fuel = whole.most_fuel;
-      most_steps = whole.most_steps;
+      limits = whole.limits;
       few_steps = omega arith;
     })
 

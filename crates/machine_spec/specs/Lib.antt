@@ -2,6 +2,7 @@ pub mod Machine
 pub mod Performing
 pub mod Step
 pub mod Schedule
+pub mod Limits
 pub mod Setup
 pub mod Choice
 pub mod Whole

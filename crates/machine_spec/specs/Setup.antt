@@ -3,9 +3,12 @@ use Rattle.std.specs.Prelude.{◌≡◌, ℕ, ◌+◌, ◌*◌, ◌≤◌, Bool,
 use Rattle.std.specs.List.{range_with_len}
 use Rattle.std.specs.Int.{to_le_bytes, w32}
 use Rattle.memory_spec.specs.Pages.{Mapped, Memory, zero_page}
+use Rattle.elf_spec.specs.declared.TheConstants.{MOST_ELF_BYTES}
 use Rattle.elf_spec.specs.Image.{image_pages, image_memory, entry_of, is_image}
 use Rattle.record_spec.specs.Record.{Record}
 use Rattle.guest_call.specs.Objects.{opening}
+use Rattle.machine_spec.specs.declared.TheConstants.{MOST_INPUT_BYTES}
+use Rattle.machine_spec.specs.Limits.{AreLimits}
 use Rattle.machine_spec.specs.Machine.{Hart, Machine}
 use Rattle.machine_spec.specs.Performing.{first_hart}
 use Rattle.machine_spec.specs.Schedule.{scratch_from, is_permitted_from, is_complete_from, records_from}
@@ -19,13 +22,10 @@ pub record Setup : Type 0 where
 
 -- A setup that may be run: the file is accepted, and sizes and limits are in range. (this project's own)
 pub record IsSetup (s : Setup) : Type 0 where
-  pub elf_size : length s.elf ≤ 16777216
+  pub elf_size : length s.elf ≤ MOST_ELF_BYTES
   pub elf_accepted : is_image s.elf ≡ true
-  pub input_size : length s.input ≤ 1048576
-  pub some_fuel : 1 ≤ s.fuel
-  pub most_fuel : s.fuel ≤ 16777216
-  pub some_steps : 1 ≤ s.limit
-  pub most_steps : s.limit ≤ 65536
+  pub input_size : length s.input ≤ MOST_INPUT_BYTES
+  pub limits : AreLimits s.fuel s.limit
 
 -- Pages to read and write, from a number on, so many. (this project's own)
 unfoldable pub data_pages : ℕ → ℕ → List Mapped

@@ -5,6 +5,7 @@ use Rattle.memory_spec.specs.Pages.{Mapped, IsMemory}
 use Rattle.guest_call.specs.Objects.{Objects, IsKept, waits_at, ended_at}
 use Rattle.machine_spec.specs.declared.states.Status.{Status}
 use Rattle.machine_spec.specs.declared.states.Status.TheVariants.{Ready, Blocked, Ended}
+use Rattle.machine_spec.specs.Limits.{AreLimits}
 use Rattle.machine_spec.specs.Machine.{Hart, Machine, hart_in, is_ready, is_blocked}
 
 -- 1 for a thread that is blocked, and else 0. (this project's own)
@@ -35,8 +36,7 @@ pub record IsWhole (m : Machine) : Type 0 where
   pub memory : IsMemory m.frame.map m.memory
   pub harts : AllByRecursion (IsHartOf m.frame.map m.steps) m.harts
   pub tied : IsTied m.objects m.harts
-  pub most_fuel : m.frame.fuel ≤ 16777216
-  pub most_steps : m.limit ≤ 65536
+  pub limits : AreLimits m.frame.fuel m.limit
   pub few_steps : m.steps ≤ m.limit
   pub some_ready : m.ending ≡ None → list_any (λ (h : Hart). is_ready h.status) m.harts ≡ true
   pub steps_left : m.ending ≡ None → m.steps < m.limit

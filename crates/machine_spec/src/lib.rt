@@ -1,7 +1,7 @@
 //! The guest machine, as definitions: shared memory, harts with a view each, one step of a thread, and
 //! whole schedules from scratch; with the laws that a step leaves every other ready thread as it is,
 //! that laying a true record that fits is the step, and that the choice leads to an end. No code but
-//! three plain types.
+//! four plain types, and the constants of the limits.
 #![tactic(auto)]
 
 ghost use Rattle.std.specs.Prelude.{◌≡◌, ◌≢◌, ℕ, true};
@@ -13,9 +13,20 @@ ghost use Rattle.machine_spec.specs.Setup.{Setup, IsSetup, first, map_of, is_per
 ghost use Rattle.machine_spec.specs.Choice.{alone};
 ghost use Rattle.machine_spec.specs.Whole.{IsWhole};
 
+mod limits;
 mod states;
 
+pub use limits::Limits;
 pub use states::{Asked, End, Status};
+
+/// The most bytes of an input: the 256 pages that the map has for it.
+pub const MOST_INPUT_BYTES: usize = 1_048_576;
+/// The most bytes that a run can put out: one put's, 4,096, at the end of each of the most steps.
+pub const MOST_OUTPUT_BYTES: usize = 268_435_456;
+/// The most turns that a thunk may be allowed.
+pub const MOST_FUEL: u32 = 16_777_216;
+/// The most steps that a run may be allowed.
+pub const MOST_STEPS: u32 = 65_536;
 
 /// A step of one thread leaves every other ready thread as it is: its registers, its view, its number
 /// of steps and its status.

@@ -53,7 +53,7 @@ can-append :
     → CanAppend w r
 can-append w r kept counted none ready number =
     let left = kept.whole.steps_left (none-is w.machine.ending none) in
-    let most = kept.whole.most_steps in
+    let most = kept.whole.limits.most_steps in
     let count = record_count w counted in
     let steps = counted.steps in
     record {

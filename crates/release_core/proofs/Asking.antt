@@ -39,4 +39,4 @@ view_count m t whole ready =
 pub few_numbers : (m : Machine) (t : ℕ) → IsWhole m → is_ready (hart_in m.harts t).status ≡ true → (hart_in m.harts t).number ≤ 65536
 few_numbers m t whole ready =
     let number = (hart-at m.frame.map m.steps m.harts t (ready-below m.harts t ready) whole.harts).number in
-    omega (arith, whole.few_steps, whole.most_steps)
+    omega (arith, whole.few_steps, whole.limits.most_steps)

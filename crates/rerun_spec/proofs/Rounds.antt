@@ -25,10 +25,7 @@ with-short s input valid short =
       elf_size = valid.elf_size;
       elf_accepted = valid.elf_accepted;
       input_size = short;
-      some_fuel = valid.some_fuel;
-      most_fuel = valid.most_fuel;
-      some_steps = valid.some_steps;
-      most_steps = valid.most_steps;
+      limits = valid.limits;
     }
 
 -- a history that is sound is so for any input
