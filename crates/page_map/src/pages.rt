@@ -1,7 +1,11 @@
 //! The list of a guest's pages, in ascending order.
 
-ghost use Rattle.std.specs.Prelude.{◌≡◌, ◌==◌, ◌<◌, ◌*◌, true, length, slice_index_or, IfSome, IfNone};
+ghost use Rattle.std.specs.Prelude.{◌≡◌, ◌==◌, ◌<◌, ◌*◌, true, Decides, length, slice_index_or, IfSome, IfNone};
+ghost use Rattle.std.proofs.Common.{rules};
+ghost use Rattle.std.specs.Cmp.Lexicographic.{pointwise};
+ghost use Rattle.std.specs.Cmp.Rules.{comparing};
 ghost use Rattle.memory_spec.specs.Pages.{slot_of, ascends_above, unmapped};
+ghost use Rattle.page_map.specs.Equal.{is_same_page};
 
 use super::lookup::{HINTS, find_near, hint_place};
 use super::permission::Perm;
@@ -13,7 +17,7 @@ pub type Slot = usize;
 /// A mapped page: its number, which is its address divided by 4,096, and what it permits.
 ///
 /// A clause sees a `Mapped` of `memory_spec`.
-#[derive(Clone, Copy, PartialEq, Eq)]
+#[derive(Clone, Copy)]
 pub struct MappedPage {
     number: u32,
     permission: Perm,
@@ -53,6 +57,24 @@ impl MappedPage {
     {
         self.permission
     }
+}
+
+/// Two mapped pages are equal where their numbers and what they permit are.
+impl PartialEq for MappedPage {
+    ghost eq = { is_same_page };
+
+    ghost laws = { Prim.search (comparing, rules) };
+
+    fn eq(&self, other: &MappedPage) -> bool
+        ensures eq { result ≡ is_same_page self.now other.now }
+        ensures same { Decides result (self.now ≡ other.now) }
+    {
+        self.number == other.number && self.permission == other.permission
+    }
+}
+
+impl Eq for MappedPage {
+    ghost laws = { Prim.search (comparing, rules) };
 }
 
 /// The mapped pages, in ascending order, each in its slot.
@@ -156,4 +178,22 @@ impl PageMap {
     {
         &self.pages
     }
+}
+
+/// Two page maps are equal where they have the same pages.
+impl PartialEq for PageMap {
+    ghost eq = { pointwise is_same_page };
+
+    ghost laws = { Prim.search (comparing, rules) };
+
+    fn eq(&self, other: &PageMap) -> bool
+        ensures eq { result ≡ pointwise is_same_page self.now other.now }
+        ensures same { Decides result (self.now ≡ other.now) }
+    {
+        self.pages.as_slice() == other.pages.as_slice()
+    }
+}
+
+impl Eq for PageMap {
+    ghost laws = { Prim.search (comparing, rules) };
 }

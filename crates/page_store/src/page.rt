@@ -1,6 +1,8 @@
 //! One page.
 
-ghost use Rattle.std.specs.Prelude.{◌≡◌, ◌<◌, length, slice_index, slice_set};
+ghost use Rattle.std.specs.Prelude.{◌≡◌, ◌<◌, Decides, length, slice_index, slice_set};
+ghost use Rattle.std.specs.Cmp.{partial_equiv_from_equiv};
+ghost use Rattle.std.specs.Cmp.Lexicographic.{nat_list_eq_equiv};
 ghost use Rattle.std.specs.Str.{bytes_eq};
 ghost use Rattle.memory_spec.specs.Pages.{zero_page};
 
@@ -95,4 +97,23 @@ impl Page {
     {
         self.bytes.as_slice() == other.bytes.as_slice()
     }
+}
+
+/// Two pages are equal where their bytes are.
+impl PartialEq for Page {
+    ghost eq = { bytes_eq };
+
+    ghost laws = { partial_equiv_from_equiv nat_list_eq_equiv };
+
+    #[inline]
+    fn eq(&self, other: &Page) -> bool
+        ensures eq { result ≡ bytes_eq self.now other.now }
+        ensures same { Decides result (self.now ≡ other.now) }
+    {
+        self.bytes.as_slice() == other.bytes.as_slice()
+    }
+}
+
+impl Eq for Page {
+    ghost laws = { nat_list_eq_equiv };
 }

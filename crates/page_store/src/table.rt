@@ -1,6 +1,9 @@
 //! A table of pages, by slot.
 
-ghost use Rattle.std.specs.Prelude.{◌≡◌, ◌==◌, ◌<◌, [], ◌∷◌, ◌++◌, All, length, map, slice_set, IfOk, OnOk, OnErr};
+ghost use Rattle.std.specs.Prelude.{◌≡◌, ◌==◌, ◌<◌, [], ◌∷◌, ◌++◌, All, Decides, length, map, slice_set, IfOk, OnOk, OnErr};
+ghost use Rattle.std.specs.Cmp.{partial_equiv_from_equiv};
+ghost use Rattle.std.specs.Cmp.Lexicographic.{lists_equiv, nat_list_eq_equiv, pointwise};
+ghost use Rattle.std.specs.Str.{bytes_eq};
 ghost use Rattle.std.specs.Arc.{arc_value};
 ghost use Rattle.memory_spec.specs.Pages.{page_of};
 
@@ -192,4 +195,30 @@ impl PageTable {
         self.count = count;
         Ok(())
     }
+}
+
+/// Two tables are equal where they have the same pages, slot by slot.
+impl PartialEq for PageTable {
+    ghost eq = { pointwise bytes_eq };
+
+    ghost laws = { partial_equiv_from_equiv (lists_equiv nat_list_eq_equiv) };
+
+    fn eq(&self, other: &PageTable) -> bool
+        ensures eq { result ≡ pointwise bytes_eq self.now other.now }
+        ensures same { Decides result (self.now ≡ other.now) }
+    {
+        if self.len() != other.len() {
+            return false;
+        }
+        for slot in 0..self.len() {
+            if self.page(slot) != other.page(slot) {
+                return false;
+            }
+        }
+        true
+    }
+}
+
+impl Eq for PageTable {
+    ghost laws = { lists_equiv nat_list_eq_equiv };
 }
