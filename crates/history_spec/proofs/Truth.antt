@@ -5,11 +5,12 @@ use Rattle.std.proofs.lemmas.Bool.Decides.{nat_tests}
 use Rattle.std.proofs.lemmas.Slice.Eq.{bytes_eq-Decides}
 use Rattle.std.specs.List.{AllByRecursion}
 use Rattle.std.specs.Str.{bytes_eq}
-use Rattle.isa_spec.specs.Registers.{Registers}
+use Rattle.isa_spec.specs.Registers.{Registers, same_registers}
+use Rattle.isa_spec.proofs.Equality.{same_registers-true, same_registers-refl}
 use Rattle.memory_spec.specs.Pages.{IsMemory}
 use Rattle.thunk_spec.specs.Thunk.{Frame}
 use Rattle.record_spec.specs.Reads.{has}
-use Rattle.record_spec.specs.Record.{Kept, Record, IsTrue, kept_thunk, fits_at, same_registers}
+use Rattle.record_spec.specs.Record.{Kept, Record, IsTrue, kept_thunk, fits_at}
 use Rattle.record_spec.proofs.Truth.{has-kept, IsTrue-kept}
 use Rattle.machine_spec.specs.Machine.{Hart, Machine, hart_of, is_ready}
 use Rattle.machine_spec.specs.Step.{step, lay, fits, can_step}
@@ -82,12 +83,6 @@ pub same-frame : (a b : Setup) → IsSameProgram a b → (first a).frame ≡ (fi
 unfolding first map_of
 same-frame a b same = rw (same.elf, same.fuel) refl
 
-same_registers-true : (a b : Registers) → same_registers a b ≡ true → a ≡ b
-same_registers-true a b same =
-    let pc : a.pc ≡ b.pc = eqb-true a.pc b.pc (and-left (eqb a.pc b.pc) (bytes_eq a.x b.x) same) in
-    let x : a.x ≡ b.x = (bytes_eq-Decides a.x b.x).0 (and-right (eqb a.pc b.pc) (bytes_eq a.x b.x) same) in
-    ap (λ (n : ℕ). record { pc = n; x = a.x }) pc ∙ ap (λ (xs : List ℕ). record { pc = b.pc; x = xs }) x
-
 same-record : (r : Record) (n : ℕ) (x : Registers) (k : Kept) → r.number ≡ n → r.start ≡ x → r.kept ≡ k → r ≡ record { thread = r.thread; number = n; start = x; kept = k }
 same-record r n x k number start kept = rw (← number, ← start, ← kept) refl
 
@@ -102,18 +97,12 @@ fits-record m r whole honest fit =
     same-record r (hart_of m r.thread).number (hart_of m r.thread).regs (kept_thunk m.frame (hart_of m r.thread).view (hart_of m r.thread).regs) number regs
     (rw (← regs) (sym (honest.same (hart_of m r.thread).view (view-whole m r.thread whole ready) reads)))
 
-own-registers : (r : Registers) → same_registers r r ≡ true
-own-registers r =
-    let pc : eqb r.pc r.pc ≡ true = eq-eqb r.pc r.pc refl in
-    let x : bytes_eq r.x r.x ≡ true = (bytes_eq-Decides r.x r.x).1 refl in
-    rw (pc, x) refl
-
 -- the record of a ready thread's next step fits
 pub record-fits : (m : Machine) (t : ℕ) → is_ready (hart_of m t).status ≡ true → fits m (record_of m t) ≡ true
 unfolding fits fits_at
 record-fits m t ready =
     let number : eqb (hart_of m t).number (hart_of m t).number ≡ true = eq-eqb (hart_of m t).number (hart_of m t).number refl in
-    let regs : same_registers (hart_of m t).regs (hart_of m t).regs ≡ true = own-registers (hart_of m t).regs in
+    let regs : same_registers (hart_of m t).regs (hart_of m t).regs ≡ true = same_registers-refl (hart_of m t).regs in
     let reads : has (hart_of m t).view (kept_thunk m.frame (hart_of m t).view (hart_of m t).regs).reads ≡ true =
     has-kept m.frame (hart_of m t).view (hart_of m t).regs in
     rw (ready, number, regs, reads) refl

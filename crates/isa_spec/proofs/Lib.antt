@@ -1,4 +1,5 @@
 pub mod Examples
+pub mod Equality
 pub mod Immediates
 pub mod Decoding
 pub mod Spelling

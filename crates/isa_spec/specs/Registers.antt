@@ -1,5 +1,6 @@
 -- The registers of a hart.
-use Rattle.std.specs.Prelude.{ℕ, List, slice_index, slice_set, ◌==◌, if◌then◌else◌}
+use Rattle.std.specs.Prelude.{ℕ, Bool, List, slice_index, slice_set, ◌==◌, ◌&&◌, if◌then◌else◌}
+use Rattle.std.specs.Str.{bytes_eq}
 
 -- pc, and x0 to x31 in order (RISC-V unprivileged ISA 20191213, 2.1)
 pub record Registers : Type 0 where
@@ -17,3 +18,7 @@ with_register r n value = if n == 0 then r else record r { x = slice_set r.x n v
 -- the registers with another pc (RISC-V unprivileged ISA 20191213, 2.1)
 abbrev pub with_pc : Registers → ℕ → Registers
 with_pc r pc = record r { pc = pc }
+
+-- whether two sets of registers are the same
+abbrev pub same_registers : Registers → Registers → Bool
+same_registers a b = (a.pc == b.pc) && bytes_eq a.x b.x

@@ -1,10 +1,12 @@
 //! What the instructions of RV32I mean: their types, words and registers, the table of their
-//! encodings, and the two laws that tie the table to the encoding.
+//! encodings, the two laws that tie the table to the encoding, and that registers compare as equal where they are.
 //!
 //! The definitions stand in `specs/`. This crate has no code beside the types.
 #![tactic(auto)]
 
 ghost use Rattle.std.specs.Prelude.{◌≡◌, ℕ, ◌<◌, ◌^◌, Some};
+ghost use Rattle.std.specs.Bool.{Decides};
+ghost use Rattle.isa_spec.specs.Registers.{Registers, same_registers};
 ghost use Rattle.isa_spec.specs.Table.{decoded};
 ghost use Rattle.isa_spec.specs.Encoding.{encoding, InRange, Spells};
 
@@ -219,4 +221,10 @@ pub fn decoding_inverts_encoding()
 #[inline(always)]
 pub fn decoded_was_encoded()
     ensures { (w : ℕ) (i : Instr) → w < 2 ^ 32 → decoded w ≡ Some i → InRange i × Spells w i }
+{}
+
+/// Registers compare as the same exactly where they are equal.
+#[inline(always)]
+pub fn same_registers_are_equal()
+    ensures { (a b : Registers) → Decides (same_registers a b) (a ≡ b) }
 {}

@@ -7,6 +7,7 @@ use Rattle.std.proofs.lemmas.Slice.Eq.{bytes_eq-Decides}
 use Rattle.std.specs.List.{AllByRecursion, list_all, list_any}
 use Rattle.std.specs.Str.{bytes_eq}
 use Rattle.isa_spec.specs.Registers.{Registers}
+use Rattle.isa_spec.proofs.Equality.{same_registers-true}
 use Rattle.memory_spec.specs.Pages.{Mapped, Memory, IsMemory}
 use Rattle.memory_spec.specs.Stores.{laid}
 use Rattle.memory_spec.proofs.Laid.{IsMemory-laid}
@@ -20,7 +21,7 @@ use Rattle.thunk_spec.specs.Put.{is_readable}
 use Rattle.thunk_spec.specs.Thunk.{Thunk, thunk}
 use Rattle.record_spec.specs.Delta.{masked}
 use Rattle.record_spec.specs.Reads.{has}
-use Rattle.record_spec.specs.Record.{Kept, Record, IsTrue, StandsFor, put_of, fits_at, same_registers}
+use Rattle.record_spec.specs.Record.{Kept, Record, IsTrue, StandsFor, put_of, fits_at}
 use Rattle.record_spec.proofs.Truth.{StandsFor-true}
 use Rattle.machine_spec.specs.declared.states.Status.{Status}
 use Rattle.machine_spec.specs.declared.states.End.{End}
@@ -268,12 +269,6 @@ step-whole m t whole can =
     (IsMemory-laid m.frame.map m.memory (thunk m.frame (hart_of m t).view (hart_of m t).regs).stores whole.memory)
 
 -- laying
-
-same_registers-true : (a b : Registers) → same_registers a b ≡ true → a ≡ b
-same_registers-true a b same =
-    let pc : a.pc ≡ b.pc = eqb-true a.pc b.pc (and-left (eqb a.pc b.pc) (bytes_eq a.x b.x) same) in
-    let x : a.x ≡ b.x = (bytes_eq-Decides a.x b.x).0 (and-right (eqb a.pc b.pc) (bytes_eq a.x b.x) same) in
-    ap (λ (n : ℕ). record { pc = n; x = a.x }) pc ∙ ap (λ (xs : List ℕ). record { pc = b.pc; x = xs }) x
 
 -- laying a true record that fits is the step of its thread
 pub lay-step :

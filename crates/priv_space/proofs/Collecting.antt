@@ -9,7 +9,7 @@ use Rattle.memory_spec.specs.Workspace.{Masks, mask_of, no_marks, marked}
 use Rattle.record_spec.specs.Delta.{PageDelta, chosen, is_stored, delta_from, delta_of}
 use Rattle.record_spec.specs.Reads.{ReadPage, reads_from}
 use Rattle.record_spec.proofs.Merging.{merged, merged_all, Shaped, shaped-laid, shaped-fresh, merged_all-laid, merged_all-no_marks}
-use Rattle.store_mask.specs.Ascending.{deltas_ascend, reads_ascend}
+use Rattle.record_spec.specs.Ascending.{deltas_ascend, reads_ascend}
 use Rattle.priv_space.specs.declared.slot.Slot.{Slot}
 use Rattle.priv_space.specs.Slots.{on_view}
 use Rattle.priv_space.specs.Parts.{read_part, delta_part}

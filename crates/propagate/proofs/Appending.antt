@@ -1,7 +1,8 @@
 -- When a record may be appended, and what is there after an event.
 use Rattle.std.proofs.Common.{◌≡◌, ◌<◌, ◌≤◌, ℕ, zero, suc, Bool, true, false, not, ◌&&◌, ◌||◌, eqb, List, [], ◌∷◌, length, count_by, Option, Some, None, is_some, is_none, refl, ap, sym, ◌∙◌, arith}
 use Rattle.std.proofs.lemmas.Bool.{eqb-true, and_parts}
-use Rattle.record_spec.specs.Record.{Record, fits_at, same_registers}
+use Rattle.isa_spec.specs.Registers.{same_registers}
+use Rattle.record_spec.specs.Record.{Record, fits_at}
 use Rattle.record_spec.specs.Reads.{has}
 use Rattle.machine_spec.specs.declared.states.End.{End}
 use Rattle.machine_spec.specs.Machine.{Machine, hart_of, is_ready}

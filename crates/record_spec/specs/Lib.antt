@@ -1,3 +1,4 @@
+pub mod Ascending
 pub mod Delta
 pub mod Reads
 pub mod Record

@@ -1,7 +1,6 @@
 -- A record of a finished thunk: what is kept of it, when it is true, and when it fits.
 use Rattle.std.specs.Prelude.{◌≡◌, ℕ, Bool, true, ◌&&◌, ◌==◌, List}
-use Rattle.std.specs.Str.{bytes_eq}
-use Rattle.isa_spec.specs.Registers.{Registers}
+use Rattle.isa_spec.specs.Registers.{Registers, same_registers}
 use Rattle.memory_spec.specs.Pages.{Mapped, Memory, IsMemory}
 use Rattle.memory_spec.specs.Stores.{laid}
 use Rattle.thunk_spec.specs.declared.ends.ThunkEnd.{ThunkEnd}
@@ -41,10 +40,6 @@ pub record Record : Type 0 where
 -- What is kept is true of these start registers: on every view that has the bytes of the read pages the thunk leaves exactly this. (this project's own)
 pub record IsTrue (f : Frame) (start : Registers) (k : Kept) : Type 0 where
   pub same : (view : Memory) → IsMemory f.map view → has view k.reads ≡ true → kept_thunk f view start ≡ k
-
--- Whether two sets of registers are the same. (this project's own)
-abbrev pub same_registers : Registers → Registers → Bool
-same_registers a b = (a.pc == b.pc) && bytes_eq a.x b.x
 
 -- Whether a record fits a thread that has made so many steps, with these registers and this view. (this project's own)
 unfoldable pub fits_at : Record → ℕ → Registers → Memory → Bool

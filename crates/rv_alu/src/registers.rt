@@ -1,14 +1,16 @@
 //! The registers of a hart (RISC-V unprivileged ISA 20191213, 2.1).
 
 ghost use Rattle.std.specs.Prelude.{◌≡◌, ◌<◌, length, replicate, slice_index, slice_set};
-ghost use Rattle.isa_spec.specs.Registers.{Registers, register, with_register, with_pc};
+ghost use Rattle.isa_spec.specs.Registers.{Registers, register, with_register, with_pc, same_registers};
+ghost use Rattle.std.proofs.Common.{rules};
+ghost use Rattle.std.specs.Cmp.Rules.{comparing};
 
 use std::marker::Model;
 
 /// The registers of a hart: pc, and x0 to x31. x0 is always zero.
 ///
 /// A clause sees a `Registers` of `isa_spec`.
-#[derive(Clone, Copy, PartialEq, Eq)]
+#[derive(Clone, Copy)]
 pub struct Regs {
     pc: u32,
     x: [u32; 32],
@@ -22,6 +24,20 @@ impl Model for Regs {
     ghost invariant = { λ r. slice_index r.x 0 ≡ 0 };
 
     ghost inverse = { λ r. record { pc = r.pc; x = r.x } };
+}
+
+impl PartialEq for Regs {
+    ghost eq = { same_registers };
+
+    ghost laws = { Prim.search (comparing, rules) };
+
+    fn eq(&self, other: &Regs) -> bool {
+        self.pc == other.pc && self.x == other.x
+    }
+}
+
+impl Eq for Regs {
+    ghost laws = { Prim.search (comparing, rules) };
 }
 
 impl Regs {

@@ -2,7 +2,7 @@
 
 ghost use Rattle.std.specs.Prelude.{◌≡◌, ◌==◌, true, length};
 ghost use Rattle.record_spec.specs.Delta.{is_stored, chosen, spread};
-ghost use Rattle.store_mask.specs.Ascending.{deltas_ascend};
+ghost use Rattle.record_spec.specs.Ascending.{deltas_ascend};
 
 use super::mask::Mask;
 use super::stored::StoredPage;
@@ -73,7 +73,7 @@ pub struct Delta {
 impl Model for Delta {
     ghost use Rattle.std.specs.Prelude.{◌≡◌, List, true};
     ghost use Rattle.record_spec.specs.Delta.{PageDelta};
-    ghost use Rattle.store_mask.specs.Ascending.{deltas_ascend};
+    ghost use Rattle.record_spec.specs.Ascending.{deltas_ascend};
 
     ghost Value = { List PageDelta };
 

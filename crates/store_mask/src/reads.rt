@@ -2,7 +2,7 @@
 
 ghost use Rattle.std.specs.Prelude.{◌≡◌, ◌==◌, true, length};
 ghost use Rattle.std.specs.Arc.{arc_value};
-ghost use Rattle.store_mask.specs.Ascending.{reads_ascend};
+ghost use Rattle.record_spec.specs.Ascending.{reads_ascend};
 
 use page_store::Page;
 use std::marker::Model;
@@ -59,7 +59,7 @@ pub struct Reads {
 impl Model for Reads {
     ghost use Rattle.std.specs.Prelude.{◌≡◌, List, true};
     ghost use Rattle.record_spec.specs.Reads.{ReadPage};
-    ghost use Rattle.store_mask.specs.Ascending.{reads_ascend};
+    ghost use Rattle.record_spec.specs.Ascending.{reads_ascend};
 
     ghost Value = { List ReadPage };
 

@@ -4,7 +4,8 @@ ghost use Rattle.std.specs.Prelude.{◌≡◌};
 ghost use Rattle.std.specs.Str.{bytes_eq};
 ghost use Rattle.memory_spec.specs.Pages.{page_of};
 ghost use Rattle.record_spec.specs.Reads.{has};
-ghost use Rattle.record_spec.specs.Record.{fits_at, same_registers};
+ghost use Rattle.record_spec.specs.Record.{fits_at};
+ghost use Rattle.isa_spec.specs.Registers.{same_registers};
 
 use super::kept::Record;
 use page_store::PageTable;

@@ -3,7 +3,7 @@ use Rattle.std.proofs.lemmas.List.{length-map, length-set, get_or-map}
 use Rattle.std.specs.Arc.{arc_value}
 use Rattle.memory_spec.specs.Pages.{page_of}
 use Rattle.record_spec.specs.Delta.{delta_from}
-use Rattle.store_mask.specs.Ascending.{deltas_ascend}
+use Rattle.record_spec.specs.Ascending.{deltas_ascend}
 use Rattle.priv_space.specs.Slots.{on_view, slot_bytes, slot_marks}
 use Rattle.priv_space.proofs.Collecting.{delta_step, delta_end, delta_from-ascend, drop-map-set, drop-on_view-set}
 use Rattle.priv_space.proofs.Views.{get_or-on_view, length-on_view}

@@ -3,7 +3,7 @@ use Rattle.std.proofs.lemmas.List.{length-map, get_or-map}
 use Rattle.std.specs.Arc.{arc_value}
 use Rattle.memory_spec.specs.Pages.{page_of}
 use Rattle.record_spec.specs.Reads.{reads_from}
-use Rattle.store_mask.specs.Ascending.{reads_ascend}
+use Rattle.record_spec.specs.Ascending.{reads_ascend}
 use Rattle.priv_space.specs.Slots.{slot_taken}
 use Rattle.priv_space.proofs.Collecting.{read_step, read_end, reads_from-ascend}
 use Rattle.priv_space.proofs.space.Space.reads.Goals as goal
