@@ -15,6 +15,7 @@ use Rattle.machine_spec.specs.Whole.{IsTied, IsWhole}
 use Rattle.machine_spec.proofs.Harts.{status-set}
 use Rattle.machine_spec.proofs.Tied.{tied-written, stays-called}
 use Rattle.machine_spec.proofs.Steps.{finished-whole}
+use Rattle.machine_spec.proofs.Alone.{finished-limit}
 use Rattle.history_spec.proofs.Scratch.{and-left, and-right, finished-frame}
 
 length-spread : (mask : List Bool) (bytes page : List ℕ) → length (spread mask bytes page) ≡ length page
@@ -58,6 +59,10 @@ fits-can_step m r none fit =
 pub lay-frame : (m : Machine) (r : Record) → (lay m r).frame ≡ m.frame
 unfolding lay
 lay-frame m r = finished-frame m r.thread _ _ _ _
+
+pub lay-limit : (m : Machine) (r : Record) → (lay m r).limit ≡ m.limit
+unfolding lay
+lay-limit m r = finished-limit m r.thread _ _ _ _
 
 pub lay-whole : (m : Machine) (r : Record) → IsWhole m → can_step m r.thread ≡ true → IsWhole (lay m r)
 unfolding lay

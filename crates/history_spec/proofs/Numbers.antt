@@ -20,6 +20,7 @@ use Rattle.machine_spec.specs.Performing.{returned, fated, woken, first_hart, wi
 use Rattle.machine_spec.specs.Step.{written, asked, done_as_asked, finished, step, lay, can_step}
 use Rattle.machine_spec.specs.Schedule.{scratch_from, is_permitted_from, records_from}
 use Rattle.machine_spec.specs.Setup.{Setup, first}
+use Rattle.machine_spec.proofs.Alone.{finished-steps}
 use Rattle.machine_spec.proofs.Harts.{ready-below}
 use Rattle.history_spec.specs.History.{History, IsHonest, schedule_of, threads_of_records, is_numbered, is_numbered_after}
 use Rattle.history_spec.proofs.Scratch.{and-left, and-right}
@@ -106,18 +107,6 @@ step-number m t u ready = finished-number m t _ _ _ _ u ready
 pub lay-number : (m : Machine) (r : Record) (u : ℕ) → is_ready (hart_of m r.thread).status ≡ true → (hart_of (lay m r) u).number ≡ (hart_of m u).number + one_for u r.thread
 unfolding lay
 lay-number m r u ready = finished-number m r.thread _ _ _ _ u ready
-
-done-steps : (m : Machine) (t : ℕ) (a : Asked) → (done_as_asked m t a).steps ≡ m.steps
-done-steps m t (Asks call) = refl
-done-steps m t (Stops e) = refl
-
-finished-steps : (m : Machine) (t : ℕ) (memory : Memory) (regs : Registers) (e : ThunkEnd) (put : List ℕ) → (finished m t memory regs e put).steps ≡ suc m.steps
-unfolding finished
-finished-steps m t memory regs e put = done-steps (written m t memory regs put) t (asked t e regs)
-
-pub step-steps : (m : Machine) (t : ℕ) → (step m t).steps ≡ suc m.steps
-unfolding step
-step-steps m t = finished-steps m t _ _ _ _
 
 pub lay-steps : (m : Machine) (r : Record) → (lay m r).steps ≡ suc m.steps
 unfolding lay

@@ -100,13 +100,13 @@ done-steps : (m : Machine) (t : ℕ) (a : Asked) → (done_as_asked m t a).steps
 done-steps m t (Asks call) = refl
 done-steps m t (Stops e) = refl
 
-finished-limit :
+pub finished-limit :
     (m : Machine) (t : ℕ) (memory : Memory) (regs : Registers) (e : ThunkEnd) (put : List ℕ)
     → (finished m t memory regs e put).limit ≡ m.limit
 unfolding finished
 finished-limit m t memory regs e put = done-limit (written m t memory regs put) t (asked t e regs)
 
-finished-steps :
+pub finished-steps :
     (m : Machine) (t : ℕ) (memory : Memory) (regs : Registers) (e : ThunkEnd) (put : List ℕ)
     → (finished m t memory regs e put).steps ≡ suc m.steps
 unfolding finished
@@ -153,7 +153,7 @@ run-alone_from (suc n) m whole enough =
     let steps = step-steps m t in
     run-alone_from n (step m t) (step-whole m t whole can) (omega arith))
 
-first-limit : (s : Setup) → (first s).limit ≤ (first s).steps + s.limit
+pub first-limit : (s : Setup) → (first s).limit ≤ (first s).steps + s.limit
 unfolding first
 first-limit s = omega arith
 

@@ -1,25 +1,23 @@
 -- A round on the input of the round before it reuses every step.
-use Rattle.std.proofs.Common.{◌≡◌, ◌≢◌, ℕ, true, List, Option, Some, None, ap, sym, ◌∙◌, subst}
+use Rattle.std.proofs.Common.{◌≡◌, ◌≢◌, ℕ, List, Option, Some, None, ap, sym, ◌∙◌, subst}
 use Rattle.machine_spec.specs.Setup.{Setup, IsSetup, first, scratch}
-use Rattle.history_spec.specs.History.{History, IsHonest, schedule_of, threads_of_records}
-use Rattle.history_spec.proofs.Scratch.{records-threads}
+use Rattle.history_spec.specs.History.{History, IsHonest, schedule_of}
 use Rattle.report_spec.specs.Report.{instructions_from}
 use Rattle.round_spec.specs.declared.events.Pick.TheVariants as pick
 use Rattle.round_spec.specs.Marks.{marked}
-use Rattle.round_spec.specs.Rounds.{RoundState, opening}
+use Rattle.round_spec.specs.Rounds.{opening}
 use Rattle.round_spec.specs.Choice.{pick_of}
-use Rattle.round_spec.specs.Alone.{one_worker, turns, lone_round}
-use Rattle.round_spec.specs.Unedited.{is_all_reused}
+use Rattle.round_spec.specs.Alone.{one_worker, after_picks, lone_round}
+use Rattle.round_spec.specs.Unedited.{all_reused_of, OnlyReuses}
 use Rattle.worker_spec.specs.OneWorker.{executed_in}
-use Rattle.worker_spec.specs.Replaying.{all_reused_of}
-use Rattle.worker_spec.proofs.Unedited.{unedited-schedule, unedited-marks, reused-all, reused-instructions, unedited-never_runs, unedited-executed, unedited-discarded, unedited-records}
+use Rattle.worker_spec.proofs.Unedited.{unedited-schedule, unedited-marks, unedited-reuses, reused-instructions, unedited-never_runs, unedited-executed}
 use Rattle.rerun_spec.specs.Inputs.{AreInputs}
-use Rattle.rerun_spec.specs.Rounds.{with_input, Round, made, left_by, rounds_of, IsRound, schedule_in, entries_of, machine_of, IsRepeated}
-use Rattle.rerun_spec.proofs.Rounds.{round-made, round-honest, left-setup, each-round, IsNext, next-from, at-place}
+use Rattle.rerun_spec.specs.Rounds.{with_input, Round, made, left_by, rounds_of, schedule_in, entries_of, machine_of, IsRepeated}
+use Rattle.rerun_spec.proofs.Rounds.{CanBeMade, round-honest, left-setup, left-schedule, each-round, IsNext, next-from, at-place}
 
 -- a round goes by what another one leaves, on the same setup
 pub record IsAgain (before after : Round) : Type 0 where
-  pub may : IsRound before
+  pub may : CanBeMade before
   pub left : after.past ≡ Some (left_by before)
   pub setup : after.setup ≡ before.setup
 
@@ -29,7 +27,7 @@ pub repeated-again :
 repeated-again s lists inputs before after valid are again =
     let next : IsNext s before after = next-from 0 None s inputs again.place before after again.one again.next in
     record {
-      may = at-place IsRound (rounds_of s inputs) again.place before (each-round s lists inputs valid are) again.one;
+      may = at-place CanBeMade (rounds_of s inputs) again.place before (each-round s lists inputs valid are) again.one;
       left = next.left;
       setup = next.after_setup ∙ ap (with_input s) again.same ∙ sym next.before_setup;
     }
@@ -43,23 +41,19 @@ carried C before after again holds =
     (subst (λ (s : Setup). C s (Some (left_by before))) (left-setup before again.may ∙ sym again.setup) holds)
 
 -- its schedule is that of the round before
-left-schedule : (r : Round) → IsRound r → schedule_of (left_by r) ≡ schedule_in r
-left-schedule r is =
-    ap (λ (w : RoundState). threads_of_records w.records) (round-made r is) ∙ records-threads (first r.setup) (schedule_in r)
-
 pub again-schedule : (before after : Round) → IsAgain before after → schedule_in after ≡ schedule_in before
 again-schedule before after again =
     carried (λ s p. one_worker s p ≡ schedule_in before) before after again
     (unedited-schedule (left_by before) (round-honest before again.may) ∙ left-schedule before again.may)
 
--- its entries are all reused
+-- its round is all reuse of what the round before left
+pub again-reuses : (before after : Round) → IsAgain before after → OnlyReuses (left_by before) (made after)
+again-reuses before after again =
+    carried (λ s p. OnlyReuses (left_by before) (lone_round s p)) before after again
+    (unedited-reuses (left_by before) (round-honest before again.may))
+
 left-entries : (h : History) → IsHonest h → marked (Some h) h.setup (one_worker h.setup (Some h)) ≡ all_reused_of h
 left-entries h honest = ap (marked (Some h) h.setup) (unedited-schedule h honest) ∙ unedited-marks h honest
-
-pub again-reused : (before after : Round) → IsAgain before after → is_all_reused (entries_of after) ≡ true
-again-reused before after again =
-    carried (λ s p. is_all_reused (marked p s (one_worker s p)) ≡ true) before after again
-    (ap is_all_reused (left-entries (left_by before) (round-honest before again.may)) ∙ reused-all (schedule_of (left_by before)))
 
 pub again-instructions : (before after : Round) → IsAgain before after → instructions_from (first after.setup) (entries_of after) ≡ 0
 again-instructions before after again =
@@ -67,11 +61,11 @@ again-instructions before after again =
     (ap (instructions_from (first (left_by before).setup)) (left-entries (left_by before) (round-honest before again.may))
     ∙ reused-instructions (first (left_by before).setup) (schedule_of (left_by before)))
 
--- nothing is executed or discarded
+-- nothing is executed
 pub again-never_runs :
-    (before after : Round) (n t : ℕ) → IsAgain before after → pick_of (turns n (opening after.setup after.past)) ≢ pick.Run t
+    (before after : Round) (n t : ℕ) → IsAgain before after → pick_of (after_picks n (opening after.setup after.past)) ≢ pick.Run t
 again-never_runs before after n t again =
-    carried (λ s p. pick_of (turns n (opening s p)) ≢ pick.Run t) before after again
+    carried (λ s p. pick_of (after_picks n (opening s p)) ≢ pick.Run t) before after again
     (unedited-never_runs (left_by before) n t (round-honest before again.may))
 
 pub again-executed : (before after : Round) → IsAgain before after → executed_in after.setup.limit (opening after.setup after.past) ≡ 0
@@ -79,17 +73,7 @@ again-executed before after again =
     carried (λ s p. executed_in s.limit (opening s p) ≡ 0) before after again
     (unedited-executed (left_by before) (round-honest before again.may))
 
-pub again-discarded : (before after : Round) → IsAgain before after → (made after).discarded ≡ 0
-again-discarded before after again =
-    carried (λ s p. (lone_round s p).discarded ≡ 0) before after again
-    (unedited-discarded (left_by before) (round-honest before again.may))
-
--- machine and records are those of the round before
+-- its machine is that of the round before
 pub again-machine : (before after : Round) → IsAgain before after → machine_of after ≡ machine_of before
 again-machine before after again =
     ap (λ (s : Setup). scratch s (schedule_in after)) again.setup ∙ ap (scratch before.setup) (again-schedule before after again)
-
-pub again-records : (before after : Round) → IsAgain before after → (made after).records ≡ (made before).records
-again-records before after again =
-    carried (λ s p. (lone_round s p).records ≡ (left_by before).records) before after again
-    (unedited-records (left_by before) (round-honest before again.may))

@@ -12,9 +12,9 @@ use Rattle.round_spec.specs.Marks.{marked_from, marked}
 use Rattle.round_spec.specs.Alone.{one_worker}
 use Rattle.round_spec.proofs.Agreeing.{one_worker-nothing}
 use Rattle.rerun_spec.specs.Inputs.{AreInputs}
-use Rattle.rerun_spec.specs.Rounds.{Round, made, left_by, round_on, rounds_from, IsRound, schedule_in, entries_of}
+use Rattle.rerun_spec.specs.Rounds.{Round, made, left_by, round_on, rounds_from, schedule_in, entries_of}
 use Rattle.rerun_spec.specs.Reports.{all_executed, shares_of_first, report_of, reports_of, is_exit, exits, all_exit}
-use Rattle.rerun_spec.proofs.Rounds.{round-threads, round-entries, round-machine}
+use Rattle.rerun_spec.proofs.Rounds.{CanBeMade, round-threads, round-entries, round-machine}
 
 -- with no history nothing is reused
 pub marks-nothing : (m : Machine) (ts : List ℕ) → marked_from None m ts ≡ all_executed ts
@@ -85,12 +85,12 @@ shares-sum workers steps = let rest = zeros-sum (workers - 1) (0 + steps) in ome
 -- a round's report and exit, told of the round as it was made
 pub report-made :
     (workers : ℕ) (r : Round)
-    → IsRound r → report_of workers r ≡ report r.number r.setup (made r).schedule (shares_of_first workers (length (made r).schedule))
+    → CanBeMade r → report_of workers r ≡ report r.number r.setup (made r).schedule (shares_of_first workers (length (made r).schedule))
 report-made workers r is =
     let long : length (schedule_in r) ≡ length (entries_of r) =
     ap (λ (ts : List ℕ). length ts) (sym (round-threads r)) ∙ length-map (entries_of r) (λ (e : Entry). e.thread) in
     ap (λ (n : ℕ). report r.number r.setup (entries_of r) (shares_of_first workers n)) long
     ∙ ap (λ (es : List Entry). report r.number r.setup es (shares_of_first workers (length es))) (sym (round-entries r is))
 
-pub exit-made : (r : Round) → IsRound r → exits r ≡ is_exit (made r).machine.ending
+pub exit-made : (r : Round) → CanBeMade r → exits r ≡ is_exit (made r).machine.ending
 exit-made r is = ap (λ (m : Machine). is_exit m.ending) (ap (scratch r.setup) (sym (round-threads r)) ∙ sym (round-machine r is))

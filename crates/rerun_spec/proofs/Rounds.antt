@@ -4,19 +4,24 @@ use Rattle.std.specs.List.{AllByRecursion, range_with_len}
 use Rattle.std.proofs.lemmas.Option.{same_Some}
 use Rattle.std.proofs.lemmas.List.Elements.{All-from_recursion}
 use Rattle.edit_spec.specs.Editing.{longest_input}
-use Rattle.machine_spec.specs.Setup.{Setup, IsSetup, first, scratch, is_permitted, is_complete}
-use Rattle.history_spec.specs.History.{History, IsHonest, IsSound}
+use Rattle.machine_spec.specs.Setup.{Setup, IsSetup, first, scratch, is_permitted, is_complete, records}
+use Rattle.history_spec.specs.History.{History, IsHonest, IsSound, CanGoBy, schedule_of, threads_of_records}
+use Rattle.history_spec.proofs.Scratch.{records-threads}
 use Rattle.report_spec.specs.Report.{threads_of, instructions_from}
 use Rattle.round_spec.specs.Marks.{marked}
 use Rattle.round_spec.specs.Rounds.{RoundState, opening}
 use Rattle.worker_spec.specs.OneWorker.{made_by, executed_in}
-use Rattle.worker_spec.proofs.Turns.{marked-threads}
+use Rattle.worker_spec.proofs.Picks.{marked-threads}
 use Rattle.worker_spec.proofs.Lone.{rounds-made, one_worker-permitted, one_worker-complete}
 use Rattle.worker_spec.proofs.Events.{lone-honest}
 use Rattle.worker_spec.proofs.Cost.{rounds-cost}
 use Rattle.rerun_spec.specs.Inputs.{AreInputs}
-use Rattle.rerun_spec.specs.Rounds.{with_input, Round, made, left_by, round_on, rounds_from, rounds_of, IsRound, schedule_in, entries_of, machine_of}
+use Rattle.rerun_spec.specs.Rounds.{with_input, Round, made, left_by, round_on, rounds_from, rounds_of, schedule_in, entries_of, machine_of}
 use Rattle.rerun_spec.proofs.Inputs.{inputs-short}
+
+-- a round that may be made: its setup can go by its history
+abbrev pub CanBeMade : Round → Type 0
+CanBeMade r = CanGoBy r.past r.setup
 
 -- a setup with another short input may be run, where it may be
 with-short : (s : Setup) (input : List ℕ) → IsSetup s → length input ≤ longest_input → IsSetup (with_input s input)
@@ -34,19 +39,19 @@ sound-any None s input sound = tt
 sound-any (Some h) s input sound = (sound.0, record { elf = sound.1.elf; fuel = sound.1.fuel; limit = sound.1.limit })
 
 -- a round as one worker makes it is the one that its schedule makes
-pub round-made : (r : Round) → IsRound r → made r ≡ made_by r.setup r.past (schedule_in r)
-round-made r is = rounds-made r.setup r.past r.setup.limit is.setup is.past
+pub round-made : (r : Round) → CanBeMade r → made r ≡ made_by r.setup r.past (schedule_in r)
+round-made r is = rounds-made r.setup r.past r.setup.limit is.valid is.sound
 
-pub round-honest : (r : Round) → IsRound r → IsHonest (left_by r)
-round-honest r is = lone-honest r.setup r.past is.setup is.past
+pub round-honest : (r : Round) → CanBeMade r → IsHonest (left_by r)
+round-honest r is = lone-honest r.setup r.past is.valid is.sound
 
-pub left-setup : (r : Round) → IsRound r → (left_by r).setup ≡ r.setup
+pub left-setup : (r : Round) → CanBeMade r → (left_by r).setup ≡ r.setup
 left-setup r is = ap (λ (w : RoundState). w.setup) (round-made r is)
 
 -- what it leaves is sound for its program
 left-sound :
     (number : ℕ) (past : Option History) (s : Setup) (input : List ℕ)
-    → IsRound (round_on number past s input) → IsSound (Some (left_by (round_on number past s input))) s
+    → CanBeMade (round_on number past s input) → IsSound (Some (left_by (round_on number past s input))) s
 left-sound number past s input is =
     let same = left-setup (round_on number past s input) is in (
       round-honest (round_on number past s input) is,
@@ -55,51 +60,58 @@ left-sound number past s input is =
 
 each-from :
     (number : ℕ) (past : Option History) (s : Setup) (inputs : List (List ℕ))
-    → IsSetup s → IsSound past s → AllByRecursion (λ i. length i ≤ longest_input) inputs → AllByRecursion IsRound (rounds_from number past s inputs)
+    → IsSetup s → IsSound past s → AllByRecursion (λ i. length i ≤ longest_input) inputs → AllByRecursion CanBeMade (rounds_from number past s inputs)
 each-from number past s [] valid sound short = tt
 each-from number past s (input ∷ inputs) valid sound short =
-    let here : IsRound (round_on number past s input) =
-    record { setup = with-short s input valid short.0; past = sound-any past s input sound } in
+    let here : CanBeMade (round_on number past s input) =
+    record { valid = with-short s input valid short.0; sound = sound-any past s input sound } in
     (here, each-from (number + 1) (Some (left_by (round_on number past s input))) s inputs valid (left-sound number past s input here) short.1)
 
 pub each-round :
     (s : Setup) (lists inputs : List (List ℕ))
-    → IsSetup s → AreInputs s.input lists inputs → AllByRecursion IsRound (rounds_of s inputs)
+    → IsSetup s → AreInputs s.input lists inputs → AllByRecursion CanBeMade (rounds_of s inputs)
 each-round s lists inputs valid are = each-from 0 None s inputs valid tt (inputs-short s.input lists inputs valid.input_size are)
 
 -- what holds of every round that may be made
 pub each-holds :
-    (P : Round → Type 0) → ((r : Round) → IsRound r → P r)
+    (P : Round → Type 0) → ((r : Round) → CanBeMade r → P r)
     → (s : Setup) (lists inputs : List (List ℕ))
     → IsSetup s → AreInputs s.input lists inputs → All P (rounds_of s inputs)
 each-holds P holds s lists inputs valid are = λ k d below.
     holds (slice_index_or (rounds_of s inputs) k d)
-    (All-from_recursion IsRound (rounds_of s inputs) (each-round s lists inputs valid are) k d below)
+    (All-from_recursion CanBeMade (rounds_of s inputs) (each-round s lists inputs valid are) k d below)
 
 pub round-threads : (r : Round) → threads_of (entries_of r) ≡ schedule_in r
 round-threads r = marked-threads r.past (first r.setup) (schedule_in r)
 
-pub round-permitted : (r : Round) → IsRound r → is_permitted r.setup (threads_of (entries_of r)) ≡ true
-round-permitted r is = ap (is_permitted r.setup) (round-threads r) ∙ one_worker-permitted r.setup r.past is.setup
+pub round-permitted : (r : Round) → CanBeMade r → is_permitted r.setup (threads_of (entries_of r)) ≡ true
+round-permitted r is = ap (is_permitted r.setup) (round-threads r) ∙ one_worker-permitted r.setup r.past is.valid
 
-pub round-complete : (r : Round) → IsRound r → is_complete r.setup (threads_of (entries_of r)) ≡ true
-round-complete r is = ap (is_complete r.setup) (round-threads r) ∙ one_worker-complete r.setup r.past is.setup
+pub round-complete : (r : Round) → CanBeMade r → is_complete r.setup (threads_of (entries_of r)) ≡ true
+round-complete r is = ap (is_complete r.setup) (round-threads r) ∙ one_worker-complete r.setup r.past is.valid
 
-pub round-entries : (r : Round) → IsRound r → (made r).schedule ≡ entries_of r
+pub round-entries : (r : Round) → CanBeMade r → (made r).schedule ≡ entries_of r
 round-entries r is = ap (λ (w : RoundState). w.schedule) (round-made r is)
 
-pub round-marks : (r : Round) → IsRound r → entries_of r ≡ marked r.past r.setup (threads_of (entries_of r))
+pub round-marks : (r : Round) → CanBeMade r → entries_of r ≡ marked r.past r.setup (threads_of (entries_of r))
 round-marks r is = ap (marked r.past r.setup) (sym (round-threads r))
 
-pub round-machine : (r : Round) → IsRound r → (made r).machine ≡ scratch r.setup (threads_of (entries_of r))
+pub round-machine : (r : Round) → CanBeMade r → (made r).machine ≡ scratch r.setup (threads_of (entries_of r))
 round-machine r is = ap (λ (w : RoundState). w.machine) (round-made r is) ∙ ap (scratch r.setup) (sym (round-threads r))
 
-pub round-ends : (r : Round) → IsRound r → is_some (machine_of r).ending ≡ true
-round-ends r is = one_worker-complete r.setup r.past is.setup
+pub round-records : (r : Round) → CanBeMade r → (made r).records ≡ records r.setup (threads_of (entries_of r))
+round-records r is = ap (λ (w : RoundState). w.records) (round-made r is) ∙ ap (records r.setup) (sym (round-threads r))
 
-pub round-cost : (r : Round) → IsRound r → executed_in r.setup.limit (opening r.setup r.past) ≡ instructions_from (first r.setup) (entries_of r)
+pub left-schedule : (r : Round) → CanBeMade r → schedule_of (left_by r) ≡ schedule_in r
+left-schedule r is =
+    ap (λ (w : RoundState). threads_of_records w.records) (round-made r is) ∙ records-threads (first r.setup) (schedule_in r)
+
+pub round-ends : (r : Round) → CanBeMade r → is_some (machine_of r).ending ≡ true
+round-ends r is = one_worker-complete r.setup r.past is.valid
+
+pub round-cost : (r : Round) → CanBeMade r → executed_in r.setup.limit (opening r.setup r.past) ≡ instructions_from (first r.setup) (entries_of r)
 round-cost r is =
-    rounds-cost r.setup r.past r.setup.limit is.setup is.past
+    rounds-cost r.setup r.past r.setup.limit is.valid is.sound
     ∙ ap (instructions_from (first r.setup)) (round-entries r is)
 
 -- numbers and setups

@@ -4,35 +4,35 @@ use Rattle.edit_spec.specs.Edit.{LineEdit}
 use Rattle.edit_spec.specs.Grammar.{Says}
 use Rattle.edit_spec.specs.Editing.{edited}
 
--- The bytes of a list of edits make this of an input: they say edits, and these are done to it, all of them. (this project's own)
+-- The bytes of a list of edits make this of an input: they say edits, and these are done to it, all of them.
 pub record Makes (list input next : List ℕ) : Type 0 where
   pub edits : List LineEdit
   pub said : Says list (Ok edits)
   pub done : edited edits input ≡ Ok next
 
--- What each of some lists makes, in order, the first of an input and each other of what the one before it made. (this project's own)
+-- What each of some lists makes, in order, the first of an input and each other of what the one before it made.
 abbrev pub AreMade : List ℕ → List (List ℕ) → List (List ℕ) → Type 0
 AreMade input [] [] = ⊤
 AreMade input [] (next ∷ inputs) = ⊥
 AreMade input (list ∷ lists) [] = ⊥
 AreMade input (list ∷ lists) (next ∷ inputs) = Makes list input next × AreMade next lists inputs
 
--- The inputs of the rounds: the first input, and then what each list makes of the input before. (this project's own)
+-- The inputs of the rounds: the first input, and then what each list makes of the input before.
 abbrev pub AreInputs : List ℕ → List (List ℕ) → List (List ℕ) → Type 0
 AreInputs first lists [] = ⊥
 AreInputs first lists (input ∷ inputs) = (input ≡ first) × AreMade first lists inputs
 
--- Why a list of edits is refused, with the line's number: it spells no edit, or its edit passes its bound. (this project's own)
+-- Why a list of edits is refused, with the line's number: it spells no edit, or its edit passes its bound.
 pub data Refusal : Type 0 where
   BadLine : ℕ → Refusal
   OutOfRange : ℕ → Refusal
 
--- A list is refused where an input is to be edited: by its first bad line, or, where there is none, by the first line that passes its bound. (this project's own)
+-- A list is refused where an input is to be edited: by its first bad line, or, where there is none, by the first line that passes its bound.
 abbrev pub Refuses : List ℕ → List ℕ → Refusal → Type 0
 Refuses list input (BadLine number) = Says list (Err number)
 Refuses list input (OutOfRange number) = (edits : List LineEdit) × Says list (Ok edits) × (edited edits input ≡ Err number)
 
--- The first list that is refused, by its place from 0 on, and why: each list before it makes an input. (this project's own)
+-- The first list that is refused, by its place from 0 on, and why: each list before it makes an input.
 abbrev pub IsFirstRefused : List ℕ → List (List ℕ) → ℕ → Refusal → Type 0
 IsFirstRefused input [] place why = ⊥
 IsFirstRefused input (list ∷ lists) zero why = Refuses list input why

@@ -9,19 +9,19 @@ ghost use Rattle.std.specs.List.{range_with_len};
 ghost use Rattle.edit_spec.specs.Edit.{LineEdit};
 ghost use Rattle.edit_spec.specs.Grammar.{Says};
 ghost use Rattle.edit_spec.specs.Editing.{longest_input};
-ghost use Rattle.machine_spec.specs.Setup.{Setup, IsSetup, first, scratch, is_permitted, is_complete};
+ghost use Rattle.machine_spec.specs.Setup.{Setup, IsSetup, first, scratch, is_permitted, is_complete, records};
 ghost use Rattle.machine_spec.specs.Choice.{alone};
-ghost use Rattle.history_spec.specs.History.{IsHonest};
+ghost use Rattle.history_spec.specs.History.{IsHonest, CanGoBy, schedule_of};
 ghost use Rattle.report_spec.specs.Report.{threads_of, instructions_from, report};
 ghost use Rattle.round_spec.specs.declared.events.Pick.TheVariants as pick;
 ghost use Rattle.round_spec.specs.Marks.{marked};
 ghost use Rattle.round_spec.specs.Rounds.{opening};
 ghost use Rattle.round_spec.specs.Choice.{pick_of};
-ghost use Rattle.round_spec.specs.Alone.{turns};
-ghost use Rattle.round_spec.specs.Unedited.{is_all_reused};
+ghost use Rattle.round_spec.specs.Alone.{after_picks};
+ghost use Rattle.round_spec.specs.Unedited.{OnlyReuses};
 ghost use Rattle.worker_spec.specs.OneWorker.{executed_in};
 ghost use Rattle.rerun_spec.specs.Inputs.{Makes, AreInputs, Refusal, Refuses, IsFirstRefused};
-ghost use Rattle.rerun_spec.specs.Rounds.{Round, with_input, made, left_by, rounds_of, IsRound, schedule_in, entries_of, machine_of, IsRepeated};
+ghost use Rattle.rerun_spec.specs.Rounds.{Round, with_input, made, left_by, rounds_of, schedule_in, entries_of, machine_of, IsRepeated};
 ghost use Rattle.rerun_spec.specs.Reports.{all_executed, shares_of_first, report_of, reports_of, is_exit, exits, all_exit};
 
 /// The bytes of a list of edits say something: edits, or which line is the first bad one.
@@ -104,22 +104,26 @@ pub fn rounds_follow_each_other()
         → after.past ≡ Some (left_by before) }
 {}
 
-/// Each round may be made: its setup may be run, and the history that it goes by is sound for it. So each
-/// law of one worker's round holds of it; what it leaves is honest.
+/// Each round may be made: its setup can go by its history. So each law of one worker's round holds of it.
+/// What it leaves is honest, and of its own schedule.
 pub fn each_round_may_be_made()
     ensures sound { (setup : Setup) (lists inputs : List (List ℕ))
         → IsSetup setup
         → AreInputs setup.input lists inputs
-        → All IsRound (rounds_of setup inputs) }
+        → All (λ (r : Round). CanGoBy r.past r.setup) (rounds_of setup inputs) }
     ensures honest { (setup : Setup) (lists inputs : List (List ℕ))
         → IsSetup setup
         → AreInputs setup.input lists inputs
         → All (λ r. IsHonest (left_by r)) (rounds_of setup inputs) }
+    ensures schedule { (setup : Setup) (lists inputs : List (List ℕ))
+        → IsSetup setup
+        → AreInputs setup.input lists inputs
+        → All (λ r. schedule_of (left_by r) ≡ schedule_in r) (rounds_of setup inputs) }
 {}
 
 /// Each round, as one worker makes it, is what its report tells: its entries have exact marks, and their
 /// threads are the schedule, which is permitted and complete; its machine is the one from scratch under
-/// it, and has an end; and what was executed is what the report says. So its report, and whether it ends
+/// it, and has an end; its records are the machine's, entry by entry; and what was executed is what the report says. So its report, and whether it ends
 /// by exit, can be told of the round as it was made.
 pub fn each_round_is_from_scratch()
     ensures threads { (r : Round) → threads_of (entries_of r) ≡ schedule_in r }
@@ -143,6 +147,10 @@ pub fn each_round_is_from_scratch()
         → IsSetup setup
         → AreInputs setup.input lists inputs
         → All (λ (r : Round). (made r).machine ≡ scratch r.setup (threads_of (entries_of r))) (rounds_of setup inputs) }
+    ensures records { (setup : Setup) (lists inputs : List (List ℕ))
+        → IsSetup setup
+        → AreInputs setup.input lists inputs
+        → All (λ (r : Round). (made r).records ≡ records r.setup (threads_of (entries_of r))) (rounds_of setup inputs) }
     ensures ends { (setup : Setup) (lists inputs : List (List ℕ))
         → IsSetup setup
         → AreInputs setup.input lists inputs
@@ -161,15 +169,15 @@ pub fn each_round_is_from_scratch()
         → All (λ r. exits r ≡ is_exit (made r).machine.ending) (rounds_of setup inputs) }
 {}
 
-/// Where the input of a round equals that of the round before, each step is reused: no step is picked to
-/// be executed, no instruction is executed and nothing is discarded; and schedule, machine (so its end,
-/// output and final memory) and records are those of the round before.
+/// Where the input of a round equals that of the round before, it is all reuse of what that one left: no
+/// step is picked to be executed, no instruction is executed and nothing is discarded; and schedule and
+/// machine (so its end, output and final memory) are those of the round before.
 pub fn repeated_round_executes_nothing()
-    ensures reused { (setup : Setup) (lists inputs : List (List ℕ)) (before after : Round)
+    ensures reuses { (setup : Setup) (lists inputs : List (List ℕ)) (before after : Round)
         → IsSetup setup
         → AreInputs setup.input lists inputs
         → IsRepeated (rounds_of setup inputs) before after
-        → is_all_reused (entries_of after) ≡ true }
+        → OnlyReuses (left_by before) (made after) }
     ensures schedule { (setup : Setup) (lists inputs : List (List ℕ)) (before after : Round)
         → IsSetup setup
         → AreInputs setup.input lists inputs
@@ -179,7 +187,7 @@ pub fn repeated_round_executes_nothing()
         → IsSetup setup
         → AreInputs setup.input lists inputs
         → IsRepeated (rounds_of setup inputs) before after
-        → pick_of (turns n (opening after.setup after.past)) ≢ pick.Run t }
+        → pick_of (after_picks n (opening after.setup after.past)) ≢ pick.Run t }
     ensures executed { (setup : Setup) (lists inputs : List (List ℕ)) (before after : Round)
         → IsSetup setup
         → AreInputs setup.input lists inputs
@@ -190,21 +198,11 @@ pub fn repeated_round_executes_nothing()
         → AreInputs setup.input lists inputs
         → IsRepeated (rounds_of setup inputs) before after
         → instructions_from (first after.setup) (entries_of after) ≡ 0 }
-    ensures discarded { (setup : Setup) (lists inputs : List (List ℕ)) (before after : Round)
-        → IsSetup setup
-        → AreInputs setup.input lists inputs
-        → IsRepeated (rounds_of setup inputs) before after
-        → (made after).discarded ≡ 0 }
     ensures machine { (setup : Setup) (lists inputs : List (List ℕ)) (before after : Round)
         → IsSetup setup
         → AreInputs setup.input lists inputs
         → IsRepeated (rounds_of setup inputs) before after
         → machine_of after ≡ machine_of before }
-    ensures records { (setup : Setup) (lists inputs : List (List ℕ)) (before after : Round)
-        → IsSetup setup
-        → AreInputs setup.input lists inputs
-        → IsRepeated (rounds_of setup inputs) before after
-        → (made after).records ≡ (made before).records }
 {}
 
 /// Without lists of edits there is one round, the run from scratch that follows the choice: with no

@@ -25,7 +25,7 @@ use Rattle.round_spec.specs.declared.events.Pick.TheVariants as pick
 use Rattle.round_spec.specs.Rounds.{nobody_out, happens}
 use Rattle.round_spec.specs.Due.{is_due}
 use Rattle.round_spec.specs.Choice.{free_threads, least_by, best, choice_by, pick_of}
-use Rattle.round_spec.specs.Alone.{guided_from, turns}
+use Rattle.round_spec.specs.Alone.{guided_from, after_picks}
 use Rattle.round_spec.specs.Picking.{is_picked_on}
 use Rattle.round_spec.proofs.Samples.{past_of, starts, executes, seen}
 
@@ -167,7 +167,7 @@ pub guided-late : guided_from (past_of (bare 0 0 ∷ bare 0 1 ∷ bare 1 0 ∷ b
 unfolding nobody_out is_due free_threads least_by best choice_by pick_of is_picked_on fits fits_at step finished thunk turn fetched number_at number_in permission_at decoded reading_of u_immediate i_immediate s_immediate immediate_result shift_result register_result with_register is_readable put_addresses loaded may_store bytes_stored with_byte first_registers all_unlocked
 guided-late = refl
 
--- With nothing to go by, it takes turns.
+-- With nothing to go by, main and the thread alternate.
 pub guided-alone : guided_from None 9 (begins 9 9 late) ≡ 0 ∷ 1 ∷ 0 ∷ 1 ∷ 0 ∷ []
 unfolding nobody_out is_due free_threads least_by best choice_by pick_of is_picked_on fits fits_at step finished thunk turn fetched number_at number_in permission_at decoded reading_of u_immediate i_immediate s_immediate immediate_result shift_result register_result with_register is_readable put_addresses loaded may_store bytes_stored with_byte first_registers all_unlocked
 guided-alone = refl
@@ -208,6 +208,6 @@ unfolding nobody_out is_due free_threads least_by best choice_by pick_of is_pick
 picked-unplaced_unfit = refl
 
 -- One worker whose records fit no more, but for their order, executes every step.
-pub lone-late : seen (turns 9 (starts (begins 9 9 late) (past_of (bare 0 0 ∷ bare 0 1 ∷ bare 1 0 ∷ bare 0 2 ∷ [])))) ≡ (executes 0 ∷ executes 0 ∷ executes 1 ∷ executes 0 ∷ [], [], 0, false)
+pub lone-late : seen (after_picks 9 (starts (begins 9 9 late) (past_of (bare 0 0 ∷ bare 0 1 ∷ bare 1 0 ∷ bare 0 2 ∷ [])))) ≡ (executes 0 ∷ executes 0 ∷ executes 1 ∷ executes 0 ∷ [], [], 0, false)
 unfolding nobody_out is_due free_threads least_by best choice_by pick_of is_picked_on fits fits_at step finished thunk turn fetched number_at number_in permission_at decoded reading_of u_immediate i_immediate s_immediate immediate_result shift_result register_result with_register is_readable put_addresses loaded may_store bytes_stored with_byte first_registers all_unlocked happens
 lone-late = refl

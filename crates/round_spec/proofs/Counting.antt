@@ -5,9 +5,10 @@ use Rattle.machine_spec.specs.Machine.{Machine, hart_of, is_ready}
 use Rattle.machine_spec.specs.Step.{step, lay}
 use Rattle.machine_spec.specs.Schedule.{record_of}
 use Rattle.machine_spec.specs.Setup.{Setup, IsSetup}
+use Rattle.machine_spec.proofs.Alone.{step-steps}
 use Rattle.history_spec.specs.History.{History, found, threads_of_records}
 use Rattle.history_spec.proofs.Truth.{past-of}
-use Rattle.history_spec.proofs.Numbers.{one_for, step-number, lay-number, step-steps, lay-steps, count-more, numbered-more, first-number, first-steps}
+use Rattle.history_spec.proofs.Numbers.{one_for, step-number, lay-number, lay-steps, count-more, numbered-more, first-number, first-steps}
 use Rattle.report_spec.specs.declared.Entry.{Entry}
 use Rattle.report_spec.specs.Report.{threads_of}
 use Rattle.round_spec.specs.declared.events.Event.{Event}

@@ -1,5 +1,5 @@
--- The schedule of one worker that goes by an earlier history.
-use Rattle.std.specs.Prelude.{ℕ, zero, suc, List, [], Option}
+-- One worker that goes by an earlier history: its schedule, its round, and which steps it begins to execute.
+use Rattle.std.specs.Prelude.{ℕ, zero, suc, List, [], ◌∷◌, ◌++◌, Option}
 use Rattle.machine_spec.specs.Machine.{Machine}
 use Rattle.machine_spec.specs.Step.{step}
 use Rattle.machine_spec.specs.Setup.{Setup, first}
@@ -11,27 +11,43 @@ use Rattle.round_spec.specs.declared.events.Pick.TheVariants as pick
 use Rattle.round_spec.specs.Rounds.{RoundState, nobody_out, opening, happens}
 use Rattle.round_spec.specs.Choice.{choice_by, pick_of}
 
--- The schedule that follows the choice with nobody out until an end, for so many steps at most. (this project's own)
+-- The schedule that follows the choice with nobody out until an end, for so many steps at most.
 abbrev pub guided_from : Option History → ℕ → Machine → List ℕ
 guided_from past zero m = []
 guided_from past (suc steps) m = chosen_first m.ending (choice_by past m nobody_out) (λ t. guided_from past steps (step m t))
 
--- The schedule of one worker. (this project's own)
+-- The schedule of one worker.
 abbrev pub one_worker : Setup → Option History → List ℕ
 one_worker setup past = guided_from past setup.limit (first setup)
 
--- A round of one worker after it did what it picked: a record was reused, or a step taken and committed. (this project's own)
-abbrev pub turned : RoundState → Pick → RoundState
-turned w (pick.Reuse t) = happens w (Reuse t)
-turned w (pick.Run t) = happens (happens w (Take t)) (Commit t)
-turned w pick.Hold = w
-turned w pick.Over = w
+-- A round of one worker after it did what it picked: a record was reused, or a step taken and committed.
+abbrev pub after_pick : RoundState → Pick → RoundState
+after_pick w (pick.Reuse t) = happens w (Reuse t)
+after_pick w (pick.Run t) = happens (happens w (Take t)) (Commit t)
+after_pick w pick.Hold = w
+after_pick w pick.Over = w
 
--- A round of one worker after so many turns. (this project's own)
-abbrev pub turns : ℕ → RoundState → RoundState
-turns zero w = w
-turns (suc n) w = turns n (turned w (pick_of w))
+-- A round of one worker after so many picks.
+abbrev pub after_picks : ℕ → RoundState → RoundState
+after_picks zero w = w
+after_picks (suc n) w = after_picks n (after_pick w (pick_of w))
 
--- The round of one worker. (this project's own)
+-- The round of one worker.
 abbrev pub lone_round : Setup → Option History → RoundState
-lone_round setup past = turns setup.limit (opening setup past)
+lone_round setup past = after_picks setup.limit (opening setup past)
+
+-- The thread whose next step a pick begins to execute, if it does.
+abbrev pub begun_by : Pick → List ℕ
+begun_by (pick.Run t) = t ∷ []
+begun_by (pick.Reuse t) = []
+begun_by pick.Hold = []
+begun_by pick.Over = []
+
+-- The threads whose next step one worker begins to execute in so many picks, in order.
+abbrev pub begun_in : ℕ → RoundState → List ℕ
+begun_in zero w = []
+begun_in (suc n) w = begun_by (pick_of w) ++ begun_in n (after_pick w (pick_of w))
+
+-- Those of the whole round of one worker.
+abbrev pub begun : Setup → Option History → List ℕ
+begun setup past = begun_in setup.limit (opening setup past)

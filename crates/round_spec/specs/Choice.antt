@@ -10,44 +10,44 @@ use Rattle.round_spec.specs.Marks.{fits_next}
 use Rattle.round_spec.specs.Rounds.{RoundState, is_over, is_free_in}
 use Rattle.round_spec.specs.Due.{place_in, is_due}
 
--- The threads that are ready and not out, in ascending order. (this project's own)
+-- The threads that are ready and not out, in ascending order.
 unfoldable pub free_threads : Machine → List Bool → List ℕ
 free_threads m out = filter (is_free_in m out) (range_with_len 0 (length m.harts))
 
--- Those of some threads at which a measure is least. (this project's own)
+-- Those of some threads at which a measure is least.
 unfoldable pub least_by : (ℕ → ℕ) → List ℕ → List ℕ
 least_by measure threads = filter (λ t. measure t == least (map measure threads)) threads
 
--- The first of some threads, if there is any. (this project's own)
+-- The first of some threads, if there is any.
 abbrev pub first_of : List ℕ → Option ℕ
 first_of [] = None
 first_of (t ∷ threads) = Some t
 
 -- Of some threads the one of the least place in the history, where those that aren't in it come last; of these the one that has made
--- the fewest steps, and of these the lowest. (this project's own)
+-- the fewest steps, and of these the lowest.
 unfoldable pub best : Option History → Machine → List ℕ → Option ℕ
 best past m threads = first_of (least_by (λ t. (hart_of m t).number) (least_by (place_in past m) threads))
 
--- Whether any thread is out. (this project's own)
+-- Whether any thread is out.
 abbrev pub is_any_out : List Bool → Bool
 is_any_out out = list_any (λ flag. flag) out
 
--- Who may be chosen: the free threads that are due; where none is due and nobody is out, every free thread. (this project's own)
+-- Who may be chosen: the free threads that are due; where none is due and nobody is out, every free thread.
 abbrev pub eligible : List ℕ → List ℕ → Bool → List ℕ
 eligible (t ∷ due) free any_out = t ∷ due
 eligible [] free true = []
 eligible [] free false = free
 
--- The thread that is chosen by a history, if one is. (this project's own)
+-- The thread that is chosen by a history, if one is.
 unfoldable pub choice_by : Option History → Machine → List Bool → Option ℕ
 choice_by past m out =
     best past m (eligible (filter (is_due past m) (free_threads m out)) (free_threads m out) (is_any_out out))
 
--- What to do with a choice: its record is reused where it fits, and else its step is executed; with no choice, to wait. (this project's own)
+-- What to do with a choice: its record is reused where it fits, and else its step is executed; with no choice, to wait.
 abbrev pub with_choice : Option History → Machine → Option ℕ → Pick
 with_choice past m (Some t) = if fits_next past m t then pick.Reuse t else pick.Run t
 with_choice past m None = pick.Hold
 
--- What a worker may do next. (this project's own)
+-- What a worker may do next.
 unfoldable pub pick_of : RoundState → Pick
 pick_of w = if is_over w then pick.Over else with_choice w.past w.machine (choice_by w.past w.machine w.out)

@@ -3,7 +3,7 @@ use Rattle.std.specs.Prelude.{ℕ, ◌+◌, if◌then◌else◌, List, [], ◌�
 use Rattle.record_spec.specs.Record.{Record}
 use Rattle.report_spec.specs.declared.Entry.{Entry}
 
--- The sum of the counts of the records of executed entries. (this project's own)
+-- The sum of the counts of the records of executed entries.
 abbrev pub executed_instructions : List Entry → List Record → ℕ
 executed_instructions [] records = 0
 executed_instructions (e ∷ schedule) [] = 0

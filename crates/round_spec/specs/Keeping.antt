@@ -11,7 +11,7 @@ use Rattle.round_spec.specs.Marks.{fits_next, marked, sourced}
 use Rattle.round_spec.specs.Rounds.{RoundState, is_out}
 
 -- A round is at the machine from scratch: its machine is the one after its schedule, which is permitted; its records are those of the
--- steps, that of a reused entry being the history's own; and its marks are exact. (this project's own)
+-- steps, that of a reused entry being the history's own; and its marks are exact.
 pub record IsFromScratch (w : RoundState) : Type 0 where
   pub machine : w.machine ≡ scratch w.setup (threads_of w.schedule)
   pub permitted : is_permitted w.setup (threads_of w.schedule) ≡ true
@@ -19,13 +19,13 @@ pub record IsFromScratch (w : RoundState) : Type 0 where
   pub sources : w.records ≡ sourced w.past w.setup w.schedule
   pub marks : w.schedule ≡ marked w.past w.setup (threads_of w.schedule)
 
--- Who is out is ready still, and no record of its next step fits. (this project's own)
+-- Who is out is ready still, and no record of its next step fits.
 pub record IsHeld (w : RoundState) (t : ℕ) : Type 0 where
   pub ready : is_ready (hart_of w.machine t).status ≡ true
   pub unfit : fits_next w.past w.machine t ≡ false
 
 -- A flag for each of the 32 threads; the machine is one that holds together; who is out is held; and by a sound history the round is at
--- the machine from scratch. (this project's own)
+-- the machine from scratch.
 pub record IsInOrder (w : RoundState) : Type 0 where
   pub flags : length w.out ≡ 32
   pub whole : IsWhole w.machine
@@ -33,7 +33,7 @@ pub record IsInOrder (w : RoundState) : Type 0 where
   pub scratch : IsSound w.past w.setup → IsFromScratch w
 
 -- Whether each reused entry of a schedule has as its record the history's own of its thread at the number of entries that come before
--- it, where entries of some threads come first. (this project's own)
+-- it, where entries of some threads come first.
 abbrev pub IsReusing : Option History → List ℕ → List Entry → List Record → Type 0
 IsReusing past earlier [] [] = ⊤
 IsReusing past earlier [] (r ∷ records) = ⊥
@@ -43,7 +43,7 @@ IsReusing past earlier (e ∷ schedule) (r ∷ records) =
     × IsReusing past (earlier ++ e.thread ∷ []) schedule records
 
 -- A round counts right: the machine has made as many steps as there are entries, and each thread as many as there are entries of it; the
--- records are of the entries' threads, at these numbers; and that of a reused entry is the history's own. (this project's own)
+-- records are of the entries' threads, at these numbers; and that of a reused entry is the history's own.
 pub record IsCounted (w : RoundState) : Type 0 where
   pub steps : w.machine.steps ≡ length w.schedule
   pub threads : threads_of_records w.records ≡ threads_of w.schedule

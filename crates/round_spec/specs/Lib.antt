@@ -4,6 +4,6 @@ pub mod Due
 pub mod Choice
 pub mod Alone
 pub mod Picking
-pub mod Unedited
 pub mod Keeping
 pub mod Instructions
+pub mod Unedited

@@ -9,28 +9,28 @@ use Rattle.report_spec.specs.Report.{threads_of}
 use Rattle.round_spec.specs.Marks.{fits_next}
 use Rattle.round_spec.specs.Due.{is_due}
 
--- Whether a thread is ready and due. (this project's own)
+-- Whether a thread is ready and due.
 abbrev pub is_ready_and_due : Option History → Machine → ℕ → Bool
 is_ready_and_due past m t = is_ready (hart_of m t).status && is_due past m t
 
--- Whether any thread of a machine passes a test. (this project's own)
+-- Whether any thread of a machine passes a test.
 abbrev pub any_thread : Machine → (ℕ → Bool) → Bool
 any_thread m test = list_any test (range_with_len 0 (length m.harts))
 
 -- Whether a thread at a number of steps made is picked rightly on a machine: it is ready at that number; it is due, or nobody who is
--- ready is; and where the history has no record of it, nobody who is ready and due has a record that fits. (this project's own)
+-- ready is; and where the history has no record of it, nobody who is ready and due has a record that fits.
 unfoldable pub is_picked_on : Option History → Machine → ℕ → ℕ → Bool
 is_picked_on past m t number =
     is_ready (hart_of m t).status && ((hart_of m t).number == number)
     && (is_due past m t || not (any_thread m (is_ready_and_due past m)))
     && (is_some (found past t number) || not (any_thread m (λ u. is_ready_and_due past m u && fits_next past m u)))
 
--- The machine of a round after its first so many entries. (this project's own)
+-- The machine of a round after its first so many entries.
 abbrev pub machine_after : Setup → List Entry → ℕ → Machine
 machine_after setup schedule i = scratch setup (threads_of (take i schedule))
 
 -- Entry i of a round was picked rightly when there were `length_then` entries: no more than i, and i itself where the entry is
--- reused. (this project's own)
+-- reused.
 pub record IsPicked (setup : Setup) (past : Option History) (schedule : List Entry) (i : ℕ) (e : Entry) (length_then : ℕ) : Type 0 where
   pub earlier : length_then ≤ i
   pub at_once : e.reused ≡ true → length_then ≡ i

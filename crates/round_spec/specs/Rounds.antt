@@ -12,7 +12,7 @@ use Rattle.round_spec.specs.declared.events.Event.TheVariants.{Take, Reuse, Comm
 use Rattle.round_spec.specs.Marks.{record_for, fits_next}
 
 -- A round as it stands: what it started from and goes by, the machine, the schedule with marks and the records of its entries, which
--- threads are out, how many executed steps were discarded, and whether the round was stopped. (this project's own)
+-- threads are out, how many executed steps were discarded, and whether the round was stopped.
 pub record RoundState : Type 0 where
   pub setup : Setup
   pub past : Option History
@@ -23,11 +23,11 @@ pub record RoundState : Type 0 where
   pub discarded : ℕ
   pub stopped : Bool
 
--- None of the 32 threads is out. (this project's own)
+-- None of the 32 threads is out.
 unfoldable pub nobody_out : List Bool
 nobody_out = replicate 32 false
 
--- A round at its start. (this project's own)
+-- A round at its start.
 abbrev pub opening : Setup → Option History → RoundState
 opening setup past =
     record {
@@ -41,37 +41,37 @@ opening setup past =
       stopped = false;
     }
 
--- Whether a round is over: the machine has an end, or the round was stopped. (this project's own)
+-- Whether a round is over: the machine has an end, or the round was stopped.
 abbrev pub is_over : RoundState → Bool
 is_over w = is_some w.machine.ending || w.stopped
 
--- Whether a thread is out: a worker has taken its next step. (this project's own)
+-- Whether a thread is out: a worker has taken its next step.
 abbrev pub is_out_of : List Bool → ℕ → Bool
 is_out_of out t = slice_index_or out t false
 
 abbrev pub is_out : RoundState → ℕ → Bool
 is_out w t = is_out_of w.out t
 
--- Whether a thread is ready and not out. (this project's own)
+-- Whether a thread is ready and not out.
 abbrev pub is_free_in : Machine → List Bool → ℕ → Bool
 is_free_in m out t = is_ready (hart_of m t).status && not (is_out_of out t)
 
--- Whether a thread's next step can be begun: the round isn't over, and the thread is ready and not out. (this project's own)
+-- Whether a thread's next step can be begun: the round isn't over, and the thread is ready and not out.
 abbrev pub can_begin : RoundState → ℕ → Bool
 can_begin w t = not (is_over w) && is_free_in w.machine w.out t
 
--- Whether it can be taken, which is where no record of it fits, and whether a record can be reused. (this project's own)
+-- Whether it can be taken, which is where no record of it fits, and whether a record can be reused.
 abbrev pub can_take : RoundState → ℕ → Bool
 can_take w t = can_begin w t && not (fits_next w.past w.machine t)
 
 abbrev pub can_reuse : RoundState → ℕ → Bool
 can_reuse w t = can_begin w t && fits_next w.past w.machine t
 
--- A round after a thread was taken. (this project's own)
+-- A round after a thread was taken.
 abbrev pub taken : RoundState → ℕ → RoundState
 taken w t = record w { out = slice_set w.out t true }
 
--- A round after the record of a thread's step was laid in the step's place. (this project's own)
+-- A round after the record of a thread's step was laid in the step's place.
 abbrev pub reused_by : RoundState → ℕ → Option Record → RoundState
 reused_by w t None = w
 reused_by w t (Some r) =
@@ -81,7 +81,7 @@ reused_by w t (Some r) =
       records = w.records ++ r ∷ [];
     }
 
--- A round after the step of a thread that was out. (this project's own)
+-- A round after the step of a thread that was out.
 abbrev pub committed : RoundState → ℕ → RoundState
 committed w t =
     record w {
@@ -91,15 +91,15 @@ committed w t =
       out = slice_set w.out t false;
     }
 
--- A round after a step that was taken was discarded; a count of 2 ^ 64 - 1 stays. (this project's own)
+-- A round after a step that was taken was discarded; a count of 2 ^ 64 - 1 stays.
 abbrev pub given_back : RoundState → ℕ → RoundState
 given_back w t = record w { out = slice_set w.out t false; discarded = min (suc w.discarded) 18446744073709551615 }
 
--- A round after it was stopped. (this project's own)
+-- A round after it was stopped.
 abbrev pub with_stop : RoundState → RoundState
 with_stop w = record w { stopped = true }
 
--- A round after an event; one whose condition doesn't hold changes nothing. (this project's own)
+-- A round after an event; one whose condition doesn't hold changes nothing.
 unfoldable pub happens : RoundState → Event → RoundState
 happens w (Take t) = if can_take w t then taken w t else w
 happens w (Reuse t) = if can_reuse w t then reused_by w t (record_for w.past w.machine t) else w
@@ -107,15 +107,15 @@ happens w (Commit t) = if is_out w t then (if is_over w then given_back w t else
 happens w (GiveBack t) = if is_out w t then given_back w t else w
 happens w Stop = with_stop w
 
--- A round after some events, one after the other. (this project's own)
+-- A round after some events, one after the other.
 abbrev pub all_happen : RoundState → List Event → RoundState
 all_happen w [] = w
 all_happen w (e ∷ events) = all_happen (happens w e) events
 
--- The round of a setup that goes by a history, after some events. (this project's own)
+-- The round of a setup that goes by a history, after some events.
 abbrev pub round_after : Setup → Option History → List Event → RoundState
 round_after setup past events = all_happen (opening setup past) events
 
--- What a round leaves to the next one. (this project's own)
+-- What a round leaves to the next one.
 abbrev pub history_of : RoundState → History
 history_of w = record { setup = w.setup; records = w.records }

@@ -14,7 +14,7 @@ ghost use Rattle.round_spec.specs.declared.events.Event.TheVariants.{Commit};
 ghost use Rattle.machine_spec.specs.Machine.{Machine};
 ghost use Rattle.machine_spec.specs.Choice.{choice, alone};
 ghost use Rattle.machine_spec.specs.Setup.{Setup, IsSetup, first, scratch, is_permitted, records};
-ghost use Rattle.history_spec.specs.History.{History, IsHonest, IsSameProgram, IsSound};
+ghost use Rattle.history_spec.specs.History.{History, IsHonest, IsSameProgram, IsSound, CanGoBy};
 ghost use Rattle.report_spec.specs.Report.{threads_of, instructions_from};
 ghost use Rattle.round_spec.specs.declared.events.Event.{Event};
 ghost use Rattle.round_spec.specs.Marks.{marked, sourced};
@@ -82,24 +82,19 @@ pub fn rounds_stay_of_their_setup()
 /// the history's own; and exactly the steps whose record fitted are marked as reused.
 pub fn rounds_are_from_scratch()
     ensures permitted { (setup : Setup) (past : Option History) (events : List Event)
-        → IsSetup setup
-        → IsSound past setup
+        → CanGoBy past setup
         → is_permitted setup (threads_of (round_after setup past events).schedule) ≡ true }
     ensures machine { (setup : Setup) (past : Option History) (events : List Event)
-        → IsSetup setup
-        → IsSound past setup
+        → CanGoBy past setup
         → (round_after setup past events).machine ≡ scratch setup (threads_of (round_after setup past events).schedule) }
     ensures records { (setup : Setup) (past : Option History) (events : List Event)
-        → IsSetup setup
-        → IsSound past setup
+        → CanGoBy past setup
         → (round_after setup past events).records ≡ records setup (threads_of (round_after setup past events).schedule) }
     ensures sources { (setup : Setup) (past : Option History) (events : List Event)
-        → IsSetup setup
-        → IsSound past setup
+        → CanGoBy past setup
         → (round_after setup past events).records ≡ sourced past setup (round_after setup past events).schedule }
     ensures marks { (setup : Setup) (past : Option History) (events : List Event)
-        → IsSetup setup
-        → IsSound past setup
+        → CanGoBy past setup
         → (round_after setup past events).schedule
         ≡ marked past setup (threads_of (round_after setup past events).schedule) }
 {}
@@ -108,13 +103,11 @@ pub fn rounds_are_from_scratch()
 /// one for the next round of the same program.
 pub fn rounds_leave_honest_histories()
     ensures honest { (setup : Setup) (past : Option History) (events : List Event)
-        → IsSetup setup
-        → IsSound past setup
+        → CanGoBy past setup
         → is_some (round_after setup past events).machine.ending ≡ true
         → IsHonest (history_of (round_after setup past events)) }
     ensures sound { (setup edited : Setup) (past : Option History) (events : List Event)
-        → IsSetup setup
-        → IsSound past setup
+        → CanGoBy past setup
         → is_some (round_after setup past events).machine.ending ≡ true
         → IsSameProgram setup edited
         → IsSound (Some (history_of (round_after setup past events))) edited }
@@ -124,8 +117,7 @@ pub fn rounds_leave_honest_histories()
 /// a round tells, where the round goes by a sound history.
 pub fn rounds_count_instructions()
     ensures { (setup : Setup) (past : Option History) (events : List Event)
-        → IsSetup setup
-        → IsSound past setup
+        → CanGoBy past setup
         → executed_instructions (round_after setup past events).schedule (round_after setup past events).records
         ≡ instructions_from (first setup) (round_after setup past events).schedule }
 {}

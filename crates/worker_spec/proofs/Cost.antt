@@ -1,4 +1,4 @@
--- What one worker executes turn by turn is what the executed entries of its schedule sum up to.
+-- What one worker executes pick by pick is what the executed entries of its schedule sum up to.
 use Rattle.std.proofs.Common.{◌≡◌, ◌+◌, ℕ, zero, suc, Bool, true, false, cond, List, [], ◌∷◌, ◌++◌, Option, is_some, refl, ap, ◌∙◌, append_assoc, append-nil, arith}
 use Rattle.thunk_spec.specs.Thunk.{thunk}
 use Rattle.machine_spec.specs.declared.states.End.{End}
@@ -15,9 +15,9 @@ use Rattle.round_spec.specs.declared.events.Pick.TheVariants as pick
 use Rattle.round_spec.specs.Marks.{fits_next, marked_from, marked}
 use Rattle.round_spec.specs.Rounds.{RoundState, opening}
 use Rattle.round_spec.specs.Choice.{pick_of}
-use Rattle.round_spec.specs.Alone.{guided_from, turns}
+use Rattle.round_spec.specs.Alone.{guided_from, after_picks}
 use Rattle.worker_spec.specs.OneWorker.{made_by, cost_of, executed_in}
-use Rattle.worker_spec.proofs.Turns.{pick-over, pick-chosen, running, turn-made, turn-over, guided-over, guided-next, Stands, Over, Goes, stands}
+use Rattle.worker_spec.proofs.Picks.{pick-over, pick-chosen, running, after-made, after-over, guided-over, guided-next, Stands, Over, Goes, stands}
 use Rattle.worker_spec.proofs.Lone.{rounds-made}
 
 -- the instructions of a thread's next step
@@ -65,7 +65,7 @@ cost-made setup past (suc n) ts valid sound permitted =
         let none : cost_of (made_by setup past ts) (pick_of (made_by setup past ts)) ≡ 0 =
         ap (cost_of (made_by setup past ts))
         (pick-over setup past (scratch setup ts) (marked past setup ts) (records setup ts) (ap (λ (o : Option End). is_some o) is)) in
-        let turn = ap (executed_in n) (turn-over setup past ts e is) in
+        let after = ap (executed_in n) (after-over setup past ts e is) in
         let now = ap (λ (us : List ℕ). sum (ts ++ us)) (guided-over past n (scratch setup ts) e is) in
         let later = ap (λ (us : List ℕ). sum (ts ++ us)) (guided-over past (suc n) (scratch setup ts) e is) in
         omega arith
@@ -74,7 +74,7 @@ cost-made setup past (suc n) ts valid sound permitted =
         ap (cost_of (made_by setup past ts))
         (pick-chosen setup past (scratch setup ts) (marked past setup ts) (records setup ts) t (running (scratch setup ts) none) chosen)
         ∙ cost-picked (made_by setup past ts) (fits_next past (scratch setup ts) t) t in
-        let turn = ap (executed_in n) (turn-made setup past ts t sound whole none chosen) in
+        let after = ap (executed_in n) (after-made setup past ts t sound whole none chosen) in
         let one = marked-instructions past (first setup) ts t in
         let next = ap (λ (us : List ℕ). sum (ts ++ us)) (guided-next past n (scratch setup ts) t none chosen) in
         let same : sum ((ts ++ t ∷ []) ++ guided_from past n (scratch setup (ts ++ t ∷ []))) ≡ sum (ts ++ t ∷ guided_from past n (step (scratch setup ts) t)) =
@@ -86,7 +86,7 @@ cost-made setup past (suc n) ts valid sound permitted =
 pub rounds-cost :
     (setup : Setup) (past : Option History) (n : ℕ)
     → IsSetup setup → IsSound past setup
-    → executed_in n (opening setup past) ≡ instructions_from (first setup) (turns n (opening setup past)).schedule
+    → executed_in n (opening setup past) ≡ instructions_from (first setup) (after_picks n (opening setup past)).schedule
 rounds-cost setup past n valid sound =
     let all = cost-made setup past n [] valid sound refl in
     let round = ap (λ (w : RoundState). instructions_from (first setup) w.schedule) (rounds-made setup past n valid sound) in

@@ -1,4 +1,4 @@
--- The turns of one worker are events, and its round leaves an honest history.
+-- What one worker does at its picks are events, and its round leaves an honest history.
 use Rattle.std.proofs.Common.{◌≡◌, ℕ, zero, suc, true, List, [], ◌∷◌, ◌++◌, Option, refl, ap, sym, ◌∙◌, subst}
 use Rattle.machine_spec.specs.Setup.{Setup, IsSetup, first, is_permitted, is_complete, records}
 use Rattle.history_spec.specs.History.{History, IsHonest, IsSound, threads_of_records}
@@ -9,43 +9,43 @@ use Rattle.round_spec.specs.declared.events.Pick.{Pick}
 use Rattle.round_spec.specs.declared.events.Pick.TheVariants as pick
 use Rattle.round_spec.specs.Rounds.{RoundState, opening, happens, all_happen, round_after, history_of}
 use Rattle.round_spec.specs.Choice.{pick_of}
-use Rattle.round_spec.specs.Alone.{one_worker, turned, turns, lone_round}
+use Rattle.round_spec.specs.Alone.{one_worker, after_pick, after_picks, lone_round}
 use Rattle.worker_spec.specs.OneWorker.{made_by}
 use Rattle.worker_spec.proofs.Lone.{rounds-made, one_worker-permitted, one_worker-complete}
 
--- the events of one turn
+-- the events of one pick
 abbrev events_of : Pick → List Event
 events_of (pick.Reuse t) = Reuse t ∷ []
 events_of (pick.Run t) = Take t ∷ Commit t ∷ []
 events_of pick.Hold = []
 events_of pick.Over = []
 
-turned-events : (w : RoundState) (p : Pick) → turned w p ≡ all_happen w (events_of p)
-turned-events w (pick.Reuse t) = refl
-turned-events w (pick.Run t) = refl
-turned-events w pick.Hold = refl
-turned-events w pick.Over = refl
+pick-events : (w : RoundState) (p : Pick) → after_pick w p ≡ all_happen w (events_of p)
+pick-events w (pick.Reuse t) = refl
+pick-events w (pick.Run t) = refl
+pick-events w pick.Hold = refl
+pick-events w pick.Over = refl
 
--- the events of some turns
+-- the events of some picks
 abbrev events_in : ℕ → RoundState → List Event
 events_in zero w = []
-events_in (suc n) w = events_of (pick_of w) ++ events_in n (turned w (pick_of w))
+events_in (suc n) w = events_of (pick_of w) ++ events_in n (after_pick w (pick_of w))
 
 both-happen : (w : RoundState) (es fs : List Event) → all_happen w (es ++ fs) ≡ all_happen (all_happen w es) fs
 both-happen w [] fs = refl
 both-happen w (e ∷ es) fs = both-happen (happens w e) es fs
 
-all-turns : (n : ℕ) (w : RoundState) → turns n w ≡ all_happen w (events_in n w)
-all-turns zero w = refl
-all-turns (suc n) w =
-    all-turns n (turned w (pick_of w))
-    ∙ ap (λ (v : RoundState). all_happen v (events_in n (turned w (pick_of w)))) (turned-events w (pick_of w))
-    ∙ sym (both-happen w (events_of (pick_of w)) (events_in n (turned w (pick_of w))))
+all-picks : (n : ℕ) (w : RoundState) → after_picks n w ≡ all_happen w (events_in n w)
+all-picks zero w = refl
+all-picks (suc n) w =
+    all-picks n (after_pick w (pick_of w))
+    ∙ ap (λ (v : RoundState). all_happen v (events_in n (after_pick w (pick_of w)))) (pick-events w (pick_of w))
+    ∙ sym (both-happen w (events_of (pick_of w)) (events_in n (after_pick w (pick_of w))))
 
-pub turns-events :
+pub picks-events :
     (setup : Setup) (past : Option History) (n : ℕ)
-    → (events : List Event) × (turns n (opening setup past) ≡ round_after setup past events)
-turns-events setup past n = (events_in n (opening setup past), all-turns n (opening setup past))
+    → (events : List Event) × (after_picks n (opening setup past) ≡ round_after setup past events)
+picks-events setup past n = (events_in n (opening setup past), all-picks n (opening setup past))
 
 made-honest :
     (setup : Setup) (past : Option History) (ts : List ℕ)

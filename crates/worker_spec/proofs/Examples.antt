@@ -23,7 +23,7 @@ use Rattle.round_spec.specs.declared.events.Pick.TheVariants as pick
 use Rattle.round_spec.specs.Rounds.{nobody_out, happens}
 use Rattle.round_spec.specs.Due.{is_due}
 use Rattle.round_spec.specs.Choice.{free_threads, least_by, best, choice_by, pick_of}
-use Rattle.round_spec.specs.Alone.{turns}
+use Rattle.round_spec.specs.Alone.{after_picks}
 use Rattle.round_spec.proofs.Samples.{past_of, starts, recorded, reuses, executes, seen, forgets}
 use Rattle.worker_spec.specs.OneWorker.{executed_in}
 use Rattle.worker_spec.specs.Replaying.{goes_on_by}
@@ -50,9 +50,9 @@ abbrev was_4 : Option History
 was_4 = past_of (recorded (begins 9 9 (forgets 4)) 0 [] ∷ recorded (step (begins 9 9 (forgets 4)) 0) 0 [] ∷ [])
 
 -- Without an edit the order is the old one, and all is reused.
-pub turns-main_first : seen (turns 9 (starts (begins 9 9 late) main_first)) ≡ (reuses 0 ∷ reuses 0 ∷ reuses 1 ∷ reuses 0 ∷ [], [], 0, false)
+pub picks-main_first : seen (after_picks 9 (starts (begins 9 9 late) main_first)) ≡ (reuses 0 ∷ reuses 0 ∷ reuses 1 ∷ reuses 0 ∷ [], [], 0, false)
 unfolding nobody_out is_due free_threads least_by best choice_by pick_of happens step finished lay fits fits_at put_of reads_of thunk turn fetched number_at number_in permission_at decoded reading_of u_immediate i_immediate s_immediate immediate_result shift_result register_result with_register is_readable put_addresses loaded may_store bytes_stored with_byte first_registers all_unlocked
-turns-main_first = refl
+picks-main_first = refl
 
 -- Nothing is executed then.
 pub executed-main_first : executed_in 9 (starts (begins 9 9 late) main_first) ≡ 0
@@ -64,15 +64,15 @@ pub executed-alone : executed_in 9 (starts (begins 9 9 late) None) ≡ 22
 unfolding nobody_out is_due free_threads least_by best choice_by pick_of happens step finished lay fits fits_at put_of reads_of thunk turn fetched number_at number_in permission_at decoded reading_of u_immediate i_immediate s_immediate immediate_result shift_result register_result with_register is_readable put_addresses loaded may_store bytes_stored with_byte first_registers all_unlocked
 executed-alone = refl
 
--- So much in the first two turns.
+-- So much in the first two picks.
 pub executed-two : executed_in 2 (starts (begins 9 9 late) None) ≡ 10
 unfolding nobody_out is_due free_threads least_by best choice_by pick_of happens step finished lay fits fits_at put_of reads_of thunk turn fetched number_at number_in permission_at decoded reading_of u_immediate i_immediate s_immediate immediate_result shift_result register_result with_register is_readable put_addresses loaded may_store bytes_stored with_byte first_registers all_unlocked
 executed-two = refl
 
 -- After an edit of the byte the first step is executed, of 5 instructions, and the second is reused.
-pub turns-edited : seen (turns 9 (starts (begins 9 9 (forgets 7)) was_4)) ≡ (executes 0 ∷ reuses 0 ∷ [], [], 0, false)
+pub picks-edited : seen (after_picks 9 (starts (begins 9 9 (forgets 7)) was_4)) ≡ (executes 0 ∷ reuses 0 ∷ [], [], 0, false)
 unfolding nobody_out is_due free_threads least_by best choice_by pick_of happens step finished lay fits fits_at put_of reads_of thunk turn fetched number_at number_in permission_at decoded reading_of u_immediate i_immediate s_immediate immediate_result shift_result register_result with_register is_readable put_addresses loaded may_store bytes_stored with_byte first_registers all_unlocked
-turns-edited = refl
+picks-edited = refl
 
 -- These 5 are all.
 pub executed-edited : executed_in 9 (starts (begins 9 9 (forgets 7)) was_4) ≡ 5

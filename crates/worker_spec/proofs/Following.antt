@@ -23,7 +23,7 @@ use Rattle.round_spec.specs.Choice.{choice_by}
 use Rattle.round_spec.specs.Alone.{guided_from}
 use Rattle.worker_spec.proofs.Choosing.{choice_by-chosen}
 use Rattle.worker_spec.proofs.Numbers.{IsMadeOn, made-all, can_step-ready}
-use Rattle.worker_spec.proofs.Turns.{guided-over, guided-next, Stands, Over, Goes, stands}
+use Rattle.worker_spec.proofs.Picks.{guided-over, guided-next, Stands, Over, Goes, stands}
 
 -- where nothing in front passes a test
 

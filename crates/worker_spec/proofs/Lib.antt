@@ -1,8 +1,9 @@
 pub mod Lists
 pub mod Choosing
 pub mod Numbers
-pub mod Turns
+pub mod Picks
 pub mod Lone
+pub mod Ending
 pub mod Picked
 pub mod Following
 pub mod Unedited

@@ -1,4 +1,4 @@
--- The whole round of one worker: its schedule is permitted and complete, no turn waits, and each entry was picked rightly.
+-- The whole round of one worker: its schedule is permitted and complete, and by a sound history it is the round which that makes.
 use Rattle.std.proofs.Common.{◌≡◌, ◌≢◌, ◌≤◌, ◌+◌, ℕ, zero, suc, Bool, true, false, cond, List, [], ◌∷◌, ◌++◌, Option, Some, None, is_some, unwrap_or, refl, ap, sym, ◌∙◌, subst, append_assoc, append-nil, arith}
 use Rattle.record_spec.specs.Record.{Record}
 use Rattle.machine_spec.specs.declared.states.End.{End}
@@ -9,7 +9,7 @@ use Rattle.machine_spec.specs.Setup.{Setup, IsSetup, first, scratch, is_permitte
 use Rattle.machine_spec.specs.Whole.{IsWhole}
 use Rattle.machine_spec.proofs.Beginning.{IsWhole-first}
 use Rattle.machine_spec.proofs.Steps.{step-whole}
-use Rattle.machine_spec.proofs.Alone.{step-limit, step-steps}
+use Rattle.machine_spec.proofs.Alone.{step-limit, step-steps, first-limit}
 use Rattle.history_spec.specs.History.{History, IsSound}
 use Rattle.history_spec.proofs.Scratch.{and-left, and-right, step-frame, scratch-whole, scratch-more, permitted-more}
 use Rattle.history_spec.proofs.Truth.{reuse-record}
@@ -19,10 +19,10 @@ use Rattle.round_spec.specs.declared.events.Pick.TheVariants as pick
 use Rattle.round_spec.specs.Marks.{record_for, is_fitting, fits_next, marked_from, marked, source_of, sourced_from}
 use Rattle.round_spec.specs.Rounds.{RoundState, opening}
 use Rattle.round_spec.specs.Choice.{pick_of}
-use Rattle.round_spec.specs.Alone.{guided_from, one_worker, turns, lone_round}
+use Rattle.round_spec.specs.Alone.{guided_from, one_worker, after_picks, lone_round}
 use Rattle.round_spec.specs.Keeping.{IsFromScratch}
 use Rattle.worker_spec.specs.OneWorker.{made_by}
-use Rattle.worker_spec.proofs.Turns.{marked-threads, turn-made, turn-over, guided-over, guided-next, Stands, Over, Goes, stands, pick-over, pick-chosen, running}
+use Rattle.worker_spec.proofs.Picks.{marked-threads, after-made, after-over, guided-over, guided-next, Stands, Over, Goes, stands, pick-over, pick-chosen, running}
 
 -- the schedule of one worker is permitted
 pub guided-permitted : (past : Option History) (n : ℕ) (m : Machine) → IsWhole m → is_permitted_from m (guided_from past n m) ≡ true
@@ -35,7 +35,7 @@ guided-permitted past (suc n) m whole = by (stands past m whole) (λ t can. guid
     by (Over e is) later = ap (is_permitted_from m) (guided-over past (suc n) m e is)
     by (Goes t none chosen can) later = ap (is_permitted_from m) (guided-next past n m t none chosen) ∙ (rw can (later t can))
 
--- and complete, where there are turns enough
+-- and complete, where there are picks enough
 pub guided-complete :
     (past : Option History) (n : ℕ) (m : Machine)
     → IsWhole m → m.limit ≤ m.steps + n → is_complete_from m (guided_from past n m) ≡ true
@@ -57,31 +57,31 @@ guided-complete past (suc n) m whole enough =
     by (Over e is) later = ap (is_complete_from m) (guided-over past (suc n) m e is) ∙ ap (λ (o : Option End). is_some o) is
     by (Goes t none chosen can) later = ap (is_complete_from m) (guided-next past n m t none chosen) ∙ later t can
 
--- the round after some turns is the one that the schedule so far makes
-pub turns-made :
+-- the round after some picks is the one that the schedule so far makes
+pub picks-made :
     (setup : Setup) (past : Option History) (n : ℕ) (ts : List ℕ)
     → IsSetup setup → IsSound past setup → is_permitted setup ts ≡ true
-    → turns n (made_by setup past ts) ≡ made_by setup past (ts ++ guided_from past n (scratch setup ts))
-turns-made setup past zero ts valid sound permitted = ap (made_by setup past) (sym (append-nil ts))
-turns-made setup past (suc n) ts valid sound permitted =
-    by (stands past (scratch setup ts) whole) (turns-made setup past n ts valid sound permitted)
-    (λ t can. turns-made setup past n (ts ++ t ∷ []) valid sound (permitted-more (first setup) ts t permitted can))
+    → after_picks n (made_by setup past ts) ≡ made_by setup past (ts ++ guided_from past n (scratch setup ts))
+picks-made setup past zero ts valid sound permitted = ap (made_by setup past) (sym (append-nil ts))
+picks-made setup past (suc n) ts valid sound permitted =
+    by (stands past (scratch setup ts) whole) (picks-made setup past n ts valid sound permitted)
+    (λ t can. picks-made setup past n (ts ++ t ∷ []) valid sound (permitted-more (first setup) ts t permitted can))
   where
     whole : IsWhole (scratch setup ts)
     whole = scratch-whole (first setup) ts (IsWhole-first setup valid) permitted
 
     by :
         Stands past (scratch setup ts)
-        → turns n (made_by setup past ts) ≡ made_by setup past (ts ++ guided_from past n (scratch setup ts))
+        → after_picks n (made_by setup past ts) ≡ made_by setup past (ts ++ guided_from past n (scratch setup ts))
         → ((t : ℕ) → can_step (scratch setup ts) t ≡ true
-        → turns n (made_by setup past (ts ++ t ∷ [])) ≡ made_by setup past ((ts ++ t ∷ []) ++ guided_from past n (scratch setup (ts ++ t ∷ []))))
-        → turns (suc n) (made_by setup past ts) ≡ made_by setup past (ts ++ guided_from past (suc n) (scratch setup ts))
+        → after_picks n (made_by setup past (ts ++ t ∷ [])) ≡ made_by setup past ((ts ++ t ∷ []) ++ guided_from past n (scratch setup (ts ++ t ∷ []))))
+        → after_picks (suc n) (made_by setup past ts) ≡ made_by setup past (ts ++ guided_from past (suc n) (scratch setup ts))
     by (Over e is) stays goes =
-        ap (turns n) (turn-over setup past ts e is) ∙ stays
+        ap (after_picks n) (after-over setup past ts e is) ∙ stays
         ∙ ap (λ (us : List ℕ). made_by setup past (ts ++ us)) (guided-over past n (scratch setup ts) e is)
         ∙ sym (ap (λ (us : List ℕ). made_by setup past (ts ++ us)) (guided-over past (suc n) (scratch setup ts) e is))
     by (Goes t none chosen can) stays goes =
-        ap (turns n) (turn-made setup past ts t sound whole none chosen) ∙ goes t can
+        ap (after_picks n) (after-made setup past ts t sound whole none chosen) ∙ goes t can
         ∙ ap (λ (m : Machine). made_by setup past ((ts ++ t ∷ []) ++ guided_from past n m)) (scratch-more (first setup) ts t)
         ∙ ap (made_by setup past) (append_assoc ts (t ∷ []) (guided_from past n (step (scratch setup ts) t)))
         ∙ sym (ap (λ (us : List ℕ). made_by setup past (ts ++ us)) (guided-next past n (scratch setup ts) t none chosen))
@@ -89,47 +89,14 @@ turns-made setup past (suc n) ts valid sound permitted =
 pub rounds-made :
     (setup : Setup) (past : Option History) (n : ℕ)
     → IsSetup setup → IsSound past setup
-    → turns n (opening setup past) ≡ made_by setup past (guided_from past n (first setup))
-rounds-made setup past n valid sound = turns-made setup past n [] valid sound refl
-
-first-limit : (s : Setup) → (first s).limit ≤ (first s).steps + s.limit
-unfolding first
-first-limit s = omega arith
+    → after_picks n (opening setup past) ≡ made_by setup past (guided_from past n (first setup))
+rounds-made setup past n valid sound = picks-made setup past n [] valid sound refl
 
 pub one_worker-permitted : (setup : Setup) (past : Option History) → IsSetup setup → is_permitted setup (one_worker setup past) ≡ true
 one_worker-permitted setup past valid = guided-permitted past setup.limit (first setup) (IsWhole-first setup valid)
 
 pub one_worker-complete : (setup : Setup) (past : Option History) → IsSetup setup → is_complete setup (one_worker setup past) ≡ true
 one_worker-complete setup past valid = guided-complete past setup.limit (first setup) (IsWhole-first setup valid) (first-limit setup)
-
--- no turn waits
-pick-not_hold : (b : Bool) (t : ℕ) (p : Pick) → p ≡ cond b (pick.Reuse t) (pick.Run t) → p ≢ pick.Hold
-pick-not_hold true t p is = λ hold. cc
-pick-not_hold false t p is = λ hold. cc
-
-made-not_hold :
-    (setup : Setup) (past : Option History) (ts : List ℕ)
-    → IsWhole (scratch setup ts) → pick_of (made_by setup past ts) ≢ pick.Hold
-made-not_hold setup past ts whole = by (stands past (scratch setup ts) whole)
-  where
-    by : Stands past (scratch setup ts) → pick_of (made_by setup past ts) ≢ pick.Hold
-    by (Over e is) = λ hold.
-        let over : pick_of (made_by setup past ts) ≡ pick.Over =
-        pick-over setup past (scratch setup ts) (marked past setup ts) (records setup ts) (ap (λ (o : Option End). is_some o) is) in
-        cc
-    by (Goes t none chosen can) =
-        pick-not_hold (fits_next past (scratch setup ts) t) t (pick_of (made_by setup past ts))
-        (pick-chosen setup past (scratch setup ts) (marked past setup ts) (records setup ts) t (running (scratch setup ts) none) chosen)
-
-pub never-hold :
-    (setup : Setup) (past : Option History) (n : ℕ)
-    → IsSetup setup → IsSound past setup
-    → pick_of (turns n (opening setup past)) ≢ pick.Hold
-never-hold setup past n valid sound = λ hold.
-    made-not_hold setup past (guided_from past n (first setup))
-    (scratch-whole (first setup) (guided_from past n (first setup)) (IsWhole-first setup valid)
-    (guided-permitted past n (first setup) (IsWhole-first setup valid)))
-    (ap pick_of (sym (rounds-made setup past n valid sound)) ∙ hold)
 
 -- the records of a permitted schedule come from where the marks say
 source-is :
@@ -186,10 +153,3 @@ pub lone-scratch :
 lone-scratch setup past valid sound =
     subst IsFromScratch (sym (rounds-made setup past setup.limit valid sound))
     (made-scratch setup past (one_worker setup past) valid sound (one_worker-permitted setup past valid))
-
-pub lone-ends :
-    (setup : Setup) (past : Option History)
-    → IsSetup setup → IsSound past setup → is_some (lone_round setup past).machine.ending ≡ true
-lone-ends setup past valid sound =
-    ap (λ (w : RoundState). is_some w.machine.ending) (rounds-made setup past setup.limit valid sound)
-    ∙ one_worker-complete setup past valid

@@ -21,7 +21,7 @@ use Rattle.round_spec.specs.Picking.{is_ready_and_due, any_thread, is_picked_on,
 use Rattle.worker_spec.proofs.Lists.{none-any, range-all}
 use Rattle.worker_spec.proofs.Choosing.{IsChosen, choice_by-chosen}
 use Rattle.worker_spec.proofs.Lone.{rounds-made}
-use Rattle.worker_spec.proofs.Turns.{marked-threads, guided-over, guided-next, Stands, Over, Goes, stands}
+use Rattle.worker_spec.proofs.Picks.{marked-threads, guided-over, guided-next, Stands, Over, Goes, stands}
 
 -- each entry is the choice after those before it
 abbrev AllChosen : Option History → Machine → List ℕ → Type 0

@@ -8,7 +8,7 @@ use Rattle.record_spec.specs.Record.{Record}
 use Rattle.machine_spec.specs.Machine.{Machine, hart_of, is_ready}
 use Rattle.machine_spec.specs.Step.{step, fits}
 use Rattle.machine_spec.specs.Schedule.{record_of, records_from}
-use Rattle.machine_spec.specs.Setup.{first, scratch, records}
+use Rattle.machine_spec.specs.Setup.{Setup, first, scratch, records}
 use Rattle.machine_spec.specs.Whole.{IsWhole}
 use Rattle.history_spec.specs.History.{History, IsHonest, schedule_of}
 use Rattle.history_spec.proofs.Scratch.{scratch-more}
@@ -23,11 +23,14 @@ use Rattle.round_spec.specs.Marks.{record_for, fits_next}
 use Rattle.round_spec.specs.Rounds.{RoundState, opening, is_over, is_out, is_out_of, reused_by, with_stop, happens}
 use Rattle.round_spec.specs.Due.{place_in, is_due}
 use Rattle.round_spec.specs.Choice.{choice_by, pick_of}
-use Rattle.worker_spec.specs.Replaying.{all_reused_of, IsReplaying, IsNextStep, goes_on_by}
+use Rattle.round_spec.specs.Alone.{begun}
+use Rattle.round_spec.specs.Instructions.{executed_instructions}
+use Rattle.round_spec.specs.Unedited.{is_all_reused, all_reused_of, OnlyReuses}
+use Rattle.worker_spec.specs.Replaying.{IsReplaying, IsNextStep, goes_on_by}
 use Rattle.worker_spec.proofs.Choosing.{out-nobody}
 use Rattle.worker_spec.proofs.Numbers.{can_step-ready}
 use Rattle.worker_spec.proofs.Following.{IsNext, honest-next, honest-whole, honest-end, next-place, other-place, next-due, next-found, next-fits, next-chosen, can_step-none}
-use Rattle.worker_spec.proofs.Unedited.{reused-instructions}
+use Rattle.worker_spec.proofs.Unedited.{reused-all, reused-instructions, reused-executed, unedited-begun}
 
 -- a list's first elements
 
@@ -281,30 +284,40 @@ replays-next h w honest replays going = by (where-it-stands h w honest replays)
     by (Done split ended) = absurd (let over = rw ended at going in cc)
     by (Next t ys split whole next) = (t, next-step h w t ys replays going whole next)
 
--- at its end it is the history's
+-- at its end it was all reuse
 pub replays-end :
     (h : History) (w : RoundState)
-    → IsHonest h → IsReplaying h w → is_some w.machine.ending ≡ true
-    → (w.schedule ≡ all_reused_of h) × (w.records ≡ h.records) × (w.machine ≡ scratch h.setup (schedule_of h))
+    → IsHonest h → IsReplaying h w → is_some w.machine.ending ≡ true → OnlyReuses h w
 replays-end h w honest replays ended = by (where-it-stands h w honest replays)
   where
-    by : Replays h w → (w.schedule ≡ all_reused_of h) × (w.records ≡ h.records) × (w.machine ≡ scratch h.setup (schedule_of h))
-    by (Done split there) = (
-      replays.schedule
-          ∙ take_all (length w.schedule) (all_reused_of h)
-          (let steps = length-reused (schedule_of h) in
-          let threads = length-threads w.schedule in
-          let same = ap (λ (ts : List ℕ). length ts) split in
-          omega arith),
-      replays.records
-          ∙ take_all (length w.schedule) h.records
-          (let kept = ap (λ (rs : List Record). length rs) honest.recorded in
-          let steps = length-records (first h.setup) (schedule_of h) in
-          let threads = length-threads w.schedule in
-          let same = ap (λ (ts : List ℕ). length ts) split in
-          omega arith),
-      replays.machine ∙ ap (scratch h.setup) (sym split),
-    )
+    by : Replays h w → OnlyReuses h w
+    by (Done split there) =
+        let schedule : w.schedule ≡ all_reused_of h =
+        replays.schedule
+        ∙ take_all (length w.schedule) (all_reused_of h)
+        (let steps = length-reused (schedule_of h) in
+        let threads = length-threads w.schedule in
+        let same = ap (λ (ts : List ℕ). length ts) split in
+        omega arith) in
+        record {
+          schedule = schedule;
+          reused = ap is_all_reused schedule ∙ reused-all (schedule_of h);
+          begun =
+              ap (λ (s : Setup). begun s w.past) replays.setup
+              ∙ ap (begun h.setup) replays.past
+              ∙ unedited-begun h honest;
+          executed = ap (λ (es : List Entry). executed_instructions es w.records) schedule ∙ reused-executed (schedule_of h) w.records;
+          discarded = replays.discarded;
+          machine = replays.machine ∙ ap (scratch h.setup) (sym split);
+          records =
+              replays.records
+              ∙ take_all (length w.schedule) h.records
+              (let kept = ap (λ (rs : List Record). length rs) honest.recorded in
+              let steps = length-records (first h.setup) (schedule_of h) in
+              let threads = length-threads w.schedule in
+              let same = ap (λ (ts : List ℕ). length ts) split in
+              omega arith);
+        }
     by (Next t ys split whole next) = absurd (let none = can_step-none w.machine t next.can in let impossible = rw none at ended in cc)
 
 -- and on the way nothing is executed

@@ -1,5 +1,5 @@
 -- The round of one worker without an edit: the history's own schedule, all of it reused.
-use Rattle.std.proofs.Common.{◌≡◌, ◌≢◌, ℕ, Bool, true, cond, List, [], ◌∷◌, ◌++◌, map, take, drop, Some, refl, ap, sym, ◌∙◌, arith}
+use Rattle.std.proofs.Common.{◌≡◌, ◌≢◌, ℕ, zero, suc, Bool, true, cond, List, [], ◌∷◌, ◌++◌, map, take, drop, Some, refl, ap, sym, ◌∙◌, subst, arith}
 use Rattle.std.proofs.lemmas.List.{take_all, take-append-drop}
 use Rattle.record_spec.specs.Record.{Record}
 use Rattle.machine_spec.specs.Machine.{Machine}
@@ -7,17 +7,18 @@ use Rattle.machine_spec.specs.Step.{step}
 use Rattle.machine_spec.specs.Schedule.{records_from}
 use Rattle.machine_spec.specs.Setup.{first, scratch, records}
 use Rattle.history_spec.specs.History.{History, IsHonest, IsSound, schedule_of}
+use Rattle.report_spec.specs.declared.Entry.{Entry}
 use Rattle.report_spec.specs.Report.{instructions_from}
 use Rattle.round_spec.specs.declared.events.Pick.{Pick}
 use Rattle.round_spec.specs.declared.events.Pick.TheVariants as pick
 use Rattle.round_spec.specs.Marks.{marked}
 use Rattle.round_spec.specs.Rounds.{RoundState, opening}
 use Rattle.round_spec.specs.Choice.{pick_of}
-use Rattle.round_spec.specs.Alone.{one_worker, turns, lone_round}
-use Rattle.round_spec.specs.Unedited.{is_all_reused}
+use Rattle.round_spec.specs.Alone.{one_worker, after_pick, after_picks, lone_round, begun_by, begun_in, begun}
+use Rattle.round_spec.specs.Instructions.{executed_instructions}
+use Rattle.round_spec.specs.Unedited.{is_all_reused, all_reused_of, OnlyReuses}
 use Rattle.worker_spec.specs.OneWorker.{made_by, executed_in}
-use Rattle.worker_spec.specs.Replaying.{all_reused_of}
-use Rattle.worker_spec.proofs.Turns.{pick-over, pick-chosen, running}
+use Rattle.worker_spec.proofs.Picks.{pick-over, pick-chosen, running}
 use Rattle.worker_spec.proofs.Lone.{rounds-made}
 use Rattle.worker_spec.proofs.Cost.{rounds-cost}
 use Rattle.worker_spec.proofs.Following.{honest-next, honest-whole, honest-end, honest-length, next-fits, next-chosen, can_step-none, follow, follow-marks}
@@ -69,7 +70,7 @@ made-not_run h xs (t ∷ ys) u honest split =
     (next-chosen (Some h) (scratch h.setup xs) (records h.setup xs) t back (honest-whole h xs (t ∷ ys) honest split) next)
     ∙ ap (λ (b : Bool). cond b (pick.Reuse t) (pick.Run t)) (next-fits (Some h) (scratch h.setup xs) (records h.setup xs) t back next))
 
-pub unedited-never_runs : (h : History) (n u : ℕ) → IsHonest h → pick_of (turns n (opening h.setup (Some h))) ≢ pick.Run u
+pub unedited-never_runs : (h : History) (n u : ℕ) → IsHonest h → pick_of (after_picks n (opening h.setup (Some h))) ≢ pick.Run u
 unedited-never_runs h n u honest = λ run.
     made-not_run h (take n (schedule_of h)) (drop n (schedule_of h)) u honest (sym (take-append-drop n (schedule_of h)))
     (ap pick_of
@@ -77,25 +78,48 @@ unedited-never_runs h n u honest = λ run.
     ∙ sym (rounds-made h.setup (Some h) n honest.valid (honest-sound h honest)))
     ∙ run)
 
-pub unedited-entries : (h : History) → IsHonest h → (lone_round h.setup (Some h)).schedule ≡ all_reused_of h
-unedited-entries h honest = ap (λ (w : RoundState). w.schedule) (unedited-round h honest) ∙ unedited-marks h honest
+not-begun : (p : Pick) → ((u : ℕ) → p ≢ pick.Run u) → begun_by p ≡ []
+not-begun (pick.Run t) never = absurd (never t refl)
+not-begun (pick.Reuse t) never = refl
+not-begun pick.Hold never = refl
+not-begun pick.Over never = refl
 
-pub unedited-reused : (h : History) → IsHonest h → is_all_reused (lone_round h.setup (Some h)).schedule ≡ true
-unedited-reused h honest = ap is_all_reused (unedited-entries h honest) ∙ reused-all (schedule_of h)
+-- where no step is picked to be executed, none is begun
+none-begun : (n : ℕ) (w : RoundState) → ((k u : ℕ) → pick_of (after_picks k w) ≢ pick.Run u) → begun_in n w ≡ []
+none-begun zero w never = refl
+none-begun (suc n) w never =
+    ap (λ (ts : List ℕ). ts ++ begun_in n (after_pick w (pick_of w))) (not-begun (pick_of w) (never 0))
+    ∙ none-begun n (after_pick w (pick_of w)) (λ k. never (suc k))
+
+pub unedited-begun : (h : History) → IsHonest h → begun h.setup (Some h) ≡ []
+unedited-begun h honest = none-begun h.setup.limit (opening h.setup (Some h)) (λ k u. unedited-never_runs h k u honest)
+
+-- reused records count for nothing
+pub reused-executed : (ts : List ℕ) (rs : List Record) → executed_instructions (map (λ t. record { thread = t; reused = true }) ts) rs ≡ 0
+reused-executed [] rs = refl
+reused-executed (t ∷ ts) [] = refl
+reused-executed (t ∷ ts) (r ∷ rs) = let rest = reused-executed ts rs in omega arith
+
+-- so the round is all reuse
+pub unedited-reuses : (h : History) → IsHonest h → OnlyReuses h (lone_round h.setup (Some h))
+unedited-reuses h honest =
+    subst (OnlyReuses h) (sym (unedited-round h honest))
+    (record {
+      schedule = unedited-marks h honest;
+      reused = ap is_all_reused (unedited-marks h honest) ∙ reused-all (schedule_of h);
+      begun = unedited-begun h honest;
+      executed =
+          ap (λ (es : List Entry). executed_instructions es (records h.setup (schedule_of h))) (unedited-marks h honest)
+          ∙ reused-executed (schedule_of h) (records h.setup (schedule_of h));
+      discarded = refl;
+      machine = refl;
+      records = sym honest.recorded;
+    })
 
 pub unedited-instructions : (h : History) → IsHonest h → instructions_from (first h.setup) (lone_round h.setup (Some h)).schedule ≡ 0
 unedited-instructions h honest =
-    ap (instructions_from (first h.setup)) (unedited-entries h honest) ∙ reused-instructions (first h.setup) (schedule_of h)
+    ap (instructions_from (first h.setup)) (unedited-reuses h honest).schedule ∙ reused-instructions (first h.setup) (schedule_of h)
 
 pub unedited-executed : (h : History) → IsHonest h → executed_in h.setup.limit (opening h.setup (Some h)) ≡ 0
 unedited-executed h honest =
     rounds-cost h.setup (Some h) h.setup.limit honest.valid (honest-sound h honest) ∙ unedited-instructions h honest
-
-pub unedited-discarded : (h : History) → IsHonest h → (lone_round h.setup (Some h)).discarded ≡ 0
-unedited-discarded h honest = ap (λ (w : RoundState). w.discarded) (unedited-round h honest)
-
-pub unedited-machine : (h : History) → IsHonest h → (lone_round h.setup (Some h)).machine ≡ scratch h.setup (schedule_of h)
-unedited-machine h honest = ap (λ (w : RoundState). w.machine) (unedited-round h honest)
-
-pub unedited-records : (h : History) → IsHonest h → (lone_round h.setup (Some h)).records ≡ h.records
-unedited-records h honest = ap (λ (w : RoundState). w.records) (unedited-round h honest) ∙ sym honest.recorded

@@ -9,10 +9,10 @@ use Rattle.round_spec.specs.declared.events.Pick.TheVariants as pick
 use Rattle.round_spec.specs.Marks.{marked}
 use Rattle.round_spec.specs.Rounds.{RoundState, nobody_out}
 use Rattle.round_spec.specs.Choice.{pick_of}
-use Rattle.round_spec.specs.Alone.{turned}
+use Rattle.round_spec.specs.Alone.{after_pick}
 
 -- The round whose steps were made under a schedule, where nobody is out, nothing was discarded and nobody stopped it: its machine and
--- its records are those from scratch, and its marks are exact. (this project's own)
+-- its records are those from scratch, and its marks are exact.
 abbrev pub made_by : Setup → Option History → List ℕ → RoundState
 made_by setup past schedule =
     record {
@@ -26,14 +26,14 @@ made_by setup past schedule =
       stopped = false;
     }
 
--- How many instructions a worker executes for what it picked: those of the thunk that it runs, and else none. (this project's own)
+-- How many instructions a worker executes for what it picked: those of the thunk that it runs, and else none.
 abbrev pub cost_of : RoundState → Pick → ℕ
 cost_of w (pick.Run t) = (thunk w.machine.frame (hart_of w.machine t).view (hart_of w.machine t).regs).count
 cost_of w (pick.Reuse t) = 0
 cost_of w pick.Hold = 0
 cost_of w pick.Over = 0
 
--- How many instructions one worker executes in so many turns. (this project's own)
+-- How many instructions one worker executes in so many picks.
 abbrev pub executed_in : ℕ → RoundState → ℕ
 executed_in zero w = 0
-executed_in (suc n) w = cost_of w (pick_of w) + executed_in n (turned w (pick_of w))
+executed_in (suc n) w = cost_of w (pick_of w) + executed_in n (after_pick w (pick_of w))

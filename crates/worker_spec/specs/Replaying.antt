@@ -1,8 +1,7 @@
 -- Rounds that have done nothing yet but what the history that they go by did, step by step.
-use Rattle.std.specs.Prelude.{◌≡◌, ◌≢◌, ◌<◌, ℕ, Bool, true, false, ◌==◌, List, length, map, take, Some}
+use Rattle.std.specs.Prelude.{◌≡◌, ◌≢◌, ◌<◌, ℕ, Bool, true, false, ◌==◌, length, take, Some}
 use Rattle.machine_spec.specs.Setup.{scratch}
-use Rattle.history_spec.specs.History.{History, schedule_of}
-use Rattle.report_spec.specs.declared.Entry.{Entry}
+use Rattle.history_spec.specs.History.{History}
 use Rattle.report_spec.specs.Report.{threads_of}
 use Rattle.round_spec.specs.declared.events.Event.{Event}
 use Rattle.round_spec.specs.declared.events.Event.TheVariants.{Take, Reuse, Commit, GiveBack, Stop}
@@ -11,13 +10,10 @@ use Rattle.round_spec.specs.declared.events.Pick.TheVariants as pick
 use Rattle.round_spec.specs.Rounds.{RoundState, nobody_out}
 use Rattle.round_spec.specs.Due.{place_in, is_due}
 use Rattle.round_spec.specs.Choice.{pick_of}
-
--- The schedule in which each step of a history is reused, in the history's order. (this project's own)
-abbrev pub all_reused_of : History → List Entry
-all_reused_of h = map (λ t. record { thread = t; reused = true }) (schedule_of h)
+use Rattle.round_spec.specs.Unedited.{all_reused_of}
 
 -- A round of the history's own setup that has reused the history's first steps in order and done nothing else: its records are the
--- history's, nobody is out, and nothing was discarded. (this project's own)
+-- history's, nobody is out, and nothing was discarded.
 pub record IsReplaying (h : History) (w : RoundState) : Type 0 where
   pub setup : w.setup ≡ h.setup
   pub past : w.past ≡ Some h
@@ -28,7 +24,7 @@ pub record IsReplaying (h : History) (w : RoundState) : Type 0 where
   pub discarded : w.discarded ≡ 0
 
 -- The step that a round which replays its history makes next: it is picked, to be reused; it is due; its place is after all entries so
--- far; and every other thread's place is after it. (this project's own)
+-- far; and every other thread's place is after it.
 pub record IsNextStep (w : RoundState) (t : ℕ) : Type 0 where
   pub picked : pick_of w ≡ pick.Reuse t
   pub due : is_due w.past w.machine t ≡ true
@@ -36,7 +32,7 @@ pub record IsNextStep (w : RoundState) (t : ℕ) : Type 0 where
   pub least : (other : ℕ) → other ≢ t → length w.schedule < place_in w.past w.machine other
 
 -- Whether an event is one by which a round may go on after a pick: a step is begun only where it was picked; what was begun may end, and
--- the round may be stopped, at any time. (this project's own)
+-- the round may be stopped, at any time.
 abbrev pub goes_on_by : Pick → Event → Bool
 goes_on_by (pick.Reuse t) (Reuse u) = t == u
 goes_on_by (pick.Run t) (Take u) = t == u

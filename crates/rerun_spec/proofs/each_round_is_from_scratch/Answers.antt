@@ -1,11 +1,11 @@
 use Rattle.std.specs.Prelude.{◌≡◌, true, is_some, length}
-use Rattle.machine_spec.specs.Setup.{first, scratch, is_permitted, is_complete}
+use Rattle.machine_spec.specs.Setup.{first, scratch, is_permitted, is_complete, records}
 use Rattle.report_spec.specs.Report.{threads_of, instructions_from, report}
 use Rattle.round_spec.specs.Marks.{marked}
 use Rattle.round_spec.specs.Rounds.{opening}
 use Rattle.worker_spec.specs.OneWorker.{executed_in}
 use Rattle.rerun_spec.specs.Rounds.{Round, made, entries_of, machine_of}
-use Rattle.rerun_spec.proofs.Rounds.{each-holds, round-threads, round-permitted, round-complete, round-entries, round-marks, round-machine, round-ends, round-cost}
+use Rattle.rerun_spec.proofs.Rounds.{each-holds, round-threads, round-permitted, round-complete, round-entries, round-marks, round-machine, round-records, round-ends, round-cost}
 use Rattle.rerun_spec.specs.Reports.{shares_of_first, report_of, is_exit, exits}
 use Rattle.rerun_spec.proofs.Reports.{report-made, exit-made}
 use Rattle.rerun_spec.proofs.each_round_is_from_scratch.Goals as goal
@@ -24,6 +24,9 @@ returns-clause-marks c = each-holds (λ (r : Round). entries_of r ≡ marked r.p
 
 pub returns-clause-machine : goal.returns-clause-machine
 returns-clause-machine c = each-holds (λ (r : Round). (made r).machine ≡ scratch r.setup (threads_of (entries_of r))) round-machine
+
+pub returns-clause-records : goal.returns-clause-records
+returns-clause-records c = each-holds (λ (r : Round). (made r).records ≡ records r.setup (threads_of (entries_of r))) round-records
 
 pub returns-clause-ends : goal.returns-clause-ends
 returns-clause-ends c = each-holds (λ r. is_some (machine_of r).ending ≡ true) round-ends

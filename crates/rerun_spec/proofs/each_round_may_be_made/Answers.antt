@@ -1,10 +1,14 @@
-use Rattle.history_spec.specs.History.{IsHonest}
-use Rattle.rerun_spec.specs.Rounds.{IsRound, left_by}
-use Rattle.rerun_spec.proofs.Rounds.{each-holds, round-honest}
+use Rattle.std.proofs.Common.{◌≡◌}
+use Rattle.history_spec.specs.History.{IsHonest, schedule_of}
+use Rattle.rerun_spec.specs.Rounds.{left_by, schedule_in}
+use Rattle.rerun_spec.proofs.Rounds.{CanBeMade, each-holds, round-honest, left-schedule}
 use Rattle.rerun_spec.proofs.each_round_may_be_made.Goals as goal
 
 pub returns-clause-sound : goal.returns-clause-sound
-returns-clause-sound c = each-holds IsRound (λ r is. is)
+returns-clause-sound c = each-holds CanBeMade (λ r is. is)
 
 pub returns-clause-honest : goal.returns-clause-honest
 returns-clause-honest c = each-holds (λ r. IsHonest (left_by r)) round-honest
+
+pub returns-clause-schedule : goal.returns-clause-schedule
+returns-clause-schedule c = each-holds (λ r. schedule_of (left_by r) ≡ schedule_in r) left-schedule

@@ -1,9 +1,9 @@
-use Rattle.rerun_spec.proofs.Repeating.{repeated-again, again-schedule, again-reused, again-instructions, again-never_runs, again-executed, again-discarded, again-machine, again-records}
+use Rattle.rerun_spec.proofs.Repeating.{repeated-again, again-reuses, again-schedule, again-instructions, again-never_runs, again-executed, again-machine}
 use Rattle.rerun_spec.proofs.repeated_round_executes_nothing.Goals as goal
 
-pub returns-clause-reused : goal.returns-clause-reused
-returns-clause-reused c = λ setup lists inputs before after valid are again.
-    again-reused before after (repeated-again setup lists inputs before after valid are again)
+pub returns-clause-reuses : goal.returns-clause-reuses
+returns-clause-reuses c = λ setup lists inputs before after valid are again.
+    again-reuses before after (repeated-again setup lists inputs before after valid are again)
 
 pub returns-clause-schedule : goal.returns-clause-schedule
 returns-clause-schedule c = λ setup lists inputs before after valid are again.
@@ -21,14 +21,6 @@ pub returns-clause-instructions : goal.returns-clause-instructions
 returns-clause-instructions c = λ setup lists inputs before after valid are again.
     again-instructions before after (repeated-again setup lists inputs before after valid are again)
 
-pub returns-clause-discarded : goal.returns-clause-discarded
-returns-clause-discarded c = λ setup lists inputs before after valid are again.
-    again-discarded before after (repeated-again setup lists inputs before after valid are again)
-
 pub returns-clause-machine : goal.returns-clause-machine
 returns-clause-machine c = λ setup lists inputs before after valid are again.
     again-machine before after (repeated-again setup lists inputs before after valid are again)
-
-pub returns-clause-records : goal.returns-clause-records
-returns-clause-records c = λ setup lists inputs before after valid are again.
-    again-records before after (repeated-again setup lists inputs before after valid are again)

@@ -17,11 +17,5 @@ returns-clause-next c = replays-next
 pub returns-clause-instructions : goal.returns-clause-instructions
 returns-clause-instructions c = replays-instructions
 
-pub returns-clause-schedule : goal.returns-clause-schedule
-returns-clause-schedule c = λ h w honest replays ended. (replays-end h w honest replays ended).0
-
-pub returns-clause-machine : goal.returns-clause-machine
-returns-clause-machine c = λ h w honest replays ended. (replays-end h w honest replays ended).2
-
-pub returns-clause-records : goal.returns-clause-records
-returns-clause-records c = λ h w honest replays ended. (replays-end h w honest replays ended).1
+pub returns-clause-reuses : goal.returns-clause-reuses
+returns-clause-reuses c = replays-end

@@ -1,5 +1,5 @@
-use Rattle.worker_spec.proofs.Events.{turns-events}
+use Rattle.worker_spec.proofs.Events.{picks-events}
 use Rattle.worker_spec.proofs.one_worker_does_events.Goals as goal
 
 pub returns : goal.returns
-returns c = turns-events
+returns c = picks-events

@@ -2,4 +2,4 @@ use Rattle.worker_spec.proofs.Events.{lone-honest}
 use Rattle.worker_spec.proofs.one_worker_leaves_an_honest_history.Goals as goal
 
 pub returns : goal.returns
-returns c = lone-honest
+returns c = λ setup past premise. lone-honest setup past premise.valid premise.sound

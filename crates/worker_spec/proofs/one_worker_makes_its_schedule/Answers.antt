@@ -1,17 +1,14 @@
-use Rattle.worker_spec.proofs.Lone.{rounds-made, lone-threads, lone-scratch, lone-ends}
+use Rattle.worker_spec.proofs.Lone.{rounds-made, lone-threads, lone-scratch}
 use Rattle.worker_spec.proofs.one_worker_makes_its_schedule.Goals as goal
 
-pub returns-clause-turns : goal.returns-clause-turns
-returns-clause-turns c = rounds-made
+pub returns-clause-picks : goal.returns-clause-picks
+returns-clause-picks c = λ setup past n premise. rounds-made setup past n premise.valid premise.sound
 
 pub returns-clause-round : goal.returns-clause-round
-returns-clause-round c = λ setup past. rounds-made setup past setup.limit
+returns-clause-round c = λ setup past premise. rounds-made setup past setup.limit premise.valid premise.sound
 
 pub returns-clause-threads : goal.returns-clause-threads
-returns-clause-threads c = lone-threads
+returns-clause-threads c = λ setup past premise. lone-threads setup past premise.valid premise.sound
 
 pub returns-clause-scratch : goal.returns-clause-scratch
-returns-clause-scratch c = lone-scratch
-
-pub returns-clause-ends : goal.returns-clause-ends
-returns-clause-ends c = lone-ends
+returns-clause-scratch c = λ setup past premise. lone-scratch setup past premise.valid premise.sound

@@ -1,4 +1,4 @@
-use Rattle.worker_spec.proofs.Lone.{never-hold}
+use Rattle.worker_spec.proofs.Ending.{never-hold}
 use Rattle.worker_spec.proofs.one_worker_never_waits.Goals as goal
 
 pub returns : goal.returns

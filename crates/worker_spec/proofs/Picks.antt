@@ -1,4 +1,4 @@
--- The round of one worker is the one that its schedule makes, turn by turn.
+-- The round of one worker is the one that its schedule makes, pick by pick.
 use Rattle.std.proofs.Common.{◌≡◌, ◌<◌, ℕ, zero, suc, Bool, true, false, cond, List, [], ◌∷◌, ◌++◌, get_or, set, Option, Some, None, is_some, refl, ap, sym, ◌∙◌, arith}
 use Rattle.record_spec.specs.Record.{Record}
 use Rattle.machine_spec.specs.declared.states.End.{End}
@@ -18,7 +18,7 @@ use Rattle.round_spec.specs.declared.events.Pick.TheVariants as pick
 use Rattle.round_spec.specs.Marks.{record_for, is_fitting, fits_next, marked_from, marked}
 use Rattle.round_spec.specs.Rounds.{RoundState, nobody_out, happens}
 use Rattle.round_spec.specs.Choice.{choice_by, pick_of}
-use Rattle.round_spec.specs.Alone.{guided_from, turned}
+use Rattle.round_spec.specs.Alone.{guided_from, after_pick}
 use Rattle.worker_spec.specs.OneWorker.{made_by}
 use Rattle.worker_spec.proofs.Lists.{get-raised, set-lowered}
 use Rattle.worker_spec.proofs.Choosing.{out-nobody, choice_by-some, choice_by-chosen}
@@ -60,16 +60,16 @@ pub made-more :
 made-more setup past ts t =
     rw (scratch-more (first setup) ts t, marked-more past (first setup) ts t, records-more (first setup) ts t) refl
 
--- one turn
+-- one pick
 
-turn-reuse :
+pub after-reuse :
     (setup : Setup) (past : Option History) (m : Machine) (schedule : List Entry) (rs : List Record) (t : ℕ) (r : Record)
     → is_some m.ending ≡ false → is_ready (hart_of m t).status ≡ true
     → record_for past m t ≡ Some r → fits m r ≡ true
-    → turned (lone_state setup past m schedule rs) (pick.Reuse t)
+    → after_pick (lone_state setup past m schedule rs) (pick.Reuse t)
     ≡ lone_state setup past (lay m r) (schedule ++ record { thread = t; reused = true } ∷ []) (rs ++ r ∷ [])
 unfolding happens
-turn-reuse setup past m schedule rs t r none ready there fit = rw (none, ready, out-nobody t, there, fit) refl
+after-reuse setup past m schedule rs t r none ready there fit = rw (none, ready, out-nobody t, there, fit) refl
 
 raised : (t : ℕ) → t < 32 → get_or (set nobody_out t true) t false ≡ true
 unfolding nobody_out
@@ -79,14 +79,14 @@ lowered : (t : ℕ) → set (set nobody_out t true) t false ≡ nobody_out
 unfolding nobody_out
 lowered t = set-lowered 32 t
 
-turn-run :
+pub after-run :
     (setup : Setup) (past : Option History) (m : Machine) (schedule : List Entry) (rs : List Record) (t : ℕ)
     → is_some m.ending ≡ false → is_ready (hart_of m t).status ≡ true → t < 32
     → fits_next past m t ≡ false
-    → turned (lone_state setup past m schedule rs) (pick.Run t)
+    → after_pick (lone_state setup past m schedule rs) (pick.Run t)
     ≡ lone_state setup past (step m t) (schedule ++ record { thread = t; reused = false } ∷ []) (rs ++ record_of m t ∷ [])
 unfolding happens
-turn-run setup past m schedule rs t none ready below unfit =
+after-run setup past m schedule rs t none ready below unfit =
     rw (none, ready, out-nobody t, unfit, raised t below, lowered t, none) refl
 
 pub pick-over : (setup : Setup) (past : Option History) (m : Machine) (schedule : List Entry) (rs : List Record) → is_some m.ending ≡ true → pick_of (lone_state setup past m schedule rs) ≡ pick.Over
@@ -103,51 +103,51 @@ pick-chosen setup past m schedule rs t none chosen = rw (none, chosen) refl
 pub running : (m : Machine) → m.ending ≡ None → is_some m.ending ≡ false
 running m none = rw none refl
 
-below-32 : (m : Machine) (t : ℕ) → IsWhole m → is_ready (hart_of m t).status ≡ true → t < 32
+pub below-32 : (m : Machine) (t : ℕ) → IsWhole m → is_ready (hart_of m t).status ≡ true → t < 32
 below-32 m t whole ready =
     let below = ready-below m.harts t ready in
     let threads = whole.tied.threads in
     let few = whole.tied.kept.few_threads in
     omega arith
 
--- the chosen thread's turn makes its step, by its record where that fits
-turn-chosen :
+-- to follow the choice of a thread makes its step, by its record where that fits
+after-chosen :
     (setup : Setup) (past : Option History) (m : Machine) (schedule : List Entry) (rs : List Record) (t : ℕ) (o : Option Record) (b : Bool)
     → IsSound past setup → IsWhole m → m.frame ≡ (first setup).frame
     → m.ending ≡ None → is_ready (hart_of m t).status ≡ true
     → record_for past m t ≡ o → is_fitting m o ≡ b
-    → turned (lone_state setup past m schedule rs) (cond b (pick.Reuse t) (pick.Run t))
+    → after_pick (lone_state setup past m schedule rs) (cond b (pick.Reuse t) (pick.Run t))
     ≡ lone_state setup past (step m t) (schedule ++ record { thread = t; reused = b } ∷ []) (rs ++ record_of m t ∷ [])
-turn-chosen setup past m schedule rs t None true sound whole frame none ready there fit = cc
-turn-chosen setup past m schedule rs t (Some r) true sound whole frame none ready there fit =
-    turn-reuse setup past m schedule rs t r (running m none) ready there fit
+after-chosen setup past m schedule rs t None true sound whole frame none ready there fit = cc
+after-chosen setup past m schedule rs t (Some r) true sound whole frame none ready there fit =
+    after-reuse setup past m schedule rs t r (running m none) ready there fit
     ∙ ap (λ (n : Machine). lone_state setup past n (schedule ++ record { thread = t; reused = true } ∷ []) (rs ++ r ∷ []))
     (reuse-lay setup past m t (hart_of m t).number r sound whole frame there fit)
     ∙ ap (λ (x : Record). lone_state setup past (step m t) (schedule ++ record { thread = t; reused = true } ∷ []) (rs ++ x ∷ []))
     (reuse-record setup past m t (hart_of m t).number r sound whole frame there fit)
-turn-chosen setup past m schedule rs t o false sound whole frame none ready there fit =
-    turn-run setup past m schedule rs t (running m none) ready (below-32 m t whole ready) (ap (is_fitting m) there ∙ fit)
+after-chosen setup past m schedule rs t o false sound whole frame none ready there fit =
+    after-run setup past m schedule rs t (running m none) ready (below-32 m t whole ready) (ap (is_fitting m) there ∙ fit)
 
-pub turn-made :
+pub after-made :
     (setup : Setup) (past : Option History) (ts : List ℕ) (t : ℕ)
     → IsSound past setup → IsWhole (scratch setup ts)
     → (scratch setup ts).ending ≡ None
     → choice_by past (scratch setup ts) nobody_out ≡ Some t
-    → turned (made_by setup past ts) (pick_of (made_by setup past ts)) ≡ made_by setup past (ts ++ t ∷ [])
-turn-made setup past ts t sound whole none chosen =
-    ap (turned (made_by setup past ts))
+    → after_pick (made_by setup past ts) (pick_of (made_by setup past ts)) ≡ made_by setup past (ts ++ t ∷ [])
+after-made setup past ts t sound whole none chosen =
+    ap (after_pick (made_by setup past ts))
     (pick-chosen setup past (scratch setup ts) (marked past setup ts) (records setup ts) t (running (scratch setup ts) none) chosen)
-    ∙ turn-chosen setup past (scratch setup ts) (marked past setup ts) (records setup ts) t (record_for past (scratch setup ts) t)
+    ∙ after-chosen setup past (scratch setup ts) (marked past setup ts) (records setup ts) t (record_for past (scratch setup ts) t)
     (fits_next past (scratch setup ts) t) sound whole (scratch-frame (first setup) ts) none
     (choice_by-chosen past (scratch setup ts) t chosen).ready refl refl
     ∙ sym (made-more setup past ts t)
 
-pub turn-over :
+pub after-over :
     (setup : Setup) (past : Option History) (ts : List ℕ) (e : End)
     → (scratch setup ts).ending ≡ Some e
-    → turned (made_by setup past ts) (pick_of (made_by setup past ts)) ≡ made_by setup past ts
-turn-over setup past ts e is =
-    ap (turned (made_by setup past ts))
+    → after_pick (made_by setup past ts) (pick_of (made_by setup past ts)) ≡ made_by setup past ts
+after-over setup past ts e is =
+    ap (after_pick (made_by setup past ts))
     (pick-over setup past (scratch setup ts) (marked past setup ts) (records setup ts) (ap (λ (o : Option End). is_some o) is))
 
 -- nothing is chosen after an end, and somebody before it
