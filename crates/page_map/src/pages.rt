@@ -1,11 +1,9 @@
 //! The list of a guest's pages, in ascending order.
 
 ghost use Rattle.std.specs.Prelude.{◌≡◌, ◌==◌, ◌<◌, ◌*◌, true, Decides, length, slice_index_or, IfSome, IfNone};
-ghost use Rattle.std.proofs.Common.{rules};
-ghost use Rattle.std.specs.Cmp.Lexicographic.{pointwise};
-ghost use Rattle.std.specs.Cmp.Rules.{comparing};
+ghost use Rattle.std.specs.Cmp.{partial_equiv_from_equiv};
 ghost use Rattle.memory_spec.specs.Pages.{slot_of, ascends_above, unmapped};
-ghost use Rattle.page_map.specs.Equal.{is_same_page};
+ghost use Rattle.page_map.specs.Equal.{is_same_page, is_same_map, is_same_page-equiv, is_same_map-equiv};
 
 use super::lookup::{HINTS, find_near, hint_place};
 use super::permission::Perm;
@@ -63,7 +61,7 @@ impl MappedPage {
 impl PartialEq for MappedPage {
     ghost eq = { is_same_page };
 
-    ghost laws = { Prim.search (comparing, rules) };
+    ghost laws = { partial_equiv_from_equiv is_same_page-equiv };
 
     fn eq(&self, other: &MappedPage) -> bool
         ensures eq { result ≡ is_same_page self.now other.now }
@@ -74,7 +72,7 @@ impl PartialEq for MappedPage {
 }
 
 impl Eq for MappedPage {
-    ghost laws = { Prim.search (comparing, rules) };
+    ghost laws = { is_same_page-equiv };
 }
 
 /// The mapped pages, in ascending order, each in its slot.
@@ -182,12 +180,12 @@ impl PageMap {
 
 /// Two page maps are equal where they have the same pages.
 impl PartialEq for PageMap {
-    ghost eq = { pointwise is_same_page };
+    ghost eq = { is_same_map };
 
-    ghost laws = { Prim.search (comparing, rules) };
+    ghost laws = { partial_equiv_from_equiv is_same_map-equiv };
 
     fn eq(&self, other: &PageMap) -> bool
-        ensures eq { result ≡ pointwise is_same_page self.now other.now }
+        ensures eq { result ≡ is_same_map self.now other.now }
         ensures same { Decides result (self.now ≡ other.now) }
     {
         self.pages.as_slice() == other.pages.as_slice()
@@ -195,5 +193,5 @@ impl PartialEq for PageMap {
 }
 
 impl Eq for PageMap {
-    ghost laws = { Prim.search (comparing, rules) };
+    ghost laws = { is_same_map-equiv };
 }

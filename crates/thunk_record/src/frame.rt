@@ -1,7 +1,9 @@
 //! What every thunk of a run depends on beside its registers and its view.
 
-ghost use Rattle.std.specs.Prelude.{◌≡◌};
+ghost use Rattle.std.specs.Prelude.{◌≡◌, Decides};
 ghost use Rattle.std.specs.Arc.{arc_value};
+ghost use Rattle.std.specs.Cmp.{partial_equiv_from_equiv};
+ghost use Rattle.thunk_record.specs.Equal.{is_same_frame, is_same_frame-equiv};
 
 use page_map::PageMap;
 use std::marker::Model;
@@ -57,4 +59,22 @@ impl Frame {
     {
         self.turns
     }
+}
+
+/// Two frames are equal where they have the same page map and the same fuel.
+impl PartialEq for Frame {
+    ghost eq = { is_same_frame };
+
+    ghost laws = { partial_equiv_from_equiv is_same_frame-equiv };
+
+    fn eq(&self, other: &Frame) -> bool
+        ensures eq { result ≡ is_same_frame self.now other.now }
+        ensures same { Decides result (self.now ≡ other.now) }
+    {
+        self.turns == other.turns && *self.map() == *other.map()
+    }
+}
+
+impl Eq for Frame {
+    ghost laws = { is_same_frame-equiv };
 }
