@@ -1,3 +1,5 @@
+//! What a worker passes before it executes a thunk.
+
 /// What a worker passes before it executes a thunk, while it holds no lock. It promises nothing.
 pub trait Gate {
     /// Comes before thunk `number` of `thread` is executed.

@@ -1,6 +1,8 @@
-ghost use Rattle.std.specs.Prelude.{◌≡◌, ◌≢◌, ◌≤◌, ◌<◌, None, [], length, IfSome};
+//! The outside of the program, as a trait: what each call may do to it, and how each may end.
+
+ghost use Rattle.std.specs.Prelude.{◌≡◌, ◌≢◌, ◌≤◌, ◌<◌, ◌∷◌, None, [], length, IfSome};
 ghost use Rattle.std.specs.Io.KnownBytes.{Appends};
-ghost use Rattle.ith_host.specs.World.{World, Rose, NoneFell, Stays, StaysBut, IsContent, Holds, PrintedSome};
+ghost use Rattle.ith_host.specs.World.{World, Rose, NoneFell, Stays, StaysBut, AsksFor, AsksNothing, IsContent, Holds, PrintedSome};
 
 /// How a read ended.
 #[derive(Clone, Copy, Debug, PartialEq, Eq)]
@@ -39,13 +41,13 @@ pub enum Printed {
 
 /// The outside of the program.
 ///
-/// Its meaning is a `World`: the files by name and the printed bytes, as far as they are told, and the faults of
-/// reads, writes and prints that there were. The counts of faults never fall.
+/// Its meaning is a `World`: the files by name and the printed bytes, as far as they are told, the names that reads
+/// asked for, and the faults of reads, writes and prints that there were. The counts of faults never fall.
 pub trait Host {
     // What this host is, seen from the contracts.
     ghost world: { Self → World };
 
-    /// Reads a file of at most `limit` bytes into an empty vector.
+    /// Reads a file of at most `limit` bytes into an empty vector. Its name is noted as asked for.
     ///
     /// `Failed` only after a fault of this name's reads, `TooLong` exactly where the content, if it is told, is
     /// longer than the limit. After any answer but `Ok` the vector is empty.
@@ -56,6 +58,7 @@ pub trait Host {
         ensures failed { result ≡ Got.Failed → Rose ((world self.old).read_faults name.now) ((world self.new).read_faults name.now) }
         ensures too_long { result ≡ Got.TooLong → IfSome ((world self.old).files name.now) (λ content. limit < length content) }
         ensures emptied { result ≢ Got.Ok → into.new.items ≡ [] }
+        ensures asked { AsksFor (name.now ∷ []) (world self.old) (world self.new) }
         ensures stays { Stays (world self.old) (world self.new) }
         ensures counts { NoneFell (world self.old) (world self.new) };
 
@@ -68,6 +71,7 @@ pub trait Host {
         ensures untold { result ≡ Put.Failed → (world self.new).files name.now ≡ None }
         ensures memory { result ≡ Put.Memory → Stays (world self.old) (world self.new) }
         ensures others { StaysBut name.now (world self.old) (world self.new) }
+        ensures asked { AsksNothing (world self.old) (world self.new) }
         ensures counts { NoneFell (world self.old) (world self.new) };
 
     /// Appends the bytes to what was printed.
@@ -80,10 +84,12 @@ pub trait Host {
         ensures memory { result ≡ Printed.Memory → Stays (world self.old) (world self.new) }
         ensures tells { (world self.new).tells ≡ (world self.old).tells }
         ensures files { (world self.new).files ≡ (world self.old).files }
+        ensures asked { AsksNothing (world self.old) (world self.new) }
         ensures counts { NoneFell (world self.old) (world self.new) };
 
     /// Writes a line to the standard error. Nothing rests on its success.
     fn complain(&mut self, line: &[u8])
         ensures stays { Stays (world self.old) (world self.new) }
+        ensures asked { AsksNothing (world self.old) (world self.new) }
         ensures counts { NoneFell (world self.old) (world self.new) };
 }

@@ -4,6 +4,7 @@
 //! keeps that world in memory, and can be told which of its calls fail. `OsHost` is the operating system's.
 #![tactic(auto)]
 
+mod asked;
 mod gate;
 mod host;
 mod memory;
@@ -16,4 +17,3 @@ pub use gate::{Gate, OpenGate};
 pub use host::{Got, Host, Printed, Put};
 pub use memory::MemHost;
 pub use system::OsHost;
-pub use transfer::{read_to_limit, write_to_end};

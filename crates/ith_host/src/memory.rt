@@ -1,6 +1,10 @@
-ghost use Rattle.std.specs.Prelude.{◌≡◌, ◌≢◌, ◌+◌, ◌-◌, ◌^◌, ◌≤◌, ◌<◌, true, Some, [], min, length, take, option_copied};
-ghost use Rattle.ith_host.specs.World.{World, Rose, NoneFell, Stays, StaysBut, IsContent, Holds, PrintedSome};
+//! A host in memory, of which chosen calls fail.
 
+ghost use Rattle.std.specs.Prelude.{◌≡◌, ◌≢◌, ◌⊎◌, ◌+◌, ◌-◌, ◌^◌, ◌≤◌, ◌<◌, ◌∷◌, ◌++◌, true, None, Some, [], min, length, take, IfSome, option_copied};
+ghost use Rattle.std.specs.Io.KnownBytes.{Appends};
+ghost use Rattle.ith_host.specs.World.{World, Rose, NoneFell, Stays, StaysBut, AsksFor, AsksNothing, IsContent, Holds, PrintedSome};
+
+use crate::asked::Asked;
 use crate::host::{Got, Host, Printed, Put};
 use std::alloc::Global;
 use std::collections::BTreeMap;
@@ -17,13 +21,14 @@ pub struct MemHost {
     failing: Vec<u64>,
     part: u64,
     calls: u64,
+    asked: Asked,
     read_faults: u64,
     write_faults: u64,
     print_faults: u64,
 }
 
 impl MemHost {
-    ghost use Rattle.ith_host.specs.MemHost.{memory_world, files_of};
+    ghost use Rattle.ith_host.specs.MemHost.{memory_world, files_of, fails_next, IsNumbered};
 
     /// A host with these files, of which the calls numbered in `failing` fail. Of a print that fails, the first
     /// `part` bytes still go out.
@@ -37,6 +42,7 @@ impl MemHost {
           tells = true;
           files = files_of files;
           printed = Some [];
+          asked = [];
           read_faults = λ _. 0;
           write_faults = λ _. 0;
           print_faults = 0;
@@ -50,6 +56,7 @@ impl MemHost {
             failing,
             part,
             calls: 0,
+            asked: Asked::none(),
             read_faults: 0,
             write_faults: 0,
             print_faults: 0,
@@ -80,7 +87,9 @@ impl MemHost {
 
     /// Numbers this call, and says whether it is one that fails.
     fn is_failing(&mut self) -> bool
-        ensures { self.new ≡ record self.old { calls = self.new.calls } }
+        ensures said { result ≡ fails_next self.old }
+        ensures numbered { IsNumbered self.old self.new }
+        ensures others { self.new ≡ record self.old { calls = self.new.calls } }
     {
         let call = self.calls;
         self.calls = call.saturating_add(1);
@@ -99,21 +108,53 @@ impl MemHost {
 }
 
 impl Host for MemHost {
-    ghost use Rattle.ith_host.specs.MemHost.{memory_world};
+    ghost use Rattle.ith_host.specs.MemHost.{memory_world, fails_next, IsNumbered};
 
     ghost world = { memory_world };
 
-    fn read(&mut self, name: &str, limit: u64, into: &mut Vec<u8>) -> Got {
+    /// A read that is named to fail is `Failed`, and so is one of a name without a file; no other is.
+    fn read(&mut self, name: &str, limit: u64, into: &mut Vec<u8>) -> Got
+        requires { into.old.items ≡ [] }
+        ensures listed { fails_next self.old ≡ true → result ≡ Got.Failed }
+        ensures absent { (memory_world self.old).files name.now ≡ None → result ≡ Got.Failed }
+        ensures unlisted { result ≡ Got.Failed
+            → (fails_next self.old ≡ true) ⊎ ((memory_world self.old).files name.now ≡ None) }
+        ensures numbered { IsNumbered self.old self.new }
+        ensures content { result ≡ Got.Ok → IsContent (memory_world self.old) name.now into.new.items }
+        ensures within { result ≡ Got.Ok → length into.new.items ≤ limit }
+        ensures failed { result ≡ Got.Failed
+            → Rose ((memory_world self.old).read_faults name.now) ((memory_world self.new).read_faults name.now) }
+        ensures too_long { result ≡ Got.TooLong
+            → IfSome ((memory_world self.old).files name.now) (λ content. limit < length content) }
+        ensures emptied { result ≢ Got.Ok → into.new.items ≡ [] }
+        ensures asked { AsksFor (name.now ∷ []) (memory_world self.old) (memory_world self.new) }
+        ensures stays { Stays (memory_world self.old) (memory_world self.new) }
+        ensures counts { NoneFell (memory_world self.old) (memory_world self.new) }
+    {
+        self.asked.note(name.as_bytes());
         if self.is_failing() {
             return self.fail_read();
         }
-        match self.files.get(name) {
+        match self.file(name) {
             None => self.fail_read(),
-            Some(content) => take_content(content.as_slice(), limit, into),
+            Some(content) => take_content(content, limit, into),
         }
     }
 
-    fn write(&mut self, name: &str, bytes: &[u8]) -> Put {
+    /// A write that is named to fail is `Failed`, and no other is.
+    fn write(&mut self, name: &str, bytes: &[u8]) -> Put
+        ensures listed { fails_next self.old ≡ true → result ≡ Put.Failed }
+        ensures unlisted { result ≡ Put.Failed → fails_next self.old ≡ true }
+        ensures numbered { IsNumbered self.old self.new }
+        ensures written { result ≡ Put.Ok → Holds (memory_world self.new) name.now bytes.now }
+        ensures failed { result ≡ Put.Failed
+            → Rose ((memory_world self.old).write_faults name.now) ((memory_world self.new).write_faults name.now) }
+        ensures untold { result ≡ Put.Failed → (memory_world self.new).files name.now ≡ None }
+        ensures memory { result ≡ Put.Memory → Stays (memory_world self.old) (memory_world self.new) }
+        ensures others { StaysBut name.now (memory_world self.old) (memory_world self.new) }
+        ensures asked { AsksNothing (memory_world self.old) (memory_world self.new) }
+        ensures counts { NoneFell (memory_world self.old) (memory_world self.new) }
+    {
         if self.is_failing() {
             self.files.remove(name);
             self.write_faults = self.write_faults.saturating_add(1);
@@ -131,16 +172,40 @@ impl Host for MemHost {
         }
     }
 
-    fn print(&mut self, bytes: &[u8]) -> Printed {
-        if self.is_failing() {
+    /// A print that is named to fail is `Failed` after its first bytes went out, as many as were named, unless there
+    /// is no memory for them; and no other is.
+    fn print(&mut self, bytes: &[u8]) -> Printed
+        ensures listed { fails_next self.old ≡ true → (result ≡ Printed.Failed) ⊎ (result ≡ Printed.Memory) }
+        ensures unlisted { result ≡ Printed.Failed → fails_next self.old ≡ true }
+        ensures went_out { result ≡ Printed.Failed
+            → self.new.printed.items ≡ self.old.printed.items ++ take self.old.part bytes.now }
+        ensures numbered { IsNumbered self.old self.new }
+        ensures printed { result ≡ Printed.Ok
+            → Appends (memory_world self.old).printed (memory_world self.new).printed bytes.now }
+        ensures failed { result ≡ Printed.Failed
+            → Rose (memory_world self.old).print_faults (memory_world self.new).print_faults }
+        ensures part { result ≡ Printed.Failed
+            → PrintedSome (memory_world self.old) (memory_world self.new) bytes.now }
+        ensures memory { result ≡ Printed.Memory → Stays (memory_world self.old) (memory_world self.new) }
+        ensures tells { (memory_world self.new).tells ≡ (memory_world self.old).tells }
+        ensures files { (memory_world self.new).files ≡ (memory_world self.old).files }
+        ensures asked { AsksNothing (memory_world self.old) (memory_world self.new) }
+        ensures counts { NoneFell (memory_world self.old) (memory_world self.new) }
+    {
+        let fails = self.is_failing();
+        let out = if fails {
+            front(bytes, self.part)
+        } else {
+            bytes
+        };
+        if self.printed.extend_from_slice(out).is_err() {
+            return Printed::Memory;
+        }
+        if fails {
             self.print_faults = self.print_faults.saturating_add(1);
-            let _ = self.printed.extend_from_slice(front(bytes, self.part));
             return Printed::Failed;
         }
-        match self.printed.extend_from_slice(bytes) {
-            Ok(()) => Printed::Ok,
-            Err(_) => Printed::Memory,
-        }
+        Printed::Ok
     }
 
     fn complain(&mut self, line: &[u8]) {

@@ -1,8 +1,11 @@
-ghost use Rattle.std.specs.Prelude.{◌≡◌, false, None};
-ghost use Rattle.ith_host.specs.World.{World, Rose, NoneFell, Stays, StaysBut, IsContent, Holds, PrintedSome};
+//! The operating system as a host.
 
+ghost use Rattle.std.specs.Prelude.{◌≡◌, false, None, []};
+ghost use Rattle.ith_host.specs.World.{World, Rose, NoneFell, Stays, StaysBut, AsksFor, AsksNothing, IsContent, Holds, PrintedSome};
+
+use crate::asked::Asked;
 use crate::host::{Got, Host, Printed, Put};
-use crate::transfer::{read_to_limit, write_to_end};
+use crate::transfer::{Watched, read_to_limit, write_to_end};
 use std::fs::{File, Files};
 use std::io::{self, Eprint, Print};
 
@@ -11,6 +14,7 @@ use std::io::{self, Eprint, Print};
 #[derive(Drop)]
 pub struct OsHost<'a, R> {
     rt: &'a R,
+    asked: Asked,
     read_faults: u64,
     write_faults: u64,
     print_faults: u64,
@@ -21,10 +25,19 @@ impl<'a, R> OsHost<'a, R> {
 
     /// The host of a runtime, with no faults so far.
     pub fn new(rt: &'a R) -> Self
-        ensures { os_world result ≡ record { tells = false; files = λ _. None; printed = None; read_faults = λ _. 0; write_faults = λ _. 0; print_faults = 0 } }
+        ensures { os_world result ≡ record {
+          tells = false;
+          files = λ _. None;
+          printed = None;
+          asked = [];
+          read_faults = λ _. 0;
+          write_faults = λ _. 0;
+          print_faults = 0;
+        } }
     {
         OsHost {
             rt,
+            asked: Asked::none(),
             read_faults: 0,
             write_faults: 0,
             print_faults: 0,
@@ -38,35 +51,41 @@ impl<'a, R: Files + Print + Eprint> Host for OsHost<'a, R> {
     ghost world = { os_world };
 
     fn read(&mut self, name: &str, limit: u64, into: &mut Vec<u8>) -> Got {
-        let got = match File::open(self.rt, name) {
-            Ok(mut file) => read_to_limit(&mut file, limit, into),
-            Err(_) => Got::Failed,
-        };
-        if got == Got::Failed {
-            self.read_faults = self.read_faults.saturating_add(1);
+        self.asked.note(name.as_bytes());
+        match File::open(self.rt, name) {
+            Ok(file) => {
+                let mut source = Watched::new(file, self.read_faults);
+                let got = read_to_limit(&mut source, limit, into);
+                self.read_faults = source.faults();
+                got
+            }
+            Err(_) => {
+                self.read_faults = self.read_faults.saturating_add(1);
+                Got::Failed
+            }
         }
-        got
     }
 
     fn write(&mut self, name: &str, bytes: &[u8]) -> Put {
-        let written = match File::create(self.rt, name) {
-            Ok(mut file) => write_to_end(&mut file, bytes),
-            Err(_) => false,
+        let Ok(file) = File::create(self.rt, name) else {
+            self.write_faults = self.write_faults.saturating_add(1);
+            return Put::Failed;
         };
-        if written {
-            return Put::Ok;
-        }
-        self.write_faults = self.write_faults.saturating_add(1);
-        Put::Failed
+        let mut sink = Watched::new(file, self.write_faults);
+        let written = write_to_end(&mut sink, bytes);
+        self.write_faults = sink.faults();
+        if written { Put::Ok } else { Put::Failed }
     }
 
     fn print(&mut self, bytes: &[u8]) -> Printed {
-        let mut out = io::writer(self.rt);
-        if write_to_end(&mut out, bytes) {
-            return Printed::Ok;
+        let mut sink = Watched::new(io::writer(self.rt), self.print_faults);
+        let printed = write_to_end(&mut sink, bytes);
+        self.print_faults = sink.faults();
+        if printed {
+            Printed::Ok
+        } else {
+            Printed::Failed
         }
-        self.print_faults = self.print_faults.saturating_add(1);
-        Printed::Failed
     }
 
     fn complain(&mut self, line: &[u8]) {

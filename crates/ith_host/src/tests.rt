@@ -1,4 +1,5 @@
 //! What no clause says: that calls succeed, that calls which are to fail do, and what the system does.
+use crate::transfer::{Watched, read_to_limit, write_to_end};
 use crate::*;
 use std::alloc::{AllocError, Global};
 use std::collections::BTreeMap;
@@ -132,11 +133,12 @@ fn a_transfer_goes_on_to_the_end(rt: HostRuntime) -> Result<(), Fail> {
         (2, 7, 7, Got::Failed),
     ];
     for (step, fails_at, limit, want) in rows {
-        let mut source = Source {
+        let inner = Source {
             left: b"sevenby",
             step,
             fails_at,
         };
+        let mut source = Watched::new(inner, 5);
         let mut bytes = Vec::new(alloc);
         assert_eq!(rt; read_to_limit(&mut source, limit, &mut bytes), want);
         assert_eq!(rt;
@@ -147,9 +149,7 @@ fn a_transfer_goes_on_to_the_end(rt: HostRuntime) -> Result<(), Fail> {
                 b"".as_slice()
             }
         );
-        if want == Got::TooLong {
-            assert_eq!(rt; source.left.len() as u64, 6 - limit);
-        }
+        assert_eq!(rt; source.faults(), if want == Got::Failed { 6 } else { 5 });
     }
     for (step, fails_at, want) in [
         (1, never, true),
@@ -157,13 +157,14 @@ fn a_transfer_goes_on_to_the_end(rt: HostRuntime) -> Result<(), Fail> {
         (2, 6, false),
         (0, never, false),
     ] {
-        let mut sink = Sink {
+        let inner = Sink {
             taken: 0,
             step,
             fails_at,
         };
+        let mut sink = Watched::new(inner, 5);
         assert_eq!(rt; write_to_end(&mut sink, b"sevenby"), want);
-        assert_eq!(rt; sink.taken == 7, want);
+        assert_eq!(rt; sink.faults(), if want { 5 } else { 6 });
     }
     Ok(())
 }

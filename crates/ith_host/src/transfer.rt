@@ -1,24 +1,91 @@
-ghost use Rattle.std.specs.Prelude.{◌≡◌, ◌≢◌, ◌+◌, ◌≤◌, ◌<◌, [], true, length, IfSome};
-ghost use Rattle.std.specs.Io.KnownBytes.{Appends};
+//! Transfers of whole files through a source or a sink that gives or takes some bytes at a time.
+
+ghost use Rattle.std.specs.Prelude.{◌≡◌, ◌≢◌, ◌+◌, ◌≤◌, ◌<◌, [], false, true, length, IfOk, IfErr, IfSome};
+ghost use Rattle.std.specs.Io.{ReadsAtMost, WritesAtMost};
+ghost use Rattle.std.specs.Io.KnownBytes.{Appends, ReadConsumes, WriteAppends};
 ghost use Rattle.ith_host.specs.Transfer.{TakesAtMost};
+ghost use Rattle.ith_host.specs.World.{Rose};
 
 use crate::host::Got;
-use std::io::{Read, Write};
+use std::io::{self, Read, Write};
 
 /// The number of bytes that are asked for at once.
 const PIECE: usize = 4096;
 
+/// A source or a sink whose errors are counted.
+#[derive(Drop)]
+pub(crate) struct Watched<S> {
+    inner: S,
+    faults: u64,
+}
+
+impl<S> Watched<S> {
+    /// Counts the errors of a source or a sink on from this number.
+    pub(crate) fn new(inner: S, faults: u64) -> Self
+        ensures inner { result.inner ≡ inner }
+        ensures faults { result.faults ≡ faults }
+    {
+        Watched { inner, faults }
+    }
+
+    /// How many errors there were, from the number on that it began with.
+    pub(crate) fn faults(&self) -> u64
+        ensures { result ≡ self.now.faults }
+    {
+        self.faults
+    }
+}
+
+impl<S: Read> Watched<S> {
+    /// Reads as the source does, and counts its error.
+    fn read(&mut self, piece: &mut [u8]) -> io::Result<usize>
+        ensures bound { ReadsAtMost result piece.new }
+        ensures bytes { ReadConsumes (S.remaining self.old.inner) (S.remaining self.new.inner) result piece.new }
+        ensures failed { IfErr result (λ _. Rose self.old.faults self.new.faults) }
+        ensures quiet { IfOk result (λ _. self.new.faults ≡ self.old.faults) }
+        ensures counts { self.old.faults ≤ self.new.faults }
+    {
+        let got = self.inner.read(piece);
+        if got.is_err() {
+            self.faults = self.faults.saturating_add(1);
+        }
+        got
+    }
+}
+
+impl<S: Write> Watched<S> {
+    /// Writes as the sink does, and counts its error.
+    fn write(&mut self, piece: &[u8]) -> io::Result<usize>
+        ensures bound { WritesAtMost result piece.now }
+        ensures bytes { WriteAppends (S.contents self.old.inner) (S.contents self.new.inner) result piece.now }
+        ensures failed { IfErr result (λ _. Rose self.old.faults self.new.faults) }
+        ensures quiet { IfOk result (λ _. self.new.faults ≡ self.old.faults) }
+        ensures counts { self.old.faults ≤ self.new.faults }
+    {
+        let put = self.inner.write(piece);
+        if put.is_err() {
+            self.faults = self.faults.saturating_add(1);
+        }
+        put
+    }
+}
+
 /// Reads a source to its end, unless it gives more bytes than the limit.
 ///
-/// A source that gives nothing is at its end, and any error of it ends the call as `Failed`. At most `limit + 1`
-/// bytes are taken: then the answer is `TooLong`. After any answer but `Ok` the vector is empty.
-pub fn read_to_limit<S: Read>(source: &mut S, limit: u64, into: &mut Vec<u8>) -> Got
+/// A source that gives nothing is at its end, and any error of it ends the call as `Failed`, which no other cause
+/// does. At most `limit + 1` bytes are taken: then the answer is `TooLong`. After any answer but `Ok` the vector is
+/// empty.
+pub(crate) fn read_to_limit<S: Read>(source: &mut Watched<S>, limit: u64, into: &mut Vec<u8>) -> Got
     requires { into.old.items ≡ [] }
-    ensures all { result ≡ Got.Ok → IfSome (S.remaining source.old) (λ content. content ≡ into.new.items) }
+    ensures all { result ≡ Got.Ok → IfSome (S.remaining source.old.inner) (λ content. content ≡ into.new.items) }
     ensures within { result ≡ Got.Ok → length into.new.items ≤ limit }
-    ensures too_long { result ≡ Got.TooLong → IfSome (S.remaining source.old) (λ content. limit < length content) }
+    ensures failed { result ≡ Got.Failed → Rose source.old.faults source.new.faults }
+    ensures quiet { result ≢ Got.Failed → source.new.faults ≡ source.old.faults }
+    ensures too_long { result ≡ Got.TooLong
+        → IfSome (S.remaining source.old.inner) (λ content. limit < length content) }
     ensures emptied { result ≢ Got.Ok → into.new.items ≡ [] }
-    ensures taken { TakesAtMost (limit + 1) (S.remaining source.old) (S.remaining source.new) }
+    ensures counts { source.old.faults ≤ source.new.faults }
+    ensures taken { TakesAtMost (limit + 1) (S.remaining source.old.inner) (S.remaining source.new.inner) }
 {
     let mut piece = [0u8; PIECE];
     loop {
@@ -60,14 +127,22 @@ fn room_for(limit: u64, taken: usize) -> usize
 
 /// Writes all of the bytes to a sink, and says whether it took them.
 ///
-/// Any error of the sink ends the call, and so does a sink that takes nothing of a piece that isn't empty.
-pub fn write_to_end<S: Write>(sink: &mut S, bytes: &[u8]) -> bool
-    ensures { result ≡ true → Appends (S.contents sink.old) (S.contents sink.new) bytes.now }
+/// It didn't only where an error of the sink ended the call, or where the sink took nothing of a piece that isn't
+/// empty, which counts as one.
+pub(crate) fn write_to_end<S: Write>(sink: &mut Watched<S>, bytes: &[u8]) -> bool
+    ensures all { result ≡ true → Appends (S.contents sink.old.inner) (S.contents sink.new.inner) bytes.now }
+    ensures failed { result ≡ false → Rose sink.old.faults sink.new.faults }
+    ensures quiet { result ≡ true → sink.new.faults ≡ sink.old.faults }
+    ensures counts { sink.old.faults ≤ sink.new.faults }
 {
     let mut done = 0;
     while done < bytes.len() {
         match sink.write(&bytes[done..]) {
-            Ok(0) | Err(_) => return false,
+            Ok(0) => {
+                sink.faults = sink.faults.saturating_add(1);
+                return false;
+            }
+            Err(_) => return false,
             Ok(count) => done += count,
         }
     }

@@ -14,6 +14,7 @@ loop-done-preserved g c =
     let bytes : List ℕ = c.args.bytes.now in
     let rest : List ℕ = take (length bytes - c.loop-done.done) (drop c.loop-done.done bytes) in
     let bound : c.in-Ok.count ≤ length rest = search rules in
-    let wrote : Appends (contents c.loop-done.sink) (contents c.write.new.self) (take c.in-Ok.count rest) = search rules in
+    let wrote : Appends (contents c.loop-done.sink.inner) (contents c.write.new.self.inner) (take c.in-Ok.count rest) = search rules in
     let len = length-take (length bytes - c.loop-done.done) (drop c.loop-done.done bytes) in
-    (omega arith, Appends-more (contents c.args.sink.now) (contents c.loop-done.sink) (contents c.write.new.self) (take c.loop-done.done bytes) (take c.in-Ok.count rest) _ c.loop-done.invariant.1 wrote (take_further c.loop-done.done c.in-Ok.count bytes))
+    let same : c.write.new.self.faults ≡ c.loop-done.sink.faults = search rules in
+    (omega arith, Appends-more (contents c.args.sink.now.inner) (contents c.loop-done.sink.inner) (contents c.write.new.self.inner) (take c.loop-done.done bytes) (take c.in-Ok.count rest) _ c.loop-done.invariant.1 wrote (take_further c.loop-done.done c.in-Ok.count bytes), same ∙ c.loop-done.invariant.2)
