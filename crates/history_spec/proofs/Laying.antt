@@ -41,10 +41,14 @@ masked-shape :
     → (length (masked m delta) ≡ length m) × AllByRecursion IsPage (masked m delta)
 masked-shape [] m all = (refl, all)
 masked-shape (d ∷ delta) m all =
-    let next = masked-shape delta (set m d.slot (spread d.mask d.bytes (page_of m d.slot))) (pages-spread m d.slot d.mask d.bytes all) in
+    let next =
+    masked-shape delta (set m d.slot (spread d.mask d.bytes (page_of m d.slot)))
+    (pages-spread m d.slot d.mask d.bytes all) in
     (next.0 ∙ length-set m d.slot (spread d.mask d.bytes (page_of m d.slot)), next.1)
 
-IsMemory-masked : (map : List Mapped) (m : Memory) (delta : List PageDelta) → IsMemory map m → IsMemory map (masked m delta)
+IsMemory-masked :
+    (map : List Mapped) (m : Memory) (delta : List PageDelta) → IsMemory map m
+    → IsMemory map (masked m delta)
 IsMemory-masked map m delta whole =
     let shape = masked-shape delta m (recursion_from_All IsPage m whole.pages) in
     record { count = shape.0 ∙ whole.count; pages = All-from_recursion IsPage (masked m delta) shape.1 }
@@ -54,7 +58,8 @@ pub fits-can_step : (m : Machine) (r : Record) → is_none m.ending ≡ true →
 unfolding fits
 fits-can_step m r none fit =
     rw none
-    (and-left (is_ready (hart_of m r.thread).status) (fits_at r (hart_of m r.thread).number (hart_of m r.thread).regs (hart_of m r.thread).view) fit)
+    (and-left (is_ready (hart_of m r.thread).status)
+    (fits_at r (hart_of m r.thread).number (hart_of m r.thread).regs (hart_of m r.thread).view) fit)
 
 pub lay-frame : (m : Machine) (r : Record) → (lay m r).frame ≡ m.frame
 unfolding lay
@@ -67,7 +72,8 @@ lay-limit m r = finished-limit m r.thread _ _ _ _
 pub lay-whole : (m : Machine) (r : Record) → IsWhole m → can_step m r.thread ≡ true → IsWhole (lay m r)
 unfolding lay
 lay-whole m r whole can =
-    finished-whole m r.thread (masked m.memory r.kept.delta) r.kept.finish r.kept.end (put_of m.frame.map (hart_of m r.thread).view r.kept) whole can
+    finished-whole m r.thread (masked m.memory r.kept.delta) r.kept.finish r.kept.end
+    (put_of m.frame.map (hart_of m r.thread).view r.kept) whole can
     (IsMemory-masked m.frame.map m.memory r.kept.delta whole.memory)
 
 done-stays :
@@ -88,12 +94,19 @@ pub lay-stays :
 unfolding lay finished
 lay-stays m r u whole can other ready_u =
     let h : Hart =
-    record { view = (hart_of m r.thread).view; regs = r.kept.finish; number = suc (hart_of m r.thread).number; status = (hart_of m r.thread).status } in
+    record {
+      view = (hart_of m r.thread).view;
+      regs = r.kept.finish;
+      number = suc (hart_of m r.thread).number;
+      status = (hart_of m r.thread).status;
+    } in
     let ready : is_ready (hart_of m r.thread).status ≡ true =
     and-right (is_none m.ending) (is_ready (hart_of m r.thread).status) can in
-    let same : hart_of (written m r.thread (masked m.memory r.kept.delta) r.kept.finish (put_of m.frame.map (hart_of m r.thread).view r.kept)) u ≡ hart_of m u =
+    let same : hart_of (written m r.thread (masked m.memory r.kept.delta) r.kept.finish
+    (put_of m.frame.map (hart_of m r.thread).view r.kept)) u ≡ hart_of m u =
     get_or-set_other m.harts r.thread u h nobody other in
-    done-stays (written m r.thread (masked m.memory r.kept.delta) r.kept.finish (put_of m.frame.map (hart_of m r.thread).view r.kept)) r.thread u
+    done-stays (written m r.thread (masked m.memory r.kept.delta) r.kept.finish
+    (put_of m.frame.map (hart_of m r.thread).view r.kept)) r.thread u
     (asked r.thread r.kept.end r.kept.finish)
     (tied-written m.objects m.harts r.thread h refl whole.tied)
     (ap is_ready (status-set m.harts r.thread r.thread h refl) ∙ ready)

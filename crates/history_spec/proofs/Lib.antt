@@ -1,5 +1,7 @@
+-- The files of lemmas and examples of this crate.
 pub mod Scratch
 pub mod Laying
 pub mod Truth
 pub mod Numbers
 pub mod Mapped
+pub mod Examples

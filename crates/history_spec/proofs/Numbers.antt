@@ -42,30 +42,40 @@ number-fated Blocks memory h = refl
 number-fated (Ends v) memory h = refl
 number-fated (Exits code) memory h = refl
 
-number-woken : (memory : Memory) (told : Option ℕ) (us : List ℕ) (hs : List Hart) (u : ℕ) → (hart_in (woken memory told us hs) u).number ≡ (hart_in hs u).number
+number-woken :
+    (memory : Memory) (told : Option ℕ) (us : List ℕ) (hs : List Hart) (u : ℕ)
+    → (hart_in (woken memory told us hs) u).number ≡ (hart_in hs u).number
 number-woken memory told [] hs u = refl
 number-woken memory told (v ∷ us) hs u =
     number-woken memory told us (set hs v (returned memory 0 told (hart_in hs v))) u
     ∙ number-set hs v u (returned memory 0 told (hart_in hs v)) refl
 
 -- who is created has made no step, as who isn't there
-number-pushed : (hs : List Hart) (h : Hart) (u : ℕ) → h.number ≡ 0 → (hart_in (hs ++ h ∷ []) u).number ≡ (hart_in hs u).number
+number-pushed :
+    (hs : List Hart) (h : Hart) (u : ℕ) → h.number ≡ 0
+    → (hart_in (hs ++ h ∷ []) u).number ≡ (hart_in hs u).number
 number-pushed [] h zero none = none
 number-pushed [] h (suc u) none = refl
 number-pushed (x ∷ hs) h zero none = refl
 number-pushed (x ∷ hs) h (suc u) none = number-pushed hs h u none
 
-number-created : (memory : Memory) (c : Option (ℕ × ℕ)) (hs : List Hart) (u : ℕ) → (hart_in (with_created memory c hs) u).number ≡ (hart_in hs u).number
+number-created :
+    (memory : Memory) (c : Option (ℕ × ℕ)) (hs : List Hart) (u : ℕ)
+    → (hart_in (with_created memory c hs) u).number ≡ (hart_in hs u).number
 number-created memory None hs u = refl
 number-created memory (Some c) hs u = number-pushed hs (first_hart memory (length hs) c.0 c.1) u refl
 
-number-settled : (e : Effect) (memory : Memory) (t : ℕ) (hs : List Hart) (u : ℕ) → (hart_in (settled e memory t hs) u).number ≡ (hart_in hs u).number
+number-settled :
+    (e : Effect) (memory : Memory) (t : ℕ) (hs : List Hart) (u : ℕ)
+    → (hart_in (settled e memory t hs) u).number ≡ (hart_in hs u).number
 number-settled e memory t hs u =
     number-created memory e.created (woken memory e.told e.woken (set hs t (fated e.fate memory (hart_in hs t)))) u
     ∙ number-woken memory e.told e.woken (set hs t (fated e.fate memory (hart_in hs t))) u
     ∙ number-set hs t u (fated e.fate memory (hart_in hs t)) (number-fated e.fate memory (hart_in hs t))
 
-number-done : (m : Machine) (t : ℕ) (a : Asked) (u : ℕ) → (hart_of (done_as_asked m t a) u).number ≡ (hart_of m u).number
+number-done :
+    (m : Machine) (t : ℕ) (a : Asked) (u : ℕ)
+    → (hart_of (done_as_asked m t a) u).number ≡ (hart_of m u).number
 number-done m t (Asks call) u = number-settled (act (is_readable m.frame.map) m.objects t call).0 m.memory t m.harts u
 number-done m t (Stops e) u = refl
 
@@ -82,12 +92,26 @@ number-written m t memory regs put u ready =
       | inl same ↦
           let below : t < length m.harts = ready-below m.harts t ready in
           let here : (hart_of (written m t memory regs put) t).number ≡ suc (hart_of m t).number =
-          ap (λ (x : Hart). x.number) (get_or-set_same m.harts t (record { view = (hart_of m t).view; regs = regs; number = suc (hart_of m t).number; status = (hart_of m t).status }) nobody below) in
+          ap (λ (x : Hart). x.number)
+          (get_or-set_same m.harts t
+          (record {
+            view = (hart_of m t).view;
+            regs = regs;
+            number = suc (hart_of m t).number;
+            status = (hart_of m t).status;
+          }) nobody below) in
           let is : eqb t t ≡ true = eq-eqb t t refl in
           rw (same, is) (here ∙ omega arith)
       | inr other ↦
           let here : (hart_of (written m t memory regs put) u).number ≡ (hart_of m u).number =
-          ap (λ (x : Hart). x.number) (get_or-set_other m.harts t u (record { view = (hart_of m t).view; regs = regs; number = suc (hart_of m t).number; status = (hart_of m t).status }) nobody other) in
+          ap (λ (x : Hart). x.number)
+          (get_or-set_other m.harts t u
+          (record {
+            view = (hart_of m t).view;
+            regs = regs;
+            number = suc (hart_of m t).number;
+            status = (hart_of m t).status;
+          }) nobody other) in
           let is : eqb t u ≡ false = grind (arith, nat_tests) in
           rw is (here ∙ omega arith)
     ]
@@ -100,11 +124,15 @@ unfolding finished
 finished-number m t memory regs e put u ready =
     number-done (written m t memory regs put) t (asked t e regs) u ∙ number-written m t memory regs put u ready
 
-pub step-number : (m : Machine) (t u : ℕ) → is_ready (hart_of m t).status ≡ true → (hart_of (step m t) u).number ≡ (hart_of m u).number + one_for u t
+pub step-number :
+    (m : Machine) (t u : ℕ) → is_ready (hart_of m t).status ≡ true
+    → (hart_of (step m t) u).number ≡ (hart_of m u).number + one_for u t
 unfolding step
 step-number m t u ready = finished-number m t _ _ _ _ u ready
 
-pub lay-number : (m : Machine) (r : Record) (u : ℕ) → is_ready (hart_of m r.thread).status ≡ true → (hart_of (lay m r) u).number ≡ (hart_of m u).number + one_for u r.thread
+pub lay-number :
+    (m : Machine) (r : Record) (u : ℕ) → is_ready (hart_of m r.thread).status ≡ true
+    → (hart_of (lay m r) u).number ≡ (hart_of m u).number + one_for u r.thread
 unfolding lay
 lay-number m r u ready = finished-number m r.thread _ _ _ _ u ready
 
@@ -112,11 +140,15 @@ pub lay-steps : (m : Machine) (r : Record) → (lay m r).steps ≡ suc m.steps
 unfolding lay
 lay-steps m r = finished-steps m r.thread _ _ _ _
 
-pub count-cons : (u t : ℕ) (ts : List ℕ) → count_by (λ (x : ℕ). eqb x u) (t ∷ ts) ≡ one_for u t + count_by (λ (x : ℕ). eqb x u) ts
+pub count-cons :
+    (u t : ℕ) (ts : List ℕ)
+    → count_by (λ (x : ℕ). eqb x u) (t ∷ ts) ≡ one_for u t + count_by (λ (x : ℕ). eqb x u) ts
 count-cons u t ts = sum_by-cons (λ (x : ℕ). cond (eqb x u) 1 0) t ts
 
 -- one entry more
-pub count-more : (u t : ℕ) (ts : List ℕ) → count_by (λ (x : ℕ). eqb x u) (ts ++ t ∷ []) ≡ count_by (λ (x : ℕ). eqb x u) ts + one_for u t
+pub count-more :
+    (u t : ℕ) (ts : List ℕ)
+    → count_by (λ (x : ℕ). eqb x u) (ts ++ t ∷ []) ≡ count_by (λ (x : ℕ). eqb x u) ts + one_for u t
 count-more u t ts = sum_by_push (λ (x : ℕ). cond (eqb x u) 1 0) ts t
 
 -- after a permitted schedule a thread has made so many steps more as there are entries of it
@@ -158,15 +190,19 @@ pub numbered-more :
     → is_numbered_after earlier (rs ++ r ∷ []) ≡ true
 numbered-more earlier [] r right number =
     let is : eqb r.number (count_by (λ (x : ℕ). eqb x r.thread) earlier) ≡ true =
-    eq-eqb r.number (count_by (λ (x : ℕ). eqb x r.thread) earlier) (number ∙ ap (λ (ts : List ℕ). count_by (λ (x : ℕ). eqb x r.thread) ts) (append-nil earlier)) in
+    eq-eqb r.number (count_by (λ (x : ℕ). eqb x r.thread) earlier)
+    (number ∙ ap (λ (ts : List ℕ). count_by (λ (x : ℕ). eqb x r.thread) ts) (append-nil earlier)) in
     rw is refl
 numbered-more earlier (x ∷ rs) r right number =
     let first : eqb x.number (count_by (λ (y : ℕ). eqb y x.thread) earlier) ≡ true =
-    and-left (eqb x.number (count_by (λ (y : ℕ). eqb y x.thread) earlier)) (is_numbered_after (earlier ++ x.thread ∷ []) rs) right in
+    and-left (eqb x.number (count_by (λ (y : ℕ). eqb y x.thread) earlier))
+    (is_numbered_after (earlier ++ x.thread ∷ []) rs) right in
     rw first
     (numbered-more (earlier ++ x.thread ∷ []) rs r
-    (and-right (eqb x.number (count_by (λ (y : ℕ). eqb y x.thread) earlier)) (is_numbered_after (earlier ++ x.thread ∷ []) rs) right)
-    (number ∙ ap (λ (ts : List ℕ). count_by (λ (y : ℕ). eqb y r.thread) ts) (sym (append_assoc earlier (x.thread ∷ []) (threads_of_records rs)))))
+    (and-right (eqb x.number (count_by (λ (y : ℕ). eqb y x.thread) earlier))
+    (is_numbered_after (earlier ++ x.thread ∷ []) rs) right)
+    (number ∙ ap (λ (ts : List ℕ). count_by (λ (y : ℕ). eqb y r.thread) ts)
+    (sym (append_assoc earlier (x.thread ∷ []) (threads_of_records rs)))))
 
 -- the records of a permitted schedule are numbered
 records-numbered :
@@ -180,7 +216,8 @@ records-numbered m (t ∷ ts) earlier permitted numbers =
     let first : eqb (hart_of m t).number (count_by (λ (x : ℕ). eqb x t) earlier) ≡ true =
     eq-eqb (hart_of m t).number (count_by (λ (x : ℕ). eqb x t) earlier) (numbers t) in
     rw first
-    (records-numbered (step m t) ts (earlier ++ t ∷ []) (and-right (can_step m t) (is_permitted_from (step m t) ts) permitted)
+    (records-numbered (step m t) ts (earlier ++ t ∷ [])
+    (and-right (can_step m t) (is_permitted_from (step m t) ts) permitted)
     (λ u.
     let here = step-number m t u (and-right (is_none m.ending) (is_ready (hart_of m t).status) can) in
     let count = count-more u t earlier in

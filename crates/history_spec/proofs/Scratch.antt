@@ -42,7 +42,9 @@ pub scratch-frame : (m : Machine) (ts : List ℕ) → (scratch_from m ts).frame 
 scratch-frame m [] = refl
 scratch-frame m (t ∷ ts) = scratch-frame (step m t) ts ∙ step-frame m t
 
-pub scratch-whole : (m : Machine) (ts : List ℕ) → IsWhole m → is_permitted_from m ts ≡ true → IsWhole (scratch_from m ts)
+pub scratch-whole :
+    (m : Machine) (ts : List ℕ) → IsWhole m → is_permitted_from m ts ≡ true
+    → IsWhole (scratch_from m ts)
 scratch-whole m [] whole permitted = whole
 scratch-whole m (t ∷ ts) whole permitted =
     scratch-whole (step m t) ts

@@ -1,4 +1,5 @@
--- The records of a permitted schedule are true, so those of an honest history are; laid where they fit they are the steps.
+-- The records of a permitted schedule are true, so those of an honest history are; laid where they fit they are the
+-- steps.
 use Rattle.std.proofs.Common.{◌≡◌, ℕ, Bool, true, false, cond, ◌&&◌, eqb, List, [], ◌∷◌, Option, Some, None, is_none, is_some, find, refl, ap, sym, ◌∙◌, subst, arith}
 use Rattle.std.proofs.lemmas.Bool.{eq-eqb, eqb-true}
 use Rattle.std.proofs.lemmas.Bool.Decides.{nat_tests}
@@ -27,7 +28,9 @@ use Rattle.history_spec.proofs.Scratch.{and-left, and-right, step-frame}
 abbrev pub IsTrueIn : Frame → Record → Type 0
 IsTrueIn frame r = IsTrue frame r.start r.kept
 
-view-whole : (m : Machine) (t : ℕ) → IsWhole m → is_ready (hart_of m t).status ≡ true → IsMemory m.frame.map (hart_of m t).view
+view-whole :
+    (m : Machine) (t : ℕ) → IsWhole m → is_ready (hart_of m t).status ≡ true
+    → IsMemory m.frame.map (hart_of m t).view
 view-whole m t whole ready = (hart-at m.frame.map m.steps m.harts t (ready-below m.harts t ready) whole.harts).view
 
 -- the record of a step is true
@@ -37,13 +40,16 @@ record-true m t whole can =
     (view-whole m t whole (and-right (is_none m.ending) (is_ready (hart_of m t).status) can))
 
 -- the records of a permitted schedule are true
-pub records-true : (m : Machine) (ts : List ℕ) → IsWhole m → is_permitted_from m ts ≡ true → AllByRecursion (IsTrueIn m.frame) (records_from m ts)
+pub records-true :
+    (m : Machine) (ts : List ℕ) → IsWhole m → is_permitted_from m ts ≡ true
+    → AllByRecursion (IsTrueIn m.frame) (records_from m ts)
 records-true m [] whole permitted = tt
 records-true m (t ∷ ts) whole permitted =
     let can : can_step m t ≡ true = and-left (can_step m t) (is_permitted_from (step m t) ts) permitted in (
       record-true m t whole can,
       subst (λ (f : Frame). AllByRecursion (IsTrueIn f) (records_from (step m t) ts)) (step-frame m t)
-          (records-true (step m t) ts (step-whole m t whole can) (and-right (can_step m t) (is_permitted_from (step m t) ts) permitted)),
+          (records-true (step m t) ts (step-whole m t whole can)
+          (and-right (can_step m t) (is_permitted_from (step m t) ts) permitted)),
     )
 
 -- the records of an honest history are true
@@ -52,19 +58,23 @@ honest-true h honest =
     subst (λ (rs : List Record). AllByRecursion (IsTrueIn (first h.setup).frame) rs) (sym honest.recorded)
     (records-true (first h.setup) (schedule_of h) (IsWhole-first h.setup honest.valid) honest.permitted)
 
--- what is found among true records is true
-pub found-true :
-    (f : Frame) (t number : ℕ) (rs : List Record) (r : Record)
-    → AllByRecursion (IsTrueIn f) rs → find (is_of t number) rs ≡ Some r → IsTrueIn f r
-found-true f t number [] r all there = cc
-found-true f t number (x ∷ rs) r all there = here (is_of t number x) (found-true f t number rs r all.1) there
+-- what holds of each record holds of what is found
+pub found-all :
+    (P : Record → Type 0) (t number : ℕ) (rs : List Record) (r : Record)
+    → AllByRecursion P rs → find (is_of t number) rs ≡ Some r → P r
+found-all P t number [] r all there = cc
+found-all P t number (x ∷ rs) r all there = here (is_of t number x) (found-all P t number rs r all.1) there
   where
-    here : (b : Bool) → (find (is_of t number) rs ≡ Some r → IsTrueIn f r) → cond b (Some x) (find (is_of t number) rs) ≡ Some r → IsTrueIn f r
-    here true later h = let same : x ≡ r = cc in subst (IsTrueIn f) same all.0
+    here :
+        (b : Bool) → (find (is_of t number) rs ≡ Some r → P r) → cond b (Some x) (find (is_of t number) rs) ≡ Some r
+        → P r
+    here true later h = let same : x ≡ r = cc in subst P same all.0
     here false later h = later h
 
 -- what is found is of the thread, at the number
-pub found-of : (t number : ℕ) (rs : List Record) (r : Record) → find (is_of t number) rs ≡ Some r → (r.thread ≡ t) × (r.number ≡ number)
+pub found-of :
+    (t number : ℕ) (rs : List Record) (r : Record) → find (is_of t number) rs ≡ Some r
+    → (r.thread ≡ t) × (r.number ≡ number)
 found-of t number [] r there = cc
 found-of t number (x ∷ rs) r there = here (is_of t number x) refl (found-of t number rs r) there
   where
@@ -74,8 +84,11 @@ found-of t number (x ∷ rs) r there = here (is_of t number x) refl (found-of t 
         → cond b (Some x) (find (is_of t number) rs) ≡ Some r → (r.thread ≡ t) × (r.number ≡ number)
     here true is later h =
         let same : x ≡ r = cc in
-        subst (λ (y : Record). (y.thread ≡ t) × (y.number ≡ number)) same
-        (eqb-true x.thread t (and-left (eqb x.thread t) (eqb x.number number) is), eqb-true x.number number (and-right (eqb x.thread t) (eqb x.number number) is))
+        subst (λ (y : Record). (y.thread ≡ t) × (y.number ≡ number)) same (
+          eqb-true x.thread t (and-left (eqb x.thread t) (eqb x.number number) is),
+          eqb-true x.number number
+              (and-right (eqb x.thread t) (eqb x.number number) is),
+        )
     here false is later h = later h
 
 -- setups of the same program have the same frame
@@ -83,25 +96,32 @@ pub same-frame : (a b : Setup) → IsSameProgram a b → (first a).frame ≡ (fi
 unfolding first map_of
 same-frame a b same = rw (same.elf, same.fuel) refl
 
-same-record : (r : Record) (n : ℕ) (x : Registers) (k : Kept) → r.number ≡ n → r.start ≡ x → r.kept ≡ k → r ≡ record { thread = r.thread; number = n; start = x; kept = k }
+same-record :
+    (r : Record) (n : ℕ) (x : Registers) (k : Kept) → r.number ≡ n → r.start ≡ x → r.kept ≡ k
+    → r ≡ record { thread = r.thread; number = n; start = x; kept = k }
 same-record r n x k number start kept = rw (← number, ← start, ← kept) refl
 
 -- a true record that fits is the record of its thread's next step
-pub fits-record : (m : Machine) (r : Record) → IsWhole m → IsTrueIn m.frame r → fits m r ≡ true → r ≡ record_of m r.thread
+pub fits-record :
+    (m : Machine) (r : Record) → IsWhole m → IsTrueIn m.frame r → fits m r ≡ true
+    → r ≡ record_of m r.thread
 unfolding fits fits_at
 fits-record m r whole honest fit =
     let ready : is_ready (hart_of m r.thread).status ≡ true = grind (arith, nat_tests) in
     let number : r.number ≡ (hart_of m r.thread).number = grind (arith, nat_tests) in
-    let regs : r.start ≡ (hart_of m r.thread).regs = same_registers-true r.start (hart_of m r.thread).regs (grind (arith, nat_tests)) in
+    let regs : r.start ≡ (hart_of m r.thread).regs =
+    same_registers-true r.start (hart_of m r.thread).regs (grind (arith, nat_tests)) in
     let reads : has (hart_of m r.thread).view r.kept.reads ≡ true = grind (arith, nat_tests) in
-    same-record r (hart_of m r.thread).number (hart_of m r.thread).regs (kept_thunk m.frame (hart_of m r.thread).view (hart_of m r.thread).regs) number regs
+    same-record r (hart_of m r.thread).number (hart_of m r.thread).regs
+    (kept_thunk m.frame (hart_of m r.thread).view (hart_of m r.thread).regs) number regs
     (rw (← regs) (sym (honest.same (hart_of m r.thread).view (view-whole m r.thread whole ready) reads)))
 
 -- the record of a ready thread's next step fits
 pub record-fits : (m : Machine) (t : ℕ) → is_ready (hart_of m t).status ≡ true → fits m (record_of m t) ≡ true
 unfolding fits fits_at
 record-fits m t ready =
-    let number : eqb (hart_of m t).number (hart_of m t).number ≡ true = eq-eqb (hart_of m t).number (hart_of m t).number refl in
+    let number : eqb (hart_of m t).number (hart_of m t).number ≡ true =
+    eq-eqb (hart_of m t).number (hart_of m t).number refl in
     let regs : same_registers (hart_of m t).regs (hart_of m t).regs ≡ true = same_registers-refl (hart_of m t).regs in
     let reads : has (hart_of m t).view (kept_thunk m.frame (hart_of m t).view (hart_of m t).regs).reads ≡ true =
     has-kept m.frame (hart_of m t).view (hart_of m t).regs in
@@ -114,30 +134,39 @@ record-lay m t whole can =
     (record-fits m t (and-right (is_none m.ending) (is_ready (hart_of m t).status) can))
 
 -- laying the records of a permitted schedule is making its steps
-pub records-laid : (m : Machine) (ts : List ℕ) → IsWhole m → is_permitted_from m ts ≡ true → laid_from m (records_from m ts) ≡ scratch_from m ts
+pub records-laid :
+    (m : Machine) (ts : List ℕ) → IsWhole m → is_permitted_from m ts ≡ true
+    → laid_from m (records_from m ts) ≡ scratch_from m ts
 records-laid m [] whole permitted = refl
 records-laid m (t ∷ ts) whole permitted =
     let can : can_step m t ≡ true = and-left (can_step m t) (is_permitted_from (step m t) ts) permitted in
     ap (λ (x : Machine). laid_from x (records_from (step m t) ts)) (record-lay m t whole can)
-    ∙ (records-laid (step m t) ts (step-whole m t whole can) (and-right (can_step m t) (is_permitted_from (step m t) ts) permitted))
+    ∙ (records-laid (step m t) ts (step-whole m t whole can)
+    (and-right (can_step m t) (is_permitted_from (step m t) ts) permitted))
 
-pub records-can_lay : (m : Machine) (ts : List ℕ) → IsWhole m → is_permitted_from m ts ≡ true → can_lay_from m (records_from m ts) ≡ true
+pub records-can_lay :
+    (m : Machine) (ts : List ℕ) → IsWhole m → is_permitted_from m ts ≡ true
+    → can_lay_from m (records_from m ts) ≡ true
 records-can_lay m [] whole permitted = refl
 records-can_lay m (t ∷ ts) whole permitted =
     let can : can_step m t ≡ true = and-left (can_step m t) (is_permitted_from (step m t) ts) permitted in
     let none : is_none m.ending ≡ true = and-left (is_none m.ending) (is_ready (hart_of m t).status) can in
-    let fit : fits m (record_of m t) ≡ true = record-fits m t (and-right (is_none m.ending) (is_ready (hart_of m t).status) can) in
+    let fit : fits m (record_of m t) ≡ true =
+    record-fits m t (and-right (is_none m.ending) (is_ready (hart_of m t).status) can) in
     rw (none, fit, record-lay m t whole can)
-    (records-can_lay (step m t) ts (step-whole m t whole can) (and-right (can_step m t) (is_permitted_from (step m t) ts) permitted))
+    (records-can_lay (step m t) ts (step-whole m t whole can)
+    (and-right (can_step m t) (is_permitted_from (step m t) ts) permitted))
 
 -- an honest history is coherent
 pub honest-coherent : (h : History) → IsHonest h → is_coherent h ≡ true
 honest-coherent h honest =
     let whole : IsWhole (first h.setup) = IsWhole-first h.setup honest.valid in
     let can : can_lay_from (first h.setup) h.records ≡ true =
-    ap (λ (rs : List Record). can_lay_from (first h.setup) rs) honest.recorded ∙ records-can_lay (first h.setup) (schedule_of h) whole honest.permitted in
+    ap (λ (rs : List Record). can_lay_from (first h.setup) rs) honest.recorded
+    ∙ records-can_lay (first h.setup) (schedule_of h) whole honest.permitted in
     let laid : laid_from (first h.setup) h.records ≡ scratch_from (first h.setup) (schedule_of h) =
-    ap (λ (rs : List Record). laid_from (first h.setup) rs) honest.recorded ∙ records-laid (first h.setup) (schedule_of h) whole honest.permitted in
+    ap (λ (rs : List Record). laid_from (first h.setup) rs) honest.recorded
+    ∙ records-laid (first h.setup) (schedule_of h) whole honest.permitted in
     let ended : is_some (laid_from (first h.setup) h.records).ending ≡ true =
     ap (λ (m : Machine). is_some m.ending) laid ∙ honest.complete in
     rw (can, ended) refl
@@ -149,7 +178,7 @@ pub sound-true :
 sound-true None setup t number r sound there = cc
 sound-true (Some h) setup t number r sound there =
     subst (λ (f : Frame). IsTrueIn f r) (same-frame h.setup setup sound.1)
-    (found-true (first h.setup).frame t number h.records r (honest-true h sound.0) there)
+    (found-all (IsTrueIn (first h.setup).frame) t number h.records r (honest-true h sound.0) there)
 
 -- what is found is of the thread, at the number
 pub past-of :
@@ -164,7 +193,8 @@ pub reuse-record :
     → found past t number ≡ Some r → fits m r ≡ true
     → r ≡ record_of m t
 reuse-record setup past m t number r sound whole frame there fit =
-    let honest : IsTrueIn m.frame r = subst (λ (f : Frame). IsTrueIn f r) (sym frame) (sound-true past setup t number r sound there) in
+    let honest : IsTrueIn m.frame r =
+    subst (λ (f : Frame). IsTrueIn f r) (sym frame) (sound-true past setup t number r sound there) in
     fits-record m r whole honest fit ∙ ap (record_of m) (past-of past t number r there).0
 
 -- and laid it is the step
@@ -174,7 +204,8 @@ pub reuse-lay :
     → found past t number ≡ Some r → fits m r ≡ true
     → lay m r ≡ step m t
 reuse-lay setup past m t number r sound whole frame there fit =
-    let honest : IsTrueIn m.frame r = subst (λ (f : Frame). IsTrueIn f r) (sym frame) (sound-true past setup t number r sound there) in
+    let honest : IsTrueIn m.frame r =
+    subst (λ (f : Frame). IsTrueIn f r) (sym frame) (sound-true past setup t number r sound there) in
     lay-step m r whole honest fit ∙ ap (step m) (past-of past t number r there).0
 
 -- a record fits by its thread's hart alone

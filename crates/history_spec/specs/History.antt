@@ -36,7 +36,8 @@ abbrev pub can_lay_from : Machine → List Record → Bool
 can_lay_from m [] = true
 can_lay_from m (r ∷ rs) = (is_none m.ending && fits m r) && can_lay_from (lay m r) rs
 
--- Whether a history holds together: laid in order, each record fits, no end comes before the last, and one comes after it.
+-- Whether a history holds together: laid in order, each record fits, no end comes before the last, and one comes after
+-- it.
 abbrev pub is_coherent : History → Bool
 is_coherent h = can_lay_from (first h.setup) h.records && is_some (laid_from (first h.setup) h.records).ending
 
@@ -78,7 +79,8 @@ past_records (Some h) = h.records
 abbrev pub found : Option History → ℕ → ℕ → Option Record
 found past t number = find (is_of t number) (past_records past)
 
--- Whether the number of each record is how many records of its thread come before it, where others of these threads come first.
+-- Whether the number of each record is how many records of its thread come before it, where others of these threads
+-- come first.
 abbrev pub is_numbered_after : List ℕ → List Record → Bool
 is_numbered_after earlier [] = true
 is_numbered_after earlier (r ∷ rs) =

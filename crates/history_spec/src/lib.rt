@@ -86,6 +86,7 @@ pub fn same_input_is_same_setup()
 /// their setup's map.
 pub fn records_are_mapped()
     ensures step { (m : Machine) (t : ℕ) → IsMappedIn (length m.frame.map) (record_of m t) }
-    ensures scratch { (setup : Setup) (schedule : List ℕ) → All (IsMappedIn (length (map_of setup))) (records setup schedule) }
+    ensures scratch { (setup : Setup) (schedule : List ℕ)
+        → All (IsMappedIn (length (map_of setup))) (records setup schedule) }
     ensures honest { (h : History) → IsHonest h → IsMapped h }
 {}

@@ -107,7 +107,7 @@ agree-same map flags view other (a ∷ addresses) p q r same = (
   agree-same map (set flags (slot_of map a) true) view other addresses (length-set flags (slot_of map a) true ∙ p) q r same,
 )
 
-length-on_each : {A : Type 0} (a : A) (map : List Mapped) → length (on_each a map) ≡ length map
+pub length-on_each : {A : Type 0} (a : A) (map : List Mapped) → length (on_each a map) ≡ length map
 length-on_each a [] = refl
 length-on_each a (page ∷ map) = ap suc (length-on_each a map)
 

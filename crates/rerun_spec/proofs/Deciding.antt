@@ -1,5 +1,5 @@
--- Whether a line spells an edit is decided, so each list of edits says something. Numbers of lines are bounded, so each is tried; no
--- definition computes this.
+-- Whether a line spells an edit is decided, so each list of edits says something. Numbers of lines are bounded, so each
+-- is tried; no definition computes this.
 use Rattle.std.proofs.Common.{◌≡◌, ◌<◌, ◌+◌, ◌*◌, ◌/◌, ◌%◌, ℕ, zero, suc, List, [], ◌∷◌, ◌++◌, length, Option, Some, None, Result, Ok, Err, ◌⊎◌, inl, inr, refl, ap, sym, ◌∙◌, subst, append_assoc, arith}
 use Rattle.std.proofs.lemmas.List.{append_cancel_left}
 use Rattle.std.proofs.lemmas.Bool.{cases_eq}
@@ -30,7 +30,8 @@ some-below P each (suc n) = by (some-below P each n) (each n)
               none (
                 found.0,
                 elim (leb_tells n found.0) [
-                  | inl above ↦ absurd (less (let below : found.0 < suc n = found.1 in let least = above.1 in omega arith))
+                  | inl above ↦ absurd (less
+                      (let below : found.0 < suc n = found.1 in let least = above.1 in omega arith))
                   | inr below ↦ below.1
                 ],
                 found.2,
@@ -54,10 +55,16 @@ rest-after [] text = inl (text, refl)
 rest-after (x ∷ prefix) [] = inr (λ found. let no : [] ≡ x ∷ (prefix ++ found.0) = found.1 in cc)
 rest-after (x ∷ prefix) (y ∷ text) = by (cases_eq y x) (rest-after prefix text)
   where
-    by : Decided (y ≡ x) → Decided ((rest : List ℕ) × (text ≡ prefix ++ rest)) → Decided ((rest : List ℕ) × (y ∷ text ≡ x ∷ (prefix ++ rest)))
+    by :
+        Decided (y ≡ x) → Decided ((rest : List ℕ) × (text ≡ prefix ++ rest))
+        → Decided ((rest : List ℕ) × (y ∷ text ≡ x ∷ (prefix ++ rest)))
     by (inl here) (inl found) = inl (found.0, (let rest : text ≡ prefix ++ found.0 = found.1 in cc))
     by (inl here) (inr none) =
-        inr (λ found. none (found.0, (let all : y ∷ text ≡ x ∷ (prefix ++ found.0) = found.1 in let rest : text ≡ prefix ++ found.0 = cc in rest)))
+        inr (λ found. none (
+          found.0,
+          (let all : y ∷ text ≡ x ∷ (prefix ++ found.0) = found.1 in
+              let rest : text ≡ prefix ++ found.0 = cc in rest),
+        ))
     by (inr other) found =
         inr (λ there. other (let all : y ∷ text ≡ x ∷ (prefix ++ there.0) = there.1 in let here : y ≡ x = cc in here))
 
@@ -69,15 +76,22 @@ two-some : (o : Option ℕ) (m n : ℕ) → o ≡ Some m → o ≡ Some n → m 
 two-some o m n p q = cc
 
 -- two digits spell a byte where each has a value, and the lower one's is below 16
-no-byte-high : (high low : ℕ) (digits bytes : List ℕ) → hex_digit_value high ≡ None → SpellBytes (high ∷ low ∷ digits) bytes → ⊥
+no-byte-high :
+    (high low : ℕ) (digits bytes : List ℕ) → hex_digit_value high ≡ None → SpellBytes (high ∷ low ∷ digits) bytes
+    → ⊥
 no-byte-high high low digits [] none spelled = spelled
 no-byte-high high low digits (byte ∷ bytes) none spelled = none-some (hex_digit_value high) (byte / 16) none spelled.0
 
-no-byte-low : (high low : ℕ) (digits bytes : List ℕ) → hex_digit_value low ≡ None → SpellBytes (high ∷ low ∷ digits) bytes → ⊥
+no-byte-low :
+    (high low : ℕ) (digits bytes : List ℕ) → hex_digit_value low ≡ None → SpellBytes (high ∷ low ∷ digits) bytes
+    → ⊥
 no-byte-low high low digits [] none spelled = spelled
 no-byte-low high low digits (byte ∷ bytes) none spelled = none-some (hex_digit_value low) (byte % 16) none spelled.1
 
-no-byte-large : (high low b : ℕ) (digits bytes : List ℕ) → hex_digit_value low ≡ Some b → 15 < b → SpellBytes (high ∷ low ∷ digits) bytes → ⊥
+no-byte-large :
+    (high low b : ℕ) (digits bytes : List ℕ) → hex_digit_value low ≡ Some b → 15 < b
+    → SpellBytes (high ∷ low ∷ digits) bytes
+    → ⊥
 no-byte-large high low b digits [] is large spelled = spelled
 no-byte-large high low b digits (byte ∷ bytes) is large spelled =
     let same : b ≡ byte % 16 = two-some (hex_digit_value low) b (byte % 16) is spelled.1 in
@@ -106,7 +120,8 @@ bytes-spelled (high ∷ low ∷ digits) = by (hex_digit_value high) (hex_digit_v
   where
     by :
         (a b : Option ℕ) → hex_digit_value high ≡ a → hex_digit_value low ≡ b
-        → Decided ((bytes : List ℕ) × SpellBytes digits bytes) → Decided ((bytes : List ℕ) × SpellBytes (high ∷ low ∷ digits) bytes)
+        → Decided ((bytes : List ℕ) × SpellBytes digits bytes)
+        → Decided ((bytes : List ℕ) × SpellBytes (high ∷ low ∷ digits) bytes)
     by None b is_a is_b rest = inr (λ found. no-byte-high high low digits found.0 is_a found.1)
     by (Some a) None is_a is_b rest = inr (λ found. no-byte-low high low digits found.0 is_b found.1)
     by (Some a) (Some b) is_a is_b (inr none) =
@@ -117,7 +132,12 @@ bytes-spelled (high ∷ low ∷ digits) = by (hex_digit_value high) (hex_digit_v
           | inr small ↦
               inl (
                 (16 * a + b) ∷ rest.0,
-                (is_a ∙ ap (λ (n : ℕ). Some n) (higher a b small.1), is_b ∙ ap (λ (n : ℕ). Some n) (lower a b small.1), rest.1),
+                (
+                  is_a ∙ ap (λ (n : ℕ). Some n) (higher a b small.1),
+                  is_b
+                      ∙ ap (λ (n : ℕ). Some n) (lower a b small.1),
+                  rest.1,
+                ),
               )
         ]
 
@@ -135,7 +155,9 @@ some-bytes : (digits : List ℕ) → Decided ((bytes : List ℕ) × (0 < length 
 some-bytes [] = inr (λ found. empty-spelled [] found.0 refl found.1 found.2)
 some-bytes (d ∷ digits) = by (bytes-spelled (d ∷ digits))
   where
-    filled : (bytes : List ℕ) → SpellBytes (d ∷ digits) bytes → Decided ((bytes : List ℕ) × (0 < length bytes) × SpellBytes (d ∷ digits) bytes)
+    filled :
+        (bytes : List ℕ) → SpellBytes (d ∷ digits) bytes
+        → Decided ((bytes : List ℕ) × (0 < length bytes) × SpellBytes (d ∷ digits) bytes)
     filled [] spelled = absurd (none-spelled d digits spelled)
     filled (byte ∷ bytes) spelled = inl (byte ∷ bytes, omega arith, spelled)
 
@@ -154,7 +176,9 @@ IsSetAt text offset =
 abbrev front_of : ℕ → List ℕ
 front_of offset = codes "set " ++ (decimal offset ++ space ∷ [])
 
-front-rest : (offset : ℕ) (digits : List ℕ) → front_of offset ++ digits ≡ codes "set " ++ (decimal offset ++ space ∷ digits)
+front-rest :
+    (offset : ℕ) (digits : List ℕ)
+    → front_of offset ++ digits ≡ codes "set " ++ (decimal offset ++ space ∷ digits)
 front-rest offset digits = ap (λ (l : List ℕ). codes "set " ++ l) (append_assoc (decimal offset) (space ∷ []) digits)
 
 set-decided : (text : List ℕ) (offset : ℕ) → Decided (IsSetAt text offset)
@@ -184,7 +208,8 @@ neither :
     → ((offset : ℕ) × (offset < number_limit) × IsSetAt text offset → ⊥)
     → ((size : ℕ) × (size < number_limit) × IsSizeOf text size → ⊥)
     → Spells text e → ⊥
-neither text (Set offset bytes) no_set no_size spelled = no_set (offset, spelled.0, (bytes, spelled.1, spelled.2, spelled.3, spelled.4))
+neither text (Set offset bytes) no_set no_size spelled =
+    no_set (offset, spelled.0, (bytes, spelled.1, spelled.2, spelled.3, spelled.4))
 neither text (Size size) no_set no_size spelled = no_size (size, spelled.0, spelled.1)
 
 edit-decided :

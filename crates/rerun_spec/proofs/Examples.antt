@@ -44,7 +44,8 @@ empty_is_said = ((refl, zero_is_spelled), tt)
 
 -- The input of the second round is empty.
 pub inputs-emptied : AreInputs five (codes "size 0" ∷ []) (five ∷ [] ∷ [])
-inputs-emptied = (refl, (record { edits = record { line = 1; edit = Size 0 } ∷ []; said = empty_is_said; done = refl }, tt))
+inputs-emptied =
+    (refl, (record { edits = record { line = 1; edit = Size 0 } ∷ []; said = empty_is_said; done = refl }, tt))
 
 -- offset 4, of an input that the list before has emptied
 last_byte_is_spelled : Spells (codes "set 4 00") (Set 4 (0 ∷ []))
@@ -56,7 +57,9 @@ unfolding lines
 last_byte_is_said = ((refl, last_byte_is_spelled), tt)
 
 -- The second list is refused by its second line, whatever comes after it.
-pub refused-second : (rest : List (List ℕ)) → IsFirstRefused five (codes "size 0" ∷ codes "\nset 4 00" ∷ rest) 1 (OutOfRange 2)
+pub refused-second :
+    (rest : List (List ℕ))
+    → IsFirstRefused five (codes "size 0" ∷ codes "\nset 4 00" ∷ rest) 1 (OutOfRange 2)
 refused-second rest = (
   [],
   record { edits = record { line = 1; edit = Size 0 } ∷ []; said = empty_is_said; done = refl },
@@ -66,7 +69,9 @@ refused-second rest = (
 -- one digit spells no byte
 half_byte : (edit : Edit) → Spells (codes "set 4 0") edit → ⊥
 half_byte (Set offset bytes) spelled =
-    let same = same_around_space (codes "4") (decimal offset) (codes "0") spelled.2 refl (digits-decimal offset spelled.0) (let all : codes "set 4 0" ≡ codes "set " ++ (decimal offset ++ 32 ∷ spelled.2) = spelled.4 in cc) in
+    let same =
+    same_around_space (codes "4") (decimal offset) (codes "0") spelled.2 refl (digits-decimal offset spelled.0)
+    (let all : codes "set 4 0" ≡ codes "set " ++ (decimal offset ++ 32 ∷ spelled.2) = spelled.4 in cc) in
     no-byte-odd 48 bytes (subst (λ (ds : List ℕ). SpellBytes ds bytes) (sym same.1) spelled.3)
 half_byte (Size size) spelled = other_word (codes "set 4 0") refl (sym spelled.1)
 

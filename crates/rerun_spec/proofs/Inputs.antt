@@ -42,15 +42,20 @@ makes-unrefused list input next (OutOfRange number) p q =
     ok-err (edited p.edits input) next number p.done
     (ap (λ (es : List LineEdit). edited es input) (same-edits list p.edits q.0 p.said q.1) ∙ q.2)
 
-refuses-one : (list input : List ℕ) (why other : Refusal) → Refuses list input why → Refuses list input other → why ≡ other
+refuses-one :
+    (list input : List ℕ) (why other : Refusal) → Refuses list input why → Refuses list input other
+    → why ≡ other
 refuses-one list input (BadLine m) (BadLine n) p q = ap (λ (k : ℕ). BadLine k) (same-line list m n p q)
 refuses-one list input (BadLine m) (OutOfRange n) p q = absurd (not-both list q.0 m q.1 p)
 refuses-one list input (OutOfRange m) (BadLine n) p q = absurd (not-both list p.0 n p.1 q)
 refuses-one list input (OutOfRange m) (OutOfRange n) p q =
     ap (λ (k : ℕ). OutOfRange k)
-    (err-one (edited p.0 input) m n p.2 (ap (λ (es : List LineEdit). edited es input) (same-edits list p.0 q.0 p.1 q.1) ∙ q.2))
+    (err-one (edited p.0 input) m n p.2
+    (ap (λ (es : List LineEdit). edited es input) (same-edits list p.0 q.0 p.1 q.1) ∙ q.2))
 
-makes-or-refuses : (list input : List ℕ) → ((next : List ℕ) × Makes list input next) ⊎ ((why : Refusal) × Refuses list input why)
+makes-or-refuses :
+    (list input : List ℕ)
+    → ((next : List ℕ) × Makes list input next) ⊎ ((why : Refusal) × Refuses list input why)
 makes-or-refuses list input = by (lines-say (lines list)).0 (lines-say (lines list)).1
   where
     does :
@@ -66,7 +71,9 @@ makes-or-refuses list input = by (lines-say (lines list)).0 (lines-say (lines li
     by (Err number) said = inr (BadLine number, said)
 
 -- so do lists
-made-one : (lists : List (List ℕ)) (input : List ℕ) (a b : List (List ℕ)) → AreMade input lists a → AreMade input lists b → a ≡ b
+made-one :
+    (lists : List (List ℕ)) (input : List ℕ) (a b : List (List ℕ)) → AreMade input lists a → AreMade input lists b
+    → a ≡ b
 made-one [] input [] [] p q = refl
 made-one [] input [] (y ∷ b) p q = absurd q
 made-one [] input (x ∷ a) b p q = absurd p
@@ -89,13 +96,15 @@ made-unrefused (list ∷ lists) input (x ∷ inputs) (suc place) why p q =
 
 made-or-refused :
     (lists : List (List ℕ)) (input : List ℕ)
-    → ((inputs : List (List ℕ)) × AreMade input lists inputs) ⊎ ((place : ℕ) × (why : Refusal) × IsFirstRefused input lists place why)
+    → ((inputs : List (List ℕ)) × AreMade input lists inputs)
+    ⊎ ((place : ℕ) × (why : Refusal) × IsFirstRefused input lists place why)
 made-or-refused [] input = inl ([], tt)
 made-or-refused (list ∷ lists) input = by (makes-or-refuses list input) (made-or-refused lists)
   where
     next :
         (n : List ℕ) → Makes list input n
-        → ((inputs : List (List ℕ)) × AreMade n lists inputs) ⊎ ((place : ℕ) × (why : Refusal) × IsFirstRefused n lists place why)
+        → ((inputs : List (List ℕ)) × AreMade n lists inputs)
+        ⊎ ((place : ℕ) × (why : Refusal) × IsFirstRefused n lists place why)
         → ((inputs : List (List ℕ)) × AreMade input (list ∷ lists) inputs)
         ⊎ ((place : ℕ) × (why : Refusal) × IsFirstRefused input (list ∷ lists) place why)
     next n makes (inl made) = inl (n ∷ made.0, (makes, made.1))
@@ -104,7 +113,8 @@ made-or-refused (list ∷ lists) input = by (makes-or-refuses list input) (made-
     by :
         ((n : List ℕ) × Makes list input n) ⊎ ((why : Refusal) × Refuses list input why)
         → ((n : List ℕ)
-        → ((inputs : List (List ℕ)) × AreMade n lists inputs) ⊎ ((place : ℕ) × (why : Refusal) × IsFirstRefused n lists place why))
+        → ((inputs : List (List ℕ)) × AreMade n lists inputs)
+        ⊎ ((place : ℕ) × (why : Refusal) × IsFirstRefused n lists place why))
         → ((inputs : List (List ℕ)) × AreMade input (list ∷ lists) inputs)
         ⊎ ((place : ℕ) × (why : Refusal) × IsFirstRefused input (list ∷ lists) place why)
     by (inl made) rest = next made.0 made.1 (rest made.0)
@@ -123,7 +133,9 @@ refused-one (list ∷ lists) input (suc m) (suc n) why other p q =
     (subst (λ (i : List ℕ). IsFirstRefused i lists n other) (makes-one list input q.0 p.0 q.1 p.1) q.2) in
     (ap (λ (k : ℕ). suc k) same.0, same.1)
 
-pub refused-below : (lists : List (List ℕ)) (input : List ℕ) (place : ℕ) (why : Refusal) → IsFirstRefused input lists place why → place < length lists
+pub refused-below :
+    (lists : List (List ℕ)) (input : List ℕ) (place : ℕ) (why : Refusal) → IsFirstRefused input lists place why
+    → place < length lists
 refused-below [] input place why p = absurd p
 refused-below (list ∷ lists) input zero why p = omega arith
 refused-below (list ∷ lists) input (suc place) why p = let rest = refused-below lists p.0 place why p.2 in omega arith
@@ -147,14 +159,17 @@ inputs-unrefused input lists (x ∷ inputs) place why p q = made-unrefused lists
 
 pub inputs-or-refused :
     (input : List ℕ) (lists : List (List ℕ))
-    → ((inputs : List (List ℕ)) × AreInputs input lists inputs) ⊎ ((place : ℕ) × (why : Refusal) × IsFirstRefused input lists place why)
+    → ((inputs : List (List ℕ)) × AreInputs input lists inputs)
+    ⊎ ((place : ℕ) × (why : Refusal) × IsFirstRefused input lists place why)
 inputs-or-refused input lists =
     elim (made-or-refused lists input) [
       | inl made ↦ inl (input ∷ made.0, (refl, made.1))
       | inr refused ↦ inr refused
     ]
 
-made-count : (lists : List (List ℕ)) (input : List ℕ) (inputs : List (List ℕ)) → AreMade input lists inputs → length inputs ≡ length lists
+made-count :
+    (lists : List (List ℕ)) (input : List ℕ) (inputs : List (List ℕ)) → AreMade input lists inputs
+    → length inputs ≡ length lists
 made-count [] input [] p = refl
 made-count [] input (x ∷ inputs) p = absurd p
 made-count (list ∷ lists) input [] p = absurd p
@@ -177,7 +192,8 @@ made-short (list ∷ lists) input (x ∷ inputs) short p =
 
 pub inputs-short :
     (input : List ℕ) (lists inputs : List (List ℕ))
-    → length input ≤ longest_input → AreInputs input lists inputs → AllByRecursion (λ i. length i ≤ longest_input) inputs
+    → length input ≤ longest_input → AreInputs input lists inputs
+    → AllByRecursion (λ i. length i ≤ longest_input) inputs
 inputs-short input lists [] short p = tt
 inputs-short input lists (x ∷ inputs) short p =
     (subst (λ (i : List ℕ). length i ≤ longest_input) (sym p.0) short, made-short lists input inputs short p.1)
@@ -195,7 +211,8 @@ made-more (l ∷ lists) input (x ∷ inputs) current list next p last makes =
     (p.0, made-more lists x inputs current list next p.1 last makes)
 
 refused-more :
-    (lists : List (List ℕ)) (input : List ℕ) (inputs : List (List ℕ)) (current list : List ℕ) (why : Refusal) (later : List (List ℕ))
+    (lists : List (List ℕ)) (input : List ℕ) (inputs : List (List ℕ)) (current list : List ℕ) (why : Refusal)
+    (later : List (List ℕ))
     → AreMade input lists inputs → slice_get (input ∷ inputs) (length lists) ≡ Some current → Refuses list current why
     → IsFirstRefused input (lists ++ list ∷ later) (length lists) why
 refused-more [] input inputs current list why later p last refuses =

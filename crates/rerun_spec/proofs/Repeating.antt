@@ -55,20 +55,26 @@ again-reuses before after again =
 left-entries : (h : History) → IsHonest h → marked (Some h) h.setup (one_worker h.setup (Some h)) ≡ all_reused_of h
 left-entries h honest = ap (marked (Some h) h.setup) (unedited-schedule h honest) ∙ unedited-marks h honest
 
-pub again-instructions : (before after : Round) → IsAgain before after → instructions_from (first after.setup) (entries_of after) ≡ 0
+pub again-instructions :
+    (before after : Round) → IsAgain before after
+    → instructions_from (first after.setup) (entries_of after) ≡ 0
 again-instructions before after again =
     carried (λ s p. instructions_from (first s) (marked p s (one_worker s p)) ≡ 0) before after again
-    (ap (instructions_from (first (left_by before).setup)) (left-entries (left_by before) (round-honest before again.may))
+    (ap (instructions_from (first (left_by before).setup))
+    (left-entries (left_by before) (round-honest before again.may))
     ∙ reused-instructions (first (left_by before).setup) (schedule_of (left_by before)))
 
 -- nothing is executed
 pub again-never_runs :
-    (before after : Round) (n t : ℕ) → IsAgain before after → pick_of (after_picks n (opening after.setup after.past)) ≢ pick.Run t
+    (before after : Round) (n t : ℕ) → IsAgain before after
+    → pick_of (after_picks n (opening after.setup after.past)) ≢ pick.Run t
 again-never_runs before after n t again =
     carried (λ s p. pick_of (after_picks n (opening s p)) ≢ pick.Run t) before after again
     (unedited-never_runs (left_by before) n t (round-honest before again.may))
 
-pub again-executed : (before after : Round) → IsAgain before after → executed_in after.setup.limit (opening after.setup after.past) ≡ 0
+pub again-executed :
+    (before after : Round) → IsAgain before after
+    → executed_in after.setup.limit (opening after.setup after.past) ≡ 0
 again-executed before after again =
     carried (λ s p. executed_in s.limit (opening s p) ≡ 0) before after again
     (unedited-executed (left_by before) (round-honest before again.may))
@@ -76,4 +82,5 @@ again-executed before after again =
 -- its machine is that of the round before
 pub again-machine : (before after : Round) → IsAgain before after → machine_of after ≡ machine_of before
 again-machine before after again =
-    ap (λ (s : Setup). scratch s (schedule_in after)) again.setup ∙ ap (scratch before.setup) (again-schedule before after again)
+    ap (λ (s : Setup). scratch s (schedule_in after)) again.setup
+    ∙ ap (scratch before.setup) (again-schedule before after again)

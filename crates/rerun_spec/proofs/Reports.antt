@@ -19,7 +19,8 @@ use Rattle.rerun_spec.proofs.Rounds.{CanBeMade, round-threads, round-entries, ro
 -- with no history nothing is reused
 pub marks-nothing : (m : Machine) (ts : List ℕ) → marked_from None m ts ≡ all_executed ts
 marks-nothing m [] = refl
-marks-nothing m (t ∷ ts) = ap (λ (es : List Entry). record { thread = t; reused = false } ∷ es) (marks-nothing (step m t) ts)
+marks-nothing m (t ∷ ts) =
+    ap (λ (es : List Entry). record { thread = t; reused = false } ∷ es) (marks-nothing (step m t) ts)
 
 -- without lists the first input is all
 only-input : (input : List ℕ) (inputs : List (List ℕ)) → AreInputs input [] inputs → inputs ≡ input ∷ []
@@ -33,15 +34,18 @@ first-report :
     ≡ report 0 setup (all_executed (alone setup)) (shares_of_first workers (length (alone setup))) ∷ []
 unfolding reports_of
 first-report setup workers =
-    ap (λ (ts : List ℕ). report 0 setup (marked None setup ts) (shares_of_first workers (length ts)) ∷ []) (one_worker-nothing setup)
-    ∙ ap (λ (es : List Entry). report 0 setup es (shares_of_first workers (length (alone setup))) ∷ []) (marks-nothing (first setup) (alone setup))
+    ap (λ (ts : List ℕ). report 0 setup (marked None setup ts) (shares_of_first workers (length ts)) ∷ [])
+    (one_worker-nothing setup)
+    ∙ ap (λ (es : List Entry). report 0 setup es (shares_of_first workers (length (alone setup))) ∷ [])
+    (marks-nothing (first setup) (alone setup))
 
 pub only-report :
     (setup : Setup) (inputs : List (List ℕ)) (workers : ℕ)
     → AreInputs setup.input [] inputs
     → reports_of workers setup inputs
     ≡ report 0 setup (all_executed (alone setup)) (shares_of_first workers (length (alone setup))) ∷ []
-only-report setup inputs workers are = ap (reports_of workers setup) (only-input setup.input inputs are) ∙ first-report setup workers
+only-report setup inputs workers are =
+    ap (reports_of workers setup) (only-input setup.input inputs are) ∙ first-report setup workers
 
 and-true : (b : Bool) → (b && true) ≡ b
 and-true true = refl
@@ -66,7 +70,9 @@ reports-from number past s [] workers = refl
 reports-from number past s (input ∷ inputs) workers =
     ap (λ (n : ℕ). suc n) (reports-from (number + 1) (Some (left_by (round_on number past s input))) s inputs workers)
 
-pub reports-count : (s : Setup) (inputs : List (List ℕ)) (workers : ℕ) → length (reports_of workers s inputs) ≡ length inputs
+pub reports-count :
+    (s : Setup) (inputs : List (List ℕ)) (workers : ℕ)
+    → length (reports_of workers s inputs) ≡ length inputs
 unfolding reports_of
 reports-count s inputs workers = reports-from 0 None s inputs workers
 
@@ -85,12 +91,15 @@ shares-sum workers steps = let rest = zeros-sum (workers - 1) (0 + steps) in ome
 -- a round's report and exit, told of the round as it was made
 pub report-made :
     (workers : ℕ) (r : Round)
-    → CanBeMade r → report_of workers r ≡ report r.number r.setup (made r).schedule (shares_of_first workers (length (made r).schedule))
+    → CanBeMade r → report_of workers r
+    ≡ report r.number r.setup (made r).schedule (shares_of_first workers (length (made r).schedule))
 report-made workers r is =
     let long : length (schedule_in r) ≡ length (entries_of r) =
     ap (λ (ts : List ℕ). length ts) (sym (round-threads r)) ∙ length-map (entries_of r) (λ (e : Entry). e.thread) in
     ap (λ (n : ℕ). report r.number r.setup (entries_of r) (shares_of_first workers n)) long
-    ∙ ap (λ (es : List Entry). report r.number r.setup es (shares_of_first workers (length es))) (sym (round-entries r is))
+    ∙ ap (λ (es : List Entry). report r.number r.setup es (shares_of_first workers (length es)))
+    (sym (round-entries r is))
 
 pub exit-made : (r : Round) → CanBeMade r → exits r ≡ is_exit (made r).machine.ending
-exit-made r is = ap (λ (m : Machine). is_exit m.ending) (ap (scratch r.setup) (sym (round-threads r)) ∙ sym (round-machine r is))
+exit-made r is =
+    ap (λ (m : Machine). is_exit m.ending) (ap (scratch r.setup) (sym (round-threads r)) ∙ sym (round-machine r is))

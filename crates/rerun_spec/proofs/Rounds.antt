@@ -55,22 +55,31 @@ left-sound :
 left-sound number past s input is =
     let same = left-setup (round_on number past s input) is in (
       round-honest (round_on number past s input) is,
-      record { elf = ap (λ (t : Setup). t.elf) same; fuel = ap (λ (t : Setup). t.fuel) same; limit = ap (λ (t : Setup). t.limit) same },
+      record {
+        elf = ap (λ (t : Setup). t.elf) same;
+        fuel = ap (λ (t : Setup). t.fuel) same;
+        limit = ap (λ (t : Setup). t.limit) same;
+      },
     )
 
 each-from :
     (number : ℕ) (past : Option History) (s : Setup) (inputs : List (List ℕ))
-    → IsSetup s → IsSound past s → AllByRecursion (λ i. length i ≤ longest_input) inputs → AllByRecursion CanBeMade (rounds_from number past s inputs)
+    → IsSetup s → IsSound past s → AllByRecursion (λ i. length i ≤ longest_input) inputs
+    → AllByRecursion CanBeMade (rounds_from number past s inputs)
 each-from number past s [] valid sound short = tt
 each-from number past s (input ∷ inputs) valid sound short =
     let here : CanBeMade (round_on number past s input) =
-    record { valid = with-short s input valid short.0; sound = sound-any past s input sound } in
-    (here, each-from (number + 1) (Some (left_by (round_on number past s input))) s inputs valid (left-sound number past s input here) short.1)
+    record { valid = with-short s input valid short.0; sound = sound-any past s input sound } in (
+      here,
+      each-from (number + 1) (Some (left_by (round_on number past s input))) s inputs valid
+          (left-sound number past s input here) short.1,
+    )
 
 pub each-round :
     (s : Setup) (lists inputs : List (List ℕ))
     → IsSetup s → AreInputs s.input lists inputs → AllByRecursion CanBeMade (rounds_of s inputs)
-each-round s lists inputs valid are = each-from 0 None s inputs valid tt (inputs-short s.input lists inputs valid.input_size are)
+each-round s lists inputs valid are =
+    each-from 0 None s inputs valid tt (inputs-short s.input lists inputs valid.input_size are)
 
 -- what holds of every round that may be made
 pub each-holds :
@@ -104,12 +113,15 @@ round-records r is = ap (λ (w : RoundState). w.records) (round-made r is) ∙ a
 
 pub left-schedule : (r : Round) → CanBeMade r → schedule_of (left_by r) ≡ schedule_in r
 left-schedule r is =
-    ap (λ (w : RoundState). threads_of_records w.records) (round-made r is) ∙ records-threads (first r.setup) (schedule_in r)
+    ap (λ (w : RoundState). threads_of_records w.records) (round-made r is)
+    ∙ records-threads (first r.setup) (schedule_in r)
 
 pub round-ends : (r : Round) → CanBeMade r → is_some (machine_of r).ending ≡ true
 round-ends r is = one_worker-complete r.setup r.past is.valid
 
-pub round-cost : (r : Round) → CanBeMade r → executed_in r.setup.limit (opening r.setup r.past) ≡ instructions_from (first r.setup) (entries_of r)
+pub round-cost :
+    (r : Round) → CanBeMade r
+    → executed_in r.setup.limit (opening r.setup r.past) ≡ instructions_from (first r.setup) (entries_of r)
 round-cost r is =
     rounds-cost r.setup r.past r.setup.limit is.valid is.sound
     ∙ ap (instructions_from (first r.setup)) (round-entries r is)
@@ -120,14 +132,16 @@ pub numbers-from :
     → map (λ (r : Round). r.number) (rounds_from number past s inputs) ≡ range_with_len number (length inputs)
 numbers-from number past s [] = refl
 numbers-from number past s (input ∷ inputs) =
-    ap (λ (ns : List ℕ). number ∷ ns) (numbers-from (number + 1) (Some (left_by (round_on number past s input))) s inputs)
+    ap (λ (ns : List ℕ). number ∷ ns)
+    (numbers-from (number + 1) (Some (left_by (round_on number past s input))) s inputs)
 
 pub setups-from :
     (number : ℕ) (past : Option History) (s : Setup) (inputs : List (List ℕ))
     → map (λ (r : Round). r.setup) (rounds_from number past s inputs) ≡ map (with_input s) inputs
 setups-from number past s [] = refl
 setups-from number past s (input ∷ inputs) =
-    ap (λ (ss : List Setup). with_input s input ∷ ss) (setups-from (number + 1) (Some (left_by (round_on number past s input))) s inputs)
+    ap (λ (ss : List Setup). with_input s input ∷ ss)
+    (setups-from (number + 1) (Some (left_by (round_on number past s input))) s inputs)
 
 -- the round at a place
 pub at-from :
@@ -142,7 +156,9 @@ at-from number past s (x ∷ inputs) (suc place) input is =
     let rest = at-from (number + 1) (Some (left_by (round_on number past s x))) s inputs place input is in
     (rest.0, rest.1, (let later : rest.0.number ≡ number + 1 + place = rest.2 in omega arith), rest.3)
 
-pub first-past : (s : Setup) (inputs : List (List ℕ)) (r : Round) → slice_get (rounds_of s inputs) 0 ≡ Some r → r.past ≡ None
+pub first-past :
+    (s : Setup) (inputs : List (List ℕ)) (r : Round) → slice_get (rounds_of s inputs) 0 ≡ Some r
+    → r.past ≡ None
 first-past s [] r is = let no : None ≡ Some r = is in cc
 first-past s (input ∷ inputs) r is = ap (λ (q : Round). q.past) (sym (same_Some (round_on 0 None s input) r is))
 
@@ -185,7 +201,9 @@ next-from number past s (x ∷ inputs) (suc place) before after one next =
     next-from (number + 1) (Some (left_by (round_on number past s x))) s inputs place before after one next
 
 -- a fact of each element holds of the one at a place
-pub at-place : {A : Type 0} (P : A → Type 0) (xs : List A) (place : ℕ) (x : A) → AllByRecursion P xs → slice_get xs place ≡ Some x → P x
+pub at-place :
+    {A : Type 0} (P : A → Type 0) (xs : List A) (place : ℕ) (x : A) → AllByRecursion P xs → slice_get xs place ≡ Some x
+    → P x
 at-place P [] place x all is = absurd (let no : None ≡ Some x = is in cc)
 at-place P (y ∷ xs) zero x all is = subst P (same_Some y x is) all.0
 at-place P (y ∷ xs) (suc place) x all is = at-place P xs place x all.1 is

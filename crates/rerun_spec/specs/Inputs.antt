@@ -27,13 +27,16 @@ pub data Refusal : Type 0 where
   BadLine : ℕ → Refusal
   OutOfRange : ℕ → Refusal
 
--- A list is refused where an input is to be edited: by its first bad line, or, where there is none, by the first line that passes its bound.
+-- A list is refused where an input is to be edited: by its first bad line, or, where there is none, by the first line
+-- that passes its bound.
 abbrev pub Refuses : List ℕ → List ℕ → Refusal → Type 0
 Refuses list input (BadLine number) = Says list (Err number)
-Refuses list input (OutOfRange number) = (edits : List LineEdit) × Says list (Ok edits) × (edited edits input ≡ Err number)
+Refuses list input (OutOfRange number) =
+    (edits : List LineEdit) × Says list (Ok edits) × (edited edits input ≡ Err number)
 
 -- The first list that is refused, by its place from 0 on, and why: each list before it makes an input.
 abbrev pub IsFirstRefused : List ℕ → List (List ℕ) → ℕ → Refusal → Type 0
 IsFirstRefused input [] place why = ⊥
 IsFirstRefused input (list ∷ lists) zero why = Refuses list input why
-IsFirstRefused input (list ∷ lists) (suc place) why = (next : List ℕ) × Makes list input next × IsFirstRefused next lists place why
+IsFirstRefused input (list ∷ lists) (suc place) why =
+    (next : List ℕ) × Makes list input next × IsFirstRefused next lists place why

@@ -30,12 +30,13 @@ left_by r = history_of (made r)
 abbrev pub round_on : ℕ → Option History → Setup → List ℕ → Round
 round_on number past setup input = record { number = number; setup = with_input setup input; past = past }
 
--- The rounds of a setup's program on some inputs, numbered from a number on: the first goes by this history, if there is one, and each
--- other by what the round before it leaves.
+-- The rounds of a setup's program on some inputs, numbered from a number on: the first goes by this history, if there
+-- is one, and each other by what the round before it leaves.
 abbrev pub rounds_from : ℕ → Option History → Setup → List (List ℕ) → List Round
 rounds_from number past setup [] = []
 rounds_from number past setup (input ∷ inputs) =
-    round_on number past setup input ∷ rounds_from (number + 1) (Some (left_by (round_on number past setup input))) setup inputs
+    round_on number past setup input
+    ∷ rounds_from (number + 1) (Some (left_by (round_on number past setup input))) setup inputs
 
 -- The rounds of a setup's program on some inputs: from round 0 on, which goes by no history.
 abbrev pub rounds_of : Setup → List (List ℕ) → List Round

@@ -74,7 +74,8 @@ pub fn inputs_go_on()
         → slice_get inputs (length lists) ≡ Some current
         → Makes list current next
         → AreInputs input (lists ++ list ∷ []) (inputs ++ next ∷ []) }
-    ensures refused { (input : List ℕ) (lists inputs : List (List ℕ)) (current list : List ℕ) (why : Refusal) (later : List (List ℕ))
+    ensures refused { (input : List ℕ) (lists inputs : List (List ℕ)) (current list : List ℕ) (why : Refusal)
+        (later : List (List ℕ))
         → AreInputs input lists inputs
         → slice_get inputs (length lists) ≡ Some current
         → Refuses list current why
@@ -90,7 +91,8 @@ pub fn rounds_follow_each_other()
         → map (λ (r : Round). r.setup) (rounds_of setup inputs) ≡ map (with_input setup) inputs }
     ensures at { (setup : Setup) (inputs : List (List ℕ)) (place : ℕ) (input : List ℕ)
         → slice_get inputs place ≡ Some input
-        → (r : Round) × (slice_get (rounds_of setup inputs) place ≡ Some r) × (r.number ≡ place) × (r.setup ≡ with_input setup input) }
+        → (r : Round) × (slice_get (rounds_of setup inputs) place ≡ Some r) × (r.number ≡ place)
+        × (r.setup ≡ with_input setup input) }
     ensures start { (setup : Setup) (lists inputs : List (List ℕ)) (r : Round)
         → AreInputs setup.input lists inputs
         → slice_get (rounds_of setup inputs) 0 ≡ Some r
@@ -123,8 +125,8 @@ pub fn each_round_may_be_made()
 
 /// Each round, as one worker makes it, is what its report tells: its entries have exact marks, and their
 /// threads are the schedule, which is permitted and complete; its machine is the one from scratch under
-/// it, and has an end; its records are the machine's, entry by entry; and what was executed is what the report says. So its report, and whether it ends
-/// by exit, can be told of the round as it was made.
+/// it, and has an end; its records are the machine's, entry by entry; and what was executed is what the
+/// report says. So its report, and whether it ends by exit, can be told of the round as it was made.
 pub fn each_round_is_from_scratch()
     ensures threads { (r : Round) → threads_of (entries_of r) ≡ schedule_in r }
     ensures permitted { (setup : Setup) (lists inputs : List (List ℕ))
@@ -142,7 +144,8 @@ pub fn each_round_is_from_scratch()
     ensures marks { (setup : Setup) (lists inputs : List (List ℕ))
         → IsSetup setup
         → AreInputs setup.input lists inputs
-        → All (λ (r : Round). entries_of r ≡ marked r.past r.setup (threads_of (entries_of r))) (rounds_of setup inputs) }
+        → All (λ (r : Round). entries_of r ≡ marked r.past r.setup (threads_of (entries_of r)))
+        (rounds_of setup inputs) }
     ensures machine { (setup : Setup) (lists inputs : List (List ℕ))
         → IsSetup setup
         → AreInputs setup.input lists inputs
@@ -158,11 +161,16 @@ pub fn each_round_is_from_scratch()
     ensures instructions { (setup : Setup) (lists inputs : List (List ℕ))
         → IsSetup setup
         → AreInputs setup.input lists inputs
-        → All (λ (r : Round). executed_in r.setup.limit (opening r.setup r.past) ≡ instructions_from (first r.setup) (entries_of r)) (rounds_of setup inputs) }
+        → All (λ (r : Round).
+        executed_in r.setup.limit (opening r.setup r.past) ≡ instructions_from (first r.setup) (entries_of r))
+        (rounds_of setup inputs) }
     ensures report { (setup : Setup) (lists inputs : List (List ℕ)) (workers : ℕ)
         → IsSetup setup
         → AreInputs setup.input lists inputs
-        → All (λ r. report_of workers r ≡ report r.number r.setup (made r).schedule (shares_of_first workers (length (made r).schedule))) (rounds_of setup inputs) }
+        → All (λ r.
+        report_of workers r
+        ≡ report r.number r.setup (made r).schedule (shares_of_first workers (length (made r).schedule)))
+        (rounds_of setup inputs) }
     ensures exit { (setup : Setup) (lists inputs : List (List ℕ))
         → IsSetup setup
         → AreInputs setup.input lists inputs

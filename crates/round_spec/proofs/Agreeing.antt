@@ -27,7 +27,8 @@ filter-both p q (x ∷ xs) = both (q x) (filter-both p q xs)
   where
     both :
         (b : Bool) → filter p (filter q xs) ≡ filter (λ x. q x && p x) xs
-        → filter p (cond b (x ∷ filter q xs) (filter q xs)) ≡ cond (b && p x) (x ∷ filter (λ x. q x && p x) xs) (filter (λ x. q x && p x) xs)
+        → filter p (cond b (x ∷ filter q xs) (filter q xs))
+        ≡ cond (b && p x) (x ∷ filter (λ x. q x && p x) xs) (filter (λ x. q x && p x) xs)
     both true rest = ap (λ ys. cond (p x) (x ∷ ys) ys) rest
     both false rest = rest
 
@@ -57,7 +58,8 @@ numbers-range f k (h ∷ hs) at =
     let ts : List ℕ = filter (λ t. is_ready (f t).status) (range_with_len (k + 1) (length hs)) in
     ap (λ b. map (λ t. (f t).number) (cond b (k ∷ ts) ts)) (ap (λ (x : Hart). is_ready x.status) here)
     ∙ more (is_ready h.status) ts (filter (λ (x : Hart). is_ready x.status) hs) here
-    (numbers-range f (k + 1) hs (λ i below. let next : k + 1 + i ≡ k + suc i = omega arith in ap f next ∙ at (suc i) (omega arith)))
+    (numbers-range f (k + 1) hs
+    (λ i below. let next : k + 1 + i ≡ k + suc i = omega arith in ap f next ∙ at (suc i) (omega arith)))
   where
     more :
         (b : Bool) (ts : List ℕ) (rs : List Hart)
@@ -80,13 +82,17 @@ first-range f test k (h ∷ hs) at =
     let ts : List ℕ = filter (λ t. test (f t)) (range_with_len (k + 1) (length hs)) in
     ap (λ b. first_of (cond b (k ∷ ts) ts)) (ap test here)
     ∙ more (test h) ts (position_or_len test hs) (length hs)
-    (first-range f test (k + 1) hs (λ i below. let next : k + 1 + i ≡ k + suc i = omega arith in ap f next ∙ at (suc i) (omega arith)))
+    (first-range f test (k + 1) hs
+    (λ i below. let next : k + 1 + i ≡ k + suc i = omega arith in ap f next ∙ at (suc i) (omega arith)))
   where
     more :
         (b : Bool) (ts : List ℕ) (p n : ℕ)
         → first_of ts ≡ cond (ltb p n) (Some (k + 1 + p)) None
-        → first_of (cond b (k ∷ ts) ts) ≡ cond (ltb (cond (not b) (1 + p) 0) (suc n)) (Some (k + cond (not b) (1 + p) 0)) None
-    more true ts p n rest = let none : k + 0 ≡ k = omega arith in let first : ltb 0 (suc n) ≡ true = grind (arith, nat_tests) in rw (none, first) refl
+        → first_of (cond b (k ∷ ts) ts)
+        ≡ cond (ltb (cond (not b) (1 + p) 0) (suc n)) (Some (k + cond (not b) (1 + p) 0)) None
+    more true ts p n rest =
+        let none : k + 0 ≡ k = omega arith in
+        let first : ltb 0 (suc n) ≡ true = grind (arith, nat_tests) in rw (none, first) refl
     more false ts p n rest =
         let sum : k + 1 + p ≡ k + (1 + p) = omega arith in
         let less : ltb (1 + p) (suc n) ≡ ltb p n = grind (arith, nat_tests) in
@@ -96,27 +102,37 @@ zero-add : (n : ℕ) → 0 + n ≡ n
 zero-add n = omega arith
 
 -- the threads that are ready, nobody being out
-free_threads-nobody_out : (m : Machine) → free_threads m nobody_out ≡ filter (λ t. is_ready (hart_of m t).status) (range_with_len 0 (length m.harts))
+free_threads-nobody_out :
+    (m : Machine)
+    → free_threads m nobody_out ≡ filter (λ t. is_ready (hart_of m t).status) (range_with_len 0 (length m.harts))
 unfolding free_threads
 free_threads-nobody_out m =
     filter-same (is_free_in m nobody_out) (λ t. is_ready (hart_of m t).status) (range_with_len 0 (length m.harts))
-    (λ t. ap (λ b. is_ready (hart_of m t).status && not b) (nobody_out-none t) ∙ and-true (is_ready (hart_of m t).status))
+    (λ t. ap (λ b. is_ready (hart_of m t).status && not b) (nobody_out-none t)
+    ∙ and-true (is_ready (hart_of m t).status))
   where
     and-true : (b : Bool) → (b && true) ≡ b
     and-true true = refl
     and-true false = refl
 
 -- the first of the ready threads that have made the fewest steps
-fewest : (m : Machine) → first_of (least_by (λ t. (hart_of m t).number) (filter (λ t. is_ready (hart_of m t).status) (range_with_len 0 (length m.harts)))) ≡ choice m
+fewest :
+    (m : Machine)
+    → first_of (least_by (λ t. (hart_of m t).number)
+    (filter (λ t. is_ready (hart_of m t).status) (range_with_len 0 (length m.harts)))) ≡ choice m
 unfolding least_by choice
 fewest m =
     let ready : List ℕ = filter (λ t. is_ready (hart_of m t).status) (range_with_len 0 (length m.harts)) in
-    let at : (i : ℕ) → i < length m.harts → hart_of m (0 + i) ≡ hart_in m.harts i = λ i below. ap (hart_of m) (zero-add i) in
-    ap (λ ns. first_of (filter (λ t. eqb (hart_of m t).number (least ns)) ready)) (numbers-range (hart_of m) 0 m.harts at)
+    let at : (i : ℕ) → i < length m.harts → hart_of m (0 + i) ≡ hart_in m.harts i =
+    λ i below. ap (hart_of m) (zero-add i) in
+    ap (λ ns. first_of (filter (λ t. eqb (hart_of m t).number (least ns)) ready))
+    (numbers-range (hart_of m) 0 m.harts at)
     ∙ ap first_of
-    (filter-both (λ t. eqb (hart_of m t).number (least (ready_numbers m.harts))) (λ t. is_ready (hart_of m t).status) (range_with_len 0 (length m.harts)))
+    (filter-both (λ t. eqb (hart_of m t).number (least (ready_numbers m.harts))) (λ t. is_ready (hart_of m t).status)
+    (range_with_len 0 (length m.harts)))
     ∙ first-range (hart_of m) (is_ready_at (least (ready_numbers m.harts))) 0 m.harts at
-    ∙ ap (λ i. cond (ltb (position_or_len (is_ready_at (least (ready_numbers m.harts))) m.harts) (length m.harts)) (Some i) None)
+    ∙ ap (λ i. cond (ltb (position_or_len (is_ready_at (least (ready_numbers m.harts))) m.harts) (length m.harts))
+    (Some i) None)
     (zero-add (position_or_len (is_ready_at (least (ready_numbers m.harts))) m.harts))
 
 -- with nothing to go by all are due, and none has a place
@@ -124,13 +140,17 @@ pub choice_by-nothing : (m : Machine) → choice_by None m nobody_out ≡ choice
 unfolding choice_by best is_due
 choice_by-nothing m =
     let free : List ℕ = free_threads m nobody_out in
-    ap (λ due. first_of (least_by (λ t. (hart_of m t).number) (least_by (λ t. 0) (eligible due free (is_any_out nobody_out))))) (filter-all free)
-    ∙ ap (λ ts. first_of (least_by (λ t. (hart_of m t).number) (least_by (λ t. 0) ts))) (eligible-self free (is_any_out nobody_out))
+    ap (λ due. first_of (least_by (λ t. (hart_of m t).number)
+    (least_by (λ t. 0) (eligible due free (is_any_out nobody_out))))) (filter-all free)
+    ∙ ap (λ ts. first_of (least_by (λ t. (hart_of m t).number) (least_by (λ t. 0) ts)))
+    (eligible-self free (is_any_out nobody_out))
     ∙ ap (λ ts. first_of (least_by (λ t. (hart_of m t).number) ts)) (least_by-zeros free)
     ∙ ap (λ ts. first_of (least_by (λ t. (hart_of m t).number) ts)) (free_threads-nobody_out m)
     ∙ fewest m
 
-same-rest : (e : Option End) (c : Option ℕ) (f g : ℕ → List ℕ) → ((t : ℕ) → f t ≡ g t) → chosen_first e c f ≡ chosen_first e c g
+same-rest :
+    (e : Option End) (c : Option ℕ) (f g : ℕ → List ℕ) → ((t : ℕ) → f t ≡ g t)
+    → chosen_first e c f ≡ chosen_first e c g
 same-rest (Some e) c f g same = refl
 same-rest None None f g same = refl
 same-rest None (Some t) f g same = ap (λ ts. t ∷ ts) (same t)
@@ -139,7 +159,8 @@ pub guided_from-nothing : (n : ℕ) (m : Machine) → guided_from None n m ≡ a
 guided_from-nothing zero m = refl
 guided_from-nothing (suc n) m =
     ap (λ c. chosen_first m.ending c (λ t. guided_from None n (step m t))) (choice_by-nothing m)
-    ∙ same-rest m.ending (choice m) (λ t. guided_from None n (step m t)) (λ t. alone_from n (step m t)) (λ t. guided_from-nothing n (step m t))
+    ∙ same-rest m.ending (choice m) (λ t. guided_from None n (step m t)) (λ t. alone_from n (step m t))
+    (λ t. guided_from-nothing n (step m t))
 
 pub one_worker-nothing : (s : Setup) → one_worker s None ≡ alone s
 one_worker-nothing s = guided_from-nothing s.limit (first s)

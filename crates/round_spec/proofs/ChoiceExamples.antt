@@ -1,4 +1,5 @@
--- Worked examples of what is due, of the choice and of picking, each computed by the checker. The answers were worked out by hand.
+-- Worked examples of what is due, of the choice and of picking, each computed by the checker. The answers were worked
+-- out by hand.
 use Rattle.std.proofs.Common.{◌≡◌, ℕ, Bool, true, false, List, [], ◌∷◌, map, set, Option, Some, None, refl}
 use Rattle.isa_spec.specs.Fields.{i_immediate, s_immediate, u_immediate}
 use Rattle.isa_spec.specs.Registers.{Registers, with_register}
@@ -42,7 +43,12 @@ of_harts harts = record (begins 9 9 late) { harts = harts }
 -- a record with no read pages, which starts at a pc: at 100 it fits
 abbrev starting_at : ℕ → ℕ → ℕ → Record
 starting_at pc t number =
-    record { thread = t; number = number; start = at_pc pc; kept = record { reads = []; delta = []; finish = at_pc pc; end = Fuel; count = 0 } }
+    record {
+      thread = t;
+      number = number;
+      start = at_pc pc;
+      kept = record { reads = []; delta = []; finish = at_pc pc; end = Fuel; count = 0 };
+    }
 
 abbrev bare : ℕ → ℕ → Record
 bare t number = starting_at 100 t number
@@ -113,7 +119,8 @@ unfolding nobody_out is_due free_threads least_by best choice_by pick_of is_pick
 choice-placed = refl
 
 -- Who has no record is due, and is chosen before who has to wait.
-pub choice-unplaced : choice_by (past_of (bare 3 0 ∷ bare 0 1 ∷ [])) (of_harts (hart 1 Ready ∷ hart 5 Ready ∷ [])) nobody_out ≡ Some 1
+pub choice-unplaced :
+    choice_by (past_of (bare 3 0 ∷ bare 0 1 ∷ [])) (of_harts (hart 1 Ready ∷ hart 5 Ready ∷ [])) nobody_out ≡ Some 1
 unfolding nobody_out is_due free_threads least_by best choice_by pick_of is_picked_on fits fits_at
 choice-unplaced = refl
 
@@ -163,7 +170,8 @@ unfolding nobody_out is_due free_threads least_by best choice_by pick_of is_pick
 pick-ended = refl
 
 -- One worker that goes by the order 0, 0, 1, 0 makes these steps, and exits.
-pub guided-late : guided_from (past_of (bare 0 0 ∷ bare 0 1 ∷ bare 1 0 ∷ bare 0 2 ∷ [])) 9 (begins 9 9 late) ≡ 0 ∷ 0 ∷ 1 ∷ 0 ∷ []
+pub guided-late :
+    guided_from (past_of (bare 0 0 ∷ bare 0 1 ∷ bare 1 0 ∷ bare 0 2 ∷ [])) 9 (begins 9 9 late) ≡ 0 ∷ 0 ∷ 1 ∷ 0 ∷ []
 unfolding nobody_out is_due free_threads least_by best choice_by pick_of is_picked_on fits fits_at step finished thunk turn fetched number_at number_in permission_at decoded reading_of u_immediate i_immediate s_immediate immediate_result shift_result register_result with_register is_readable put_addresses loaded may_store bytes_stored with_byte first_registers all_unlocked
 guided-late = refl
 
@@ -208,6 +216,8 @@ unfolding nobody_out is_due free_threads least_by best choice_by pick_of is_pick
 picked-unplaced_unfit = refl
 
 -- One worker whose records fit no more, but for their order, executes every step.
-pub lone-late : seen (after_picks 9 (starts (begins 9 9 late) (past_of (bare 0 0 ∷ bare 0 1 ∷ bare 1 0 ∷ bare 0 2 ∷ [])))) ≡ (executes 0 ∷ executes 0 ∷ executes 1 ∷ executes 0 ∷ [], [], 0, false)
+pub lone-late :
+    seen (after_picks 9 (starts (begins 9 9 late) (past_of (bare 0 0 ∷ bare 0 1 ∷ bare 1 0 ∷ bare 0 2 ∷ []))))
+    ≡ (executes 0 ∷ executes 0 ∷ executes 1 ∷ executes 0 ∷ [], [], 0, false)
 unfolding nobody_out is_due free_threads least_by best choice_by pick_of is_picked_on fits fits_at step finished thunk turn fetched number_at number_in permission_at decoded reading_of u_immediate i_immediate s_immediate immediate_result shift_result register_result with_register is_readable put_addresses loaded may_store bytes_stored with_byte first_registers all_unlocked happens
 lone-late = refl

@@ -19,7 +19,9 @@ pub happens-take_not : (w : RoundState) (t : ℕ) → can_take w t ≡ false →
 unfolding happens
 happens-take_not w t is = ap (λ b. cond b (taken w t) w) is
 
-pub happens-reuse : (w : RoundState) (t : ℕ) (r : Record) → can_reuse w t ≡ true → record_for w.past w.machine t ≡ Some r → happens w (Reuse t) ≡ reused_by w t (Some r)
+pub happens-reuse :
+    (w : RoundState) (t : ℕ) (r : Record) → can_reuse w t ≡ true → record_for w.past w.machine t ≡ Some r
+    → happens w (Reuse t) ≡ reused_by w t (Some r)
 unfolding happens
 happens-reuse w t r is there =
     ap (λ b. cond b (reused_by w t (record_for w.past w.machine t)) w) is ∙ ap (reused_by w t) there
@@ -28,15 +30,21 @@ pub happens-reuse_not : (w : RoundState) (t : ℕ) → can_reuse w t ≡ false �
 unfolding happens
 happens-reuse_not w t is = ap (λ b. cond b (reused_by w t (record_for w.past w.machine t)) w) is
 
-pub happens-commit : (w : RoundState) (t : ℕ) → is_out w t ≡ true → is_over w ≡ false → happens w (Commit t) ≡ committed w t
+pub happens-commit :
+    (w : RoundState) (t : ℕ) → is_out w t ≡ true → is_over w ≡ false
+    → happens w (Commit t) ≡ committed w t
 unfolding happens
 happens-commit w t out over =
-    ap (λ b. cond b (cond (is_over w) (given_back w t) (committed w t)) w) out ∙ ap (λ b. cond b (given_back w t) (committed w t)) over
+    ap (λ b. cond b (cond (is_over w) (given_back w t) (committed w t)) w) out
+    ∙ ap (λ b. cond b (given_back w t) (committed w t)) over
 
-pub happens-commit_over : (w : RoundState) (t : ℕ) → is_out w t ≡ true → is_over w ≡ true → happens w (Commit t) ≡ given_back w t
+pub happens-commit_over :
+    (w : RoundState) (t : ℕ) → is_out w t ≡ true → is_over w ≡ true
+    → happens w (Commit t) ≡ given_back w t
 unfolding happens
 happens-commit_over w t out over =
-    ap (λ b. cond b (cond (is_over w) (given_back w t) (committed w t)) w) out ∙ ap (λ b. cond b (given_back w t) (committed w t)) over
+    ap (λ b. cond b (cond (is_over w) (given_back w t) (committed w t)) w) out
+    ∙ ap (λ b. cond b (given_back w t) (committed w t)) over
 
 pub happens-commit_not : (w : RoundState) (t : ℕ) → is_out w t ≡ false → happens w (Commit t) ≡ w
 unfolding happens
@@ -57,8 +65,20 @@ happens-stop w = refl
 same-commit :
     (w : RoundState) (t : ℕ) (m n : Machine) (r s : Record)
     → m ≡ n → r ≡ s
-    → record w { machine = m; schedule = w.schedule ++ record { thread = t; reused = false } ∷ []; records = w.records ++ r ∷ []; out = set w.out t false }
-    ≡ record w { machine = n; schedule = w.schedule ++ record { thread = t; reused = false } ∷ []; records = w.records ++ s ∷ []; out = set w.out t false }
+    → record w {
+      machine = m;
+      schedule = w.schedule ++ record { thread = t; reused = false } ∷ [];
+      records = w.records
+          ++ r ∷ [];
+      out = set w.out t false;
+    }
+    ≡ record w {
+      machine = n;
+      schedule = w.schedule ++ record { thread = t; reused = false } ∷ [];
+      records = w.records
+          ++ s ∷ [];
+      out = set w.out t false;
+    }
 same-commit w t m n r s machine is = rw (machine, is) refl
 
 -- to commit is to lay a true record that fits

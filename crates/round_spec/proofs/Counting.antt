@@ -7,6 +7,7 @@ use Rattle.machine_spec.specs.Schedule.{record_of}
 use Rattle.machine_spec.specs.Setup.{Setup, IsSetup}
 use Rattle.machine_spec.proofs.Alone.{step-steps}
 use Rattle.history_spec.specs.History.{History, found, threads_of_records}
+use Rattle.history_spec.proofs.Scratch.{and-left}
 use Rattle.history_spec.proofs.Truth.{past-of}
 use Rattle.history_spec.proofs.Numbers.{one_for, step-number, lay-number, lay-steps, count-more, numbered-more, first-number, first-steps}
 use Rattle.report_spec.specs.declared.Entry.{Entry}
@@ -19,7 +20,9 @@ use Rattle.round_spec.specs.Keeping.{IsHeld, IsInOrder, IsReusing, IsCounted}
 use Rattle.round_spec.proofs.Fits.{threads-more}
 use Rattle.round_spec.proofs.Happening.{CanBegin, can_begin-parts, opening-kept, happens-kept}
 
-records-more : (rs : List Record) (r : Record) → threads_of_records (rs ++ r ∷ []) ≡ threads_of_records rs ++ r.thread ∷ []
+records-more :
+    (rs : List Record) (r : Record)
+    → threads_of_records (rs ++ r ∷ []) ≡ threads_of_records rs ++ r.thread ∷ []
 records-more [] r = refl
 records-more (x ∷ rs) r = ap (λ (ts : List ℕ). x.thread ∷ ts) (records-more rs r)
 
@@ -29,7 +32,8 @@ reusing-more :
     → (e.reused ≡ true → found past e.thread (count_by (λ (t : ℕ). eqb t e.thread) (earlier ++ threads_of es)) ≡ Some r)
     → IsReusing past earlier (es ++ e ∷ []) (rs ++ r ∷ [])
 reusing-more past earlier [] [] e r all last = (
-  λ reused. ap (λ (ts : List ℕ). found past e.thread (count_by (λ (t : ℕ). eqb t e.thread) ts)) (sym (append-nil earlier)) ∙ last reused,
+  λ reused. ap (λ (ts : List ℕ). found past e.thread (count_by (λ (t : ℕ). eqb t e.thread) ts))
+      (sym (append-nil earlier)) ∙ last reused,
   tt,
 )
 reusing-more past earlier [] (x ∷ rs) e r all last = absurd all
@@ -38,7 +42,8 @@ reusing-more past earlier (x ∷ es) (y ∷ rs) e r all last = (
   all.0,
   reusing-more past (earlier ++ x.thread ∷ []) es rs e r all.1
       (λ reused.
-      ap (λ (ts : List ℕ). found past e.thread (count_by (λ (t : ℕ). eqb t e.thread) ts)) (append_assoc earlier (x.thread ∷ []) (threads_of es))
+      ap (λ (ts : List ℕ). found past e.thread (count_by (λ (t : ℕ). eqb t e.thread) ts))
+      (append_assoc earlier (x.thread ∷ []) (threads_of es))
       ∙ last reused),
 )
 
@@ -52,7 +57,13 @@ counted-more :
     → r.number ≡ (hart_of w.machine t).number
     → (reused ≡ true → found w.past t (hart_of w.machine t).number ≡ Some r)
     → IsCounted
-    (record w { machine = m; schedule = w.schedule ++ record { thread = t; reused = reused } ∷ []; records = w.records ++ r ∷ []; out = out })
+    (record w {
+      machine = m;
+      schedule = w.schedule ++ record { thread = t; reused = reused } ∷ [];
+      records = w.records
+          ++ r ∷ [];
+      out = out;
+    })
 counted-more w t reused m r out counted steps numbers thread number there =
     let e : Entry = record { thread = t; reused = reused } in
     let threads : threads_of (w.schedule ++ e ∷ []) ≡ threads_of w.schedule ++ t ∷ [] = threads-more w.schedule e in
@@ -79,7 +90,10 @@ counted-more w t reused m r out counted steps numbers thread number there =
           (λ is. ap (found w.past t) (sym (counted.numbers t)) ∙ there is);
     }
 
-same-counted : (w v : RoundState) → v.machine ≡ w.machine → v.schedule ≡ w.schedule → v.records ≡ w.records → v.past ≡ w.past → IsCounted w → IsCounted v
+same-counted :
+    (w v : RoundState) → v.machine ≡ w.machine → v.schedule ≡ w.schedule → v.records ≡ w.records → v.past ≡ w.past
+    → IsCounted w
+    → IsCounted v
 same-counted w v machine schedule records past counted =
     record {
       steps = rw (machine, schedule) counted.steps;
@@ -99,16 +113,14 @@ reuse-some :
     → IsCounted w → IsCounted (reused_by w t o)
 reuse-some w t None there ready counted = counted
 reuse-some w t (Some r) there ready counted =
-    let of : (r.thread ≡ t) × (r.number ≡ (hart_of w.machine t).number) = past-of w.past t (hart_of w.machine t).number r there in
-    let ready_r : is_ready (hart_of w.machine r.thread).status ≡ true = ap (λ u. is_ready (hart_of w.machine u).status) of.0 ∙ ready in
+    let of : (r.thread ≡ t) × (r.number ≡ (hart_of w.machine t).number) =
+    past-of w.past t (hart_of w.machine t).number r there in
+    let ready_r : is_ready (hart_of w.machine r.thread).status ≡ true =
+    ap (λ u. is_ready (hart_of w.machine u).status) of.0 ∙ ready in
     counted-more w t true (lay w.machine r) r w.out counted (lay-steps w.machine r)
     (λ u. lay-number w.machine r u ready_r ∙ ap (λ v. (hart_of w.machine u).number + one_for u v) of.0)
     of.0 of.1
     (λ is. there)
-
-and-left : (a b : Bool) → (a && b) ≡ true → a ≡ true
-and-left true b h = refl
-and-left false b h = h
 
 reuse-counted :
     (w : RoundState) (t : ℕ) (b : Bool)
@@ -128,7 +140,8 @@ commit-counted w t false over is kept counted = counted
 commit-counted w t true true is kept counted = given_back-counted w t counted
 commit-counted w t true false is kept counted =
     let held : IsHeld w t = kept.held t is in
-    counted-more w t false (step w.machine t) (record_of w.machine t) (set w.out t false) counted (step-steps w.machine t)
+    counted-more w t false (step w.machine t) (record_of w.machine t) (set w.out t false) counted
+    (step-steps w.machine t)
     (λ u. step-number w.machine t u held.ready) refl refl (λ no. cc)
 
 give_back-counted : (w : RoundState) (t : ℕ) (out : Bool) → IsCounted w → IsCounted (cond out (given_back w t) w)
@@ -146,9 +159,12 @@ happens-counted w Stop kept counted = same-counted w (happens w Stop) refl refl 
 
 all_happen-counted : (w : RoundState) (es : List Event) → IsInOrder w → IsCounted w → IsCounted (all_happen w es)
 all_happen-counted w [] kept counted = counted
-all_happen-counted w (e ∷ es) kept counted = all_happen-counted (happens w e) es (happens-kept w e kept) (happens-counted w e kept counted)
+all_happen-counted w (e ∷ es) kept counted =
+    all_happen-counted (happens w e) es (happens-kept w e kept) (happens-counted w e kept counted)
 
-pub round-counted : (setup : Setup) (past : Option History) (es : List Event) → IsSetup setup → IsCounted (round_after setup past es)
+pub round-counted :
+    (setup : Setup) (past : Option History) (es : List Event) → IsSetup setup
+    → IsCounted (round_after setup past es)
 round-counted setup past es valid =
     all_happen-counted (opening setup past) es (opening-kept setup past valid)
     (record { steps = first-steps setup; threads = refl; numbers = first-number setup; numbered = refl; reuses = tt })

@@ -21,12 +21,15 @@ kept-count : (f : Frame) (view : Memory) (r : Registers) → (kept_thunk f view 
 unfolding kept_thunk
 kept-count f view r = refl
 
-executed-records : (m : Machine) (es : List Entry) → executed_instructions es (records_from m (threads_of es)) ≡ instructions_from m es
+executed-records :
+    (m : Machine) (es : List Entry)
+    → executed_instructions es (records_from m (threads_of es)) ≡ instructions_from m es
 executed-records m [] = refl
 executed-records m (e ∷ es) =
     ap (λ n. cond e.reused 0 n + executed_instructions es (records_from (step m e.thread) (threads_of es)))
     (kept-count m.frame (hart_of m e.thread).view (hart_of m e.thread).regs)
-    ∙ ap (λ n. cond e.reused 0 (thunk m.frame (hart_of m e.thread).view (hart_of m e.thread).regs).count + n) (executed-records (step m e.thread) es)
+    ∙ ap (λ n. cond e.reused 0 (thunk m.frame (hart_of m e.thread).view (hart_of m e.thread).regs).count + n)
+    (executed-records (step m e.thread) es)
 
 -- the sum that a round keeps is the one that its report tells
 pub round-executed :

@@ -19,7 +19,9 @@ is_fitting-hart past n m t number (Some r) there same =
     fits-hart m n r (ap (hart_of n) is ∙ same ∙ ap (hart_of m) (sym is))
 
 -- whether the record of a thread's next step fits depends on the thread's hart alone
-pub fits_next-hart : (past : Option History) (n m : Machine) (t : ℕ) → hart_of n t ≡ hart_of m t → fits_next past n t ≡ fits_next past m t
+pub fits_next-hart :
+    (past : Option History) (n m : Machine) (t : ℕ) → hart_of n t ≡ hart_of m t
+    → fits_next past n t ≡ fits_next past m t
 fits_next-hart past n m t same =
     ap (λ (h : Hart). is_fitting n (found past t h.number)) same
     ∙ is_fitting-hart past n m t (hart_of m t).number (found past t (hart_of m t).number) refl same
@@ -30,13 +32,16 @@ threads-more (x ∷ es) e = ap (λ (ts : List ℕ). x.thread ∷ ts) (threads-mo
 
 pub marked-more :
     (past : Option History) (m : Machine) (ts : List ℕ) (t : ℕ)
-    → marked_from past m (ts ++ t ∷ []) ≡ marked_from past m ts ++ record { thread = t; reused = fits_next past (scratch_from m ts) t } ∷ []
+    → marked_from past m (ts ++ t ∷ [])
+    ≡ marked_from past m ts ++ record { thread = t; reused = fits_next past (scratch_from m ts) t } ∷ []
 marked-more past m [] t = refl
 marked-more past m (u ∷ ts) t =
     ap (λ (es : List Entry). record { thread = u; reused = fits_next past m u } ∷ es) (marked-more past (step m u) ts t)
 
 pub sourced-more :
     (past : Option History) (m : Machine) (es : List Entry) (e : Entry)
-    → sourced_from past m (es ++ e ∷ []) ≡ sourced_from past m es ++ source_of past (scratch_from m (threads_of es)) e ∷ []
+    → sourced_from past m (es ++ e ∷ [])
+    ≡ sourced_from past m es ++ source_of past (scratch_from m (threads_of es)) e ∷ []
 sourced-more past m [] e = refl
-sourced-more past m (x ∷ es) e = ap (λ (rs : List Record). source_of past m x ∷ rs) (sourced-more past (step m x.thread) es e)
+sourced-more past m (x ∷ es) e =
+    ap (λ (rs : List Record). source_of past m x ∷ rs) (sourced-more past (step m x.thread) es e)

@@ -103,7 +103,13 @@ from_scratch-more :
     → r ≡ source_of w.past w.machine (record { thread = t; reused = reused })
     → fits_next w.past w.machine t ≡ reused
     → IsFromScratch
-    (record w { machine = m; schedule = w.schedule ++ record { thread = t; reused = reused } ∷ []; records = w.records ++ r ∷ []; out = out })
+    (record w {
+      machine = m;
+      schedule = w.schedule ++ record { thread = t; reused = reused } ∷ [];
+      records = w.records
+          ++ r ∷ [];
+      out = out;
+    })
 from_scratch-more w t reused m r out s can is_step is_record is_source is_mark =
     let ts : List ℕ = threads_of w.schedule in
     let start : Machine = first w.setup in
@@ -120,12 +126,14 @@ from_scratch-more w t reused m r out s can is_step is_record is_source is_mark =
           ∙ permitted-more start ts t s.permitted (ap (λ (x : Machine). can_step x t) (sym s.machine) ∙ can);
       records =
           ap (λ (rs : List Record). rs ++ r ∷ []) s.records
-          ∙ ap (λ (x : Record). records_from start ts ++ x ∷ []) (is_record ∙ ap (λ (x : Machine). record_of x t) s.machine)
+          ∙ ap (λ (x : Record). records_from start ts ++ x ∷ [])
+          (is_record ∙ ap (λ (x : Machine). record_of x t) s.machine)
           ∙ sym (records-more start ts t)
           ∙ ap (records_from start) (sym threads);
       sources =
           ap (λ (rs : List Record). rs ++ r ∷ []) s.sources
-          ∙ ap (λ (x : Record). sourced_from w.past start w.schedule ++ x ∷ []) (is_source ∙ ap (λ (x : Machine). source_of w.past x e) s.machine)
+          ∙ ap (λ (x : Record). sourced_from w.past start w.schedule ++ x ∷ [])
+          (is_source ∙ ap (λ (x : Machine). source_of w.past x e) s.machine)
           ∙ sym (sourced-more w.past start w.schedule e);
       marks =
           ap (λ (es : List Entry). es ++ e ∷ []) s.marks
@@ -173,7 +181,13 @@ take-kept w t true is kept =
           ];
       scratch = λ sound.
           let s : IsFromScratch w = kept.scratch sound in
-          record { machine = s.machine; permitted = s.permitted; records = s.records; sources = s.sources; marks = s.marks };
+          record {
+            machine = s.machine;
+            permitted = s.permitted;
+            records = s.records;
+            sources = s.sources;
+            marks = s.marks;
+          };
     }
 
 reuse-some :
@@ -183,7 +197,8 @@ reuse-some :
     → IsInOrder w → IsInOrder (reused_by w t o)
 reuse-some w t None there can fit kept = kept
 reuse-some w t (Some r) there can fit kept =
-    let of : (r.thread ≡ t) × (r.number ≡ (hart_of w.machine t).number) = past-of w.past t (hart_of w.machine t).number r there in
+    let of : (r.thread ≡ t) × (r.number ≡ (hart_of w.machine t).number) =
+    past-of w.past t (hart_of w.machine t).number r there in
     let can_t : can_step w.machine t ≡ true = rw (can.none, can.ready) refl in
     let can_r : can_step w.machine r.thread ≡ true = ap (can_step w.machine) of.0 ∙ can_t in
     record {
@@ -193,7 +208,8 @@ reuse-some w t (Some r) there can fit kept =
           let other : u ≢ r.thread =
           λ same. let inside : is_out w u ≡ false = ap (is_out w) (same ∙ of.0) ∙ can.inside in cc in
           let before : IsHeld w u = kept.held u out in
-          held-same w (reused_by w t (Some r)) u refl (lay-stays w.machine r u kept.whole can_r other before.ready) before;
+          held-same w (reused_by w t (Some r)) u refl (lay-stays w.machine r u kept.whole can_r other before.ready)
+          before;
       scratch = λ sound.
           let s : IsFromScratch w = kept.scratch sound in
           let frame : w.machine.frame ≡ (first w.setup).frame =
@@ -225,10 +241,18 @@ given_back-kept w t kept =
           record { ready = before.ready; unfit = before.unfit };
       scratch = λ sound.
           let s : IsFromScratch w = kept.scratch sound in
-          record { machine = s.machine; permitted = s.permitted; records = s.records; sources = s.sources; marks = s.marks };
+          record {
+            machine = s.machine;
+            permitted = s.permitted;
+            records = s.records;
+            sources = s.sources;
+            marks = s.marks;
+          };
     }
 
-committed-kept : (w : RoundState) (t : ℕ) → is_out w t ≡ true → is_over w ≡ false → IsInOrder w → IsInOrder (committed w t)
+committed-kept :
+    (w : RoundState) (t : ℕ) → is_out w t ≡ true → is_over w ≡ false → IsInOrder w
+    → IsInOrder (committed w t)
 committed-kept w t out over kept =
     let held : IsHeld w t = kept.held t out in
     let none : is_none w.machine.ending ≡ true = open-none w.machine.ending w.stopped over in
@@ -241,7 +265,8 @@ committed-kept w t out over kept =
           let before : IsHeld w u = kept.held u still.1 in
           held-same w (committed w t) u refl (step-stays w.machine t u kept.whole can still.0 before.ready) before;
       scratch = λ sound.
-          from_scratch-more w t false (step w.machine t) (record_of w.machine t) (set w.out t false) (kept.scratch sound) can refl refl refl
+          from_scratch-more w t false (step w.machine t) (record_of w.machine t) (set w.out t false)
+          (kept.scratch sound) can refl refl refl
           held.unfit;
     }
 
@@ -267,7 +292,13 @@ stop-kept w kept =
           record { ready = before.ready; unfit = before.unfit };
       scratch = λ sound.
           let s : IsFromScratch w = kept.scratch sound in
-          record { machine = s.machine; permitted = s.permitted; records = s.records; sources = s.sources; marks = s.marks };
+          record {
+            machine = s.machine;
+            permitted = s.permitted;
+            records = s.records;
+            sources = s.sources;
+            marks = s.marks;
+          };
     }
 
 -- what holds of a round holds after an event
@@ -294,5 +325,7 @@ opening-kept setup past valid =
     }
 
 -- so it holds of every round
-pub round-kept : (setup : Setup) (past : Option History) (es : List Event) → IsSetup setup → IsInOrder (round_after setup past es)
+pub round-kept :
+    (setup : Setup) (past : Option History) (es : List Event) → IsSetup setup
+    → IsInOrder (round_after setup past es)
 round-kept setup past es valid = all_happen-kept (opening setup past) es (opening-kept setup past valid)

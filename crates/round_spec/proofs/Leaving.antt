@@ -15,7 +15,7 @@ use Rattle.round_spec.specs.Keeping.{IsFromScratch}
 use Rattle.round_spec.proofs.Happening.{round-kept}
 
 -- two rounds of one setup that go by one history
-record IsOfSame (v w : RoundState) : Type 0 where
+pub record IsOfSame (v w : RoundState) : Type 0 where
   pub setup : v.setup ≡ w.setup
   pub past : v.past ≡ w.past
 
@@ -30,16 +30,19 @@ same-reused : (w : RoundState) (t : ℕ) (o : Option Record) → IsOfSame (reuse
 same-reused w t None = same-self w
 same-reused w t (Some r) = record { setup = refl; past = refl }
 
-same-happens : (w : RoundState) (e : Event) → IsOfSame (happens w e) w
+pub same-happens : (w : RoundState) (e : Event) → IsOfSame (happens w e) w
 unfolding happens
 same-happens w (Take t) = same-cond (can_take w t) (taken w t) w w (record { setup = refl; past = refl }) (same-self w)
 same-happens w (Reuse t) =
-    same-cond (can_reuse w t) (reused_by w t (record_for w.past w.machine t)) w w (same-reused w t (record_for w.past w.machine t)) (same-self w)
+    same-cond (can_reuse w t) (reused_by w t (record_for w.past w.machine t)) w w
+    (same-reused w t (record_for w.past w.machine t)) (same-self w)
 same-happens w (Commit t) =
     same-cond (is_out w t) (cond (is_over w) (given_back w t) (committed w t)) w w
-    (same-cond (is_over w) (given_back w t) (committed w t) w (record { setup = refl; past = refl }) (record { setup = refl; past = refl }))
+    (same-cond (is_over w) (given_back w t) (committed w t) w (record { setup = refl; past = refl })
+    (record { setup = refl; past = refl }))
     (same-self w)
-same-happens w (GiveBack t) = same-cond (is_out w t) (given_back w t) w w (record { setup = refl; past = refl }) (same-self w)
+same-happens w (GiveBack t) =
+    same-cond (is_out w t) (given_back w t) w w (record { setup = refl; past = refl }) (same-self w)
 same-happens w Stop = record { setup = refl; past = refl }
 
 same-all_happen : (w : RoundState) (es : List Event) → IsOfSame (all_happen w es) w
@@ -88,4 +91,5 @@ pub round-honest :
     → is_some (round_after setup past es).machine.ending ≡ true
     → IsHonest (history_of (round_after setup past es))
 round-honest setup past es valid sound ended =
-    leaves-honest (round_after setup past es) (subst IsSetup (sym (round-setup setup past es)) valid) (round-scratch setup past es valid sound) ended
+    leaves-honest (round_after setup past es) (subst IsSetup (sym (round-setup setup past es)) valid)
+    (round-scratch setup past es valid sound) ended

@@ -1,3 +1,4 @@
+-- The files of lemmas and examples of this crate.
 pub mod Samples
 pub mod Examples
 pub mod ChoiceExamples
@@ -9,3 +10,5 @@ pub mod Counting
 pub mod Conditions
 pub mod PickingExamples
 pub mod Executed
+pub mod Mapping
+pub mod UneditedExamples

@@ -7,9 +7,14 @@ use Rattle.round_spec.specs.Picking.{IsPicked}
 use Rattle.round_spec.proofs.Samples.{reuses}
 
 -- No entry is picked after it was made.
-pub picked-later : (setup : Setup) (past : Option History) (schedule : List Entry) (e : Entry) → IsPicked setup past schedule 3 e 4 → ⊥
+pub picked-later :
+    (setup : Setup) (past : Option History) (schedule : List Entry) (e : Entry) → IsPicked setup past schedule 3 e 4
+    → ⊥
 picked-later setup past schedule e picked = let earlier = picked.earlier in absurd (omega arith)
 
 -- A reused entry is picked and made at once.
-pub picked-reused : (setup : Setup) (past : Option History) (schedule : List Entry) (t : ℕ) → IsPicked setup past schedule 3 (reuses t) 2 → ⊥
+pub picked-reused :
+    (setup : Setup) (past : Option History) (schedule : List Entry) (t : ℕ)
+    → IsPicked setup past schedule 3 (reuses t) 2
+    → ⊥
 picked-reused setup past schedule t picked = let now = picked.at_once refl in absurd (omega arith)

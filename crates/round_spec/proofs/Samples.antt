@@ -22,7 +22,16 @@ past_of records = Some (record { setup = some_setup; records = records })
 -- a round at its start, which goes by some records
 abbrev pub starts : Machine → Option History → RoundState
 starts m past =
-    record { setup = some_setup; past = past; machine = m; schedule = []; records = []; out = nobody_out; discarded = 0; stopped = false }
+    record {
+      setup = some_setup;
+      past = past;
+      machine = m;
+      schedule = [];
+      records = [];
+      out = nobody_out;
+      discarded = 0;
+      stopped = false;
+    }
 
 -- the record of a thread's next step, whose stored bytes are given, since its masks are long
 abbrev pub recorded : Machine → ℕ → List PageDelta → Record
@@ -47,7 +56,8 @@ reuses t = record { thread = t; reused = true }
 abbrev pub executes : ℕ → Entry
 executes t = record { thread = t; reused = false }
 
--- a round's schedule, which of the first four threads are out, how many steps were discarded, and whether it was stopped
+-- a round's schedule, which of the first four threads are out, how many steps were discarded, and whether it was
+-- stopped
 abbrev pub seen : RoundState → List Entry × List ℕ × ℕ × Bool
 seen w = (w.schedule, filter (is_out w) (0 ∷ 1 ∷ 2 ∷ 3 ∷ []), w.discarded, w.stopped)
 

@@ -14,7 +14,8 @@ use Rattle.round_spec.specs.Choice.{choice_by, pick_of}
 -- The schedule that follows the choice with nobody out until an end, for so many steps at most.
 abbrev pub guided_from : Option History → ℕ → Machine → List ℕ
 guided_from past zero m = []
-guided_from past (suc steps) m = chosen_first m.ending (choice_by past m nobody_out) (λ t. guided_from past steps (step m t))
+guided_from past (suc steps) m =
+    chosen_first m.ending (choice_by past m nobody_out) (λ t. guided_from past steps (step m t))
 
 -- The schedule of one worker.
 abbrev pub one_worker : Setup → Option History → List ℕ

@@ -23,8 +23,8 @@ abbrev pub first_of : List ℕ → Option ℕ
 first_of [] = None
 first_of (t ∷ threads) = Some t
 
--- Of some threads the one of the least place in the history, where those that aren't in it come last; of these the one that has made
--- the fewest steps, and of these the lowest.
+-- Of some threads the one of the least place in the history, where those that aren't in it come last; of these the one
+-- that has made the fewest steps, and of these the lowest.
 unfoldable pub best : Option History → Machine → List ℕ → Option ℕ
 best past m threads = first_of (least_by (λ t. (hart_of m t).number) (least_by (place_in past m) threads))
 

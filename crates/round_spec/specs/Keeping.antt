@@ -10,8 +10,8 @@ use Rattle.report_spec.specs.Report.{threads_of}
 use Rattle.round_spec.specs.Marks.{fits_next, marked, sourced}
 use Rattle.round_spec.specs.Rounds.{RoundState, is_out}
 
--- A round is at the machine from scratch: its machine is the one after its schedule, which is permitted; its records are those of the
--- steps, that of a reused entry being the history's own; and its marks are exact.
+-- A round is at the machine from scratch: its machine is the one after its schedule, which is permitted; its records
+-- are those of the steps, that of a reused entry being the history's own; and its marks are exact.
 pub record IsFromScratch (w : RoundState) : Type 0 where
   pub machine : w.machine ≡ scratch w.setup (threads_of w.schedule)
   pub permitted : is_permitted w.setup (threads_of w.schedule) ≡ true
@@ -24,16 +24,16 @@ pub record IsHeld (w : RoundState) (t : ℕ) : Type 0 where
   pub ready : is_ready (hart_of w.machine t).status ≡ true
   pub unfit : fits_next w.past w.machine t ≡ false
 
--- A flag for each of the 32 threads; the machine is one that holds together; who is out is held; and by a sound history the round is at
--- the machine from scratch.
+-- A flag for each of the 32 threads; the machine is one that holds together; who is out is held; and by a sound history
+-- the round is at the machine from scratch.
 pub record IsInOrder (w : RoundState) : Type 0 where
   pub flags : length w.out ≡ 32
   pub whole : IsWhole w.machine
   pub held : (t : ℕ) → is_out w t ≡ true → IsHeld w t
   pub scratch : IsSound w.past w.setup → IsFromScratch w
 
--- Whether each reused entry of a schedule has as its record the history's own of its thread at the number of entries that come before
--- it, where entries of some threads come first.
+-- Whether each reused entry of a schedule has as its record the history's own of its thread at the number of entries
+-- that come before it, where entries of some threads come first.
 abbrev pub IsReusing : Option History → List ℕ → List Entry → List Record → Type 0
 IsReusing past earlier [] [] = ⊤
 IsReusing past earlier [] (r ∷ records) = ⊥
@@ -42,8 +42,9 @@ IsReusing past earlier (e ∷ schedule) (r ∷ records) =
     (e.reused ≡ true → found past e.thread (count_by (λ t. t == e.thread) earlier) ≡ Some r)
     × IsReusing past (earlier ++ e.thread ∷ []) schedule records
 
--- A round counts right: the machine has made as many steps as there are entries, and each thread as many as there are entries of it; the
--- records are of the entries' threads, at these numbers; and that of a reused entry is the history's own.
+-- A round counts right: the machine has made as many steps as there are entries, and each thread as many as there are
+-- entries of it; the records are of the entries' threads, at these numbers; and that of a reused entry is the history's
+-- own.
 pub record IsCounted (w : RoundState) : Type 0 where
   pub steps : w.machine.steps ≡ length w.schedule
   pub threads : threads_of_records w.records ≡ threads_of w.schedule

@@ -1,3 +1,4 @@
+-- The files of definitions of this crate.
 pub mod Marks
 pub mod Rounds
 pub mod Due

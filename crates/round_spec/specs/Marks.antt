@@ -24,7 +24,8 @@ fits_next past m t = is_fitting m (record_for past m t)
 -- The entries of a schedule from a machine on: a step is reused exactly where the history's record of it fits.
 abbrev pub marked_from : Option History → Machine → List ℕ → List Entry
 marked_from past m [] = []
-marked_from past m (t ∷ schedule) = record { thread = t; reused = fits_next past m t } ∷ marked_from past (step m t) schedule
+marked_from past m (t ∷ schedule) =
+    record { thread = t; reused = fits_next past m t } ∷ marked_from past (step m t) schedule
 
 -- The same from a setup's start on.
 abbrev pub marked : Option History → Setup → List ℕ → List Entry
@@ -32,7 +33,8 @@ marked past setup schedule = marked_from past (first setup) schedule
 
 -- Where the record of an entry comes from: the history, where the entry is reused, and else the step itself.
 abbrev pub source_of : Option History → Machine → Entry → Record
-source_of past m e = if e.reused then unwrap_or (record_for past m e.thread) (record_of m e.thread) else record_of m e.thread
+source_of past m e =
+    if e.reused then unwrap_or (record_for past m e.thread) (record_of m e.thread) else record_of m e.thread
 
 -- The records of the entries of a schedule from a machine on, each from where it comes.
 abbrev pub sourced_from : Option History → Machine → List Entry → List Record

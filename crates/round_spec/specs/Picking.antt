@@ -17,8 +17,9 @@ is_ready_and_due past m t = is_ready (hart_of m t).status && is_due past m t
 abbrev pub any_thread : Machine → (ℕ → Bool) → Bool
 any_thread m test = list_any test (range_with_len 0 (length m.harts))
 
--- Whether a thread at a number of steps made is picked rightly on a machine: it is ready at that number; it is due, or nobody who is
--- ready is; and where the history has no record of it, nobody who is ready and due has a record that fits.
+-- Whether a thread at a number of steps made is picked rightly on a machine: it is ready at that number; it is due, or
+-- nobody who is ready is; and where the history has no record of it, nobody who is ready and due has a record that
+-- fits.
 unfoldable pub is_picked_on : Option History → Machine → ℕ → ℕ → Bool
 is_picked_on past m t number =
     is_ready (hart_of m t).status && ((hart_of m t).number == number)
@@ -29,11 +30,13 @@ is_picked_on past m t number =
 abbrev pub machine_after : Setup → List Entry → ℕ → Machine
 machine_after setup schedule i = scratch setup (threads_of (take i schedule))
 
--- Entry i of a round was picked rightly when there were `length_then` entries: no more than i, and i itself where the entry is
--- reused.
-pub record IsPicked (setup : Setup) (past : Option History) (schedule : List Entry) (i : ℕ) (e : Entry) (length_then : ℕ) : Type 0 where
+-- Entry i of a round was picked rightly when there were `length_then` entries: no more than i, and i itself where the
+-- entry is reused.
+pub record IsPicked (setup : Setup) (past : Option History) (schedule : List Entry) (i : ℕ) (e : Entry)
+    (length_then : ℕ) : Type 0 where
   pub earlier : length_then ≤ i
   pub at_once : e.reused ≡ true → length_then ≡ i
   pub rightly :
-      is_picked_on past (machine_after setup schedule length_then) e.thread (hart_of (machine_after setup schedule i) e.thread).number
+      is_picked_on past (machine_after setup schedule length_then) e.thread
+      (hart_of (machine_after setup schedule i) e.thread).number
       ≡ true

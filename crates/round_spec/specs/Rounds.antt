@@ -11,8 +11,8 @@ use Rattle.round_spec.specs.declared.events.Event.{Event}
 use Rattle.round_spec.specs.declared.events.Event.TheVariants.{Take, Reuse, Commit, GiveBack, Stop}
 use Rattle.round_spec.specs.Marks.{record_for, fits_next}
 
--- A round as it stands: what it started from and goes by, the machine, the schedule with marks and the records of its entries, which
--- threads are out, how many executed steps were discarded, and whether the round was stopped.
+-- A round as it stands: what it started from and goes by, the machine, the schedule with marks and the records of its
+-- entries, which threads are out, how many executed steps were discarded, and whether the round was stopped.
 pub record RoundState : Type 0 where
   pub setup : Setup
   pub past : Option History

@@ -21,8 +21,8 @@ is_all_reused schedule = list_all (λ (e : Entry). e.reused) schedule
 abbrev pub all_reused_of : History → List Entry
 all_reused_of h = map (λ t. record { thread = t; reused = true }) (schedule_of h)
 
--- A round that is all reuse of a history: its schedule is the history's, each step of which was reused; no step was begun, no instruction
--- executed, and nothing discarded; and machine and records are those that the history left.
+-- A round that is all reuse of a history: its schedule is the history's, each step of which was reused; no step was
+-- begun, no instruction executed, and nothing discarded; and machine and records are those that the history left.
 pub record OnlyReuses (h : History) (w : RoundState) : Type 0 where
   pub schedule : w.schedule ≡ all_reused_of h
   pub reused : is_all_reused w.schedule ≡ true

@@ -5,7 +5,7 @@
 //! earlier run. No code but two plain types.
 #![tactic(auto)]
 
-ghost use Rattle.std.specs.Prelude.{◌≡◌, ℕ, List, [], ◌∷◌, ◌++◌, slice_set, Option, Some, None, true, false, is_some};
+ghost use Rattle.std.specs.Prelude.{◌≡◌, ℕ, List, [], ◌∷◌, ◌++◌, All, length, slice_set, Option, Some, None, true, false, is_some};
 ghost use Rattle.record_spec.specs.Record.{Record, IsTrue};
 ghost use Rattle.machine_spec.specs.Step.{lay, fits};
 ghost use Rattle.machine_spec.specs.Whole.{IsWhole};
@@ -13,8 +13,8 @@ ghost use Rattle.report_spec.specs.declared.Entry.{Entry};
 ghost use Rattle.round_spec.specs.declared.events.Event.TheVariants.{Commit};
 ghost use Rattle.machine_spec.specs.Machine.{Machine};
 ghost use Rattle.machine_spec.specs.Choice.{choice, alone};
-ghost use Rattle.machine_spec.specs.Setup.{Setup, IsSetup, first, scratch, is_permitted, records};
-ghost use Rattle.history_spec.specs.History.{History, IsHonest, IsSameProgram, IsSound, CanGoBy};
+ghost use Rattle.machine_spec.specs.Setup.{Setup, IsSetup, first, map_of, scratch, is_permitted, records};
+ghost use Rattle.history_spec.specs.History.{History, IsHonest, IsSameProgram, IsSound, CanGoBy, IsMappedIn, IsMapped, past_records};
 ghost use Rattle.report_spec.specs.Report.{threads_of, instructions_from};
 ghost use Rattle.round_spec.specs.declared.events.Event.{Event};
 ghost use Rattle.round_spec.specs.Marks.{marked, sourced};
@@ -77,6 +77,19 @@ pub fn rounds_stay_of_their_setup()
         → (round_after setup past events).past ≡ past }
 {}
 
+/// Whatever happens, the records of a round have their slots among the pages of its map, where those of
+/// the history that it goes by have; so what it leaves has its slots in its setup's map.
+pub fn rounds_stay_mapped()
+    ensures event { (pages : ℕ) (w : RoundState) (e : Event)
+        → All (IsMappedIn pages) (past_records w.past)
+        → length w.machine.frame.map ≡ pages
+        → All (IsMappedIn pages) w.records
+        → All (IsMappedIn pages) (happens w e).records }
+    ensures events { (setup : Setup) (past : Option History) (events : List Event)
+        → All (IsMappedIn (length (map_of setup))) (past_records past)
+        → IsMapped (history_of (round_after setup past events)) }
+{}
+
 /// Whatever happens to a round that goes by a sound history: its schedule is permitted, and its machine
 /// is the one from scratch under it; its records are those of the steps, where that of a reused entry is
 /// the history's own; and exactly the steps whose record fitted are marked as reused.
@@ -86,10 +99,12 @@ pub fn rounds_are_from_scratch()
         → is_permitted setup (threads_of (round_after setup past events).schedule) ≡ true }
     ensures machine { (setup : Setup) (past : Option History) (events : List Event)
         → CanGoBy past setup
-        → (round_after setup past events).machine ≡ scratch setup (threads_of (round_after setup past events).schedule) }
+        → (round_after setup past events).machine
+        ≡ scratch setup (threads_of (round_after setup past events).schedule) }
     ensures records { (setup : Setup) (past : Option History) (events : List Event)
         → CanGoBy past setup
-        → (round_after setup past events).records ≡ records setup (threads_of (round_after setup past events).schedule) }
+        → (round_after setup past events).records
+        ≡ records setup (threads_of (round_after setup past events).schedule) }
     ensures sources { (setup : Setup) (past : Option History) (events : List Event)
         → CanGoBy past setup
         → (round_after setup past events).records ≡ sourced past setup (round_after setup past events).schedule }

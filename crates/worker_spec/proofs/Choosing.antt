@@ -11,9 +11,6 @@ use Rattle.round_spec.specs.Due.{place_in, is_due}
 use Rattle.round_spec.specs.Choice.{free_threads, first_of, least_by, best, is_any_out, eligible, choice_by}
 use Rattle.worker_spec.proofs.Lists.{some-filter, any-range, first-all, all-filter, all-pass, all-unfiltered, range-at, least-under, some-least_by, get-false}
 
-and-from : (a b : Bool) → a ≡ true → b ≡ true → (a && b) ≡ true
-and-from a b x y = rw (x, y) refl
-
 pub out-nobody : (v : ℕ) → is_out_of nobody_out v ≡ false
 unfolding nobody_out
 out-nobody v = get-false 32 v
@@ -35,7 +32,9 @@ pub free-at :
     (m : Machine) (i k : ℕ) → 0 + i ≡ k → is_free_in m nobody_out k ≡ is_ready (hart_in m.harts i).status
 free-at m i k is = let same : k ≡ i = omega arith in rw same (free-ready m i)
 
-some-free : (m : Machine) → is_some (first_of (free_threads m nobody_out)) ≡ list_any (λ (h : Hart). is_ready h.status) m.harts
+some-free :
+    (m : Machine)
+    → is_some (first_of (free_threads m nobody_out)) ≡ list_any (λ (h : Hart). is_ready h.status) m.harts
 unfolding free_threads
 some-free m =
     some-filter (is_free_in m nobody_out) (range_with_len 0 (length m.harts))
@@ -46,7 +45,9 @@ unfolding best
 some-best past m xs =
     some-least_by (λ t. (hart_of m t).number) (least_by (place_in past m) xs) ∙ some-least_by (place_in past m) xs
 
-some-eligible : (p : ℕ → Bool) (free : List ℕ) → is_some (first_of (eligible (filter p free) free false)) ≡ is_some (first_of free)
+some-eligible :
+    (p : ℕ → Bool) (free : List ℕ)
+    → is_some (first_of (eligible (filter p free) free false)) ≡ is_some (first_of free)
 some-eligible p [] = refl
 some-eligible p (t ∷ free) = either (filter p (t ∷ free))
   where
@@ -56,11 +57,14 @@ some-eligible p (t ∷ free) = either (filter p (t ∷ free))
 
 -- with nobody out a thread is chosen exactly where one is ready
 pub choice_by-some :
-    (past : Option History) (m : Machine) → is_some (choice_by past m nobody_out) ≡ list_any (λ (h : Hart). is_ready h.status) m.harts
+    (past : Option History) (m : Machine) → is_some (choice_by past m nobody_out)
+    ≡ list_any (λ (h : Hart). is_ready h.status) m.harts
 unfolding choice_by
 choice_by-some past m =
-    some-best past m (eligible (filter (is_due past m) (free_threads m nobody_out)) (free_threads m nobody_out) (is_any_out nobody_out))
-    ∙ ap (λ (b : Bool). is_some (first_of (eligible (filter (is_due past m) (free_threads m nobody_out)) (free_threads m nobody_out) b))) any-nobody
+    some-best past m (eligible (filter (is_due past m) (free_threads m nobody_out)) (free_threads m nobody_out)
+    (is_any_out nobody_out))
+    ∙ ap (λ (b : Bool). is_some
+    (first_of (eligible (filter (is_due past m) (free_threads m nobody_out)) (free_threads m nobody_out) b))) any-nobody
     ∙ some-eligible (is_due past m) (free_threads m nobody_out)
     ∙ some-free m
 
@@ -101,14 +105,20 @@ chosen-cases past m [] free true u is = absurd (best-none past m u is)
 -- the one that is chosen: ready; of the least place among those that are ready and due; and due, where anybody ready is
 pub record IsChosen (past : Option History) (m : Machine) (u : ℕ) : Type 0 where
   pub ready : is_ready (hart_of m u).status ≡ true
-  pub least : (v : ℕ) → is_ready (hart_of m v).status ≡ true → is_due past m v ≡ true → place_in past m u ≤ place_in past m v
+  pub least :
+      (v : ℕ) → is_ready (hart_of m v).status ≡ true → is_due past m v ≡ true
+      → place_in past m u ≤ place_in past m v
   pub due : (is_due past m u ≡ true) ⊎ ((v : ℕ) → is_ready (hart_of m v).status ≡ true → is_due past m v ≡ false)
 
 all-free : (m : Machine) → AllByRecursion (λ v. is_ready (hart_of m v).status ≡ true) (free_threads m nobody_out)
 unfolding free_threads
-all-free m = each (filter (is_free_in m nobody_out) (range_with_len 0 (length m.harts))) (all-pass (is_free_in m nobody_out) (range_with_len 0 (length m.harts)))
+all-free m =
+    each (filter (is_free_in m nobody_out) (range_with_len 0 (length m.harts)))
+    (all-pass (is_free_in m nobody_out) (range_with_len 0 (length m.harts)))
   where
-    each : (xs : List ℕ) → AllByRecursion (λ v. is_free_in m nobody_out v ≡ true) xs → AllByRecursion (λ v. is_ready (hart_of m v).status ≡ true) xs
+    each :
+        (xs : List ℕ) → AllByRecursion (λ v. is_free_in m nobody_out v ≡ true) xs
+        → AllByRecursion (λ v. is_ready (hart_of m v).status ≡ true) xs
     each [] all = tt
     each (x ∷ xs) all = (sym (free-ready m x) ∙ all.0, each xs all.1)
 
@@ -123,14 +133,19 @@ free-due P m p v all ready pass =
     (all-unfiltered P p (filter (is_free_in m nobody_out) (range_with_len 0 (length m.harts))) all))
     (omega arith) (let below = ready-below m.harts v ready in omega arith) (free-ready m v ∙ ready) pass
 
-pub choice_by-chosen : (past : Option History) (m : Machine) (u : ℕ) → choice_by past m nobody_out ≡ Some u → IsChosen past m u
+pub choice_by-chosen :
+    (past : Option History) (m : Machine) (u : ℕ) → choice_by past m nobody_out ≡ Some u
+    → IsChosen past m u
 unfolding choice_by
 choice_by-chosen past m u is =
-    elim (chosen-cases past m (filter (is_due past m) (free_threads m nobody_out)) (free_threads m nobody_out) (is_any_out nobody_out) u is) [
+    elim (chosen-cases past m (filter (is_due past m) (free_threads m nobody_out)) (free_threads m nobody_out)
+    (is_any_out nobody_out) u is) [
       | inl one ↦ record {
         ready =
-            best-all (λ v. is_ready (hart_of m v).status ≡ true) past m (filter (is_due past m) (free_threads m nobody_out)) u
-            (all-filter (λ v. is_ready (hart_of m v).status ≡ true) (is_due past m) (free_threads m nobody_out) (all-free m)) one;
+            best-all (λ v. is_ready (hart_of m v).status ≡ true) past m
+            (filter (is_due past m) (free_threads m nobody_out)) u
+            (all-filter (λ v. is_ready (hart_of m v).status ≡ true) (is_due past m) (free_threads m nobody_out)
+            (all-free m)) one;
         least =
             λ v ready due. free-due (λ v. place_in past m u ≤ place_in past m v) m (is_due past m) v
             (best-least past m (filter (is_due past m) (free_threads m nobody_out)) u one) ready due;
@@ -139,7 +154,9 @@ choice_by-chosen past m u is =
             (all-pass (is_due past m) (free_threads m nobody_out)) one);
       }
       | inr none ↦ record {
-        ready = best-all (λ v. is_ready (hart_of m v).status ≡ true) past m (free_threads m nobody_out) u (all-free m) none.1;
+        ready =
+            best-all (λ v. is_ready (hart_of m v).status ≡ true) past m (free_threads m nobody_out) u (all-free m)
+            none.1;
         least = λ v ready due. absurd (not-due none.0 v ready due);
         due = inr (λ v ready. either (is_due past m v) (not-due none.0 v ready));
       }
@@ -149,7 +166,8 @@ choice_by-chosen past m u is =
         filter (is_due past m) (free_threads m nobody_out) ≡ [] → (v : ℕ)
         → is_ready (hart_of m v).status ≡ true → is_due past m v ≡ true → ⊥
     not-due empty v ready due =
-        free-due (λ v. ⊥) m (is_due past m) v (subst (λ (xs : List ℕ). AllByRecursion (λ v. ⊥) xs) (sym empty) tt) ready due
+        free-due (λ v. ⊥) m (is_due past m) v (subst (λ (xs : List ℕ). AllByRecursion (λ v. ⊥) xs) (sym empty) tt)
+        ready due
 
     either : (b : Bool) → (b ≡ true → ⊥) → b ≡ false
     either true never = absurd (never refl)

@@ -28,12 +28,15 @@ count_at m t = (thunk m.frame (hart_of m t).view (hart_of m t).regs).count
 marked-instructions :
     (past : Option History) (m : Machine) (ts : List ℕ) (t : ℕ)
     → instructions_from m (marked_from past m (ts ++ t ∷ []))
-    ≡ instructions_from m (marked_from past m ts) + cond (fits_next past (scratch_from m ts) t) 0 (count_at (scratch_from m ts) t)
+    ≡ instructions_from m (marked_from past m ts) + cond (fits_next past (scratch_from m ts) t) 0
+    (count_at (scratch_from m ts) t)
 marked-instructions past m [] t = omega arith
 marked-instructions past m (u ∷ ts) t =
     let rest = marked-instructions past (step m u) ts t in omega arith
 
-cost-picked : (w : RoundState) (b : Bool) (t : ℕ) → cost_of w (cond b (pick.Reuse t) (pick.Run t)) ≡ cond b 0 (count_at w.machine t)
+cost-picked :
+    (w : RoundState) (b : Bool) (t : ℕ)
+    → cost_of w (cond b (pick.Reuse t) (pick.Run t)) ≡ cond b 0 (count_at w.machine t)
 cost-picked w true t = refl
 cost-picked w false t = refl
 
@@ -43,7 +46,8 @@ cost-made :
     → instructions_from (first setup) (marked past setup ts) + executed_in n (made_by setup past ts)
     ≡ instructions_from (first setup) (marked past setup (ts ++ guided_from past n (scratch setup ts)))
 cost-made setup past zero ts valid sound permitted =
-    let same = ap (λ (us : List ℕ). instructions_from (first setup) (marked past setup us)) (append-nil ts) in omega arith
+    let same = ap (λ (us : List ℕ). instructions_from (first setup) (marked past setup us)) (append-nil ts) in
+    omega arith
 cost-made setup past (suc n) ts valid sound permitted =
     by (stands past (scratch setup ts) whole) (cost-made setup past n ts valid sound permitted)
     (λ t can. cost-made setup past n (ts ++ t ∷ []) valid sound (permitted-more (first setup) ts t permitted can))
@@ -64,20 +68,24 @@ cost-made setup past (suc n) ts valid sound permitted =
     by (Over e is) stays goes =
         let none : cost_of (made_by setup past ts) (pick_of (made_by setup past ts)) ≡ 0 =
         ap (cost_of (made_by setup past ts))
-        (pick-over setup past (scratch setup ts) (marked past setup ts) (records setup ts) (ap (λ (o : Option End). is_some o) is)) in
+        (pick-over setup past (scratch setup ts) (marked past setup ts) (records setup ts)
+        (ap (λ (o : Option End). is_some o) is)) in
         let after = ap (executed_in n) (after-over setup past ts e is) in
         let now = ap (λ (us : List ℕ). sum (ts ++ us)) (guided-over past n (scratch setup ts) e is) in
         let later = ap (λ (us : List ℕ). sum (ts ++ us)) (guided-over past (suc n) (scratch setup ts) e is) in
         omega arith
     by (Goes t none chosen can) stays goes =
-        let cost : cost_of (made_by setup past ts) (pick_of (made_by setup past ts)) ≡ cond (fits_next past (scratch setup ts) t) 0 (count_at (scratch setup ts) t) =
+        let cost : cost_of (made_by setup past ts) (pick_of (made_by setup past ts)) ≡ cond
+        (fits_next past (scratch setup ts) t) 0 (count_at (scratch setup ts) t) =
         ap (cost_of (made_by setup past ts))
-        (pick-chosen setup past (scratch setup ts) (marked past setup ts) (records setup ts) t (running (scratch setup ts) none) chosen)
+        (pick-chosen setup past (scratch setup ts) (marked past setup ts) (records setup ts) t
+        (running (scratch setup ts) none) chosen)
         ∙ cost-picked (made_by setup past ts) (fits_next past (scratch setup ts) t) t in
         let after = ap (executed_in n) (after-made setup past ts t sound whole none chosen) in
         let one = marked-instructions past (first setup) ts t in
         let next = ap (λ (us : List ℕ). sum (ts ++ us)) (guided-next past n (scratch setup ts) t none chosen) in
-        let same : sum ((ts ++ t ∷ []) ++ guided_from past n (scratch setup (ts ++ t ∷ []))) ≡ sum (ts ++ t ∷ guided_from past n (step (scratch setup ts) t)) =
+        let same : sum ((ts ++ t ∷ []) ++ guided_from past n (scratch setup (ts ++ t ∷ []))) ≡ sum
+        (ts ++ t ∷ guided_from past n (step (scratch setup ts) t)) =
         ap (λ (m : Machine). sum ((ts ++ t ∷ []) ++ guided_from past n m)) (scratch-more (first setup) ts t)
         ∙ ap sum (append_assoc ts (t ∷ []) (guided_from past n (step (scratch setup ts) t))) in
         let rest = goes t can in
@@ -89,5 +97,6 @@ pub rounds-cost :
     → executed_in n (opening setup past) ≡ instructions_from (first setup) (after_picks n (opening setup past)).schedule
 rounds-cost setup past n valid sound =
     let all = cost-made setup past n [] valid sound refl in
-    let round = ap (λ (w : RoundState). instructions_from (first setup) w.schedule) (rounds-made setup past n valid sound) in
+    let round =
+    ap (λ (w : RoundState). instructions_from (first setup) w.schedule) (rounds-made setup past n valid sound) in
     omega arith

@@ -37,7 +37,8 @@ not-hold p t false is = λ hold. cc
 
 -- the chosen thread's record is laid where it fits, true or not, and else its step is made
 chosen-goes :
-    (setup : Setup) (past : Option History) (m : Machine) (schedule : List Entry) (rs : List Record) (t : ℕ) (o : Option Record) (b : Bool)
+    (setup : Setup) (past : Option History) (m : Machine) (schedule : List Entry) (rs : List Record) (t : ℕ)
+    (o : Option Record) (b : Bool)
     → IsWhole m → m.ending ≡ None → can_step m t ≡ true
     → record_for past m t ≡ o → is_fitting m o ≡ b
     → pick_of (lone_state setup past m schedule rs) ≡ cond b (pick.Reuse t) (pick.Run t)
@@ -53,7 +54,8 @@ chosen-goes setup past m schedule rs t o false whole none can there fit picked =
     let ready : is_ready (hart_of m t).status ≡ true = can_step-ready m t can in
     Stepped (step m t) (schedule ++ record { thread = t; reused = false } ∷ []) (rs ++ record_of m t ∷ [])
     (ap (after_pick (lone_state setup past m schedule rs)) picked
-    ∙ after-run setup past m schedule rs t (running m none) ready (below-32 m t whole ready) (ap (is_fitting m) there ∙ fit))
+    ∙ after-run setup past m schedule rs t (running m none) ready (below-32 m t whole ready)
+    (ap (is_fitting m) there ∙ fit))
     (step-whole m t whole can) (step-limit m t) (step-steps m t)
     (not-hold (pick_of (lone_state setup past m schedule rs)) t false picked)
 
@@ -90,10 +92,12 @@ stays-lone setup past (suc n) m schedule rs whole =
     by :
         GoesOn setup past m (lone_state setup past m schedule rs)
         → IsLone setup past (after_picks n (lone_state setup past m schedule rs))
-        → ((next : Machine) (more : List Entry) (kept : List Record) → IsWhole next → IsLone setup past (after_picks n (lone_state setup past next more kept)))
+        → ((next : Machine) (more : List Entry) (kept : List Record) → IsWhole next
+        → IsLone setup past (after_picks n (lone_state setup past next more kept)))
         → IsLone setup past (after_picks (suc n) (lone_state setup past m schedule rs))
     by (Ended ended picked) same later =
-        subst (λ (p : Pick). IsLone setup past (after_picks n (after_pick (lone_state setup past m schedule rs) p))) (sym picked) same
+        subst (λ (p : Pick). IsLone setup past (after_picks n (after_pick (lone_state setup past m schedule rs) p)))
+        (sym picked) same
     by (Stepped next more kept is whole_next limit steps waits) same later =
         subst (λ (w : RoundState). IsLone setup past (after_picks n w)) (sym is) (later next more kept whole_next)
 
@@ -104,7 +108,8 @@ over-stays :
     → after_picks n (lone_state setup past m schedule rs) ≡ lone_state setup past m schedule rs
 over-stays setup past zero m schedule rs ended = refl
 over-stays setup past (suc n) m schedule rs ended =
-    ap (λ (p : Pick). after_picks n (after_pick (lone_state setup past m schedule rs) p)) (pick-over setup past m schedule rs ended)
+    ap (λ (p : Pick). after_picks n (after_pick (lone_state setup past m schedule rs) p))
+    (pick-over setup past m schedule rs ended)
     ∙ over-stays setup past n m schedule rs ended
 
 -- each pick makes one step more until there is an end, so the limit is reached
@@ -129,13 +134,19 @@ comes-to-end setup past (suc n) m schedule rs whole enough =
     by (Ended ended picked) later =
         ap (λ (w : RoundState). is_some w.machine.ending) (over-stays setup past (suc n) m schedule rs ended) ∙ ended
     by (Stepped next more kept is whole_next limit steps waits) later =
-        ap (λ (w : RoundState). is_some (after_picks n w).machine.ending) is ∙ later next more kept whole_next (omega arith)
+        ap (λ (w : RoundState). is_some (after_picks n w).machine.ending) is
+        ∙ later next more kept whole_next (omega arith)
 
-lone-from : (setup : Setup) (past : Option History) (n : ℕ) → IsSetup setup → IsLone setup past (after_picks n (opening setup past))
+lone-from :
+    (setup : Setup) (past : Option History) (n : ℕ) → IsSetup setup
+    → IsLone setup past (after_picks n (opening setup past))
 lone-from setup past n valid = stays-lone setup past n (first setup) [] [] (IsWhole-first setup valid)
 
-pub lone-ends : (setup : Setup) (past : Option History) → IsSetup setup → is_some (lone_round setup past).machine.ending ≡ true
-lone-ends setup past valid = comes-to-end setup past setup.limit (first setup) [] [] (IsWhole-first setup valid) (first-limit setup)
+pub lone-ends :
+    (setup : Setup) (past : Option History) → IsSetup setup
+    → is_some (lone_round setup past).machine.ending ≡ true
+lone-ends setup past valid =
+    comes-to-end setup past setup.limit (first setup) [] [] (IsWhole-first setup valid) (first-limit setup)
 
 pub lone-discarded :
     (setup : Setup) (past : Option History) (n : ℕ) → IsSetup setup → (after_picks n (opening setup past)).discarded ≡ 0
@@ -151,6 +162,7 @@ never-hold setup past n valid =
   where
     by :
         (m : Machine) (schedule : List Entry) (rs : List Record)
-        → GoesOn setup past m (lone_state setup past m schedule rs) → pick_of (lone_state setup past m schedule rs) ≢ pick.Hold
+        → GoesOn setup past m (lone_state setup past m schedule rs)
+        → pick_of (lone_state setup past m schedule rs) ≢ pick.Hold
     by m schedule rs (Ended ended picked) = λ hold. cc
     by m schedule rs (Stepped next more kept is whole limit steps waits) = waits

@@ -60,7 +60,10 @@ made-honest setup past ts valid permitted complete =
       recorded = ap (records setup) (sym threads);
     }
 
-pub lone-honest : (setup : Setup) (past : Option History) → IsSetup setup → IsSound past setup → IsHonest (history_of (lone_round setup past))
+pub lone-honest :
+    (setup : Setup) (past : Option History) → IsSetup setup → IsSound past setup
+    → IsHonest (history_of (lone_round setup past))
 lone-honest setup past valid sound =
     subst (λ (w : RoundState). IsHonest (history_of w)) (sym (rounds-made setup past setup.limit valid sound))
-    (made-honest setup past (one_worker setup past) valid (one_worker-permitted setup past valid) (one_worker-complete setup past valid))
+    (made-honest setup past (one_worker setup past) valid (one_worker-permitted setup past valid)
+    (one_worker-complete setup past valid))

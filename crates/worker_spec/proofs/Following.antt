@@ -1,4 +1,5 @@
--- Where a history is honest and its own setup is run again, its next step is due, is the one that is chosen, and its record fits.
+-- Where a history is honest and its own setup is run again, its next step is due, is the one that is chosen, and its
+-- record fits.
 use Rattle.std.proofs.Common.{◌≡◌, ◌≢◌, ◌<◌, ◌≤◌, ◌+◌, ℕ, zero, suc, Bool, true, false, ◌&&◌, ◌||◌, eqb, ltb, List, [], ◌∷◌, ◌++◌, length, map, take, Option, Some, None, is_some, is_none, find, refl, ap, sym, ◌∙◌, append_assoc, append-nil, inl, inr, arith}
 use Rattle.std.proofs.Math.Seq.{take-append_seam}
 use Rattle.std.proofs.lemmas.Bool.{eq-eqb, ne_eqb, lt-ltb, cases_eq}
@@ -11,9 +12,10 @@ use Rattle.machine_spec.specs.Schedule.{scratch_from, is_permitted_from, record_
 use Rattle.machine_spec.specs.Setup.{Setup, first, scratch, records}
 use Rattle.machine_spec.specs.Whole.{IsWhole}
 use Rattle.machine_spec.proofs.Beginning.{IsWhole-first}
-use Rattle.machine_spec.proofs.Alone.{step-limit, step-steps}
+use Rattle.machine_spec.proofs.Alone.{step-limit, step-steps, first-limit}
 use Rattle.history_spec.specs.History.{History, IsHonest, schedule_of, is_of, past_records}
 use Rattle.history_spec.proofs.Scratch.{and-left, and-right, scratch-whole, scratch-more}
+use Rattle.history_spec.proofs.Numbers.{first-steps}
 use Rattle.history_spec.proofs.Truth.{record-fits}
 use Rattle.report_spec.specs.declared.Entry.{Entry}
 use Rattle.round_spec.specs.Marks.{record_for, is_fitting, fits_next, marked_from}
@@ -61,7 +63,9 @@ made-not_next m u r made =
     right true b none = none
     right false b none = refl
 
-made-none_next : (m : Machine) (u : ℕ) (rs : List Record) → AllByRecursion (IsMadeOn m) rs → AllByRecursion (λ r. is_of u (hart_of m u).number r ≡ false) rs
+made-none_next :
+    (m : Machine) (u : ℕ) (rs : List Record) → AllByRecursion (IsMadeOn m) rs
+    → AllByRecursion (λ r. is_of u (hart_of m u).number r ≡ false) rs
 made-none_next m u [] all = tt
 made-none_next m u (r ∷ rs) all = (made-not_next m u r all.0, made-none_next m u rs all.1)
 
@@ -72,15 +76,17 @@ passed-all m (r ∷ rs) all =
     rw made (passed-all m rs all.1)
 
 -- the records in front are those of steps that have been made, and then comes the record of a step that can be made
-pub record IsNext (past : Option History) (m : Machine) (front : List Record) (t : ℕ) (back : List Record) : Type 0 where
-  pub split : past_records past ≡ front ++ record_of m t ∷ back
-  pub made : AllByRecursion (IsMadeOn m) front
-  pub can : can_step m t ≡ true
+pub record IsNext (past : Option History) (m : Machine) (front : List Record) (t : ℕ) (back : List Record) : Type 0
+  where
+    pub split : past_records past ≡ front ++ record_of m t ∷ back
+    pub made : AllByRecursion (IsMadeOn m) front
+    pub can : can_step m t ≡ true
 
 own-record : (m : Machine) (t : ℕ) → is_of t (hart_of m t).number (record_of m t) ≡ true
 own-record m t =
     let thread : eqb t t ≡ true = eq-eqb t t refl in
-    let number : eqb (hart_of m t).number (hart_of m t).number ≡ true = eq-eqb (hart_of m t).number (hart_of m t).number refl in
+    let number : eqb (hart_of m t).number (hart_of m t).number ≡ true =
+    eq-eqb (hart_of m t).number (hart_of m t).number refl in
     rw (thread, number) refl
 
 other-record : (m : Machine) (t u : ℕ) → u ≢ t → is_of u (hart_of m u).number (record_of m t) ≡ false
@@ -106,7 +112,8 @@ pub other-place :
     → IsNext past m front t back → u ≢ t → length front < place_in past m u
 other-place past m front t back u next other =
     let split = ap (position_or_len (is_of u (hart_of m u).number)) next.split in
-    let after = position-after (is_of u (hart_of m u).number) front (record_of m t ∷ back) (made-none_next m u front next.made) in
+    let after =
+    position-after (is_of u (hart_of m u).number) front (record_of m t ∷ back) (made-none_next m u front next.made) in
     let here = later (other-record m t u other) in
     omega arith
   where
@@ -123,7 +130,9 @@ next-found past m front t back next =
     ∙ find-after (is_of t (hart_of m t).number) front (record_of m t ∷ back) (made-none_next m t front next.made)
     ∙ here (own-record m t)
   where
-    here : is_of t (hart_of m t).number (record_of m t) ≡ true → find (is_of t (hart_of m t).number) (record_of m t ∷ back) ≡ Some (record_of m t)
+    here :
+        is_of t (hart_of m t).number (record_of m t) ≡ true
+        → find (is_of t (hart_of m t).number) (record_of m t ∷ back) ≡ Some (record_of m t)
     here own = rw own refl
 
 pub next-fits :
@@ -142,7 +151,8 @@ next-due past m front t back next =
     ∙ ap (take (length front)) next.split ∙ take-append_seam front (record_of m t ∷ back) in
     let passed : list_all (is_passed m) (must_come_before (past_records past) (place_in past m t)) ≡ true =
     ap (list_all (is_passed m)) before ∙ passed-all m front next.made in
-    or-right (is_none (record_for past m t)) (list_all (is_passed m) (must_come_before (past_records past) (place_in past m t))) passed
+    or-right (is_none (record_for past m t))
+    (list_all (is_passed m) (must_come_before (past_records past) (place_in past m t))) passed
   where
     or-right : (a b : Bool) → b ≡ true → (a || b) ≡ true
     or-right true b h = refl
@@ -168,7 +178,8 @@ next-chosen past m front t back whole next = by (stands past m whole)
           | inl same ↦ chosen ∙ ap (λ (n : ℕ). Some n) same
           | inr other ↦ absurd
               (let least =
-              (choice_by-chosen past m u chosen).least t (can_step-ready m t next.can) (next-due past m front t back next) in
+              (choice_by-chosen past m u chosen).least t (can_step-ready m t next.can)
+              (next-due past m front t back next) in
               let own = next-place past m front t back next in
               let far = other-place past m front t back u next other in
               omega arith)
@@ -176,18 +187,24 @@ next-chosen past m front t back whole next = by (stands past m whole)
 
 -- schedules in two parts
 
-pub permitted-front : (m : Machine) (xs ys : List ℕ) → is_permitted_from m (xs ++ ys) ≡ true → is_permitted_from m xs ≡ true
+pub permitted-front :
+    (m : Machine) (xs ys : List ℕ) → is_permitted_from m (xs ++ ys) ≡ true
+    → is_permitted_from m xs ≡ true
 permitted-front m [] ys permitted = refl
 permitted-front m (x ∷ xs) ys permitted =
     rw (and-left (can_step m x) (is_permitted_from (step m x) (xs ++ ys)) permitted)
     (permitted-front (step m x) xs ys (and-right (can_step m x) (is_permitted_from (step m x) (xs ++ ys)) permitted))
 
-pub permitted-back : (m : Machine) (xs ys : List ℕ) → is_permitted_from m (xs ++ ys) ≡ true → is_permitted_from (scratch_from m xs) ys ≡ true
+pub permitted-back :
+    (m : Machine) (xs ys : List ℕ) → is_permitted_from m (xs ++ ys) ≡ true
+    → is_permitted_from (scratch_from m xs) ys ≡ true
 permitted-back m [] ys permitted = permitted
 permitted-back m (x ∷ xs) ys permitted =
     permitted-back (step m x) xs ys (and-right (can_step m x) (is_permitted_from (step m x) (xs ++ ys)) permitted)
 
-pub records-both : (m : Machine) (xs ys : List ℕ) → records_from m (xs ++ ys) ≡ records_from m xs ++ records_from (scratch_from m xs) ys
+pub records-both :
+    (m : Machine) (xs ys : List ℕ)
+    → records_from m (xs ++ ys) ≡ records_from m xs ++ records_from (scratch_from m xs) ys
 records-both m [] ys = refl
 records-both m (x ∷ xs) ys = ap (λ (rs : List Record). record_of m x ∷ rs) (records-both (step m x) xs ys)
 
@@ -205,7 +222,8 @@ pub honest-next :
 honest-next h xs t ys honest split =
     let permitted : is_permitted_from (first h.setup) (xs ++ t ∷ ys) ≡ true =
     ap (is_permitted_from (first h.setup)) (sym split) ∙ honest.permitted in
-    let back : is_permitted_from (scratch h.setup xs) (t ∷ ys) ≡ true = permitted-back (first h.setup) xs (t ∷ ys) permitted in
+    let back : is_permitted_from (scratch h.setup xs) (t ∷ ys) ≡ true =
+    permitted-back (first h.setup) xs (t ∷ ys) permitted in
     record {
       split = honest.recorded ∙ ap (records h.setup) split ∙ records-both (first h.setup) xs (t ∷ ys);
       made = made-all (first h.setup) xs (permitted-front (first h.setup) xs (t ∷ ys) permitted);
@@ -213,7 +231,9 @@ honest-next h xs t ys honest split =
     }
 
 -- after all steps of it there is an end
-pub honest-end : (h : History) (xs : List ℕ) → IsHonest h → schedule_of h ≡ xs ++ [] → is_some (scratch h.setup xs).ending ≡ true
+pub honest-end :
+    (h : History) (xs : List ℕ) → IsHonest h → schedule_of h ≡ xs ++ []
+    → is_some (scratch h.setup xs).ending ≡ true
 honest-end h xs honest split =
     ap (λ (ts : List ℕ). is_some (scratch h.setup ts).ending) (sym (split ∙ append-nil xs)) ∙ honest.complete
 
@@ -247,8 +267,10 @@ follow-marks h xs [] honest split = refl
 follow-marks h xs (t ∷ ys) honest split =
     let next = honest-next h xs t ys honest split in
     ap (λ (b : Bool). record { thread = t; reused = b } ∷ marked_from (Some h) (step (scratch h.setup xs) t) ys)
-    (next-fits (Some h) (scratch h.setup xs) (records h.setup xs) t (records_from (step (scratch h.setup xs) t) ys) next)
-    ∙ ap (λ (m : Machine). record { thread = t; reused = true } ∷ marked_from (Some h) m ys) (sym (scratch-more (first h.setup) xs t))
+    (next-fits (Some h) (scratch h.setup xs) (records h.setup xs) t (records_from (step (scratch h.setup xs) t) ys)
+    next)
+    ∙ ap (λ (m : Machine). record { thread = t; reused = true } ∷ marked_from (Some h) m ys)
+    (sym (scratch-more (first h.setup) xs t))
     ∙ ap (λ (es : List Entry). record { thread = t; reused = true } ∷ es)
     (follow-marks h (xs ++ t ∷ []) ys honest (split ∙ sym (append_assoc xs (t ∷ []) ys)))
 
@@ -261,10 +283,6 @@ scratch-limit : (m : Machine) (ts : List ℕ) → (scratch_from m ts).limit ≡ 
 scratch-limit m [] = refl
 scratch-limit m (t ∷ ts) = scratch-limit (step m t) ts ∙ step-limit m t
 
-first-limit : (s : Setup) → ((first s).limit ≡ s.limit) × ((first s).steps ≡ 0)
-unfolding first
-first-limit s = (refl, refl)
-
 pub honest-length : (h : History) → IsHonest h → length (schedule_of h) ≤ h.setup.limit
 honest-length h honest =
     let whole : IsWhole (scratch h.setup (schedule_of h)) =
@@ -272,7 +290,6 @@ honest-length h honest =
     let few = whole.few_steps in
     let steps = scratch-steps (first h.setup) (schedule_of h) in
     let limit = scratch-limit (first h.setup) (schedule_of h) in
-    let begins = first-limit h.setup in
-    let most : (first h.setup).limit ≡ h.setup.limit = begins.0 in
-    let none : (first h.setup).steps ≡ 0 = begins.1 in
+    let most = first-limit h.setup in
+    let none = first-steps h.setup in
     omega arith

@@ -89,7 +89,9 @@ or-right : (a b : Bool) → b ≡ true → (a || b) ≡ true
 or-right true b h = refl
 or-right false b h = h
 
-least-there : (f : ℕ → ℕ) (x : ℕ) (xs : List ℕ) (l : ℕ) → l ≡ least (f x ∷ map f xs) → list_any (λ u. eqb (f u) l) (x ∷ xs) ≡ true
+least-there :
+    (f : ℕ → ℕ) (x : ℕ) (xs : List ℕ) (l : ℕ) → l ≡ least (f x ∷ map f xs)
+    → list_any (λ u. eqb (f u) l) (x ∷ xs) ≡ true
 least-there f x [] l is = let same : eqb (f x) l ≡ true = eq-eqb (f x) l (sym is) in rw same refl
 least-there f x (y ∷ ys) l is =
     elim (cases_lt (f x) (least (f y ∷ map f ys))) [

@@ -1,4 +1,5 @@
--- The whole round of one worker: its schedule is permitted and complete, and by a sound history it is the round which that makes.
+-- The whole round of one worker: its schedule is permitted and complete, and by a sound history it is the round which
+-- that makes.
 use Rattle.std.proofs.Common.{◌≡◌, ◌≢◌, ◌≤◌, ◌+◌, ℕ, zero, suc, Bool, true, false, cond, List, [], ◌∷◌, ◌++◌, Option, Some, None, is_some, unwrap_or, refl, ap, sym, ◌∙◌, subst, append_assoc, append-nil, arith}
 use Rattle.record_spec.specs.Record.{Record}
 use Rattle.machine_spec.specs.declared.states.End.{End}
@@ -25,15 +26,20 @@ use Rattle.worker_spec.specs.OneWorker.{made_by}
 use Rattle.worker_spec.proofs.Picks.{marked-threads, after-made, after-over, guided-over, guided-next, Stands, Over, Goes, stands, pick-over, pick-chosen, running}
 
 -- the schedule of one worker is permitted
-pub guided-permitted : (past : Option History) (n : ℕ) (m : Machine) → IsWhole m → is_permitted_from m (guided_from past n m) ≡ true
+pub guided-permitted :
+    (past : Option History) (n : ℕ) (m : Machine) → IsWhole m
+    → is_permitted_from m (guided_from past n m) ≡ true
 guided-permitted past zero m whole = refl
-guided-permitted past (suc n) m whole = by (stands past m whole) (λ t can. guided-permitted past n (step m t) (step-whole m t whole can))
+guided-permitted past (suc n) m whole =
+    by (stands past m whole) (λ t can. guided-permitted past n (step m t) (step-whole m t whole can))
   where
     by :
-        Stands past m → ((t : ℕ) → can_step m t ≡ true → is_permitted_from (step m t) (guided_from past n (step m t)) ≡ true)
+        Stands past m
+        → ((t : ℕ) → can_step m t ≡ true → is_permitted_from (step m t) (guided_from past n (step m t)) ≡ true)
         → is_permitted_from m (guided_from past (suc n) m) ≡ true
     by (Over e is) later = ap (is_permitted_from m) (guided-over past (suc n) m e is)
-    by (Goes t none chosen can) later = ap (is_permitted_from m) (guided-next past n m t none chosen) ∙ (rw can (later t can))
+    by (Goes t none chosen can) later =
+        ap (is_permitted_from m) (guided-next past n m t none chosen) ∙ (rw can (later t can))
 
 -- and complete, where there are picks enough
 pub guided-complete :
@@ -52,9 +58,11 @@ guided-complete past (suc n) m whole enough =
     guided-complete past n (step m t) (step-whole m t whole can) (omega arith))
   where
     by :
-        Stands past m → ((t : ℕ) → can_step m t ≡ true → is_complete_from (step m t) (guided_from past n (step m t)) ≡ true)
+        Stands past m
+        → ((t : ℕ) → can_step m t ≡ true → is_complete_from (step m t) (guided_from past n (step m t)) ≡ true)
         → is_complete_from m (guided_from past (suc n) m) ≡ true
-    by (Over e is) later = ap (is_complete_from m) (guided-over past (suc n) m e is) ∙ ap (λ (o : Option End). is_some o) is
+    by (Over e is) later =
+        ap (is_complete_from m) (guided-over past (suc n) m e is) ∙ ap (λ (o : Option End). is_some o) is
     by (Goes t none chosen can) later = ap (is_complete_from m) (guided-next past n m t none chosen) ∙ later t can
 
 -- the round after some picks is the one that the schedule so far makes
@@ -74,17 +82,21 @@ picks-made setup past (suc n) ts valid sound permitted =
         Stands past (scratch setup ts)
         → after_picks n (made_by setup past ts) ≡ made_by setup past (ts ++ guided_from past n (scratch setup ts))
         → ((t : ℕ) → can_step (scratch setup ts) t ≡ true
-        → after_picks n (made_by setup past (ts ++ t ∷ [])) ≡ made_by setup past ((ts ++ t ∷ []) ++ guided_from past n (scratch setup (ts ++ t ∷ []))))
-        → after_picks (suc n) (made_by setup past ts) ≡ made_by setup past (ts ++ guided_from past (suc n) (scratch setup ts))
+        → after_picks n (made_by setup past (ts ++ t ∷ []))
+        ≡ made_by setup past ((ts ++ t ∷ []) ++ guided_from past n (scratch setup (ts ++ t ∷ []))))
+        → after_picks (suc n) (made_by setup past ts)
+        ≡ made_by setup past (ts ++ guided_from past (suc n) (scratch setup ts))
     by (Over e is) stays goes =
         ap (after_picks n) (after-over setup past ts e is) ∙ stays
         ∙ ap (λ (us : List ℕ). made_by setup past (ts ++ us)) (guided-over past n (scratch setup ts) e is)
         ∙ sym (ap (λ (us : List ℕ). made_by setup past (ts ++ us)) (guided-over past (suc n) (scratch setup ts) e is))
     by (Goes t none chosen can) stays goes =
         ap (after_picks n) (after-made setup past ts t sound whole none chosen) ∙ goes t can
-        ∙ ap (λ (m : Machine). made_by setup past ((ts ++ t ∷ []) ++ guided_from past n m)) (scratch-more (first setup) ts t)
+        ∙ ap (λ (m : Machine). made_by setup past ((ts ++ t ∷ []) ++ guided_from past n m))
+        (scratch-more (first setup) ts t)
         ∙ ap (made_by setup past) (append_assoc ts (t ∷ []) (guided_from past n (step (scratch setup ts) t)))
-        ∙ sym (ap (λ (us : List ℕ). made_by setup past (ts ++ us)) (guided-next past n (scratch setup ts) t none chosen))
+        ∙ sym (ap (λ (us : List ℕ). made_by setup past (ts ++ us))
+        (guided-next past n (scratch setup ts) t none chosen))
 
 pub rounds-made :
     (setup : Setup) (past : Option History) (n : ℕ)
@@ -92,11 +104,16 @@ pub rounds-made :
     → after_picks n (opening setup past) ≡ made_by setup past (guided_from past n (first setup))
 rounds-made setup past n valid sound = picks-made setup past n [] valid sound refl
 
-pub one_worker-permitted : (setup : Setup) (past : Option History) → IsSetup setup → is_permitted setup (one_worker setup past) ≡ true
+pub one_worker-permitted :
+    (setup : Setup) (past : Option History) → IsSetup setup
+    → is_permitted setup (one_worker setup past) ≡ true
 one_worker-permitted setup past valid = guided-permitted past setup.limit (first setup) (IsWhole-first setup valid)
 
-pub one_worker-complete : (setup : Setup) (past : Option History) → IsSetup setup → is_complete setup (one_worker setup past) ≡ true
-one_worker-complete setup past valid = guided-complete past setup.limit (first setup) (IsWhole-first setup valid) (first-limit setup)
+pub one_worker-complete :
+    (setup : Setup) (past : Option History) → IsSetup setup
+    → is_complete setup (one_worker setup past) ≡ true
+one_worker-complete setup past valid =
+    guided-complete past setup.limit (first setup) (IsWhole-first setup valid) (first-limit setup)
 
 -- the records of a permitted schedule come from where the marks say
 source-is :

@@ -19,10 +19,13 @@ IsMadeOn m r = r.number < (hart_of m r.thread).number
 one_for-own : (t : ℕ) → one_for t t ≡ 1
 one_for-own t = let same : eqb t t ≡ true = eq-eqb t t refl in rw same refl
 
-pub made-all : (m : Machine) (ts : List ℕ) → is_permitted_from m ts ≡ true → AllByRecursion (IsMadeOn (scratch_from m ts)) (records_from m ts)
+pub made-all :
+    (m : Machine) (ts : List ℕ) → is_permitted_from m ts ≡ true
+    → AllByRecursion (IsMadeOn (scratch_from m ts)) (records_from m ts)
 made-all m [] permitted = tt
 made-all m (t ∷ ts) permitted =
-    let later : is_permitted_from (step m t) ts ≡ true = and-right (can_step m t) (is_permitted_from (step m t) ts) permitted in
+    let later : is_permitted_from (step m t) ts ≡ true =
+    and-right (can_step m t) (is_permitted_from (step m t) ts) permitted in
     let ready = can_step-ready m t (and-left (can_step m t) (is_permitted_from (step m t) ts) permitted) in
     let own = step-number m t t ready in
     let one = one_for-own t in

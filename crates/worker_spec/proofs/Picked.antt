@@ -30,13 +30,15 @@ AllChosen past m (t ∷ ts) = (choice_by past m nobody_out ≡ Some t) × AllCho
 
 guided-chosen : (past : Option History) (n : ℕ) (m : Machine) → IsWhole m → AllChosen past m (guided_from past n m)
 guided-chosen past zero m whole = tt
-guided-chosen past (suc n) m whole = by (stands past m whole) (λ t can. guided-chosen past n (step m t) (step-whole m t whole can))
+guided-chosen past (suc n) m whole =
+    by (stands past m whole) (λ t can. guided-chosen past n (step m t) (step-whole m t whole can))
   where
     by :
         Stands past m → ((t : ℕ) → can_step m t ≡ true → AllChosen past (step m t) (guided_from past n (step m t)))
         → AllChosen past m (guided_from past (suc n) m)
     by (Over e is) later = subst (AllChosen past m) (sym (guided-over past (suc n) m e is)) tt
-    by (Goes t none chosen can) later = subst (AllChosen past m) (sym (guided-next past n m t none chosen)) (chosen, later t can)
+    by (Goes t none chosen can) later =
+        subst (AllChosen past m) (sym (guided-next past n m t none chosen)) (chosen, later t can)
 
 chosen-at :
     (past : Option History) (m : Machine) (ts : List ℕ) (i d : ℕ)
@@ -62,14 +64,16 @@ after-marked :
     → machine_after setup (marked past setup ts) i ≡ scratch setup (take i ts)
 after-marked setup past ts i =
     ap (scratch setup)
-    (sym (take-map (λ (e : Entry). e.thread) i (marked past setup ts)) ∙ ap (take i) (marked-threads past (first setup) ts))
+    (sym (take-map (λ (e : Entry). e.thread) i (marked past setup ts))
+    ∙ ap (take i) (marked-threads past (first setup) ts))
 
 -- who has no place has no record
 find-none : (p : Record → Bool) (rs : List Record) → is_some (find p rs) ≡ false → position_or_len p rs ≡ length rs
 find-none p [] none = refl
 find-none p (r ∷ rs) none =
     elim (p r)
-    as (λ b. is_some (cond b (Some r) (find p rs)) ≡ false → cond (not b) (1 + position_or_len p rs) 0 ≡ suc (length rs)) [
+    as (λ b. is_some (cond b (Some r) (find p rs)) ≡ false → cond (not b) (1 + position_or_len p rs) 0
+    ≡ suc (length rs)) [
       | true ↦ λ h. absurd (cc)
       | false ↦ λ h. let rest = find-none p rs h in omega arith
     ]
@@ -90,23 +94,31 @@ and-false true b never = never refl
 and-false false b never = refl
 
 none-thread : (m : Machine) (p : ℕ → Bool) → ((v : ℕ) → p v ≡ false) → any_thread m p ≡ false
-none-thread m p never = none-any p (range_with_len 0 (length m.harts)) (range-all (λ v. p v ≡ false) (length m.harts) 0 never)
+none-thread m p never =
+    none-any p (range_with_len 0 (length m.harts)) (range-all (λ v. p v ≡ false) (length m.harts) 0 never)
 
-right-due : (past : Option History) (m : Machine) (u : ℕ) → IsChosen past m u → (is_due past m u || not (any_thread m (is_ready_and_due past m))) ≡ true
+right-due :
+    (past : Option History) (m : Machine) (u : ℕ) → IsChosen past m u
+    → (is_due past m u || not (any_thread m (is_ready_and_due past m))) ≡ true
 right-due past m u chosen =
     elim chosen.due [
       | inl due ↦ rw due refl
       | inr nobody ↦
           let none : any_thread m (is_ready_and_due past m) ≡ false =
-          none-thread m (is_ready_and_due past m) (λ v. and-false (is_ready (hart_of m v).status) (is_due past m v) (nobody v)) in
+          none-thread m (is_ready_and_due past m)
+          (λ v. and-false (is_ready (hart_of m v).status) (is_due past m v) (nobody v)) in
           either (is_due past m u) none
     ]
   where
-    either : (b : Bool) → any_thread m (is_ready_and_due past m) ≡ false → (b || not (any_thread m (is_ready_and_due past m))) ≡ true
+    either :
+        (b : Bool) → any_thread m (is_ready_and_due past m) ≡ false
+        → (b || not (any_thread m (is_ready_and_due past m))) ≡ true
     either true none = refl
     either false none = rw none refl
 
-unfit-past : (past : Option History) (m : Machine) (v : ℕ) → length (past_records past) ≤ place_in past m v → fits_next past m v ≡ false
+unfit-past :
+    (past : Option History) (m : Machine) (v : ℕ) → length (past_records past) ≤ place_in past m v
+    → fits_next past m v ≡ false
 unfit-past past m v far = ap (is_fitting m) (place-none (is_of v (hart_of m v).number) (past_records past) far)
 
 right-fit :
@@ -115,12 +127,14 @@ right-fit :
     → (b || not (any_thread m (λ v. is_ready_and_due past m v && fits_next past m v))) ≡ true
 right-fit past m u true chosen is = refl
 right-fit past m u false chosen is =
-    let place : place_in past m u ≡ length (past_records past) = find-none (is_of u (hart_of m u).number) (past_records past) is in
+    let place : place_in past m u ≡ length (past_records past) =
+    find-none (is_of u (hart_of m u).number) (past_records past) is in
     let none : any_thread m (λ v. is_ready_and_due past m v && fits_next past m v) ≡ false =
     none-thread m (λ v. is_ready_and_due past m v && fits_next past m v)
     (λ v. and-false (is_ready_and_due past m v) (fits_next past m v)
     (λ both. unfit-past past m v
-    (let least = chosen.least v (left (is_ready (hart_of m v).status) (is_due past m v) both) (right (is_ready (hart_of m v).status) (is_due past m v) both) in
+    (let least = chosen.least v (left (is_ready (hart_of m v).status) (is_due past m v) both)
+    (right (is_ready (hart_of m v).status) (is_due past m v) both) in
     omega arith))) in
     rw none refl
   where
@@ -132,11 +146,20 @@ right-fit past m u false chosen is =
     right true y h = h
     right false y h = cc
 
-chosen-picked : (past : Option History) (m : Machine) (u : ℕ) → IsChosen past m u → is_picked_on past m u (hart_of m u).number ≡ true
+chosen-picked :
+    (past : Option History) (m : Machine) (u : ℕ) → IsChosen past m u
+    → is_picked_on past m u (hart_of m u).number ≡ true
 unfolding is_picked_on
 chosen-picked past m u chosen =
-    let number : eqb (hart_of m u).number (hart_of m u).number ≡ true = eq-eqb (hart_of m u).number (hart_of m u).number refl in
-    rw (chosen.ready, number, right-due past m u chosen, right-fit past m u (is_some (found past u (hart_of m u).number)) chosen refl) refl
+    let number : eqb (hart_of m u).number (hart_of m u).number ≡ true =
+    eq-eqb (hart_of m u).number (hart_of m u).number refl in
+    rw (
+      chosen.ready,
+      number,
+      right-due past m u chosen,
+      right-fit past m u
+          (is_some (found past u (hart_of m u).number)) chosen refl,
+    ) refl
 
 pub guided-picked :
     (setup : Setup) (past : Option History) (i : ℕ) (e : Entry)
@@ -146,9 +169,11 @@ pub guided-picked :
     → IsPicked setup past (marked past setup (one_worker setup past)) i e i
 guided-picked setup past i e valid below is =
     let long = marked-length past (first setup) (one_worker setup past) in
-    let thread : e.thread ≡ get_or (one_worker setup past) i 0 = marked-at past (first setup) (one_worker setup past) i 0 e (omega arith) is in
+    let thread : e.thread ≡ get_or (one_worker setup past) i 0 =
+    marked-at past (first setup) (one_worker setup past) i 0 e (omega arith) is in
     let chosen : choice_by past (scratch setup (take i (one_worker setup past))) nobody_out ≡ Some e.thread =
-    chosen-at past (first setup) (one_worker setup past) i 0 (guided-chosen past setup.limit (first setup) (IsWhole-first setup valid)) (omega arith)
+    chosen-at past (first setup) (one_worker setup past) i 0
+    (guided-chosen past setup.limit (first setup) (IsWhole-first setup valid)) (omega arith)
     ∙ ap (λ (t : ℕ). Some t) (sym thread) in
     record {
       earlier = omega arith;

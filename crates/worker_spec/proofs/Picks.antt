@@ -19,6 +19,7 @@ use Rattle.round_spec.specs.Marks.{record_for, is_fitting, fits_next, marked_fro
 use Rattle.round_spec.specs.Rounds.{RoundState, nobody_out, happens}
 use Rattle.round_spec.specs.Choice.{choice_by, pick_of}
 use Rattle.round_spec.specs.Alone.{guided_from, after_pick}
+use Rattle.round_spec.proofs.Fits.{marked-more}
 use Rattle.worker_spec.specs.OneWorker.{made_by}
 use Rattle.worker_spec.proofs.Lists.{get-raised, set-lowered}
 use Rattle.worker_spec.proofs.Choosing.{out-nobody, choice_by-some, choice_by-chosen}
@@ -28,14 +29,6 @@ use Rattle.worker_spec.proofs.Choosing.{out-nobody, choice_by-some, choice_by-ch
 pub marked-threads : (past : Option History) (m : Machine) (ts : List ℕ) → threads_of (marked_from past m ts) ≡ ts
 marked-threads past m [] = refl
 marked-threads past m (t ∷ ts) = ap (λ (us : List ℕ). t ∷ us) (marked-threads past (step m t) ts)
-
-pub marked-more :
-    (past : Option History) (m : Machine) (ts : List ℕ) (t : ℕ)
-    → marked_from past m (ts ++ t ∷ [])
-    ≡ marked_from past m ts ++ record { thread = t; reused = fits_next past (scratch_from m ts) t } ∷ []
-marked-more past m [] t = refl
-marked-more past m (u ∷ ts) t =
-    ap (λ (es : List Entry). record { thread = u; reused = fits_next past m u } ∷ es) (marked-more past (step m u) ts t)
 
 -- a round of one worker by its parts
 abbrev pub lone_state : Setup → Option History → Machine → List Entry → List Record → RoundState
@@ -63,7 +56,8 @@ made-more setup past ts t =
 -- one pick
 
 pub after-reuse :
-    (setup : Setup) (past : Option History) (m : Machine) (schedule : List Entry) (rs : List Record) (t : ℕ) (r : Record)
+    (setup : Setup) (past : Option History) (m : Machine) (schedule : List Entry) (rs : List Record) (t : ℕ)
+    (r : Record)
     → is_some m.ending ≡ false → is_ready (hart_of m t).status ≡ true
     → record_for past m t ≡ Some r → fits m r ≡ true
     → after_pick (lone_state setup past m schedule rs) (pick.Reuse t)
@@ -84,12 +78,16 @@ pub after-run :
     → is_some m.ending ≡ false → is_ready (hart_of m t).status ≡ true → t < 32
     → fits_next past m t ≡ false
     → after_pick (lone_state setup past m schedule rs) (pick.Run t)
-    ≡ lone_state setup past (step m t) (schedule ++ record { thread = t; reused = false } ∷ []) (rs ++ record_of m t ∷ [])
+    ≡ lone_state setup past (step m t) (schedule ++ record { thread = t; reused = false } ∷ [])
+    (rs ++ record_of m t ∷ [])
 unfolding happens
 after-run setup past m schedule rs t none ready below unfit =
     rw (none, ready, out-nobody t, unfit, raised t below, lowered t, none) refl
 
-pub pick-over : (setup : Setup) (past : Option History) (m : Machine) (schedule : List Entry) (rs : List Record) → is_some m.ending ≡ true → pick_of (lone_state setup past m schedule rs) ≡ pick.Over
+pub pick-over :
+    (setup : Setup) (past : Option History) (m : Machine) (schedule : List Entry) (rs : List Record)
+    → is_some m.ending ≡ true
+    → pick_of (lone_state setup past m schedule rs) ≡ pick.Over
 unfolding pick_of
 pick-over setup past m schedule rs is = rw is refl
 
@@ -112,7 +110,8 @@ below-32 m t whole ready =
 
 -- to follow the choice of a thread makes its step, by its record where that fits
 after-chosen :
-    (setup : Setup) (past : Option History) (m : Machine) (schedule : List Entry) (rs : List Record) (t : ℕ) (o : Option Record) (b : Bool)
+    (setup : Setup) (past : Option History) (m : Machine) (schedule : List Entry) (rs : List Record) (t : ℕ)
+    (o : Option Record) (b : Bool)
     → IsSound past setup → IsWhole m → m.frame ≡ (first setup).frame
     → m.ending ≡ None → is_ready (hart_of m t).status ≡ true
     → record_for past m t ≡ o → is_fitting m o ≡ b
@@ -121,12 +120,15 @@ after-chosen :
 after-chosen setup past m schedule rs t None true sound whole frame none ready there fit = cc
 after-chosen setup past m schedule rs t (Some r) true sound whole frame none ready there fit =
     after-reuse setup past m schedule rs t r (running m none) ready there fit
-    ∙ ap (λ (n : Machine). lone_state setup past n (schedule ++ record { thread = t; reused = true } ∷ []) (rs ++ r ∷ []))
+    ∙ ap (λ (n : Machine). lone_state setup past n (schedule ++ record { thread = t; reused = true } ∷ [])
+    (rs ++ r ∷ []))
     (reuse-lay setup past m t (hart_of m t).number r sound whole frame there fit)
-    ∙ ap (λ (x : Record). lone_state setup past (step m t) (schedule ++ record { thread = t; reused = true } ∷ []) (rs ++ x ∷ []))
+    ∙ ap (λ (x : Record). lone_state setup past (step m t) (schedule ++ record { thread = t; reused = true } ∷ [])
+    (rs ++ x ∷ []))
     (reuse-record setup past m t (hart_of m t).number r sound whole frame there fit)
 after-chosen setup past m schedule rs t o false sound whole frame none ready there fit =
-    after-run setup past m schedule rs t (running m none) ready (below-32 m t whole ready) (ap (is_fitting m) there ∙ fit)
+    after-run setup past m schedule rs t (running m none) ready (below-32 m t whole ready)
+    (ap (is_fitting m) there ∙ fit)
 
 pub after-made :
     (setup : Setup) (past : Option History) (ts : List ℕ) (t : ℕ)
@@ -136,8 +138,10 @@ pub after-made :
     → after_pick (made_by setup past ts) (pick_of (made_by setup past ts)) ≡ made_by setup past (ts ++ t ∷ [])
 after-made setup past ts t sound whole none chosen =
     ap (after_pick (made_by setup past ts))
-    (pick-chosen setup past (scratch setup ts) (marked past setup ts) (records setup ts) t (running (scratch setup ts) none) chosen)
-    ∙ after-chosen setup past (scratch setup ts) (marked past setup ts) (records setup ts) t (record_for past (scratch setup ts) t)
+    (pick-chosen setup past (scratch setup ts) (marked past setup ts) (records setup ts) t
+    (running (scratch setup ts) none) chosen)
+    ∙ after-chosen setup past (scratch setup ts) (marked past setup ts) (records setup ts) t
+    (record_for past (scratch setup ts) t)
     (fits_next past (scratch setup ts) t) sound whole (scratch-frame (first setup) ts) none
     (choice_by-chosen past (scratch setup ts) t chosen).ready refl refl
     ∙ sym (made-more setup past ts t)
@@ -148,12 +152,16 @@ pub after-over :
     → after_pick (made_by setup past ts) (pick_of (made_by setup past ts)) ≡ made_by setup past ts
 after-over setup past ts e is =
     ap (after_pick (made_by setup past ts))
-    (pick-over setup past (scratch setup ts) (marked past setup ts) (records setup ts) (ap (λ (o : Option End). is_some o) is))
+    (pick-over setup past (scratch setup ts) (marked past setup ts) (records setup ts)
+    (ap (λ (o : Option End). is_some o) is))
 
 -- nothing is chosen after an end, and somebody before it
-pub guided-over : (past : Option History) (n : ℕ) (m : Machine) (e : End) → m.ending ≡ Some e → guided_from past n m ≡ []
+pub guided-over :
+    (past : Option History) (n : ℕ) (m : Machine) (e : End) → m.ending ≡ Some e
+    → guided_from past n m ≡ []
 guided-over past zero m e is = refl
-guided-over past (suc n) m e is = ap (λ (o : Option End). chosen_first o (choice_by past m nobody_out) (λ t. guided_from past n (step m t))) is
+guided-over past (suc n) m e is =
+    ap (λ (o : Option End). chosen_first o (choice_by past m nobody_out) (λ t. guided_from past n (step m t))) is
 
 pub guided-next :
     (past : Option History) (n : ℕ) (m : Machine) (t : ℕ)

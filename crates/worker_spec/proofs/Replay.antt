@@ -20,12 +20,14 @@ use Rattle.round_spec.specs.declared.events.Event.TheVariants.{Take, Reuse, Comm
 use Rattle.round_spec.specs.declared.events.Pick.{Pick}
 use Rattle.round_spec.specs.declared.events.Pick.TheVariants as pick
 use Rattle.round_spec.specs.Marks.{record_for, fits_next}
-use Rattle.round_spec.specs.Rounds.{RoundState, opening, is_over, is_out, is_out_of, reused_by, with_stop, happens}
+use Rattle.round_spec.specs.Rounds.{RoundState, opening, is_over, is_out, is_out_of, reused_by, happens}
 use Rattle.round_spec.specs.Due.{place_in, is_due}
 use Rattle.round_spec.specs.Choice.{choice_by, pick_of}
 use Rattle.round_spec.specs.Alone.{begun}
 use Rattle.round_spec.specs.Instructions.{executed_instructions}
 use Rattle.round_spec.specs.Unedited.{is_all_reused, all_reused_of, OnlyReuses}
+use Rattle.round_spec.proofs.Conditions.{happens-commit_not, happens-give_back_not, happens-stop}
+use Rattle.round_spec.proofs.Fits.{threads-more}
 use Rattle.worker_spec.specs.Replaying.{IsReplaying, IsNextStep, goes_on_by}
 use Rattle.worker_spec.proofs.Choosing.{out-nobody}
 use Rattle.worker_spec.proofs.Numbers.{can_step-ready}
@@ -34,7 +36,10 @@ use Rattle.worker_spec.proofs.Unedited.{reused-all, reused-instructions, reused-
 
 -- a list's first elements
 
-grown : {X : Type 0} (all front : List X) (x : X) (back : List X) (k : ℕ) → all ≡ front ++ x ∷ back → k ≡ length (front ++ x ∷ []) → front ++ x ∷ [] ≡ take k all
+grown :
+    {X : Type 0} (all front : List X) (x : X) (back : List X) (k : ℕ) → all ≡ front ++ x ∷ back
+    → k ≡ length (front ++ x ∷ [])
+    → front ++ x ∷ [] ≡ take k all
 grown all front x back k split long =
     sym (take-append_seam (front ++ x ∷ []) back)
     ∙ ap (λ (xs : _). take (length (front ++ x ∷ [])) xs) (append_assoc front (x ∷ []) back ∙ sym split)
@@ -46,10 +51,6 @@ reused_of t = record { thread = t; reused = true }
 threads-reused : (ts : List ℕ) → threads_of (map reused_of ts) ≡ ts
 threads-reused [] = refl
 threads-reused (t ∷ ts) = ap (λ (us : List ℕ). t ∷ us) (threads-reused ts)
-
-threads-more : (es : List Entry) (e : Entry) → threads_of (es ++ e ∷ []) ≡ threads_of es ++ e.thread ∷ []
-threads-more [] e = refl
-threads-more (x ∷ es) e = ap (λ (us : List ℕ). x.thread ∷ us) (threads-more es e)
 
 length-threads : (es : List Entry) → length (threads_of es) ≡ length es
 length-threads [] = refl
@@ -68,18 +69,24 @@ map-both [] ys = refl
 map-both (x ∷ xs) ys = ap (λ (es : List Entry). reused_of x ∷ es) (map-both xs ys)
 
 -- the threads so far are the history's first
-replayed-threads : (h : History) (w : RoundState) → IsReplaying h w → threads_of w.schedule ≡ take (length w.schedule) (schedule_of h)
+replayed-threads :
+    (h : History) (w : RoundState) → IsReplaying h w
+    → threads_of w.schedule ≡ take (length w.schedule) (schedule_of h)
 replayed-threads h w replays =
     ap threads_of replays.schedule
     ∙ sym (take-map (λ (e : Entry). e.thread) (length w.schedule) (all_reused_of h))
     ∙ ap (take (length w.schedule)) (threads-reused (schedule_of h))
 
-replayed-split : (h : History) (w : RoundState) → IsReplaying h w → schedule_of h ≡ threads_of w.schedule ++ drop (length w.schedule) (schedule_of h)
+replayed-split :
+    (h : History) (w : RoundState) → IsReplaying h w
+    → schedule_of h ≡ threads_of w.schedule ++ drop (length w.schedule) (schedule_of h)
 replayed-split h w replays =
     sym (take-append-drop (length w.schedule) (schedule_of h))
     ∙ ap (λ (ts : List ℕ). ts ++ drop (length w.schedule) (schedule_of h)) (sym (replayed-threads h w replays))
 
-replayed-schedule : (h : History) (w : RoundState) → IsReplaying h w → map reused_of (threads_of w.schedule) ≡ w.schedule
+replayed-schedule :
+    (h : History) (w : RoundState) → IsReplaying h w
+    → map reused_of (threads_of w.schedule) ≡ w.schedule
 replayed-schedule h w replays =
     ap (map reused_of) (replayed-threads h w replays)
     ∙ sym (take-map reused_of (length w.schedule) (schedule_of h))
@@ -90,7 +97,8 @@ data Replays (h : History) (w : RoundState) : Type 0 where
   Done : schedule_of h ≡ threads_of w.schedule → is_some w.machine.ending ≡ true → Replays h w
   Next :
       (t : ℕ) (ys : List ℕ) → schedule_of h ≡ threads_of w.schedule ++ t ∷ ys → IsWhole w.machine
-      → IsNext (Some h) w.machine (records h.setup (threads_of w.schedule)) t (records_from (step w.machine t) ys) → Replays h w
+      → IsNext (Some h) w.machine (records h.setup (threads_of w.schedule)) t (records_from (step w.machine t) ys)
+      → Replays h w
 
 where-it-stands : (h : History) (w : RoundState) → IsHonest h → IsReplaying h w → Replays h w
 where-it-stands h w honest replays = by (drop (length w.schedule) (schedule_of h)) (replayed-split h w replays)
@@ -102,7 +110,8 @@ where-it-stands h w honest replays = by (drop (length w.schedule) (schedule_of h
     by (t ∷ ys) split =
         Next t ys split
         (subst IsWhole (sym replays.machine) (honest-whole h (threads_of w.schedule) (t ∷ ys) honest split))
-        (subst (λ (m : Machine). IsNext (Some h) m (records h.setup (threads_of w.schedule)) t (records_from (step m t) ys)) (sym replays.machine)
+        (subst (λ (m : Machine). IsNext (Some h) m (records h.setup (threads_of w.schedule)) t
+        (records_from (step m t) ys)) (sym replays.machine)
         (honest-next h (threads_of w.schedule) t ys honest split))
 
 -- what is picked
@@ -138,9 +147,11 @@ replay-pick h w t ys replays going whole next =
     pick-reuse w t going
     (ap (λ (past : Option History). choice_by past w.machine w.out) replays.past
     ∙ ap (choice_by (Some h) w.machine) replays.out
-    ∙ next-chosen (Some h) w.machine (records h.setup (threads_of w.schedule)) t (records_from (step w.machine t) ys) whole next)
+    ∙ next-chosen (Some h) w.machine (records h.setup (threads_of w.schedule)) t (records_from (step w.machine t) ys)
+    whole next)
     (ap (λ (past : Option History). fits_next past w.machine t) replays.past
-    ∙ next-fits (Some h) w.machine (records h.setup (threads_of w.schedule)) t (records_from (step w.machine t) ys) next)
+    ∙ next-fits (Some h) w.machine (records h.setup (threads_of w.schedule)) t (records_from (step w.machine t) ys)
+    next)
 
 -- the next step is reused
 
@@ -166,7 +177,8 @@ replayed-more h w t ys replays split whole next =
           ∙ ap (λ (es : List Entry). es ++ reused_of t ∷ map reused_of ys) (replayed-schedule h w replays)) refl;
       records =
           ap (λ (rs : List Record). rs ++ record_of w.machine t ∷ []) so_far
-          ∙ grown h.records (records h.setup (threads_of w.schedule)) (record_of w.machine t) (records_from (step w.machine t) ys)
+          ∙ grown h.records (records h.setup (threads_of w.schedule)) (record_of w.machine t)
+          (records_from (step w.machine t) ys)
           (length (w.schedule ++ reused_of t ∷ [])) next.split
           (let entries = length-append w.schedule (reused_of t ∷ []) in
           let kept = length-append (records h.setup (threads_of w.schedule)) (record_of w.machine t ∷ []) in
@@ -180,9 +192,11 @@ replayed-more h w t ys replays split whole next =
     so_far : w.records ≡ records h.setup (threads_of w.schedule)
     so_far =
         replays.records ∙ ap (take (length w.schedule)) next.split
-        ∙ ap (λ (n : ℕ). take n (records h.setup (threads_of w.schedule) ++ record_of w.machine t ∷ records_from (step w.machine t) ys))
+        ∙ ap (λ (n : ℕ). take n (records h.setup (threads_of w.schedule) ++ record_of w.machine t ∷ records_from
+        (step w.machine t) ys))
         (sym (length-records (first h.setup) (threads_of w.schedule) ∙ length-threads w.schedule))
-        ∙ take-append_seam (records h.setup (threads_of w.schedule)) (record_of w.machine t ∷ records_from (step w.machine t) ys)
+        ∙ take-append_seam (records h.setup (threads_of w.schedule))
+        (record_of w.machine t ∷ records_from (step w.machine t) ys)
 
 -- what picks and events have to do with each other
 
@@ -198,18 +212,6 @@ reuse-takes_nothing p t u is goes = let impossible = rw is at goes in cc
 reuse-same : (p : Pick) (t u : ℕ) → p ≡ pick.Reuse t → goes_on_by p (Reuse u) ≡ true → t ≡ u
 reuse-same p t u is goes = let same = rw is at goes in eqb-true t u same
 
-out-commit : (w : RoundState) (u : ℕ) → is_out w u ≡ false → happens w (Commit u) ≡ w
-unfolding happens
-out-commit w u inside = rw inside refl
-
-out-give_back : (w : RoundState) (u : ℕ) → is_out w u ≡ false → happens w (GiveBack u) ≡ w
-unfolding happens
-out-give_back w u inside = rw inside refl
-
-stop-happens : (w : RoundState) → happens w Stop ≡ with_stop w
-unfolding happens
-stop-happens w = refl
-
 take-never :
     (h : History) (w : RoundState) (u : ℕ) (over : Bool)
     → IsReplaying h w → Replays h w → is_over w ≡ over → goes_on_by (pick_of w) (Take u) ≡ true → ⊥
@@ -220,29 +222,39 @@ take-never h w u false replays (Next t ys split whole next) is goes =
 
 reuse-replays :
     (h : History) (w : RoundState) (u : ℕ) (over : Bool)
-    → IsReplaying h w → Replays h w → is_over w ≡ over → goes_on_by (pick_of w) (Reuse u) ≡ true → IsReplaying h (happens w (Reuse u))
+    → IsReplaying h w → Replays h w → is_over w ≡ over → goes_on_by (pick_of w) (Reuse u) ≡ true
+    → IsReplaying h (happens w (Reuse u))
 reuse-replays h w u true replays place is goes = absurd (over-reuses_nothing (pick_of w) u (pick-over w is) goes)
 reuse-replays h w u false replays (Done split ended) is goes = absurd (let over = rw ended at is in cc)
 reuse-replays h w u false replays (Next t ys split whole next) is goes =
-    subst (λ (v : ℕ). IsReplaying h (happens w (Reuse v))) (reuse-same (pick_of w) t u (replay-pick h w t ys replays is whole next) goes)
+    subst (λ (v : ℕ). IsReplaying h (happens w (Reuse v)))
+    (reuse-same (pick_of w) t u (replay-pick h w t ys replays is whole next) goes)
     (subst (IsReplaying h)
     (sym (reuse-happens w t (record_of w.machine t) is (can_step-ready w.machine t next.can) (replay-out h w t replays)
     (ap (λ (past : Option History). record_for past w.machine t) replays.past
-    ∙ next-found (Some h) w.machine (records h.setup (threads_of w.schedule)) t (records_from (step w.machine t) ys) next)
+    ∙ next-found (Some h) w.machine (records h.setup (threads_of w.schedule)) t (records_from (step w.machine t) ys)
+    next)
     (record-fits w.machine t (can_step-ready w.machine t next.can))))
     (replayed-more h w t ys replays split whole next))
 
 -- the round replays its history from its start on, as long as it goes on by what is picked
 pub replays-start : (h : History) → IsReplaying h (opening h.setup (Some h))
-replays-start h = record { setup = refl; past = refl; machine = refl; schedule = refl; records = refl; out = refl; discarded = refl }
+replays-start h =
+    record { setup = refl; past = refl; machine = refl; schedule = refl; records = refl; out = refl; discarded = refl }
 
-pub replays-on : (h : History) (w : RoundState) (e : Event) → IsHonest h → IsReplaying h w → goes_on_by (pick_of w) e ≡ true → IsReplaying h (happens w e)
-replays-on h w (Take u) honest replays goes = absurd (take-never h w u (is_over w) replays (where-it-stands h w honest replays) refl goes)
-replays-on h w (Reuse u) honest replays goes = reuse-replays h w u (is_over w) replays (where-it-stands h w honest replays) refl goes
-replays-on h w (Commit u) honest replays goes = subst (IsReplaying h) (sym (out-commit w u (replay-out h w u replays))) replays
-replays-on h w (GiveBack u) honest replays goes = subst (IsReplaying h) (sym (out-give_back w u (replay-out h w u replays))) replays
+pub replays-on :
+    (h : History) (w : RoundState) (e : Event) → IsHonest h → IsReplaying h w → goes_on_by (pick_of w) e ≡ true
+    → IsReplaying h (happens w e)
+replays-on h w (Take u) honest replays goes =
+    absurd (take-never h w u (is_over w) replays (where-it-stands h w honest replays) refl goes)
+replays-on h w (Reuse u) honest replays goes =
+    reuse-replays h w u (is_over w) replays (where-it-stands h w honest replays) refl goes
+replays-on h w (Commit u) honest replays goes =
+    subst (IsReplaying h) (sym (happens-commit_not w u (replay-out h w u replays))) replays
+replays-on h w (GiveBack u) honest replays goes =
+    subst (IsReplaying h) (sym (happens-give_back_not w u (replay-out h w u replays))) replays
 replays-on h w Stop honest replays goes =
-    subst (IsReplaying h) (sym (stop-happens w))
+    subst (IsReplaying h) (sym (happens-stop w))
     (record {
       setup = replays.setup;
       past = replays.past;
@@ -277,7 +289,9 @@ next-step h w t ys replays going whole next =
           omega arith;
     }
 
-pub replays-next : (h : History) (w : RoundState) → IsHonest h → IsReplaying h w → is_over w ≡ false → (t : ℕ) × IsNextStep w t
+pub replays-next :
+    (h : History) (w : RoundState) → IsHonest h → IsReplaying h w → is_over w ≡ false
+    → (t : ℕ) × IsNextStep w t
 replays-next h w honest replays going = by (where-it-stands h w honest replays)
   where
     by : Replays h w → (t : ℕ) × IsNextStep w t
@@ -306,7 +320,9 @@ replays-end h w honest replays ended = by (where-it-stands h w honest replays)
               ap (λ (s : Setup). begun s w.past) replays.setup
               ∙ ap (begun h.setup) replays.past
               ∙ unedited-begun h honest;
-          executed = ap (λ (es : List Entry). executed_instructions es w.records) schedule ∙ reused-executed (schedule_of h) w.records;
+          executed =
+              ap (λ (es : List Entry). executed_instructions es w.records) schedule
+              ∙ reused-executed (schedule_of h) w.records;
           discarded = replays.discarded;
           machine = replays.machine ∙ ap (scratch h.setup) (sym split);
           records =
@@ -318,9 +334,13 @@ replays-end h w honest replays ended = by (where-it-stands h w honest replays)
               let same = ap (λ (ts : List ℕ). length ts) split in
               omega arith);
         }
-    by (Next t ys split whole next) = absurd (let none = can_step-none w.machine t next.can in let impossible = rw none at ended in cc)
+    by (Next t ys split whole next) =
+        absurd (let none = can_step-none w.machine t next.can in let impossible = rw none at ended in cc)
 
 -- and on the way nothing is executed
-pub replays-instructions : (h : History) (w : RoundState) → IsReplaying h w → instructions_from (first h.setup) w.schedule ≡ 0
+pub replays-instructions :
+    (h : History) (w : RoundState) → IsReplaying h w
+    → instructions_from (first h.setup) w.schedule ≡ 0
 replays-instructions h w replays =
-    ap (instructions_from (first h.setup)) (sym (replayed-schedule h w replays)) ∙ reused-instructions (first h.setup) (threads_of w.schedule)
+    ap (instructions_from (first h.setup)) (sym (replayed-schedule h w replays))
+    ∙ reused-instructions (first h.setup) (threads_of w.schedule)

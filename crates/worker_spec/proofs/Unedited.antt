@@ -28,7 +28,8 @@ honest-sound h honest = (honest, record { elf = refl; fuel = refl; limit = refl 
 
 pub unedited-schedule : (h : History) → IsHonest h → one_worker h.setup (Some h) ≡ schedule_of h
 unedited-schedule h honest =
-    follow h h.setup.limit [] (schedule_of h) honest refl ∙ take_all h.setup.limit (schedule_of h) (honest-length h honest)
+    follow h h.setup.limit [] (schedule_of h) honest refl
+    ∙ take_all h.setup.limit (schedule_of h) (honest-length h honest)
 
 -- the round is the one that the history's schedule makes
 pub unedited-round : (h : History) → IsHonest h → lone_round h.setup (Some h) ≡ made_by h.setup (Some h) (schedule_of h)
@@ -44,7 +45,9 @@ reused-all [] = refl
 reused-all (t ∷ ts) = reused-all ts
 
 -- reused entries execute nothing
-pub reused-instructions : (m : Machine) (ts : List ℕ) → instructions_from m (map (λ t. record { thread = t; reused = true }) ts) ≡ 0
+pub reused-instructions :
+    (m : Machine) (ts : List ℕ)
+    → instructions_from m (map (λ t. record { thread = t; reused = true }) ts) ≡ 0
 reused-instructions m [] = refl
 reused-instructions m (t ∷ ts) = let rest = reused-instructions (step m t) ts in omega arith
 
@@ -60,17 +63,22 @@ made-not_run :
     → IsHonest h → schedule_of h ≡ xs ++ ys → pick_of (made_by h.setup (Some h) xs) ≢ pick.Run u
 made-not_run h xs [] u honest split =
     not-run (pick_of (made_by h.setup (Some h) xs)) u
-    (pick-over h.setup (Some h) (scratch h.setup xs) (marked (Some h) h.setup xs) (records h.setup xs) (honest-end h xs honest split))
+    (pick-over h.setup (Some h) (scratch h.setup xs) (marked (Some h) h.setup xs) (records h.setup xs)
+    (honest-end h xs honest split))
 made-not_run h xs (t ∷ ys) u honest split =
     let next = honest-next h xs t ys honest split in
     let back : List Record = records_from (step (scratch h.setup xs) t) ys in
     reuse-not_run (pick_of (made_by h.setup (Some h) xs)) t u
     (pick-chosen h.setup (Some h) (scratch h.setup xs) (marked (Some h) h.setup xs) (records h.setup xs) t
     (running (scratch h.setup xs) (can_step-none (scratch h.setup xs) t next.can))
-    (next-chosen (Some h) (scratch h.setup xs) (records h.setup xs) t back (honest-whole h xs (t ∷ ys) honest split) next)
-    ∙ ap (λ (b : Bool). cond b (pick.Reuse t) (pick.Run t)) (next-fits (Some h) (scratch h.setup xs) (records h.setup xs) t back next))
+    (next-chosen (Some h) (scratch h.setup xs) (records h.setup xs) t back (honest-whole h xs (t ∷ ys) honest split)
+    next)
+    ∙ ap (λ (b : Bool). cond b (pick.Reuse t) (pick.Run t))
+    (next-fits (Some h) (scratch h.setup xs) (records h.setup xs) t back next))
 
-pub unedited-never_runs : (h : History) (n u : ℕ) → IsHonest h → pick_of (after_picks n (opening h.setup (Some h))) ≢ pick.Run u
+pub unedited-never_runs :
+    (h : History) (n u : ℕ) → IsHonest h
+    → pick_of (after_picks n (opening h.setup (Some h))) ≢ pick.Run u
 unedited-never_runs h n u honest = λ run.
     made-not_run h (take n (schedule_of h)) (drop n (schedule_of h)) u honest (sym (take-append-drop n (schedule_of h)))
     (ap pick_of
@@ -95,7 +103,9 @@ pub unedited-begun : (h : History) → IsHonest h → begun h.setup (Some h) ≡
 unedited-begun h honest = none-begun h.setup.limit (opening h.setup (Some h)) (λ k u. unedited-never_runs h k u honest)
 
 -- reused records count for nothing
-pub reused-executed : (ts : List ℕ) (rs : List Record) → executed_instructions (map (λ t. record { thread = t; reused = true }) ts) rs ≡ 0
+pub reused-executed :
+    (ts : List ℕ) (rs : List Record)
+    → executed_instructions (map (λ t. record { thread = t; reused = true }) ts) rs ≡ 0
 reused-executed [] rs = refl
 reused-executed (t ∷ ts) [] = refl
 reused-executed (t ∷ ts) (r ∷ rs) = let rest = reused-executed ts rs in omega arith
@@ -116,9 +126,12 @@ unedited-reuses h honest =
       records = sym honest.recorded;
     })
 
-pub unedited-instructions : (h : History) → IsHonest h → instructions_from (first h.setup) (lone_round h.setup (Some h)).schedule ≡ 0
+pub unedited-instructions :
+    (h : History) → IsHonest h
+    → instructions_from (first h.setup) (lone_round h.setup (Some h)).schedule ≡ 0
 unedited-instructions h honest =
-    ap (instructions_from (first h.setup)) (unedited-reuses h honest).schedule ∙ reused-instructions (first h.setup) (schedule_of h)
+    ap (instructions_from (first h.setup)) (unedited-reuses h honest).schedule
+    ∙ reused-instructions (first h.setup) (schedule_of h)
 
 pub unedited-executed : (h : History) → IsHonest h → executed_in h.setup.limit (opening h.setup (Some h)) ≡ 0
 unedited-executed h honest =

@@ -1,4 +1,5 @@
--- What one worker makes of a round: a round that is known by its schedule alone, and how many instructions were executed.
+-- What one worker makes of a round: a round that is known by its schedule alone, and how many instructions were
+-- executed.
 use Rattle.std.specs.Prelude.{ℕ, zero, suc, ◌+◌, false, List, Option}
 use Rattle.thunk_spec.specs.Thunk.{thunk}
 use Rattle.machine_spec.specs.Machine.{hart_of}
@@ -11,8 +12,8 @@ use Rattle.round_spec.specs.Rounds.{RoundState, nobody_out}
 use Rattle.round_spec.specs.Choice.{pick_of}
 use Rattle.round_spec.specs.Alone.{after_pick}
 
--- The round whose steps were made under a schedule, where nobody is out, nothing was discarded and nobody stopped it: its machine and
--- its records are those from scratch, and its marks are exact.
+-- The round whose steps were made under a schedule, where nobody is out, nothing was discarded and nobody stopped it:
+-- its machine and its records are those from scratch, and its marks are exact.
 abbrev pub made_by : Setup → Option History → List ℕ → RoundState
 made_by setup past schedule =
     record {

@@ -12,8 +12,8 @@ use Rattle.round_spec.specs.Due.{place_in, is_due}
 use Rattle.round_spec.specs.Choice.{pick_of}
 use Rattle.round_spec.specs.Unedited.{all_reused_of}
 
--- A round of the history's own setup that has reused the history's first steps in order and done nothing else: its records are the
--- history's, nobody is out, and nothing was discarded.
+-- A round of the history's own setup that has reused the history's first steps in order and done nothing else: its
+-- records are the history's, nobody is out, and nothing was discarded.
 pub record IsReplaying (h : History) (w : RoundState) : Type 0 where
   pub setup : w.setup ≡ h.setup
   pub past : w.past ≡ Some h
@@ -23,16 +23,16 @@ pub record IsReplaying (h : History) (w : RoundState) : Type 0 where
   pub out : w.out ≡ nobody_out
   pub discarded : w.discarded ≡ 0
 
--- The step that a round which replays its history makes next: it is picked, to be reused; it is due; its place is after all entries so
--- far; and every other thread's place is after it.
+-- The step that a round which replays its history makes next: it is picked, to be reused; it is due; its place is after
+-- all entries so far; and every other thread's place is after it.
 pub record IsNextStep (w : RoundState) (t : ℕ) : Type 0 where
   pub picked : pick_of w ≡ pick.Reuse t
   pub due : is_due w.past w.machine t ≡ true
   pub place : place_in w.past w.machine t ≡ length w.schedule
   pub least : (other : ℕ) → other ≢ t → length w.schedule < place_in w.past w.machine other
 
--- Whether an event is one by which a round may go on after a pick: a step is begun only where it was picked; what was begun may end, and
--- the round may be stopped, at any time.
+-- Whether an event is one by which a round may go on after a pick: a step is begun only where it was picked; what was
+-- begun may end, and the round may be stopped, at any time.
 abbrev pub goes_on_by : Pick → Event → Bool
 goes_on_by (pick.Reuse t) (Reuse u) = t == u
 goes_on_by (pick.Run t) (Take u) = t == u

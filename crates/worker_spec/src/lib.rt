@@ -93,10 +93,12 @@ pub fn one_worker_picks_rightly()
 pub fn one_worker_executes_what_is_reported()
     ensures picks { (setup : Setup) (past : Option History) (n : ℕ)
         → CanGoBy past setup
-        → executed_in n (opening setup past) ≡ instructions_from (first setup) (after_picks n (opening setup past)).schedule }
+        → executed_in n (opening setup past)
+        ≡ instructions_from (first setup) (after_picks n (opening setup past)).schedule }
     ensures round { (setup : Setup) (past : Option History)
         → CanGoBy past setup
-        → executed_in setup.limit (opening setup past) ≡ instructions_from (first setup) (lone_round setup past).schedule }
+        → executed_in setup.limit (opening setup past)
+        ≡ instructions_from (first setup) (lone_round setup past).schedule }
 {}
 
 /// Without an edit one worker makes the history's schedule, and its round is all reuse: at no pick is a

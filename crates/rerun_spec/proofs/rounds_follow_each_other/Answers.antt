@@ -12,7 +12,8 @@ pub returns-clause-none : goal.returns-clause-none
 returns-clause-none c = first-past
 
 pub returns-clause-left : goal.returns-clause-left
-returns-clause-left c = λ setup inputs place before after one next. (next-from 0 None setup inputs place before after one next).left
+returns-clause-left c =
+    λ setup inputs place before after one next. (next-from 0 None setup inputs place before after one next).left
 
 pub returns-clause-start : goal.returns-clause-start
 returns-clause-start c = first-setup

@@ -9,7 +9,8 @@ use Rattle.round_spec.proofs.rounds_are_from_scratch.Goals as goal
 
 pub returns-clause-permitted : goal.returns-clause-permitted
 returns-clause-permitted c = λ setup past es premise.
-    ap (λ (s : Setup). is_permitted s (threads_of (round_after setup past es).schedule)) (sym (round-setup setup past es))
+    ap (λ (s : Setup). is_permitted s (threads_of (round_after setup past es).schedule))
+    (sym (round-setup setup past es))
     ∙ (round-scratch setup past es premise.valid premise.sound).permitted
 
 pub returns-clause-machine : goal.returns-clause-machine
@@ -25,11 +26,14 @@ returns-clause-records c = λ setup past es premise.
 pub returns-clause-sources : goal.returns-clause-sources
 returns-clause-sources c = λ setup past es premise.
     (round-scratch setup past es premise.valid premise.sound).sources
-    ∙ ap (λ (s : Setup). sourced (round_after setup past es).past s (round_after setup past es).schedule) (round-setup setup past es)
+    ∙ ap (λ (s : Setup). sourced (round_after setup past es).past s (round_after setup past es).schedule)
+    (round-setup setup past es)
     ∙ ap (λ (p : Option History). sourced p setup (round_after setup past es).schedule) (round-past setup past es)
 
 pub returns-clause-marks : goal.returns-clause-marks
 returns-clause-marks c = λ setup past es premise.
     (round-scratch setup past es premise.valid premise.sound).marks
-    ∙ ap (λ (s : Setup). marked (round_after setup past es).past s (threads_of (round_after setup past es).schedule)) (round-setup setup past es)
-    ∙ ap (λ (p : Option History). marked p setup (threads_of (round_after setup past es).schedule)) (round-past setup past es)
+    ∙ ap (λ (s : Setup). marked (round_after setup past es).past s (threads_of (round_after setup past es).schedule))
+    (round-setup setup past es)
+    ∙ ap (λ (p : Option History). marked p setup (threads_of (round_after setup past es).schedule))
+    (round-past setup past es)

@@ -21,12 +21,15 @@ returns-clause-reuses c = λ h setup unedited.
 
 pub returns-clause-never_runs : goal.returns-clause-never_runs
 returns-clause-never_runs c = λ h setup n t unedited.
-    subst (λ (s : Setup). pick_of (after_picks n (opening s (Some h))) ≢ pick.Run t) unedited.same (unedited-never_runs h n t unedited.honest)
+    subst (λ (s : Setup). pick_of (after_picks n (opening s (Some h))) ≢ pick.Run t) unedited.same
+    (unedited-never_runs h n t unedited.honest)
 
 pub returns-clause-executed : goal.returns-clause-executed
 returns-clause-executed c = λ h setup unedited.
-    subst (λ (s : Setup). executed_in s.limit (opening s (Some h)) ≡ 0) unedited.same (unedited-executed h unedited.honest)
+    subst (λ (s : Setup). executed_in s.limit (opening s (Some h)) ≡ 0) unedited.same
+    (unedited-executed h unedited.honest)
 
 pub returns-clause-instructions : goal.returns-clause-instructions
 returns-clause-instructions c = λ h setup unedited.
-    subst (λ (s : Setup). instructions_from (first s) (lone_round s (Some h)).schedule ≡ 0) unedited.same (unedited-instructions h unedited.honest)
+    subst (λ (s : Setup). instructions_from (first s) (lone_round s (Some h)).schedule ≡ 0) unedited.same
+    (unedited-instructions h unedited.honest)
