@@ -41,9 +41,12 @@ pub set_at_the_end : edited (record { line = 1; edit = Set 5 (0 ∷ []) } ∷ []
 set_at_the_end = refl
 
 -- the bound is that of the input as the line before left it
-pub set_after_a_cut : edited (record { line = 1; edit = Size 3 } ∷ record { line = 2; edit = Set 3 (0 ∷ []) } ∷ []) five ≡ Err 2
+pub set_after_a_cut :
+    edited (record { line = 1; edit = Size 3 } ∷ record { line = 2; edit = Set 3 (0 ∷ []) } ∷ []) five ≡ Err 2
 set_after_a_cut = refl
 
 -- an input grows by zeros
-pub grown : edited (record { line = 1; edit = Size 3 } ∷ record { line = 2; edit = Size 6 } ∷ []) five ≡ Ok (1 ∷ 2 ∷ 3 ∷ 0 ∷ 0 ∷ 0 ∷ [])
+pub grown :
+    edited (record { line = 1; edit = Size 3 } ∷ record { line = 2; edit = Size 6 } ∷ []) five
+    ≡ Ok (1 ∷ 2 ∷ 3 ∷ 0 ∷ 0 ∷ 0 ∷ [])
 grown = refl

@@ -1,3 +1,4 @@
+-- The files of lemmas and examples of this crate.
 pub mod Spelling
 pub mod Saying
 pub mod Lengths

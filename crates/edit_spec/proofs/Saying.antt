@@ -5,7 +5,9 @@ use Rattle.edit_spec.specs.Grammar.{Line, SpellAll, IsFirstBad, Say}
 use Rattle.edit_spec.proofs.Spelling.{one_edit}
 
 -- edits of the same line that do the same are one
-same_line_edit : (m n : ℕ) (a b : Edit) → m ≡ n → a ≡ b → (let x : LineEdit = record { line = m; edit = a } in x) ≡ record { line = n; edit = b }
+same_line_edit :
+    (m n : ℕ) (a b : Edit) → m ≡ n → a ≡ b
+    → (let x : LineEdit = record { line = m; edit = a } in x) ≡ record { line = n; edit = b }
 same_line_edit m n a b number edit = cc
 
 -- lines spell one list of edits

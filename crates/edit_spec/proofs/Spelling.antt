@@ -19,7 +19,9 @@ pub digits-decimal : (n : ℕ) → n < number_limit → all_ascii_digits (decima
 digits-decimal n h = digits_decimal decimal_texts n (omega arith)
 
 -- a space ends digits, so they and what follows are found again
-pub same_around_space : (xs ys a b : List ℕ) → all_ascii_digits xs ≡ true → all_ascii_digits ys ≡ true → xs ++ 32 ∷ a ≡ ys ++ 32 ∷ b → (xs ≡ ys) × (a ≡ b)
+pub same_around_space :
+    (xs ys a b : List ℕ) → all_ascii_digits xs ≡ true → all_ascii_digits ys ≡ true → xs ++ 32 ∷ a ≡ ys ++ 32 ∷ b
+    → (xs ≡ ys) × (a ≡ b)
 same_around_space [] [] a b p q e = (refl, cc)
 same_around_space [] (y ∷ ys) a b p q e =
     let is : y ≡ 32 = cc in
@@ -68,7 +70,8 @@ other_word text p q =
 pub one_edit : (text : List ℕ) (a b : Edit) → Spells text a → Spells text b → a ≡ b
 one_edit text (Set offset bytes) (Set at written) p q =
     let e : decimal offset ++ 32 ∷ p.2 ≡ decimal at ++ 32 ∷ q.2 = cc in
-    let k = same_around_space (decimal offset) (decimal at) p.2 q.2 (digits-decimal offset p.0) (digits-decimal at q.0) e in
+    let k = same_around_space (decimal offset) (decimal at) p.2 q.2 (digits-decimal offset p.0)
+    (digits-decimal at q.0) e in
     let same_place = decimal_injective offset at (omega arith) (omega arith) k.0 in
     let same = same_bytes p.2 bytes written p.3 (subst (λ (ds : List ℕ). SpellBytes ds written) (sym k.1) q.3) in
     cc

@@ -4,7 +4,7 @@ use Rattle.std.specs.List.{AllZip, enumerate_from, slice_split}
 use Rattle.hex.specs.Hex.{hex_digit_value}
 use Rattle.edit_spec.specs.Edit.{Edit, Set, Size, LineEdit}
 
--- The numbers of a line are below this one: they have at most seven digits. (this project's own)
+-- The numbers of a line are below this one: they have at most seven digits.
 abbrev pub number_limit : ℕ
 number_limit = 10000000
 
@@ -16,48 +16,52 @@ space = 32
 abbrev pub newline : ℕ
 newline = 10
 
--- Hexadecimal digits, in either case, spell bytes: two digits for each byte, the higher one first. (this project's own)
+-- Hexadecimal digits, in either case, spell bytes: two digits for each byte, the higher one first.
 abbrev pub SpellBytes : List ℕ → List ℕ → Type 0
 SpellBytes [] [] = Unit {0}
-SpellBytes (high ∷ low ∷ digits) (byte ∷ bytes) = (hex_digit_value high ≡ Some (byte / 16)) × (hex_digit_value low ≡ Some (byte % 16)) × SpellBytes digits bytes
+SpellBytes (high ∷ low ∷ digits) (byte ∷ bytes) =
+    (hex_digit_value high ≡ Some (byte / 16)) × (hex_digit_value low ≡ Some (byte % 16)) × SpellBytes digits bytes
 SpellBytes _ _ = ⊥
 
--- A line spells an edit: `set`, the offset and the digits of at least one byte, or `size` and the length, with single spaces between them and numbers in decimal without leading zeros. (this project's own)
+-- A line spells an edit: `set`, the offset and the digits of at least one byte, or `size` and the length, with single
+-- spaces between them and numbers in decimal without leading zeros.
 abbrev pub Spells : List ℕ → Edit → Type 0
-Spells text (Set offset bytes) = (offset < number_limit) × (0 < length bytes) × (digits : List ℕ) × SpellBytes digits bytes × (text ≡ codes "set " ++ (decimal offset ++ space ∷ digits))
+Spells text (Set offset bytes) =
+    (offset < number_limit) × (0 < length bytes) × (digits : List ℕ) × SpellBytes digits bytes
+    × (text ≡ codes "set " ++ (decimal offset ++ space ∷ digits))
 Spells text (Size size) = (size < number_limit) × (text ≡ codes "size " ++ decimal size)
 
--- Some edit is spelled by a line. (this project's own)
+-- Some edit is spelled by a line.
 abbrev pub IsEdit : List ℕ → Type 0
 IsEdit text = (edit : Edit) × Spells text edit
 
--- A line: its number, and its bytes without the newline. (this project's own)
+-- A line: its number, and its bytes without the newline.
 abbrev pub Line : Type 0
 Line = ℕ × List ℕ
 
--- Some byte is there. (this project's own)
+-- Some byte is there.
 abbrev pub is_filled : List ℕ → Bool
 is_filled [] = false
 is_filled (byte ∷ bytes) = true
 
--- The lines of a list: the pieces between newline bytes, numbered from 1; empty ones are numbered and left out. (this project's own)
+-- The lines of a list: the pieces between newline bytes, numbered from 1; empty ones are numbered and left out.
 unfoldable pub lines : List ℕ → List Line
 lines bytes = filter (λ line. is_filled line.1) (enumerate_from 1 (slice_split (λ byte. byte == newline) bytes))
 
--- The lines spell the edits, each line one edit, in order. (this project's own)
+-- The lines spell the edits, each line one edit, in order.
 abbrev pub SpellAll : List Line → List LineEdit → Type 0
 SpellAll lines edits = AllZip (λ line e. (e.line ≡ line.0) × Spells line.1 e.edit) lines edits
 
--- The first of the lines that spells no edit has this number. (this project's own)
+-- The first of the lines that spells no edit has this number.
 abbrev pub IsFirstBad : List Line → ℕ → Type 0
 IsFirstBad [] number = ⊥
 IsFirstBad (line ∷ lines) number = ((IsEdit line.1 → ⊥) × (number ≡ line.0)) ⊎ (IsEdit line.1 × IsFirstBad lines number)
 
--- What lines say: the edits that they spell, or the number of the first that spells none. (this project's own)
+-- What lines say: the edits that they spell, or the number of the first that spells none.
 abbrev pub Say : List Line → Result (List LineEdit) ℕ → Type 0
 Say lines (Ok edits) = SpellAll lines edits
 Say lines (Err number) = IsFirstBad lines number
 
--- What the bytes of a list of edits say. (this project's own)
+-- What the bytes of a list of edits say.
 abbrev pub Says : List ℕ → Result (List LineEdit) ℕ → Type 0
 Says bytes answer = Say (lines bytes) answer

@@ -32,15 +32,22 @@ pub fn no_edits_change_nothing()
 
 /// Edits may be done in two parts, the second on what the first made of the input.
 pub fn edits_go_on()
-    ensures { (first second : List LineEdit) (input between : List ℕ) → edited first input ≡ Ok between → edited (first ++ second) input ≡ edited second between }
+    ensures { (first second : List LineEdit) (input between : List ℕ)
+        → edited first input ≡ Ok between
+        → edited (first ++ second) input ≡ edited second between }
 {}
 
 /// An input that isn't too long isn't too long after edits.
 pub fn edited_is_short()
-    ensures { (edits : List LineEdit) (input after : List ℕ) → length input ≤ MOST_INPUT_BYTES → edited edits input ≡ Ok after → length after ≤ MOST_INPUT_BYTES }
+    ensures { (edits : List LineEdit) (input after : List ℕ)
+        → length input ≤ MOST_INPUT_BYTES
+        → edited edits input ≡ Ok after
+        → length after ≤ MOST_INPUT_BYTES }
 {}
 
 /// The line that passes its bound is a line of the edits.
 pub fn refused_line_is_there()
-    ensures { (edits : List LineEdit) (input : List ℕ) (number : ℕ) → edited edits input ≡ Err number → Contains (map (λ e. e.line) edits) number }
+    ensures { (edits : List LineEdit) (input : List ℕ) (number : ℕ)
+        → edited edits input ≡ Err number
+        → Contains (map (λ e. e.line) edits) number }
 {}

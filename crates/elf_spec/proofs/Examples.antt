@@ -20,7 +20,8 @@ hi_program_header =
     0x01 ∷ 0x00 ∷ 0x00 ∷ 0x00 ∷ 0x54 ∷ 0x00 ∷ 0x00 ∷ 0x00 ∷ 0x00 ∷ 0x00 ∷ 0x01 ∷ 0x00 ∷ 0x00 ∷ 0x00 ∷ 0x01 ∷ 0x00 ∷
     0x23 ∷ 0x00 ∷ 0x00 ∷ 0x00 ∷ 0x23 ∷ 0x00 ∷ 0x00 ∷ 0x00 ∷ 0x07 ∷ 0x00 ∷ 0x00 ∷ 0x00 ∷ 0x04 ∷ 0x00 ∷ 0x00 ∷ 0x00 ∷ []
 
--- the program: `lui a0,0x10; addi a0,a0,0x20; addi a1,x0,3; addi a7,x0,1; ecall; addi a0,x0,0; addi a7,x0,0; ecall`, as GNU as encodes it, and the text "hi" with a newline
+-- the program: `lui a0,0x10; addi a0,a0,0x20; addi a1,x0,3; addi a7,x0,1; ecall; addi a0,x0,0; addi a7,x0,0; ecall`, as
+-- GNU as encodes it, and the text "hi" with a newline
 abbrev pub hi_program : List ℕ
 hi_program =
     0x37 ∷ 0x05 ∷ 0x01 ∷ 0x00 ∷ 0x13 ∷ 0x05 ∷ 0x05 ∷ 0x02 ∷ 0x93 ∷ 0x05 ∷ 0x30 ∷ 0x00 ∷ 0x93 ∷ 0x08 ∷ 0x10 ∷ 0x00 ∷
@@ -52,7 +53,8 @@ unfolding image_byte u16_at u32_at
 hi_begins_with_its_program = refl
 
 -- past the segment's bytes there are zeros, also at addresses of no segment
-pub hi_is_zero_past_its_program : map (image_byte hi_elf) (0x0ffff ∷ 0x10023 ∷ 0x10fff ∷ 0x11000 ∷ []) ≡ 0 ∷ 0 ∷ 0 ∷ 0 ∷ []
+pub hi_is_zero_past_its_program :
+    map (image_byte hi_elf) (0x0ffff ∷ 0x10023 ∷ 0x10fff ∷ 0x11000 ∷ []) ≡ 0 ∷ 0 ∷ 0 ∷ 0 ∷ []
 unfolding image_byte u16_at u32_at
 hi_is_zero_past_its_program = refl
 
@@ -142,7 +144,9 @@ unfolding refusal_of u16_at u32_at
 at_address_zero = refl
 
 -- 0x400001 bytes from 0x10000 on touch 1,025 pages
-pub more_pages_than_1024 : refusal_of (slice_set (slice_set (slice_set (slice_set hi_elf 72 0x01) 73 0x00) 74 0x40) 75 0x00) ≡ Some (TooManyPages 1025)
+pub more_pages_than_1024 :
+    refusal_of (slice_set (slice_set (slice_set (slice_set hi_elf 72 0x01) 73 0x00) 74 0x40) 75 0x00)
+    ≡ Some (TooManyPages 1025)
 unfolding refusal_of u16_at u32_at
 more_pages_than_1024 = refl
 
@@ -166,7 +170,9 @@ pub no_rights_above_x_w_r : image_pages (slice_set hi_elf 76 0xff) ≡ record { 
 unfolding image_pages u16_at u32_at
 no_rights_above_x_w_r = refl
 
--- the headers of a file that clang and lld 19 wrote for a C program, as `readelf -l` shows them: a header of the table itself, three loadable ones and one of the stack; zeros stand for its code and the rest, up to the offset of the last segment
+-- the headers of a file that clang and lld 19 wrote for a C program, as `readelf -l` shows them: a header of the table
+-- itself, three loadable ones and one of the stack; zeros stand for its code and the rest, up to the offset of the last
+-- segment
 abbrev pub linked_elf : List ℕ
 linked_elf =
     (0x7f ∷ 0x45 ∷ 0x4c ∷ 0x46 ∷ 0x01 ∷ 0x01 ∷ 0x01 ∷ 0x00 ∷ 0x00 ∷ 0x00 ∷ 0x00 ∷ 0x00 ∷ 0x00 ∷ 0x00 ∷ 0x00 ∷ 0x00 ∷
@@ -190,12 +196,16 @@ unfolding is_image refusal_of u16_at u32_at
 a_linked_file_is_accepted = refl
 
 -- `readelf -l`: R from 0x10000, R E from 0x110d4, RW of 1,048 zeros from 0x13000
-pub a_linked_file_has_three_pages : image_pages linked_elf ≡ record { number = 16; permission = 4 } ∷ record { number = 17; permission = 5 } ∷ record { number = 19; permission = 6 } ∷ []
+pub a_linked_file_has_three_pages :
+    image_pages linked_elf ≡ record { number = 16; permission = 4 } ∷ record { number = 17; permission = 5 }
+    ∷ record { number = 19; permission = 6 } ∷ []
 unfolding image_pages u16_at u32_at
 a_linked_file_has_three_pages = refl
 
 -- code moved to 0x100d4, behind the read-only bytes: R and R X together
-pub a_shared_page_has_all_rights : image_pages (slice_set linked_elf 125 0x00) ≡ record { number = 16; permission = 5 } ∷ record { number = 19; permission = 6 } ∷ []
+pub a_shared_page_has_all_rights :
+    image_pages (slice_set linked_elf 125 0x00) ≡ record { number = 16; permission = 5 }
+    ∷ record { number = 19; permission = 6 } ∷ []
 unfolding image_pages u16_at u32_at
 a_shared_page_has_all_rights = refl
 

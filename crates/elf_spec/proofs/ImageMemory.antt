@@ -17,6 +17,7 @@ IsMemory-image bytes =
     record {
       count = length-map (image_pages bytes) _;
       pages =
-          All-map (λ (page : List ℕ). length page ≡ 4096) (λ (page : Mapped). image_page bytes page.number) (image_pages bytes)
+          All-map (λ (page : List ℕ). length page ≡ 4096) (λ (page : Mapped). image_page bytes page.number)
+          (image_pages bytes)
           (λ k d below. length-image_page bytes _);
     }

@@ -1,5 +1,5 @@
--- Worked examples of files that two refusals fit: the earlier one in the list is the answer. And of a segment that is longer in
--- memory than in the file.
+-- Worked examples of files that two refusals fit: the earlier one in the list is the answer. And of a segment that is
+-- longer in memory than in the file.
 use Rattle.std.proofs.Common.{◌≡◌, ℕ, List, [], ◌∷◌, ◌++◌, Some, None, slice_set, map, refl}
 use Rattle.elf_spec.specs.declared.Refusal.TheVariants.{NotElf, NotElf32, NotExec, NotRiscv, Compressed, EntrySize, ShortTable, Dynamic, ShortSegment, Outside, Overlap, TooManyPages, Entry}
 use Rattle.elf_spec.specs.Fields.{u16_at, u32_at}
@@ -62,22 +62,29 @@ abbrev pub two_header : List ℕ
 two_header = slice_set hi_header 44 0x02
 
 -- a first header whose bytes are cut off and a second that is dynamic
-pub dynamic-before-short : refusal_of (two_header ++ hi_program_header ++ (slice_set hi_program_header 0 2)) ≡ Some (Dynamic 1)
+pub dynamic-before-short :
+    refusal_of (two_header ++ hi_program_header ++ (slice_set hi_program_header 0 2)) ≡ Some (Dynamic 1)
 unfolding refusal_of u16_at u32_at
 dynamic-before-short = refl
 
 -- a first segment at address 0 and a second whose bytes are cut off
-pub short-before-outside : refusal_of (two_header ++ (slice_set (slice_set hi_program_header 16 0) 10 0) ++ hi_program_header) ≡ Some (ShortSegment 1)
+pub short-before-outside :
+    refusal_of (two_header ++ (slice_set (slice_set hi_program_header 16 0) 10 0) ++ hi_program_header)
+    ≡ Some (ShortSegment 1)
 unfolding refusal_of u16_at u32_at
 short-before-outside = refl
 
 -- two segments at one address that is below 0x1000
-pub outside-before-overlap : refusal_of (two_header ++ (slice_set (slice_set hi_program_header 16 0) 10 0) ++ (slice_set (slice_set hi_program_header 16 0) 10 0)) ≡ Some (Outside 0)
+pub outside-before-overlap :
+    refusal_of
+    (two_header ++ (slice_set (slice_set hi_program_header 16 0) 10 0)
+    ++ (slice_set (slice_set hi_program_header 16 0) 10 0)) ≡ Some (Outside 0)
 unfolding refusal_of u16_at u32_at
 outside-before-overlap = refl
 
 -- a segment of 35 bytes from 0xBFFFFFDE on ends one byte above 0xC0000000
-pub outside-high : refusal_of (slice_set (slice_set (slice_set (slice_set hi_elf 60 0xde) 61 0xff) 62 0xff) 63 0xbf) ≡ Some (Outside 0)
+pub outside-high :
+    refusal_of (slice_set (slice_set (slice_set (slice_set hi_elf 60 0xde) 61 0xff) 62 0xff) 63 0xbf) ≡ Some (Outside 0)
 unfolding refusal_of u16_at u32_at
 outside-high = refl
 
@@ -87,22 +94,33 @@ unfolding u16_at u32_at
 inside-high = refl
 
 -- a loadable header without memory is no segment, wherever it lies
-pub empty-outside : refusal_of (two_header ++ (slice_set hi_program_header 16 0) ++ (slice_set (slice_set (slice_set hi_program_header 16 0) 10 0) 20 0)) ≡ None
+pub empty-outside :
+    refusal_of
+    (two_header ++ (slice_set hi_program_header 16 0)
+    ++ (slice_set (slice_set (slice_set hi_program_header 16 0) 10 0) 20 0)) ≡ None
 unfolding refusal_of u16_at u32_at
 empty-outside = refl
 
 -- two segments at one address that touch 1,025 pages
-pub overlap-before-pages : refusal_of (two_header ++ (slice_set (slice_set (slice_set hi_program_header 16 0) 20 1) 22 0x40) ++ (slice_set (slice_set (slice_set hi_program_header 16 0) 20 1) 22 0x40)) ≡ Some (Overlap 0 1)
+pub overlap-before-pages :
+    refusal_of
+    (two_header ++ (slice_set (slice_set (slice_set hi_program_header 16 0) 20 1) 22 0x40)
+    ++ (slice_set (slice_set (slice_set hi_program_header 16 0) 20 1) 22 0x40)) ≡ Some (Overlap 0 1)
 unfolding refusal_of u16_at u32_at
 overlap-before-pages = refl
 
 -- a segment that begins where another ends shares no address with it
-pub touching-segments : refusal_of (two_header ++ (slice_set hi_program_header 16 0) ++ (slice_set (slice_set hi_program_header 16 0) 8 0x23)) ≡ None
+pub touching-segments :
+    refusal_of
+    (two_header ++ (slice_set hi_program_header 16 0) ++ (slice_set (slice_set hi_program_header 16 0) 8 0x23))
+    ≡ None
 unfolding refusal_of u16_at u32_at
 touching-segments = refl
 
 -- 1,025 pages, and a start that is no multiple of 4
-pub pages-before-entry : refusal_of (slice_set (slice_set (slice_set (slice_set (slice_set hi_elf 24 2) 72 1) 73 0) 74 0x40) 75 0) ≡ Some (TooManyPages 1025)
+pub pages-before-entry :
+    refusal_of (slice_set (slice_set (slice_set (slice_set (slice_set hi_elf 24 2) 72 1) 73 0) 74 0x40) 75 0)
+    ≡ Some (TooManyPages 1025)
 unfolding refusal_of u16_at u32_at
 pages-before-entry = refl
 
@@ -112,7 +130,8 @@ unfolding refusal_of u16_at u32_at
 pages-1024 = refl
 
 -- past its bytes in the file a segment is zero, though the file goes on
-pub memory_tail : map (image_byte (slice_set (hi_elf ++ 9 ∷ 9 ∷ []) 72 0x25)) (0x10022 ∷ 0x10023 ∷ 0x10024 ∷ []) ≡ 0x0a ∷ 0 ∷ 0 ∷ []
+pub memory_tail :
+    map (image_byte (slice_set (hi_elf ++ 9 ∷ 9 ∷ []) 72 0x25)) (0x10022 ∷ 0x10023 ∷ 0x10024 ∷ []) ≡ 0x0a ∷ 0 ∷ 0 ∷ []
 unfolding image_byte u16_at u32_at
 memory_tail = refl
 
@@ -126,6 +145,8 @@ unfolding u16_at u32_at
 outside-low = refl
 
 -- a page that one segment may read and another execute: the rights are united, neither is dropped
-pub shared_page-united : image_pages (slice_set (slice_set linked_elf 125 0x00) 140 0x01) ≡ record { number = 16; permission = 5 } ∷ record { number = 19; permission = 6 } ∷ []
+pub shared_page-united :
+    image_pages (slice_set (slice_set linked_elf 125 0x00) 140 0x01) ≡ record { number = 16; permission = 5 }
+    ∷ record { number = 19; permission = 6 } ∷ []
 unfolding image_pages u16_at u32_at
 shared_page-united = refl

@@ -55,7 +55,8 @@ e_phentsize bytes = u16_at bytes 42
 abbrev pub e_phnum : List ℕ → ℕ
 e_phnum bytes = u16_at bytes 44
 
--- a program header, without its physical address and its alignment, which aren't read (System V gABI, ch. 5, Program Header)
+-- a program header, without its physical address and its alignment, which aren't read (System V gABI, ch. 5, Program
+-- Header)
 pub record ProgramHeader : Type 0 where
   pub kind : ℕ
   pub offset : ℕ

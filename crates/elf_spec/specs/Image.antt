@@ -7,20 +7,28 @@ use Rattle.elf_spec.specs.Segments.{page_size, has_address, page_numbers, page_p
 use Rattle.elf_spec.specs.Refusals.{refusal_of}
 use Rattle.memory_spec.specs.Pages.{Mapped}
 
--- one of the pages has this number and the right of this bit: 0 is X, 1 is W, 2 is R (System V gABI, ch. 5, Segment Permissions)
+-- one of the pages has this number and the right of this bit: 0 is X, 1 is W, 2 is R (System V gABI, ch. 5, Segment
+-- Permissions)
 abbrev pub HasPageWith : ℕ → ℕ → List Mapped → Type 0
 HasPageWith bit number pages = Any (λ page. (page.number ≡ number) × (bit_at page.permission bit ≡ 1)) pages
 
 -- the pages of an image, ascending: each page that a segment touches (System V gABI, ch. 5, Program Loading)
 unfoldable pub image_pages : List ℕ → List Mapped
-image_pages bytes = map (λ number. record { number = number; permission = page_permission (segments bytes) number }) (page_numbers (segments bytes))
+image_pages bytes =
+    map (λ number. record { number = number; permission = page_permission (segments bytes) number })
+    (page_numbers (segments bytes))
 
--- the file's byte at the segment's address, or zero past the segment's bytes in the file (System V gABI, ch. 5, Program Header)
+-- the file's byte at the segment's address, or zero past the segment's bytes in the file (System V gABI, ch. 5, Program
+-- Header)
 abbrev pub segment_byte : List ℕ → Option ProgramHeader → ℕ → ℕ
 segment_byte bytes None address = 0
-segment_byte bytes (Some segment) address = if nat_lt (address - segment.vaddr) segment.filesz then slice_index bytes (segment.offset + (address - segment.vaddr)) else 0
+segment_byte bytes (Some segment) address =
+    if nat_lt (address - segment.vaddr) segment.filesz
+    then slice_index bytes (segment.offset + (address - segment.vaddr))
+    else 0
 
--- the byte of an image at an address: that of the segment which has the address, and else zero (System V gABI, ch. 5, Program Loading)
+-- the byte of an image at an address: that of the segment which has the address, and else zero (System V gABI, ch. 5,
+-- Program Loading)
 unfoldable pub image_byte : List ℕ → ℕ → ℕ
 image_byte bytes address = segment_byte bytes (find (λ segment. has_address segment address) (segments bytes)) address
 
@@ -36,6 +44,6 @@ image_memory bytes = map (λ page. image_page bytes page.number) (image_pages by
 unfoldable pub entry_of : List ℕ → ℕ
 entry_of bytes = e_entry bytes
 
--- the file is accepted (this project's own)
+-- the file is accepted
 unfoldable pub is_image : List ℕ → Bool
 is_image bytes = is_none (refusal_of bytes)

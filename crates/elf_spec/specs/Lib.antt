@@ -1,3 +1,4 @@
+-- The files of definitions of this crate.
 pub mod Fields
 pub mod Header
 pub mod Segments

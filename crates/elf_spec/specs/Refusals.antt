@@ -7,18 +7,19 @@ use Rattle.elf_spec.specs.declared.Refusal.TheVariants.{NotElf, NotElf32, NotExe
 use Rattle.elf_spec.specs.Header.{header_size, program_header_size, magic, ei_class, ei_data, ei_version, e_type, e_machine, e_entry, e_flags, e_phentsize, e_phnum, ProgramHeader, program_header, program_header_offset, is_load, is_dynamic, is_segment, segments}
 use Rattle.elf_spec.specs.Segments.{page_size, shares_address, page_numbers, page_permission}
 
--- this refusal where the test holds, and else none (this project's own)
+-- this refusal where the test holds, and else none
 abbrev pub refuse_if : Bool → Refusal → Option Refusal
 refuse_if true refusal = Some refusal
 refuse_if false refusal = None
 
--- the least number of a program header for which the test holds (this project's own)
+-- the least number of a program header for which the test holds
 abbrev pub first_header : List ℕ → (ℕ → Bool) → Option ℕ
 first_header bytes test = find test (range_with_len 0 (e_phnum bytes))
 
--- the pairs of numbers below a count, the lower one first, in order (this project's own)
+-- the pairs of numbers below a count, the lower one first, in order
 abbrev pub pairs_below : ℕ → List (ℕ × ℕ)
-pairs_below count = flat_map (λ i. map (λ j. (i, j)) (range_with_len (i + 1) (count - (i + 1)))) (range_with_len 0 count)
+pairs_below count =
+    flat_map (λ i. map (λ j. (i, j)) (range_with_len (i + 1) (count - (i + 1)))) (range_with_len 0 count)
 
 -- too short for a header, or another magic number (System V gABI, ch. 4, ELF Identification)
 abbrev pub not_elf : List ℕ → Option Refusal
@@ -46,41 +47,50 @@ entry_size bytes = refuse_if (not (e_phnum bytes == 0) && not (e_phentsize bytes
 
 -- the file ends before the end of a program header (System V gABI, ch. 4, ELF Header)
 abbrev pub short_table : List ℕ → Option Refusal
-short_table bytes = option_map ShortTable (first_header bytes (λ i. nat_lt (length bytes) (program_header_offset bytes (i + 1))))
+short_table bytes =
+    option_map ShortTable (first_header bytes (λ i. nat_lt (length bytes) (program_header_offset bytes (i + 1))))
 
 -- a header of dynamic linking (System V gABI, ch. 5, Program Header)
 abbrev pub dynamic : List ℕ → Option Refusal
 dynamic bytes = option_map Dynamic (first_header bytes (λ i. is_dynamic (program_header bytes i)))
 
--- the loadable header's bytes reach past the file's end, or are more than its memory (System V gABI, ch. 5, Program Header)
+-- the loadable header's bytes reach past the file's end, or are more than its memory (System V gABI, ch. 5, Program
+-- Header)
 abbrev pub is_short : List ℕ → ProgramHeader → Bool
 is_short bytes header = nat_lt (length bytes) (header.offset + header.filesz) || nat_lt header.memsz header.filesz
 
 -- a loadable header whose bytes aren't all there (System V gABI, ch. 5, Program Header)
 abbrev pub short_segment : List ℕ → Option Refusal
-short_segment bytes = option_map ShortSegment (first_header bytes (λ i. is_load (program_header bytes i) && is_short bytes (program_header bytes i)))
+short_segment bytes =
+    option_map ShortSegment
+    (first_header bytes (λ i. is_load (program_header bytes i) && is_short bytes (program_header bytes i)))
 
--- the segment leaves the addresses from 0x1000 up to 0xC0000000 (this project's own)
+-- the segment leaves the addresses from 0x1000 up to 0xC0000000
 abbrev pub is_outside : ProgramHeader → Bool
 is_outside segment = nat_lt segment.vaddr 0x1000 || nat_lt 0xC0000000 (segment.vaddr + segment.memsz)
 
--- a segment that leaves the addresses for images (this project's own)
+-- a segment that leaves the addresses for images
 abbrev pub outside : List ℕ → Option Refusal
-outside bytes = option_map Outside (first_header bytes (λ i. is_segment (program_header bytes i) && is_outside (program_header bytes i)))
+outside bytes =
+    option_map Outside
+    (first_header bytes (λ i. is_segment (program_header bytes i) && is_outside (program_header bytes i)))
 
--- both headers are of segments, and these share an address (this project's own)
+-- both headers are of segments, and these share an address
 abbrev pub overlaps : ProgramHeader → ProgramHeader → Bool
 overlaps one other = is_segment one && is_segment other && shares_address one other
 
--- two segments that share an address (this project's own)
+-- two segments that share an address
 abbrev pub overlap : List ℕ → Option Refusal
-overlap bytes = option_map (λ (pair : ℕ × ℕ). Overlap pair.0 pair.1) (find (λ (pair : ℕ × ℕ). overlaps (program_header bytes pair.0) (program_header bytes pair.1)) (pairs_below (e_phnum bytes)))
+overlap bytes =
+    option_map (λ (pair : ℕ × ℕ). Overlap pair.0 pair.1)
+    (find (λ (pair : ℕ × ℕ). overlaps (program_header bytes pair.0) (program_header bytes pair.1))
+    (pairs_below (e_phnum bytes)))
 
--- the number of pages that the segments touch (this project's own)
+-- the number of pages that the segments touch
 abbrev pub page_count : List ℕ → ℕ
 page_count bytes = length (page_numbers (segments bytes))
 
--- more pages than 1,024 (this project's own)
+-- more pages than 1,024
 abbrev pub too_many_pages : List ℕ → Option Refusal
 too_many_pages bytes = refuse_if (nat_lt 1024 (page_count bytes)) (TooManyPages (page_count bytes))
 
@@ -92,16 +102,19 @@ is_executable bytes address = bit_at (page_permission (segments bytes) (address 
 abbrev pub entry_refusal : List ℕ → Option Refusal
 entry_refusal bytes = refuse_if (not (e_entry bytes % 4 == 0 && is_executable bytes (e_entry bytes))) Entry
 
--- what each row gives of a file, in the order of the rows (this project's own)
+-- what each row gives of a file, in the order of the rows
 abbrev pub refusals : List ℕ → List (Option Refusal)
-refusals bytes = not_elf bytes ∷ not_elf32 bytes ∷ not_exec bytes ∷ not_riscv bytes ∷ compressed bytes ∷ entry_size bytes ∷ short_table bytes ∷ dynamic bytes ∷ short_segment bytes ∷ outside bytes ∷ overlap bytes ∷ too_many_pages bytes ∷ entry_refusal bytes ∷ []
+refusals bytes =
+    not_elf bytes ∷ not_elf32 bytes ∷ not_exec bytes ∷ not_riscv bytes ∷ compressed bytes ∷ entry_size bytes
+    ∷ short_table bytes ∷ dynamic bytes ∷ short_segment bytes ∷ outside bytes ∷ overlap bytes
+    ∷ too_many_pages bytes ∷ entry_refusal bytes ∷ []
 
--- the first refusal that is given (this project's own)
+-- the first refusal that is given
 abbrev pub first_given : List (Option Refusal) → Option Refusal
 first_given [] = None
 first_given (None ∷ rest) = first_given rest
 first_given (Some refusal ∷ rest) = Some refusal
 
--- the refusal of a file, or none where it is accepted (this project's own)
+-- the refusal of a file, or none where it is accepted
 unfoldable pub refusal_of : List ℕ → Option Refusal
 refusal_of bytes = first_given (refusals bytes)

@@ -3,7 +3,7 @@ use Rattle.std.specs.Prelude.{ℕ, ◌≡◌, ◌+◌, ◌-◌, ◌/◌, ◌%◌
 use Rattle.std.specs.List.{range_with_len, list_any}
 use Rattle.elf_spec.specs.Header.{ProgramHeader}
 
--- the number of bytes of a page (this project's own)
+-- the number of bytes of a page
 abbrev pub page_size : ℕ
 page_size = 4096
 
@@ -11,27 +11,28 @@ page_size = 4096
 abbrev pub has_address : ProgramHeader → ℕ → Bool
 has_address segment address = nat_le segment.vaddr address && nat_lt address (segment.vaddr + segment.memsz)
 
--- two segments share an address (this project's own)
+-- two segments share an address
 abbrev pub shares_address : ProgramHeader → ProgramHeader → Bool
 shares_address one other = nat_lt one.vaddr (other.vaddr + other.memsz) && nat_lt other.vaddr (one.vaddr + one.memsz)
 
--- the number of the page on which the segment begins (this project's own)
+-- the number of the page on which the segment begins
 abbrev pub first_page : ProgramHeader → ℕ
 first_page segment = segment.vaddr / page_size
 
--- the number of the page on which the segment's last byte lies (this project's own)
+-- the number of the page on which the segment's last byte lies
 abbrev pub last_page : ProgramHeader → ℕ
 last_page segment = (segment.vaddr + segment.memsz - 1) / page_size
 
--- the segment touches the page of this number (this project's own)
+-- the segment touches the page of this number
 abbrev pub touches : ℕ → ProgramHeader → Bool
 touches number segment = nat_le (first_page segment) number && nat_le number (last_page segment)
 
--- a segment of the list has an address on the page of this number (this project's own)
+-- a segment of the list has an address on the page of this number
 abbrev pub IsTouched : List ProgramHeader → ℕ → Type 0
-IsTouched list number = Any (λ segment. (address : ℕ) × (has_address segment address ≡ true) × (address / page_size ≡ number)) list
+IsTouched list number =
+    Any (λ segment. (address : ℕ) × (has_address segment address ≡ true) × (address / page_size ≡ number)) list
 
--- the number of the highest page that a segment touches (this project's own)
+-- the number of the highest page that a segment touches
 abbrev pub highest_page : List ProgramHeader → ℕ
 highest_page list = fold max 0 (map last_page list)
 
@@ -43,6 +44,6 @@ page_numbers list = filter (λ number. list_any (touches number) list) (range_wi
 abbrev pub segment_permission : ProgramHeader → ℕ
 segment_permission segment = segment.flags % 8
 
--- a page's access rights: those of all segments that touch it together (System V gABI, ch. 5, Segment Permissions; this project's own for a shared page)
+-- a page's access rights: those of all segments that touch it together (System V gABI, ch. 5, Segment Permissions)
 abbrev pub page_permission : List ProgramHeader → ℕ → ℕ
 page_permission list number = fold bit_or 0 (map segment_permission (filter (touches number) list))

@@ -8,15 +8,15 @@ use Rattle.guest_call.specs.Barriers.{Barrier, uninitialised}
 use Rattle.guest_call.specs.Objects.{Objects, all_uninitialised, opening, act, acts_on}
 use Rattle.guest_call.proofs.Examples.{all_readable, effect_of, four_threads, then_call}
 
--- how barrier 0 stands (this project's own)
+-- how barrier 0 stands
 abbrev pub zeroth : Objects → Barrier
 zeroth o = slice_index_or o.barriers 0 uninitialised
 
--- barrier 0 counts 3 (this project's own)
+-- barrier 0 counts 3
 abbrev pub of_three : Objects
 of_three = then_call four_threads 0 (BarrierInit 0 3)
 
--- and threads 0 and 1 have come (this project's own)
+-- and threads 0 and 1 have come
 abbrev pub two_came : Objects
 two_came = then_call (then_call of_three 0 (BarrierWait 0)) 1 (BarrierWait 0)
 
@@ -32,7 +32,8 @@ unfolding all_uninitialised
 barrier_init-sets-the-count = refl
 
 -- again while nobody waits
-pub barrier_init-again-sets-the-count : zeroth (then_call of_three 1 (BarrierInit 0 2)) ≡ record { count = Some 2; queue = [] }
+pub barrier_init-again-sets-the-count :
+    zeroth (then_call of_three 1 (BarrierInit 0 2)) ≡ record { count = Some 2; queue = [] }
 unfolding all_uninitialised
 barrier_init-again-sets-the-count = refl
 
@@ -46,14 +47,17 @@ unfolding all_uninitialised
 barrier_init-of-32-answers-0 = refl
 
 -- 0 and 33 are none: EINVAL is 22 and 2^32 - 22 is 4294967274
-pub barrier_init-of-0-is-invalid : act all_readable four_threads 0 (BarrierInit 0 0) ≡ (answers 4294967274, four_threads)
+pub barrier_init-of-0-is-invalid :
+    act all_readable four_threads 0 (BarrierInit 0 0) ≡ (answers 4294967274, four_threads)
 barrier_init-of-0-is-invalid = refl
 
-pub barrier_init-of-33-is-invalid : act all_readable four_threads 0 (BarrierInit 0 33) ≡ (answers 4294967274, four_threads)
+pub barrier_init-of-33-is-invalid :
+    act all_readable four_threads 0 (BarrierInit 0 33) ≡ (answers 4294967274, four_threads)
 barrier_init-of-33-is-invalid = refl
 
 -- barrier 64 doesn't exist, and 63 does
-pub barrier_init-of-barrier-64-is-invalid : act all_readable four_threads 0 (BarrierInit 64 3) ≡ (answers 4294967274, four_threads)
+pub barrier_init-of-barrier-64-is-invalid :
+    act all_readable four_threads 0 (BarrierInit 64 3) ≡ (answers 4294967274, four_threads)
 barrier_init-of-barrier-64-is-invalid = refl
 
 pub barrier_init-of-barrier-63-answers-0 : effect_of four_threads 0 (BarrierInit 63 3) ≡ answers 0
@@ -65,14 +69,16 @@ pub barrier_init-while-somebody-waits-is-busy : effect_of two_came 2 (BarrierIni
 unfolding all_uninitialised
 barrier_init-while-somebody-waits-is-busy = refl
 
-pub barrier_init-while-somebody-waits-changes-nothing : zeroth (then_call two_came 2 (BarrierInit 0 2)) ≡ record { count = Some 3; queue = 0 ∷ 1 ∷ [] }
+pub barrier_init-while-somebody-waits-changes-nothing :
+    zeroth (then_call two_came 2 (BarrierInit 0 2)) ≡ record { count = Some 3; queue = 0 ∷ 1 ∷ [] }
 unfolding all_uninitialised
 barrier_init-while-somebody-waits-changes-nothing = refl
 
 -- barrier_wait.
 
 -- the first two of three block, in order
-pub barrier_wait-of-the-first-blocks : effect_of of_three 0 (BarrierWait 0) ≡ record { fate = Blocks; woken = []; told = None; created = None }
+pub barrier_wait-of-the-first-blocks :
+    effect_of of_three 0 (BarrierWait 0) ≡ record { fate = Blocks; woken = []; told = None; created = None }
 unfolding all_uninitialised
 barrier_wait-of-the-first-blocks = refl
 
@@ -81,12 +87,15 @@ unfolding all_uninitialised
 barrier_wait-waits-in-order = refl
 
 -- the third wakes both, and gets 1
-pub barrier_wait-of-the-last-wakes-all : effect_of two_came 2 (BarrierWait 0) ≡ record { fate = Returns 1 None; woken = 0 ∷ 1 ∷ []; told = None; created = None }
+pub barrier_wait-of-the-last-wakes-all :
+    effect_of two_came 2 (BarrierWait 0)
+    ≡ record { fate = Returns 1 None; woken = 0 ∷ 1 ∷ []; told = None; created = None }
 unfolding all_uninitialised
 barrier_wait-of-the-last-wakes-all = refl
 
 -- and the barrier is ready for the next three
-pub barrier_wait-of-the-last-empties-the-queue : zeroth (then_call two_came 2 (BarrierWait 0)) ≡ record { count = Some 3; queue = [] }
+pub barrier_wait-of-the-last-empties-the-queue :
+    zeroth (then_call two_came 2 (BarrierWait 0)) ≡ record { count = Some 3; queue = [] }
 unfolding all_uninitialised
 barrier_wait-of-the-last-empties-the-queue = refl
 
@@ -101,7 +110,8 @@ unfolding all_uninitialised
 barrier_wait-uninitialised-is-invalid = refl
 
 -- nor does barrier 64 exist
-pub barrier_wait-at-barrier-64-is-invalid : act all_readable of_three 0 (BarrierWait 64) ≡ (answers 4294967274, of_three)
+pub barrier_wait-at-barrier-64-is-invalid :
+    act all_readable of_three 0 (BarrierWait 64) ≡ (answers 4294967274, of_three)
 barrier_wait-at-barrier-64-is-invalid = refl
 
 -- What they act on: their barrier, where the arguments are in range.

@@ -1,5 +1,6 @@
 -- Worked examples of conditions and of trylock, which the checker computes. The expected values are written out as
--- numbers: the errors from Linux's table of error numbers, negated modulo 2^32, and the rest from the table of calls by hand.
+-- numbers: the errors from Linux's table of error numbers, negated modulo 2^32, and the rest from the table of calls by
+-- hand.
 use Rattle.std.proofs.Common.{◌≡◌, [], ◌∷◌, Some, None, slice_index_or, refl}
 use Rattle.guest_call.specs.declared.Call.TheVariants.{Lock, TryLock, Unlock, CondWait, Signal, Broadcast}
 use Rattle.guest_call.specs.declared.Object.TheVariants as object
@@ -9,11 +10,11 @@ use Rattle.guest_call.specs.Conditions.{Condition, unawaited}
 use Rattle.guest_call.specs.Objects.{Objects, all_unlocked, all_unawaited, opening, act, acts_on}
 use Rattle.guest_call.proofs.Examples.{all_readable, effect_of, four_threads, then_call}
 
--- how condition 0 stands (this project's own)
+-- how condition 0 stands
 abbrev pub condition_0 : Objects → Condition
 condition_0 o = slice_index_or o.conditions 0 unawaited
 
--- how mutex 0 stands (this project's own)
+-- how mutex 0 stands
 abbrev pub mutex_0 : Objects → Mutex
 mutex_0 o = slice_index_or o.mutexes 0 unlocked
 
@@ -24,7 +25,8 @@ pub trylock-of-a-free-mutex-answers-0 : effect_of four_threads 1 (TryLock 0) ≡
 unfolding all_unlocked
 trylock-of-a-free-mutex-answers-0 = refl
 
-pub trylock-of-a-free-mutex-owns-it : mutex_0 (then_call four_threads 1 (TryLock 0)) ≡ record { owner = Some 1; queue = [] }
+pub trylock-of-a-free-mutex-owns-it :
+    mutex_0 (then_call four_threads 1 (TryLock 0)) ≡ record { owner = Some 1; queue = [] }
 unfolding all_unlocked
 trylock-of-a-free-mutex-owns-it = refl
 
@@ -33,7 +35,8 @@ pub trylock-of-a-held-mutex-is-busy : effect_of (then_call four_threads 1 (Lock 
 unfolding all_unlocked
 trylock-of-a-held-mutex-is-busy = refl
 
-pub trylock-of-a-held-mutex-changes-nothing : mutex_0 (then_call (then_call four_threads 1 (Lock 0)) 2 (TryLock 0)) ≡ record { owner = Some 1; queue = [] }
+pub trylock-of-a-held-mutex-changes-nothing :
+    mutex_0 (then_call (then_call four_threads 1 (Lock 0)) 2 (TryLock 0)) ≡ record { owner = Some 1; queue = [] }
 unfolding all_unlocked
 trylock-of-a-held-mutex-changes-nothing = refl
 
@@ -54,24 +57,25 @@ trylock-of-mutex-64-acts-on-nothing = refl
 
 -- One thread waits, is signalled while the mutex is held, and gets it by the unlock.
 
--- thread 1 holds mutex 0 (this project's own)
+-- thread 1 holds mutex 0
 abbrev pub locked : Objects
 locked = then_call four_threads 1 (Lock 0)
 
--- thread 1 waits for condition 0 (this project's own)
+-- thread 1 waits for condition 0
 abbrev pub one_waits : Objects
 one_waits = then_call locked 1 (CondWait 0 0)
 
--- thread 0 holds the mutex that thread 1 gave up (this project's own)
+-- thread 0 holds the mutex that thread 1 gave up
 abbrev pub taken : Objects
 taken = then_call one_waits 0 (Lock 0)
 
--- thread 0 has signalled (this project's own)
+-- thread 0 has signalled
 abbrev pub signalled : Objects
 signalled = then_call taken 0 (Signal 0)
 
 -- cond_wait blocks, and frees the mutex
-pub cond_wait-blocks : effect_of locked 1 (CondWait 0 0) ≡ record { fate = Blocks; woken = []; told = None; created = None }
+pub cond_wait-blocks :
+    effect_of locked 1 (CondWait 0 0) ≡ record { fate = Blocks; woken = []; told = None; created = None }
 unfolding all_unlocked all_unawaited
 cond_wait-blocks = refl
 
@@ -103,27 +107,33 @@ unfolding all_unlocked all_unawaited
 signal-of-a-held-mutex-waits-for-it = refl
 
 -- the unlock hands the mutex over, and wakes it
-pub unlock-wakes-who-was-signalled : effect_of signalled 0 (Unlock 0) ≡ record { fate = Returns 0 None; woken = 1 ∷ []; told = None; created = None }
+pub unlock-wakes-who-was-signalled :
+    effect_of signalled 0 (Unlock 0) ≡ record { fate = Returns 0 None; woken = 1 ∷ []; told = None; created = None }
 unfolding all_unlocked all_unawaited
 unlock-wakes-who-was-signalled = refl
 
-pub unlock-hands-over-to-who-was-signalled : mutex_0 (then_call signalled 0 (Unlock 0)) ≡ record { owner = Some 1; queue = [] }
+pub unlock-hands-over-to-who-was-signalled :
+    mutex_0 (then_call signalled 0 (Unlock 0)) ≡ record { owner = Some 1; queue = [] }
 unfolding all_unlocked all_unawaited
 unlock-hands-over-to-who-was-signalled = refl
 
 -- cond_wait.
 
 -- as in unlock, the first who waits for the mutex gets it
-pub cond_wait-wakes-the-first : effect_of (then_call locked 2 (Lock 0)) 1 (CondWait 0 0) ≡ record { fate = Blocks; woken = 2 ∷ []; told = None; created = None }
+pub cond_wait-wakes-the-first :
+    effect_of (then_call locked 2 (Lock 0)) 1 (CondWait 0 0)
+    ≡ record { fate = Blocks; woken = 2 ∷ []; told = None; created = None }
 unfolding all_unlocked all_unawaited
 cond_wait-wakes-the-first = refl
 
-pub cond_wait-hands-over : mutex_0 (then_call (then_call locked 2 (Lock 0)) 1 (CondWait 0 0)) ≡ record { owner = Some 2; queue = [] }
+pub cond_wait-hands-over :
+    mutex_0 (then_call (then_call locked 2 (Lock 0)) 1 (CondWait 0 0)) ≡ record { owner = Some 2; queue = [] }
 unfolding all_unlocked all_unawaited
 cond_wait-hands-over = refl
 
 -- who isn't the owner: EPERM is 1 and 2^32 - 1 is 4294967295, and nothing changes
-pub cond_wait-of-a-free-mutex-is-not-permitted : act all_readable opening 0 (CondWait 0 0) ≡ (answers 4294967295, opening)
+pub cond_wait-of-a-free-mutex-is-not-permitted :
+    act all_readable opening 0 (CondWait 0 0) ≡ (answers 4294967295, opening)
 unfolding all_unlocked all_unawaited
 cond_wait-of-a-free-mutex-is-not-permitted = refl
 
@@ -132,15 +142,19 @@ unfolding all_unlocked all_unawaited
 cond_wait-by-another-is-not-permitted = refl
 
 -- another mutex than that of who waits: EINVAL, and the caller keeps it
-pub cond_wait-with-another-mutex-is-invalid : effect_of (then_call one_waits 2 (Lock 5)) 2 (CondWait 0 5) ≡ answers 4294967274
+pub cond_wait-with-another-mutex-is-invalid :
+    effect_of (then_call one_waits 2 (Lock 5)) 2 (CondWait 0 5) ≡ answers 4294967274
 unfolding all_unlocked all_unawaited
 cond_wait-with-another-mutex-is-invalid = refl
 
-pub cond_wait-with-another-mutex-keeps-it : slice_index_or (then_call (then_call one_waits 2 (Lock 5)) 2 (CondWait 0 5)).mutexes 5 unlocked ≡ record { owner = Some 2; queue = [] }
+pub cond_wait-with-another-mutex-keeps-it :
+    slice_index_or (then_call (then_call one_waits 2 (Lock 5)) 2 (CondWait 0 5)).mutexes 5 unlocked
+    ≡ record { owner = Some 2; queue = [] }
 unfolding all_unlocked all_unawaited
 cond_wait-with-another-mutex-keeps-it = refl
 
-pub cond_wait-with-another-mutex-waits-not : condition_0 (then_call (then_call one_waits 2 (Lock 5)) 2 (CondWait 0 5)) ≡ record { mutex = 0; queue = 1 ∷ [] }
+pub cond_wait-with-another-mutex-waits-not :
+    condition_0 (then_call (then_call one_waits 2 (Lock 5)) 2 (CondWait 0 5)) ≡ record { mutex = 0; queue = 1 ∷ [] }
 unfolding all_unlocked all_unawaited
 cond_wait-with-another-mutex-waits-not = refl
 
@@ -150,7 +164,8 @@ unfolding all_unlocked all_unawaited
 cond_wait-looks-at-the-owner-first = refl
 
 -- once nobody waits another mutex may be taken
-pub cond_wait-takes-another-mutex-later : condition_0 (then_call (then_call signalled 2 (Lock 5)) 2 (CondWait 0 5)) ≡ record { mutex = 5; queue = 2 ∷ [] }
+pub cond_wait-takes-another-mutex-later :
+    condition_0 (then_call (then_call signalled 2 (Lock 5)) 2 (CondWait 0 5)) ≡ record { mutex = 5; queue = 2 ∷ [] }
 unfolding all_unlocked all_unawaited
 cond_wait-takes-another-mutex-later = refl
 
@@ -169,11 +184,13 @@ unfolding all_unlocked all_unawaited
 signal-of-nobody-answers-0 = refl
 
 -- with the mutex free the thread owns it, and is woken
-pub signal-with-a-free-mutex-wakes : effect_of one_waits 0 (Signal 0) ≡ record { fate = Returns 0 None; woken = 1 ∷ []; told = None; created = None }
+pub signal-with-a-free-mutex-wakes :
+    effect_of one_waits 0 (Signal 0) ≡ record { fate = Returns 0 None; woken = 1 ∷ []; told = None; created = None }
 unfolding all_unlocked all_unawaited
 signal-with-a-free-mutex-wakes = refl
 
-pub signal-with-a-free-mutex-hands-it-over : mutex_0 (then_call one_waits 0 (Signal 0)) ≡ record { owner = Some 1; queue = [] }
+pub signal-with-a-free-mutex-hands-it-over :
+    mutex_0 (then_call one_waits 0 (Signal 0)) ≡ record { owner = Some 1; queue = [] }
 unfolding all_unlocked all_unawaited
 signal-with-a-free-mutex-hands-it-over = refl
 
@@ -182,9 +199,10 @@ signal-at-condition-64-is-invalid = refl
 
 -- broadcast.
 
--- threads 1, 2 and 3 wait for condition 0, and mutex 0 is free (this project's own)
+-- threads 1, 2 and 3 wait for condition 0, and mutex 0 is free
 abbrev pub three_await : Objects
-three_await = then_call (then_call (then_call (then_call one_waits 2 (Lock 0)) 2 (CondWait 0 0)) 3 (Lock 0)) 3 (CondWait 0 0)
+three_await =
+    then_call (then_call (then_call (then_call one_waits 2 (Lock 0)) 2 (CondWait 0 0)) 3 (Lock 0)) 3 (CondWait 0 0)
 
 -- they wait in order
 pub cond_wait-waits-in-order : condition_0 three_await ≡ record { mutex = 0; queue = 1 ∷ 2 ∷ 3 ∷ [] }
@@ -197,21 +215,27 @@ unfolding all_unlocked all_unawaited
 signal-moves-the-first = refl
 
 -- a broadcast with the mutex free wakes the first
-pub broadcast-wakes-the-first : effect_of three_await 0 (Broadcast 0) ≡ record { fate = Returns 0 None; woken = 1 ∷ []; told = None; created = None }
+pub broadcast-wakes-the-first :
+    effect_of three_await 0 (Broadcast 0)
+    ≡ record { fate = Returns 0 None; woken = 1 ∷ []; told = None; created = None }
 unfolding all_unlocked all_unawaited
 broadcast-wakes-the-first = refl
 
 -- and the others wait for the mutex, in order
-pub broadcast-queues-the-others : mutex_0 (then_call three_await 0 (Broadcast 0)) ≡ record { owner = Some 1; queue = 2 ∷ 3 ∷ [] }
+pub broadcast-queues-the-others :
+    mutex_0 (then_call three_await 0 (Broadcast 0)) ≡ record { owner = Some 1; queue = 2 ∷ 3 ∷ [] }
 unfolding all_unlocked all_unawaited
 broadcast-queues-the-others = refl
 
-pub broadcast-empties-the-condition : condition_0 (then_call three_await 0 (Broadcast 0)) ≡ record { mutex = 0; queue = [] }
+pub broadcast-empties-the-condition :
+    condition_0 (then_call three_await 0 (Broadcast 0)) ≡ record { mutex = 0; queue = [] }
 unfolding all_unlocked all_unawaited
 broadcast-empties-the-condition = refl
 
 -- with the mutex held by thread 0 all wait for it
-pub broadcast-of-a-held-mutex-queues-all : mutex_0 (then_call (then_call three_await 0 (Lock 0)) 0 (Broadcast 0)) ≡ record { owner = Some 0; queue = 1 ∷ 2 ∷ 3 ∷ [] }
+pub broadcast-of-a-held-mutex-queues-all :
+    mutex_0 (then_call (then_call three_await 0 (Lock 0)) 0 (Broadcast 0))
+    ≡ record { owner = Some 0; queue = 1 ∷ 2 ∷ 3 ∷ [] }
 unfolding all_unlocked all_unawaited
 broadcast-of-a-held-mutex-queues-all = refl
 

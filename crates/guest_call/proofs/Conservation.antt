@@ -22,41 +22,56 @@ pub use Rattle.guest_call.proofs.Rows.{IsFairPair, lock_fair, trylock_fair, unlo
 pub same_keeps : (w : ℕ → ℕ) (t a : ℕ) → Keeps w t (answers a) w
 same_keeps w t a u = omega (arith, places-nil u, entering-returns t a None u)
 
--- what a call of thread t did to a table lost nobody of its queues and doubled nobody (this project's own)
+-- what a call of thread t did to a table lost nobody of its queues and doubled nobody
 abbrev pub IsFairTable : {C : Type 0} → (C → List ℕ) → ℕ → List C → Effect × List C → Type 0
 IsFairTable queue t cells r = Keeps (waits queue cells) t r.0 (waits queue r.1)
 
 -- a row done in a table, where it is fair at each object
-pub at_cell_keeps : {C : Type 0} (queue : C → List ℕ) (free : C) (row : C → Effect × C) (cells : List C) (i t : ℕ) → 64 ≤ length cells → ((c : C) → IsFair queue t c (row c)) →
+pub at_cell_keeps :
+    {C : Type 0} (queue : C → List ℕ) (free : C) (row : C → Effect × C) (cells : List C) (i t : ℕ) → 64 ≤ length cells
+    → ((c : C) → IsFair queue t c (row c)) →
     IsFairTable queue t cells (at_cell free row cells i)
 at_cell_keeps {C} queue free row cells i t enough fair = by_range (nat_lt i 64) refl
   where
     by_range : (b : Bool) → nat_lt i 64 ≡ b →
-        IsFairTable queue t cells (if b then (let r = row (slice_index_or cells i free) in (r.0, slice_set cells i r.1)) else (answers answer_einval, cells))
+        IsFairTable queue t cells
+        (if b then (let r = row (slice_index_or cells i free) in (r.0, slice_set cells i r.1))
+        else (answers answer_einval, cells))
     by_range true is u =
         let c = slice_index_or cells i free in
         omega (arith, waits-set queue cells i (row c).1 free u (omega (arith, ltb-true i 64 is)), fair c u)
     by_range false is u = same_keeps (waits queue cells) t answer_einval u
 
-pub create_fair : (t pc argument : ℕ) (members : List Member) → IsFairTable member_queue t members (create_row pc argument members)
+pub create_fair :
+    (t pc argument : ℕ) (members : List Member) → IsFairTable member_queue t members (create_row pc argument members)
 create_fair t pc argument members u = grind (arith, places-nil, entering-returns, waits-push)
 
-pub thread_exit_fair : (t v : ℕ) (members : List Member) → t < length members → IsFairTable member_queue t members (thread_exit_row t v members)
+pub thread_exit_fair :
+    (t v : ℕ) (members : List Member) → t < length members
+    → IsFairTable member_queue t members (thread_exit_row t v members)
 thread_exit_fair t v members lt u =
-    omega (arith, waits-set member_queue members t (ended_with v (member_at members t)) fresh u lt, places-nil u, entering-ends t v u)
+    omega (
+      arith,
+      waits-set member_queue members t (ended_with v (member_at members t)) fresh u lt,
+      places-nil u,
+      entering-ends t v u,
+    )
 
 -- what a join makes of the thread that it joins
 pub joins_fair : (t : ℕ) (value : Option ℕ) → (u : ℕ) →
-    places u (waiting_joiner value (Some t)) + places u (joins value).woken ≡ places u (waiting_joiner value None) + entering t (joins value).fate u
+    places u (waiting_joiner value (Some t)) + places u (joins value).woken
+    ≡ places u (waiting_joiner value None) + entering t (joins value).fate u
 joins_fair t None u = grind (arith, places-nil, places-cons, entering-blocks)
 joins_fair t (Some v) u = grind (arith, places-nil, entering-returns)
 
 -- the last case of join
 pub joined_fair : (t v : ℕ) (members : List Member) → v < length members → (member_at members v).joiner ≡ None →
-    IsFairTable member_queue t members (joins (member_at members v).value, slice_set members v (joined_by t (member_at members v)))
+    IsFairTable member_queue t members
+    (joins (member_at members v).value, slice_set members v (joined_by t (member_at members v)))
 joined_fair t v members lt nobody u =
     let m = member_at members v in
-    let before : places u (waiting_joiner m.value m.joiner) ≡ places u (waiting_joiner m.value None) = ap (λ j. places u (waiting_joiner m.value j)) nobody in
+    let before : places u (waiting_joiner m.value m.joiner) ≡ places u (waiting_joiner m.value None) =
+    ap (λ j. places u (waiting_joiner m.value j)) nobody in
     omega (arith, waits-set member_queue members v (joined_by t m) fresh u lt, joins_fair t m.value u, before)
 
 pub join_fair : (t v : ℕ) (members : List Member) → IsFairTable member_queue t members (join_row t v members)
@@ -74,22 +89,33 @@ join_fair t v members = by_tests (nat_lt v (length members)) (v == t) (member_at
     by_tests true false None lt is = joined_fair t v members (ltb-true v (length members) lt) is
 
 -- a row done on a mutex, where it is fair
-pub on_mutex_keeps : (row : Mutex → Effect × Mutex) (t m : ℕ) (o : Objects) → ((c : Mutex) → IsFair mutex_queue t c (row c)) → IsKept o →
+pub on_mutex_keeps :
+    (row : Mutex → Effect × Mutex) (t m : ℕ) (o : Objects) → ((c : Mutex) → IsFair mutex_queue t c (row c)) → IsKept o →
     Keeps (waits_at o) t (on_mutex row o m).0 (waits_at (on_mutex row o m).1)
 on_mutex_keeps row t m o fair kept u =
     omega (arith, at_cell_keeps mutex_queue unlocked row o.mutexes m t (omega (arith, kept.all_mutexes)) fair u)
 
 -- a row done on a semaphore, where it is fair
-pub on_semaphore_keeps : (row : Semaphore → Effect × Semaphore) (t s : ℕ) (o : Objects) → ((c : Semaphore) → IsFair semaphore_queue t c (row c)) → IsKept o →
+pub on_semaphore_keeps :
+    (row : Semaphore → Effect × Semaphore) (t s : ℕ) (o : Objects)
+    → ((c : Semaphore) → IsFair semaphore_queue t c (row c)) → IsKept o →
     Keeps (waits_at o) t (on_semaphore row o s).0 (waits_at (on_semaphore row o s).1)
 on_semaphore_keeps row t s o fair kept u =
-    omega (arith, at_cell_keeps semaphore_queue unposted row o.semaphores s t (omega (arith, kept.all_semaphores)) fair u)
+    omega (
+      arith,
+      at_cell_keeps semaphore_queue unposted row o.semaphores s t (omega (arith, kept.all_semaphores)) fair u,
+    )
 
 -- a row done on a barrier, where it is fair
-pub on_barrier_keeps : (row : Barrier → Effect × Barrier) (t b : ℕ) (o : Objects) → ((c : Barrier) → IsFair barrier_queue t c (row c)) → IsKept o →
+pub on_barrier_keeps :
+    (row : Barrier → Effect × Barrier) (t b : ℕ) (o : Objects) → ((c : Barrier) → IsFair barrier_queue t c (row c))
+    → IsKept o →
     Keeps (waits_at o) t (on_barrier row o b).0 (waits_at (on_barrier row o b).1)
 on_barrier_keeps row t b o fair kept u =
-    omega (arith, at_cell_keeps barrier_queue uninitialised row o.barriers b t (omega (arith, kept.all_barriers)) fair u)
+    omega (
+      arith,
+      at_cell_keeps barrier_queue uninitialised row o.barriers b t (omega (arith, kept.all_barriers)) fair u,
+    )
 
 -- a row done on a condition and a mutex that are there, where it is fair
 pub on_pair_keeps : (row : Condition → Mutex → Effect × Condition × Mutex) (t c m : ℕ) (o : Objects) → c < 64 → m < 64 →
@@ -105,7 +131,8 @@ on_pair_keeps row t c m o c_in m_in fair kept u =
     )
 
 -- a call that is refused out of its range
-pub checked_keeps : (b : Bool) (t : ℕ) (o : Objects) (r : Effect × Objects) → (b ≡ true → Keeps (waits_at o) t r.0 (waits_at r.1)) →
+pub checked_keeps :
+    (b : Bool) (t : ℕ) (o : Objects) (r : Effect × Objects) → (b ≡ true → Keeps (waits_at o) t r.0 (waits_at r.1)) →
     Keeps (waits_at o) t (checked b o r).0 (waits_at (checked b o r).1)
 checked_keeps true t o r keeps = keeps refl
 checked_keeps false t o r keeps = same_keeps (waits_at o) t answer_einval
@@ -120,17 +147,22 @@ cond_wait_keeps t c m o kept in_range =
 
 -- threads that leave a condition, where they are some of those that waited
 pub leave_keeps : (leaving : Condition → Leaving) (t c : ℕ) (o : Objects) →
-    ((x : Condition) (u : ℕ) → places u (leaving x).threads + places u (leaving x).rest.queue ≡ places u x.queue) → IsKept o →
+    ((x :
+    Condition) (u : ℕ) → places u (leaving x).threads + places u (leaving x).rest.queue ≡ places u x.queue)
+    → IsKept o →
     Keeps (waits_at o) t (leave leaving o c).0 (waits_at (leave leaving o c).1)
 leave_keeps leaving t c o leaves kept =
     checked_keeps (nat_lt c 64) t o (on_pair (leave_row leaving) o c (condition_at o c).mutex)
     (λ is.
     let c_in : c < 64 = ltb-true c 64 is in
-    on_pair_keeps (leave_row leaving) t c (condition_at o c).mutex o c_in (condition_named o c (kept_shaped o kept) c_in)
+    on_pair_keeps (leave_row leaving) t c (condition_at o c).mutex o c_in
+    (condition_named o c (kept_shaped o kept) c_in)
     (leave_fair leaving t (condition_at o c) (mutex_at o (condition_at o c).mutex) leaves) kept)
 
 -- a row done on the table of threads, where it is fair
-pub on_threads_keeps : (row : List Member → Effect × List Member) (t : ℕ) (o : Objects) → IsFairTable member_queue t o.threads (row o.threads) →
+pub on_threads_keeps :
+    (row : List Member → Effect × List Member) (t : ℕ) (o : Objects)
+    → IsFairTable member_queue t o.threads (row o.threads) →
     Keeps (waits_at o) t (on_threads row o).0 (waits_at (on_threads row o).1)
 on_threads_keeps row t o fair u = omega (arith, fair u)
 
@@ -139,8 +171,10 @@ pub act_keeps : (readable : ℕ → ℕ → Bool) (o : Objects) (t : ℕ) (call 
     Keeps (waits_at o) t (act readable o t call).0 (waits_at (act readable o t call).1)
 act_keeps readable o t (Exit code) kept lt = λ u. omega (arith, places-nil u, entering-exits t code u)
 act_keeps readable o t (Put p n) kept lt = same_keeps (waits_at o) t (put_answer readable p n)
-act_keeps readable o t (Create pc argument) kept lt = on_threads_keeps (create_row pc argument) t o (create_fair t pc argument o.threads)
-act_keeps readable o t (ThreadExit v) kept lt = on_threads_keeps (thread_exit_row t v) t o (thread_exit_fair t v o.threads lt)
+act_keeps readable o t (Create pc argument) kept lt =
+    on_threads_keeps (create_row pc argument) t o (create_fair t pc argument o.threads)
+act_keeps readable o t (ThreadExit v) kept lt =
+    on_threads_keeps (thread_exit_row t v) t o (thread_exit_fair t v o.threads lt)
 act_keeps readable o t (Join u) kept lt = on_threads_keeps (join_row t u) t o (join_fair t u o.threads)
 act_keeps readable o t Yield kept lt = same_keeps (waits_at o) t 0
 act_keeps readable o t (Lock m) kept lt = on_mutex_keeps (lock_row t) t m o (lock_fair t) kept
@@ -150,9 +184,11 @@ act_keeps readable o t (SemWait s) kept lt = on_semaphore_keeps (sem_wait_row t)
 act_keeps readable o t (SemTryWait s) kept lt = on_semaphore_keeps sem_trywait_row t s o (sem_trywait_fair t) kept
 act_keeps readable o t (SemPost s) kept lt = on_semaphore_keeps sem_post_row t s o (sem_post_fair t) kept
 act_keeps readable o t (SemInit s n) kept lt =
-    checked_keeps (nat_le n largest_value) t o (on_semaphore (sem_init_row n) o s) (λ _. on_semaphore_keeps (sem_init_row n) t s o (sem_init_fair t n) kept)
+    checked_keeps (nat_le n largest_value) t o (on_semaphore (sem_init_row n) o s)
+    (λ _. on_semaphore_keeps (sem_init_row n) t s o (sem_init_fair t n) kept)
 act_keeps readable o t (BarrierInit b n) kept lt =
-    checked_keeps (is_count n) t o (on_barrier (barrier_init_row n) o b) (λ _. on_barrier_keeps (barrier_init_row n) t b o (barrier_init_fair t n) kept)
+    checked_keeps (is_count n) t o (on_barrier (barrier_init_row n) o b)
+    (λ _. on_barrier_keeps (barrier_init_row n) t b o (barrier_init_fair t n) kept)
 act_keeps readable o t (BarrierWait b) kept lt = on_barrier_keeps (barrier_wait_row t) t b o (barrier_wait_fair t) kept
 act_keeps readable o t (CondWait c m) kept lt =
     checked_keeps (nat_lt c 64 && nat_lt m 64) t o (on_pair (cond_wait_row t m) o c m) (cond_wait_keeps t c m o kept)

@@ -5,7 +5,7 @@ use Rattle.std.proofs.lemmas.List.Folds.{sum_by-replicate}
 use Rattle.guest_call.specs.Effect.{Fate, Returns, Blocks, Ends, Exits, waiting}
 use Rattle.guest_call.specs.Queues.{places, waits, entering}
 
--- a test as a count (this project's own)
+-- a test as a count
 abbrev pub tally : Bool → ℕ
 tally b = cond b 1 0
 
@@ -57,20 +57,26 @@ pub entering-le : (t : ℕ) (f : Fate) (u : ℕ) → entering t f u ≤ 1
 unfolding entering
 entering-le t f u = grind (arith, waiting-le f)
 
-pub waits-push : {C : Type 0} (queue : C → List ℕ) (cells : List C) (c : C) (t : ℕ) → waits queue (cells ++ c ∷ []) t ≡ waits queue cells t + places t (queue c)
+pub waits-push :
+    {C : Type 0} (queue : C → List ℕ) (cells : List C) (c : C) (t : ℕ)
+    → waits queue (cells ++ c ∷ []) t ≡ waits queue cells t + places t (queue c)
 unfolding waits
 waits-push queue cells c t = sum_by_push (λ x. places t (queue x)) cells c
 
 pub waits-set : {C : Type 0} (queue : C → List ℕ) (cells : List C) (i : ℕ) (c d : C) (t : ℕ) → i < length cells →
-    waits queue (slice_set cells i c) t + places t (queue (slice_index_or cells i d)) ≡ waits queue cells t + places t (queue c)
+    waits queue (slice_set cells i c) t + places t (queue (slice_index_or cells i d))
+    ≡ waits queue cells t + places t (queue c)
 unfolding waits
 waits-set queue cells i c d t lt = sum_by-set (λ x. places t (queue x)) cells i c d lt
 
-pub places-le-waits : {C : Type 0} (queue : C → List ℕ) (cells : List C) (i : ℕ) (d : C) (t : ℕ) → i < length cells → places t (queue (slice_index_or cells i d)) ≤ waits queue cells t
+pub places-le-waits :
+    {C : Type 0} (queue : C → List ℕ) (cells : List C) (i : ℕ) (d : C) (t : ℕ) → i < length cells
+    → places t (queue (slice_index_or cells i d)) ≤ waits queue cells t
 unfolding waits
 places-le-waits queue cells i d t lt = get_or-le-sum_by (λ x. places t (queue x)) cells i d lt
 
 -- in a table of copies of one object whose queue is empty nobody waits
-pub waits-replicate : {C : Type 0} (queue : C → List ℕ) (n : ℕ) (c : C) (t : ℕ) → queue c ≡ [] → waits queue (replicate n c) t ≡ 0
+pub waits-replicate :
+    {C : Type 0} (queue : C → List ℕ) (n : ℕ) (c : C) (t : ℕ) → queue c ≡ [] → waits queue (replicate n c) t ≡ 0
 unfolding waits places
 waits-replicate queue n c t empty = rw (sum_by-replicate (λ x. places t (queue x)) n c) (rw empty (omega arith))

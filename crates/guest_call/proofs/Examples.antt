@@ -9,27 +9,27 @@ use Rattle.guest_call.specs.Effect.{Effect, Returns, Blocks, Ends, Exits, answer
 use Rattle.guest_call.specs.Mutexes.{unlocked}
 use Rattle.guest_call.specs.Objects.{Objects, all_unlocked, opening, act, acts_on}
 
--- every range may be read (this project's own)
+-- every range may be read
 abbrev pub all_readable : ℕ → ℕ → Bool
 all_readable p n = true
 
--- no range may be read (this project's own)
+-- no range may be read
 abbrev pub none_readable : ℕ → ℕ → Bool
 none_readable p n = false
 
--- the objects after one more call, whose effect is dropped (this project's own)
+-- the objects after one more call, whose effect is dropped
 abbrev pub then_call : Objects → ℕ → Call → Objects
 then_call o t call = (act all_readable o t call).1
 
--- what a call does, where every range may be read (this project's own)
+-- what a call does, where every range may be read
 abbrev pub effect_of : Objects → ℕ → Call → Effect
 effect_of o t call = (act all_readable o t call).0
 
--- thread 0 and the three that it creates at 0x10000 (this project's own)
+-- thread 0 and the three that it creates at 0x10000
 abbrev pub four_threads : Objects
 four_threads = then_call (then_call (then_call opening 0 (Create 65536 7)) 0 (Create 65536 8)) 0 (Create 65536 9)
 
--- n creates at 0x10000 by thread 0 (this project's own)
+-- n creates at 0x10000 by thread 0
 abbrev pub created_times : ℕ → Objects → Objects
 created_times zero o = o
 created_times (suc n) o = created_times n (then_call o 0 (Create 65536 0))
@@ -75,11 +75,14 @@ call-4294967295-is-bad = refl
 -- exit and yield.
 
 -- exit tells the whole of a0, also one above 255
-pub exit-tells-all-of-a0 : effect_of opening 0 (Exit 4294967295) ≡ record { fate = Exits 4294967295; woken = []; told = None; created = None }
+pub exit-tells-all-of-a0 :
+    effect_of opening 0 (Exit 4294967295) ≡ record { fate = Exits 4294967295; woken = []; told = None; created = None }
 exit-tells-all-of-a0 = refl
 
 -- yield answers 0
-pub yield-answers-0 : act all_readable opening 0 Yield ≡ (record { fate = Returns 0 None; woken = []; told = None; created = None }, opening)
+pub yield-answers-0 :
+    act all_readable opening 0 Yield
+    ≡ (record { fate = Returns 0 None; woken = []; told = None; created = None }, opening)
 yield-answers-0 = refl
 
 -- put.
@@ -132,11 +135,15 @@ put-too-long-acts-on-nothing = refl
 -- create.
 
 -- the first thread that is created has number 1, and begins at the pc with the argument
-pub create-answers-1 : effect_of opening 0 (Create 65536 7) ≡ record { fate = Returns 1 None; woken = []; told = None; created = Some (65536, 7) }
+pub create-answers-1 :
+    effect_of opening 0 (Create 65536 7)
+    ≡ record { fate = Returns 1 None; woken = []; told = None; created = Some (65536, 7) }
 create-answers-1 = refl
 
 -- the next has number 2, whoever creates it
-pub create-answers-2 : effect_of (then_call opening 0 (Create 65536 7)) 1 (Create 65540 8) ≡ record { fate = Returns 2 None; woken = []; told = None; created = Some (65540, 8) }
+pub create-answers-2 :
+    effect_of (then_call opening 0 (Create 65536 7)) 1 (Create 65540 8)
+    ≡ record { fate = Returns 2 None; woken = []; told = None; created = Some (65540, 8) }
 create-answers-2 = refl
 
 -- the last that fits has number 31
@@ -148,7 +155,8 @@ pub create-of-a-33rd-is-refused : effect_of (created_times 31 opening) 0 (Create
 create-of-a-33rd-is-refused = refl
 
 -- threads that have ended count
-pub create-counts-ended-threads : effect_of (then_call (created_times 31 opening) 5 (ThreadExit 0)) 0 (Create 65536 7) ≡ answers 4294967285
+pub create-counts-ended-threads :
+    effect_of (then_call (created_times 31 opening) 5 (ThreadExit 0)) 0 (Create 65536 7) ≡ answers 4294967285
 create-counts-ended-threads = refl
 
 -- 0x10002 isn't a multiple of 4: EINVAL
@@ -160,7 +168,8 @@ pub create-at-an-odd-pc-comes-first : effect_of (created_times 31 opening) 0 (Cr
 create-at-an-odd-pc-comes-first = refl
 
 -- create acts on the table of threads, also where it is full, but not where its pc is refused
-pub create-acts-on-the-threads : acts_on all_readable (created_times 31 opening) (Create 65536 0) ≡ object.ThreadTable ∷ []
+pub create-acts-on-the-threads :
+    acts_on all_readable (created_times 31 opening) (Create 65536 0) ≡ object.ThreadTable ∷ []
 create-acts-on-the-threads = refl
 
 pub create-at-an-odd-pc-acts-on-nothing : acts_on all_readable opening (Create 65538 0) ≡ []
@@ -169,11 +178,14 @@ create-at-an-odd-pc-acts-on-nothing = refl
 -- thread_exit and join.
 
 -- the join of a thread that runs blocks
-pub join-of-a-running-thread-blocks : effect_of four_threads 0 (Join 2) ≡ record { fate = Blocks; woken = []; told = None; created = None }
+pub join-of-a-running-thread-blocks :
+    effect_of four_threads 0 (Join 2) ≡ record { fate = Blocks; woken = []; told = None; created = None }
 join-of-a-running-thread-blocks = refl
 
 -- the end of a thread wakes its joiner and tells it the value
-pub thread_exit-wakes-the-joiner : effect_of (then_call four_threads 0 (Join 2)) 2 (ThreadExit 51) ≡ record { fate = Ends 51; woken = 0 ∷ []; told = Some 51; created = None }
+pub thread_exit-wakes-the-joiner :
+    effect_of (then_call four_threads 0 (Join 2)) 2 (ThreadExit 51)
+    ≡ record { fate = Ends 51; woken = 0 ∷ []; told = Some 51; created = None }
 thread_exit-wakes-the-joiner = refl
 
 -- the end of a thread that nobody joins wakes nobody
@@ -181,7 +193,9 @@ pub thread_exit-wakes-nobody : (effect_of (then_call four_threads 0 (Join 2)) 1 
 thread_exit-wakes-nobody = refl
 
 -- the join of a thread that has ended answers 0, with the value in a1
-pub join-of-an-ended-thread-tells-its-value : effect_of (then_call four_threads 1 (ThreadExit 51)) 0 (Join 1) ≡ record { fate = Returns 0 (Some 51); woken = []; told = None; created = None }
+pub join-of-an-ended-thread-tells-its-value :
+    effect_of (then_call four_threads 1 (ThreadExit 51)) 0 (Join 1)
+    ≡ record { fate = Returns 0 (Some 51); woken = []; told = None; created = None }
 join-of-an-ended-thread-tells-its-value = refl
 
 -- a second joiner is refused with EINVAL while the first waits
@@ -189,11 +203,13 @@ pub join-of-a-joined-thread-is-invalid : effect_of (then_call four_threads 0 (Jo
 join-of-a-joined-thread-is-invalid = refl
 
 -- and also after the thread has ended and the first was woken: a joiner is never forgotten
-pub join-after-a-woken-joiner-is-invalid : effect_of (then_call (then_call four_threads 0 (Join 2)) 2 (ThreadExit 51)) 1 (Join 2) ≡ answers 4294967274
+pub join-after-a-woken-joiner-is-invalid :
+    effect_of (then_call (then_call four_threads 0 (Join 2)) 2 (ThreadExit 51)) 1 (Join 2) ≡ answers 4294967274
 join-after-a-woken-joiner-is-invalid = refl
 
 -- and after a join that didn't wait
-pub join-after-a-join-is-invalid : effect_of (then_call (then_call four_threads 1 (ThreadExit 51)) 0 (Join 1)) 0 (Join 1) ≡ answers 4294967274
+pub join-after-a-join-is-invalid :
+    effect_of (then_call (then_call four_threads 1 (ThreadExit 51)) 0 (Join 1)) 0 (Join 1) ≡ answers 4294967274
 join-after-a-join-is-invalid = refl
 
 -- a thread that joins itself: EDEADLK is 35 and 2^32 - 35 is 4294967261
@@ -218,7 +234,7 @@ join-in-a-circle-blocks = refl
 
 -- lock and unlock.
 
--- thread 1 holds mutex 3, and then 2, 3 and 0 wait for it in this order (this project's own)
+-- thread 1 holds mutex 3, and then 2, 3 and 0 wait for it in this order
 abbrev pub three_wait : Objects
 three_wait = then_call (then_call (then_call (then_call four_threads 1 (Lock 3)) 2 (Lock 3)) 3 (Lock 3)) 0 (Lock 3)
 
@@ -227,17 +243,21 @@ pub lock-of-a-free-mutex-answers-0 : effect_of four_threads 1 (Lock 3) ≡ answe
 unfolding all_unlocked
 lock-of-a-free-mutex-answers-0 = refl
 
-pub lock-of-a-free-mutex-owns-it : slice_index_or (then_call four_threads 1 (Lock 3)).mutexes 3 unlocked ≡ record { owner = Some 1; queue = [] }
+pub lock-of-a-free-mutex-owns-it :
+    slice_index_or (then_call four_threads 1 (Lock 3)).mutexes 3 unlocked ≡ record { owner = Some 1; queue = [] }
 unfolding all_unlocked
 lock-of-a-free-mutex-owns-it = refl
 
 -- a mutex that another holds blocks
-pub lock-of-a-held-mutex-blocks : effect_of (then_call four_threads 1 (Lock 3)) 2 (Lock 3) ≡ record { fate = Blocks; woken = []; told = None; created = None }
+pub lock-of-a-held-mutex-blocks :
+    effect_of (then_call four_threads 1 (Lock 3)) 2 (Lock 3)
+    ≡ record { fate = Blocks; woken = []; told = None; created = None }
 unfolding all_unlocked
 lock-of-a-held-mutex-blocks = refl
 
 -- the queue is first in first out
-pub lock-waits-in-order : slice_index_or three_wait.mutexes 3 unlocked ≡ record { owner = Some 1; queue = 2 ∷ (3 ∷ (0 ∷ [])) }
+pub lock-waits-in-order :
+    slice_index_or three_wait.mutexes 3 unlocked ≡ record { owner = Some 1; queue = 2 ∷ (3 ∷ (0 ∷ [])) }
 unfolding all_unlocked
 lock-waits-in-order = refl
 
@@ -258,11 +278,14 @@ pub unlock-of-mutex-64-is-invalid : effect_of four_threads 1 (Unlock 64) ≡ ans
 unlock-of-mutex-64-is-invalid = refl
 
 -- unlock hands the mutex to the first who waits, and the others stay in order
-pub unlock-wakes-the-first : effect_of three_wait 1 (Unlock 3) ≡ record { fate = Returns 0 None; woken = 2 ∷ []; told = None; created = None }
+pub unlock-wakes-the-first :
+    effect_of three_wait 1 (Unlock 3) ≡ record { fate = Returns 0 None; woken = 2 ∷ []; told = None; created = None }
 unfolding all_unlocked
 unlock-wakes-the-first = refl
 
-pub unlock-hands-over-to-the-first : slice_index_or (then_call three_wait 1 (Unlock 3)).mutexes 3 unlocked ≡ record { owner = Some 2; queue = 3 ∷ (0 ∷ []) }
+pub unlock-hands-over-to-the-first :
+    slice_index_or (then_call three_wait 1 (Unlock 3)).mutexes 3 unlocked
+    ≡ record { owner = Some 2; queue = 3 ∷ (0 ∷ []) }
 unfolding all_unlocked
 unlock-hands-over-to-the-first = refl
 
@@ -282,7 +305,9 @@ unfolding all_unlocked
 unlock-by-another-is-not-permitted = refl
 
 -- a thread that ends keeps what it holds
-pub thread_exit-keeps-its-mutexes : slice_index_or (then_call (then_call four_threads 1 (Lock 3)) 1 (ThreadExit 0)).mutexes 3 unlocked ≡ record { owner = Some 1; queue = [] }
+pub thread_exit-keeps-its-mutexes :
+    slice_index_or (then_call (then_call four_threads 1 (Lock 3)) 1 (ThreadExit 0)).mutexes 3 unlocked
+    ≡ record { owner = Some 1; queue = [] }
 unfolding all_unlocked
 thread_exit-keeps-its-mutexes = refl
 

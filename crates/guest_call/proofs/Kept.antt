@@ -19,13 +19,19 @@ pub use Rattle.guest_call.proofs.Shape.{length-at_cell}
 use Rattle.guest_call.proofs.Shape.{IsShaped, kept_shaped, act_shaped, opening_shaped}
 
 -- as many threads as before and as many more as are created, after each row on the table of threads
-pub length-create : (pc argument : ℕ) (members : List Member) → length (create_row pc argument members).1 ≡ length members + created_count (create_row pc argument members).0.created
+pub length-create :
+    (pc argument : ℕ) (members : List Member)
+    → length (create_row pc argument members).1
+    ≡ length members + created_count (create_row pc argument members).0.created
 length-create pc argument members = grind (arith, length_push)
 
-pub length-create-le : (pc argument : ℕ) (members : List Member) → length members ≤ 32 → length (create_row pc argument members).1 ≤ 32
+pub length-create-le :
+    (pc argument : ℕ) (members : List Member) → length members ≤ 32 → length (create_row pc argument members).1 ≤ 32
 length-create-le pc argument members few = grind (arith, nat_tests, length_push)
 
-pub length-join : (t u : ℕ) (members : List Member) → length (join_row t u members).1 ≡ length members + created_count (join_row t u members).0.created
+pub length-join :
+    (t u : ℕ) (members : List Member)
+    → length (join_row t u members).1 ≡ length members + created_count (join_row t u members).0.created
 length-join t u members = grind (arith, length-set)
 
 -- a call makes one thread more exactly where it says that one is created
@@ -51,7 +57,9 @@ act_creates readable o t (Signal c) = grind arith
 act_creates readable o t (Broadcast c) = grind arith
 
 -- no call makes a thread beyond 32
-pub act_few : (readable : ℕ → ℕ → Bool) (o : Objects) (t : ℕ) (call : Call) → length o.threads ≤ 32 → length (act readable o t call).1.threads ≤ 32
+pub act_few :
+    (readable : ℕ → ℕ → Bool) (o : Objects) (t : ℕ) (call : Call) → length o.threads ≤ 32
+    → length (act readable o t call).1.threads ≤ 32
 act_few readable o t (Exit code) few = few
 act_few readable o t (Put p n) few = few
 act_few readable o t (Create pc argument) few = length-create-le pc argument o.threads few
@@ -72,17 +80,23 @@ act_few readable o t (Signal c) few = grind arith
 act_few readable o t (Broadcast c) few = grind arith
 
 -- each thread still waits in at most one place, where the caller waited in none
-pub once_kept : (w after : ℕ → ℕ) (t : ℕ) (e : Effect) → Keeps w t e after → w t ≡ 0 → ((u : ℕ) → w u ≤ 1) → (u : ℕ) → after u ≤ 1
+pub once_kept :
+    (w after : ℕ → ℕ) (t : ℕ) (e : Effect) → Keeps w t e after → w t ≡ 0 → ((u : ℕ) → w u ≤ 1) → (u : ℕ) → after u ≤ 1
 once_kept w after t e keeps free once u =
-    ⊎_elim (λ same. omega (arith, keeps u, entering-le t e.fate u, ap w same, free)) (λ other. omega (arith, keeps u, entering-other t e.fate u other, once u)) (cases_eq u t)
+    ⊎_elim (λ same. omega (arith, keeps u, entering-le t e.fate u, ap w same, free))
+    (λ other. omega (arith, keeps u, entering-other t e.fate u other, once u)) (cases_eq u t)
 
 -- a thread that isn't there still waits nowhere, where the caller is there
-pub known_kept : (w after : ℕ → ℕ) (t n : ℕ) (e : Effect) → Keeps w t e after → t < n → ((u : ℕ) → n ≤ u → w u ≡ 0) → (u : ℕ) → n ≤ u → after u ≡ 0
+pub known_kept :
+    (w after : ℕ → ℕ) (t n : ℕ) (e : Effect) → Keeps w t e after → t < n → ((u : ℕ) → n ≤ u → w u ≡ 0) → (u : ℕ) → n ≤ u
+    → after u ≡ 0
 known_kept w after t n e keeps there known u beyond =
     omega (arith, keeps u, entering-other t e.fate u (λ same. omega arith), known u beyond)
 
 -- a call keeps what holds of the objects, where its caller is a thread that waits nowhere
-pub act_kept : (readable : ℕ → ℕ → Bool) (o : Objects) (t : ℕ) (call : Call) → IsKept o → t < length o.threads → waits_at o t ≡ 0 → IsKept (act readable o t call).1
+pub act_kept :
+    (readable : ℕ → ℕ → Bool) (o : Objects) (t : ℕ) (call : Call) → IsKept o → t < length o.threads → waits_at o t ≡ 0
+    → IsKept (act readable o t call).1
 act_kept readable o t call kept there free =
     let r : Effect × Objects = act readable o t call in
     let keeps : Keeps (waits_at o) t r.0 (waits_at r.1) = act_keeps readable o t call kept there in
@@ -97,7 +111,8 @@ act_kept readable o t call kept there free =
       all_conditions = shaped.all_conditions;
       named = shaped.named;
       once = once_kept (waits_at o) (waits_at r.1) t r.0 keeps free kept.once;
-      known = λ u beyond. known_kept (waits_at o) (waits_at r.1) t (length o.threads) r.0 keeps there kept.known u (omega (arith, more));
+      known = λ u beyond. known_kept (waits_at o) (waits_at r.1) t (length o.threads) r.0 keeps there kept.known u
+          (omega (arith, more));
     }
 
 pub opening_waits : (t : ℕ) → waits_at opening t ≡ 0
@@ -127,47 +142,70 @@ opening_kept = record {
 }
 
 -- who has ended, after a fresh thread was added: as before
-pub value-push : (members : List Member) (u : ℕ) → (member_at (members ++ fresh ∷ []) u).value ≡ (member_at members u).value
+pub value-push :
+    (members : List Member) (u : ℕ) → (member_at (members ++ fresh ∷ []) u).value ≡ (member_at members u).value
 value-push members u = by_order (nat_lt u (length members)) refl
   where
     beyond : length members ≤ u → (member_at (members ++ fresh ∷ []) u).value ≡ (member_at members u).value
     beyond le =
         ⊎_elim
-        (λ same. ap (λ (c : Member). c.value) (get_or_push members fresh fresh u (sym same)) ∙ sym (ap (λ (c : Member). c.value) (get_or_past members u fresh le)))
-        (λ other. ap (λ (c : Member). c.value) (get_or_past (members ++ fresh ∷ []) u fresh (omega (arith, length_push members fresh))) ∙ sym (ap (λ (c : Member). c.value) (get_or_past members u fresh le)))
+        (λ same. ap (λ (c : Member). c.value) (get_or_push members fresh fresh u (sym same))
+        ∙ sym (ap (λ (c : Member). c.value) (get_or_past members u fresh le)))
+        (λ other. ap (λ (c : Member). c.value)
+        (get_or_past (members ++ fresh ∷ []) u fresh (omega (arith, length_push members fresh)))
+        ∙ sym (ap (λ (c : Member). c.value) (get_or_past members u fresh le)))
         (cases_eq u (length members))
 
-    by_order : (b : Bool) → nat_lt u (length members) ≡ b → (member_at (members ++ fresh ∷ []) u).value ≡ (member_at members u).value
-    by_order true is = ap (λ (c : Member). c.value) (get_or_append_left members (fresh ∷ []) fresh u (ltb-true u (length members) is))
+    by_order :
+        (b : Bool) → nat_lt u (length members) ≡ b
+        → (member_at (members ++ fresh ∷ []) u).value ≡ (member_at members u).value
+    by_order true is =
+        ap (λ (c : Member). c.value) (get_or_append_left members (fresh ∷ []) fresh u (ltb-true u (length members) is))
     by_order false is = beyond (ltb-false u (length members) is)
 
 -- after a thread got a joiner: as before
-pub value-joined : (members : List Member) (t v u : ℕ) → (member_at (slice_set members v (joined_by t (member_at members v))) u).value ≡ (member_at members u).value
+pub value-joined :
+    (members : List Member) (t v u : ℕ)
+    → (member_at (slice_set members v (joined_by t (member_at members v))) u).value ≡ (member_at members u).value
 value-joined members t v u = ⊎_elim same other (cases_eq u v)
   where
-    other : u ≢ v → (member_at (slice_set members v (joined_by t (member_at members v))) u).value ≡ (member_at members u).value
-    other differs = ap (λ (m : Member). m.value) (get_or-set_other members v u (joined_by t (member_at members v)) fresh differs)
+    other :
+        u ≢ v
+        → (member_at (slice_set members v (joined_by t (member_at members v))) u).value ≡ (member_at members u).value
+    other differs =
+        ap (λ (m : Member). m.value) (get_or-set_other members v u (joined_by t (member_at members v)) fresh differs)
 
-    by_order : (b : Bool) → nat_lt v (length members) ≡ b → (member_at (slice_set members v (joined_by t (member_at members v))) v).value ≡ (member_at members v).value
-    by_order true is = ap (λ (m : Member). m.value) (get_or-set_same members v (joined_by t (member_at members v)) fresh (ltb-true v (length members) is))
+    by_order :
+        (b : Bool) → nat_lt v (length members) ≡ b
+        → (member_at (slice_set members v (joined_by t (member_at members v))) v).value ≡ (member_at members v).value
+    by_order true is =
+        ap (λ (m : Member). m.value)
+        (get_or-set_same members v (joined_by t (member_at members v)) fresh (ltb-true v (length members) is))
     by_order false is =
         let beyond : length members ≤ v = ltb-false v (length members) is in
         let m = joined_by t (member_at members v) in
-        ap (λ (x : Member). x.value) (get_or_past (slice_set members v m) v fresh (omega (arith, length-set members v m))) ∙ sym (ap (λ (x : Member). x.value) (get_or_past members v fresh beyond))
+        ap (λ (x : Member). x.value)
+        (get_or_past (slice_set members v m) v fresh (omega (arith, length-set members v m)))
+        ∙ sym (ap (λ (x : Member). x.value) (get_or_past members v fresh beyond))
 
-    same : u ≡ v → (member_at (slice_set members v (joined_by t (member_at members v))) u).value ≡ (member_at members u).value
+    same :
+        u ≡ v
+        → (member_at (slice_set members v (joined_by t (member_at members v))) u).value ≡ (member_at members u).value
     same is = rw is (by_order (nat_lt v (length members)) refl)
 
 pub create_ended : (t pc argument : ℕ) (members : List Member) (u : ℕ) →
-    (member_at (create_row pc argument members).1 u).value ≡ ended_after t (create_row pc argument members).0.fate u (member_at members u).value
+    (member_at (create_row pc argument members).1 u).value
+    ≡ ended_after t (create_row pc argument members).0.fate u (member_at members u).value
 create_ended t pc argument members u = grind (arith, value-push)
 
 pub join_ended : (t v : ℕ) (members : List Member) (u : ℕ) →
-    (member_at (join_row t v members).1 u).value ≡ ended_after t (join_row t v members).0.fate u (member_at members u).value
+    (member_at (join_row t v members).1 u).value
+    ≡ ended_after t (join_row t v members).0.fate u (member_at members u).value
 join_ended t v members u = grind (arith, value-joined)
 
 pub thread_exit_ended : (t v : ℕ) (members : List Member) → t < length members → (u : ℕ) →
-    (member_at (thread_exit_row t v members).1 u).value ≡ ended_after t (thread_exit_row t v members).0.fate u (member_at members u).value
+    (member_at (thread_exit_row t v members).1 u).value
+    ≡ ended_after t (thread_exit_row t v members).0.fate u (member_at members u).value
 thread_exit_ended t v members there u = grind (arith, get_or-set_same, get_or-set_other, cases_eq u t)
 
 -- who has ended after a call: who had, and the caller where it ends

@@ -19,9 +19,12 @@ use Rattle.guest_call.proofs.BarrierLocal.{on_barrier_local}
 use Rattle.guest_call.proofs.PairLocal.{cond_wait_local, leave_local, signal_quiet, broadcast_quiet}
 
 -- a call is local to the objects on which it acts
-pub act_local : (readable : ℕ → ℕ → Bool) (o : Objects) (t : ℕ) (call : Call) → IsKept o → IsLocalBy (λ x. act readable x t call) (λ x. acts_on readable x call) o
+pub act_local :
+    (readable : ℕ → ℕ → Bool) (o : Objects) (t : ℕ) (call : Call) → IsKept o
+    → IsLocalBy (λ x. act readable x t call) (λ x. acts_on readable x call) o
 act_local readable o t (Exit code) kept = nothing_local (exits code) [] o
-act_local readable o t (Put p n) kept = nothing_local (answers (put_answer readable p n)) (one_of (appends readable p n) Output) o
+act_local readable o t (Put p n) kept =
+    nothing_local (answers (put_answer readable p n)) (one_of (appends readable p n) Output) o
 act_local readable o t (Create pc argument) kept = create_local pc argument o kept
 act_local readable o t (ThreadExit v) kept = on_threads_local (thread_exit_row t v) o kept
 act_local readable o t (Join u) kept = on_threads_local (join_row t u) o kept
@@ -33,9 +36,11 @@ act_local readable o t (SemWait s) kept = on_semaphore_local (sem_wait_row t) s 
 act_local readable o t (SemTryWait s) kept = on_semaphore_local sem_trywait_row s o kept
 act_local readable o t (SemPost s) kept = on_semaphore_local sem_post_row s o kept
 act_local readable o t (SemInit s n) kept =
-    checked_local (nat_lt s 64) (nat_le n largest_value) (λ x. on_semaphore (sem_init_row n) x s) (SemaphoreOf s) o (on_semaphore_local (sem_init_row n) s o kept)
+    checked_local (nat_lt s 64) (nat_le n largest_value) (λ x. on_semaphore (sem_init_row n) x s) (SemaphoreOf s) o
+    (on_semaphore_local (sem_init_row n) s o kept)
 act_local readable o t (BarrierInit b n) kept =
-    checked_local (nat_lt b 64) (is_count n) (λ x. on_barrier (barrier_init_row n) x b) (BarrierOf b) o (on_barrier_local (barrier_init_row n) b o kept)
+    checked_local (nat_lt b 64) (is_count n) (λ x. on_barrier (barrier_init_row n) x b) (BarrierOf b) o
+    (on_barrier_local (barrier_init_row n) b o kept)
 act_local readable o t (BarrierWait b) kept = on_barrier_local (barrier_wait_row t) b o kept
 act_local readable o t (CondWait c m) kept = cond_wait_local t c m o kept
 act_local readable o t (Signal c) kept = leave_local signal_leaving c o signal_quiet kept

@@ -1,4 +1,4 @@
--- When a step is local to the objects that it names.
+-- When a change of the objects is local to those that it names.
 use Rattle.std.proofs.Common.{◌≡◌, Bool, true, false, ◌&&◌, List, [], ◌∷◌, refl, sym, ap, subst, ◌∙◌, true≢false, arith}
 use Rattle.guest_call.specs.declared.Object.{Object}
 use Rattle.guest_call.specs.declared.Object.TheVariants.{Output, ThreadTable, Mutex as MutexOf, Semaphore as SemaphoreOf, Barrier as BarrierOf, Condition as ConditionOf}
@@ -8,7 +8,7 @@ use Rattle.guest_call.specs.Tables.{checked}
 use Rattle.guest_call.specs.Objects.{Objects, one_of, IsKept}
 use Rattle.guest_call.specs.Locality.{Part, part_of, same_object, is_among, Agree, IsLocalBy}
 
--- a step that changes no object is local to whatever it names
+-- a change that changes no object is local to whatever it names
 pub nothing_local : (e : Effect) (objects : List Object) (o : Objects) → IsLocalBy (λ x. (e, x)) (λ x. objects) o
 nothing_local e objects o = record {
   stays = λ p apart. refl;
@@ -17,50 +17,69 @@ nothing_local e objects o = record {
   same_parts = λ other kept alike. alike;
 }
 
--- a step looks at no more than a state, from which its effect and the new parts of its objects follow, and leaves all others (this project's own)
-pub record IsSeenBy {S : Type 0} (look : Objects → S) (effect : S → Effect) (new : S → Object → Part) (objects : List Object) (step : Objects → Effect × Objects) (o : Objects) : Type 0 where
+-- a change looks at no more than a state, from which its effect and the new parts of its objects follow, and leaves all
+-- others
+pub record IsSeenBy {S : Type 0} (look : Objects → S) (effect : S → Effect) (new : S → Object → Part)
+    (objects : List Object) (change : Objects → Effect × Objects) (o : Objects) : Type 0 where
   pub looks : (other : Objects) → Agree objects o other → look other ≡ look o
-  pub does : (x : Objects) → (step x).0 ≡ effect (look x)
-  pub writes : (x : Objects) → IsKept x → (p : Object) → is_among p objects ≡ true → part_of (step x).1 p ≡ new (look x) p
-  pub leaves : (p : Object) → is_among p objects ≡ false → part_of (step o).1 p ≡ part_of o p
+  pub does : (x : Objects) → (change x).0 ≡ effect (look x)
+  pub writes :
+      (x : Objects) → IsKept x → (p : Object) → is_among p objects ≡ true → part_of (change x).1 p ≡ new (look x) p
+  pub leaves : (p : Object) → is_among p objects ≡ false → part_of (change o).1 p ≡ part_of o p
 
--- such a step is local to its objects
-pub seen_local : {S : Type 0} (look : Objects → S) (effect : S → Effect) (new : S → Object → Part) (objects : List Object) (step : Objects → Effect × Objects) (o : Objects) → IsKept o →
-    IsSeenBy look effect new objects step o → IsLocalBy step (λ x. objects) o
-seen_local look effect new objects step o kept seen = record {
+-- such a change is local to its objects
+pub seen_local :
+    {S : Type 0} (look : Objects → S) (effect : S → Effect) (new : S → Object → Part) (objects : List Object)
+    (change : Objects → Effect × Objects) (o : Objects)
+    → IsKept o →
+    IsSeenBy look effect new objects change o → IsLocalBy change (λ x. objects) o
+seen_local look effect new objects change o kept seen = record {
   stays = seen.leaves;
   same_objects = λ other alike. refl;
   same_effect = λ other alike. seen.does other ∙ ap effect (seen.looks other alike) ∙ sym (seen.does o);
-  same_parts = λ other kept_too alike p among. seen.writes other kept_too p among ∙ ap (λ s. new s p) (seen.looks other alike) ∙ sym (seen.writes o kept p among);
+  same_parts =
+      λ other kept_too alike p among. seen.writes other kept_too p among ∙ ap (λ s. new s p) (seen.looks other alike)
+      ∙ sym (seen.writes o kept p among);
 }
 
--- a step that names its objects by the state is local, where it does what a local step does whenever these objects stand alike
-pub like_local : (step like : Objects → Effect × Objects) (objects : Objects → List Object) (named : List Object) (o : Objects) → objects o ≡ named →
-    ((other : Objects) → Agree named o other → objects other ≡ named) → ((other : Objects) → Agree named o other → step other ≡ like other) → IsLocalBy like (λ x. named) o →
-    IsLocalBy step objects o
-like_local step like objects named o named_o names does local = record {
-  stays = λ p apart. ap (λ (r : Effect × Objects). part_of r.1 p) at_o ∙ local.stays p (subst (λ (q : List Object). is_among p q ≡ false) named_o apart);
+-- a change that names its objects by the state is local, where it does what a local change does whenever these objects
+-- stand alike
+pub like_local :
+    (change like : Objects → Effect × Objects) (objects : Objects → List Object) (named : List Object) (o : Objects)
+    → objects o ≡ named →
+    ((other :
+    Objects) → Agree named o other → objects other ≡ named)
+    → ((other : Objects) → Agree named o other → change other ≡ like other) → IsLocalBy like (λ x. named) o →
+    IsLocalBy change objects o
+like_local change like objects named o named_o names does local = record {
+  stays = λ p apart. ap (λ (r : Effect × Objects). part_of r.1 p) at_o
+      ∙ local.stays p (subst (λ (q : List Object). is_among p q ≡ false) named_o apart);
   same_objects = λ other alike. names other (these other alike) ∙ sym named_o;
-  same_effect = λ other alike. ap (λ (r : Effect × Objects). r.0) (does other (these other alike)) ∙ local.same_effect other (these other alike) ∙ sym (ap (λ (r : Effect × Objects). r.0) at_o);
+  same_effect =
+      λ other alike. ap (λ (r : Effect × Objects). r.0) (does other (these other alike))
+      ∙ local.same_effect other (these other alike) ∙ sym (ap (λ (r : Effect × Objects). r.0) at_o);
   same_parts = λ other kept alike p among.
       ap (λ (r : Effect × Objects). part_of r.1 p) (does other (these other alike))
-      ∙ local.same_parts other kept (these other alike) p (subst (λ (q : List Object). is_among p q ≡ true) named_o among)
+      ∙ local.same_parts other kept (these other alike) p
+      (subst (λ (q : List Object). is_among p q ≡ true) named_o among)
       ∙ sym (ap (λ (r : Effect × Objects). part_of r.1 p) at_o);
 }
   where
     these : (other : Objects) → Agree (objects o) o other → Agree named o other
     these other alike = subst (λ (q : List Object). Agree q o other) named_o alike
 
-    at_o : step o ≡ like o
+    at_o : change o ≡ like o
     at_o = does o (λ p among. refl)
 
--- a step that is refused out of its range acts on nothing then
-pub checked_local : (a b : Bool) (step : Objects → Effect × Objects) (q : Object) (o : Objects) → IsLocalBy step (λ x. one_of a q) o →
-    IsLocalBy (λ x. checked b x (step x)) (λ x. one_of (a && b) q) o
-checked_local true true step q o local = local
-checked_local true false step q o local = nothing_local (answers answer_einval) [] o
-checked_local false true step q o local = local
-checked_local false false step q o local = nothing_local (answers answer_einval) [] o
+-- a change that is refused out of its range acts on nothing then
+pub checked_local :
+    (a b : Bool) (change : Objects → Effect × Objects) (q : Object) (o : Objects) → IsLocalBy change (λ x. one_of a q) o
+    →
+    IsLocalBy (λ x. checked b x (change x)) (λ x. one_of (a && b) q) o
+checked_local true true change q o local = local
+checked_local true false change q o local = nothing_local (answers answer_einval) [] o
+checked_local false true change q o local = local
+checked_local false false change q o local = nothing_local (answers answer_einval) [] o
 
 -- two names that are of one object are one
 pub same_is : (p q : Object) → same_object p q ≡ true → p ≡ q

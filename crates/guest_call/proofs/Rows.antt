@@ -38,17 +38,21 @@ places-empty u (v ∷ q) none = absurd (omega arith)
 pub barrier_init_fair : (t n : ℕ) (c : Barrier) → IsFair barrier_queue t c (barrier_init_row n c)
 barrier_init_fair t n c u = grind (arith, places-nil, places-empty, entering-returns)
 
-pub comes_fair : (t : ℕ) (n : Option ℕ) (q : List ℕ) → IsFair barrier_queue t (record { count = n; queue = q }) (comes t n q)
+pub comes_fair :
+    (t : ℕ) (n : Option ℕ) (q : List ℕ) → IsFair barrier_queue t (record { count = n; queue = q }) (comes t n q)
 comes_fair t None q u = grind (arith, places-nil, entering-returns)
 comes_fair t (Some n) q u = grind (arith, places-nil, places-push, entering-returns, entering-blocks)
 
 pub barrier_wait_fair : (t : ℕ) (c : Barrier) → IsFair barrier_queue t c (barrier_wait_row t c)
 barrier_wait_fair t c = comes_fair t c.count c.queue
 
--- what a row of thread t did to a condition and a mutex lost nobody of their queues and doubled nobody (this project's own)
+-- what a row of thread t did to a condition and a mutex lost nobody of their queues and doubled nobody
 abbrev pub IsFairPair : ℕ → Condition → Mutex → Effect × Condition × Mutex → Type 0
 IsFairPair t c x r =
-    (u : ℕ) → places u r.1.queue + places u r.2.queue + places u r.0.woken ≡ places u c.queue + places u x.queue + entering t r.0.fate u
+    (u :
+    ℕ)
+    → places u r.1.queue + places u r.2.queue + places u r.0.woken
+    ≡ places u c.queue + places u x.queue + entering t r.0.fate u
 
 -- a mutex that is handed over
 pub handed_places : (u : ℕ) (q : List ℕ) → places u (handed_over q).0 + places u (handed_over q).1.queue ≡ places u q
@@ -59,11 +63,14 @@ pub cond_wait_fair : (t m : ℕ) (c : Condition) (x : Mutex) → IsFairPair t c 
 cond_wait_fair t m c x u = grind (arith, places-nil, places-push, handed_places, entering-returns, entering-blocks)
 
 -- a thread that comes to a mutex is woken or waits for it
-pub admit_places : (u v : ℕ) (x : Mutex) → places u (admit v x).0 + places u (admit v x).1.queue ≡ places u x.queue + places u (v ∷ [])
+pub admit_places :
+    (u v : ℕ) (x : Mutex) → places u (admit v x).0 + places u (admit v x).1.queue ≡ places u x.queue + places u (v ∷ [])
 admit_places u v x = grind (arith, places-nil, places-cons, places-push)
 
 -- and so is each of several
-pub admit_each_places : (u : ℕ) (q : List ℕ) (x : Mutex) → places u (admit_each q x).0 + places u (admit_each q x).1.queue ≡ places u x.queue + places u q
+pub admit_each_places :
+    (u : ℕ) (q : List ℕ) (x : Mutex)
+    → places u (admit_each q x).0 + places u (admit_each q x).1.queue ≡ places u x.queue + places u q
 admit_each_places u [] x = omega arith
 admit_each_places u (v ∷ q) x =
     let y : Mutex = (admit v x).1 in
@@ -80,16 +87,22 @@ admit_each_places u (v ∷ q) x =
 pub leave_fair : (leaving : Condition → Leaving) (t : ℕ) (c : Condition) (x : Mutex) →
     ((c : Condition) (u : ℕ) → places u (leaving c).threads + places u (leaving c).rest.queue ≡ places u c.queue) →
     IsFairPair t c x (leave_row leaving c x)
-leave_fair leaving t c x leaves u = omega (arith, leaves c u, admit_each_places u (leaving c).threads x, entering-returns t 0 None u)
+leave_fair leaving t c x leaves u =
+    omega (arith, leaves c u, admit_each_places u (leaving c).threads x, entering-returns t 0 None u)
 
 -- who leaves by a signal or stays has waited, and nobody else
-pub first_leaves_places : (m u : ℕ) (q : List ℕ) → places u (first_leaves m q).threads + places u (first_leaves m q).rest.queue ≡ places u q
+pub first_leaves_places :
+    (m u : ℕ) (q : List ℕ) → places u (first_leaves m q).threads + places u (first_leaves m q).rest.queue ≡ places u q
 first_leaves_places m u [] = omega (arith, places-nil u)
 first_leaves_places m u (v ∷ q) = omega (arith, places-nil u, places-cons u v q, places-cons u v [])
 
-pub signal_leaves : (c : Condition) (u : ℕ) → places u (signal_leaving c).threads + places u (signal_leaving c).rest.queue ≡ places u c.queue
+pub signal_leaves :
+    (c : Condition) (u : ℕ)
+    → places u (signal_leaving c).threads + places u (signal_leaving c).rest.queue ≡ places u c.queue
 signal_leaves c u = first_leaves_places c.mutex u c.queue
 
 -- and by a broadcast
-pub broadcast_leaves : (c : Condition) (u : ℕ) → places u (broadcast_leaving c).threads + places u (broadcast_leaving c).rest.queue ≡ places u c.queue
+pub broadcast_leaves :
+    (c : Condition) (u : ℕ)
+    → places u (broadcast_leaving c).threads + places u (broadcast_leaving c).rest.queue ≡ places u c.queue
 broadcast_leaves c u = omega (arith, places-nil u)

@@ -8,15 +8,15 @@ use Rattle.guest_call.specs.Semaphores.{Semaphore, unposted}
 use Rattle.guest_call.specs.Objects.{Objects, all_unposted, opening, act, acts_on}
 use Rattle.guest_call.proofs.Examples.{all_readable, effect_of, four_threads, then_call}
 
--- how semaphore 3 stands (this project's own)
+-- how semaphore 3 stands
 abbrev pub third : Objects → Semaphore
 third o = slice_index_or o.semaphores 3 unposted
 
--- semaphore 3 at value 2 (this project's own)
+-- semaphore 3 at value 2
 abbrev pub at_two : Objects
 at_two = then_call four_threads 0 (SemInit 3 2)
 
--- threads 1 and 2 wait at semaphore 3, whose value is 0 (this project's own)
+-- threads 1 and 2 wait at semaphore 3, whose value is 0
 abbrev pub two_wait : Objects
 two_wait = then_call (then_call four_threads 1 (SemWait 3)) 2 (SemWait 3)
 
@@ -42,11 +42,13 @@ unfolding all_unposted
 sem_init-of-the-largest-answers-0 = refl
 
 -- one more isn't: EINVAL is 22 and 2^32 - 22 is 4294967274
-pub sem_init-beyond-the-largest-is-invalid : act all_readable four_threads 0 (SemInit 3 2147483648) ≡ (answers 4294967274, four_threads)
+pub sem_init-beyond-the-largest-is-invalid :
+    act all_readable four_threads 0 (SemInit 3 2147483648) ≡ (answers 4294967274, four_threads)
 sem_init-beyond-the-largest-is-invalid = refl
 
 -- semaphore 64 doesn't exist: EINVAL
-pub sem_init-of-semaphore-64-is-invalid : act all_readable four_threads 0 (SemInit 64 2) ≡ (answers 4294967274, four_threads)
+pub sem_init-of-semaphore-64-is-invalid :
+    act all_readable four_threads 0 (SemInit 64 2) ≡ (answers 4294967274, four_threads)
 sem_init-of-semaphore-64-is-invalid = refl
 
 -- while somebody waits: EBUSY is 16 and 2^32 - 16 is 4294967280, and nothing changes
@@ -54,7 +56,8 @@ pub sem_init-while-somebody-waits-is-busy : effect_of two_wait 0 (SemInit 3 2) �
 unfolding all_unposted
 sem_init-while-somebody-waits-is-busy = refl
 
-pub sem_init-while-somebody-waits-changes-nothing : third (then_call two_wait 0 (SemInit 3 2)) ≡ record { value = 0; queue = 1 ∷ 2 ∷ [] }
+pub sem_init-while-somebody-waits-changes-nothing :
+    third (then_call two_wait 0 (SemInit 3 2)) ≡ record { value = 0; queue = 1 ∷ 2 ∷ [] }
 unfolding all_unposted
 sem_init-while-somebody-waits-changes-nothing = refl
 
@@ -70,7 +73,8 @@ unfolding all_unposted
 sem_wait-takes-one = refl
 
 -- at 0, the value at the start, it blocks
-pub sem_wait-at-0-blocks : effect_of four_threads 1 (SemWait 3) ≡ record { fate = Blocks; woken = []; told = None; created = None }
+pub sem_wait-at-0-blocks :
+    effect_of four_threads 1 (SemWait 3) ≡ record { fate = Blocks; woken = []; told = None; created = None }
 unfolding all_unposted
 sem_wait-at-0-blocks = refl
 
@@ -84,7 +88,8 @@ pub sem_wait-of-semaphore-63-blocks : (effect_of four_threads 1 (SemWait 63)).fa
 unfolding all_unposted
 sem_wait-of-semaphore-63-blocks = refl
 
-pub sem_wait-of-semaphore-64-is-invalid : act all_readable four_threads 1 (SemWait 64) ≡ (answers 4294967274, four_threads)
+pub sem_wait-of-semaphore-64-is-invalid :
+    act all_readable four_threads 1 (SemWait 64) ≡ (answers 4294967274, four_threads)
 sem_wait-of-semaphore-64-is-invalid = refl
 
 -- sem_trywait.
@@ -103,11 +108,13 @@ pub sem_trywait-at-0-is-refused : effect_of two_wait 3 (SemTryWait 3) ≡ answer
 unfolding all_unposted
 sem_trywait-at-0-is-refused = refl
 
-pub sem_trywait-at-0-changes-nothing : third (then_call two_wait 3 (SemTryWait 3)) ≡ record { value = 0; queue = 1 ∷ 2 ∷ [] }
+pub sem_trywait-at-0-changes-nothing :
+    third (then_call two_wait 3 (SemTryWait 3)) ≡ record { value = 0; queue = 1 ∷ 2 ∷ [] }
 unfolding all_unposted
 sem_trywait-at-0-changes-nothing = refl
 
-pub sem_trywait-of-semaphore-64-is-invalid : act all_readable four_threads 1 (SemTryWait 64) ≡ (answers 4294967274, four_threads)
+pub sem_trywait-of-semaphore-64-is-invalid :
+    act all_readable four_threads 1 (SemTryWait 64) ≡ (answers 4294967274, four_threads)
 sem_trywait-of-semaphore-64-is-invalid = refl
 
 -- sem_post.
@@ -122,7 +129,8 @@ unfolding all_unposted
 sem_post-adds-one = refl
 
 -- with somebody waiting the first is woken, and the value stays
-pub sem_post-wakes-the-first : effect_of two_wait 0 (SemPost 3) ≡ record { fate = Returns 0 None; woken = 1 ∷ []; told = None; created = None }
+pub sem_post-wakes-the-first :
+    effect_of two_wait 0 (SemPost 3) ≡ record { fate = Returns 0 None; woken = 1 ∷ []; told = None; created = None }
 unfolding all_unposted
 sem_post-wakes-the-first = refl
 
@@ -131,20 +139,25 @@ unfolding all_unposted
 sem_post-keeps-the-value = refl
 
 -- up to the largest value it goes
-pub sem_post-below-the-largest-answers-0 : effect_of (then_call four_threads 0 (SemInit 3 2147483646)) 1 (SemPost 3) ≡ answers 0
+pub sem_post-below-the-largest-answers-0 :
+    effect_of (then_call four_threads 0 (SemInit 3 2147483646)) 1 (SemPost 3) ≡ answers 0
 unfolding all_unposted
 sem_post-below-the-largest-answers-0 = refl
 
 -- at the largest: EOVERFLOW is 75 and 2^32 - 75 is 4294967221, and the value stays
-pub sem_post-at-the-largest-overflows : effect_of (then_call four_threads 0 (SemInit 3 2147483647)) 1 (SemPost 3) ≡ answers 4294967221
+pub sem_post-at-the-largest-overflows :
+    effect_of (then_call four_threads 0 (SemInit 3 2147483647)) 1 (SemPost 3) ≡ answers 4294967221
 unfolding all_unposted
 sem_post-at-the-largest-overflows = refl
 
-pub sem_post-at-the-largest-changes-nothing : third (then_call (then_call four_threads 0 (SemInit 3 2147483647)) 1 (SemPost 3)) ≡ record { value = 2147483647; queue = [] }
+pub sem_post-at-the-largest-changes-nothing :
+    third (then_call (then_call four_threads 0 (SemInit 3 2147483647)) 1 (SemPost 3))
+    ≡ record { value = 2147483647; queue = [] }
 unfolding all_unposted
 sem_post-at-the-largest-changes-nothing = refl
 
-pub sem_post-of-semaphore-64-is-invalid : act all_readable four_threads 1 (SemPost 64) ≡ (answers 4294967274, four_threads)
+pub sem_post-of-semaphore-64-is-invalid :
+    act all_readable four_threads 1 (SemPost 64) ≡ (answers 4294967274, four_threads)
 sem_post-of-semaphore-64-is-invalid = refl
 
 -- What they act on: their semaphore, where the arguments are in range.
@@ -174,5 +187,6 @@ pub sem_init-beyond-the-largest-acts-on-nothing : acts_on all_readable opening (
 sem_init-beyond-the-largest-acts-on-nothing = refl
 
 -- a refusal with EBUSY acts on it too
-pub sem_init-while-somebody-waits-acts-on-its-semaphore : acts_on all_readable two_wait (SemInit 3 2) ≡ object.Semaphore 3 ∷ []
+pub sem_init-while-somebody-waits-acts-on-its-semaphore :
+    acts_on all_readable two_wait (SemInit 3 2) ≡ object.Semaphore 3 ∷ []
 sem_init-while-somebody-waits-acts-on-its-semaphore = refl

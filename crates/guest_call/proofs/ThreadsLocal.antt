@@ -10,12 +10,17 @@ use Rattle.guest_call.specs.Locality.{ThreadsPart, part_of, is_among, IsLocalBy}
 use Rattle.guest_call.proofs.Locality.{nothing_local, seen_local, among_one}
 
 -- a row on the table of threads
-pub on_threads_local : (row : List Member → Effect × List Member) (o : Objects) → IsKept o → IsLocalBy (λ x. on_threads row x) (λ x. ThreadTable ∷ []) o
+pub on_threads_local :
+    (row : List Member → Effect × List Member) (o : Objects) → IsKept o
+    → IsLocalBy (λ x. on_threads row x) (λ x. ThreadTable ∷ []) o
 on_threads_local row o kept =
-    seen_local (λ x. x.threads) (λ c. (row c).0) (λ c p. ThreadsPart (row c).1) (ThreadTable ∷ []) (λ x. on_threads row x) o kept (record {
+    seen_local (λ x. x.threads) (λ c. (row c).0) (λ c p. ThreadsPart (row c).1) (ThreadTable ∷ [])
+    (λ x. on_threads row x) o kept (record {
       looks = λ other alike. let e = alike ThreadTable refl in cc;
       does = λ x. refl;
-      writes = λ x kept_x p among. subst (λ (q : Object). part_of (on_threads row x).1 q ≡ ThreadsPart (row x.threads).1) (sym (among_one p ThreadTable among)) refl;
+      writes =
+          λ x kept_x p among. subst (λ (q : Object). part_of (on_threads row x).1 q ≡ ThreadsPart (row x.threads).1)
+          (sym (among_one p ThreadTable among)) refl;
       leaves = leaves_by;
     })
   where
@@ -28,7 +33,9 @@ on_threads_local row o kept =
     leaves_by (ConditionOf k) apart = refl
 
 -- create, which acts on the table of threads unless its pc is refused
-pub create_local : (pc argument : ℕ) (o : Objects) → IsKept o → IsLocalBy (λ x. on_threads (create_row pc argument) x) (λ x. one_of (pc % 4 == 0) ThreadTable) o
+pub create_local :
+    (pc argument : ℕ) (o : Objects) → IsKept o
+    → IsLocalBy (λ x. on_threads (create_row pc argument) x) (λ x. one_of (pc % 4 == 0) ThreadTable) o
 create_local pc argument o kept = by_pc (pc % 4 == 0)
   where
     row_by : Bool → List Member → Effect × List Member

@@ -4,7 +4,8 @@ use Rattle.guest_call.specs.Answers.{answer_eperm, answer_einval}
 use Rattle.guest_call.specs.Effect.{Effect, Returns, Blocks, answers, wakes}
 use Rattle.guest_call.specs.Mutexes.{Mutex, owns, owned_by, waited_for, handed_over}
 
--- the mutex with which threads wait for a condition, or last did, and who waits, the first to come first (POSIX.1-2017, pthread_cond_wait)
+-- the mutex with which threads wait for a condition, or last did, and who waits, the first to come first (POSIX.1-2017,
+-- pthread_cond_wait)
 pub record Condition : Type 0 where
   pub mutex : ℕ
   pub queue : List ℕ
@@ -21,8 +22,8 @@ condition_queue c = c.queue
 abbrev pub awaited_by : ℕ → ℕ → Condition → Condition
 awaited_by t m c = record { mutex = m; queue = c.queue ++ t ∷ [] }
 
--- cond_wait with mutex m, called by t: who isn't the owner is refused, and so is another mutex than that of those who wait;
--- else t waits, and the mutex is handed over as in unlock (POSIX.1-2017, pthread_cond_wait)
+-- cond_wait with mutex m, called by t: who isn't the owner is refused, and so is another mutex than that of those who
+-- wait; else t waits, and the mutex is handed over as in unlock (POSIX.1-2017, pthread_cond_wait)
 abbrev pub cond_wait_row : ℕ → ℕ → Condition → Mutex → Effect × Condition × Mutex
 cond_wait_row t m c x =
     if not (owns x.owner t) then (answers answer_eperm, c, x)
@@ -34,7 +35,7 @@ pub record Leaving : Type 0 where
   pub threads : List ℕ
   pub rest : Condition
 
--- a signal lets the first of a queue leave, if there is one (POSIX.1-2017, pthread_cond_signal; first in, first out is this project's own)
+-- a signal lets the first of a queue leave, if there is one (POSIX.1-2017, pthread_cond_signal), first in, first out
 abbrev pub first_leaves : ℕ → List ℕ → Leaving
 first_leaves m [] = record { threads = []; rest = record { mutex = m; queue = [] } }
 first_leaves m (u ∷ rest) = record { threads = u ∷ []; rest = record { mutex = m; queue = rest } }
@@ -47,8 +48,8 @@ signal_leaving c = first_leaves c.mutex c.queue
 abbrev pub broadcast_leaving : Condition → Leaving
 broadcast_leaving c = record { threads = c.queue; rest = record { mutex = c.mutex; queue = [] } }
 
--- a thread that left a condition comes to its mutex: a free one becomes its own, and its call returns; else it waits at the end of the
--- queue. Who has the mutex now, if it is this thread, and the mutex (POSIX.1-2017, pthread_cond_signal)
+-- a thread that left a condition comes to its mutex: a free one becomes its own, and its call returns; else it waits at
+-- the end of the queue. Who has the mutex now, if it is this thread, and the mutex (POSIX.1-2017, pthread_cond_signal)
 abbrev pub admit : ℕ → Mutex → List ℕ × Mutex
 admit u x = if is_none x.owner then (u ∷ [], owned_by u x) else ([], waited_for u x)
 
@@ -57,6 +58,11 @@ abbrev pub admit_each : List ℕ → Mutex → List ℕ × Mutex
 admit_each [] x = ([], x)
 admit_each (u ∷ rest) x = ((admit u x).0 ++ (admit_each rest (admit u x).1).0, (admit_each rest (admit u x).1).1)
 
--- signal and broadcast: the caller gets 0, and each thread that leaves comes to the mutex (POSIX.1-2017, pthread_cond_broadcast)
+-- signal and broadcast: the caller gets 0, and each thread that leaves comes to the mutex (POSIX.1-2017,
+-- pthread_cond_broadcast)
 abbrev pub leave_row : (Condition → Leaving) → Condition → Mutex → Effect × Condition × Mutex
-leave_row leaving c x = (wakes (Returns 0 None) (admit_each (leaving c).threads x).0, (leaving c).rest, (admit_each (leaving c).threads x).1)
+leave_row leaving c x = (
+  wakes (Returns 0 None) (admit_each (leaving c).threads x).0,
+  (leaving c).rest,
+  (admit_each (leaving c).threads x).1,
+)

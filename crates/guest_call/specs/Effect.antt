@@ -4,22 +4,22 @@ pub use Rattle.guest_call.specs.declared.Fate.{Fate}
 pub use Rattle.guest_call.specs.declared.Fate.TheVariants.{Returns, Blocks, Ends, Exits}
 
 -- what becomes of the caller; who is woken, in order, each with 0 in a0; what the woken are told in a1;
--- and the first pc and the argument of a thread that is created (this project's own)
+-- and the first pc and the argument of a thread that is created
 pub record Effect : Type 0 where
   pub fate : Fate
   pub woken : List ℕ
   pub told : Option ℕ
   pub created : Option (ℕ × ℕ)
 
--- a fate of the caller, with these threads woken (this project's own)
+-- a fate of the caller, with these threads woken
 abbrev pub wakes : Fate → List ℕ → Effect
 wakes f threads = record { fate = f; woken = threads; told = None; created = None }
 
--- the caller returns at once with this answer in a0, and nothing else happens (this project's own)
+-- the caller returns at once with this answer in a0, and nothing else happens
 abbrev pub answers : ℕ → Effect
 answers a = wakes (Returns a None) []
 
--- the caller waits, and nothing else happens (this project's own)
+-- the caller waits, and nothing else happens
 abbrev pub blocks : Effect
 blocks = wakes Blocks []
 
@@ -27,14 +27,15 @@ blocks = wakes Blocks []
 abbrev pub exits : ℕ → Effect
 exits code = wakes (Exits code) []
 
--- in how many queues the caller begins to wait: one if it blocks (this project's own)
+-- in how many queues the caller begins to wait: one if it blocks
 abbrev pub waiting : Fate → ℕ
 waiting (Returns a b) = 0
 waiting Blocks = 1
 waiting (Ends v) = 0
 waiting (Exits code) = 0
 
--- the value with which a thread has ended after the caller t met its fate, from what it was before (POSIX.1-2017, pthread_exit)
+-- the value with which a thread has ended after the caller t met its fate, from what it was before (POSIX.1-2017,
+-- pthread_exit)
 abbrev pub ended_after : ℕ → Fate → ℕ → Option ℕ → Option ℕ
 ended_after t (Returns a b) u before = before
 ended_after t Blocks u before = before

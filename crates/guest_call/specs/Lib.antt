@@ -1,3 +1,4 @@
+-- The files of definitions of this crate.
 pub mod Numbers
 pub mod Answers
 pub mod Effect

@@ -11,7 +11,8 @@ use Rattle.guest_call.specs.Conditions.{Condition, unawaited}
 use Rattle.guest_call.specs.Threads.{Member}
 use Rattle.guest_call.specs.Objects.{Objects, IsKept}
 
--- how an object stands: an object of its kind, the table of threads, or nothing, for the output, which the machine keeps (this project's own)
+-- how an object stands: an object of its kind, the table of threads, or nothing, for the output, which the machine
+-- keeps
 pub data Part : Type 0 where
   MutexPart : Mutex → Part
   SemaphorePart : Semaphore → Part
@@ -20,7 +21,7 @@ pub data Part : Type 0 where
   ThreadsPart : List Member → Part
   NoPart : Part
 
--- how the named object stands (this project's own)
+-- how the named object stands
 abbrev pub part_of : Objects → Object → Part
 part_of o Output = NoPart
 part_of o ThreadTable = ThreadsPart o.threads
@@ -29,7 +30,7 @@ part_of o (SemaphoreOf s) = SemaphorePart (slice_index_or o.semaphores s unposte
 part_of o (BarrierOf b) = BarrierPart (slice_index_or o.barriers b uninitialised)
 part_of o (ConditionOf c) = ConditionPart (slice_index_or o.conditions c unawaited)
 
--- whether two names are of one object (this project's own)
+-- whether two names are of one object
 abbrev pub same_object : Object → Object → Bool
 same_object Output Output = true
 same_object ThreadTable ThreadTable = true
@@ -39,18 +40,20 @@ same_object (BarrierOf k) (BarrierOf b) = k == b
 same_object (ConditionOf k) (ConditionOf c) = k == c
 same_object _ _ = false
 
--- whether an object is among some (this project's own)
+-- whether an object is among some
 abbrev pub is_among : Object → List Object → Bool
 is_among p objects = list_any (λ q. same_object p q) objects
 
--- some objects stand alike here and there (this project's own)
+-- some objects stand alike here and there
 abbrev pub Agree : List Object → Objects → Objects → Type 0
 Agree objects o other = (p : Object) → is_among p objects ≡ true → part_of other p ≡ part_of o p
 
--- a step at o is local to the objects that it names: all others stay, and where these stand alike it names the same,
--- has the same effect and leaves them alike (this project's own)
-pub record IsLocalBy (step : Objects → Effect × Objects) (objects : Objects → List Object) (o : Objects) : Type 0 where
-  pub stays : (p : Object) → is_among p (objects o) ≡ false → part_of (step o).1 p ≡ part_of o p
+-- a change of the objects, at o, is local to those that it names: all others stay, and where these stand alike it
+-- names the same, has the same effect and leaves them alike
+pub record IsLocalBy (change : Objects → Effect × Objects) (objects : Objects → List Object)
+    (o : Objects) : Type 0 where
+  pub stays : (p : Object) → is_among p (objects o) ≡ false → part_of (change o).1 p ≡ part_of o p
   pub same_objects : (other : Objects) → Agree (objects o) o other → objects other ≡ objects o
-  pub same_effect : (other : Objects) → Agree (objects o) o other → (step other).0 ≡ (step o).0
-  pub same_parts : (other : Objects) → IsKept other → Agree (objects o) o other → Agree (objects o) (step o).1 (step other).1
+  pub same_effect : (other : Objects) → Agree (objects o) o other → (change other).0 ≡ (change o).0
+  pub same_parts :
+      (other : Objects) → IsKept other → Agree (objects o) o other → Agree (objects o) (change o).1 (change other).1

@@ -25,11 +25,11 @@ owns (Some u) t = u == t
 abbrev pub owned_by : ℕ → Mutex → Mutex
 owned_by t c = record { owner = Some t; queue = c.queue }
 
--- the mutex with t at the end of its queue (this project's own: first in, first out)
+-- the mutex with t at the end of its queue: first in, first out
 abbrev pub waited_for : ℕ → Mutex → Mutex
 waited_for t c = record { owner = c.owner; queue = c.queue ++ t ∷ [] }
 
--- who gets the mutex when its owner gives it up, and the mutex after that: the first who waits, or nobody (this project's own)
+-- who gets the mutex when its owner gives it up, and the mutex after that: the first who waits, or nobody
 abbrev pub handed_over : List ℕ → List ℕ × Mutex
 handed_over [] = ([], unlocked)
 handed_over (u ∷ rest) = (u ∷ [], record { owner = Some u; queue = rest })
@@ -45,7 +45,8 @@ lock_row t c =
 abbrev pub trylock_row : ℕ → Mutex → Effect × Mutex
 trylock_row t c = if is_none c.owner then (answers 0, owned_by t c) else (answers answer_ebusy, c)
 
--- unlock, called by t: who isn't the owner is refused; else the mutex is handed over (POSIX.1-2017, pthread_mutex_unlock)
+-- unlock, called by t: who isn't the owner is refused; else the mutex is handed over (POSIX.1-2017,
+-- pthread_mutex_unlock)
 abbrev pub unlock_row : ℕ → Mutex → Effect × Mutex
 unlock_row t c =
     if owns c.owner t

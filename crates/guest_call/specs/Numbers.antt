@@ -3,12 +3,12 @@ use Rattle.std.specs.Prelude.{ℕ, List, [], ◌∷◌, Option, option_map, find
 use Rattle.guest_call.specs.declared.Call.{Call}
 use Rattle.guest_call.specs.declared.Call.TheVariants.{Exit, Put, Create, ThreadExit, Join, Yield, Lock, TryLock, Unlock, SemWait, SemTryWait, SemPost, SemInit, BarrierInit, BarrierWait, CondWait, Signal, Broadcast}
 
--- one line of the table: a number, and the call that it makes of a0 and a1 (this project's own)
+-- one line of the table: a number, and the call that it makes of a0 and a1
 pub record Numbered : Type 0 where
   pub number : ℕ
   pub call : ℕ → ℕ → Call
 
--- the calls by number (this project's own; each call's POSIX function stands at `Call`)
+-- the calls by number (each call's POSIX function stands at `Call`)
 abbrev pub call_table : List Numbered
 call_table =
     record { number = 0; call = λ a0 a1. Exit a0 }
@@ -31,6 +31,7 @@ call_table =
     ∷ (record { number = 17; call = λ a0 a1. Broadcast a0 }
     ∷ [])))))))))))))))))
 
--- the call that a7, a0 and a1 make, or None where the table has no such number: a bad call (this project's own)
+-- the call that a7, a0 and a1 make, or None where the table has no such number: a bad call
 abbrev pub call_of : ℕ → ℕ → ℕ → Option Call
-call_of a7 a0 a1 = option_map (λ (line : Numbered). line.call a0 a1) (find (λ (line : Numbered). line.number == a7) call_table)
+call_of a7 a0 a1 =
+    option_map (λ (line : Numbered). line.call a0 a1) (find (λ (line : Numbered). line.number == a7) call_table)

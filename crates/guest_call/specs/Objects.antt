@@ -14,7 +14,7 @@ use Rattle.guest_call.specs.Barriers.{Barrier, uninitialised, barrier_queue, is_
 use Rattle.guest_call.specs.Conditions.{Condition, Leaving, unawaited, condition_queue, cond_wait_row, signal_leaving, broadcast_leaving, leave_row}
 use Rattle.guest_call.specs.Threads.{Member, fresh, member_queue, member_at, create_row, thread_exit_row, join_row}
 
--- the threads and the objects of each kind (this project's own)
+-- the threads and the objects of each kind
 pub record Objects : Type 0 where
   pub threads : List Member
   pub mutexes : List Mutex
@@ -22,23 +22,23 @@ pub record Objects : Type 0 where
   pub barriers : List Barrier
   pub conditions : List Condition
 
--- 64 free mutexes (this project's own)
+-- 64 free mutexes
 unfoldable pub all_unlocked : List Mutex
 all_unlocked = replicate 64 unlocked
 
--- 64 semaphores of value 0 (this project's own)
+-- 64 semaphores of value 0
 unfoldable pub all_unposted : List Semaphore
 all_unposted = replicate 64 unposted
 
--- 64 barriers that aren't initialised (this project's own)
+-- 64 barriers that aren't initialised
 unfoldable pub all_uninitialised : List Barrier
 all_uninitialised = replicate 64 uninitialised
 
--- 64 conditions for which nobody waits (this project's own)
+-- 64 conditions for which nobody waits
 unfoldable pub all_unawaited : List Condition
 all_unawaited = replicate 64 unawaited
 
--- the objects at the start: thread 0 alone exists, and nothing is in use (this project's own)
+-- the objects at the start: thread 0 alone exists, and nothing is in use
 abbrev pub opening : Objects
 opening =
     record {
@@ -49,31 +49,31 @@ opening =
       conditions = all_unawaited;
     }
 
--- a row done on the table of threads (this project's own)
+-- a row done on the table of threads
 abbrev pub on_threads : (List Member → Effect × List Member) → Objects → Effect × Objects
 on_threads row o = let r = row o.threads in (r.0, record o { threads = r.1 })
 
--- a row done on the mutex of number m (this project's own)
+-- a row done on the mutex of number m
 abbrev pub on_mutex : (Mutex → Effect × Mutex) → Objects → ℕ → Effect × Objects
 on_mutex row o m = let r = at_cell unlocked row o.mutexes m in (r.0, record o { mutexes = r.1 })
 
--- a row done on the semaphore of number s (this project's own)
+-- a row done on the semaphore of number s
 abbrev pub on_semaphore : (Semaphore → Effect × Semaphore) → Objects → ℕ → Effect × Objects
 on_semaphore row o s = let r = at_cell unposted row o.semaphores s in (r.0, record o { semaphores = r.1 })
 
--- a row done on the barrier of number b (this project's own)
+-- a row done on the barrier of number b
 abbrev pub on_barrier : (Barrier → Effect × Barrier) → Objects → ℕ → Effect × Objects
 on_barrier row o b = let r = at_cell uninitialised row o.barriers b in (r.0, record o { barriers = r.1 })
 
--- the condition of number c (this project's own)
+-- the condition of number c
 abbrev pub condition_at : Objects → ℕ → Condition
 condition_at o c = slice_index_or o.conditions c unawaited
 
--- the mutex of number m (this project's own)
+-- the mutex of number m
 abbrev pub mutex_at : Objects → ℕ → Mutex
 mutex_at o m = slice_index_or o.mutexes m unlocked
 
--- a row done on the condition of number c and the mutex of number m (this project's own)
+-- a row done on the condition of number c and the mutex of number m
 abbrev pub on_pair : (Condition → Mutex → Effect × Condition × Mutex) → Objects → ℕ → ℕ → Effect × Objects
 on_pair row o c m =
     let r = row (condition_at o c) (mutex_at o m) in
@@ -83,11 +83,11 @@ on_pair row o c m =
 abbrev pub leave : (Condition → Leaving) → Objects → ℕ → Effect × Objects
 leave leaving o c = checked (nat_lt c 64) o (on_pair (leave_row leaving) o c (condition_at o c).mutex)
 
--- whether the n bytes from p lie below 2^32 and may all be read (this project's own)
+-- whether the n bytes from p lie below 2^32 and may all be read
 abbrev pub can_read : (ℕ → ℕ → Bool) → ℕ → ℕ → Bool
 can_read readable p n = nat_le (p + n) (2 ^ 32) && readable p n
 
--- what put answers: how many bytes it has appended, or why it has not (POSIX.1-2017, write; the limits are this project's own)
+-- what put answers: how many bytes it has appended, or why it has not (POSIX.1-2017, write)
 abbrev pub put_answer : (ℕ → ℕ → Bool) → ℕ → ℕ → ℕ
 put_answer readable p n =
     if nat_lt 4096 n then answer_einval
@@ -95,11 +95,12 @@ put_answer readable p n =
     else if not (can_read readable p n) then answer_efault
     else n
 
--- whether put appends its n bytes: there are some, no more than 4,096, and all may be read (this project's own)
+-- whether put appends its n bytes: there are some, no more than 4,096, and all may be read
 abbrev pub appends : (ℕ → ℕ → Bool) → ℕ → ℕ → Bool
 appends readable p n = not (nat_lt 4096 n) && not (n == 0) && can_read readable p n
 
--- what a call of thread t does to the threads and to the objects, where `readable p n` says whether t may read the n bytes from p (this project's own)
+-- what a call of thread t does to the threads and to the objects, where `readable p n` says whether t may read the n
+-- bytes from p
 abbrev pub act : (ℕ → ℕ → Bool) → Objects → ℕ → Call → Effect × Objects
 act readable o t (Exit code) = (exits code, o)
 act readable o t (Put p n) = (answers (put_answer readable p n), o)
@@ -120,18 +121,21 @@ act readable o t (CondWait c m) = checked (nat_lt c 64 && nat_lt m 64) o (on_pai
 act readable o t (Signal c) = leave signal_leaving o c
 act readable o t (Broadcast c) = leave broadcast_leaving o c
 
--- the object where a test holds, and else none (this project's own)
+-- the object where a test holds, and else none
 abbrev pub one_of : Bool → Object → List Object
 one_of test p = if test then p ∷ [] else []
 
--- the objects on which a condition's waiters come and go: the condition, and its mutex if somebody waits (this project's own)
-abbrev pub leave_objects : Objects → ℕ → List Object
-leave_objects o c =
-    if nat_lt c 64 then object.Condition c ∷ one_of (not (length (condition_at o c).queue == 0)) (object.Mutex (condition_at o c).mutex)
-    else []
+-- the mutex of a condition for which somebody waits
+abbrev pub waited_mutex : Condition → List Object
+waited_mutex c = one_of (not (length c.queue == 0)) (object.Mutex c.mutex)
 
--- the objects on which a call acts: put on the output, where it appends; thread_exit and join on the threads; exit and yield on none; signal
--- and broadcast on a mutex too, if a thread leaves; all others on the objects that they name, where the arguments are in range (this project's own)
+-- the objects on which a condition's waiters come and go: the condition, and its mutex if somebody waits
+abbrev pub leave_objects : Objects → ℕ → List Object
+leave_objects o c = if nat_lt c 64 then object.Condition c ∷ waited_mutex (condition_at o c) else []
+
+-- the objects on which a call acts: put on the output, where it appends; thread_exit and join on the threads; exit and
+-- yield on none; signal and broadcast on a mutex too, if a thread leaves; all others on the objects that they name,
+-- where the arguments are in range
 abbrev pub acts_on : (ℕ → ℕ → Bool) → Objects → Call → List Object
 acts_on readable o (Exit code) = []
 acts_on readable o (Put p n) = one_of (appends readable p n) object.Output
@@ -152,17 +156,19 @@ acts_on readable o (CondWait c m) = if nat_lt c 64 && nat_lt m 64 then object.Co
 acts_on readable o (Signal c) = leave_objects o c
 acts_on readable o (Broadcast c) = leave_objects o c
 
--- in how many places thread t waits (this project's own)
+-- in how many places thread t waits
 abbrev pub waits_at : Objects → ℕ → ℕ
 waits_at o t =
-    waits member_queue o.threads t + waits mutex_queue o.mutexes t + waits semaphore_queue o.semaphores t + waits barrier_queue o.barriers t
+    waits member_queue o.threads t + waits mutex_queue o.mutexes t + waits semaphore_queue o.semaphores t
+    + waits barrier_queue o.barriers t
     + waits condition_queue o.conditions t
 
 -- the value with which thread u has ended, if it has (POSIX.1-2017, pthread_exit)
 abbrev pub ended_at : Objects → ℕ → Option ℕ
 ended_at o u = (member_at o.threads u).value
 
--- one thread at least and 32 at most, 64 objects of each kind; a condition's mutex is one of them; only threads of the table wait, and each in at most one place (this project's own)
+-- one thread at least and 32 at most, 64 objects of each kind; a condition's mutex is one of them; only threads of the
+-- table wait, and each in at most one place
 pub record IsKept (o : Objects) : Type 0 where
   pub some_thread : 1 ≤ length o.threads
   pub few_threads : length o.threads ≤ 32

@@ -2,18 +2,18 @@
 use Rattle.std.specs.Prelude.{ℕ, ◌+◌, ◌==◌, ◌≡◌, List, count_by, sum_by, if◌then◌else◌}
 use Rattle.guest_call.specs.Effect.{Fate, Effect, waiting}
 
--- how often thread t stands in a queue (this project's own)
+-- how often thread t stands in a queue
 unfoldable pub places : ℕ → List ℕ → ℕ
 places t q = count_by (λ u. u == t) q
 
--- how often thread t stands in the queues of a table's objects (this project's own)
+-- how often thread t stands in the queues of a table's objects
 unfoldable pub waits : {C : Type 0} → (C → List ℕ) → List C → ℕ → ℕ
 waits queue cells t = sum_by (λ c. places t (queue c)) cells
 
--- how often thread u enters a queue by a call of t that has this fate (this project's own)
+-- how often thread u enters a queue by a call of t that has this fate
 unfoldable pub entering : ℕ → Fate → ℕ → ℕ
 entering t fate u = if t == u then waiting fate else 0
 
--- nobody is lost and nobody doubled: who waits after a call or was woken by it waited before or entered (this project's own)
+-- nobody is lost and nobody doubled: who waits after a call or was woken by it waited before or entered
 abbrev pub Keeps : (ℕ → ℕ) → ℕ → Effect → (ℕ → ℕ) → Type 0
 Keeps before t effect after = (u : ℕ) → after u + places u effect.woken ≡ before u + entering t effect.fate u

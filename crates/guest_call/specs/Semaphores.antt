@@ -9,7 +9,7 @@ pub record Semaphore : Type 0 where
   pub value : ℕ
   pub queue : List ℕ
 
--- a semaphore as it is at the start: its value is 0, and nobody waits (this project's own)
+-- a semaphore as it is at the start: its value is 0, and nobody waits
 abbrev pub unposted : Semaphore
 unposted = record { value = 0; queue = [] }
 
@@ -25,7 +25,8 @@ semaphore_queue c = c.queue
 abbrev pub valued : ℕ → Semaphore → Semaphore
 valued n c = record { value = n; queue = c.queue }
 
--- sem_wait, called by t: a value above 0 is taken down by one; else t waits at the end of the queue (POSIX.1-2017, sem_wait)
+-- sem_wait, called by t: a value above 0 is taken down by one; else t waits at the end of the queue (POSIX.1-2017,
+-- sem_wait)
 abbrev pub sem_wait_row : ℕ → Semaphore → Effect × Semaphore
 sem_wait_row t c =
     if nat_lt 0 c.value then (answers 0, valued (c.value - 1) c)
@@ -35,10 +36,12 @@ sem_wait_row t c =
 abbrev pub sem_trywait_row : Semaphore → Effect × Semaphore
 sem_trywait_row c = if nat_lt 0 c.value then (answers 0, valued (c.value - 1) c) else (answers answer_eagain, c)
 
--- a post at a value for which these wait: the first returns, and the value stays; with nobody waiting it goes up by one,
--- unless it is the largest (POSIX.1-2017, sem_post; first in, first out is this project's own)
+-- a post at a value for which these wait: the first returns, and the value stays; with nobody waiting it goes up by
+-- one, unless it is the largest (POSIX.1-2017, sem_post), first in, first out
 abbrev pub posted : ℕ → List ℕ → Effect × Semaphore
-posted n [] = if n == largest_value then (answers answer_eoverflow, record { value = n; queue = [] }) else (answers 0, record { value = n + 1; queue = [] })
+posted n [] =
+    if n == largest_value then (answers answer_eoverflow, record { value = n; queue = [] })
+    else (answers 0, record { value = n + 1; queue = [] })
 posted n (u ∷ rest) = (wakes (Returns 0 None) (u ∷ []), record { value = n; queue = rest })
 
 -- sem_post (POSIX.1-2017, sem_post)

@@ -4,23 +4,23 @@ use Rattle.guest_call.specs.Answers.{answer_einval}
 use Rattle.guest_call.specs.Effect.{Effect, answers}
 use Rattle.guest_call.specs.Queues.{places, waits, Keeps}
 
--- what a call does where its arguments are in range; else it is refused, and nothing changes (this project's own)
+-- what a call does where its arguments are in range; else it is refused, and nothing changes
 abbrev pub checked : {S : Type 0} → Bool → S → Effect × S → Effect × S
 checked in_range state done = if in_range then done else (answers answer_einval, state)
 
--- a row done at the object of number i; a number above 63 is refused (this project's own)
+-- a row done at the object of number i; a number above 63 is refused
 abbrev pub at_cell : {C : Type 0} → C → (C → Effect × C) → List C → ℕ → Effect × List C
 at_cell free row cells i =
     if nat_lt i 64
     then (let r = row (slice_index_or cells i free) in (r.0, slice_set cells i r.1))
     else (answers answer_einval, cells)
 
--- a table has 64 objects, only threads below 32 wait in it, and each in at most one place (this project's own)
+-- a table has 64 objects, only threads below 32 wait in it, and each in at most one place
 pub record IsTable {C : Type 0} (queue : C → List ℕ) (cells : List C) : Type 0 where
   pub objects : length cells ≡ 64
   pub low : (t : ℕ) → 32 ≤ t → waits queue cells t ≡ 0
   pub once : (t : ℕ) → waits queue cells t ≤ 1
 
--- what a row of thread t did to an object lost nobody of its queue and doubled nobody (this project's own)
+-- what a row of thread t did to an object lost nobody of its queue and doubled nobody
 abbrev pub IsFair : {C : Type 0} → (C → List ℕ) → ℕ → C → Effect × C → Type 0
 IsFair queue t c r = Keeps (λ u. places u (queue c)) t r.0 (λ u. places u (queue r.1))

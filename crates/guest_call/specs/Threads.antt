@@ -3,7 +3,8 @@ use Rattle.std.specs.Prelude.{ℕ, ◌%◌, ◌==◌, List, [], ◌∷◌, ◌++
 use Rattle.guest_call.specs.Answers.{answer_esrch, answer_eagain, answer_einval, answer_edeadlk}
 use Rattle.guest_call.specs.Effect.{Effect, Returns, Ends, answers, blocks, wakes}
 
--- a thread of the table: who joins it or has joined it, which is never forgotten, and its value once it has ended (POSIX.1-2017, pthread_join)
+-- a thread of the table: who joins it or has joined it, which is never forgotten, and its value once it has ended
+-- (POSIX.1-2017, pthread_join)
 pub record Member : Type 0 where
   pub joiner : Option ℕ
   pub value : Option ℕ
@@ -21,15 +22,17 @@ waiting_joiner (Some v) joiner = []
 abbrev pub member_queue : Member → List ℕ
 member_queue c = waiting_joiner c.value c.joiner
 
--- the thread of this number (this project's own)
+-- the thread of this number
 abbrev pub member_at : List Member → ℕ → Member
 member_at members u = slice_index_or members u fresh
 
 -- a thread was created with this number, first pc and argument (POSIX.1-2017, pthread_create)
 abbrev pub creates : ℕ → ℕ → ℕ → Effect
-creates number pc argument = record { fate = Returns number None; woken = []; told = None; created = Some (pc, argument) }
+creates number pc argument =
+    record { fate = Returns number None; woken = []; told = None; created = Some (pc, argument) }
 
--- create: a pc that isn't a multiple of 4 is refused, and so is a thread beyond 32; else the least number unused (POSIX.1-2017, pthread_create)
+-- create: a pc that isn't a multiple of 4 is refused, and so is a thread beyond 32; else the least number unused
+-- (POSIX.1-2017, pthread_create)
 abbrev pub create_row : ℕ → ℕ → List Member → Effect × List Member
 create_row pc argument members =
     if not (pc % 4 == 0) then (answers answer_einval, members)
@@ -56,7 +59,8 @@ joins None = blocks
 abbrev pub joined_by : ℕ → Member → Member
 joined_by t c = record { joiner = Some t; value = c.value }
 
--- join of u, called by t: refused are a thread that isn't there, t itself, and one that has or had a joiner; else t joins it (POSIX.1-2017, pthread_join)
+-- join of u, called by t: refused are a thread that isn't there, t itself, and one that has or had a joiner; else t
+-- joins it (POSIX.1-2017, pthread_join)
 abbrev pub join_row : ℕ → ℕ → List Member → Effect × List Member
 join_row t u members =
     if not (nat_lt u (length members)) then (answers answer_esrch, members)

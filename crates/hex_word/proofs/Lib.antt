@@ -1,1 +1,2 @@
+-- The files of lemmas and examples of this crate.
 pub mod Numerals

@@ -36,7 +36,9 @@ eight_fit (a ∷ b ∷ c ∷ d ∷ e ∷ f ∷ g ∷ h ∷ []) count (fa, (fb, (
 eight_fit _ count fits = absurd (omega arith)
 
 -- what parsing a word gives
-pub parsed : {E : Type 0} (text : List ℕ) (r : Result ℕ E) → is_word text ≡ true → ParsesUnsigned 32 16 text r → result_ok r ≡ Some (digits_value 16 text)
+pub parsed :
+    {E : Type 0} (text : List ℕ) (r : Result ℕ E) → is_word text ≡ true → ParsesUnsigned 32 16 text r
+    → result_ok r ≡ Some (digits_value 16 text)
 parsed text (Ok w) h p =
     let b = both (length text == 8) (list_all is_word_digit text) h in
     ap (λ n. Some n) (rw (same_without_plus text b.1) at p.1)

@@ -20,43 +20,57 @@ use Rattle.isa_spec.specs.Encoding.{i_word, branch_code, load_code, store_code, 
 use Rattle.isa_spec.proofs.Immediates.{Has, fields_of_word, i_immediate_back, s_immediate_back, b_immediate_back, fields_of_u_word, fields_of_j_word}
 
 -- a word of a branch's opcode and funct3 is that branch
-branch_read : (t : BranchTest) (w : ℕ) → opcode_of w ≡ 0b1100011 → funct3_of w ≡ branch_code t → decoded w ≡ Some (instr.Branch t (rs1_of w) (rs2_of w) (b_immediate w))
+branch_read :
+    (t : BranchTest) (w : ℕ) → opcode_of w ≡ 0b1100011 → funct3_of w ≡ branch_code t
+    → decoded w ≡ Some (instr.Branch t (rs1_of w) (rs2_of w) (b_immediate w))
 unfolding decoded reading_of
 branch_read test.Equal w op f3 = rw (op, f3) refl
 branch_read _ w op f3 = rw (op, f3) refl
 
 -- a word of a load's opcode and funct3 is that load
-load_read : (l : Load) (w : ℕ) → opcode_of w ≡ 0b0000011 → funct3_of w ≡ load_code l → decoded w ≡ Some (instr.Load l (rd_of w) (rs1_of w) (i_immediate w))
+load_read :
+    (l : Load) (w : ℕ) → opcode_of w ≡ 0b0000011 → funct3_of w ≡ load_code l
+    → decoded w ≡ Some (instr.Load l (rd_of w) (rs1_of w) (i_immediate w))
 unfolding decoded reading_of
 load_read load.Byte w op f3 = rw (op, f3) refl
 load_read _ w op f3 = rw (op, f3) refl
 
 -- a word of a store's opcode and funct3 is that store
-store_read : (s : Store) (w : ℕ) → opcode_of w ≡ 0b0100011 → funct3_of w ≡ store_code s → decoded w ≡ Some (instr.Store s (rs1_of w) (rs2_of w) (s_immediate w))
+store_read :
+    (s : Store) (w : ℕ) → opcode_of w ≡ 0b0100011 → funct3_of w ≡ store_code s
+    → decoded w ≡ Some (instr.Store s (rs1_of w) (rs2_of w) (s_immediate w))
 unfolding decoded reading_of
 store_read store.Byte w op f3 = rw (op, f3) refl
 store_read _ w op f3 = rw (op, f3) refl
 
 -- a word of an immediate operation's opcode and funct3 is that operation
-immediate_read : (o : ImmediateOperation) (w : ℕ) → opcode_of w ≡ 0b0010011 → funct3_of w ≡ immediate_code o → decoded w ≡ Some (instr.Immediate o (rd_of w) (rs1_of w) (i_immediate w))
+immediate_read :
+    (o : ImmediateOperation) (w : ℕ) → opcode_of w ≡ 0b0010011 → funct3_of w ≡ immediate_code o
+    → decoded w ≡ Some (instr.Immediate o (rd_of w) (rs1_of w) (i_immediate w))
 unfolding decoded reading_of
 immediate_read immediate.Add w op f3 = rw (op, f3) refl
 immediate_read _ w op f3 = rw (op, f3) refl
 
 -- a word of a shift's opcode, funct3 and funct7 is that shift
-shift_read : (s : ShiftOperation) (w : ℕ) → opcode_of w ≡ 0b0010011 → funct3_of w ≡ shift_code s → funct7_of w ≡ shift_top s → decoded w ≡ Some (instr.Shift s (rd_of w) (rs1_of w) (rs2_of w))
+shift_read :
+    (s : ShiftOperation) (w : ℕ) → opcode_of w ≡ 0b0010011 → funct3_of w ≡ shift_code s → funct7_of w ≡ shift_top s
+    → decoded w ≡ Some (instr.Shift s (rd_of w) (rs1_of w) (rs2_of w))
 unfolding decoded reading_of
 shift_read shift.LeftLogical w op f3 f7 = rw (op, f3, f7) refl
 shift_read _ w op f3 f7 = rw (op, f3, f7) refl
 
 -- a word of a register operation's opcode, funct3 and funct7 is that operation
-register_read : (o : RegisterOperation) (w : ℕ) → opcode_of w ≡ 0b0110011 → funct3_of w ≡ register_code o → funct7_of w ≡ register_top o → decoded w ≡ Some (instr.Register o (rd_of w) (rs1_of w) (rs2_of w))
+register_read :
+    (o : RegisterOperation) (w : ℕ) → opcode_of w ≡ 0b0110011 → funct3_of w ≡ register_code o
+    → funct7_of w ≡ register_top o → decoded w ≡ Some (instr.Register o (rd_of w) (rs1_of w) (rs2_of w))
 unfolding decoded reading_of
 register_read register.Add w op f3 f7 = rw (op, f3, f7) refl
 register_read _ w op f3 f7 = rw (op, f3, f7) refl
 
 -- a word of JALR's opcode and funct3 is a JALR
-jalr_read : (w : ℕ) → opcode_of w ≡ 0b1100111 → funct3_of w ≡ 0b000 → decoded w ≡ Some (instr.Jalr (rd_of w) (rs1_of w) (i_immediate w))
+jalr_read :
+    (w : ℕ) → opcode_of w ≡ 0b1100111 → funct3_of w ≡ 0b000
+    → decoded w ≡ Some (instr.Jalr (rd_of w) (rs1_of w) (i_immediate w))
 unfolding decoded reading_of
 jalr_read w op f3 = rw (op, f3) refl
 
@@ -121,8 +135,11 @@ register_code_fits register.Add = (omega arith, omega arith)
 register_code_fits _ = (omega arith, omega arith)
 
 -- the fields of an I-type word
-i_fields : (imm rs1 f3 rd op : ℕ) → rs1 < 2 ^ 5 → f3 < 2 ^ 3 → rd < 2 ^ 5 → op < 2 ^ 7 → Has (i_word imm rs1 f3 rd op) (imm / 2 ^ 5 % 2 ^ 7) (imm % 2 ^ 5) rs1 f3 rd op
-i_fields imm rs1 f3 rd op h1 h3 hd ho = fields_of_word (imm / 2 ^ 5 % 2 ^ 7) (imm % 2 ^ 5) rs1 f3 rd op (omega arith) (omega arith) h1 h3 hd ho
+i_fields :
+    (imm rs1 f3 rd op : ℕ) → rs1 < 2 ^ 5 → f3 < 2 ^ 3 → rd < 2 ^ 5 → op < 2 ^ 7
+    → Has (i_word imm rs1 f3 rd op) (imm / 2 ^ 5 % 2 ^ 7) (imm % 2 ^ 5) rs1 f3 rd op
+i_fields imm rs1 f3 rd op h1 h3 hd ho =
+    fields_of_word (imm / 2 ^ 5 % 2 ^ 7) (imm % 2 ^ 5) rs1 f3 rd op (omega arith) (omega arith) h1 h3 hd ho
 
 -- the instruction that a word was made from is decoded again
 pub decoded-encoding : (i : Instr) → InRange i → decoded (encoding i) ≡ Some i
@@ -140,7 +157,8 @@ decoded-encoding (instr.Jalr rd rs1 imm) (hd, h1, extended) =
     rw (jalr_read _ h.opcode h.funct3, h.target, h.source1, i_immediate_back _ imm h.funct7 h.source2 extended) refl
 decoded-encoding (instr.Branch t rs1 rs2 imm) (h1, h2, offset) =
     let h =
-    fields_of_word (imm / 2 ^ 12 % 2 * 2 ^ 6 + imm / 2 ^ 5 % 2 ^ 6) rs2 rs1 (branch_code t) (imm / 2 % 2 ^ 4 * 2 + imm / 2 ^ 11 % 2) 0b1100011
+    fields_of_word (imm / 2 ^ 12 % 2 * 2 ^ 6 + imm / 2 ^ 5 % 2 ^ 6) rs2 rs1 (branch_code t)
+    (imm / 2 % 2 ^ 4 * 2 + imm / 2 ^ 11 % 2) 0b1100011
     (omega arith) h2 h1 (branch_code_fits t) (omega arith) (omega arith) in
     rw (branch_read t _ h.opcode h.funct3, h.source1, h.source2, b_immediate_back _ imm h.funct7 h.target offset) refl
 decoded-encoding (instr.Load l rd rs1 imm) (hd, h1, extended) =
@@ -153,7 +171,8 @@ decoded-encoding (instr.Store s rs1 rs2 imm) (h1, h2, extended) =
     rw (store_read s _ h.opcode h.funct3, h.source1, h.source2, s_immediate_back _ imm h.funct7 h.target extended) refl
 decoded-encoding (instr.Immediate o rd rs1 imm) (hd, h1, extended) =
     let h = i_fields imm rs1 (immediate_code o) rd 0b0010011 h1 (immediate_code_fits o) hd (omega arith) in
-    rw (immediate_read o _ h.opcode h.funct3, h.target, h.source1, i_immediate_back _ imm h.funct7 h.source2 extended) refl
+    rw (immediate_read o _ h.opcode h.funct3, h.target, h.source1, i_immediate_back _ imm h.funct7 h.source2 extended)
+    refl
 decoded-encoding (instr.Shift s rd rs1 amount) (hd, h1, h2) =
     let fits = shift_code_fits s in
     let h =

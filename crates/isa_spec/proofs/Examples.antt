@@ -1,3 +1,4 @@
+-- The files of worked examples.
 pub mod Decoding
 pub mod Encoding
 pub mod Computing

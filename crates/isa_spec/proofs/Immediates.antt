@@ -14,7 +14,9 @@ pub record Has (w f7 rs2 rs1 f3 rd op : ℕ) : Type 0 where
   pub opcode : opcode_of w ≡ op
 
 -- a word has the fields that it was put together from
-pub fields_of_word : (f7 rs2 rs1 f3 rd op : ℕ) → f7 < 2 ^ 7 → rs2 < 2 ^ 5 → rs1 < 2 ^ 5 → f3 < 2 ^ 3 → rd < 2 ^ 5 → op < 2 ^ 7 → Has (word_of f7 rs2 rs1 f3 rd op) f7 rs2 rs1 f3 rd op
+pub fields_of_word :
+    (f7 rs2 rs1 f3 rd op : ℕ) → f7 < 2 ^ 7 → rs2 < 2 ^ 5 → rs1 < 2 ^ 5 → f3 < 2 ^ 3 → rd < 2 ^ 5 → op < 2 ^ 7
+    → Has (word_of f7 rs2 rs1 f3 rd op) f7 rs2 rs1 f3 rd op
 fields_of_word f7 rs2 rs1 f3 rd op h7 h2 h1 h3 hd ho =
     record {
       funct7 = omega arith;
@@ -26,17 +28,23 @@ fields_of_word f7 rs2 rs1 f3 rd op h7 h2 h1 h3 hd ho =
     }
 
 -- the I-immediate comes back from the two fields that hold it
-pub i_immediate_back : (w imm : ℕ) → funct7_of w ≡ imm / 2 ^ 5 % 2 ^ 7 → rs2_of w ≡ imm % 2 ^ 5 → IsSignExtended 12 imm → i_immediate w ≡ imm
+pub i_immediate_back :
+    (w imm : ℕ) → funct7_of w ≡ imm / 2 ^ 5 % 2 ^ 7 → rs2_of w ≡ imm % 2 ^ 5 → IsSignExtended 12 imm
+    → i_immediate w ≡ imm
 unfolding i_immediate
 i_immediate_back w imm high low extended = grind (arith, nat_tests, high, low, extended)
 
 -- the S-immediate comes back from the two fields that hold it
-pub s_immediate_back : (w imm : ℕ) → funct7_of w ≡ imm / 2 ^ 5 % 2 ^ 7 → rd_of w ≡ imm % 2 ^ 5 → IsSignExtended 12 imm → s_immediate w ≡ imm
+pub s_immediate_back :
+    (w imm : ℕ) → funct7_of w ≡ imm / 2 ^ 5 % 2 ^ 7 → rd_of w ≡ imm % 2 ^ 5 → IsSignExtended 12 imm
+    → s_immediate w ≡ imm
 unfolding s_immediate
 s_immediate_back w imm high low extended = grind (arith, nat_tests, high, low, extended)
 
 -- the B-immediate comes back from the two fields that hold it
-pub b_immediate_back : (w imm : ℕ) → funct7_of w ≡ imm / 2 ^ 12 % 2 * 2 ^ 6 + imm / 2 ^ 5 % 2 ^ 6 → rd_of w ≡ imm / 2 % 2 ^ 4 * 2 + imm / 2 ^ 11 % 2 → IsOffset 13 imm → b_immediate w ≡ imm
+pub b_immediate_back :
+    (w imm : ℕ) → funct7_of w ≡ imm / 2 ^ 12 % 2 * 2 ^ 6 + imm / 2 ^ 5 % 2 ^ 6
+    → rd_of w ≡ imm / 2 % 2 ^ 4 * 2 + imm / 2 ^ 11 % 2 → IsOffset 13 imm → b_immediate w ≡ imm
 unfolding b_immediate
 b_immediate_back w imm high low (extended, even) = grind (arith, nat_tests, high, low, extended, even)
 
@@ -67,13 +75,16 @@ j_parts : (imm rd op : ℕ) → rd < 2 ^ 5 → op < 2 ^ 7 →
 j_parts imm rd op hd ho = (omega arith, omega arith, omega arith, omega arith)
 
 -- the J-immediate comes back from its parts
-j_immediate_back : (w imm : ℕ) → bits w 31 31 ≡ imm / 2 ^ 20 % 2 → bits w 19 12 ≡ imm / 2 ^ 12 % 2 ^ 8 → bits w 20 20 ≡ imm / 2 ^ 11 % 2 → bits w 30 21 ≡ imm / 2 % 2 ^ 10 → IsOffset 21 imm → j_immediate w ≡ imm
+j_immediate_back :
+    (w imm : ℕ) → bits w 31 31 ≡ imm / 2 ^ 20 % 2 → bits w 19 12 ≡ imm / 2 ^ 12 % 2 ^ 8
+    → bits w 20 20 ≡ imm / 2 ^ 11 % 2 → bits w 30 21 ≡ imm / 2 % 2 ^ 10 → IsOffset 21 imm → j_immediate w ≡ imm
 unfolding j_immediate
 j_immediate_back w imm sign high middle low (extended, even) =
     rw (sign, high, middle, low) (grind (arith, nat_tests, extended, even))
 
 -- a jump's offset, its register and opcode come back
-pub fields_of_j_word : (imm rd op : ℕ) → IsOffset 21 imm → rd < 2 ^ 5 → op < 2 ^ 7 → HasJump (j_word imm rd op) imm rd op
+pub fields_of_j_word :
+    (imm rd op : ℕ) → IsOffset 21 imm → rd < 2 ^ 5 → op < 2 ^ 7 → HasJump (j_word imm rd op) imm rd op
 fields_of_j_word imm rd op offset hd ho =
     let p = j_parts imm rd op hd ho in
     record {

@@ -27,7 +27,9 @@ Meets free value = ⊤
 
 -- a row reads only instructions that its words spell
 abbrev pub IsGood : Row → Type 0
-IsGood r = (w : ℕ) → w < 2 ^ 32 → opcode_of w ≡ r.opcode → Meets r.funct3 (funct3_of w) → Meets r.funct7 (funct7_of w) → Meets r.whole w → InRange (r.read w) × Spells w (r.read w)
+IsGood r =
+    (w : ℕ) → w < 2 ^ 32 → opcode_of w ≡ r.opcode → Meets r.funct3 (funct3_of w) → Meets r.funct7 (funct7_of w)
+    → Meets r.whole w → InRange (r.read w) × Spells w (r.read w)
 
 -- each row is good
 abbrev pub AreGood : List Row → Type 0
@@ -35,7 +37,8 @@ AreGood [] = ⊤
 AreGood (r ∷ rs) = IsGood r × AreGood rs
 
 -- a word is put together from its fields
-word_of_fields : (w : ℕ) → w < 2 ^ 32 → w ≡ word_of (funct7_of w) (rs2_of w) (rs1_of w) (funct3_of w) (rd_of w) (opcode_of w)
+word_of_fields :
+    (w : ℕ) → w < 2 ^ 32 → w ≡ word_of (funct7_of w) (rs2_of w) (rs1_of w) (funct3_of w) (rd_of w) (opcode_of w)
 word_of_fields w h = omega arith
 
 -- the fields that an I-immediate came from
@@ -47,7 +50,8 @@ record FromI (w imm : ℕ) : Type 0 where
 -- a word holds the parts of its I-immediate
 from_i : (w : ℕ) → FromI w (i_immediate w)
 unfolding i_immediate
-from_i w = record { high = grind (arith, nat_tests); low = grind (arith, nat_tests); extended = grind (arith, nat_tests) }
+from_i w =
+    record { high = grind (arith, nat_tests); low = grind (arith, nat_tests); extended = grind (arith, nat_tests) }
 
 -- the fields that an S-immediate came from
 record FromS (w imm : ℕ) : Type 0 where
@@ -58,7 +62,8 @@ record FromS (w imm : ℕ) : Type 0 where
 -- a word holds the parts of its S-immediate
 from_s : (w : ℕ) → FromS w (s_immediate w)
 unfolding s_immediate
-from_s w = record { high = grind (arith, nat_tests); low = grind (arith, nat_tests); extended = grind (arith, nat_tests) }
+from_s w =
+    record { high = grind (arith, nat_tests); low = grind (arith, nat_tests); extended = grind (arith, nat_tests) }
 
 -- the fields that a B-immediate came from
 record FromB (w imm : ℕ) : Type 0 where
@@ -69,7 +74,12 @@ record FromB (w imm : ℕ) : Type 0 where
 -- a word holds the parts of its B-immediate
 from_b : (w : ℕ) → FromB w (b_immediate w)
 unfolding b_immediate
-from_b w = record { high = grind (arith, nat_tests); low = grind (arith, nat_tests); offset = (grind (arith, nat_tests), grind (arith, nat_tests)) }
+from_b w =
+    record {
+      high = grind (arith, nat_tests);
+      low = grind (arith, nat_tests);
+      offset = (grind (arith, nat_tests), grind (arith, nat_tests));
+    }
 
 -- the parts of a word that a J-immediate came from
 record FromJ (w imm : ℕ) : Type 0 where
@@ -82,26 +92,45 @@ record FromJ (w imm : ℕ) : Type 0 where
 -- a word holds the parts of its J-immediate
 from_j : (w : ℕ) → FromJ w (j_immediate w)
 unfolding j_immediate
-from_j w = record { sign = grind (arith, nat_tests); low = grind (arith, nat_tests); middle = grind (arith, nat_tests); high = grind (arith, nat_tests); offset = (grind (arith, nat_tests), grind (arith, nat_tests)) }
+from_j w =
+    record {
+      sign = grind (arith, nat_tests);
+      low = grind (arith, nat_tests);
+      middle = grind (arith, nat_tests);
+      high = grind (arith, nat_tests);
+      offset = (grind (arith, nat_tests), grind (arith, nat_tests));
+    }
 
 -- a word of the I-type is the I-type word of what it reads as
-i_word_back : (w f3 op : ℕ) → w < 2 ^ 32 → opcode_of w ≡ op → funct3_of w ≡ f3 → w ≡ i_word (i_immediate w) (rs1_of w) f3 (rd_of w) op
-i_word_back w f3 op h e3 eo = let h' = from_i w in let whole = word_of_fields w h in rw (h'.high, h'.low, ← eo, ← e3) whole
+i_word_back :
+    (w f3 op : ℕ) → w < 2 ^ 32 → opcode_of w ≡ op → funct3_of w ≡ f3
+    → w ≡ i_word (i_immediate w) (rs1_of w) f3 (rd_of w) op
+i_word_back w f3 op h e3 eo =
+    let h' = from_i w in let whole = word_of_fields w h in rw (h'.high, h'.low, ← eo, ← e3) whole
 
 -- a word of the S-type is the S-type word of what it reads as
-s_word_back : (w f3 op : ℕ) → w < 2 ^ 32 → opcode_of w ≡ op → funct3_of w ≡ f3 → w ≡ s_word (s_immediate w) (rs2_of w) (rs1_of w) f3 op
-s_word_back w f3 op h e3 eo = let h' = from_s w in let whole = word_of_fields w h in rw (h'.high, h'.low, ← eo, ← e3) whole
+s_word_back :
+    (w f3 op : ℕ) → w < 2 ^ 32 → opcode_of w ≡ op → funct3_of w ≡ f3
+    → w ≡ s_word (s_immediate w) (rs2_of w) (rs1_of w) f3 op
+s_word_back w f3 op h e3 eo =
+    let h' = from_s w in let whole = word_of_fields w h in rw (h'.high, h'.low, ← eo, ← e3) whole
 
 -- a word of the B-type is the B-type word of what it reads as
-b_word_back : (w f3 op : ℕ) → w < 2 ^ 32 → opcode_of w ≡ op → funct3_of w ≡ f3 → w ≡ b_word (b_immediate w) (rs2_of w) (rs1_of w) f3 op
-b_word_back w f3 op h e3 eo = let h' = from_b w in let whole = word_of_fields w h in rw (h'.high, h'.low, ← eo, ← e3) whole
+b_word_back :
+    (w f3 op : ℕ) → w < 2 ^ 32 → opcode_of w ≡ op → funct3_of w ≡ f3
+    → w ≡ b_word (b_immediate w) (rs2_of w) (rs1_of w) f3 op
+b_word_back w f3 op h e3 eo =
+    let h' = from_b w in let whole = word_of_fields w h in rw (h'.high, h'.low, ← eo, ← e3) whole
 
 -- a word of six known fields
-r_word_back : (w f7 f3 op : ℕ) → w < 2 ^ 32 → opcode_of w ≡ op → funct3_of w ≡ f3 → funct7_of w ≡ f7 → w ≡ word_of f7 (rs2_of w) (rs1_of w) f3 (rd_of w) op
+r_word_back :
+    (w f7 f3 op : ℕ) → w < 2 ^ 32 → opcode_of w ≡ op → funct3_of w ≡ f3 → funct7_of w ≡ f7
+    → w ≡ word_of f7 (rs2_of w) (rs1_of w) f3 (rd_of w) op
 r_word_back w f7 f3 op h eo e3 e7 = let whole = word_of_fields w h in rw (← eo, ← e3, ← e7) whole
 
 -- a word of the U-type is the U-type word of what it reads as
-u_word_back : (w op : ℕ) → w < 2 ^ 32 → opcode_of w ≡ op → IsUpper (u_immediate w) × (w ≡ u_word (u_immediate w) (rd_of w) op)
+u_word_back :
+    (w op : ℕ) → w < 2 ^ 32 → opcode_of w ≡ op → IsUpper (u_immediate w) × (w ≡ u_word (u_immediate w) (rd_of w) op)
 unfolding u_immediate
 u_word_back w op h eo = ((omega arith, omega arith), omega arith)
 
@@ -127,27 +156,33 @@ jalr_good w h op f3 f7 whole = ((omega arith, omega arith, (from_i w).extended),
 
 -- the rows of the branches
 branch_good : (t : BranchTest) → IsGood (branch_row (branch_code t) t)
-branch_good t w h op f3 f7 whole = ((omega arith, omega arith, (from_b w).offset), b_word_back w (branch_code t) 0b1100011 h op f3)
+branch_good t w h op f3 f7 whole =
+    ((omega arith, omega arith, (from_b w).offset), b_word_back w (branch_code t) 0b1100011 h op f3)
 
 -- the rows of the loads
 load_good : (l : Load) → IsGood (load_row (load_code l) l)
-load_good l w h op f3 f7 whole = ((omega arith, omega arith, (from_i w).extended), i_word_back w (load_code l) 0b0000011 h op f3)
+load_good l w h op f3 f7 whole =
+    ((omega arith, omega arith, (from_i w).extended), i_word_back w (load_code l) 0b0000011 h op f3)
 
 -- the rows of the stores
 store_good : (s : Store) → IsGood (store_row (store_code s) s)
-store_good s w h op f3 f7 whole = ((omega arith, omega arith, (from_s w).extended), s_word_back w (store_code s) 0b0100011 h op f3)
+store_good s w h op f3 f7 whole =
+    ((omega arith, omega arith, (from_s w).extended), s_word_back w (store_code s) 0b0100011 h op f3)
 
 -- the rows of the operations with an immediate
 immediate_good : (o : ImmediateOperation) → IsGood (immediate_row (immediate_code o) o)
-immediate_good o w h op f3 f7 whole = ((omega arith, omega arith, (from_i w).extended), i_word_back w (immediate_code o) 0b0010011 h op f3)
+immediate_good o w h op f3 f7 whole =
+    ((omega arith, omega arith, (from_i w).extended), i_word_back w (immediate_code o) 0b0010011 h op f3)
 
 -- the rows of the shifts by a constant
 shift_good : (s : ShiftOperation) → IsGood (shift_row (shift_top s) (shift_code s) s)
-shift_good s w h op f3 f7 whole = ((omega arith, omega arith, omega arith), r_word_back w (shift_top s) (shift_code s) 0b0010011 h op f3 f7)
+shift_good s w h op f3 f7 whole =
+    ((omega arith, omega arith, omega arith), r_word_back w (shift_top s) (shift_code s) 0b0010011 h op f3 f7)
 
 -- the rows of the operations on two registers
 register_good : (o : RegisterOperation) → IsGood (register_row (register_top o) (register_code o) o)
-register_good o w h op f3 f7 whole = ((omega arith, omega arith, omega arith), r_word_back w (register_top o) (register_code o) 0b0110011 h op f3 f7)
+register_good o w h op f3 f7 whole =
+    ((omega arith, omega arith, omega arith), r_word_back w (register_top o) (register_code o) 0b0110011 h op f3 f7)
 
 -- the row of FENCE
 fence_good : IsGood (row 0b0001111 (fixed 0b000) free (λ _. instr.Fence))
@@ -296,7 +331,10 @@ meets (fixed n) value h = grind (arith, nat_tests, h)
 meets free value h = tt
 
 -- what a row's test says
-row_meets : (r : Row) (op f3 f7 w : ℕ) → (op == r.opcode && (is_wanted r.funct3 f3 && (is_wanted r.funct7 f7 && is_wanted r.whole w))) ≡ true → (op ≡ r.opcode) × Meets r.funct3 f3 × Meets r.funct7 f7 × Meets r.whole w
+row_meets :
+    (r : Row) (op f3 f7 w : ℕ)
+    → (op == r.opcode && (is_wanted r.funct3 f3 && (is_wanted r.funct7 f7 && is_wanted r.whole w))) ≡ true
+    → (op ≡ r.opcode) × Meets r.funct3 f3 × Meets r.funct7 f7 × Meets r.whole w
 row_meets r op f3 f7 w passed =
     let a = both (op == r.opcode) (is_wanted r.funct3 f3 && (is_wanted r.funct7 f7 && is_wanted r.whole w)) passed in
     let b = both (is_wanted r.funct3 f3) (is_wanted r.funct7 f7 && is_wanted r.whole w) a.1 in
@@ -308,16 +346,23 @@ row_meets r op f3 f7 w passed =
     )
 
 -- a choice between a row's reading and the others'
-chosen : (b : Bool) (read : ℕ → Instr) (others : Option (ℕ → Instr)) (w : ℕ) (i : Instr) (P : Instr → Type 0) → (b ≡ true → P (read w)) → (option_map (λ f. f w) others ≡ Some i → P i) → option_map (λ f. f w) (if b then Some read else others) ≡ Some i → P i
+chosen :
+    (b : Bool) (read : ℕ → Instr) (others : Option (ℕ → Instr)) (w : ℕ) (i : Instr) (P : Instr → Type 0)
+    → (b ≡ true → P (read w)) → (option_map (λ f. f w) others ≡ Some i → P i)
+    → option_map (λ f. f w) (if b then Some read else others) ≡ Some i → P i
 chosen true read others w i P here there e = let same : read w ≡ i = cc in subst P same (here refl)
 chosen false read others w i P here there e = there e
 
 -- what good rows read is spelled by the word
-found_in : (rs : List Row) → AreGood rs → (w : ℕ) (i : Instr) → w < 2 ^ 32 → option_map (λ f. f w) (reading_in rs (opcode_of w) (funct3_of w) (funct7_of w) w) ≡ Some i → InRange i × Spells w i
+found_in :
+    (rs : List Row) → AreGood rs → (w : ℕ) (i : Instr) → w < 2 ^ 32
+    → option_map (λ f. f w) (reading_in rs (opcode_of w) (funct3_of w) (funct7_of w) w) ≡ Some i
+    → InRange i × Spells w i
 found_in [] good w i h e = cc
 found_in (r ∷ rs) good w i h e =
     chosen
-    (opcode_of w == r.opcode && (is_wanted r.funct3 (funct3_of w) && (is_wanted r.funct7 (funct7_of w) && is_wanted r.whole w)))
+    (opcode_of w == r.opcode &&
+    (is_wanted r.funct3 (funct3_of w) && (is_wanted r.funct7 (funct7_of w) && is_wanted r.whole w)))
     r.read
     (reading_in rs (opcode_of w) (funct3_of w) (funct7_of w) w)
     w

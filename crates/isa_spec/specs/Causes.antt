@@ -3,7 +3,7 @@ use Rattle.std.specs.Prelude.{ℕ}
 use Rattle.isa_spec.specs.declared.Cause.{Cause}
 use Rattle.isa_spec.specs.declared.Cause.TheVariants as cause
 
--- the exception code (RISC-V privileged ISA 20211203, 3.1.15; 8 is this project's own)
+-- the exception code (RISC-V privileged ISA 20211203, 3.1.15), and 8 for a call that doesn't exist
 abbrev pub number_of : Cause → ℕ
 number_of cause.InstructionMisaligned = 0
 number_of cause.InstructionAccess = 1

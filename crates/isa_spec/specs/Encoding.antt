@@ -131,7 +131,8 @@ IsSignExtended bits imm = sign_extended bits (imm % 2 ^ bits) ≡ imm
 abbrev pub IsOffset : ℕ → ℕ → Type 0
 IsOffset bits imm = IsSignExtended bits imm × (imm % 2 ≡ 0)
 
--- an upper immediate: a word with twelve zeros at its end (RISC-V unprivileged ISA 20191213, 2.4, Integer Register-Immediate Instructions)
+-- an upper immediate: a word with twelve zeros at its end (RISC-V unprivileged ISA 20191213, 2.4, Integer
+-- Register-Immediate Instructions)
 abbrev pub IsUpper : ℕ → Type 0
 IsUpper imm = (imm < 2 ^ 32) × (imm % 2 ^ 12 ≡ 0)
 

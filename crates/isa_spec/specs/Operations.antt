@@ -19,7 +19,8 @@ branch_taken test.GreaterOrEqual a b = not (is_less a b)
 branch_taken test.LessUnsigned a b = is_less_unsigned a b
 branch_taken test.GreaterOrEqualUnsigned a b = not (is_less_unsigned a b)
 
--- the result on a register and an extended immediate (RISC-V unprivileged ISA 20191213, 2.4, Integer Register-Immediate Instructions)
+-- the result on a register and an extended immediate (RISC-V unprivileged ISA 20191213, 2.4, Integer Register-Immediate
+-- Instructions)
 unfoldable pub immediate_result : ImmediateOperation → ℕ → ℕ → ℕ
 immediate_result immediate.Add a b = sum_of a b
 immediate_result immediate.Less a b = word_of_test (is_less a b)

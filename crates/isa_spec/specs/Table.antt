@@ -16,7 +16,7 @@ use Rattle.isa_spec.specs.declared.RegisterOperation.{RegisterOperation}
 use Rattle.isa_spec.specs.declared.RegisterOperation.TheVariants as register
 use Rattle.isa_spec.specs.Fields.{opcode_of, rd_of, funct3_of, rs1_of, rs2_of, funct7_of, i_immediate, s_immediate, b_immediate, u_immediate, j_immediate}
 
--- what a row wants of a field: one value, or any (this project's own)
+-- what a row wants of a field: one value, or any
 pub data Wanted : Type 0 where
   fixed : ℕ → Wanted
   free : Wanted
@@ -30,16 +30,16 @@ pub record Row : Type 0 where
   pub whole : Wanted
   pub read : ℕ → Instr
 
--- whether a field has the value that is wanted (this project's own)
+-- whether a field has the value that is wanted
 abbrev pub is_wanted : Wanted → ℕ → Bool
 is_wanted (fixed n) value = value == n
 is_wanted free value = true
 
--- a row that looks at opcode, funct3 and funct7 (this project's own)
+-- a row that looks at opcode, funct3 and funct7
 abbrev pub row : ℕ → Wanted → Wanted → (ℕ → Instr) → Row
 row op f3 f7 reads = record { opcode = op; funct3 = f3; funct7 = f7; whole = free; read = reads }
 
--- the row of an instruction that is one word (this project's own)
+-- the row of an instruction that is one word
 abbrev pub one_word : ℕ → ℕ → Instr → Row
 one_word op w instruction =
     record { opcode = op; funct3 = free; funct7 = free; whole = fixed w; read = λ _. instruction }
@@ -60,7 +60,8 @@ store_row f3 s = row 0b0100011 (fixed f3) free (λ w. instr.Store s (rs1_of w) (
 abbrev pub immediate_row : ℕ → ImmediateOperation → Row
 immediate_row f3 o = row 0b0010011 (fixed f3) free (λ w. instr.Immediate o (rd_of w) (rs1_of w) (i_immediate w))
 
--- a shift by a constant, which is the rs2 field (RISC-V unprivileged ISA 20191213, 2.4, Integer Register-Immediate Instructions)
+-- a shift by a constant, which is the rs2 field (RISC-V unprivileged ISA 20191213, 2.4, Integer Register-Immediate
+-- Instructions)
 abbrev pub shift_row : ℕ → ℕ → ShiftOperation → Row
 shift_row f7 f3 s = row 0b0010011 (fixed f3) (fixed f7) (λ w. instr.Shift s (rd_of w) (rs1_of w) (rs2_of w))
 
@@ -113,7 +114,7 @@ rows =
     ∷ one_word 0b1110011 0x00100073 instr.Ebreak
     ∷ []
 
--- how a word with these fields is read, by the first row that has them (this project's own)
+-- how a word with these fields is read, by the first row that has them
 abbrev pub reading_in : List Row → ℕ → ℕ → ℕ → ℕ → Option (ℕ → Instr)
 reading_in [] opcode f3 f7 w = None
 reading_in (r ∷ rs) opcode f3 f7 w =
@@ -121,10 +122,11 @@ reading_in (r ∷ rs) opcode f3 f7 w =
     then Some r.read
     else reading_in rs opcode f3 f7 w
 
--- how a word with these fields is read in RV32I (this project's own)
+-- how a word with these fields is read in RV32I
 unfoldable pub reading_of : ℕ → ℕ → ℕ → ℕ → Option (ℕ → Instr)
 reading_of = reading_in rows
 
--- the instruction of a word, or none where no row has it: such a word is illegal (RISC-V unprivileged ISA 20191213, 2.2; that it is illegal is this project's own)
+-- the instruction of a word, or none where no row has it: such a word is illegal (RISC-V unprivileged ISA 20191213,
+-- 2.2)
 unfoldable pub decoded : ℕ → Option Instr
 decoded w = option_map (λ read. read w) (reading_of (opcode_of w) (funct3_of w) (funct7_of w) w)

@@ -187,7 +187,7 @@ pub enum Instr {
 /// Why a hart traps.
 ///
 /// The first eight are exception codes of `mcause`
-/// (RISC-V privileged ISA 20211203, 3.1.15); the last is this project's own.
+/// (RISC-V privileged ISA 20211203, 3.1.15); the last is a call that doesn't exist.
 #[derive(Clone, Copy, Debug, PartialEq, Eq)]
 pub enum Cause {
     /// 0: an instruction address that is not a multiple of four.

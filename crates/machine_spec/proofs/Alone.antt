@@ -46,28 +46,42 @@ or-here true b c later given = refl
 or-here false b c later given = later given
 
 -- a number of a ready hart is that of some ready hart
-any-number : (n : ℕ) (hs : List Hart) → list_any (λ k. eqb k n) (ready_numbers hs) ≡ true → list_any (is_ready_at n) hs ≡ true
+any-number :
+    (n : ℕ) (hs : List Hart) → list_any (λ k. eqb k n) (ready_numbers hs) ≡ true → list_any (is_ready_at n) hs ≡ true
 any-number n [] any = any
 any-number n (h ∷ hs) any =
     elim (is_ready h.status)
     as (λ b.
-    list_any (λ k. eqb k n) (map (λ (x : Hart). x.number) (cond b (h ∷ filter (λ (x : Hart). is_ready x.status) hs) (filter (λ (x : Hart). is_ready x.status) hs))) ≡ true
+    list_any (λ k. eqb k n)
+    (map (λ (x : Hart). x.number)
+    (cond b (h ∷ filter (λ (x : Hart). is_ready x.status) hs) (filter (λ (x : Hart). is_ready x.status) hs)))
+    ≡ true
     → ((b && eqb h.number n) || list_any (is_ready_at n) hs) ≡ true) [
-      | true ↦ or-here (eqb h.number n) (list_any (λ k. eqb k n) (ready_numbers hs)) (list_any (is_ready_at n) hs) (any-number n hs)
+      | true ↦ or-here (eqb h.number n) (list_any (λ k. eqb k n) (ready_numbers hs)) (list_any (is_ready_at n) hs)
+          (any-number n hs)
       | false ↦ any-number n hs
     ]
     any
 
-some-number : (hs : List Hart) → list_any (λ (h : Hart). is_ready h.status) hs ≡ true → list_any (λ k. eqb k (least (ready_numbers hs))) (ready_numbers hs) ≡ true
+some-number :
+    (hs : List Hart) → list_any (λ (h : Hart). is_ready h.status) hs ≡ true
+    → list_any (λ k. eqb k (least (ready_numbers hs))) (ready_numbers hs) ≡ true
 some-number [] any = cc
 some-number (h ∷ hs) any =
     elim (is_ready h.status)
     as (λ b.
     (b || list_any (λ (x : Hart). is_ready x.status) hs) ≡ true
-    → list_any (λ k. eqb k (least (map (λ (x : Hart). x.number) (cond b (h ∷ filter (λ (x : Hart). is_ready x.status) hs) (filter (λ (x : Hart). is_ready x.status) hs)))))
-    (map (λ (x : Hart). x.number) (cond b (h ∷ filter (λ (x : Hart). is_ready x.status) hs) (filter (λ (x : Hart). is_ready x.status) hs)))
-    ≡ true)
-    [ true ↦ λ given. least-any h.number (ready_numbers hs) (least (h.number ∷ ready_numbers hs)) refl | false ↦ some-number hs ]
+    → list_any
+    (λ k. eqb k
+    (least (map (λ (x : Hart). x.number)
+    (cond b (h ∷ filter (λ (x : Hart). is_ready x.status) hs) (filter (λ (x : Hart). is_ready x.status) hs)))))
+    (map (λ (x : Hart). x.number)
+    (cond b (h ∷ filter (λ (x : Hart). is_ready x.status) hs) (filter (λ (x : Hart). is_ready x.status) hs)))
+    ≡ true) [
+      | true ↦ λ given. least-any h.number (ready_numbers hs)
+          (least (h.number ∷ ready_numbers hs)) refl
+      | false ↦ some-number hs
+    ]
     any
 
 -- where a thread is ready, one is chosen
@@ -77,7 +91,8 @@ choice-some m any =
     let there : position_or_len (is_ready_at (least (ready_numbers m.harts))) m.harts < length m.harts =
     any-position (is_ready_at (least (ready_numbers m.harts))) m.harts
     (any-number (least (ready_numbers m.harts)) m.harts (some-number m.harts any)) in
-    let is : ltb (position_or_len (is_ready_at (least (ready_numbers m.harts))) m.harts) (length m.harts) ≡ true = grind (arith, nat_tests) in
+    let is : ltb (position_or_len (is_ready_at (least (ready_numbers m.harts))) m.harts) (length m.harts) ≡ true =
+    grind (arith, nat_tests) in
     rw is refl
 
 -- the chosen thread is ready

@@ -26,7 +26,8 @@ length-data_pages number count = length-map-range_with_len {X = Mapped} _ number
 length-header_page : (input : List ℕ) → length (header_page input) ≡ 4096
 unfolding header_page
 length-header_page input =
-    length-append (to_le_bytes w32 (length input)) (replicate 4092 0) ∙ ap (λ n. 4 + n) (length-replicate {A = ℕ} 4092 0)
+    length-append (to_le_bytes w32 (length input)) (replicate 4092 0)
+    ∙ ap (λ n. 4 + n) (length-replicate {A = ℕ} 4092 0)
 
 length-input_page : (input : List ℕ) (k : ℕ) → length (input_page input k) ≡ 4096
 unfolding input_page
@@ -125,7 +126,9 @@ ascends-append :
     → ascends_above low (xs ++ ys) ≡ true
 ascends-append low middle [] ys ascends below order rest = ascends-lower low middle ys order rest
   where
-    ascends-lower : (low middle : ℕ) (ys : List Mapped) → low ≤ middle → ascends_above middle ys ≡ true → ascends_above low ys ≡ true
+    ascends-lower :
+        (low middle : ℕ) (ys : List Mapped) → low ≤ middle → ascends_above middle ys ≡ true
+        → ascends_above low ys ≡ true
     ascends-lower low middle [] order rest = refl
     ascends-lower low middle (y ∷ ys) order rest = grind (arith, nat_tests)
 ascends-append low middle (x ∷ xs) ys ascends below order rest =
@@ -138,7 +141,8 @@ AllAtMost most pages = AllByRecursion (λ (p : Mapped). p.number ≤ most) pages
 
 at_most-weaker : (most more : ℕ) (xs : List Mapped) → most ≤ more → AllAtMost most xs → AllAtMost more xs
 at_most-weaker most more [] order all = tt
-at_most-weaker most more (x ∷ xs) order all = (let first = all.0 in omega arith, at_most-weaker most more xs order all.1)
+at_most-weaker most more (x ∷ xs) order all =
+    (let first = all.0 in omega arith, at_most-weaker most more xs order all.1)
 
 at_most-append : (most : ℕ) (xs ys : List Mapped) → AllAtMost most xs → AllAtMost most ys → AllAtMost most (xs ++ ys)
 at_most-append most [] ys all others = others
@@ -147,13 +151,15 @@ at_most-append most (x ∷ xs) ys all others = (all.0, at_most-append most xs ys
 abbrev data_of : List ℕ → List Mapped
 data_of numbers = map (λ n. record { number = n; permission = 6 }) numbers
 
-ascends-data : (number count below : ℕ) → below < number → ascends_above below (data_of (range_with_len number count)) ≡ true
+ascends-data :
+    (number count below : ℕ) → below < number → ascends_above below (data_of (range_with_len number count)) ≡ true
 ascends-data number zero below order = refl
 ascends-data number (suc count) below order =
     let first : ltb below number ≡ true = grind (arith, nat_tests) in
     rw first (ascends-data (number + 1) count number (omega arith))
 
-at_most-data : (number count most : ℕ) → number + count ≤ most + 1 → AllAtMost most (data_of (range_with_len number count))
+at_most-data :
+    (number count most : ℕ) → number + count ≤ most + 1 → AllAtMost most (data_of (range_with_len number count))
 at_most-data number zero most order = tt
 at_most-data number (suc count) most order = (omega arith, at_most-data (number + 1) count most (omega arith))
 
@@ -178,14 +184,17 @@ ascends-map_of s sound =
     let image_most = at_most-image s.elf sound.elf_accepted in
     let header_most : AllAtMost 0xC0000 (image_pages s.elf ++ data_pages 0xC0000 1) =
     at_most-append 0xC0000 (image_pages s.elf) (data_pages 0xC0000 1)
-    (at_most-weaker 0xBFFFF 0xC0000 (image_pages s.elf) (omega arith) image_most) (at_most-data_pages 0xC0000 1 0xC0000 (omega arith)) in
+    (at_most-weaker 0xBFFFF 0xC0000 (image_pages s.elf) (omega arith) image_most)
+    (at_most-data_pages 0xC0000 1 0xC0000 (omega arith)) in
     let input_most : AllAtMost 0xC0100 (image_pages s.elf ++ data_pages 0xC0000 1 ++ data_pages 0xC0001 256) =
     at_most-append 0xC0100 (image_pages s.elf ++ data_pages 0xC0000 1) (data_pages 0xC0001 256)
     (at_most-weaker 0xC0000 0xC0100 (image_pages s.elf ++ data_pages 0xC0000 1) (omega arith) header_most)
     (at_most-data_pages 0xC0001 256 0xC0100 (omega arith)) in
-    ascends-append 0 0xC0100 (image_pages s.elf ++ data_pages 0xC0000 1 ++ data_pages 0xC0001 256) (data_pages 0xD0000 512)
+    ascends-append 0 0xC0100 (image_pages s.elf ++ data_pages 0xC0000 1 ++ data_pages 0xC0001 256)
+    (data_pages 0xD0000 512)
     (ascends-append 0 0xC0000 (image_pages s.elf ++ data_pages 0xC0000 1) (data_pages 0xC0001 256)
     (ascends-append 0 0xBFFFF (image_pages s.elf) (data_pages 0xC0000 1)
-    (image_ascends s.elf sound.elf_accepted) image_most (omega arith) (ascends-data_pages 0xC0000 1 0xBFFFF (omega arith)))
+    (image_ascends s.elf sound.elf_accepted) image_most (omega arith)
+    (ascends-data_pages 0xC0000 1 0xBFFFF (omega arith)))
     header_most (omega arith) (ascends-data_pages 0xC0001 256 0xC0000 (omega arith)))
     input_most (omega arith) (ascends-data_pages 0xD0000 512 0xC0100 (omega arith))

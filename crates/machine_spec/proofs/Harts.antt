@@ -45,14 +45,16 @@ pub ready-below : (hs : List Hart) (u : ℕ) → is_ready (hart_in hs u).status 
 ready-below hs u h =
     elim (cases_lt u (length hs)) [
       | inl below ↦ below
-      | inr past ↦ absurd (let none : hart_in hs u ≡ nobody = hart_in-past hs u past in let impossible = rw none at h in cc)
+      | inr past ↦ absurd
+          (let none : hart_in hs u ≡ nobody = hart_in-past hs u past in let impossible = rw none at h in cc)
     ]
 
 blocked-below : (hs : List Hart) (u : ℕ) → blocked_count (hart_in hs u).status ≡ 1 → u < length hs
 blocked-below hs u h =
     elim (cases_lt u (length hs)) [
       | inl below ↦ below
-      | inr past ↦ absurd (let none : hart_in hs u ≡ nobody = hart_in-past hs u past in let impossible = rw none at h in omega arith)
+      | inr past ↦ absurd
+          (let none : hart_in hs u ≡ nobody = hart_in-past hs u past in let impossible = rw none at h in omega arith)
     ]
 
 -- writing a hart with the status that was there changes no status
@@ -66,10 +68,12 @@ status-set (x ∷ hs) zero (suc u) h same = refl
 status-set (x ∷ hs) (suc t) zero h same = refl
 status-set (x ∷ hs) (suc t) (suc u) h same = status-set hs t u h same
 
-pub length-woken : (memory : Memory) (told : Option ℕ) (us : List ℕ) (hs : List Hart) → length (woken memory told us hs) ≡ length hs
+pub length-woken :
+    (memory : Memory) (told : Option ℕ) (us : List ℕ) (hs : List Hart) → length (woken memory told us hs) ≡ length hs
 length-woken memory told [] hs = refl
 length-woken memory told (v ∷ us) hs =
-    length-woken memory told us (set hs v (returned memory 0 told (hart_in hs v))) ∙ length-set hs v (returned memory 0 told (hart_in hs v))
+    length-woken memory told us (set hs v (returned memory 0 told (hart_in hs v)))
+    ∙ length-set hs v (returned memory 0 told (hart_in hs v))
 
 -- who isn't woken stays
 pub woken-stays :
@@ -79,7 +83,8 @@ pub woken-stays :
 woken-stays memory told [] hs u none = refl
 woken-stays memory told (v ∷ us) hs u none =
     elim (cases_eq v u) [
-      | inl same ↦ absurd (let one : eqb v u ≡ true = eq-eqb v u same in let all = rw (places-cons u v us, one) at none in omega arith)
+      | inl same ↦ absurd
+          (let one : eqb v u ≡ true = eq-eqb v u same in let all = rw (places-cons u v us, one) at none in omega arith)
       | inr other ↦
           woken-stays memory told us (set hs v (returned memory 0 told (hart_in hs v))) u
           (let all : tally (eqb v u) + places u us ≡ 0 = sym (places-cons u v us) ∙ none in omega arith)
@@ -99,24 +104,29 @@ woken-blocked memory told (v ∷ us) hs u h =
           let all : places u (v ∷ us) ≡ 1 + places u us = places-cons u v us ∙ ap (λ b. tally b + places u us) one in
           let most : blocked_count (hart_in hs u).status ≤ 1 = blocked_count-le (hart_in hs u).status in
           let below : u < length hs = blocked-below hs u (omega arith) in
-          let here : hart_in (set hs v (returned memory 0 told (hart_in hs v))) u ≡ returned memory 0 told (hart_in hs v) =
+          let here : hart_in (set hs v (returned memory 0 told (hart_in hs v))) u
+          ≡ returned memory 0 told (hart_in hs v) =
           rw (← same) (get_or-set_same hs v (returned memory 0 told (hart_in hs v)) nobody (rw same below)) in
           let now_ready : blocked_count (hart_in (set hs v (returned memory 0 told (hart_in hs v))) u).status ≡ 0 =
           ap (λ (x : Hart). blocked_count x.status) here in
           let rest :
-          blocked_count (hart_in (woken memory told us (set hs v (returned memory 0 told (hart_in hs v)))) u).status + places u us
+          blocked_count (hart_in (woken memory told us (set hs v (returned memory 0 told (hart_in hs v)))) u).status
+          + places u us
           ≡ blocked_count (hart_in (set hs v (returned memory 0 told (hart_in hs v))) u).status =
           woken-blocked memory told us (set hs v (returned memory 0 told (hart_in hs v))) u (omega arith) in
           omega arith
       | inr other ↦
           let none : eqb v u ≡ false = grind (arith, nat_tests) in
-          let all : places u (v ∷ us) ≡ places u us = places-cons u v us ∙ ap (λ b. tally b + places u us) none ∙ omega arith in
+          let all : places u (v ∷ us) ≡ places u us =
+          places-cons u v us ∙ ap (λ b. tally b + places u us) none ∙ omega arith in
           let stays : hart_in (set hs v (returned memory 0 told (hart_in hs v))) u ≡ hart_in hs u =
           get_or-set_other hs v u (returned memory 0 told (hart_in hs v)) nobody (λ e. other (sym e)) in
-          let same : blocked_count (hart_in (set hs v (returned memory 0 told (hart_in hs v))) u).status ≡ blocked_count (hart_in hs u).status =
+          let same : blocked_count (hart_in (set hs v (returned memory 0 told (hart_in hs v))) u).status
+          ≡ blocked_count (hart_in hs u).status =
           ap (λ (x : Hart). blocked_count x.status) stays in
           let rest :
-          blocked_count (hart_in (woken memory told us (set hs v (returned memory 0 told (hart_in hs v)))) u).status + places u us
+          blocked_count (hart_in (woken memory told us (set hs v (returned memory 0 told (hart_in hs v)))) u).status
+          + places u us
           ≡ blocked_count (hart_in (set hs v (returned memory 0 told (hart_in hs v))) u).status =
           woken-blocked memory told us (set hs v (returned memory 0 told (hart_in hs v))) u (omega arith) in
           omega arith
@@ -135,23 +145,28 @@ woken-ended memory told (v ∷ us) hs u h =
           let all : places u (v ∷ us) ≡ 1 + places u us = places-cons u v us ∙ ap (λ b. tally b + places u us) one in
           let most : blocked_count (hart_in hs u).status ≤ 1 = blocked_count-le (hart_in hs u).status in
           let below : u < length hs = blocked-below hs u (omega arith) in
-          let here : hart_in (set hs v (returned memory 0 told (hart_in hs v))) u ≡ returned memory 0 told (hart_in hs v) =
+          let here : hart_in (set hs v (returned memory 0 told (hart_in hs v))) u
+          ≡ returned memory 0 told (hart_in hs v) =
           rw (← same) (get_or-set_same hs v (returned memory 0 told (hart_in hs v)) nobody (rw same below)) in
           woken-ended memory told us (set hs v (returned memory 0 told (hart_in hs v))) u (omega arith)
           ∙ ap (λ (x : Hart). ended_value x.status) here
           ∙ sym (ended_value-blocked (hart_in hs u).status (omega arith))
       | inr other ↦
           let none : eqb v u ≡ false = grind (arith, nat_tests) in
-          let all : places u (v ∷ us) ≡ places u us = places-cons u v us ∙ ap (λ b. tally b + places u us) none ∙ omega arith in
+          let all : places u (v ∷ us) ≡ places u us =
+          places-cons u v us ∙ ap (λ b. tally b + places u us) none ∙ omega arith in
           let stays : hart_in (set hs v (returned memory 0 told (hart_in hs v))) u ≡ hart_in hs u =
           get_or-set_other hs v u (returned memory 0 told (hart_in hs v)) nobody (λ e. other (sym e)) in
-          let same : blocked_count (hart_in (set hs v (returned memory 0 told (hart_in hs v))) u).status ≡ blocked_count (hart_in hs u).status =
+          let same : blocked_count (hart_in (set hs v (returned memory 0 told (hart_in hs v))) u).status
+          ≡ blocked_count (hart_in hs u).status =
           ap (λ (x : Hart). blocked_count x.status) stays in
           woken-ended memory told us (set hs v (returned memory 0 told (hart_in hs v))) u (omega arith)
           ∙ ap (λ (x : Hart). ended_value x.status) stays
     ]
 
-pub length-created : (memory : Memory) (c : Option (ℕ × ℕ)) (hs : List Hart) → length (with_created memory c hs) ≡ length hs + created_count c
+pub length-created :
+    (memory : Memory) (c : Option (ℕ × ℕ)) (hs : List Hart)
+    → length (with_created memory c hs) ≡ length hs + created_count c
 length-created memory None hs = omega arith
 length-created memory (Some c) hs = length-append hs (first_hart memory (length hs) c.0 c.1 ∷ [])
 
@@ -160,7 +175,8 @@ pub created-stays :
     → u < length hs
     → hart_in (with_created memory c hs) u ≡ hart_in hs u
 created-stays memory None hs u below = refl
-created-stays memory (Some c) hs u below = get_or_append_left hs (first_hart memory (length hs) c.0 c.1 ∷ []) nobody u below
+created-stays memory (Some c) hs u below =
+    get_or_append_left hs (first_hart memory (length hs) c.0 c.1 ∷ []) nobody u below
 
 -- a ready hart at the end is no more blocked than nobody
 push-blocked :

@@ -1,4 +1,5 @@
--- Worked examples of what a run starts from, each computed by the checker. The addresses are those that the map prescribes.
+-- Worked examples of what a run starts from, each computed by the checker. The addresses are those that the map
+-- prescribes.
 use Rattle.std.proofs.Common.{◌≡◌, [], ◌∷◌, ◌++◌, length, map, replicate, refl}
 use Rattle.memory_spec.specs.Pages.{permission_at, zero_page}
 use Rattle.elf_spec.specs.Fields.{u16_at, u32_at}
@@ -21,17 +22,21 @@ map-length = refl
 -- The first and the last byte of each range, and the bytes beside them: input and stacks are to read and write.
 pub map-permissions :
     map (permission_at (map_of setup))
-    (0xFFFF ∷ 0x10000 ∷ 0x10FFF ∷ 0x11000 ∷ 0xBFFFFFFF ∷ 0xC0000000 ∷ 0xC0000FFF ∷ 0xC0001000 ∷ 0xC0100FFF ∷ 0xC0101000 ∷ 0xCFFFFFFF ∷ 0xD0000000 ∷ 0xD01FFFFF ∷ 0xD0200000 ∷ [])
+    (0xFFFF ∷ 0x10000 ∷ 0x10FFF ∷ 0x11000 ∷ 0xBFFFFFFF ∷ 0xC0000000 ∷ 0xC0000FFF ∷ 0xC0001000 ∷ 0xC0100FFF ∷ 0xC0101000
+    ∷ 0xCFFFFFFF ∷ 0xD0000000 ∷ 0xD01FFFFF ∷ 0xD0200000 ∷ [])
     ≡ 0 ∷ 7 ∷ 7 ∷ 0 ∷ 0 ∷ 6 ∷ 6 ∷ 6 ∷ 6 ∷ 0 ∷ 0 ∷ 6 ∷ 6 ∷ 0 ∷ []
 unfolding map_of data_pages image_pages u16_at u32_at permission_at
 map-permissions = refl
 
--- The image's first byte and the zeros after its last; the input's length, 4,098 = 0x1002, and zeros; the input, and zeros; a stack.
+-- The image's first byte and the zeros after its last; the input's length, 4,098 = 0x1002, and zeros; the input, and
+-- zeros; a stack.
 pub start-bytes :
     map (byte_at (map_of setup) (start_memory setup))
-    (0x10000 ∷ 0x10022 ∷ 0x10023 ∷ 0xC0000000 ∷ 0xC0000001 ∷ 0xC0000002 ∷ 0xC0000FFF ∷ 0xC0001000 ∷ 0xC0001001 ∷ 0xC0002000 ∷ 0xC0002001 ∷ 0xC0002002 ∷ 0xC0100FFF ∷ 0xD0000000 ∷ 0xD01FFFFF ∷ [])
+    (0x10000 ∷ 0x10022 ∷ 0x10023 ∷ 0xC0000000 ∷ 0xC0000001 ∷ 0xC0000002 ∷ 0xC0000FFF ∷ 0xC0001000 ∷ 0xC0001001
+    ∷ 0xC0002000 ∷ 0xC0002001 ∷ 0xC0002002 ∷ 0xC0100FFF ∷ 0xD0000000 ∷ 0xD01FFFFF ∷ [])
     ≡ 0x37 ∷ 0x0A ∷ 0 ∷ 2 ∷ 0x10 ∷ 0 ∷ 0 ∷ 5 ∷ 0 ∷ 7 ∷ 8 ∷ 0 ∷ 0 ∷ 0 ∷ 0 ∷ []
-unfolding map_of data_pages image_pages u16_at u32_at start_memory image_memory image_page image_byte header_page input_memory input_page stack_memory zero_page
+unfolding map_of data_pages image_pages u16_at u32_at start_memory image_memory image_page image_byte header_page
+    input_memory input_page stack_memory zero_page
 start-bytes = refl
 
 -- Thread 0 starts at the file's entry, with the address of the input's header in a0.

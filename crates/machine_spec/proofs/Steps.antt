@@ -1,4 +1,5 @@
--- A step leaves every other ready hart as it is, keeps what holds of machines, and is what laying a true record that fits is.
+-- A step leaves every other ready hart as it is, keeps what holds of machines, and is what laying a true record that
+-- fits is.
 use Rattle.std.proofs.Common.{◌≡◌, ◌≢◌, ◌<◌, ◌≤◌, ◌+◌, ℕ, zero, suc, Bool, true, false, ◌&&◌, not, eqb, leb, cond, List, [], ◌∷◌, ◌++◌, length, get_or, set, Option, Some, None, is_none, refl, ap, sym, ◌∙◌, subst, inl, inr, arith}
 use Rattle.std.proofs.lemmas.Bool.{eqb-true}
 use Rattle.std.proofs.lemmas.Bool.Decides.{nat_tests}
@@ -40,7 +41,13 @@ ready-written :
     → is_ready (hart_of (written m t memory regs put) t).status ≡ true
 ready-written m t memory regs put ready =
     ap is_ready
-    (status-set m.harts t t (record { view = (hart_of m t).view; regs = regs; number = suc (hart_of m t).number; status = (hart_of m t).status }) refl)
+    (status-set m.harts t t
+    (record {
+      view = (hart_of m t).view;
+      regs = regs;
+      number = suc (hart_of m t).number;
+      status = (hart_of m t).status;
+    }) refl)
     ∙ ready
 
 tied-after_writing :
@@ -49,7 +56,12 @@ tied-after_writing :
     → IsTied (written m t memory regs put).objects (written m t memory regs put).harts
 tied-after_writing m t memory regs put tied =
     tied-written m.objects m.harts t
-    (record { view = (hart_of m t).view; regs = regs; number = suc (hart_of m t).number; status = (hart_of m t).status }) refl tied
+    (record {
+      view = (hart_of m t).view;
+      regs = regs;
+      number = suc (hart_of m t).number;
+      status = (hart_of m t).status;
+    }) refl tied
 
 done-stays :
     (m : Machine) (t u : ℕ) (a : Asked)
@@ -69,7 +81,12 @@ unfolding finished
 finished-stays m t u memory regs e put tied ready other ready_u =
     let same : hart_of (written m t memory regs put) u ≡ hart_of m u =
     get_or-set_other m.harts t u
-    (record { view = (hart_of m t).view; regs = regs; number = suc (hart_of m t).number; status = (hart_of m t).status }) nobody other in
+    (record {
+      view = (hart_of m t).view;
+      regs = regs;
+      number = suc (hart_of m t).number;
+      status = (hart_of m t).status;
+    }) nobody other in
     done-stays (written m t memory regs put) t u (asked t e regs) (tied-after_writing m t memory regs put tied)
     (ready-written m t memory regs put ready) other (ap (λ (h : Hart). is_ready h.status) same ∙ ready_u)
     ∙ same
@@ -123,13 +140,17 @@ hart-at map steps (x ∷ hs) zero below all = all.0
 hart-at map steps (x ∷ hs) (suc t) below all = hart-at map steps hs t (omega arith) all.1
 
 -- also who doesn't exist has made no step
-number-at : (map : List Mapped) (steps : ℕ) (hs : List Hart) (t : ℕ) → AllByRecursion (IsHartOf map steps) hs → (hart_in hs t).number ≤ steps
+number-at :
+    (map : List Mapped) (steps : ℕ) (hs : List Hart) (t : ℕ) → AllByRecursion (IsHartOf map steps) hs
+    → (hart_in hs t).number ≤ steps
 number-at map steps [] t all = omega arith
 number-at map steps (x ∷ hs) zero all = all.0.number
 number-at map steps (x ∷ hs) (suc t) all = number-at map steps hs t all.1
 
 -- one more step of the run
-hart-later : (map : List Mapped) (steps : ℕ) (hs : List Hart) → AllByRecursion (IsHartOf map steps) hs → AllByRecursion (IsHartOf map (suc steps)) hs
+hart-later :
+    (map : List Mapped) (steps : ℕ) (hs : List Hart) → AllByRecursion (IsHartOf map steps) hs
+    → AllByRecursion (IsHartOf map (suc steps)) hs
 hart-later map steps [] all = tt
 hart-later map steps (x ∷ hs) all =
     (record { view = all.0.view; number = let number = all.0.number in omega arith }, hart-later map steps hs all.1)
@@ -144,7 +165,8 @@ hart-fated map steps (Exits code) memory h whole fit = fit
 
 hart-woken :
     (map : List Mapped) (steps : ℕ) (memory : Memory) (told : Option ℕ) (us : List ℕ) (hs : List Hart)
-    → IsMemory map memory → AllByRecursion (IsHartOf map steps) hs → AllByRecursion (IsHartOf map steps) (woken memory told us hs)
+    → IsMemory map memory → AllByRecursion (IsHartOf map steps) hs
+    → AllByRecursion (IsHartOf map steps) (woken memory told us hs)
 hart-woken map steps memory told [] hs whole all = all
 hart-woken map steps memory told (v ∷ us) hs whole all =
     hart-woken map steps memory told us (set hs v (returned memory 0 told (hart_in hs v))) whole
@@ -153,7 +175,8 @@ hart-woken map steps memory told (v ∷ us) hs whole all =
 
 hart-created :
     (map : List Mapped) (steps : ℕ) (memory : Memory) (c : Option (ℕ × ℕ)) (hs : List Hart)
-    → IsMemory map memory → AllByRecursion (IsHartOf map steps) hs → AllByRecursion (IsHartOf map steps) (with_created memory c hs)
+    → IsMemory map memory → AllByRecursion (IsHartOf map steps) hs
+    → AllByRecursion (IsHartOf map steps) (with_created memory c hs)
 hart-created map steps memory None hs whole all = all
 hart-created map steps memory (Some c) hs whole all =
     hart-push map steps hs (first_hart memory (length hs) c.0 c.1) (record { view = whole; number = omega arith }) all
@@ -163,14 +186,17 @@ hart-settled :
     → t < length hs → IsMemory map memory
     → AllByRecursion (IsHartOf map steps) hs → AllByRecursion (IsHartOf map steps) (settled e memory t hs)
 hart-settled map steps e memory t hs below whole all =
-    hart-created map steps memory e.created (woken memory e.told e.woken (set hs t (fated e.fate memory (hart_in hs t)))) whole
+    hart-created map steps memory e.created
+    (woken memory e.told e.woken (set hs t (fated e.fate memory (hart_in hs t)))) whole
     (hart-woken map steps memory e.told e.woken (set hs t (fated e.fate memory (hart_in hs t))) whole
     (hart-set map steps hs t (fated e.fate memory (hart_in hs t))
     (hart-fated map steps e.fate memory (hart_in hs t) whole (hart-at map steps hs t below all)) all))
 
 -- the end
 
-end_at-left : (a b : Bool) (limit steps : ℕ) (x y z : End) → cond a (Some x) (cond b (Some y) (cond (leb limit steps) (Some z) None)) ≡ None → steps < limit
+end_at-left :
+    (a b : Bool) (limit steps : ℕ) (x y z : End)
+    → cond a (Some x) (cond b (Some y) (cond (leb limit steps) (Some z) None)) ≡ None → steps < limit
 end_at-left true b limit steps x y z none = cc
 end_at-left false true limit steps x y z none = cc
 end_at-left false false limit steps x y z none = grind (arith, nat_tests)
@@ -178,17 +204,23 @@ end_at-left false false limit steps x y z none = grind (arith, nat_tests)
 end_after-left : (e : Option End) (hs : List Hart) (limit steps : ℕ) → end_after e hs limit steps ≡ None → steps < limit
 end_after-left (Some e) hs limit steps none = cc
 end_after-left None hs limit steps none =
-    end_at-left (list_all (λ (h : Hart). is_ended h.status) hs) (not (list_any (λ (h : Hart). is_ready h.status) hs)) limit steps _ _ _ none
+    end_at-left (list_all (λ (h : Hart). is_ended h.status) hs)
+    (not (list_any (λ (h : Hart). is_ready h.status) hs)) limit steps _ _ _ none
 
-end_at-ready : (a b : Bool) (limit steps : ℕ) (x y z : End) → cond a (Some x) (cond (not b) (Some y) (cond (leb limit steps) (Some z) None)) ≡ None → b ≡ true
+end_at-ready :
+    (a b : Bool) (limit steps : ℕ) (x y z : End)
+    → cond a (Some x) (cond (not b) (Some y) (cond (leb limit steps) (Some z) None)) ≡ None → b ≡ true
 end_at-ready true b limit steps x y z none = cc
 end_at-ready false true limit steps x y z none = refl
 end_at-ready false false limit steps x y z none = cc
 
-end_after-ready : (e : Option End) (hs : List Hart) (limit steps : ℕ) → end_after e hs limit steps ≡ None → list_any (λ (h : Hart). is_ready h.status) hs ≡ true
+end_after-ready :
+    (e : Option End) (hs : List Hart) (limit steps : ℕ) → end_after e hs limit steps ≡ None
+    → list_any (λ (h : Hart). is_ready h.status) hs ≡ true
 end_after-ready (Some e) hs limit steps none = cc
 end_after-ready None hs limit steps none =
-    end_at-ready (list_all (λ (h : Hart). is_ended h.status) hs) (list_any (λ (h : Hart). is_ready h.status) hs) limit steps _ _ _ none
+    end_at-ready (list_all (λ (h : Hart). is_ended h.status) hs)
+    (list_any (λ (h : Hart). is_ready h.status) hs) limit steps _ _ _ none
 
 -- what is there after the writing, and before the end is looked for
 record IsWritten (m : Machine) (t : ℕ) : Type 0 where
@@ -204,7 +236,8 @@ done-whole m t (Asks call) w =
     record {
       memory = w.memory;
       harts =
-          hart-settled m.frame.map m.steps (act (is_readable m.frame.map) m.objects t call).0 m.memory t m.harts (ready-below m.harts t w.ready)
+          hart-settled m.frame.map m.steps (act (is_readable m.frame.map) m.objects t call).0 m.memory t m.harts
+          (ready-below m.harts t w.ready)
           w.memory w.harts;
       tied = tied-called (is_readable m.frame.map) m.objects m.harts t call m.memory w.tied w.ready;
       limits = w.limits;
@@ -228,7 +261,8 @@ done-whole m t (Stops e) w =
     }
 
 can_step-left : (m : Machine) (t : ℕ) → IsWhole m → can_step m t ≡ true → m.steps < m.limit
-can_step-left m t whole can = whole.steps_left (none-is m.ending (and-left (is_none m.ending) (is_ready (hart_of m t).status) can))
+can_step-left m t whole can =
+    whole.steps_left (none-is m.ending (and-left (is_none m.ending) (is_ready (hart_of m t).status) can))
   where
     none-is : (e : Option End) → is_none e ≡ true → e ≡ None
     none-is (Some e) h = cc
@@ -242,13 +276,19 @@ unfolding finished
 finished-whole m t memory regs e put whole can fit =
     let ready : is_ready (hart_of m t).status ≡ true = can_step-ready m t can in
     let left : m.steps < m.limit = can_step-left m t whole can in
-    let here : IsHartOf m.frame.map m.steps (hart_of m t) = hart-at m.frame.map m.steps m.harts t (ready-below m.harts t ready) whole.harts in
+    let here : IsHartOf m.frame.map m.steps (hart_of m t) =
+    hart-at m.frame.map m.steps m.harts t (ready-below m.harts t ready) whole.harts in
     done-whole (written m t memory regs put) t (asked t e regs)
     (record {
       memory = fit;
       harts =
           hart-set m.frame.map (suc m.steps) m.harts t
-          (record { view = (hart_of m t).view; regs = regs; number = suc (hart_of m t).number; status = (hart_of m t).status })
+          (record {
+            view = (hart_of m t).view;
+            regs = regs;
+            number = suc (hart_of m t).number;
+            status = (hart_of m t).status;
+          })
           (record { view = here.view; number = let number = here.number in omega arith })
           (hart-later m.frame.map m.steps m.harts whole.harts);
       tied = tied-after_writing m t memory regs put whole.tied;

@@ -101,9 +101,11 @@ record IsFollowed (o after : Objects) (e : Effect) (t : ℕ) : Type 0 where
 abbrev woken_harts : Effect → Memory → ℕ → List Hart → List Hart
 woken_harts e memory t hs = woken memory e.told e.woken (fated_harts e memory t hs)
 
-length-woken_harts : (e : Effect) (memory : Memory) (t : ℕ) (hs : List Hart) → length (woken_harts e memory t hs) ≡ length hs
+length-woken_harts :
+    (e : Effect) (memory : Memory) (t : ℕ) (hs : List Hart) → length (woken_harts e memory t hs) ≡ length hs
 length-woken_harts e memory t hs =
-    length-woken memory e.told e.woken (fated_harts e memory t hs) ∙ length-set hs t (fated e.fate memory (hart_in hs t))
+    length-woken memory e.told e.woken (fated_harts e memory t hs)
+    ∙ length-set hs t (fated e.fate memory (hart_in hs t))
 
 -- an effect that the objects follow keeps the agreement
 tied-settled :
@@ -135,7 +137,8 @@ tied-settled o after hs e memory t tied ready followed =
                 followed.ended u
                 ∙ sym (fated_harts-ended o hs e memory t u tied ready inside)
                 ∙ sym (woken-ended memory e.told e.woken (fated_harts e memory t hs) u (few u))
-                ∙ ap (λ (h : Hart). ended_value h.status) (sym (created-stays memory e.created (woken_harts e memory t hs) u (omega arith)))
+                ∙ ap (λ (h : Hart). ended_value h.status)
+                (sym (created-stays memory e.created (woken_harts e memory t hs) u (omega arith)))
             | inr past ↦
                 followed.ended u
                 ∙ ended_after-other t e.fate u (ended_at o u) (omega arith)
@@ -180,7 +183,8 @@ pub tied-called :
     → IsTied o hs → is_ready (hart_in hs t).status ≡ true
     → IsTied (act readable o t call).1 (settled (act readable o t call).0 memory t hs)
 tied-called readable o hs t call memory tied ready =
-    tied-settled o (act readable o t call).1 hs (act readable o t call).0 memory t tied ready (act-followed readable o hs t call tied ready)
+    tied-settled o (act readable o t call).1 hs (act readable o t call).0 memory t tied ready
+    (act-followed readable o hs t call tied ready)
 
 -- a call leaves every other ready hart as it is
 pub stays-called :
@@ -189,4 +193,5 @@ pub stays-called :
     → u ≢ t → is_ready (hart_in hs u).status ≡ true
     → hart_in (settled (act readable o t call).0 memory t hs) u ≡ hart_in hs u
 stays-called readable o hs t call memory u tied ready other ready_u =
-    stays-settled o (act readable o t call).1 hs (act readable o t call).0 memory t u tied ready (act-followed readable o hs t call tied ready) other ready_u
+    stays-settled o (act readable o t call).1 hs (act readable o t call).0 memory t u tied ready
+    (act-followed readable o hs t call tied ready) other ready_u

@@ -1,3 +1,4 @@
+-- The files of definitions of this crate.
 pub mod Machine
 pub mod Performing
 pub mod Step

@@ -8,16 +8,16 @@ use Rattle.machine_spec.specs.declared.states.Status.{Status}
 use Rattle.machine_spec.specs.declared.states.Status.TheVariants.{Ready, Blocked, Ended}
 use Rattle.machine_spec.specs.declared.states.End.{End}
 
--- A hart, as the thread that runs on it has it between two steps: its view of memory, its registers, how many steps it has made, and its
--- status. (RISC-V unprivileged ISA 20191213, 1.1; the view is this project's own)
+-- A hart, as the thread that runs on it has it between two steps: its view of memory, its registers, how many steps it
+-- has made, and its status. (RISC-V unprivileged ISA 20191213, 1.1)
 pub record Hart : Type 0 where
   pub view : Memory
   pub regs : Registers
   pub number : ℕ
   pub status : Status
 
--- The machine: what no step changes (map and fuel, the step limit), shared memory, the harts by thread number, the objects, the
--- output, the number of steps made, and how it ended, if it has. (this project's own)
+-- The machine: what no step changes (map and fuel, the step limit), shared memory, the harts by thread number, the
+-- objects, the output, the number of steps made, and how it ended, if it has.
 pub record Machine : Type 0 where
   pub frame : Frame
   pub limit : ℕ
@@ -28,18 +28,18 @@ pub record Machine : Type 0 where
   pub steps : ℕ
   pub ending : Option End
 
--- What stands for a thread that doesn't exist: it isn't ready, and waits for nothing. (this project's own)
+-- What stands for a thread that doesn't exist: it isn't ready, and waits for nothing.
 abbrev pub nobody : Hart
 nobody = record { view = []; regs = record { pc = 0; x = [] }; number = 0; status = Ended 0 }
 
--- The hart of a thread. (this project's own)
+-- The hart of a thread.
 abbrev pub hart_in : List Hart → ℕ → Hart
 hart_in harts t = slice_index_or harts t nobody
 
 abbrev pub hart_of : Machine → ℕ → Hart
 hart_of m t = hart_in m.harts t
 
--- Whether a status is Ready, whether it is Blocked, and whether it is Ended. (this project's own)
+-- Whether a status is Ready, whether it is Blocked, and whether it is Ended.
 abbrev pub is_ready : Status → Bool
 is_ready Ready = true
 is_ready Blocked = false

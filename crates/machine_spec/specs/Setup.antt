@@ -13,50 +13,50 @@ use Rattle.machine_spec.specs.Machine.{Hart, Machine}
 use Rattle.machine_spec.specs.Performing.{first_hart}
 use Rattle.machine_spec.specs.Schedule.{scratch_from, is_permitted_from, is_complete_from, records_from}
 
--- An executable file, an input, the most turns of a thunk, and the most steps of a run. (this project's own)
+-- An executable file, an input, the most turns of a thunk, and the most steps of a run.
 pub record Setup : Type 0 where
   pub elf : List ℕ
   pub input : List ℕ
   pub fuel : ℕ
   pub limit : ℕ
 
--- A setup that may be run: the file is accepted, and sizes and limits are in range. (this project's own)
+-- A setup that may be run: the file is accepted, and sizes and limits are in range.
 pub record IsSetup (s : Setup) : Type 0 where
   pub elf_size : length s.elf ≤ MOST_ELF_BYTES
   pub elf_accepted : is_image s.elf ≡ true
   pub input_size : length s.input ≤ MOST_INPUT_BYTES
   pub limits : AreLimits s.fuel s.limit
 
--- Pages to read and write, from a number on, so many. (this project's own)
+-- Pages to read and write, from a number on, so many.
 unfoldable pub data_pages : ℕ → ℕ → List Mapped
 data_pages number count = map (λ n. record { number = n; permission = 6 }) (range_with_len number count)
 
--- The page map of a setup: the image's pages, the input header at 0xC0000000, 256 pages of input, and 16 pages of stack for each of
--- 32 threads from 0xD0000000 on. (this project's own)
+-- The page map of a setup: the image's pages, the input header at 0xC0000000, 256 pages of input, and 16 pages of stack
+-- for each of 32 threads from 0xD0000000 on.
 unfoldable pub map_of : Setup → List Mapped
 map_of s = image_pages s.elf ++ data_pages 0xC0000 1 ++ data_pages 0xC0001 256 ++ data_pages 0xD0000 512
 
--- The input's header page: its length as a word, and zeros. (this project's own)
+-- The input's header page: its length as a word, and zeros.
 unfoldable pub header_page : List ℕ → List ℕ
 header_page input = to_le_bytes w32 (length input) ++ replicate 4092 0
 
--- A page of the input, zero past its end. (this project's own)
+-- A page of the input, zero past its end.
 unfoldable pub input_page : List ℕ → ℕ → List ℕ
 input_page input k = map (λ i. slice_index input i) (range_with_len (4096 * k) 4096)
 
--- The 256 pages of the input. (this project's own)
+-- The 256 pages of the input.
 unfoldable pub input_memory : List ℕ → Memory
 input_memory input = map (input_page input) (range_with_len 0 256)
 
--- The stacks, 16 pages for each of 32 threads. (this project's own)
+-- The stacks, 16 pages for each of 32 threads.
 unfoldable pub stack_memory : Memory
 stack_memory = replicate 512 zero_page
 
--- The memory that a setup starts with. (this project's own)
+-- The memory that a setup starts with.
 unfoldable pub start_memory : Setup → Memory
 start_memory s = image_memory s.elf ++ header_page s.input ∷ [] ++ input_memory s.input ++ stack_memory
 
--- The machine that a setup starts as: thread 0 alone, at the file's entry, with the address of the input header in a0. (this project's own)
+-- The machine that a setup starts as: thread 0 alone, at the file's entry, with the address of the input header in a0.
 unfoldable pub first : Setup → Machine
 first s =
     record {
@@ -70,17 +70,17 @@ first s =
       ending = None;
     }
 
--- The machine from scratch: after the steps of a schedule. (this project's own)
+-- The machine from scratch: after the steps of a schedule.
 abbrev pub scratch : Setup → List ℕ → Machine
 scratch s schedule = scratch_from (first s) schedule
 
--- Whether a schedule is permitted, and whether it is complete. (this project's own)
+-- Whether a schedule is permitted, and whether it is complete.
 abbrev pub is_permitted : Setup → List ℕ → Bool
 is_permitted s schedule = is_permitted_from (first s) schedule
 
 abbrev pub is_complete : Setup → List ℕ → Bool
 is_complete s schedule = is_complete_from (first s) schedule
 
--- The records of the entries of a schedule, in order. (this project's own)
+-- The records of the entries of a schedule, in order.
 abbrev pub records : Setup → List ℕ → List Record
 records s schedule = records_from (first s) schedule

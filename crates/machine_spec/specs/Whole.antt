@@ -8,7 +8,7 @@ use Rattle.machine_spec.specs.declared.states.Status.TheVariants.{Ready, Blocked
 use Rattle.machine_spec.specs.Limits.{AreLimits}
 use Rattle.machine_spec.specs.Machine.{Hart, Machine, hart_in, is_ready, is_blocked}
 
--- 1 for a thread that is blocked, and else 0. (this project's own)
+-- 1 for a thread that is blocked, and else 0.
 abbrev pub blocked_count : Status → ℕ
 blocked_count status = if is_blocked status then 1 else 0
 
@@ -18,20 +18,21 @@ ended_value Ready = None
 ended_value Blocked = None
 ended_value (Ended value) = Some value
 
--- Objects and harts agree: as many threads; who waits in a queue is Blocked, and no other; who has ended in the table has ended. (this project's own)
+-- Objects and harts agree: as many threads; who waits in a queue is Blocked, and no other; who has ended in the table
+-- has ended.
 pub record IsTied (o : Objects) (harts : List Hart) : Type 0 where
   pub threads : length o.threads ≡ length harts
   pub kept : IsKept o
   pub blocked : (u : ℕ) → waits_at o u ≡ blocked_count (hart_in harts u).status
   pub ended : (u : ℕ) → u < length harts → ended_at o u ≡ ended_value (hart_in harts u).status
 
--- A hart of a run: its view is a memory of the map, and it has made no more steps than the run. (this project's own)
+-- A hart of a run: its view is a memory of the map, and it has made no more steps than the run.
 pub record IsHartOf (map : List Mapped) (steps : ℕ) (h : Hart) : Type 0 where
   pub view : IsMemory map h.view
   pub number : h.number ≤ steps
 
--- Memory and harts are of the map and the run; objects and harts agree; fuel and limit are in range; and where there is no end, a thread is
--- ready and there are steps left. (this project's own)
+-- Memory and harts are of the map and the run; objects and harts agree; fuel and limit are in range; and where there is
+-- no end, a thread is ready and there are steps left.
 pub record IsWhole (m : Machine) : Type 0 where
   pub memory : IsMemory m.frame.map m.memory
   pub harts : AllByRecursion (IsHartOf m.frame.map m.steps) m.harts

@@ -3,9 +3,8 @@
 ghost use Rattle.std.specs.Prelude.{◌≡◌, ◌↔◌, IsTrue, is_some, IfSome};
 ghost use Rattle.machine_spec.specs.Limits.{AreLimits};
 
-use std::marker::Model;
-
 use crate::{MOST_FUEL, MOST_STEPS};
+use std::marker::Model;
 
 /// The limits of a run: the most turns of a thunk, and the most steps, each in its range.
 ///

@@ -9,11 +9,13 @@ use Rattle.memory_spec.specs.Workspace.{Masks, with_mark, marked, taken_at}
 -- code at 0x10000 to read and execute, a page at 0x11000 to read and write, and one at 0x20000 to read
 abbrev pub map : List Mapped
 map =
-    record { number = 0x10; permission = 5 } ∷ record { number = 0x11; permission = 6 } ∷ record { number = 0x20; permission = 4 } ∷ []
+    record { number = 0x10; permission = 5 } ∷ record { number = 0x11; permission = 6 }
+    ∷ record { number = 0x20; permission = 4 } ∷ []
 
 abbrev pub memory : Memory
 memory =
-    (0x37 ∷ 0x05 ∷ 0x01 ∷ 0x00 ∷ 0x13 ∷ 0x05 ∷ 0x05 ∷ 0x02 ∷ []) ∷ (0x80 ∷ 0x81 ∷ 0x82 ∷ 0x83 ∷ 0x84 ∷ []) ∷ (9 ∷ 8 ∷ 7 ∷ 6 ∷ []) ∷ []
+    (0x37 ∷ 0x05 ∷ 0x01 ∷ 0x00 ∷ 0x13 ∷ 0x05 ∷ 0x05 ∷ 0x02 ∷ []) ∷ (0x80 ∷ 0x81 ∷ 0x82 ∷ 0x83 ∷ 0x84 ∷ [])
+    ∷ (9 ∷ 8 ∷ 7 ∷ 6 ∷ []) ∷ []
 
 -- an address belongs to the page that its upper twenty bits number
 pub slot_of-first : slot_of map 0x10FFF ≡ 0
@@ -92,7 +94,8 @@ two_stores = record { address = 0x11001; byte = 1 } ∷ record { address = 0x110
 
 pub laid-in_order :
     laid map memory two_stores
-    ≡ (0x37 ∷ 0x05 ∷ 0x01 ∷ 0x00 ∷ 0x13 ∷ 0x05 ∷ 0x05 ∷ 0x02 ∷ []) ∷ (0x80 ∷ 2 ∷ 0x82 ∷ 0x83 ∷ 0x84 ∷ []) ∷ (9 ∷ 8 ∷ 7 ∷ 6 ∷ []) ∷ []
+    ≡ (0x37 ∷ 0x05 ∷ 0x01 ∷ 0x00 ∷ 0x13 ∷ 0x05 ∷ 0x05 ∷ 0x02 ∷ []) ∷ (0x80 ∷ 2 ∷ 0x82 ∷ 0x83 ∷ 0x84 ∷ [])
+    ∷ (9 ∷ 8 ∷ 7 ∷ 6 ∷ []) ∷ []
 unfolding with_byte
 laid-in_order = refl
 

@@ -14,17 +14,21 @@ pages-set [] k a b all = tt
 pages-set (p ∷ m) zero a b all = (length-set p a b ∙ all.0, all.1)
 pages-set (p ∷ m) (suc k) a b all = (all.0, pages-set m k a b all.1)
 
-pub IsMemory-with_byte : (map : List Mapped) (m : Memory) (s : StoredByte) → IsMemory map m → IsMemory map (with_byte map m s)
+pub IsMemory-with_byte :
+    (map : List Mapped) (m : Memory) (s : StoredByte) → IsMemory map m → IsMemory map (with_byte map m s)
 unfolding with_byte
 IsMemory-with_byte map m s whole =
     record {
-      count = length-set m (slot_of map s.address) (set (page_of m (slot_of map s.address)) (s.address % 4096) s.byte) ∙ whole.count;
+      count = length-set m (slot_of map s.address) (set (page_of m (slot_of map s.address)) (s.address % 4096) s.byte)
+          ∙ whole.count;
       pages =
-          All-from_recursion IsPage (set m (slot_of map s.address) (set (page_of m (slot_of map s.address)) (s.address % 4096) s.byte))
+          All-from_recursion IsPage
+          (set m (slot_of map s.address) (set (page_of m (slot_of map s.address)) (s.address % 4096) s.byte))
           (pages-set m (slot_of map s.address) (s.address % 4096) s.byte (recursion_from_All IsPage m whole.pages));
     }
 
 -- a memory is one after any stores
-pub IsMemory-laid : (map : List Mapped) (m : Memory) (stores : List StoredByte) → IsMemory map m → IsMemory map (laid map m stores)
+pub IsMemory-laid :
+    (map : List Mapped) (m : Memory) (stores : List StoredByte) → IsMemory map m → IsMemory map (laid map m stores)
 IsMemory-laid map m [] whole = whole
 IsMemory-laid map m (s ∷ stores) whole = IsMemory-laid map (with_byte map m s) stores (IsMemory-with_byte map m s whole)

@@ -28,7 +28,8 @@ unfoldable pub bytes_stored : ℕ → Size → ℕ → List StoredByte
 bytes_stored address One value = byte_stored address value 0 ∷ []
 bytes_stored address Two value = byte_stored address value 0 ∷ byte_stored address value 1 ∷ []
 bytes_stored address Four value =
-    byte_stored address value 0 ∷ byte_stored address value 1 ∷ byte_stored address value 2 ∷ byte_stored address value 3 ∷ []
+    byte_stored address value 0 ∷ byte_stored address value 1 ∷ byte_stored address value 2
+    ∷ byte_stored address value 3 ∷ []
 
 -- The number at an address. (RISC-V unprivileged ISA 20191213, 2.6)
 unfoldable pub number_at : List Mapped → Memory → ℕ → Size → ℕ

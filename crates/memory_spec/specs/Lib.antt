@@ -1,3 +1,4 @@
+-- The files of definitions of this crate.
 pub mod Pages
 pub mod Stores
 pub mod Access

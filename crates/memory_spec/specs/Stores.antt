@@ -7,12 +7,13 @@ pub record StoredByte : Type 0 where
   pub address : ℕ
   pub byte : ℕ
 
--- A memory after one stored byte; one at an address that isn't mapped changes nothing. (this project's own)
+-- A memory after one stored byte; one at an address that isn't mapped changes nothing.
 unfoldable pub with_byte : List Mapped → Memory → StoredByte → Memory
 with_byte map memory s =
-    slice_set memory (slot_of map s.address) (slice_set (page_of memory (slot_of map s.address)) (s.address % 4096) s.byte)
+    slice_set memory (slot_of map s.address)
+    (slice_set (page_of memory (slot_of map s.address)) (s.address % 4096) s.byte)
 
--- A memory after stores, made in their order. (this project's own)
+-- A memory after stores, made in their order.
 abbrev pub laid : List Mapped → Memory → List StoredByte → Memory
 laid map memory [] = memory
 laid map memory (s ∷ stores) = laid map (with_byte map memory s) stores

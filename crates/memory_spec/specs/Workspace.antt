@@ -8,34 +8,34 @@ use Rattle.memory_spec.specs.Pages.{Mapped, Memory, slot_of, on_each}
 use Rattle.memory_spec.specs.Stores.{StoredByte, laid}
 use Rattle.memory_spec.specs.Access.{bytes_stored, may_store}
 
--- For each slot, for each place of its page: was it stored to? (this project's own)
+-- For each slot, for each place of its page: was it stored to?
 abbrev pub Masks : Type 0
 Masks = List (List Bool)
 
--- No place of a page was stored to. (this project's own)
+-- No place of a page was stored to.
 unfoldable pub no_marks : List Bool
 no_marks = replicate 4096 false
 
--- The mask of the page in a slot. (this project's own)
+-- The mask of the page in a slot.
 abbrev pub mask_of : Masks → ℕ → List Bool
 mask_of masks slot = slice_index_or masks slot []
 
--- Masks after one stored byte. (this project's own)
+-- Masks after one stored byte.
 unfoldable pub with_mark : List Mapped → Masks → StoredByte → Masks
 with_mark map masks s =
     slice_set masks (slot_of map s.address) (slice_set (mask_of masks (slot_of map s.address)) (s.address % 4096) true)
 
--- Masks after stores. (this project's own)
+-- Masks after stores.
 abbrev pub marked : List Mapped → Masks → List StoredByte → Masks
 marked map masks [] = masks
 marked map masks (s ∷ stores) = marked map (with_mark map masks s) stores
 
--- The pages from which a byte was taken, by slot, after bytes at these addresses were taken too. (this project's own)
+-- The pages from which a byte was taken, by slot, after bytes at these addresses were taken too.
 abbrev pub taken_at : List Mapped → List Bool → List ℕ → List Bool
 taken_at map taken [] = taken
 taken_at map taken (address ∷ addresses) = taken_at map (slice_set taken (slot_of map address) true) addresses
 
--- The memory that a thread works on. (this project's own)
+-- The memory that a thread works on.
 pub record Workspace : Type 0 where
   pub map : List Mapped
   pub view : Memory
@@ -43,19 +43,20 @@ pub record Workspace : Type 0 where
   pub stored : Masks
   pub taken : List Bool
 
--- A workspace at the start of a thunk: nothing stored and nothing taken. (this project's own)
+-- A workspace at the start of a thunk: nothing stored and nothing taken.
 abbrev pub fresh : List Mapped → Memory → Workspace
-fresh map view = record { map = map; view = view; memory = view; stored = on_each no_marks map; taken = on_each false map }
+fresh map view =
+    record { map = map; view = view; memory = view; stored = on_each no_marks map; taken = on_each false map }
 
--- A workspace after bytes at these addresses were taken. (this project's own)
+-- A workspace after bytes at these addresses were taken.
 abbrev pub after_taking : Workspace → List ℕ → Workspace
 after_taking w addresses = record w { taken = taken_at w.map w.taken addresses }
 
--- A workspace after stores. (this project's own)
+-- A workspace after stores.
 abbrev pub after_storing : Workspace → List StoredByte → Workspace
 after_storing w stores = record w { memory = laid w.map w.memory stores; stored = marked w.map w.stored stores }
 
--- Nothing changed but the pages from which a byte was taken. (this project's own)
+-- Nothing changed but the pages from which a byte was taken.
 pub record OnlyTook (before after : Workspace) : Type 0 where
   pub map_is : after.map ≡ before.map
   pub view_is : after.view ≡ before.view
@@ -63,14 +64,14 @@ pub record OnlyTook (before after : Workspace) : Type 0 where
   pub stored_is : after.stored ≡ before.stored
 
 -- How a fetch or a load at an address ends, where `found` is what it finds: its value, and its page is taken;
--- or no access, where nothing is found, and nothing changed; or the host's memory ran out. (this project's own)
+-- or no access, where nothing is found, and nothing changed; or the host's memory ran out.
 abbrev pub Takes : Workspace → ℕ → Option ℕ → Result ℕ MemoryError → Workspace → Type 0
 Takes before address found (Ok value) after = (found ≡ Some value) × (after ≡ after_taking before (address ∷ []))
 Takes before address found (Err Access) after = (found ≡ None) × (after ≡ before)
 Takes before address found (Err NoMemory) after = OnlyTook before after
 
 -- How a store ends: its bytes are stored; or no access, where the page doesn't permit it, and nothing changed;
--- or the host's memory ran out, and nothing changed. (this project's own)
+-- or the host's memory ran out, and nothing changed.
 abbrev pub Stores : Workspace → ℕ → Size → ℕ → Result Unit MemoryError → Workspace → Type 0
 Stores before address size value (Ok done) after =
     (may_store before.map address ≡ true) × (after ≡ after_storing before (bytes_stored address size value))

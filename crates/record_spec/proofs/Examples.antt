@@ -13,7 +13,8 @@ use Rattle.record_spec.specs.Record.{Record, fits_at}
 -- two stores at 0x11001, one at 0x11003, in this order
 abbrev pub stores : List StoredByte
 stores =
-    record { address = 0x11001; byte = 5 } ∷ record { address = 0x11003; byte = 6 } ∷ record { address = 0x11001; byte = 7 } ∷ []
+    record { address = 0x11001; byte = 5 } ∷ record { address = 0x11003; byte = 6 }
+    ∷ record { address = 0x11001; byte = 7 } ∷ []
 
 abbrev pub clear : Masks
 clear = (false ∷ false ∷ false ∷ false ∷ []) ∷ (false ∷ false ∷ false ∷ false ∷ []) ∷ []

@@ -86,7 +86,8 @@ merged_all-laid map os ns ms [] h = refl
 merged_all-laid map os ns ms (s ∷ stores) h =
     merged_all-laid map os (with_byte map ns s) (with_mark map ms s) stores
     (shaped-set os ns ms (slot_of map s.address) (s.address % 4096) s.byte h)
-    ∙ ap (λ memory. laid map memory stores) (merged_all-set os ns ms (slot_of map s.address) (s.address % 4096) s.byte h)
+    ∙ ap (λ memory. laid map memory stores)
+    (merged_all-set os ns ms (slot_of map s.address) (s.address % 4096) s.byte h)
 
 -- with no mark, what is merged is the old page
 merged-none : (o n : List ℕ) (k : ℕ) → merged o n (replicate k false) ≡ o
@@ -99,7 +100,8 @@ merged-no_marks : (o n : List ℕ) → merged o n no_marks ≡ o
 unfolding no_marks
 merged-no_marks o n = merged-none o n 4096
 
-pub merged_all-no_marks : (map : List Mapped) (os : Memory) → merged_all os (on_each zero_page map) (on_each no_marks map) ≡ os
+pub merged_all-no_marks :
+    (map : List Mapped) (os : Memory) → merged_all os (on_each zero_page map) (on_each no_marks map) ≡ os
 merged_all-no_marks [] [] = refl
 merged_all-no_marks [] (o ∷ os) = refl
 merged_all-no_marks (page ∷ map) [] = refl
@@ -126,7 +128,9 @@ shaped-fresh_pages (page ∷ map) (o ∷ os) count whole =
     (length-zero_page ∙ sym whole.0, length-no_marks ∙ sym whole.0, shaped-fresh_pages map os (omega arith) whole.1)
 
 pub shaped-fresh :
-    (map : List Mapped) (memory : Memory) → IsMemory map memory → Shaped memory (on_each zero_page map) (on_each no_marks map)
+    (map :
+    List Mapped) (memory : Memory) → IsMemory map memory
+    → Shaped memory (on_each zero_page map) (on_each no_marks map)
 shaped-fresh map memory h =
     shaped-fresh_pages map memory h.count (recursion_from_All (λ (bytes : List ℕ). length bytes ≡ 4096) memory h.pages)
 
@@ -161,11 +165,19 @@ masked-cons (m ∷ ms) [] k o os = refl
 masked-cons (m ∷ ms) (n ∷ ns) k o os =
     elim (is_stored m)
     as (λ b.
-    masked (o ∷ os) (cond b (record { slot = suc k; mask = m; bytes = chosen m n } ∷ delta_from (suc (suc k)) ms ns) (delta_from (suc (suc k)) ms ns))
-    ≡ o ∷ masked os (cond b (record { slot = k; mask = m; bytes = chosen m n } ∷ delta_from (suc k) ms ns) (delta_from (suc k) ms ns)))
-    [ true ↦ masked-cons ms ns (suc k) o (set os k (spread m (chosen m n) (page_of os k))) | false ↦ masked-cons ms ns (suc k) o os ]
+    masked (o ∷ os)
+    (cond b (record { slot = suc k; mask = m; bytes = chosen m n } ∷ delta_from (suc (suc k)) ms ns)
+    (delta_from (suc (suc k)) ms ns))
+    ≡ o ∷ masked os
+    (cond b (record { slot = k; mask = m; bytes = chosen m n } ∷ delta_from (suc k) ms ns)
+    (delta_from (suc k) ms ns))) [
+      | true ↦ masked-cons ms ns (suc k) o (set os k (spread m (chosen m n) (page_of os k)))
+      | false ↦ masked-cons ms ns
+          (suc k) o os
+    ]
 
-pub masked-delta_from : (os ns : Memory) (ms : Masks) → Shaped os ns ms → masked os (delta_from 0 ms ns) ≡ merged_all os ns ms
+pub masked-delta_from :
+    (os ns : Memory) (ms : Masks) → Shaped os ns ms → masked os (delta_from 0 ms ns) ≡ merged_all os ns ms
 masked-delta_from [] [] [] h = refl
 masked-delta_from [] [] (m ∷ ms) h = absurd h
 masked-delta_from [] (n ∷ ns) ms h = absurd h
@@ -175,7 +187,8 @@ masked-delta_from (o ∷ os) (n ∷ ns) (m ∷ ms) h =
     elim (is_stored m)
     as (λ b.
     is_stored m ≡ b
-    → masked (o ∷ os) (cond b (record { slot = 0; mask = m; bytes = chosen m n } ∷ delta_from 1 ms ns) (delta_from 1 ms ns))
+    → masked (o ∷ os)
+    (cond b (record { slot = 0; mask = m; bytes = chosen m n } ∷ delta_from 1 ms ns) (delta_from 1 ms ns))
     ≡ merged o n m ∷ merged_all os ns ms) [
       | true ↦ λ stored.
           masked-cons ms ns 0 (spread m (chosen m n) o) os

@@ -104,7 +104,8 @@ agree-same map flags view other (a ∷ addresses) p q r same = (
     | inr past ↦
         page_of-past other (slot_of map a) (omega arith) ∙ sym (page_of-past view (slot_of map a) (omega arith))
   ],
-  agree-same map (set flags (slot_of map a) true) view other addresses (length-set flags (slot_of map a) true ∙ p) q r same,
+  agree-same map (set flags (slot_of map a) true) view other addresses
+      (length-set flags (slot_of map a) true ∙ p) q r same,
 )
 
 pub length-on_each : {A : Type 0} (a : A) (map : List Mapped) → length (on_each a map) ≡ length map
@@ -135,7 +136,8 @@ reads_of-same map view other addresses h =
 own-has : (flags : List Bool) (k : ℕ) (view : Memory) → has view (reads_from k flags view) ≡ true
 own-has [] k view = refl
 own-has (true ∷ flags) k view =
-    let here : bytes_eq (page_of view k) (page_of view k) ≡ true = (bytes_eq-Decides (page_of view k) (page_of view k)).1 refl in
+    let here : bytes_eq (page_of view k) (page_of view k) ≡ true =
+    (bytes_eq-Decides (page_of view k) (page_of view k)).1 refl in
     rw here (own-has flags (suc k) view)
 own-has (false ∷ flags) k view = own-has flags (suc k) view
 
@@ -167,7 +169,8 @@ IsTrue-kept f view r whole =
 thunk-put :
     (f : Frame) (view : Memory) (r : Registers)
     → (thunk f view r).put
-    ≡ bytes_at f.map (laid f.map view (thunk f view r).stores) (put_addresses f.map (thunk f view r).end (thunk f view r).regs)
+    ≡ bytes_at f.map (laid f.map view (thunk f view r).stores)
+    (put_addresses f.map (thunk f view r).end (thunk f view r).regs)
 unfolding thunk
 thunk-put f view r = refl
 

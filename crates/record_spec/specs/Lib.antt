@@ -1,3 +1,4 @@
+-- The files of definitions of this crate.
 pub mod Ascending
 pub mod Delta
 pub mod Reads

@@ -9,7 +9,7 @@ use Rattle.thunk_spec.specs.Thunk.{Frame, Thunk, thunk}
 use Rattle.record_spec.specs.Delta.{PageDelta, delta_of, masked}
 use Rattle.record_spec.specs.Reads.{ReadPage, reads_of, has}
 
--- What a record keeps of a thunk: its read pages, its stored bytes, its last registers, its end and its count of turns. (this project's own)
+-- What a record keeps of a thunk: its read pages, its stored bytes, its last registers, its end and its count of turns.
 pub record Kept : Type 0 where
   pub reads : List ReadPage
   pub delta : List PageDelta
@@ -17,36 +17,44 @@ pub record Kept : Type 0 where
   pub end : ThunkEnd
   pub count : ℕ
 
--- What is kept of a thunk that ran on a view. (this project's own)
+-- What is kept of a thunk that ran on a view.
 abbrev pub kept : List Mapped → Memory → Thunk → Kept
 kept map view t =
-    record { reads = reads_of map view t.taken; delta = delta_of map t.stores; finish = t.regs; end = t.end; count = t.count }
+    record {
+      reads = reads_of map view t.taken;
+      delta = delta_of map t.stores;
+      finish = t.regs;
+      end = t.end;
+      count = t.count;
+    }
 
--- What is kept of the thunk of these registers on this view. (this project's own)
+-- What is kept of the thunk of these registers on this view.
 unfoldable pub kept_thunk : Frame → Memory → Registers → Kept
 kept_thunk f view r = kept f.map view (thunk f view r)
 
--- The bytes that the put which ends a kept thunk appends. They aren't kept: they follow from the view and the stored bytes. (this project's own)
+-- The bytes that the put which ends a kept thunk appends. They aren't kept: they follow from the view and the stored
+-- bytes.
 unfoldable pub put_of : List Mapped → Memory → Kept → List ℕ
 put_of map view k = bytes_at map (masked view k.delta) (put_addresses map k.end k.finish)
 
--- A record: the thunk of a thread at a number of steps made, from its start registers on. (this project's own)
+-- A record: the thunk of a thread at a number of steps made, from its start registers on.
 pub record Record : Type 0 where
   pub thread : ℕ
   pub number : ℕ
   pub start : Registers
   pub kept : Kept
 
--- What is kept is true of these start registers: on every view that has the bytes of the read pages the thunk leaves exactly this. (this project's own)
+-- What is kept is true of these start registers: on every view that has the bytes of the read pages the thunk leaves
+-- exactly this.
 pub record IsTrue (f : Frame) (start : Registers) (k : Kept) : Type 0 where
   pub same : (view : Memory) → IsMemory f.map view → has view k.reads ≡ true → kept_thunk f view start ≡ k
 
--- Whether a record fits a thread that has made so many steps, with these registers and this view. (this project's own)
+-- Whether a record fits a thread that has made so many steps, with these registers and this view.
 unfoldable pub fits_at : Record → ℕ → Registers → Memory → Bool
 fits_at r number regs view = (r.number == number) && same_registers r.start regs && has view r.kept.reads
 
--- What is kept stands for the thunk of these registers on this view: written into a memory, its stored bytes leave what the thunk's
--- stores leave; registers, end and count are the thunk's; and so are the bytes of its put. (this project's own)
+-- What is kept stands for the thunk of these registers on this view: written into a memory, its stored bytes leave what
+-- the thunk's stores leave; registers, end and count are the thunk's; and so are the bytes of its put.
 pub record StandsFor (f : Frame) (view memory : Memory) (start : Registers) (k : Kept) : Type 0 where
   pub memory_is : masked memory k.delta ≡ laid f.map memory (thunk f view start).stores
   pub finish_is : k.finish ≡ (thunk f view start).regs

@@ -1,4 +1,5 @@
--- Worked examples, each computed by the checker; the digest is left as it is. The lines are those that the formats prescribe.
+-- Worked examples, each computed by the checker; the digest is left as it is. The lines are those that the report's
+-- format prescribes.
 use Rattle.std.proofs.Common.{◌≡◌, ℕ, Bool, true, false, List, [], ◌∷◌, ◌++◌, Option, Some, None, refl}
 use Rattle.std.specs.Prelude.{codes}
 use Rattle.std.specs.Fmt.{digits}
@@ -45,7 +46,14 @@ end_text-deadlock = refl
 pub report_lines-hi :
     (memory : Memory)
     → report_lines 0
-    (record { ending = Some (Exit 0); schedule = executed 0 ∷ executed 0 ∷ []; instructions = 8; shares = 2 ∷ []; memory = memory; output = 0x68 ∷ 0x69 ∷ 0x0A ∷ [] })
+    (record {
+      ending = Some (Exit 0);
+      schedule = executed 0 ∷ executed 0 ∷ [];
+      instructions = 8;
+      shares = 2 ∷ [];
+      memory = memory;
+      output = 0x68 ∷ 0x69 ∷ 0x0A ∷ [];
+    })
     ≡ (codes "round 0" ++ newline)
     ∷ (codes "end exit 0" ++ newline)
     ∷ (codes "steps 2" ++ newline)
@@ -64,7 +72,14 @@ report_lines-hi memory = refl
 pub report_lines-reused :
     (memory : Memory)
     → report_lines 12
-    (record { ending = Some Spent; schedule = reused 0 ∷ executed 31 ∷ []; instructions = 7; shares = 1 ∷ 0 ∷ 0 ∷ 1 ∷ []; memory = memory; output = [] })
+    (record {
+      ending = Some Spent;
+      schedule = reused 0 ∷ executed 31 ∷ [];
+      instructions = 7;
+      shares = 1 ∷ 0 ∷ 0 ∷ 1 ∷ [];
+      memory = memory;
+      output = [];
+    })
     ≡ (codes "round 12" ++ newline)
     ∷ (codes "end spent" ++ newline)
     ∷ (codes "steps 2" ++ newline)
@@ -79,11 +94,13 @@ pub report_lines-reused :
 unfolding digits
 report_lines-reused memory = refl
 
--- The ECALL counts as an instruction: five and three. A reused entry counts none.
+-- The ECALL's turn counts too: five and three. A reused entry counts none.
 pub instructions-hi : instructions_from (begins 9 9 hi) (executed 0 ∷ executed 0 ∷ []) ≡ 8
-unfolding step finished thunk turn fetched number_at number_in permission_at decoded reading_of u_immediate i_immediate immediate_result with_register is_readable put_addresses first_registers all_unlocked
+unfolding step finished thunk turn fetched number_at number_in permission_at decoded reading_of u_immediate i_immediate
+    immediate_result with_register is_readable put_addresses first_registers all_unlocked
 instructions-hi = refl
 
 pub instructions-reused : instructions_from (begins 9 9 hi) (reused 0 ∷ executed 0 ∷ []) ≡ 3
-unfolding step finished thunk turn fetched number_at number_in permission_at decoded reading_of u_immediate i_immediate immediate_result with_register is_readable put_addresses first_registers all_unlocked
+unfolding step finished thunk turn fetched number_at number_in permission_at decoded reading_of u_immediate i_immediate
+    immediate_result with_register is_readable put_addresses first_registers all_unlocked
 instructions-reused = refl

@@ -1,4 +1,5 @@
--- The report of a round, as a function of the round's number, its setup, its schedule with marks, and the workers' shares.
+-- The report of a round, as a function of the round's number, its setup, its schedule with marks, and the workers'
+-- shares.
 use Rattle.std.specs.Prelude.{ℕ, ◌+◌, Bool, true, false, not, if◌then◌else◌, List, [], ◌∷◌, ◌++◌, length, map, codes, count_by, Option, Some, None}
 use Rattle.std.specs.List.{concat}
 use Rattle.std.specs.Fmt.{decimal}
@@ -15,34 +16,35 @@ use Rattle.machine_spec.specs.Setup.{Setup, first, scratch}
 use Rattle.report_spec.specs.declared.Entry.{Entry}
 use Rattle.report_spec.specs.Text.{space, newline, hex8, line, list_line}
 
--- An end in words. (this project's own)
+-- An end in words.
 abbrev pub end_text : End → List ℕ
 end_text (Exit code) = codes "exit " ++ decimal code
-end_text (Trap thread pc cause) = codes "trap " ++ decimal thread ++ space ++ hex8 pc ++ space ++ decimal (number_of cause)
+end_text (Trap thread pc cause) =
+    codes "trap " ++ decimal thread ++ space ++ hex8 pc ++ space ++ decimal (number_of cause)
 end_text Deadlock = codes "deadlock"
 end_text Spent = codes "spent"
 
--- The end that there is; a complete schedule has one. (this project's own)
+-- The end that there is; a complete schedule has one.
 abbrev pub ending_text : Option End → List ℕ
 ending_text (Some e) = end_text e
 ending_text None = []
 
--- An entry of the schedule: its thread, and the mark of a reused or of an executed step. (this project's own)
+-- An entry of the schedule: its thread, and the mark of a reused or of an executed step.
 abbrev pub entry_text : Entry → List ℕ
 entry_text e = decimal e.thread ++ (if e.reused then codes "=" else codes "+")
 
--- The threads of a schedule with marks. (this project's own)
+-- The threads of a schedule with marks.
 abbrev pub threads_of : List Entry → List ℕ
 threads_of schedule = map (λ (e : Entry). e.thread) schedule
 
--- How many instructions the executed entries of a schedule made, from a machine on. (this project's own)
+-- How many turns the executed entries of a schedule make, from a machine on; the report calls them instructions.
 abbrev pub instructions_from : Machine → List Entry → ℕ
 instructions_from m [] = 0
 instructions_from m (e ∷ schedule) =
     (if e.reused then 0 else (thunk m.frame (hart_of m e.thread).view (hart_of m e.thread).regs).count)
     + instructions_from (step m e.thread) schedule
 
--- What a report tells of a round. (this project's own)
+-- What a report tells of a round.
 pub record Told : Type 0 where
   pub ending : Option End
   pub schedule : List Entry
@@ -51,7 +53,7 @@ pub record Told : Type 0 where
   pub memory : Memory
   pub output : List ℕ
 
--- What there is to tell of the machine from scratch under a schedule. (this project's own)
+-- What there is to tell of the machine from scratch under a schedule.
 abbrev pub told_of : Setup → List Entry → List ℕ → Told
 told_of setup schedule shares =
     record {
@@ -63,7 +65,7 @@ told_of setup schedule shares =
       output = (scratch setup (threads_of schedule)).output;
     }
 
--- How many entries were reused, and how many executed. (this project's own)
+-- How many entries were reused, and how many executed.
 abbrev pub reused_count : List Entry → ℕ
 reused_count schedule = count_by (λ (e : Entry). e.reused) schedule
 
@@ -74,7 +76,7 @@ executed_count schedule = count_by (λ (e : Entry). not e.reused) schedule
 unfoldable pub memory_digest : Memory → List ℕ
 memory_digest memory = encode_lower (sha256 (concat memory))
 
--- The lines of the report of round n. (this project's own)
+-- The lines of the report of round n.
 abbrev pub report_lines : ℕ → Told → List (List ℕ)
 report_lines n t =
     line (codes "round") (decimal n)
@@ -89,10 +91,10 @@ report_lines n t =
     ∷ line (codes "output") (decimal (length t.output))
     ∷ []
 
--- The report of round n: its lines, the output's bytes, and a line's end. (this project's own)
+-- The report of round n: its lines, the output's bytes, and a line's end.
 unfoldable pub report_text : ℕ → Told → List ℕ
 report_text n t = concat (report_lines n t) ++ t.output ++ newline
 
--- The report of round n of a setup, whose schedule has these entries and whose workers had these shares. (this project's own)
+-- The report of round n of a setup, whose schedule has these entries and whose workers had these shares.
 unfoldable pub report : ℕ → Setup → List Entry → List ℕ → List ℕ
 report n setup schedule shares = report_text n (told_of setup schedule shares)

@@ -12,14 +12,14 @@ space = 32 ∷ []
 abbrev pub newline : List ℕ
 newline = 10 ∷ []
 
--- A word as eight lower-case hexadecimal digits. (this project's own)
+-- A word as eight lower-case hexadecimal digits.
 abbrev pub hex8 : ℕ → List ℕ
 hex8 n = encode_lower (to_be_bytes w32 n)
 
--- A line: a name, a space, and what stands there. (this project's own)
+-- A line: a name, a space, and what stands there.
 abbrev pub line : List ℕ → List ℕ → List ℕ
 line name text = name ++ space ++ text ++ newline
 
--- A line of things: the name, and each of them after one space. (this project's own)
+-- A line of things: the name, and each of them after one space.
 abbrev pub list_line : {A : Type 0} → List ℕ → (A → List ℕ) → List A → List ℕ
 list_line name text things = name ++ flat_map (λ thing. space ++ text thing) things ++ newline

@@ -16,16 +16,21 @@ use Rattle.thunk_spec.proofs.Guests.{map, frame_of, start, scratch_page}
 -- lui a0,0x11; addi t0,x0,65; sb t0,0(a0); addi a1,x0,2; addi a7,x0,1; ecall
 abbrev pub stores_and_puts : Memory
 stores_and_puts =
-    (0x37 ∷ 0x15 ∷ 0x01 ∷ 0x00 ∷ 0x93 ∷ 0x02 ∷ 0x10 ∷ 0x04 ∷ 0x23 ∷ 0x00 ∷ 0x55 ∷ 0x00 ∷ 0x93 ∷ 0x05 ∷ 0x20 ∷ 0x00 ∷ 0x93 ∷ 0x08 ∷ 0x10 ∷ 0x00 ∷ 0x73 ∷ 0x00 ∷ 0x00 ∷ 0x00 ∷ [])
+    (0x37 ∷ 0x15 ∷ 0x01 ∷ 0x00 ∷ 0x93 ∷ 0x02 ∷ 0x10 ∷ 0x04 ∷ 0x23 ∷ 0x00 ∷ 0x55 ∷ 0x00 ∷ 0x93 ∷ 0x05 ∷ 0x20 ∷ 0x00
+    ∷ 0x93 ∷ 0x08 ∷ 0x10 ∷ 0x00 ∷ 0x73 ∷ 0x00 ∷ 0x00 ∷ 0x00 ∷ [])
     ∷ scratch_page ∷ []
 
 -- A put takes the thread's own store where there is one, and else the view's byte; both addresses count as taken.
 pub put-own_store : (thunk (frame_of 9) stores_and_puts (start 0 0)).put ≡ 65 ∷ 0xFF ∷ []
-unfolding thunk turn fetched number_at number_in permission_at decoded reading_of u_immediate i_immediate s_immediate immediate_result with_register is_readable put_addresses may_store bytes_stored with_byte
+unfolding thunk turn fetched number_at number_in permission_at decoded reading_of u_immediate i_immediate s_immediate
+    immediate_result with_register is_readable put_addresses may_store bytes_stored with_byte
 put-own_store = refl
 
-pub put-own_store_taken : (thunk (frame_of 9) stores_and_puts (start 0 0)).taken ≡ 0x10000 ∷ 0x10004 ∷ 0x10008 ∷ 0x1000C ∷ 0x10010 ∷ 0x10014 ∷ 0x11000 ∷ 0x11001 ∷ []
-unfolding thunk turn fetched number_at number_in permission_at decoded reading_of u_immediate i_immediate s_immediate immediate_result with_register is_readable put_addresses may_store bytes_stored with_byte
+pub put-own_store_taken :
+    (thunk (frame_of 9) stores_and_puts (start 0 0)).taken ≡ 0x10000 ∷ 0x10004 ∷ 0x10008 ∷ 0x1000C ∷ 0x10010 ∷ 0x10014
+    ∷ 0x11000 ∷ 0x11001 ∷ []
+unfolding thunk turn fetched number_at number_in permission_at decoded reading_of u_immediate i_immediate s_immediate
+    immediate_result with_register is_readable put_addresses may_store bytes_stored with_byte
 put-own_store_taken = refl
 
 -- Four bytes that lie on two pages are all taken.
@@ -58,11 +63,14 @@ put-no_read = refl
 -- lui a0,0x11; addi t0,x0,65; sb t0,0(a0); addi t0,x0,66; sb t0,0(a0)
 abbrev pub stores_twice : Memory
 stores_twice =
-    (0x37 ∷ 0x15 ∷ 0x01 ∷ 0x00 ∷ 0x93 ∷ 0x02 ∷ 0x10 ∷ 0x04 ∷ 0x23 ∷ 0x00 ∷ 0x55 ∷ 0x00 ∷ 0x93 ∷ 0x02 ∷ 0x20 ∷ 0x04 ∷ 0x23 ∷ 0x00 ∷ 0x55 ∷ 0x00 ∷ [])
+    (0x37 ∷ 0x15 ∷ 0x01 ∷ 0x00 ∷ 0x93 ∷ 0x02 ∷ 0x10 ∷ 0x04 ∷ 0x23 ∷ 0x00 ∷ 0x55 ∷ 0x00 ∷ 0x93 ∷ 0x02 ∷ 0x20 ∷ 0x04
+    ∷ 0x23 ∷ 0x00 ∷ 0x55 ∷ 0x00 ∷ [])
     ∷ scratch_page ∷ []
 
 -- The stores of a thunk stand in the order in which they were made.
 pub stores-in_order :
-    (thunk (frame_of 5) stores_twice (start 0 0)).stores ≡ record { address = 0x11000; byte = 65 } ∷ record { address = 0x11000; byte = 66 } ∷ []
-unfolding thunk turn fetched number_at number_in permission_at decoded reading_of u_immediate i_immediate s_immediate immediate_result with_register is_readable put_addresses may_store bytes_stored with_byte
+    (thunk (frame_of 5) stores_twice (start 0 0)).stores ≡ record { address = 0x11000; byte = 65 }
+    ∷ record { address = 0x11000; byte = 66 } ∷ []
+unfolding thunk turn fetched number_at number_in permission_at decoded reading_of u_immediate i_immediate s_immediate
+    immediate_result with_register is_readable put_addresses may_store bytes_stored with_byte
 stores-in_order = refl

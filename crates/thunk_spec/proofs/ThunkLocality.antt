@@ -69,7 +69,9 @@ agree-back map view other (x ∷ xs) ys agree = agree-back map view other xs ys 
 
 -- a turn takes bytes of its own pages first, so where the thunk agrees the turn does
 agree-turn :
-    (map : List Mapped) (view other : Memory) (o : Outcome) (memory : Memory) (t : Turn) (rest : Memory → Registers → Thunk)
+    (map :
+    List Mapped) (view other : Memory) (o : Outcome) (memory : Memory) (t : Turn)
+    (rest : Memory → Registers → Thunk)
     → Agree map view other (followed o map memory t rest).taken → Agree map view other t.taken
 agree-turn map view other outcome.Next memory t rest agree =
     agree-front map view other t.taken (rest (laid map memory t.stores) t.regs).taken agree
@@ -98,7 +100,8 @@ turns-same map (suc fuel) view other r agree =
     let first : Agree map view other (turn map view r).taken =
     agree-turn map view other (turn map view r).outcome view (turn map view r) (turns map fuel) agree in
     let same : turn map other r ≡ turn map view r = turn-same map view other r first in
-    rw same (followed-same map view other (turn map view r).outcome (turn map view r) (turns map fuel) (turns-same map fuel) agree)
+    rw same (followed-same map view other (turn map view r).outcome (turn map view r) (turns map fuel)
+    (turns-same map fuel) agree)
 
 pub bytes_at-same :
     (map : List Mapped) (view other : Memory) (addresses : List ℕ)

@@ -26,7 +26,8 @@ number_at-same map view other address size same = rw same refl
 -- a load that finds its bytes, or that may not, is the same
 load_found-same :
     (map : List Mapped) (view other : Memory) (r : Registers) (kind : Load) (rd address : ℕ) (b : Bool)
-    → Agree map view other (load_found r kind rd address (cond b (Some (number_at map view address (load_size kind))) None)).taken
+    → Agree map view other
+    (load_found r kind rd address (cond b (Some (number_at map view address (load_size kind))) None)).taken
     → load_found r kind rd address (cond b (Some (number_at map other address (load_size kind))) None)
     ≡ load_found r kind rd address (cond b (Some (number_at map view address (load_size kind))) None)
 load_found-same map view other r kind rd address true agree =
@@ -42,10 +43,16 @@ load_turn-same map view other r kind rd address =
     elim (eqb (address % byte_count (load_size kind)) 0)
     as (λ b.
     Agree map view other
-    (cond b (load_found r kind rd address (loaded map view address (load_size kind))) (stopped (Trap LoadMisaligned) r)).taken
-    → cond b (load_found r kind rd address (loaded map other address (load_size kind))) (stopped (Trap LoadMisaligned) r)
-    ≡ cond b (load_found r kind rd address (loaded map view address (load_size kind))) (stopped (Trap LoadMisaligned) r))
-    [ true ↦ load_found-same map view other r kind rd address (allows read_right (permission_at map address)) | false ↦ λ _. refl ]
+    (cond b (load_found r kind rd address (loaded map view address (load_size kind)))
+    (stopped (Trap LoadMisaligned) r)).taken
+    → cond b (load_found r kind rd address (loaded map other address (load_size kind)))
+    (stopped (Trap LoadMisaligned) r)
+    ≡ cond b (load_found r kind rd address (loaded map view address (load_size kind)))
+    (stopped (Trap LoadMisaligned) r)) [
+      | true ↦ load_found-same map view other r kind rd address
+          (allows read_right (permission_at map address))
+      | false ↦ λ _. refl
+    ]
 
 -- only a load looks at the memory
 executed-same :
@@ -82,7 +89,8 @@ unfolding turn fetched
 turn-same map view other r =
     elim (eqb (r.pc % 4) 0)
     as (λ b.
-    Agree map view other (cond b (fetch_found map view r (fetched map view r.pc)) (stopped (Trap InstructionMisaligned) r)).taken
+    Agree map view other
+    (cond b (fetch_found map view r (fetched map view r.pc)) (stopped (Trap InstructionMisaligned) r)).taken
     → cond b (fetch_found map other r (fetched map other r.pc)) (stopped (Trap InstructionMisaligned) r)
     ≡ cond b (fetch_found map view r (fetched map view r.pc)) (stopped (Trap InstructionMisaligned) r))
     [ true ↦ fetch_found-same map view other r (allows execute_right (permission_at map r.pc)) | false ↦ λ _. refl ]

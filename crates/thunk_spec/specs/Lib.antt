@@ -1,3 +1,4 @@
+-- The files of definitions of this crate.
 pub mod Turn
 pub mod Put
 pub mod Thunk

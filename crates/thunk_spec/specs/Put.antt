@@ -10,30 +10,32 @@ use Rattle.guest_call.specs.Objects.{appends}
 use Rattle.thunk_spec.specs.declared.ends.ThunkEnd.{ThunkEnd}
 use Rattle.thunk_spec.specs.declared.ends.ThunkEnd.TheVariants as thunk_end
 
--- The call that an ECALL at these registers asks for: its number stands in a7, its arguments in a0 and a1. (this project's own)
+-- The call that an ECALL at these registers asks for: its number stands in a7, its arguments in a0 and a1.
 abbrev pub call_at : Registers → Option Call
 call_at r = call_of (register r 17) (register r 10) (register r 11)
 
--- Whether each of so many bytes from an address on may be read. (this project's own)
+-- Whether each of so many bytes from an address on may be read.
 unfoldable pub is_readable : List Mapped → ℕ → ℕ → Bool
-is_readable pages address count = list_all (λ a. allows read_right (permission_at pages a)) (range_with_len address count)
+is_readable pages address count =
+    list_all (λ a. allows read_right (permission_at pages a)) (range_with_len address count)
 
--- The addresses of the bytes that a call appends to the output: all of a put that appends its bytes, and none else. (POSIX.1-2017, write)
+-- The addresses of the bytes that a call appends to the output: all of a put that appends its bytes, and none else.
+-- (POSIX.1-2017, write)
 abbrev pub appended_by : List Mapped → Option Call → List ℕ
 appended_by pages (Some (Put address count)) =
     if appends (is_readable pages) address count then range_with_len address count else []
 appended_by pages _ = []
 
--- The addresses of the bytes that a thunk with this end and these registers appends. (this project's own)
+-- The addresses of the bytes that a thunk with this end and these registers appends.
 unfoldable pub put_addresses : List Mapped → ThunkEnd → Registers → List ℕ
 put_addresses pages thunk_end.Call r = appended_by pages (call_at r)
 put_addresses pages (thunk_end.Trap cause) r = []
 put_addresses pages thunk_end.Fuel r = []
 
--- The byte at an address. (this project's own)
+-- The byte at an address.
 abbrev pub byte_at : List Mapped → Memory → ℕ → ℕ
 byte_at pages memory address = slice_index_or (page_of memory (slot_of pages address)) (address % 4096) 0
 
--- The bytes at addresses. (this project's own)
+-- The bytes at addresses.
 abbrev pub bytes_at : List Mapped → Memory → List ℕ → List ℕ
 bytes_at pages memory addresses = map (byte_at pages memory) addresses

@@ -10,13 +10,14 @@ use Rattle.thunk_spec.specs.declared.ends.ThunkEnd.TheVariants as thunk_end
 use Rattle.thunk_spec.specs.Turn.{Turn, turn}
 use Rattle.thunk_spec.specs.Put.{put_addresses, bytes_at}
 
--- What every thunk of a run depends on beside its registers and its view: the page map, and the most turns of one thunk. (this project's own)
+-- What every thunk of a run depends on beside its registers and its view: the page map, and the most turns of one
+-- thunk.
 pub record Frame : Type 0 where
   pub map : List Mapped
   pub fuel : ℕ
 
--- What a thunk does: its last registers, how it ends, how many turns it made, an address in each page that it took a byte from,
--- its stores in order, and the bytes that the put which ends it appends. (this project's own)
+-- What a thunk does: its last registers, how it ends, how many turns it made, an address in each page that it took a
+-- byte from, its stores in order, and the bytes that the put which ends it appends.
 pub record Thunk : Type 0 where
   pub regs : Registers
   pub end : ThunkEnd
@@ -25,30 +26,31 @@ pub record Thunk : Type 0 where
   pub stores : List StoredByte
   pub put : List ℕ
 
--- A thunk of no turn. (this project's own)
+-- A thunk of no turn.
 abbrev pub no_turn : Registers → Thunk
 no_turn r = record { regs = r; end = thunk_end.Fuel; count = 0; taken = []; stores = []; put = [] }
 
--- A thunk of one turn that ended it. (this project's own)
+-- A thunk of one turn that ended it.
 abbrev pub last_turn : ThunkEnd → Turn → Thunk
 last_turn end t = record { regs = t.regs; end = end; count = 1; taken = t.taken; stores = t.stores; put = [] }
 
--- A turn and then the rest of its thunk. (this project's own)
+-- A turn and then the rest of its thunk.
 abbrev pub after_turn : Turn → Thunk → Thunk
-after_turn t rest = record rest { count = suc rest.count; taken = t.taken ++ rest.taken; stores = t.stores ++ rest.stores }
+after_turn t rest =
+    record rest { count = suc rest.count; taken = t.taken ++ rest.taken; stores = t.stores ++ rest.stores }
 
--- A turn that ended so, and where it leads on the rest, which begins with the turn's stores laid and its registers. (this project's own)
+-- A turn that ended so, and where it leads on the rest, which begins with the turn's stores laid and its registers.
 abbrev pub followed : Outcome → List Mapped → Memory → Turn → (Memory → Registers → Thunk) → Thunk
 followed outcome.Next map memory t rest = after_turn t (rest (laid map memory t.stores) t.regs)
 followed outcome.Call map memory t rest = last_turn thunk_end.Call t
 followed (outcome.Trap cause) map memory t rest = last_turn (thunk_end.Trap cause) t
 
--- Turns up to the first that calls or traps, or as many as the fuel allows. (this project's own)
+-- Turns up to the first that calls or traps, or as many as the fuel allows.
 abbrev pub turns : List Mapped → ℕ → Memory → Registers → Thunk
 turns map zero memory r = no_turn r
 turns map (suc fuel) memory r = followed (turn map memory r).outcome map memory (turn map memory r) (turns map fuel)
 
--- Turns and the put that ends them, which takes its bytes where the thread's own loads would. (this project's own)
+-- Turns and the put that ends them, which takes its bytes where the thread's own loads would.
 abbrev pub with_put : List Mapped → Memory → Thunk → Thunk
 with_put map view t =
     record t {
@@ -56,6 +58,6 @@ with_put map view t =
       put = bytes_at map (laid map view t.stores) (put_addresses map t.end t.regs);
     }
 
--- The thunk of these registers on this view. (this project's own)
+-- The thunk of these registers on this view.
 unfoldable pub thunk : Frame → Memory → Registers → Thunk
 thunk f view r = with_put f.map view (turns f.map f.fuel view r)

@@ -1,4 +1,4 @@
-//! A turn of one instruction and a thunk of many, as definitions, and the law that both depend on
+//! A turn of a hart and a thunk of many turns, as definitions, and the law that both depend on
 //! the pages that they took bytes from and on nothing else of the view. No code but two plain types.
 #![tactic(auto)]
 

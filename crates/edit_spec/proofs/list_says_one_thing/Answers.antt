@@ -1,3 +1,4 @@
+-- The law is a lemma.
 use Rattle.edit_spec.specs.Grammar.{lines}
 use Rattle.edit_spec.proofs.Saying.{one_thing}
 use Rattle.edit_spec.proofs.list_says_one_thing.Goals as goal

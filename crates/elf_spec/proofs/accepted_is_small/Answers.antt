@@ -1,3 +1,4 @@
+-- The laws are lemmas.
 use Rattle.std.proofs.lemmas.List.{length-map}
 use Rattle.elf_spec.specs.Image.{image_pages, entry_of}
 use Rattle.elf_spec.proofs.Rows.{few_pages, sound_start}

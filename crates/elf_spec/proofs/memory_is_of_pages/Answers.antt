@@ -1,3 +1,4 @@
+-- The law is a lemma.
 use Rattle.elf_spec.proofs.ImageMemory.{IsMemory-image}
 use Rattle.elf_spec.proofs.memory_is_of_pages.Goals as goal
 

@@ -1,3 +1,4 @@
+-- The law is a lemma.
 use Rattle.guest_call.proofs.Kept.{act_creates}
 use Rattle.guest_call.proofs.act_creates.Goals as goal
 

@@ -1,3 +1,4 @@
+-- The law is a lemma.
 use Rattle.guest_call.proofs.Local.{act_local}
 use Rattle.guest_call.proofs.act_is_local.Goals as goal
 

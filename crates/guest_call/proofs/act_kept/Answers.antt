@@ -1,3 +1,4 @@
+-- The law is a lemma.
 use Rattle.guest_call.proofs.Kept.{act_kept}
 use Rattle.guest_call.proofs.act_kept.Goals as goal
 

@@ -82,17 +82,20 @@ unfolding register_result
 a_shift_right_fills_with_zeros = refl
 
 -- sra 80000001 00000021 c0000000
-pub an_arithmetic_shift_by_33_is_by_one : register_result register.ShiftRightArithmetic 0x80000001 0x00000021 ≡ 0xc0000000
+pub an_arithmetic_shift_by_33_is_by_one :
+    register_result register.ShiftRightArithmetic 0x80000001 0x00000021 ≡ 0xc0000000
 unfolding register_result
 an_arithmetic_shift_by_33_is_by_one = refl
 
 -- sra 80000001 0000001e fffffffe
-pub an_arithmetic_shift_fills_with_the_sign : register_result register.ShiftRightArithmetic 0x80000001 0x0000001e ≡ 0xfffffffe
+pub an_arithmetic_shift_fills_with_the_sign :
+    register_result register.ShiftRightArithmetic 0x80000001 0x0000001e ≡ 0xfffffffe
 unfolding register_result
 an_arithmetic_shift_fills_with_the_sign = refl
 
 -- sra 7fffffff 00000010 00007fff
-pub an_arithmetic_shift_of_a_positive_word : register_result register.ShiftRightArithmetic 0x7fffffff 0x00000010 ≡ 0x00007fff
+pub an_arithmetic_shift_of_a_positive_word :
+    register_result register.ShiftRightArithmetic 0x7fffffff 0x00000010 ≡ 0x00007fff
 unfolding register_result
 an_arithmetic_shift_of_a_positive_word = refl
 
@@ -127,7 +130,8 @@ unfolding immediate_result
 slti_of_the_least_word = refl
 
 -- sltiu 7fffffff fffff800 00000001
-pub sltiu_reads_the_extended_immediate_unsigned : immediate_result immediate.LessUnsigned 0x7fffffff 0xfffff800 ≡ 0x00000001
+pub sltiu_reads_the_extended_immediate_unsigned :
+    immediate_result immediate.LessUnsigned 0x7fffffff 0xfffff800 ≡ 0x00000001
 unfolding immediate_result
 sltiu_reads_the_extended_immediate_unsigned = refl
 

@@ -1,3 +1,4 @@
+-- The laws are lemmas.
 use Rattle.machine_spec.proofs.Alone.{alone-permitted, alone-complete}
 use Rattle.machine_spec.proofs.alone_leads_to_an_end.Goals as goal
 

@@ -1,3 +1,4 @@
+-- The law is a lemma.
 use Rattle.machine_spec.proofs.Steps.{lay-step}
 use Rattle.machine_spec.proofs.lay_is_step.Goals as goal
 

@@ -1,3 +1,4 @@
+-- The law is a lemma.
 use Rattle.machine_spec.proofs.Beginning.{ascends-map_of}
 use Rattle.machine_spec.proofs.map_ascends.Goals as goal
 

@@ -1,3 +1,4 @@
+-- The law is a lemma.
 use Rattle.memory_spec.proofs.Laid.{IsMemory-laid}
 use Rattle.memory_spec.proofs.stores_keep_the_shape.Goals as goal
 

@@ -1,3 +1,4 @@
+-- The law is a lemma.
 use Rattle.record_spec.proofs.Truth.{has-kept}
 use Rattle.record_spec.proofs.view_has_its_reads.Goals as goal
 
