@@ -1,8 +1,10 @@
 -- What a ready thread's call may count on.
 use Rattle.std.proofs.Common.{◌≡◌, ◌<◌, ◌≤◌, ◌+◌, ℕ, Bool, true, List, length, ◌∙◌, arith}
 use Rattle.guest_call.specs.declared.Call.{Call}
+use Rattle.guest_call.specs.declared.thread_number.TheConstants.{THREADS}
 use Rattle.guest_call.specs.Objects.{Objects, act, waits_at, created_count}
 use Rattle.guest_call.proofs.Kept.{act_creates, act_kept}
+use Rattle.machine_spec.specs.declared.TheConstants.{MOST_STEPS}
 use Rattle.machine_spec.specs.Machine.{Hart, Machine, hart_in, is_ready}
 use Rattle.machine_spec.specs.Whole.{IsTied, IsWhole}
 use Rattle.machine_spec.proofs.Harts.{ready-below, blocked_count-ready}
@@ -23,7 +25,7 @@ free o hs t tied ready = tied.blocked t ∙ blocked_count-ready (hart_in hs t).s
 pub few :
     (readable : ℕ → ℕ → Bool) (o : Objects) (hs : List Hart) (t : ℕ) (call : Call)
     → IsTied o hs → is_ready (hart_in hs t).status ≡ true
-    → length hs + created_count (act readable o t call).0.created ≤ 32
+    → length hs + created_count (act readable o t call).0.created ≤ THREADS
 few readable o hs t call tied ready =
     let kept = act_kept readable o t call tied.kept (exists o hs t tied ready) (free o hs t tied ready) in
     let more = act_creates readable o t call in
@@ -36,7 +38,7 @@ view_count m t whole ready =
     (hart-at m.frame.map m.steps m.harts t (ready-below m.harts t ready) whole.harts).view.count
 
 -- it has made few steps
-pub few_numbers : (m : Machine) (t : ℕ) → IsWhole m → is_ready (hart_in m.harts t).status ≡ true → (hart_in m.harts t).number ≤ 65536
+pub few_numbers : (m : Machine) (t : ℕ) → IsWhole m → is_ready (hart_in m.harts t).status ≡ true → (hart_in m.harts t).number ≤ MOST_STEPS
 few_numbers m t whole ready =
     let number = (hart-at m.frame.map m.steps m.harts t (ready-below m.harts t ready) whole.harts).number in
     omega (arith, whole.few_steps, whole.limits.most_steps)

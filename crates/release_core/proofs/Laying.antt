@@ -11,8 +11,8 @@ use Rattle.machine_spec.specs.declared.states.End.{End}
 use Rattle.machine_spec.specs.Machine.{Machine, Hart, hart_of, is_ready}
 use Rattle.machine_spec.specs.declared.states.Asked.{Asked}
 use Rattle.machine_spec.specs.declared.states.Asked.TheVariants.{Asks, Stops}
-use Rattle.machine_spec.specs.Step.{written, asked, done_as_asked, finished, lay, fits}
-use Rattle.release_core.specs.Doing.{harts_after, objects_after, ending_after}
+use Rattle.machine_spec.specs.Step.{written, asked, end_after, done_as_asked, finished, lay, fits}
+use Rattle.release_core.specs.Doing.{harts_after, objects_after, own_end}
 
 -- what was asked is done part by part
 pub done-parts :
@@ -21,7 +21,7 @@ pub done-parts :
     ≡ record m {
       harts = harts_after m.frame.map m.objects m.memory t m.harts a;
       objects = objects_after m.frame.map m.objects t a;
-      ending = ending_after m.frame.map m.objects m.memory t m.harts m.limit m.steps a;
+      ending = end_after (own_end m.frame.map m.objects t a) (harts_after m.frame.map m.objects m.memory t m.harts a) m.limit m.steps;
     }
 done-parts m t (Asks call) = refl
 done-parts m t (Stops e) = refl
@@ -37,11 +37,11 @@ pub laid-parts :
     → steps ≡ suc m.steps
     → done ≡ harts_after m.frame.map m.objects memory r.thread written a
     → objects ≡ objects_after m.frame.map m.objects r.thread a
-    → ending ≡ ending_after m.frame.map m.objects memory r.thread written m.limit steps a
+    → ending ≡ end_after (own_end m.frame.map m.objects r.thread a) done m.limit steps
     → record { frame = m.frame; limit = m.limit; memory = memory; harts = done; objects = objects; output = output; steps = steps; ending = ending } ≡ lay m r
 unfolding lay finished
 laid-parts m r memory written_harts done objects put output steps ending a is_memory is_written is_asked is_put is_output is_steps is_done is_objects is_ending =
-    rw (is_done, is_objects, is_ending, is_output, is_put, is_steps, is_written, is_asked, is_memory)
+    rw (is_objects, is_ending, is_done, is_output, is_put, is_steps, is_written, is_asked, is_memory)
     (sym (done-parts (written m r.thread (masked m.memory r.kept.delta) r.kept.finish (put_of m.frame.map (hart_of m r.thread).view r.kept)) r.thread
     (asked r.thread r.kept.end r.kept.finish)))
 

@@ -6,6 +6,8 @@ use Rattle.std.proofs.lemmas.List.{get_or-set_same, get_or-set_other, get_or_pas
 use Rattle.std.proofs.lemmas.List.Sums.{sum_by_push}
 use Rattle.std.proofs.lemmas.List.Folds.{find_at}
 use Rattle.std.specs.List.{find, position_or_len}
+use Rattle.guest_call.specs.declared.thread_number.TheConstants.{THREADS}
+use Rattle.machine_spec.specs.declared.TheConstants.{MOST_STEPS}
 use Rattle.record_spec.specs.Record.{Record}
 use Rattle.history_spec.specs.History.{is_of, is_numbered_after, threads_of_records}
 use Rattle.history_spec.proofs.Numbers.{numbered-more}
@@ -94,10 +96,10 @@ placed k t n earlier (r ∷ rs) numbered =
     n
 
 -- no record is of a thread that there can't be
-nowhere : (t n : ℕ) (rs : List Record) → HaveThreads rs → 32 ≤ t → position_or_len (is_of t n) rs ≡ length rs
+nowhere : (t n : ℕ) (rs : List Record) → HaveThreads rs → THREADS ≤ t → position_or_len (is_of t n) rs ≡ length rs
 nowhere t n [] all past = refl
 nowhere t n (r ∷ rs) all past =
-    let below : r.thread < 32 = ltb-true _ _ (and_parts _ _ all).0 in
+    let below : r.thread < THREADS = ltb-true _ _ (and_parts _ _ all).0 in
     let here : is_of t n r ≡ false = grind (arith, nat_tests) in
     let others : HaveThreads rs = (and_parts _ _ all).1 in
     let next : position_or_len (is_of t n) rs ≡ length rs = nowhere t n rs others past in
@@ -106,22 +108,22 @@ nowhere t n (r ∷ rs) all past =
 -- the place that the index gives, where there is a thread of that number
 pub place_in_row :
     (places : List (List ℕ)) (rs : List Record) (t n : ℕ)
-    → IsIndexed places rs → t < 32 → get_or (get_or places t []) n (length rs) ≡ position_or_len (is_of t n) rs
+    → IsIndexed places rs → t < THREADS → get_or (get_or places t []) n (length rs) ≡ position_or_len (is_of t n) rs
 place_in_row places rs t n kept below =
     let end : length rs ≡ 0 + length rs = omega arith in
     let number : 0 + n ≡ n = omega arith in
     let whole : 0 + position_or_len (is_of t (0 + n)) rs ≡ position_or_len (is_of t (0 + n)) rs = omega arith in
     ap (λ xs. get_or xs n (length rs)) (kept.index t below)
     ∙ ap (λ k. get_or (places_from 0 t rs) n k) end
-    ∙ placed 0 t n [] rs kept.numbered
+    ∙ placed 0 t n [] rs kept.of_run.numbered
     ∙ whole
     ∙ ap (λ m. position_or_len (is_of t m) rs) number
 
 -- and where there isn't
 pub place_past :
     (places : List (List ℕ)) (rs : List Record) (t n : ℕ)
-    → IsIndexed places rs → 32 ≤ t → length rs ≡ position_or_len (is_of t n) rs
-place_past places rs t n kept past = sym (nowhere t n rs kept.threads past)
+    → IsIndexed places rs → THREADS ≤ t → length rs ≡ position_or_len (is_of t n) rs
+place_past places rs t n kept past = sym (nowhere t n rs kept.of_run.threads past)
 
 numbered-less :
     (earlier : List ℕ) (rs : List Record) (r : Record)
@@ -130,11 +132,11 @@ numbered-less earlier [] r numbered = refl
 numbered-less earlier (s ∷ rs) r numbered =
     and_from _ _ (and_parts _ _ numbered).0 (numbered-less (earlier ++ s.thread ∷ []) rs r (and_parts _ _ numbered).1)
 
-threads-more : (rs : List Record) (r : Record) → HaveThreads rs → r.thread < 32 → HaveThreads (rs ++ r ∷ [])
+threads-more : (rs : List Record) (r : Record) → HaveThreads rs → r.thread < THREADS → HaveThreads (rs ++ r ∷ [])
 threads-more [] r all below = and_from _ _ (lt-ltb _ _ below) refl
 threads-more (s ∷ rs) r all below = and_from _ _ (and_parts _ _ all).0 (threads-more rs r (and_parts _ _ all).1 below)
 
-threads-less : (rs : List Record) (r : Record) → HaveThreads (rs ++ r ∷ []) → HaveThreads rs × (r.thread < 32)
+threads-less : (rs : List Record) (r : Record) → HaveThreads (rs ++ r ∷ []) → HaveThreads rs × (r.thread < THREADS)
 threads-less [] r all = (refl, ltb-true _ _ (and_parts _ _ all).0)
 threads-less (s ∷ rs) r all =
     let rest = threads-less rs r (and_parts _ _ all).1 in
@@ -150,18 +152,16 @@ indexed-none places none =
             | inl below ↦ none t [] below
             | inr past ↦ get_or_past places t [] past
           ];
-      numbered = refl;
-      threads = refl;
-      few = omega arith;
+      of_run = record { numbered = refl; threads = refl; few = omega arith };
     }
 
 -- one record more, and its place
 pub indexed-more :
     (places : List (List ℕ)) (rs : List Record) (r : Record)
     → IsIndexed places rs
-    → length places ≡ 32
-    → length rs < 65536
-    → r.thread < 32
+    → length places ≡ THREADS
+    → length rs < MOST_STEPS
+    → r.thread < THREADS
     → r.number ≡ count_by (λ u. eqb u r.thread) (threads_of_records rs)
     → IsIndexed (set places r.thread (get_or places r.thread [] ++ length rs ∷ [])) (rs ++ r ∷ [])
 indexed-more places rs r kept rows few below number =
@@ -177,9 +177,12 @@ indexed-more places rs r kept rows few below number =
             | inr other ↦
                 get_or-set_other places r.thread t _ [] (λ e. other (sym e)) ∙ kept.index t inside ∙ sym (places-other 0 t rs r (ne_eqb _ _ other))
           ];
-      numbered = numbered-more [] rs r kept.numbered number;
-      threads = threads-more rs r kept.threads below;
-      few = rw (length-append rs (r ∷ [])) (omega arith);
+      of_run =
+          record {
+            numbered = numbered-more [] rs r kept.of_run.numbered number;
+            threads = threads-more rs r kept.of_run.threads below;
+            few = rw (length-append rs (r ∷ [])) (omega arith);
+          };
     }
 
 front : {X : Type 0} (xs : List X) (x : X) → take (length xs) (xs ++ x ∷ []) ≡ xs
@@ -200,10 +203,10 @@ undone before after rs r is pushed = is ∙ ap (λ xs. take (length xs - 1) xs) 
 pub indexed-less :
     (places : List (List ℕ)) (rs : List Record) (r : Record)
     → IsIndexed places (rs ++ r ∷ [])
-    → length places ≡ 32
+    → length places ≡ THREADS
     → IsIndexed (set places r.thread (take (length (get_or places r.thread []) - 1) (get_or places r.thread []))) rs
 indexed-less places rs r kept rows =
-    let threads = threads-less rs r kept.threads in
+    let threads = threads-less rs r kept.of_run.threads in
     record {
       index =
           λ t inside.
@@ -217,12 +220,15 @@ indexed-less places rs r kept rows =
             | inr other ↦
                 get_or-set_other places r.thread t _ [] (λ e. other (sym e)) ∙ kept.index t inside ∙ places-other 0 t rs r (ne_eqb _ _ other)
           ];
-      numbered = numbered-less [] rs r kept.numbered;
-      threads = threads.0;
-      few =
-          let more = length-append rs (r ∷ []) in
-          let most = kept.few in
-          omega arith;
+      of_run =
+          record {
+            numbered = numbered-less [] rs r kept.of_run.numbered;
+            threads = threads.0;
+            few =
+                let more = length-append rs (r ∷ []) in
+                let most = kept.of_run.few in
+                omega arith;
+          };
     }
 
 -- what stands at the place of the first that passes is what is found

@@ -6,11 +6,11 @@ use Rattle.machine_spec.specs.Step.{fits}
 use Rattle.release_core.specs.declared.core_machine.ApplyError.{ApplyError}
 use Rattle.release_core.specs.declared.core_machine.ApplyError.TheVariants.{Stale, NoMemory}
 
--- Whether a record may be laid: there is no end yet, and it fits. (this project's own)
+-- Whether a record may be laid: there is no end yet, and it fits.
 abbrev pub can_apply : Machine → Record → Bool
 can_apply m r = is_none m.ending && fits m r
 
--- The causes of a refusal: a stale record may not be laid; memory runs out only for one that may. (this project's own)
+-- The causes of a refusal: a stale record may not be laid; memory runs out only for one that may.
 abbrev pub IsCauseOf : Machine → Record → ApplyError → Type 0
 IsCauseOf m r Stale = can_apply m r ≡ false
 IsCauseOf m r NoMemory = can_apply m r ≡ true

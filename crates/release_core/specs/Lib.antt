@@ -1,5 +1,6 @@
 pub mod Views
 pub mod Setups
+pub mod Jobs
 pub mod Doing
 pub mod Records
 pub mod Applying

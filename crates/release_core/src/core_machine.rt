@@ -5,6 +5,7 @@ ghost use Rattle.std.specs.Arc.{arc_value};
 ghost use Rattle.record_spec.specs.Delta.{masked};
 ghost use Rattle.record_spec.specs.Record.{put_of, IsTrue};
 ghost use Rattle.release_core.specs.Views.{AreViewsOf};
+ghost use Rattle.release_core.specs.Jobs.{IsJobOf};
 ghost use Rattle.release_core.specs.Applying.{can_apply, IsCauseOf};
 ghost use Rattle.machine_spec.specs.Machine.{Machine, hart_of, is_ready, is_ended};
 ghost use Rattle.machine_spec.specs.Setup.{first, map_of, start_memory};
@@ -12,7 +13,7 @@ ghost use Rattle.machine_spec.specs.Performing.{first_hart};
 ghost use Rattle.machine_spec.specs.Step as step;
 ghost use Rattle.machine_spec.specs.Whole.{IsWhole};
 
-use super::doing::{asked, do_as_asked};
+use super::doing::{Written, asked, do_as_asked};
 use super::hart::Hart;
 use super::performing::{MOST_VIEWS, view_at, views_of, write_back};
 use super::put::put_bytes;
@@ -72,16 +73,7 @@ impl Model for Core {
       ending = c.ending;
     } };
 
-    ghost invariant = { λ c. IsWhole (record {
-      frame = arc_value c.frame;
-      limit = c.limit;
-      memory = arc_value c.memory;
-      harts = c.harts.items;
-      objects = c.objects;
-      output = c.output.items;
-      steps = c.steps;
-      ending = c.ending;
-    }) };
+    ghost invariant = { λ c. IsWhole (view c) };
 }
 
 impl Core {
@@ -111,13 +103,6 @@ impl Core {
         ensures { result.now ≡ self.now.memory }
     {
         &self.memory
-    }
-
-    /// How many steps were made.
-    pub fn steps(&self) -> u32
-        ensures { result ≡ self.now.steps }
-    {
-        self.steps
     }
 
     /// The page map and the fuel.
@@ -211,14 +196,9 @@ fn frame_of(alloc: Global, setup: &Setup) -> Result<Arc<Frame>, AllocError>
     machine_spec::map_ascends();
     let image = setup.image();
     let pages = pages_of(alloc, &image.map)?;
-    let map = match Arc::new(alloc, PageMap::new(pages)) {
-        Ok(map) => map,
-        Err(_) => return Err(AllocError),
-    };
-    match Arc::new(alloc, Frame::new(map, setup.fuel())) {
-        Ok(frame) => Ok(frame),
-        Err(_) => Err(AllocError),
-    }
+    let map = Arc::new(alloc, PageMap::new(pages))?;
+    let frame = Arc::new(alloc, Frame::new(map, setup.limits().fuel()))?;
+    Ok(frame)
 }
 
 /// The memory that a setup starts with.
@@ -228,11 +208,8 @@ fn start_of(alloc: Global, setup: &Setup) -> Result<Arc<PageTable>, AllocError>
 {
     setup.sound();
     let image = setup.image();
-    let memory = memory_of(alloc, &image.pages, setup.input())?;
-    match Arc::new(alloc, memory) {
-        Ok(memory) => Ok(memory),
-        Err(_) => Err(AllocError),
-    }
+    let memory = Arc::new(alloc, memory_of(alloc, &image.pages, setup.input())?)?;
+    Ok(memory)
 }
 
 /// Thread 0 alone, at the executable's entry.
@@ -264,7 +241,7 @@ impl Core {
         Ok(Core {
             alloc,
             frame,
-            limit: setup.limit(),
+            limit: setup.limits().steps(),
             memory,
             harts,
             objects: Objects::new(),
@@ -295,13 +272,9 @@ fn prepare(
     ensures memory { IfOk result (λ p. arc_value p.memory ≡ masked memory.now rec.now.kept.delta) }
     ensures put { IfOk result (λ p. p.put.items ≡ put_of map.now view.now rec.now.kept) }
     ensures views { IfOk result (λ p. AreViewsOf (arc_value p.memory) p.views.items) }
-    ensures enough { IfOk result (λ p. 34 ≤ vec_len p.views) }
+    ensures enough { IfOk result (λ p. MOST_VIEWS ≤ vec_len p.views) }
 {
-    let table = committed(memory, rec.delta())?;
-    let memory = match Arc::new(alloc, table) {
-        Ok(memory) => memory,
-        Err(_) => return Err(AllocError),
-    };
+    let memory = Arc::new(alloc, committed(memory, rec.delta())?)?;
     let put = put_bytes(alloc, map, view, rec)?;
     let views = views_of(alloc, &memory, MOST_VIEWS)?;
     Ok(Prepared { memory, put, views })
@@ -316,11 +289,7 @@ impl Core {
     #[tactic(auto, using(crate::proofs::Asking::below, crate::proofs::Asking::view_count))]
     pub fn start_of(&self, t: u8) -> Result<Job, AllocError>
         requires { is_ready (hart_of self.now t).status ≡ true }
-        ensures frame { IfOk result (λ job. arc_value job.frame ≡ self.now.frame) }
-        ensures thread { IfOk result (λ job. job.thread ≡ t) }
-        ensures number { IfOk result (λ job. job.number ≡ (hart_of self.now t).number) }
-        ensures regs { IfOk result (λ job. job.regs ≡ (hart_of self.now t).regs) }
-        ensures view { IfOk result (λ job. arc_value job.view ≡ (hart_of self.now t).view) }
+        ensures { IfOk result (IsJobOf self.now t) }
     {
         let hart = &self.harts[usize::from(t)];
         let frame = Arc::try_clone(&self.frame)?;
@@ -354,11 +323,13 @@ impl Core {
         self.ending = do_as_asked(
             &mut self.harts,
             &mut self.objects,
-            self.frame.map(),
-            &memory,
             &mut views,
-            self.limit,
-            self.steps,
+            &Written {
+                map: self.frame.map(),
+                memory: &memory,
+                limit: self.limit,
+                steps: self.steps,
+            },
             t,
             asked(t, rec.end(), rec.finish()),
         );
@@ -376,7 +347,8 @@ impl Core {
     pub fn apply(&mut self, rec: &Record) -> Result<(), ApplyError>
         ensures ok { OnOk result (self.new ≡ step.lay self.old rec.now) }
         ensures fitting { OnOk result (can_apply self.old rec.now ≡ true) }
-        ensures simulates { OnOk result (IsTrue self.old.frame rec.now.start rec.now.kept → self.new ≡ step.step self.old rec.now.thread) }
+        ensures simulates { OnOk result (IsTrue self.old.frame rec.now.start rec.now.kept
+            → self.new ≡ step.step self.old rec.now.thread) }
         ensures cause { IfErr result (λ e. IsCauseOf self.old rec.now e) }
         ensures err { OnErr result (self.new ≡ self.old) }
     {

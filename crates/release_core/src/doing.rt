@@ -8,11 +8,11 @@ ghost use Rattle.machine_spec.specs.Step as step;
 ghost use Rattle.machine_spec.specs.Machine.{Hart as HartState, hart_in, is_ready, is_ended};
 ghost use Rattle.std.specs.List.{list_all, list_any};
 ghost use Rattle.machine_spec.specs.Whole.{IsTied};
-ghost use Rattle.release_core.specs.Doing.{harts_after, objects_after, ending_after};
+ghost use Rattle.release_core.specs.Doing.{harts_after, objects_after, own_end};
 ghost use Rattle.release_core.specs.Views.{AreViewsOf};
 
 use super::hart::Hart;
-use super::performing::settle;
+use super::performing::{MOST_VIEWS, settle};
 use call_effect::Effect;
 use guest_call::{Call, EFAULT, EINVAL, Fate};
 use isa_spec::Cause;
@@ -146,34 +146,52 @@ fn end_after(fate: Fate, harts: &[Hart], limit: u32, steps: u32) -> Option<End>
     }
 }
 
+/// What a thunk that was written left, as far as the call after it doesn't change it: the page map,
+/// shared memory, the step limit, and how many steps were made.
+#[derive(Clone, Copy)]
+pub struct Written<'a> {
+    /// The page map.
+    pub map: &'a PageMap,
+    /// Shared memory, with the thunk's stores.
+    pub memory: &'a Arc<PageTable>,
+    /// The most steps of the run.
+    pub limit: u32,
+    /// How many steps were made, this one among them.
+    pub steps: u32,
+}
+
 /// Does what thread `t` asks, after its thunk was written, and looks for the end.
 #[tactic(auto, using(crate::proofs::Asking::exists, crate::proofs::Asking::free, crate::proofs::Asking::few, crate::proofs::Asking::below))]
 pub fn do_as_asked(
     harts: &mut Vec<Hart>,
     objects: &mut Objects,
-    map: &PageMap,
-    memory: &Arc<PageTable>,
     views: &mut Vec<Arc<PageTable>>,
-    limit: u32,
-    steps: u32,
+    written: &Written<'_>,
     t: u8,
     asked: Asked,
 ) -> Option<End>
     requires tied { IsTied objects.old harts.old.items }
     requires ready { is_ready (hart_in harts.old.items t).status ≡ true }
     requires room { vec_len harts.old < vec_capacity harts.old }
-    requires enough { 34 ≤ vec_len views.old }
-    requires views { AreViewsOf (arc_value memory.now) views.old.items }
-    ensures harts { harts.new.items ≡ harts_after map.now objects.old (arc_value memory.now) t harts.old.items asked }
-    ensures objects { objects.new ≡ objects_after map.now objects.old t asked }
-    ensures ending { result ≡ ending_after map.now objects.old (arc_value memory.now) t harts.old.items limit steps asked }
+    requires enough { MOST_VIEWS ≤ vec_len views.old }
+    requires views { AreViewsOf (arc_value written.now.memory.now) views.old.items }
+    ensures harts { harts.new.items
+        ≡ harts_after written.now.map.now objects.old (arc_value written.now.memory.now) t harts.old.items asked }
+    ensures objects { objects.new ≡ objects_after written.now.map.now objects.old t asked }
+    ensures ending { result
+        ≡ step.end_after (own_end written.now.map.now objects.old t asked) harts.new.items written.now.limit written.now.steps }
 {
     match asked {
         Asked::Asks(call) => {
-            let effect = effect_of(map, objects, t, call);
+            let effect = effect_of(written.map, objects, t, call);
             let _woken = effect.woken().len();
-            settle(harts, memory, views, t, &effect);
-            end_after(effect.fate(), harts.as_slice(), limit, steps)
+            settle(harts, written.memory, views, t, &effect);
+            end_after(
+                effect.fate(),
+                harts.as_slice(),
+                written.limit,
+                written.steps,
+            )
         }
         Asked::Stops(end) => Some(end),
     }

@@ -5,24 +5,29 @@ ghost use Rattle.std.specs.Arc.{arc_value};
 ghost use Rattle.machine_spec.specs.Performing.{answered, returned, first_registers, first_hart};
 ghost use Rattle.machine_spec.specs.Machine.{Hart as HartState};
 
+use guest_call::THREADS;
 use machine_spec::Status;
 use page_store::PageTable;
 use rv_alu::Regs;
 use std::marker::Model;
 use std::sync::Arc;
 
-/// The registers by number that a call and a start use. (RISC-V ELF psABI, Register Convention)
+/// The stack pointer (RISC-V ELF psABI, Register Convention).
 const SP: u8 = 2;
 
+/// The thread pointer (RISC-V ELF psABI, Register Convention).
 const TP: u8 = 4;
 
+/// The first argument, and what a call answers (RISC-V ELF psABI, Register Convention).
 const A0: u8 = 10;
 
+/// The second argument, and what a call tells beside its answer (RISC-V ELF psABI, Register Convention).
 const A1: u8 = 11;
 
-/// Where the stacks begin, and how many bytes each has.
+/// Where the stacks begin.
 const STACKS: u32 = 0xD000_0000;
 
+/// How many bytes each stack has.
 const STACK_SIZE: u32 = 0x1_0000;
 
 /// A hart, as the thread that runs on it has it between two steps.
@@ -58,7 +63,7 @@ fn answer(regs: &mut Regs, a0: u32, a1: Option<u32>)
 /// The first registers of thread `t`.
 #[tactic(auto, unfolding(machine_spec::specs::Performing::first_registers, isa_spec::specs::Registers::with_register))]
 fn registers_of(t: u8, pc: u32, argument: u32) -> Regs
-    requires { t < 32 }
+    requires { t < THREADS }
     ensures { result ≡ first_registers t pc argument }
 {
     let mut regs = Regs::new(pc);
@@ -71,7 +76,7 @@ fn registers_of(t: u8, pc: u32, argument: u32) -> Regs
 impl Hart {
     /// A hart at the start of thread `t`.
     pub fn first(view: Arc<PageTable>, t: u8, pc: u32, argument: u32) -> Hart
-        requires { t < 32 }
+        requires { t < THREADS }
         ensures { result ≡ first_hart (arc_value view) t pc argument }
     {
         Hart {
@@ -101,7 +106,7 @@ impl Hart {
     /// Its thunk was written: it has these registers, and has made one step more.
     pub fn write_back(&mut self, regs: Regs)
         requires { self.old.number < 2 ^ 32 - 1 }
-        ensures { self.new ≡ record { view = self.old.view; regs = regs; number = suc self.old.number; status = self.old.status } }
+        ensures { self.new ≡ record self.old { regs = regs; number = suc self.old.number } }
     {
         self.regs = regs;
         self.number += 1;

@@ -2,7 +2,8 @@
 
 ghost use Rattle.std.specs.Prelude.{◌≡◌, option_map, Some};
 ghost use Rattle.std.specs.Arc.{arc_value};
-ghost use Rattle.history_spec.specs.History.{found};
+ghost use Rattle.history_spec.specs.History.{found, IsMapped};
+ghost use Rattle.release_core.specs.Records.{AreOfRun};
 
 use super::records::Records;
 use super::setup::Setup;
@@ -10,8 +11,8 @@ use std::marker::Model;
 use std::sync::Arc;
 use thunk_record::Record;
 
-/// What a run started from, and the records of its steps in order. A clause sees a `History` of
-/// `history_spec`.
+/// What a run started from, and the records of its steps in order, whose slots are in the page map of
+/// what it started from. A clause sees a `History` of `history_spec`.
 #[derive(Drop)]
 pub struct History {
     setup: Setup,
@@ -19,19 +20,31 @@ pub struct History {
 }
 
 impl Model for History {
-    ghost use Rattle.history_spec.specs.History.{History as Kept};
+    ghost use Rattle.history_spec.specs.History.{History as Kept, IsMapped};
 
     ghost Value = { Kept };
 
     ghost view = { λ h. record { setup = h.setup; records = h.records } };
+
+    ghost invariant = { λ h. IsMapped (view h) };
 }
 
 impl History {
     /// The history of these parts. Takes no memory.
     pub fn new(setup: Setup, records: Records) -> History
+        requires { IsMapped (record { setup = setup; records = records }) }
         ensures { result ≡ record { setup = setup; records = records } }
     {
         History { setup, records }
+    }
+
+    /// Its records are as a run makes them, and their slots are in the page map of its setup: what a
+    /// caller learns of any history.
+    pub fn keeps(&self)
+        ensures records { AreOfRun self.now.records }
+        ensures mapped { IsMapped self.now }
+    {
+        self.records.keeps();
     }
 
     /// What the run started from.
@@ -46,15 +59,6 @@ impl History {
         ensures { result.now ≡ self.now.records }
     {
         &self.records
-    }
-
-    /// Its parts. Takes no memory.
-    pub fn into_parts(self) -> (Setup, Records)
-        ensures setup { result.0 ≡ self.setup }
-        ensures records { result.1 ≡ self.records }
-    {
-        let History { setup, records } = self;
-        (setup, records)
     }
 
     /// The record of thread `t` at this number of steps made, if there is one.

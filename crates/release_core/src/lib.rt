@@ -13,7 +13,6 @@ mod setup;
 mod start;
 
 pub use core_machine::{ApplyError, Core};
-pub use hart::Hart;
 pub use history::History;
 pub use records::Records;
 pub use setup::Setup;

@@ -11,7 +11,7 @@ ghost use Rattle.release_core.specs.Views.{AreViewsOf};
 
 use super::hart::Hart;
 use call_effect::Effect;
-use guest_call::Fate;
+use guest_call::{Fate, THREADS};
 use machine_spec::Status;
 use page_store::PageTable;
 use rv_alu::Regs;
@@ -33,7 +33,12 @@ pub fn write_back(harts: &mut Vec<Hart>, t: u8, regs: Regs)
     requires exists { t < length harts.old.items }
     requires few { (hart_in harts.old.items t).number < 2 ^ 32 - 1 }
     requires room { vec_len harts.old < vec_capacity harts.old }
-    ensures harts { harts.new.items ≡ slice_set harts.old.items t (record { view = (hart_in harts.old.items t).view; regs = regs; number = suc (hart_in harts.old.items t).number; status = (hart_in harts.old.items t).status }) }
+    ensures harts { harts.new.items ≡ slice_set harts.old.items t (record {
+      view = (hart_in harts.old.items t).view;
+      regs = regs;
+      number = suc (hart_in harts.old.items t).number;
+      status = (hart_in harts.old.items t).status;
+    }) }
     ensures room { vec_len harts.new < vec_capacity harts.new }
 {
     let hart = &mut harts[usize::from(t)];
@@ -41,7 +46,7 @@ pub fn write_back(harts: &mut Vec<Hart>, t: u8, regs: Regs)
 }
 
 /// How many views one effect can give: to its caller, to a created thread, and to all that a queue can hold.
-pub const MOST_VIEWS: usize = 34;
+pub const MOST_VIEWS: usize = THREADS + 2;
 
 /// So many views of a memory.
 pub fn views_of(
@@ -123,7 +128,7 @@ fn begin(
     views: &mut Vec<Arc<PageTable>>,
     created: Option<(u32, u32)>,
 )
-    requires few { length harts.old.items + created_count created ≤ 32 }
+    requires few { length harts.old.items + created_count created ≤ THREADS }
     requires room { vec_len harts.old < vec_capacity harts.old }
     requires some { 0 < vec_len views.old }
     requires views { AreViewsOf (arc_value memory.now) views.old.items }
@@ -148,7 +153,7 @@ pub fn settle(
     effect: &Effect,
 )
     requires exists { t < length harts.old.items }
-    requires few { length harts.old.items + created_count effect.now.created ≤ 32 }
+    requires few { length harts.old.items + created_count effect.now.created ≤ THREADS }
     requires room { vec_len harts.old < vec_capacity harts.old }
     requires enough { length effect.now.woken + 2 ≤ vec_len views.old }
     requires views { AreViewsOf (arc_value memory.now) views.old.items }

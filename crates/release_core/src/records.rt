@@ -5,16 +5,15 @@ ghost use Rattle.std.specs.Arc.{arc_value};
 ghost use Rattle.std.specs.List.{position_or_len};
 ghost use Rattle.record_spec.specs.Record.{Record as Recorded};
 ghost use Rattle.history_spec.specs.History.{is_of, is_numbered, threads_of_records};
-ghost use Rattle.release_core.specs.Records.{HaveThreads};
+ghost use Rattle.release_core.specs.Records.{AreOfRun};
 
+use guest_call::THREADS;
+use machine_spec::MOST_STEPS;
 use std::alloc::{AllocError, Global};
 use std::array;
 use std::marker::Model;
 use std::sync::Arc;
 use thunk_record::Record;
-
-/// How many threads there can be.
-const THREADS: usize = 32;
 
 /// The places of the records of one thread, in order.
 #[derive(Drop)]
@@ -69,19 +68,20 @@ impl Row {
 
 /// One place more in row `t`.
 fn add_place(rows: &mut [Row; THREADS], t: usize, place: u32) -> Result<(), AllocError>
-    requires { t < 32 }
+    requires { t < THREADS }
     ensures ok { OnOk result (rows.new ≡ slice_set rows.old t (slice_index_or rows.old t [] ++ place ∷ [])) }
     ensures err { OnErr result (rows.new ≡ rows.old) }
-    ensures count { length rows.old ≡ 32 }
+    ensures count { length rows.old ≡ THREADS }
 {
     rows[t].push(place)
 }
 
 /// The last place of row `t` is taken away.
 fn drop_place(rows: &mut [Row; THREADS], t: usize)
-    requires { t < 32 }
-    ensures rest { rows.new ≡ slice_set rows.old t (take (length (slice_index_or rows.old t []) - 1) (slice_index_or rows.old t [])) }
-    ensures count { length rows.old ≡ 32 }
+    requires { t < THREADS }
+    ensures rest { rows.new
+        ≡ slice_set rows.old t (take (length (slice_index_or rows.old t []) - 1) (slice_index_or rows.old t [])) }
+    ensures count { length rows.old ≡ THREADS }
 {
     rows[t].pop();
 }
@@ -97,8 +97,8 @@ fn no_places(alloc: Global) -> [Row; THREADS]
     )
 }
 
-/// Records of steps in order, at most 65,536, of threads below 32. The number of each is how many
-/// records of its thread come before it. A clause sees the list of them.
+/// Records of steps in order, at most `MOST_STEPS`, of threads below `THREADS`. The number of each is
+/// how many records of its thread come before it. A clause sees the list of them.
 #[derive(Drop)]
 pub struct Records {
     list: Vec<Arc<Record>>,
@@ -115,7 +115,7 @@ impl Model for Records {
 
     ghost view = { λ s. map arc_value s.list.items };
 
-    ghost invariant = { λ s. IsIndexed s.rows (map arc_value s.list.items) };
+    ghost invariant = { λ s. IsIndexed s.rows (view s) };
 }
 
 impl Records {
@@ -136,19 +136,9 @@ impl Records {
         self.list.len()
     }
 
-    /// Whether there is no record.
-    pub fn is_empty(&self) -> bool
-        ensures { result ≡ (length self.now == 0) }
-    {
-        self.list.is_empty()
-    }
-
-    /// The number of each is how many records of its thread come before it, their threads are below
-    /// 32, and they are at most 65,536: what a caller learns of any records.
-    pub fn numbered(&self)
-        ensures numbered { is_numbered self.now ≡ true }
-        ensures threads { HaveThreads self.now }
-        ensures few { length self.now ≤ 65536 }
+    /// They are as a run makes them: what a caller learns of any records.
+    pub fn keeps(&self)
+        ensures { AreOfRun self.now }
     {
         let _list = &self.list;
     }
@@ -191,9 +181,10 @@ impl Records {
     ///
     /// An error where the host's memory ran out; the records are then as before.
     pub fn push(&mut self, rec: Arc<Record>) -> Result<(), AllocError>
-        requires few { length self.old < 65536 }
-        requires thread { (arc_value rec).thread < 32 }
-        requires number { (arc_value rec).number ≡ count_by (λ t. t == (arc_value rec).thread) (threads_of_records self.old) }
+        requires few { length self.old < MOST_STEPS }
+        requires thread { (arc_value rec).thread < THREADS }
+        requires number { (arc_value rec).number
+            ≡ count_by (λ t. t == (arc_value rec).thread) (threads_of_records self.old) }
         ensures ok { OnOk result (self.new ≡ self.old ++ arc_value rec ∷ []) }
         ensures err { OnErr result (self.new ≡ self.old) }
     {

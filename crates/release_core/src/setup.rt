@@ -5,6 +5,8 @@ ghost use Rattle.elf_load.specs.Load.{IsImageOf, Refuses};
 ghost use Rattle.machine_spec.specs.Setup as setup;
 
 use elf_load::{Image, LoadError, load};
+use elf_spec::MOST_ELF_BYTES;
+use machine_spec::{Limits, MOST_INPUT_BYTES};
 use std::alloc::{AllocError, Global};
 use std::marker::Model;
 use std::sync::Arc;
@@ -16,14 +18,13 @@ struct Program {
     image: Image,
 }
 
-/// An executable that is accepted, an input, the most turns of a thunk, and the most steps of a run.
-/// Setups of one executable share its bytes.
+/// An executable that is accepted, an input, and the limits of a run. Setups of one executable share
+/// its bytes.
 #[derive(Drop)]
 pub struct Setup {
     program: Arc<Program>,
     input: Vec<u8>,
-    fuel: u32,
-    limit: u32,
+    limits: Limits,
 }
 
 impl Model for Setup {
@@ -33,13 +34,18 @@ impl Model for Setup {
 
     ghost Value = { setup.Setup };
 
-    ghost view = { λ s. record { elf = (arc_value s.program).elf.items; input = s.input.items; fuel = s.fuel; limit = s.limit } };
+    ghost view = { λ s. record {
+      elf = (arc_value s.program).elf.items;
+      input = s.input.items;
+      fuel = s.limits.fuel;
+      limit = s.limits.steps;
+    } };
 
-    ghost invariant = { λ s. IsLoaded (record { elf = (arc_value s.program).elf.items; input = s.input.items; fuel = s.fuel; limit = s.limit }) (arc_value s.program).image };
+    ghost invariant = { λ s. IsLoaded (view s) (arc_value s.program).image };
 }
 
 impl Setup {
-    /// The setup of an executable and an input, with a fuel and a step limit.
+    /// The setup of an executable and an input, with the limits of its runs.
     ///
     /// # Errors
     ///
@@ -48,54 +54,43 @@ impl Setup {
         alloc: Global,
         elf: Vec<u8>,
         input: Vec<u8>,
-        fuel: u32,
-        limit: u32,
+        limits: Limits,
     ) -> Result<Setup, LoadError>
-        requires elf_size { length elf.items ≤ 16777216 }
-        requires input_size { length input.items ≤ 1048576 }
-        requires some_fuel { 1 ≤ fuel }
-        requires most_fuel { fuel ≤ 16777216 }
-        requires some_steps { 1 ≤ limit }
-        requires most_steps { limit ≤ 65536 }
-        ensures setup { IfOk result (λ s. s ≡ record { elf = elf.items; input = input.items; fuel = fuel; limit = limit }) }
+        requires elf_size { length elf.items ≤ MOST_ELF_BYTES }
+        requires input_size { length input.items ≤ MOST_INPUT_BYTES }
+        ensures setup { IfOk result (λ s. s
+            ≡ record { elf = elf.items; input = input.items; fuel = limits.fuel; limit = limits.steps }) }
         ensures sound { IfOk result (λ s. setup.IsSetup s) }
         ensures refused { IfErr result (λ e. Refuses elf.items e) }
     {
-        let image = match load(alloc, elf.as_slice()) {
-            Ok(image) => image,
-            Err(error) => return Err(error),
-        };
+        limits.sound();
+        let image = load(alloc, elf.as_slice())?;
         match Arc::new(alloc, Program { elf, image }) {
             Ok(program) => Ok(Setup {
                 program,
                 input,
-                fuel,
-                limit,
+                limits,
             }),
             Err(_) => Err(LoadError::NoMemory),
         }
     }
 
-    /// The setup of the same executable with this input, this fuel and this step limit. The
-    /// executable is shared.
+    /// The setup of the same executable with this input and these limits. The executable is shared.
     ///
     /// # Errors
     ///
     /// An error where the host's memory ran out.
-    pub fn with(&self, input: Vec<u8>, fuel: u32, limit: u32) -> Result<Setup, AllocError>
-        requires input_size { length input.items ≤ 1048576 }
-        requires some_fuel { 1 ≤ fuel }
-        requires most_fuel { fuel ≤ 16777216 }
-        requires some_steps { 1 ≤ limit }
-        requires most_steps { limit ≤ 65536 }
-        ensures { IfOk result (λ s. s ≡ record { elf = self.now.elf; input = input.items; fuel = fuel; limit = limit }) }
+    pub fn with(&self, input: Vec<u8>, limits: Limits) -> Result<Setup, AllocError>
+        requires { length input.items ≤ MOST_INPUT_BYTES }
+        ensures { IfOk result (λ s. s
+            ≡ record { elf = self.now.elf; input = input.items; fuel = limits.fuel; limit = limits.steps }) }
     {
+        limits.sound();
         let program = Arc::try_clone(&self.program)?;
         Ok(Setup {
             program,
             input,
-            fuel,
-            limit,
+            limits,
         })
     }
 
@@ -120,18 +115,11 @@ impl Setup {
         self.input.as_slice()
     }
 
-    /// The most turns of one thunk.
-    pub fn fuel(&self) -> u32
-        ensures { result ≡ self.now.fuel }
+    /// The most turns of one thunk, and the most steps of a run.
+    pub fn limits(&self) -> Limits
+        ensures { result ≡ record { fuel = self.now.fuel; steps = self.now.limit } }
     {
-        self.fuel
-    }
-
-    /// The most steps of a run.
-    pub fn limit(&self) -> u32
-        ensures { result ≡ self.now.limit }
-    {
-        self.limit
+        self.limits
     }
 
     /// What its executable starts as.

@@ -6,20 +6,25 @@ ghost use Rattle.memory_spec.specs.Pages.{zero_page};
 ghost use Rattle.machine_spec.specs.Setup as setup;
 
 use bitflags::Flags;
+use machine_spec::MOST_INPUT_BYTES;
 use page_map::{MappedPage, PageMap, Perm};
 use page_store::{Page, PageTable};
 use std::alloc::{AllocError, Global};
 use std::sync::Arc;
 
-/// How many pages the input and all stacks have, and the numbers of the first page of each range.
+/// The number of the input's header page.
 const HEADER_PAGE: u32 = 0xC0000;
 
+/// The number of the input's first page.
 const INPUT_PAGE: u32 = 0xC0001;
 
+/// How many pages the input has.
 const INPUT_PAGES: u32 = 256;
 
+/// The number of the first page of the stacks.
 const STACK_PAGE: u32 = 0xD0000;
 
+/// How many pages all stacks have.
 const STACK_PAGES: u32 = 512;
 
 /// The byte of the input at a place, or zero past its end.
@@ -71,7 +76,8 @@ fn push_data(pages: &mut Vec<MappedPage>, number: u32, count: u32) -> Result<(),
 /// All pages of a setup: the image's, the input's header and pages, and the stacks.
 #[tactic(auto, unfolding(machine_spec::specs::Setup::map_of))]
 pub fn pages_of(alloc: Global, image: &PageMap) -> Result<Vec<MappedPage>, AllocError>
-    ensures { IfOk result (λ pages. pages.items ≡ image.now ++ setup.data_pages 0xC0000 1 ++ setup.data_pages 0xC0001 256 ++ setup.data_pages 0xD0000 512) }
+    ensures { IfOk result (λ pages. pages.items
+        ≡ image.now ++ setup.data_pages 0xC0000 1 ++ setup.data_pages 0xC0001 256 ++ setup.data_pages 0xD0000 512) }
 {
     let mut pages = image_pages(alloc, image)?;
     push_data(&mut pages, HEADER_PAGE, 1)?;
@@ -95,16 +101,15 @@ fn image_pages(alloc: Global, image: &PageMap) -> Result<Vec<MappedPage>, AllocE
 fn zeros(alloc: Global) -> Result<Arc<Page>, AllocError>
     ensures { IfOk result (λ page. arc_value page ≡ zero_page) }
 {
-    match Arc::new(alloc, Page::zero()) {
-        Ok(page) => Ok(page),
-        Err(_) => Err(AllocError),
-    }
+    let page = Arc::new(alloc, Page::zero())?;
+    Ok(page)
 }
 
 /// The memory that a setup starts with: the image's pages, the input's header and pages, and zeros.
 pub fn memory_of(alloc: Global, image: &PageTable, input: &[u8]) -> Result<PageTable, AllocError>
-    requires { length input.now ≤ 1048576 }
-    ensures { IfOk result (λ table. table ≡ image.now ++ setup.header_page input.now ∷ [] ++ setup.input_memory input.now ++ setup.stack_memory) }
+    requires { length input.now ≤ MOST_INPUT_BYTES }
+    ensures { IfOk result (λ table. table
+        ≡ image.now ++ setup.header_page input.now ∷ [] ++ setup.input_memory input.now ++ setup.stack_memory) }
 {
     let zero = zeros(alloc)?;
     let mut table = image.snapshot()?;

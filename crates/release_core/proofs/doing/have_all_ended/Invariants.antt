@@ -1,3 +1,4 @@
+-- What holds at the loop of `have_all_ended`.
 use Rattle.std.proofs.Common.{◌≡◌, drop}
 use Rattle.std.specs.List.{list_all}
 use Rattle.machine_spec.specs.Machine.{Hart, is_ended}

@@ -1,3 +1,4 @@
+-- What holds at the loop of `is_any_ready`.
 use Rattle.std.proofs.Common.{◌≡◌, drop}
 use Rattle.std.specs.List.{list_any}
 use Rattle.machine_spec.specs.Machine.{Hart, is_ready}

@@ -1,3 +1,4 @@
+-- What holds at the loop of `views_of`.
 use Rattle.std.proofs.Common.{◌≡◌, vec_len}
 use Rattle.std.specs.Arc.{arc_value}
 use Rattle.release_core.specs.Views.{AreViewsOf}

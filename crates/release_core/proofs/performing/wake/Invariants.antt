@@ -1,3 +1,4 @@
+-- What holds at the loop of `wake`.
 use Rattle.std.proofs.Common.{◌≡◌, ◌≤◌, ◌+◌, length, drop, vec_len}
 use Rattle.std.specs.Arc.{arc_value}
 use Rattle.machine_spec.specs.Performing.{woken}

@@ -1,3 +1,4 @@
+-- What is left to prove of `no_places`.
 use Rattle.std.proofs.Common.{◌<◌, subst}
 use Rattle.release_core.proofs.records.no_places.Goals as goal
 

@@ -1,3 +1,4 @@
+-- What holds at the loop of `image_pages`.
 use Rattle.std.proofs.Common.{◌≡◌, take}
 use Rattle.release_core.proofs.start.image_pages.Given as goal
 

@@ -1,3 +1,4 @@
+-- What holds at the loop of `input_page`.
 use Rattle.std.proofs.Common.{◌≡◌, ◌<◌, ◌+◌, ◌*◌, ℕ, length, get_or}
 use Rattle.release_core.proofs.start.input_page.Given as goal
 

@@ -1,3 +1,4 @@
+-- What is left to prove of `push_data`.
 use Rattle.std.proofs.Common.{◌≡◌, ◌+◌, ◌-◌, refl, ◌∙◌, arith}
 use Rattle.release_core.proofs.DataPages.{data_pages-done, data_pages-next}
 use Rattle.release_core.proofs.start.push_data.Goals as goal

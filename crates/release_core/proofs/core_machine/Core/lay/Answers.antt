@@ -1,3 +1,4 @@
+-- What is left to prove of `Core::lay`.
 use Rattle.std.proofs.Common.{◌≡◌, true, ◌+◌, suc, ◌++◌, slice_set, refl, ap, sym, subst, ◌∙◌, arith}
 use Rattle.std.proofs.lemmas.Grind.{common_steps}
 use Rattle.std.specs.Arc.{arc_value}
@@ -7,7 +8,7 @@ use Rattle.machine_spec.specs.Machine.{Machine, hart_of}
 use Rattle.machine_spec.specs.Step as step
 use Rattle.machine_spec.specs.Whole.{IsWhole}
 use Rattle.machine_spec.proofs.Tied.{tied-written}
-use Rattle.release_core.specs.Doing.{harts_after, objects_after, ending_after}
+use Rattle.release_core.specs.Doing.{harts_after, objects_after, own_end}
 use Rattle.history_spec.proofs.Laying.{lay-whole}
 use Rattle.release_core.proofs.Laying.{laid-parts}
 use Rattle.release_core.proofs.core_machine.Core.lay.Goals as goal
@@ -60,7 +61,7 @@ laid c =
     let is_steps : c.self.inside.steps + 1 ≡ suc c.self.inside.steps = omega arith in
     let is_done : c.do_as_asked-self-inside.new.harts.items ≡ harts_after (arc_value c.self.inside.frame).map c.self.inside.objects (arc_value c.in_ok-memory.field-0.memory) c.args.rec.now.thread c.write_back.new.harts.items c.asked.result = grind (arith, common_steps, c.do_as_asked-self-inside.ensures.harts, c.deref-3.ensures, c.map-2.ensures, c.in_ok-memory.memory-is, c.thread-t.ensures) in
     let is_objects : c.do_as_asked-self-inside.new.objects ≡ objects_after (arc_value c.self.inside.frame).map c.self.inside.objects c.args.rec.now.thread c.asked.result = grind (arith, common_steps, c.do_as_asked-self-inside.ensures.objects, c.deref-3.ensures, c.map-2.ensures, c.thread-t.ensures) in
-    let is_ending : c.do_as_asked-self-inside.result ≡ ending_after (arc_value c.self.inside.frame).map c.self.inside.objects (arc_value c.in_ok-memory.field-0.memory) c.args.rec.now.thread c.write_back.new.harts.items c.self.inside.limit (c.self.inside.steps + 1) c.asked.result = grind (arith, common_steps, c.do_as_asked-self-inside.ensures.ending, c.deref-3.ensures, c.map-2.ensures, c.in_ok-memory.memory-is, c.thread-t.ensures) in
+    let is_ending : c.do_as_asked-self-inside.result ≡ step.end_after (own_end (arc_value c.self.inside.frame).map c.self.inside.objects c.args.rec.now.thread c.asked.result) c.do_as_asked-self-inside.new.harts.items c.self.inside.limit (c.self.inside.steps + 1) = grind (arith, common_steps, c.do_as_asked-self-inside.ensures.ending, c.deref-3.ensures, c.map-2.ensures, c.in_ok-memory.memory-is, c.thread-t.ensures) in
     laid-parts (before c) c.args.rec.now (arc_value c.in_ok-memory.field-0.memory) c.write_back.new.harts.items c.do_as_asked-self-inside.new.harts.items
     c.do_as_asked-self-inside.new.objects c.in_ok-memory.field-0.put.items c.extend_from_slice.new.self.items (c.self.inside.steps + 1)
     c.do_as_asked-self-inside.result c.asked.result
