@@ -4,25 +4,28 @@ use Rattle.report_spec.specs.declared.Entry.{Entry}
 use Rattle.report_spec.specs.Text.{newline, line, list_line}
 use Rattle.report_spec.specs.Report.{Told, ending_text, entry_text, reused_count, executed_count, memory_digest}
 
--- The lines that count a schedule's entries: all, the reused, the executed. (this project's own)
+-- The lines that count a schedule's entries: all, the reused, the executed.
 abbrev pub counts_part : List Entry → List ℕ
 counts_part schedule =
     line (codes "steps") (decimal (length schedule))
     ++ line (codes "reused") (decimal (reused_count schedule))
     ++ line (codes "executed") (decimal (executed_count schedule))
 
--- How it ended, and after how many steps. (this project's own)
+-- How it ended, and after how many steps.
 abbrev pub steps_part : Told → List ℕ
 steps_part t = line (codes "end") (ending_text t.ending) ++ counts_part t.schedule
 
--- The work: instructions, each worker's share, and the schedule. (this project's own)
+-- The work: instructions, each worker's share, and the schedule.
 abbrev pub work_part : Told → List ℕ
 work_part t =
     line (codes "instructions") (decimal t.instructions)
     ++ list_line (codes "by") decimal t.shares
     ++ list_line (codes "schedule") entry_text t.schedule
 
--- What came of it: the memory's digest, and the output. (this project's own)
+-- What came of it: the memory's digest, and the output.
 abbrev pub outcome_part : Told → List ℕ
 outcome_part t =
-    line (codes "memory") (memory_digest t.memory) ++ line (codes "output") (decimal (length t.output)) ++ t.output ++ newline
+    line (codes "memory") (memory_digest t.memory)
+    ++ line (codes "output") (decimal (length t.output))
+    ++ t.output
+    ++ newline

@@ -35,7 +35,7 @@ impl Model for Digested {
 
 impl Digested {
     /// A memory with its digest. No page is copied.
-    fn of(memory: &PageTable) -> Result<Digested, AllocError>
+    pub(super) fn of(memory: &PageTable) -> Result<Digested, AllocError>
         ensures { IfOk result (λ d. d ≡ memory.now) }
     {
         let digest = digest_of(memory);
@@ -53,51 +53,23 @@ impl Digested {
     }
 
     /// Whether it is of this memory.
-    fn is_of(&self, memory: &PageTable) -> bool
+    pub(super) fn is_of(&self, memory: &PageTable) -> bool
         ensures { Decides result (self.now ≡ memory.now) }
     {
-        are_same(&self.memory, memory)
+        self.memory == *memory
     }
 }
 
-/// Whether two memories have the same pages.
-fn are_same(a: &PageTable, b: &PageTable) -> bool
-    ensures { Decides result (a.now ≡ b.now) }
-{
-    if a.len() != b.len() {
-        return false;
-    }
-    for slot in 0..a.len() {
-        if !a.page(slot).is_same(b.page(slot)) {
-            return false;
-        }
-    }
-    true
-}
-
-/// A memory with its digest, which is taken from the last one where that is of the same memory.
-fn digested_of(memory: &PageTable, last: Option<Digested>) -> Result<Digested, AllocError>
-    ensures { IfOk result (λ d. d ≡ memory.now) }
-{
-    match last {
-        Some(last) if last.is_of(memory) => Ok(last),
-        _ => Digested::of(memory),
-    }
-}
-
-/// Appends the line of a memory's digest, in hexadecimal. The digest is kept for the next report.
+/// Appends the line of a memory's digest, in hexadecimal.
 #[tactic(auto, unfolding(report_spec::specs::Report::memory_digest))]
-pub fn memory_line(
+pub(super) fn memory_line(
     alloc: Global,
-    memory: &PageTable,
-    last: &mut Option<Digested>,
+    digested: &Digested,
     into: &mut Vec<u8>,
 ) -> Result<(), AllocError>
-    ensures { OnOk result (into.new.items ≡ into.old.items ++ line (codes "memory") (memory_digest memory.now)) }
+    ensures { OnOk result (into.new.items ≡ into.old.items ++ line (codes "memory") (memory_digest digested.now)) }
 {
-    let digested = digested_of(memory, last.take())?;
     let digest = hex::encode(alloc, digested.digest().as_slice())?;
-    *last = Some(digested);
     text_line("memory", digest.as_bytes(), into)
 }
 

@@ -63,7 +63,7 @@ fn append_trap(
     decimal(alloc, cause_number(cause), into)
 }
 
-/// The number of a cause (RISC-V privileged ISA 20211203, 3.1.15; 8 is this project's own).
+/// The number of a cause (RISC-V privileged ISA 20211203, 3.1.15); 8 is a call that has no row.
 fn cause_number(cause: Cause) -> u64
     ensures { result ≡ number_of cause }
 {

@@ -1,6 +1,6 @@
 //! The whole report.
 
-ghost use Rattle.std.specs.Prelude.{◌≡◌, ◌++◌, IfOk, OnOk};
+ghost use Rattle.std.specs.Prelude.{◌≡◌, ◌++◌, Some, IfOk, OnOk, OnErr};
 ghost use Rattle.report_spec.specs.Report.{report_text};
 ghost use Rattle.round_report.specs.Parts.{steps_part, work_part, outcome_part};
 
@@ -15,20 +15,43 @@ use std::alloc::{AllocError, Global};
 ///
 /// # Errors
 ///
-/// An error where the host's memory ran out.
+/// An error where the host's memory ran out. What was kept is then as before.
 pub fn text(
     alloc: Global,
     number: u64,
     told: &Told<'_>,
     last: &mut Option<Digested>,
 ) -> Result<Vec<u8>, AllocError>
+    ensures text { IfOk result (λ text. text.items ≡ report_text number told.now) }
+    ensures kept { OnOk result (last.new ≡ Some told.now.memory) }
+    ensures same { OnErr result (last.new ≡ last.old) }
+{
+    match last.as_ref() {
+        Some(digested) if digested.is_of(told.memory) => text_with(alloc, number, told, digested),
+        _ => {
+            let digested = Digested::of(told.memory)?;
+            let text = text_with(alloc, number, told, &digested)?;
+            *last = Some(digested);
+            Ok(text)
+        }
+    }
+}
+
+/// The report, where the memory's digest is at hand.
+fn text_with(
+    alloc: Global,
+    number: u64,
+    told: &Told<'_>,
+    digested: &Digested,
+) -> Result<Vec<u8>, AllocError>
+    requires { digested.now ≡ told.now.memory }
     ensures { IfOk result (λ text. text.items ≡ report_text number told.now) }
 {
     let mut text = Vec::new(alloc);
     number_line(alloc, "round", number, &mut text)?;
     append_steps(alloc, told, &mut text)?;
     append_work(alloc, told, &mut text)?;
-    append_outcome(alloc, told, last, &mut text)?;
+    append_outcome(alloc, told, digested, &mut text)?;
     Ok(text)
 }
 
@@ -53,12 +76,13 @@ fn append_work(alloc: Global, told: &Told<'_>, into: &mut Vec<u8>) -> Result<(),
 fn append_outcome(
     alloc: Global,
     told: &Told<'_>,
-    last: &mut Option<Digested>,
+    digested: &Digested,
     into: &mut Vec<u8>,
 ) -> Result<(), AllocError>
+    requires { digested.now ≡ told.now.memory }
     ensures { OnOk result (into.new.items ≡ into.old.items ++ outcome_part told.now) }
 {
-    memory_line(alloc, told.memory, last, into)?;
+    memory_line(alloc, digested, into)?;
     number_line(alloc, "output", told.output.len() as u64, into)?;
     into.extend_from_slice(told.output)?;
     into.push(b'\n')?;

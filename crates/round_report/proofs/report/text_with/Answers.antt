@@ -1,9 +1,10 @@
+-- What is left to prove of `text_with`.
 use Rattle.std.proofs.Common.{◌≡◌, ℕ, List, [], ◌∷◌, ◌++◌, length, codes, decimal, sym, ap, ◌∙◌, append_assoc, refl}
 use Rattle.std.specs.List.{concat}
 use Rattle.report_spec.specs.Text.{newline, line, list_line}
 use Rattle.report_spec.specs.Report.{Told, ending_text, entry_text, reused_count, executed_count, memory_digest, report_lines, report_text}
 use Rattle.round_report.specs.Parts.{steps_part, work_part, outcome_part}
-use Rattle.round_report.proofs.report.text.Goals as goal
+use Rattle.round_report.proofs.report.text_with.Goals as goal
 
 -- ten lines and what stands behind them, cut into four
 cut :
