@@ -1,12 +1,12 @@
 -- Where a reader of a file stands.
 use Rattle.std.specs.Prelude.{ℕ, ◌≡◌, ◌+◌, List, ◌++◌, length}
 
--- A place in a file: the number of bytes that were taken, and the bytes that are left. (this project's own)
+-- A place in a file: the number of bytes that were taken, and the bytes that are left.
 pub record Place : Type 0 where
   pub taken : ℕ
   pub left : List ℕ
 
--- These bytes were taken from the front of those that were left. (this project's own)
+-- These bytes were taken from the front of those that were left.
 pub record Takes (bytes : List ℕ) (before after : Place) : Type 0 where
   pub front : before.left ≡ bytes ++ after.left
   pub count : after.taken ≡ before.taken + length bytes

@@ -1,3 +1,5 @@
+//! A reader of the fields of a file.
+
 ghost use Rattle.std.specs.Prelude.{◌≡◌, ◌≤◌, ◌<◌, [], ◌∷◌, length, drop, IfOk, IsOk, OnErr};
 ghost use Rattle.byteorder.specs.Endian.{little_bytes};
 ghost use Rattle.ith_fields.specs.Place.{Place, Takes};
@@ -35,15 +37,8 @@ impl<'a> Cursor<'a> {
         Cursor { bytes, at: 0 }
     }
 
-    /// How many bytes were taken: the offset of the next field.
-    pub fn position(&self) -> usize
-        ensures { result ≡ self.now.taken }
-    {
-        self.at
-    }
-
     /// How many bytes are left.
-    pub fn remaining(&self) -> usize
+    fn remaining(&self) -> usize
         ensures { result ≡ length self.now.left }
     {
         self.bytes.len() - self.at
@@ -72,10 +67,8 @@ impl<'a> Cursor<'a> {
         ensures short { OnErr result (length self.old.left < 1) }
         ensures same { OnErr result (self.new ≡ self.old) }
     {
-        match self.bytes(1) {
-            Ok(piece) => Ok(piece[0]),
-            Err(short) => Err(short),
-        }
+        let piece = self.bytes(1)?;
+        Ok(piece[0])
     }
 
     /// The next two bytes as a number, the lower first, or `Short` exactly where fewer are left.
@@ -85,10 +78,8 @@ impl<'a> Cursor<'a> {
         ensures short { OnErr result (length self.old.left < 2) }
         ensures same { OnErr result (self.new ≡ self.old) }
     {
-        match self.bytes(2) {
-            Ok(piece) => Ok(u16_of(piece)),
-            Err(short) => Err(short),
-        }
+        let piece = self.bytes(2)?;
+        Ok(u16_of(piece))
     }
 
     /// The next four bytes as a number, the lowest first, or `Short` exactly where fewer are left.
@@ -98,10 +89,8 @@ impl<'a> Cursor<'a> {
         ensures short { OnErr result (length self.old.left < 4) }
         ensures same { OnErr result (self.new ≡ self.old) }
     {
-        match self.bytes(4) {
-            Ok(piece) => Ok(u32_of(piece)),
-            Err(short) => Err(short),
-        }
+        let piece = self.bytes(4)?;
+        Ok(u32_of(piece))
     }
 
     /// The next eight bytes as a number, the lowest first, or `Short` exactly where fewer are left.
@@ -111,10 +100,8 @@ impl<'a> Cursor<'a> {
         ensures short { OnErr result (length self.old.left < 8) }
         ensures same { OnErr result (self.new ≡ self.old) }
     {
-        match self.bytes(8) {
-            Ok(piece) => Ok(u64_of(piece)),
-            Err(short) => Err(short),
-        }
+        let piece = self.bytes(8)?;
+        Ok(u64_of(piece))
     }
 }
 

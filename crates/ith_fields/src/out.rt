@@ -1,3 +1,5 @@
+//! A writer of the fields of a file.
+
 ghost use Rattle.std.specs.Prelude.{◌≡◌, ◌↔◌, IsTrue, ℕ, List, [], ◌∷◌, ◌++◌, length, OnOk, OnErr};
 ghost use Rattle.byteorder.specs.Endian.{little_bytes};
 

@@ -1,3 +1,5 @@
+//! What no clause says: that fields are written with ample memory, and read again as they were.
+
 use crate::*;
 use std::test::Fail;
 
@@ -22,9 +24,7 @@ fn fields_are_read_as_they_were_written(rt: HostRuntime) -> Result<(), Fail> {
     assert_eq!(rt; cursor.u8(), Ok(1));
     assert_eq!(rt; cursor.u16(), Ok(0x0302));
     assert_eq!(rt; cursor.u32(), Ok(0x07060504));
-    assert_eq!(rt; cursor.position(), 9);
     assert_eq!(rt; cursor.u64(), Ok(0x0f0e0d0c0b0a0908));
-    assert_eq!(rt; cursor.remaining(), 0);
     assert_eq!(rt; cursor.u8(), Err(Short));
     Ok(())
 }

@@ -5,13 +5,14 @@ use Rattle.isa_spec.specs.Encoding.{encoding, InRange}
 use Rattle.rv_asm.specs.declared.item.Item.{Item}
 use Rattle.rv_asm.specs.declared.item.Item.TheVariants.{Instruction, Word, Byte}
 
--- The bytes of an item: an instruction is its word, and a word is four bytes, the lowest first. (RISC-V unprivileged ISA 20191213, 1.5)
+-- The bytes of an item: an instruction is its word, and a word is four bytes, the lowest first.
+-- (RISC-V unprivileged ISA 20191213, 1.5)
 abbrev pub item_bytes : Item → List ℕ
 item_bytes (Instruction instr) = little_bytes 4 (encoding instr)
 item_bytes (Word word) = little_bytes 4 word
 item_bytes (Byte byte) = byte ∷ []
 
--- The bytes of items in their order. (this project's own)
+-- The bytes of items in their order.
 abbrev pub items_bytes : List Item → List ℕ
 items_bytes items = flat_map item_bytes items
 

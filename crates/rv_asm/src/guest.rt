@@ -1,3 +1,5 @@
+//! The executable of a guest.
+
 ghost use Rattle.std.specs.Prelude.{◌≡◌, ◌≤◌, ◌<◌, ◌+◌, ◌^◌, ◌%◌, ◌++◌, All, length, IfOk, OnOk};
 ghost use Rattle.rv_asm.specs.Items.{items_bytes, memory_size, IsWritable};
 ghost use Rattle.rv_asm.specs.File.{halves, words, file_header, segment_header, guest_file};

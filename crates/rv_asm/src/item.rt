@@ -1,3 +1,5 @@
+//! What stands at the base of a guest.
+
 ghost use Rattle.std.specs.Prelude.{◌≡◌, ◌++◌, All, flat_map, IfOk, OnOk, OnErr};
 ghost use Rattle.byteorder.specs.Endian.{little_bytes};
 ghost use Rattle.rv_asm.specs.Items.{item_bytes, items_bytes, IsWritable};

@@ -1,9 +1,26 @@
-ghost use Rattle.std.specs.Prelude.{◌≤◌};
+//! Executables that are known byte by byte.
+
+ghost use Rattle.std.specs.Prelude.{◌≤◌, ◌<◌};
+ghost use Rattle.rv_asm.specs.Items.{IsWritable};
 
 use crate::*;
 use isa_spec::ImmediateOperation;
 use std::alloc::{AllocError, Global};
 use std::test::Fail;
+
+/// `addi rd, rs1, imm`.
+fn add_immediate(rd: u8, rs1: u8, imm: u8) -> Item
+    requires rd { rd < 32 }
+    requires rs1 { rs1 < 32 }
+    ensures { IsWritable result }
+{
+    Item::Instruction(Instr::Immediate {
+        operation: ImmediateOperation::Add,
+        rd,
+        rs1,
+        imm: u32::from(imm),
+    })
+}
 
 /// The guest of examples/hi.elf, as examples/README.md lists it, with zeros behind it; its second ECALL is given
 /// as its word.
@@ -15,37 +32,12 @@ fn hi(alloc: Global, bss: u32) -> Result<Vec<u8>, AllocError>
             rd: 10,
             imm: 0x10000,
         }),
-        Item::Instruction(Instr::Immediate {
-            operation: ImmediateOperation::Add,
-            rd: 10,
-            rs1: 10,
-            imm: 32,
-        }),
-        Item::Instruction(Instr::Immediate {
-            operation: ImmediateOperation::Add,
-            rd: 11,
-            rs1: 0,
-            imm: 3,
-        }),
-        Item::Instruction(Instr::Immediate {
-            operation: ImmediateOperation::Add,
-            rd: 17,
-            rs1: 0,
-            imm: 1,
-        }),
+        add_immediate(10, 10, 32),
+        add_immediate(11, 0, 3),
+        add_immediate(17, 0, 1),
         Item::Instruction(Instr::Ecall),
-        Item::Instruction(Instr::Immediate {
-            operation: ImmediateOperation::Add,
-            rd: 10,
-            rs1: 0,
-            imm: 0,
-        }),
-        Item::Instruction(Instr::Immediate {
-            operation: ImmediateOperation::Add,
-            rd: 17,
-            rs1: 0,
-            imm: 0,
-        }),
+        add_immediate(10, 0, 0),
+        add_immediate(17, 0, 0),
         Item::Word(0x00000073),
         Item::Byte(b'h'),
         Item::Byte(b'i'),

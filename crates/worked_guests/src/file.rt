@@ -37,8 +37,6 @@ pub fn file_of(alloc: Global, guest: Guest) -> Result<Option<Vec<u8>>, AllocErro
     if items.is_empty() || items.len() > 0x1_0000 || guest.bss > 0x1_0000 {
         return Ok(None);
     }
-    match elf(alloc, 0x10000, items.as_slice(), guest.bss) {
-        Ok(file) => Ok(Some(file)),
-        Err(error) => Err(error),
-    }
+    let file = elf(alloc, 0x10000, items.as_slice(), guest.bss)?;
+    Ok(Some(file))
 }

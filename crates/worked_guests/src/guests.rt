@@ -112,7 +112,8 @@ pub const LENGTH: Guest = Guest {
     bss: 0,
 };
 
-/// Locks a mutex where the first byte of the input is not zero; then another thread tries to lock it. Exits with the answer.
+/// Locks a mutex where the first byte of the input is not zero; then another thread tries to lock it. Exits with the
+/// answer.
 pub const TRY: Guest = Guest {
     lines: &[
         Lui(T0, 0xc0001),
@@ -201,7 +202,8 @@ pub const SELF: Guest = Guest {
     bss: 0,
 };
 
-/// Puts of no bytes, of too many, past the last address, and over the edge of a page; then the lowest bytes of their answers. Its words were written by another assembler.
+/// Puts of no bytes, of too many, past the last address, and over the edge of a page; then the lowest bytes of their
+/// answers. Its words were written by another assembler.
 pub const PUTS: Guest = Guest {
     lines: &[Bytes(
         b"\xb7\x12\x01\x00\x13\x05\x00\x00\x93\x05\x00\x00\x93\x08\x10\x00\x73\x00\x00\x00\x23\x80\xa2\x00\x37\x05\x01\x00\xb7\x15\x00\x00\x93\x85\x15\x00\x93\x08\x10\x00\x73\x00\x00\x00\xa3\x80\xa2\x00\x13\x05\xf0\xff\x93\x05\x20\x00\x93\x08\x10\x00\x73\x00\x00\x00\x23\x81\xa2\x00\x37\x15\x00\xc0\x13\x05\xe5\xff\x93\x05\x40\x00\x93\x08\x10\x00\x73\x00\x00\x00\xa3\x81\xa2\x00\x37\x15\x01\x00\x93\x05\x40\x00\x93\x08\x10\x00\x73\x00\x00\x00\x13\x05\x00\x00\x93\x08\x00\x00\x73\x00\x00\x00",
@@ -209,7 +211,8 @@ pub const PUTS: Guest = Guest {
     bss: 8072,
 };
 
-/// Creates one thread more than there may be, and one at a pc that is no multiple of 4; then puts out the lowest bytes of the answers. Its words were written by another assembler.
+/// Creates one thread more than there may be, and one at a pc that is no multiple of 4; then puts out the lowest bytes
+/// of the answers. Its words were written by another assembler.
 pub const CREATES: Guest = Guest {
     lines: &[Bytes(
         b"\x37\x14\x01\x00\x93\x04\x04\x02\x37\x05\x01\x00\x13\x05\xc5\x05\x93\x05\x00\x00\x93\x08\x20\x00\x73\x00\x00\x00\x23\x00\xa4\x00\x13\x04\x14\x00\xe3\x12\x94\xfe\x37\x05\x01\x00\x13\x05\x25\x00\x93\x05\x00\x00\x93\x08\x20\x00\x73\x00\x00\x00\x23\x00\xa4\x00\x37\x15\x01\x00\x93\x05\x10\x02\x93\x08\x10\x00\x73\x00\x00\x00\x13\x05\x00\x00\x93\x08\x00\x00\x73\x00\x00\x00\x13\x05\x00\x00\x93\x08\x30\x00\x73\x00\x00\x00",

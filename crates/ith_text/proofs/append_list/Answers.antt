@@ -1,3 +1,4 @@
+-- What is left to prove of `append_list`.
 use Rattle.std.proofs.Common.{◌≡◌, ℕ, List, ◌++◌, length, take, sym, ap, ◌∙◌, arith, length-append, append_assoc, flat_map, ◌+◌, refl}
 use Rattle.std.proofs.lemmas.List.{take-take, take_at}
 use Rattle.ith_text.specs.Lines.{list_item}

@@ -1,3 +1,4 @@
+-- What holds at the loop of `append_list`.
 use Rattle.std.proofs.Common.{take, ◌≡◌, ◌++◌, flat_map}
 use Rattle.ith_text.specs.Lines.{list_item}
 use Rattle.ith_text.proofs.append_list.Given as goal

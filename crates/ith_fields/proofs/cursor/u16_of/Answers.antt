@@ -1,3 +1,4 @@
+-- What is left to prove of `u16_of`.
 use Rattle.std.proofs.Common.{rules}
 use Rattle.ith_fields.proofs.Spelling.{spelled_two}
 use Rattle.ith_fields.proofs.cursor.u16_of.Goals as goal

@@ -1,3 +1,4 @@
+-- What is left to prove of `u32_of`.
 use Rattle.std.proofs.Common.{rules}
 use Rattle.ith_fields.proofs.Spelling.{spelled_four}
 use Rattle.ith_fields.proofs.cursor.u32_of.Goals as goal

@@ -1,3 +1,4 @@
+-- What is left to prove of `u64_of`.
 use Rattle.std.proofs.Common.{rules}
 use Rattle.ith_fields.proofs.Spelling.{spelled_eight}
 use Rattle.ith_fields.proofs.cursor.u64_of.Goals as goal

@@ -1,3 +1,4 @@
+-- What is left to prove of `elf`.
 use Rattle.std.proofs.Common.{◌+◌, length, sym, subst, arith}
 use Rattle.rv_asm.specs.Items.{items_bytes}
 use Rattle.rv_asm.specs.File.{guest_file}

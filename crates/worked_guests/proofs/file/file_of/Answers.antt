@@ -1,3 +1,4 @@
+-- What is left to prove of `file_of`.
 use Rattle.std.proofs.Common.{◌≤◌, ◌<◌, length, arith}
 use Rattle.worked_guests.proofs.Sizes.{sizes}
 use Rattle.worked_guests.proofs.file.file_of.Goals as goal
