@@ -1,5 +1,5 @@
 -- The smallest history that can be had, by which the definitions of histories are tried.
-use Rattle.std.proofs.Common.{◌≡◌, ◌<◌, ◌≤◌, ◌+◌, ℕ, Bool, true, false, ◌&&◌, [], ◌∷◌, length, Option, Some, None, is_none, is_some, refl, ap, ◌∙◌, arith}
+use Rattle.std.proofs.Common.{◌≡◌, ◌<◌, ℕ, Bool, true, false, ◌&&◌, [], ◌∷◌, length, Option, Some, None, is_none, is_some, refl, ap, ◌∙◌, arith}
 use Rattle.std.proofs.lemmas.List.Elements.{recursion_from_All, All-from_recursion}
 use Rattle.elf_spec.proofs.Examples.{hi_elf, hi_is_accepted}
 use Rattle.thunk_spec.specs.declared.ends.ThunkEnd.TheVariants.{Fuel}

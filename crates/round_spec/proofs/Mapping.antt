@@ -7,7 +7,7 @@ use Rattle.thunk_spec.specs.Thunk.{Frame}
 use Rattle.record_spec.specs.Record.{Record}
 use Rattle.machine_spec.specs.Machine.{hart_of}
 use Rattle.machine_spec.specs.Schedule.{record_of}
-use Rattle.machine_spec.specs.Setup.{Setup, first, map_of}
+use Rattle.machine_spec.specs.Setup.{Setup, map_of}
 use Rattle.history_spec.specs.History.{History, IsMappedIn, IsMapped, past_records}
 use Rattle.history_spec.proofs.Scratch.{step-frame}
 use Rattle.history_spec.proofs.Laying.{lay-frame}
@@ -16,7 +16,7 @@ use Rattle.history_spec.proofs.Mapped.{record-mapped, first-map}
 use Rattle.round_spec.specs.declared.events.Event.{Event}
 use Rattle.round_spec.specs.declared.events.Event.TheVariants.{Take, Reuse, Commit, GiveBack, Stop}
 use Rattle.round_spec.specs.Marks.{record_for}
-use Rattle.round_spec.specs.Rounds.{RoundState, opening, is_over, is_out, can_take, can_reuse, taken, reused_by, committed, given_back, with_stop, happens, all_happen, round_after, history_of}
+use Rattle.round_spec.specs.Rounds.{RoundState, opening, is_over, is_out, can_take, can_reuse, taken, reused_by, committed, given_back, happens, all_happen, round_after, history_of}
 use Rattle.round_spec.proofs.Leaving.{same-happens, round-setup}
 
 -- what holds of both holds of either

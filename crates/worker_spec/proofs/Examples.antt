@@ -95,6 +95,10 @@ pub begun-alone : begun_in 9 (starts (begins 9 9 late) None) ≡ 0 ∷ 1 ∷ 0 �
 unfolding nobody_out is_due free_threads least_by best choice_by pick_of happens step finished lay fits fits_at put_of reads_of thunk turn fetched number_at number_in permission_at decoded reading_of u_immediate i_immediate s_immediate immediate_result shift_result register_result with_register is_readable put_addresses loaded may_store bytes_stored with_byte first_registers all_unlocked
 begun-alone = refl
 
+pub begun-two : begun_in 2 (starts (begins 9 9 late) None) ≡ 0 ∷ 1 ∷ []
+unfolding nobody_out is_due free_threads least_by best choice_by pick_of happens step finished lay fits fits_at put_of reads_of thunk turn fetched number_at number_in permission_at decoded reading_of u_immediate i_immediate s_immediate immediate_result shift_result register_result with_register is_readable put_addresses loaded may_store bytes_stored with_byte first_registers all_unlocked
+begun-two = refl
+
 pub begun-edited : begun_in 9 (starts (begins 9 9 (forgets 7)) was_4) ≡ 0 ∷ []
 unfolding nobody_out is_due free_threads least_by best choice_by pick_of happens step finished lay fits fits_at put_of reads_of thunk turn fetched number_at number_in permission_at decoded reading_of u_immediate i_immediate s_immediate immediate_result shift_result register_result with_register is_readable put_addresses loaded may_store bytes_stored with_byte first_registers all_unlocked
 begun-edited = refl

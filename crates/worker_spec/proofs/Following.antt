@@ -9,7 +9,7 @@ use Rattle.machine_spec.specs.declared.states.End.{End}
 use Rattle.machine_spec.specs.Machine.{Machine, hart_of, is_ready}
 use Rattle.machine_spec.specs.Step.{step, can_step}
 use Rattle.machine_spec.specs.Schedule.{scratch_from, is_permitted_from, record_of, records_from}
-use Rattle.machine_spec.specs.Setup.{Setup, first, scratch, records}
+use Rattle.machine_spec.specs.Setup.{first, scratch, records}
 use Rattle.machine_spec.specs.Whole.{IsWhole}
 use Rattle.machine_spec.proofs.Beginning.{IsWhole-first}
 use Rattle.machine_spec.proofs.Alone.{step-limit, step-steps, first-limit}

@@ -1,6 +1,6 @@
 -- The whole round of one worker: its schedule is permitted and complete, and by a sound history it is the round which
 -- that makes.
-use Rattle.std.proofs.Common.{◌≡◌, ◌≢◌, ◌≤◌, ◌+◌, ℕ, zero, suc, Bool, true, false, cond, List, [], ◌∷◌, ◌++◌, Option, Some, None, is_some, unwrap_or, refl, ap, sym, ◌∙◌, subst, append_assoc, append-nil, arith}
+use Rattle.std.proofs.Common.{◌≡◌, ◌≤◌, ◌+◌, ℕ, zero, suc, Bool, true, false, cond, List, [], ◌∷◌, ◌++◌, Option, Some, None, is_some, unwrap_or, refl, ap, sym, ◌∙◌, subst, append_assoc, append-nil, arith}
 use Rattle.record_spec.specs.Record.{Record}
 use Rattle.machine_spec.specs.declared.states.End.{End}
 use Rattle.machine_spec.specs.Machine.{Machine, hart_of}
@@ -15,15 +15,12 @@ use Rattle.history_spec.specs.History.{History, IsSound}
 use Rattle.history_spec.proofs.Scratch.{and-left, and-right, step-frame, scratch-whole, scratch-more, permitted-more}
 use Rattle.history_spec.proofs.Truth.{reuse-record}
 use Rattle.report_spec.specs.Report.{threads_of}
-use Rattle.round_spec.specs.declared.events.Pick.{Pick}
-use Rattle.round_spec.specs.declared.events.Pick.TheVariants as pick
 use Rattle.round_spec.specs.Marks.{record_for, is_fitting, fits_next, marked_from, marked, source_of, sourced_from}
 use Rattle.round_spec.specs.Rounds.{RoundState, opening}
-use Rattle.round_spec.specs.Choice.{pick_of}
 use Rattle.round_spec.specs.Alone.{guided_from, one_worker, after_picks, lone_round}
 use Rattle.round_spec.specs.Keeping.{IsFromScratch}
 use Rattle.worker_spec.specs.OneWorker.{made_by}
-use Rattle.worker_spec.proofs.Picks.{marked-threads, after-made, after-over, guided-over, guided-next, Stands, Over, Goes, stands, pick-over, pick-chosen, running}
+use Rattle.worker_spec.proofs.Picks.{marked-threads, after-made, after-over, guided-over, guided-next, Stands, Over, Goes, stands}
 
 -- the schedule of one worker is permitted
 pub guided-permitted :

@@ -4,7 +4,7 @@ use Rattle.record_spec.specs.Record.{Record}
 use Rattle.machine_spec.specs.declared.states.End.{End}
 use Rattle.machine_spec.specs.Machine.{Machine, hart_of, is_ready}
 use Rattle.machine_spec.specs.Step.{step, lay, fits, can_step}
-use Rattle.machine_spec.specs.Schedule.{scratch_from, record_of}
+use Rattle.machine_spec.specs.Schedule.{record_of}
 use Rattle.machine_spec.specs.Setup.{Setup, first, scratch, records}
 use Rattle.machine_spec.specs.Choice.{chosen_first}
 use Rattle.machine_spec.specs.Whole.{IsWhole}
