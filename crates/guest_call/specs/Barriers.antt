@@ -1,5 +1,6 @@
 -- Barriers, at which threads wait until as many have come as the barrier counts.
 use Rattle.std.specs.Prelude.{ℕ, ◌+◌, ◌==◌, ◌&&◌, Bool, nat_le, List, [], ◌∷◌, ◌++◌, length, Option, Some, None, if◌then◌else◌}
+use Rattle.guest_call.specs.declared.thread_number.TheConstants.{THREADS}
 use Rattle.guest_call.specs.Answers.{answer_ebusy, answer_einval}
 use Rattle.guest_call.specs.Effect.{Effect, Returns, answers, blocks, wakes}
 use Rattle.guest_call.specs.Tables.{at_cell, checked}
@@ -21,7 +22,7 @@ barrier_queue c = c.queue
 -- whether a barrier may count so many: at least one, and no more than there can be threads (POSIX.1-2017,
 -- pthread_barrier_init)
 abbrev pub is_count : ℕ → Bool
-is_count n = nat_le 1 n && nat_le n 32
+is_count n = nat_le 1 n && nat_le n THREADS
 
 -- barrier_init with a count in range: refused while somebody waits; else the count is n (POSIX.1-2017,
 -- pthread_barrier_init)

@@ -1,5 +1,7 @@
 -- All objects of synchronisation, and what each environment call answers and changes.
 use Rattle.std.specs.Prelude.{ℕ, ◌+◌, ◌^◌, ◌%◌, ◌==◌, ◌≡◌, ◌≤◌, ◌<◌, Bool, not, ◌&&◌, nat_lt, nat_le, List, [], ◌∷◌, length, replicate, slice_index_or, slice_set, Option, Some, None, All, if◌then◌else◌}
+use Rattle.guest_call.specs.declared.TheConstants.{OBJECTS}
+use Rattle.guest_call.specs.declared.thread_number.TheConstants.{THREADS}
 use Rattle.guest_call.specs.declared.Call.{Call}
 use Rattle.guest_call.specs.declared.Call.TheVariants.{Exit, Put, Create, ThreadExit, Join, Yield, Lock, TryLock, Unlock, SemWait, SemTryWait, SemPost, SemInit, BarrierInit, BarrierWait, CondWait, Signal, Broadcast}
 use Rattle.guest_call.specs.declared.Object.{Object}
@@ -24,19 +26,19 @@ pub record Objects : Type 0 where
 
 -- 64 free mutexes
 unfoldable pub all_unlocked : List Mutex
-all_unlocked = replicate 64 unlocked
+all_unlocked = replicate OBJECTS unlocked
 
 -- 64 semaphores of value 0
 unfoldable pub all_unposted : List Semaphore
-all_unposted = replicate 64 unposted
+all_unposted = replicate OBJECTS unposted
 
 -- 64 barriers that aren't initialised
 unfoldable pub all_uninitialised : List Barrier
-all_uninitialised = replicate 64 uninitialised
+all_uninitialised = replicate OBJECTS uninitialised
 
 -- 64 conditions for which nobody waits
 unfoldable pub all_unawaited : List Condition
-all_unawaited = replicate 64 unawaited
+all_unawaited = replicate OBJECTS unawaited
 
 -- the objects at the start: thread 0 alone exists, and nothing is in use
 abbrev pub opening : Objects
@@ -81,7 +83,7 @@ on_pair row o c m =
 
 -- who leaves the condition of number c comes to the mutex with which it waited (POSIX.1-2017, pthread_cond_broadcast)
 abbrev pub leave : (Condition → Leaving) → Objects → ℕ → Effect × Objects
-leave leaving o c = checked (nat_lt c 64) o (on_pair (leave_row leaving) o c (condition_at o c).mutex)
+leave leaving o c = checked (nat_lt c OBJECTS) o (on_pair (leave_row leaving) o c (condition_at o c).mutex)
 
 -- whether the n bytes from p lie below 2^32 and may all be read
 abbrev pub can_read : (ℕ → ℕ → Bool) → ℕ → ℕ → Bool
@@ -117,7 +119,7 @@ act readable o t (SemPost s) = on_semaphore sem_post_row o s
 act readable o t (SemInit s n) = checked (nat_le n largest_value) o (on_semaphore (sem_init_row n) o s)
 act readable o t (BarrierInit b n) = checked (is_count n) o (on_barrier (barrier_init_row n) o b)
 act readable o t (BarrierWait b) = on_barrier (barrier_wait_row t) o b
-act readable o t (CondWait c m) = checked (nat_lt c 64 && nat_lt m 64) o (on_pair (cond_wait_row t m) o c m)
+act readable o t (CondWait c m) = checked (nat_lt c OBJECTS && nat_lt m OBJECTS) o (on_pair (cond_wait_row t m) o c m)
 act readable o t (Signal c) = leave signal_leaving o c
 act readable o t (Broadcast c) = leave broadcast_leaving o c
 
@@ -131,7 +133,7 @@ waited_mutex c = one_of (not (length c.queue == 0)) (object.Mutex c.mutex)
 
 -- the objects on which a condition's waiters come and go: the condition, and its mutex if somebody waits
 abbrev pub leave_objects : Objects → ℕ → List Object
-leave_objects o c = if nat_lt c 64 then object.Condition c ∷ waited_mutex (condition_at o c) else []
+leave_objects o c = if nat_lt c OBJECTS then object.Condition c ∷ waited_mutex (condition_at o c) else []
 
 -- the objects on which a call acts: put on the output, where it appends; thread_exit and join on the threads; exit and
 -- yield on none; signal and broadcast on a mutex too, if a thread leaves; all others on the objects that they name,
@@ -143,16 +145,16 @@ acts_on readable o (Create pc argument) = one_of (pc % 4 == 0) object.ThreadTabl
 acts_on readable o (ThreadExit v) = object.ThreadTable ∷ []
 acts_on readable o (Join u) = object.ThreadTable ∷ []
 acts_on readable o Yield = []
-acts_on readable o (Lock m) = one_of (nat_lt m 64) (object.Mutex m)
-acts_on readable o (TryLock m) = one_of (nat_lt m 64) (object.Mutex m)
-acts_on readable o (Unlock m) = one_of (nat_lt m 64) (object.Mutex m)
-acts_on readable o (SemWait s) = one_of (nat_lt s 64) (object.Semaphore s)
-acts_on readable o (SemTryWait s) = one_of (nat_lt s 64) (object.Semaphore s)
-acts_on readable o (SemPost s) = one_of (nat_lt s 64) (object.Semaphore s)
-acts_on readable o (SemInit s n) = one_of (nat_lt s 64 && nat_le n largest_value) (object.Semaphore s)
-acts_on readable o (BarrierInit b n) = one_of (nat_lt b 64 && is_count n) (object.Barrier b)
-acts_on readable o (BarrierWait b) = one_of (nat_lt b 64) (object.Barrier b)
-acts_on readable o (CondWait c m) = if nat_lt c 64 && nat_lt m 64 then object.Condition c ∷ object.Mutex m ∷ [] else []
+acts_on readable o (Lock m) = one_of (nat_lt m OBJECTS) (object.Mutex m)
+acts_on readable o (TryLock m) = one_of (nat_lt m OBJECTS) (object.Mutex m)
+acts_on readable o (Unlock m) = one_of (nat_lt m OBJECTS) (object.Mutex m)
+acts_on readable o (SemWait s) = one_of (nat_lt s OBJECTS) (object.Semaphore s)
+acts_on readable o (SemTryWait s) = one_of (nat_lt s OBJECTS) (object.Semaphore s)
+acts_on readable o (SemPost s) = one_of (nat_lt s OBJECTS) (object.Semaphore s)
+acts_on readable o (SemInit s n) = one_of (nat_lt s OBJECTS && nat_le n largest_value) (object.Semaphore s)
+acts_on readable o (BarrierInit b n) = one_of (nat_lt b OBJECTS && is_count n) (object.Barrier b)
+acts_on readable o (BarrierWait b) = one_of (nat_lt b OBJECTS) (object.Barrier b)
+acts_on readable o (CondWait c m) = if nat_lt c OBJECTS && nat_lt m OBJECTS then object.Condition c ∷ object.Mutex m ∷ [] else []
 acts_on readable o (Signal c) = leave_objects o c
 acts_on readable o (Broadcast c) = leave_objects o c
 
@@ -171,12 +173,12 @@ ended_at o u = (member_at o.threads u).value
 -- table wait, and each in at most one place
 pub record IsKept (o : Objects) : Type 0 where
   pub some_thread : 1 ≤ length o.threads
-  pub few_threads : length o.threads ≤ 32
-  pub all_mutexes : length o.mutexes ≡ 64
-  pub all_semaphores : length o.semaphores ≡ 64
-  pub all_barriers : length o.barriers ≡ 64
-  pub all_conditions : length o.conditions ≡ 64
-  pub named : All (λ (c : Condition). c.mutex < 64) o.conditions
+  pub few_threads : length o.threads ≤ THREADS
+  pub all_mutexes : length o.mutexes ≡ OBJECTS
+  pub all_semaphores : length o.semaphores ≡ OBJECTS
+  pub all_barriers : length o.barriers ≡ OBJECTS
+  pub all_conditions : length o.conditions ≡ OBJECTS
+  pub named : All (λ (c : Condition). c.mutex < OBJECTS) o.conditions
   pub once : (t : ℕ) → waits_at o t ≤ 1
   pub known : (t : ℕ) → length o.threads ≤ t → waits_at o t ≡ 0
 

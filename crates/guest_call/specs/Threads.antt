@@ -1,5 +1,6 @@
 -- The table of threads: who has ended with which value, and who joins whom.
 use Rattle.std.specs.Prelude.{ℕ, ◌%◌, ◌==◌, List, [], ◌∷◌, ◌++◌, length, Option, Some, None, is_some, not, nat_lt, option_to_list, slice_index_or, slice_set, if◌then◌else◌}
+use Rattle.guest_call.specs.declared.thread_number.TheConstants.{THREADS}
 use Rattle.guest_call.specs.Answers.{answer_esrch, answer_eagain, answer_einval, answer_edeadlk}
 use Rattle.guest_call.specs.Effect.{Effect, Returns, Ends, answers, blocks, wakes}
 
@@ -36,7 +37,7 @@ creates number pc argument =
 abbrev pub create_row : ℕ → ℕ → List Member → Effect × List Member
 create_row pc argument members =
     if not (pc % 4 == 0) then (answers answer_einval, members)
-    else if not (nat_lt (length members) 32) then (answers answer_eagain, members)
+    else if not (nat_lt (length members) THREADS) then (answers answer_eagain, members)
     else (creates (length members) pc argument, members ++ fresh ∷ [])
 
 -- the thread has ended with this value (POSIX.1-2017, pthread_exit)

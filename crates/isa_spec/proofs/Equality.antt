@@ -1,19 +1,14 @@
 -- The comparison of registers says whether they are equal.
 use Rattle.std.proofs.Common.{◌≡◌, ℕ, Bool, true, false, ◌&&◌, eqb, List, refl, ap, ◌∙◌}
-use Rattle.std.proofs.lemmas.Bool.{eq-eqb, eqb-true}
+use Rattle.std.proofs.lemmas.Bool.{eq-eqb, eqb-true, and_parts}
 use Rattle.std.proofs.lemmas.Slice.Eq.{bytes_eq-Decides}
 use Rattle.std.specs.Bool.{Decides}
 use Rattle.std.specs.Str.{bytes_eq}
 use Rattle.isa_spec.specs.Registers.{Registers, same_registers}
 
-both : (x y : Bool) → x && y ≡ true → (x ≡ true) × (y ≡ true)
-both true true is = (refl, refl)
-both true false is = cc
-both false y is = cc
-
 pub same_registers-true : (a b : Registers) → same_registers a b ≡ true → a ≡ b
 same_registers-true a b same =
-    let parts = both (eqb a.pc b.pc) (bytes_eq a.x b.x) same in
+    let parts = and_parts (eqb a.pc b.pc) (bytes_eq a.x b.x) same in
     let pc : a.pc ≡ b.pc = eqb-true a.pc b.pc parts.0 in
     let x : a.x ≡ b.x = (bytes_eq-Decides a.x b.x).0 parts.1 in
     ap (λ (n : ℕ). record { pc = n; x = a.x }) pc ∙ ap (λ (xs : List ℕ). record { pc = b.pc; x = xs }) x

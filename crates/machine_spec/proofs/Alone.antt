@@ -1,6 +1,6 @@
 -- The schedule that follows the choice is permitted and complete.
 use Rattle.std.proofs.Common.{◌≡◌, ◌≢◌, ◌<◌, ◌≤◌, ◌+◌, ℕ, zero, suc, Bool, true, false, not, ◌&&◌, ◌||◌, eqb, ltb, cond, min, List, [], ◌∷◌, length, map, get_or, Option, Some, None, is_some, is_none, refl, ap, sym, ◌∙◌, inl, inr, arith}
-use Rattle.std.proofs.lemmas.Bool.{eq-eqb, cases_lt}
+use Rattle.std.proofs.lemmas.Bool.{and_parts, eq-eqb, cases_lt}
 use Rattle.std.proofs.lemmas.Bool.Decides.{nat_tests}
 use Rattle.std.proofs.lemmas.List.Quantifiers.{position-Some}
 use Rattle.std.specs.List.{list_any, filter, position, position_or_len}
@@ -100,11 +100,7 @@ pub choice-ready : (m : Machine) (t : ℕ) → choice m ≡ Some t → is_ready 
 unfolding choice
 choice-ready m t chosen =
     let found = position-Some (is_ready_at (least (ready_numbers m.harts))) m.harts t nobody chosen in
-    left (is_ready (hart_of m t).status) (eqb (hart_of m t).number (least (ready_numbers m.harts))) found.1
-  where
-    left : (a b : Bool) → (a && b) ≡ true → a ≡ true
-    left true b h = refl
-    left false b h = h
+    (and_parts (is_ready (hart_of m t).status) (eqb (hart_of m t).number (least (ready_numbers m.harts))) found.1).0
 
 -- a step is counted, and the limit stays
 done-limit : (m : Machine) (t : ℕ) (a : Asked) → (done_as_asked m t a).limit ≡ m.limit

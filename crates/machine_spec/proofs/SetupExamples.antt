@@ -1,11 +1,13 @@
 -- Worked examples of what a run starts from, each computed by the checker. The addresses are those that the map
 -- prescribes.
-use Rattle.std.proofs.Common.{◌≡◌, [], ◌∷◌, ◌++◌, length, map, replicate, refl}
+use Rattle.std.proofs.Common.{◌≡◌, ◌*◌, [], ◌∷◌, ◌++◌, length, map, replicate, refl, arith}
 use Rattle.memory_spec.specs.Pages.{permission_at, zero_page}
 use Rattle.elf_spec.specs.Fields.{u16_at, u32_at}
 use Rattle.elf_spec.specs.Image.{image_pages, image_page, image_byte, image_memory, entry_of}
 use Rattle.elf_spec.proofs.Examples.{hi_elf}
 use Rattle.thunk_spec.specs.Put.{byte_at}
+use Rattle.machine_spec.specs.declared.TheConstants.{MOST_INPUT_BYTES, MOST_OUTPUT_BYTES, MOST_STEPS}
+use Rattle.machine_spec.specs.Limits.{AreLimits}
 use Rattle.machine_spec.specs.Machine.{hart_of}
 use Rattle.machine_spec.specs.Performing.{first_registers}
 use Rattle.machine_spec.specs.Setup.{Setup, data_pages, map_of, header_page, input_page, input_memory, stack_memory, start_memory, first}
@@ -47,3 +49,29 @@ first-registers = refl
 pub first-threads : length (first setup).harts ≡ 1
 unfolding first
 first-threads = refl
+
+-- The smallest and the largest limits, and one past each.
+pub limits-least : AreLimits 1 1
+limits-least = record { some_fuel = omega arith; most_fuel = omega arith; some_steps = omega arith; most_steps = omega arith }
+
+pub limits-most : AreLimits 16777216 65536
+limits-most = record { some_fuel = omega arith; most_fuel = omega arith; some_steps = omega arith; most_steps = omega arith }
+
+pub limits-no_fuel : AreLimits 0 1 → ⊥
+limits-no_fuel are = let some = are.some_fuel in omega arith
+
+pub limits-much_fuel : AreLimits 16777217 1 → ⊥
+limits-much_fuel are = let most = are.most_fuel in omega arith
+
+pub limits-no_steps : AreLimits 1 0 → ⊥
+limits-no_steps are = let some = are.some_steps in omega arith
+
+pub limits-many_steps : AreLimits 1 65537 → ⊥
+limits-many_steps are = let most = are.most_steps in omega arith
+
+-- The longest input fills its 256 pages, and the longest output has 4,096 bytes of each step.
+pub longest-input : MOST_INPUT_BYTES ≡ 256 * 4096
+longest-input = refl
+
+pub longest-output : MOST_OUTPUT_BYTES ≡ MOST_STEPS * 4096
+longest-output = refl

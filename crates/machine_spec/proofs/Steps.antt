@@ -2,6 +2,7 @@
 -- fits is.
 use Rattle.std.proofs.Common.{◌≡◌, ◌≢◌, ◌<◌, ◌≤◌, ◌+◌, ℕ, zero, suc, Bool, true, false, ◌&&◌, not, eqb, leb, cond, List, [], ◌∷◌, ◌++◌, length, get_or, set, Option, Some, None, is_none, refl, ap, sym, ◌∙◌, subst, inl, inr, arith}
 use Rattle.std.proofs.lemmas.Bool.{eqb-true}
+use Rattle.std.proofs.lemmas.Bool.{and_parts}
 use Rattle.std.proofs.lemmas.Bool.Decides.{nat_tests}
 use Rattle.std.proofs.lemmas.List.{get_or-set_other}
 use Rattle.std.proofs.lemmas.Slice.Eq.{bytes_eq-Decides}
@@ -29,7 +30,7 @@ use Rattle.machine_spec.specs.declared.states.End.{End}
 use Rattle.machine_spec.specs.Limits.{AreLimits}
 use Rattle.machine_spec.specs.Machine.{Hart, Machine, hart_in, hart_of, nobody, is_ready, is_ended}
 use Rattle.machine_spec.specs.Performing.{returned, fated, woken, first_hart, with_created, settled}
-use Rattle.machine_spec.specs.Step.{written, Asked, Asks, Stops, asked, fate_end, state_end, end_after, performed, done_as_asked, finished, step, lay, fits, can_step}
+use Rattle.machine_spec.specs.Step.{advanced, written, Asked, Asks, Stops, asked, fate_end, state_end, end_after, performed, done_as_asked, finished, step, lay, fits, can_step}
 use Rattle.machine_spec.specs.Whole.{IsTied, IsHartOf, IsWhole}
 use Rattle.machine_spec.proofs.Harts.{ready-below, status-set}
 use Rattle.machine_spec.proofs.Tied.{tied-written, tied-called, stays-called}
@@ -42,12 +43,7 @@ ready-written :
 ready-written m t memory regs put ready =
     ap is_ready
     (status-set m.harts t t
-    (record {
-      view = (hart_of m t).view;
-      regs = regs;
-      number = suc (hart_of m t).number;
-      status = (hart_of m t).status;
-    }) refl)
+    (advanced (hart_of m t) regs) refl)
     ∙ ready
 
 tied-after_writing :
@@ -56,12 +52,7 @@ tied-after_writing :
     → IsTied (written m t memory regs put).objects (written m t memory regs put).harts
 tied-after_writing m t memory regs put tied =
     tied-written m.objects m.harts t
-    (record {
-      view = (hart_of m t).view;
-      regs = regs;
-      number = suc (hart_of m t).number;
-      status = (hart_of m t).status;
-    }) refl tied
+    (advanced (hart_of m t) regs) refl tied
 
 done-stays :
     (m : Machine) (t u : ℕ) (a : Asked)
@@ -81,23 +72,10 @@ unfolding finished
 finished-stays m t u memory regs e put tied ready other ready_u =
     let same : hart_of (written m t memory regs put) u ≡ hart_of m u =
     get_or-set_other m.harts t u
-    (record {
-      view = (hart_of m t).view;
-      regs = regs;
-      number = suc (hart_of m t).number;
-      status = (hart_of m t).status;
-    }) nobody other in
+    (advanced (hart_of m t) regs) nobody other in
     done-stays (written m t memory regs put) t u (asked t e regs) (tied-after_writing m t memory regs put tied)
     (ready-written m t memory regs put ready) other (ap (λ (h : Hart). is_ready h.status) same ∙ ready_u)
     ∙ same
-
-and-left : (a b : Bool) → (a && b) ≡ true → a ≡ true
-and-left true b h = refl
-and-left false b h = h
-
-and-right : (a b : Bool) → (a && b) ≡ true → b ≡ true
-and-right true b h = h
-and-right false b h = cc
 
 can_step-ready : (m : Machine) (t : ℕ) → can_step m t ≡ true → is_ready (hart_of m t).status ≡ true
 can_step-ready m t can = grind (arith, nat_tests)
@@ -262,7 +240,7 @@ done-whole m t (Stops e) w =
 
 can_step-left : (m : Machine) (t : ℕ) → IsWhole m → can_step m t ≡ true → m.steps < m.limit
 can_step-left m t whole can =
-    whole.steps_left (none-is m.ending (and-left (is_none m.ending) (is_ready (hart_of m t).status) can))
+    whole.steps_left (none-is m.ending (and_parts (is_none m.ending) (is_ready (hart_of m t).status) can).0)
   where
     none-is : (e : Option End) → is_none e ≡ true → e ≡ None
     none-is (Some e) h = cc
@@ -283,12 +261,7 @@ finished-whole m t memory regs e put whole can fit =
       memory = fit;
       harts =
           hart-set m.frame.map (suc m.steps) m.harts t
-          (record {
-            view = (hart_of m t).view;
-            regs = regs;
-            number = suc (hart_of m t).number;
-            status = (hart_of m t).status;
-          })
+          (advanced (hart_of m t) regs)
           (record { view = here.view; number = let number = here.number in omega arith })
           (hart-later m.frame.map m.steps m.harts whole.harts);
       tied = tied-after_writing m t memory regs put whole.tied;

@@ -23,6 +23,10 @@ use Rattle.machine_spec.specs.declared.states.End.TheVariants as end
 use Rattle.machine_spec.specs.Machine.{Hart, Machine, hart_of, is_ready, is_ended}
 use Rattle.machine_spec.specs.Performing.{settled}
 
+-- A hart after its thunk was written: it has the thunk's last registers, and has made one step more.
+abbrev pub advanced : Hart → Registers → Hart
+advanced h regs = record { view = h.view; regs = regs; number = suc h.number; status = h.status }
+
 -- The machine after thread t's thunk was written: shared memory, the thread's last registers, one step more, and on the
 -- output the bytes of the put that ends it, if one does. Each call releases.
 abbrev pub written : Machine → ℕ → Memory → Registers → List ℕ → Machine
@@ -30,13 +34,7 @@ written m t memory regs put =
     record m {
       memory = memory;
       harts =
-          slice_set m.harts t
-          (record {
-            view = (hart_of m t).view;
-            regs = regs;
-            number = suc (hart_of m t).number;
-            status = (hart_of m t).status;
-          });
+          slice_set m.harts t (advanced (hart_of m t) regs);
       output = m.output ++ put;
       steps = suc m.steps;
     }

@@ -1,6 +1,6 @@
 -- What is kept of a thunk is true of it on every view that has the read pages.
 use Rattle.std.proofs.Common.{◌≡◌, ◌<◌, ◌≤◌, ◌≢◌, ◌+◌, ℕ, zero, suc, Bool, true, false, ◌&&◌, List, [], ◌∷◌, length, get_or, set, refl, ap, sym, ◌∙◌, subst, inl, inr, arith}
-use Rattle.std.proofs.lemmas.Bool.{cases_eq, cases_lt}
+use Rattle.std.proofs.lemmas.Bool.{and_parts, cases_eq, cases_lt}
 use Rattle.std.proofs.lemmas.Bool.Decides.{nat_tests}
 use Rattle.std.proofs.lemmas.List.{get_or-set_same, get_or-set_other, get_or_past, length-set}
 use Rattle.std.proofs.lemmas.Slice.Eq.{bytes_eq-Decides}
@@ -22,14 +22,6 @@ use Rattle.record_spec.proofs.Merging.{masked-delta_of}
 pub record SameAt (flags : List Bool) (k : ℕ) (view other : Memory) : Type 0 where
   pub at : (j i : ℕ) → i ≡ k + j → get_or flags j false ≡ true → page_of other i ≡ page_of view i
 
-and-left : (a b : Bool) → (a && b) ≡ true → a ≡ true
-and-left true b h = refl
-and-left false b h = h
-
-and-right : (a b : Bool) → (a && b) ≡ true → b ≡ true
-and-right true b h = h
-and-right false b h = cc
-
 pub same-has :
     (flags : List Bool) (k : ℕ) (view other : Memory)
     → has other (reads_from k flags view) ≡ true
@@ -38,10 +30,10 @@ same-has [] k view other h = record { at = λ j i e flag. cc }
 same-has (true ∷ flags) k view other h =
     let rest : SameAt flags (suc k) view other =
     same-has flags (suc k) view other
-    (and-right (bytes_eq (page_of other k) (page_of view k)) (has other (reads_from (suc k) flags view)) h) in
+    (and_parts (bytes_eq (page_of other k) (page_of view k)) (has other (reads_from (suc k) flags view)) h).1 in
     let here : page_of other k ≡ page_of view k =
     (bytes_eq-Decides (page_of other k) (page_of view k)).0
-    (and-left (bytes_eq (page_of other k) (page_of view k)) (has other (reads_from (suc k) flags view)) h) in
+    (and_parts (bytes_eq (page_of other k) (page_of view k)) (has other (reads_from (suc k) flags view)) h).0 in
     record {
       at = elim [
         | zero ↦ λ i e flag. let is : i ≡ k = omega arith in rw is here
