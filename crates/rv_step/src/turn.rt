@@ -1,6 +1,6 @@
 //! One turn.
 
-ghost use Rattle.std.specs.Prelude.{◌≡◌, IfOk, OnErr};
+ghost use Rattle.std.specs.Prelude.{◌≡◌, ◌+◌, IfOk, OnErr};
 ghost use Rattle.isa_spec.specs.Encoding.{InRange};
 ghost use Rattle.memory_spec.specs.Workspace.{OnlyTook};
 ghost use Rattle.thunk_spec.specs.Turn.{executed, turn};
@@ -17,7 +17,9 @@ use page_map::Mem;
 use rv_alu::Regs;
 use rv_decode::decode;
 use std::alloc::AllocError;
+use std::sync::ledger::Ledger;
 use thunk_spec::Outcome;
+use turn_count::Turns;
 
 /// Executes an instruction (RISC-V unprivileged ISA 20191213, chapter 2).
 #[inline(always)]
@@ -72,7 +74,8 @@ fn execute<M: Mem>(regs: &mut Regs, mem: &mut M, instr: Instr) -> Result<Outcome
 /// (RISC-V unprivileged ISA 20191213, chapter 2).
 ///
 /// At `Call` the instruction is an ECALL. At `Call` and at `Trap` the registers are as before, so
-/// the pc is that of the ECALL or of the instruction that trapped, and nothing was stored.
+/// the pc is that of the ECALL or of the instruction that trapped, and nothing was stored. The counter
+/// rises by one, whatever the answer.
 ///
 /// # Errors
 ///
@@ -80,10 +83,16 @@ fn execute<M: Mem>(regs: &mut Regs, mem: &mut M, instr: Instr) -> Result<Outcome
 /// have been noted as read.
 #[inline(always)]
 #[tactic(auto, unfolding(thunk_spec::specs::Turn::turn))]
-pub fn step<M: Mem>(regs: &mut Regs, mem: &mut M) -> Result<Outcome, AllocError>
+pub fn step<M: Mem, L: Ledger>(
+    regs: &mut Regs,
+    mem: &mut M,
+    turns: &mut Turns<L>,
+) -> Result<Outcome, AllocError>
+    ensures count { turns.new ≡ turns.old + 1 }
     ensures ok { IfOk result (λ outcome. Makes (turn (M.workspace mem.old).map (M.workspace mem.old).memory regs.old) (M.workspace mem.old) outcome regs.new (M.workspace mem.new)) }
     ensures err { OnErr result ((regs.new ≡ regs.old) × OnlyTook (M.workspace mem.old) (M.workspace mem.new)) }
 {
+    turns.count(1);
     let pc = regs.pc();
     if pc % 4 != 0 {
         return Ok(Outcome::Trap(Cause::InstructionMisaligned));

@@ -1,3 +1,4 @@
 pub mod Leaving
 pub mod Keeping
+pub mod Counting
 pub mod Ends

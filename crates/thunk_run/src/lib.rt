@@ -4,13 +4,11 @@
 mod job;
 mod put;
 mod running;
-mod steps;
 mod turns;
 
 pub use job::{Job, Run};
 pub use put::{Range, appends_all, put_range};
 pub use running::execute;
-pub use steps::Steps;
 
 #[cfg(test)]
 mod tests;

@@ -1,11 +1,11 @@
 //! A thunk run on a view.
 
-ghost use Rattle.std.specs.Prelude.{◌≡◌, ◌+◌, length, IfOk};
+ghost use Rattle.std.specs.Prelude.{◌≡◌, ◌+◌, ◌≤◌, length, IfOk};
 ghost use Rattle.std.specs.Arc.{arc_value};
 ghost use Rattle.record_spec.specs.Record.{kept_thunk};
+ghost use Rattle.thunk_run.specs.Running.{IsRunOf, IsWithinFuel};
 
 use super::job::{Job, Run};
-use super::steps::Steps;
 use super::turns::make_thunk;
 use page_store::PageTable;
 use priv_space::Space;
@@ -14,6 +14,7 @@ use std::alloc::{AllocError, Global};
 use std::sync::Arc;
 use std::sync::ledger::Ledger;
 use thunk_record::{Frame, Kept, Record};
+use turn_count::Turns;
 
 impl Job {
     /// The next thunk of a thread that has made `number` steps, with these registers, on this view.
@@ -42,13 +43,14 @@ impl Job {
 /// # Errors
 ///
 /// An error where the host's memory ran out.
-fn run_thunk<L: Ledger>(alloc: Global, job: &Job, steps: &mut Steps<L>) -> Result<Kept, AllocError>
-    ensures cost { IfOk result (λ kept. steps.new ≡ steps.old + kept.count) }
+fn run_thunk<L: Ledger>(alloc: Global, job: &Job, turns: &mut Turns<L>) -> Result<Kept, AllocError>
+    ensures cost { IfOk result (λ kept. turns.new ≡ turns.old + kept.count) }
+    ensures never_lower { turns.old ≤ turns.new }
     ensures kept { IfOk result (λ kept. kept ≡ kept_thunk (arc_value job.now.frame) (arc_value job.now.view) job.now.regs) }
 {
     let mut space = Space::new(alloc, &job.view, job.frame.shared_map())?;
     let mut regs = job.regs;
-    let turned = make_thunk(&job.frame, &mut regs, &mut space, steps)?;
+    let turned = make_thunk(&job.frame, &mut regs, &mut space, turns)?;
     let reads = space.reads()?;
     let delta = space.into_delta()?;
     Ok(Kept {
@@ -62,20 +64,23 @@ fn run_thunk<L: Ledger>(alloc: Global, job: &Job, steps: &mut Steps<L>) -> Resul
 
 /// Runs the thunk of a job on its view: turns until an ECALL, a trap or the end of the fuel, and the
 /// bytes that a put takes. The view is as before; what was stored stands in the record. The counter
-/// rises by the number of turns.
+/// rises by the number of turns, which are one at least and no more than the fuel.
 ///
 /// # Errors
 ///
-/// An error where the host's memory ran out; the counter may have risen.
-pub fn execute<L: Ledger>(alloc: Global, job: &Job, steps: &mut Steps<L>) -> Result<Run, AllocError>
-    ensures frame { IfOk result (λ run. arc_value run.frame ≡ arc_value job.now.frame) }
-    ensures thread { IfOk result (λ run. (arc_value run.rec).thread ≡ job.now.thread) }
-    ensures number { IfOk result (λ run. (arc_value run.rec).number ≡ job.now.number) }
-    ensures start { IfOk result (λ run. (arc_value run.rec).start ≡ job.now.regs) }
-    ensures cost { IfOk result (λ run. steps.new ≡ steps.old + (arc_value run.rec).kept.count) }
-    ensures kept { IfOk result (λ run. (arc_value run.rec).kept ≡ kept_thunk (arc_value job.now.frame) (arc_value job.now.view) job.now.regs) }
+/// An error where the host's memory ran out; the counter may have risen, and is never lower.
+#[tactic(auto, using(crate::proofs::Counting::kept_within))]
+pub fn execute<L: Ledger>(
+    alloc: Global,
+    job: &Job,
+    turns: &mut Turns<L>,
+) -> Result<Run, AllocError>
+    ensures run { IfOk result (λ run. IsRunOf job.now run) }
+    ensures within { IfOk result (λ run. IsWithinFuel (arc_value job.now.frame).fuel (arc_value run.rec).kept.count) }
+    ensures cost { IfOk result (λ run. turns.new ≡ turns.old + (arc_value run.rec).kept.count) }
+    ensures never_lower { turns.old ≤ turns.new }
 {
-    let kept = run_thunk(alloc, job, steps)?;
+    let kept = run_thunk(alloc, job, turns)?;
     let rec = Record::new(job.thread, job.number, job.regs, kept);
     let rec = Arc::new(alloc, rec)?;
     let frame = Arc::try_clone(&job.frame)?;

@@ -2,7 +2,7 @@
 
 ghost use Rattle.std.specs.Prelude.{◌≡◌, ◌<◌};
 
-use crate::{Job, Run, Steps, execute};
+use crate::{Job, Run, execute};
 use page_map::{MappedPage, PageMap, Perm};
 use page_store::{Page, PageTable};
 use rv_alu::Regs;
@@ -11,7 +11,9 @@ use std::marker::Brand;
 use std::sync::Arc;
 use std::sync::ledger::{Blank, Ledger};
 use thunk_record::{Frame, fits};
+use std::thread::Threads;
 use thunk_spec::ThunkEnd;
+use turn_count::Turns;
 
 /// lui a0,0x10; addi a0,a0,0x20; addi a1,x0,3; addi a7,x0,1; ecall; and "hi\n" at 0x10020.
 const HI: [u8; 35] = [
@@ -48,24 +50,29 @@ fn job_of(alloc: Global, code: &[u8], fuel: u32) -> Result<Job, AllocError> {
     Ok(Job::new(frame, 3, 7, Regs::new(0x10000), view))
 }
 
-/// A job run with a counter of its own.
-fn counted<L: Ledger>(alloc: Global, job: &Job, blank: Blank) -> Result<Run, AllocError>
+/// A job run with a counter that the runtime made.
+fn counted<R: Threads, L: Ledger>(
+    rt: &R,
+    alloc: Global,
+    job: &Job,
+    blank: Blank,
+) -> Result<Run, AllocError>
     requires name { blank.name ≡ L.name }
     requires parts { blank.parts ≡ L.parts }
     requires some { 0 < L.parts }
 {
-    execute(alloc, job, &mut Steps::<L>::new(blank))
+    execute(alloc, job, &mut Turns::<L>::new(rt, blank))
 }
 
 /// A job run, with nobody who looks at the counter.
-fn uncounted(alloc: Global, job: &Job) -> Result<Run, AllocError> {
-    counted::<Brand>(alloc, job, Blank::new(1))
+fn uncounted<R: Threads>(rt: &R, alloc: Global, job: &Job) -> Result<Run, AllocError> {
+    counted::<R, Brand>(rt, alloc, job, Blank::new(1))
 }
 
 #[test]
 fn put_ends_the_first_thunk(rt: HostRuntime) -> Result<(), AllocError> {
     let job = job_of(rt.alloc(), &HI, 100)?;
-    let run = uncounted(rt.alloc(), &job)?;
+    let run = uncounted(&rt, rt.alloc(), &job)?;
     assert_eq!(rt; run.rec.thread(), 3);
     assert_eq!(rt; run.rec.count(), 5);
     assert!(rt; run.rec.end() == ThunkEnd::Call);
@@ -75,7 +82,7 @@ fn put_ends_the_first_thunk(rt: HostRuntime) -> Result<(), AllocError> {
     assert!(rt; fits(&run.rec, 7, &job.regs, &job.view));
     assert!(rt; !fits(&run.rec, 8, &job.regs, &job.view));
     let short = job_of(rt.alloc(), &HI, 4)?;
-    let run = uncounted(rt.alloc(), &short)?;
+    let run = uncounted(&rt, rt.alloc(), &short)?;
     assert_eq!(rt; run.rec.count(), 4);
     assert!(rt; run.rec.end() == ThunkEnd::Fuel);
     Ok(())
@@ -84,7 +91,7 @@ fn put_ends_the_first_thunk(rt: HostRuntime) -> Result<(), AllocError> {
 #[test]
 fn stores_into_code_are_seen_and_kept(rt: HostRuntime) -> Result<(), AllocError> {
     let job = job_of(rt.alloc(), &SELF, 100)?;
-    let run = uncounted(rt.alloc(), &job)?;
+    let run = uncounted(&rt, rt.alloc(), &job)?;
     assert_eq!(rt; run.rec.count(), 6);
     assert_eq!(rt; run.rec.finish().get(10), 9);
     let reads = run.rec.reads().pages();

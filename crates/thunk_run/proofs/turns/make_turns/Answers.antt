@@ -7,7 +7,7 @@ loop-count-preserved g c = (
   turns-next c.args.fuel c.loop-count.count (g.M.Mem.workspace c.loop-count.mem) (g.M.Mem.workspace c.step.new.mem)
       c.loop-count.regs c.step.new.regs _ c.loop-count-test.true c.in_ok-step.ensures.ok c.in-Next.is
       ∙ c.loop-count.invariant.0,
-  omega (arith, c.loop-count.invariant.1, c.tick.ensures),
+  omega (arith, c.loop-count.invariant.1, c.step.ensures.count),
 )
 
 pub returns-in-Call-clause-left : goal.returns-in-Call-clause-left

@@ -6,7 +6,7 @@ abbrev pub invariant-loop-count : goal.invariant-loop-count
 invariant-loop-count g l =
     (counted l.count (left_after (l.fuel - l.count) (g.M.Mem.workspace l.mem) l.regs)
     ≡ left_after l.fuel (g.M.Mem.workspace l.fn.mem) l.fn.regs)
-    × (l.steps ≡ l.fn.steps + l.count)
+    × (l.turns ≡ l.fn.turns + l.count)
 
 abbrev pub decreases-loop-count : goal.decreases-loop-count
 decreases-loop-count g l = l.fuel - l.count

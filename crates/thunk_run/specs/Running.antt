@@ -1,0 +1,19 @@
+-- What running a thunk gives, and how many turns it makes.
+use Rattle.std.specs.Prelude.{◌≡◌, ◌≤◌, ℕ}
+use Rattle.std.specs.Arc.{arc_value}
+use Rattle.record_spec.specs.Record.{kept_thunk}
+use Rattle.thunk_run.specs.declared.job.Job.{Job}
+use Rattle.thunk_run.specs.declared.job.Run.{Run}
+
+-- What running a job gave.
+pub record IsRunOf (job : Job) (run : Run) : Type 0 where
+  pub frame : arc_value run.frame ≡ arc_value job.frame
+  pub thread : (arc_value run.rec).thread ≡ job.thread
+  pub number : (arc_value run.rec).number ≡ job.number
+  pub start : (arc_value run.rec).start ≡ job.regs
+  pub kept : (arc_value run.rec).kept ≡ kept_thunk (arc_value job.frame) (arc_value job.view) job.regs
+
+-- A number of turns is from 1 to the fuel, where there is some.
+pub record IsWithinFuel (fuel count : ℕ) : Type 0 where
+  pub some : 1 ≤ fuel → 1 ≤ count
+  pub most : count ≤ fuel
