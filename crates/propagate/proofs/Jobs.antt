@@ -7,6 +7,7 @@ use Rattle.record_spec.specs.Record.{Record}
 use Rattle.thunk_spec.specs.Thunk.{Frame}
 use Rattle.machine_spec.specs.declared.states.End.{End}
 use Rattle.machine_spec.specs.Machine.{Hart, Machine, hart_of, is_ready}
+use Rattle.machine_spec.specs.Schedule.{record_of}
 use Rattle.machine_spec.specs.Step.{can_step}
 use Rattle.machine_spec.proofs.Steps.{step-stays}
 use Rattle.history_spec.proofs.Laying.{lay-stays, lay-frame}
@@ -18,16 +19,20 @@ use Rattle.round_spec.specs.declared.events.Event.{Event}
 use Rattle.round_spec.specs.declared.events.Event.TheVariants.{Take, Reuse, Commit, GiveBack, Stop}
 use Rattle.round_spec.specs.Marks.{record_for, fits_next}
 use Rattle.round_spec.specs.Rounds.{RoundState, nobody_out, is_over, is_out, is_out_of, can_begin, can_take, can_reuse, reused_by, committed, given_back, happens, all_happen}
-use Rattle.round_spec.specs.Keeping.{IsHeld, IsInOrder}
+use Rattle.round_spec.specs.Keeping.{IsHeld, IsInOrder, IsCounted}
 use Rattle.round_spec.proofs.Conditions.{happens-take, happens-commit_over, happens-give_back}
 use Rattle.round_spec.proofs.Happening.{CanBegin, can_begin-parts, nobody_out-none}
 use Rattle.std.specs.declared.alloc.AllocError.{AllocError}
 use Rattle.propagate.specs.declared.events.Committed.{Committed}
 use Rattle.propagate.specs.declared.events.Committed.TheVariants.{Done, Stale, Memory}
 use Rattle.propagate.specs.Committing.{CanCommit, Commits}
-use Rattle.propagate.specs.Jobs.{IsJobOf, IsHeldFor, HaveJobs, IsRunOf}
+use Rattle.thunk_run.specs.Running.{IsRunOf}
+use Rattle.release_core.specs.Jobs.{IsJobOf}
+use Rattle.propagate.specs.Jobs.{IsHeldFor, HaveJobs}
 use Rattle.propagate.proofs.Appending.{out-below, take-ready, below-32}
-use Rattle.propagate.proofs.Turning.{own-record, out-commits}
+use Rattle.propagate.specs.Executing.{executed_by}
+use Rattle.propagate.proofs.Keeping.{record_count}
+use Rattle.propagate.proofs.Executing.{run-record, out-commits, commit-counts}
 
 -- a flag that was cleared isn't set, and the others are as before
 cleared : (out : List Bool) (t : ℕ) → is_out_of (set out t false) t ≡ false
@@ -214,12 +219,17 @@ pub run-commits :
     → CanCommit w (arc_value run.frame) (arc_value run.rec)
 run-commits w t job run kept out going own ran =
     subst (λ (f : Frame). CanCommit w f (arc_value run.rec)) (sym (ran.frame ∙ own.frame))
-    (out-commits w t (arc_value run.rec) kept out going
-    (own-record w.machine t (arc_value run.rec) (ran.thread ∙ own.thread) (ran.number ∙ own.number) (ran.start ∙ own.regs)
-    (ran.kept ∙ rw (own.frame, own.view, own.regs) refl)))
+    (out-commits w t (arc_value run.rec) kept out going (run-record w.machine t job run own ran))
 
-pub run-thread : (m : Machine) (t : ℕ) (job : Job) (run : Run) → IsJobOf m t job → IsRunOf job run → (arc_value run.rec).thread ≡ t
-run-thread m t job run own ran = ran.thread ∙ own.thread
+-- and then its instructions are counted
+pub run-counts :
+    (w v : RoundState) (t : ℕ) (job : Job) (run : Run)
+    → IsInOrder w → IsCounted w → is_out w t ≡ true → is_over w ≡ false → IsJobOf w.machine t job → IsRunOf job run
+    → v ≡ happens w (Commit (arc_value run.rec).thread)
+    → executed_by v ≡ executed_by w + (arc_value run.rec).kept.count
+run-counts w v t job run kept counted out going own ran is =
+    let same : arc_value run.rec ≡ record_of w.machine t = run-record w.machine t job run own ran in
+    commit-counts w v t (arc_value run.rec) (record_count w counted) (out-commits w t (arc_value run.rec) kept out going same) is same
 
 -- after the round is over, to commit is to discard
 pub over-discards : (w : RoundState) (t : ℕ) → is_out w t ≡ true → is_over w ≡ true → happens w (GiveBack t) ≡ happens w (Commit t)

@@ -18,7 +18,8 @@ use Rattle.round_spec.specs.Keeping.{IsFromScratch, IsInOrder, IsCounted}
 use Rattle.round_spec.proofs.Happening.{opening-kept, happens-kept}
 use Rattle.round_spec.proofs.Counting.{round-counted, happens-counted}
 use Rattle.round_spec.proofs.Leaving.{leaves-honest}
-use Rattle.propagate.specs.Kept.{front_in, IsKept}
+use Rattle.propagate.specs.Kept.{front_in, IsOnMap, IsKept}
+use Rattle.propagate.proofs.Mapped.{opening-on_map, happens-on_map}
 use Rattle.propagate.proofs.Passing.{front-first}
 
 -- as many records as entries
@@ -74,6 +75,7 @@ kept_opening setup past valid =
       valid = valid;
       in_order = opening-kept setup past valid;
       counted = round-counted setup past [] valid;
+      on_map = opening-on_map setup past;
       executed = refl;
       few = omega arith;
       front_is = sym (front-first setup past);
@@ -91,6 +93,7 @@ kept-happens w v e i f j g kept is setup executed few front =
       valid = subst IsSetup (sym setup) kept.valid;
       in_order = subst IsInOrder is (happens-kept w e kept.in_order);
       counted = subst IsCounted is (happens-counted w e kept.in_order kept.counted);
+      on_map = subst IsOnMap is (happens-on_map w e kept.on_map);
       executed = executed;
       few = few;
       front_is = front;

@@ -1,8 +1,9 @@
 pub mod Passing
 pub mod Best
+pub mod Mapped
 pub mod Keeping
 pub mod Choosing
 pub mod Appending
-pub mod Turning
+pub mod Executing
 pub mod Making
 pub mod Jobs

@@ -1,5 +1,5 @@
 pub mod Kept
 pub mod Committing
 pub mod Choosing
-pub mod Turning
+pub mod Executing
 pub mod Jobs

@@ -1,6 +1,6 @@
 //! The round of one worker.
 
-ghost use Rattle.std.specs.Prelude.{◌≡◌, ◌+◌, true, false, option_map, is_some, Some, IfOk, OnOk};
+ghost use Rattle.std.specs.Prelude.{◌≡◌, ◌+◌, ◌≤◌, true, false, option_map, is_some, Some, IfOk, OnOk};
 ghost use Rattle.std.specs.Arc.{arc_value};
 ghost use Rattle.machine_spec.specs.Setup.{is_permitted, is_complete};
 ghost use Rattle.history_spec.specs.History.{History as Kept, IsSound};
@@ -8,11 +8,10 @@ ghost use Rattle.report_spec.specs.Report.{threads_of};
 ghost use Rattle.round_spec.specs.declared.events.Pick.TheVariants as pick;
 ghost use Rattle.round_spec.specs.Rounds.{can_take};
 ghost use Rattle.round_spec.specs.Choice.{pick_of};
-ghost use Rattle.round_spec.specs.Alone.{one_worker, turned, lone_round};
-ghost use Rattle.round_spec.specs.Instructions.{executed_instructions};
+ghost use Rattle.round_spec.specs.Alone.{one_worker, after_pick, lone_round};
 ghost use Rattle.round_spec.specs.Keeping.{IsFromScratch};
-ghost use Rattle.round_spec.specs.Unedited.{IsUnedited};
-ghost use Rattle.propagate.specs.Turning.{IsReplayOf};
+ghost use Rattle.round_spec.specs.Unedited.{IsUnedited, OnlyReuses};
+ghost use Rattle.propagate.specs.Executing.{executed_by, Costs};
 
 use super::events::Committed;
 use super::round::Round;
@@ -21,7 +20,8 @@ use round_spec::Pick;
 use std::alloc::{AllocError, Global};
 use std::sync::Arc;
 use std::sync::ledger::Ledger;
-use thunk_run::{Steps, execute};
+use thunk_run::execute;
+use turn_count::Turns;
 
 /// Takes, executes and commits the next step of thread `t`, which may be taken. The counter rises by
 /// the instructions that it made.
@@ -29,16 +29,16 @@ fn run_step<L: Ledger>(
     alloc: Global,
     round: &mut Round,
     t: u8,
-    steps: &mut Steps<L>,
+    turns: &mut Turns<L>,
 ) -> Result<(), AllocError>
     requires { can_take round.old t ≡ true }
-    ensures ok { OnOk result (round.new ≡ turned round.old (pick.Run t)) }
-    ensures cost { OnOk result (steps.new + executed_instructions round.old.schedule round.old.records
-        ≡ steps.old + executed_instructions round.new.schedule round.new.records) }
+    ensures ok { OnOk result (round.new ≡ after_pick round.old (pick.Run t)) }
+    ensures cost { OnOk result (Costs turns.old round.old turns.new round.new) }
+    ensures never_lower { turns.old ≤ turns.new }
 {
     round.keeps();
     let job = round.take(t)?;
-    let run = execute(alloc, &job, steps)?;
+    let run = execute(alloc, &job, turns)?;
     match round.commit(run) {
         Committed::Done => Ok(()),
         Committed::Stale(_) => unreachable!(),
@@ -46,17 +46,17 @@ fn run_step<L: Ledger>(
     }
 }
 
-/// One turn: what is picked is reused, or executed and committed. The answer is whether anything was
-/// picked. The counter rises by the instructions that were executed.
-fn turn<L: Ledger>(
+/// Follows one pick: what is picked is reused, or executed and committed. The answer is whether
+/// anything was picked. The counter rises by the instructions that were executed.
+fn follow_pick<L: Ledger>(
     alloc: Global,
     round: &mut Round,
-    steps: &mut Steps<L>,
+    turns: &mut Turns<L>,
 ) -> Result<bool, AllocError>
-    ensures turned { OnOk result (round.new ≡ turned round.old (pick_of round.old)) }
+    ensures followed { OnOk result (round.new ≡ after_pick round.old (pick_of round.old)) }
     ensures over { IfOk result (λ going. going ≡ false → round.new ≡ round.old) }
-    ensures cost { OnOk result (steps.new + executed_instructions round.old.schedule round.old.records
-        ≡ steps.old + executed_instructions round.new.schedule round.new.records) }
+    ensures cost { OnOk result (Costs turns.old round.old turns.new round.new) }
+    ensures never_lower { turns.old ≤ turns.new }
 {
     round.keeps();
     match round.pick() {
@@ -65,27 +65,28 @@ fn turn<L: Ledger>(
             Ok(true)
         }
         Pick::Run(t) => {
-            run_step(alloc, round, t, steps)?;
+            run_step(alloc, round, t, turns)?;
             Ok(true)
         }
         Pick::Hold | Pick::Over => Ok(false),
     }
 }
 
-/// The round of one worker, turn after turn until nothing is picked.
-fn make_turns<L: Ledger>(
+/// The round of one worker, pick after pick until nothing is picked.
+fn follow_picks<L: Ledger>(
     alloc: Global,
     setup: Setup,
     past: Option<Arc<History>>,
-    steps: &mut Steps<L>,
+    turns: &mut Turns<L>,
 ) -> Result<Round, AllocError>
     ensures alone { IfOk result (λ round. round ≡ lone_round setup (option_map arc_value past)) }
-    ensures cost { IfOk result (λ round. steps.new ≡ steps.old + executed_instructions round.schedule round.records) }
+    ensures cost { IfOk result (λ round. turns.new ≡ turns.old + executed_by round) }
+    ensures never_lower { turns.old ≤ turns.new }
 {
-    let limit = setup.limit();
+    let limit = setup.limits().steps();
     let mut round = Round::new(alloc, setup, past)?;
-    for made in 0..limit {
-        if !turn(alloc, &mut round, steps)? {
+    for followed in 0..limit {
+        if !follow_pick(alloc, &mut round, turns)? {
             return Ok(round);
         }
     }
@@ -93,24 +94,25 @@ fn make_turns<L: Ledger>(
 }
 
 /// The round of one worker: step after step is picked, and reused, or executed and committed, until
-/// the round is over. The counter rises by the instructions of the executed steps.
+/// the round is over. It has an end then, and nothing was discarded, by whatever history it goes. The
+/// counter rises by the instructions of the executed steps.
 ///
 /// Where the round goes by a sound history, its schedule is the one of one worker, which is permitted
-/// and complete; it is at the machine from scratch, its marks are exact, and nothing was discarded.
-/// Where the setup is the history's own, each step is reused and no instruction is executed, and end,
-/// output and memory are those of the history.
+/// and complete; it is at the machine from scratch, and its marks are exact. Where the setup is the
+/// history's own, the round is all reuse, and the counter stays as it is.
 ///
 /// # Errors
 ///
-/// An error where the host's memory ran out; the counter may have risen.
+/// An error where the host's memory ran out; the counter may have risen, and is never lower.
 pub fn run_alone<L: Ledger>(
     alloc: Global,
     setup: Setup,
     past: Option<Arc<History>>,
-    steps: &mut Steps<L>,
+    turns: &mut Turns<L>,
 ) -> Result<Round, AllocError>
     ensures alone { IfOk result (λ round. round ≡ lone_round setup (option_map arc_value past)) }
-    ensures cost { IfOk result (λ round. steps.new ≡ steps.old + executed_instructions round.schedule round.records) }
+    ensures cost { IfOk result (λ round. turns.new ≡ turns.old + executed_by round) }
+    ensures never_lower { turns.old ≤ turns.new }
     ensures threads { IfOk result (λ round. IsSound (option_map arc_value past) setup
         → threads_of round.schedule ≡ one_worker setup (option_map arc_value past)) }
     ensures permitted { IfOk result (λ round. IsSound (option_map arc_value past) setup
@@ -118,12 +120,12 @@ pub fn run_alone<L: Ledger>(
     ensures complete { IfOk result (λ round. IsSound (option_map arc_value past) setup
         → is_complete setup (threads_of round.schedule) ≡ true) }
     ensures scratch { IfOk result (λ round. IsSound (option_map arc_value past) setup → IsFromScratch round) }
-    ensures ends { IfOk result (λ round. IsSound (option_map arc_value past) setup → is_some round.machine.ending ≡ true) }
-    ensures discarded { IfOk result (λ round. IsSound (option_map arc_value past) setup → round.discarded ≡ 0) }
-    ensures unedited { IfOk result (λ round. (h : Kept) → option_map arc_value past ≡ Some h → IsUnedited h setup → IsReplayOf h round) }
-    ensures executes_nothing { IfOk result (λ _. (h : Kept) → option_map arc_value past ≡ Some h → IsUnedited h setup → steps.new ≡ steps.old) }
+    ensures ends { IfOk result (λ round. is_some round.machine.ending ≡ true) }
+    ensures discarded { IfOk result (λ round. round.discarded ≡ 0) }
+    ensures unedited { IfOk result (λ round. (h : Kept) → option_map arc_value past ≡ Some h → IsUnedited h setup → OnlyReuses h round) }
+    ensures executes_nothing { IfOk result (λ _. (h : Kept) → option_map arc_value past ≡ Some h → IsUnedited h setup → turns.new ≡ turns.old) }
 {
     setup.sound();
-    let round = make_turns(alloc, setup, past, steps)?;
+    let round = follow_picks(alloc, setup, past, turns)?;
     Ok(round)
 }

@@ -1,40 +1,25 @@
 //! A round to which given events happen.
 
-ghost use Rattle.std.specs.Prelude.{◌≡◌, ◌<◌, true, option_map, IfOk, OnOk};
+ghost use Rattle.std.specs.Prelude.{◌≡◌, ◌+◌, ◌≤◌, true, option_map, IfOk, OnOk};
 ghost use Rattle.std.specs.Arc.{arc_value};
 ghost use Rattle.history_spec.specs.History.{IsSound};
 ghost use Rattle.round_spec.specs.declared.events.Event.TheVariants as event;
 ghost use Rattle.round_spec.specs.Rounds.{nobody_out, opening, is_out, happens, round_after};
 ghost use Rattle.round_spec.specs.Keeping.{IsFromScratch};
-ghost use Rattle.propagate.specs.Jobs.{HaveJobs, IsRunOf};
+ghost use Rattle.propagate.specs.Jobs.{HaveJobs};
+ghost use Rattle.propagate.specs.Executing.{executed_by, Costs};
 
 use super::events::Committed;
-use super::round::{Round, THREADS};
+use super::round::Round;
+use guest_call::THREADS;
 use release_core::{History, Setup};
 use round_spec::Event;
 use std::alloc::{AllocError, Global};
 use std::array;
-use std::marker::Brand;
 use std::sync::Arc;
-use std::sync::ledger::{Blank, Ledger};
-use thunk_run::{Job, Run, Steps, execute};
-
-/// Runs a job with a counter of its own.
-fn run_counted<L: Ledger>(alloc: Global, job: &Job, blank: Blank) -> Result<Run, AllocError>
-    requires name { blank.name ≡ L.name }
-    requires parts { blank.parts ≡ L.parts }
-    requires some { 0 < L.parts }
-    ensures { IfOk result (λ run. IsRunOf job.now run) }
-{
-    execute(alloc, job, &mut Steps::<L>::new(blank))
-}
-
-/// Runs a job, with nobody who looks at the counter.
-fn run_job(alloc: Global, job: &Job) -> Result<Run, AllocError>
-    ensures { IfOk result (λ run. IsRunOf job.now run) }
-{
-    run_counted::<Brand>(alloc, job, Blank::new(1))
-}
+use std::sync::ledger::Ledger;
+use thunk_run::{Job, execute};
+use turn_count::Turns;
 
 /// A round, and the job of each thread that is out.
 #[derive(Drop)]
@@ -82,9 +67,16 @@ impl Driven {
     }
 
     /// Executes and commits the job that is out for thread `t`, if one is. After the round is over it
-    /// is discarded.
-    fn on_commit(&mut self, alloc: Global, t: u8) -> Result<(), AllocError>
-        ensures { OnOk result (self.new.round ≡ happens self.old.round (event.Commit t)) }
+    /// is discarded. The counter rises by the instructions that it made.
+    fn on_commit<L: Ledger>(
+        &mut self,
+        alloc: Global,
+        t: u8,
+        turns: &mut Turns<L>,
+    ) -> Result<(), AllocError>
+        ensures round { OnOk result (self.new.round ≡ happens self.old.round (event.Commit t)) }
+        ensures cost { OnOk result (Costs turns.old self.old.round turns.new self.new.round) }
+        ensures never_lower { turns.old ≤ turns.new }
     {
         self.round.keeps();
         if !self.round.is_out(t) {
@@ -95,7 +87,7 @@ impl Driven {
             return Ok(());
         }
         let run = match &self.jobs[usize::from(t)] {
-            Some(job) => run_job(alloc, job)?,
+            Some(job) => execute(alloc, job, turns)?,
             None => unreachable!(),
         };
         match self.round.commit(run) {
@@ -124,13 +116,21 @@ impl Driven {
     }
 
     /// Does an event; one whose condition doesn't hold changes nothing.
-    fn happen(&mut self, alloc: Global, event: Event) -> Result<(), AllocError>
-        ensures { OnOk result (self.new.round ≡ happens self.old.round event) }
+    fn happen<L: Ledger>(
+        &mut self,
+        alloc: Global,
+        event: Event,
+        turns: &mut Turns<L>,
+    ) -> Result<(), AllocError>
+        ensures round { OnOk result (self.new.round ≡ happens self.old.round event) }
+        ensures cost { OnOk result (Costs turns.old self.old.round turns.new self.new.round) }
+        ensures never_lower { turns.old ≤ turns.new }
     {
+        self.round.keeps();
         match event {
             Event::Take(t) => self.on_take(t),
             Event::Reuse(t) => self.on_reuse(t),
-            Event::Commit(t) => self.on_commit(alloc, t),
+            Event::Commit(t) => self.on_commit(alloc, t, turns),
             Event::GiveBack(t) => {
                 self.on_give_back(t);
                 Ok(())
@@ -145,25 +145,28 @@ impl Driven {
 
 /// The round of a setup that goes by a history, after some events, one after the other. A step that
 /// is committed is executed then, by the job that was taken; an event whose condition doesn't hold
-/// changes nothing. Where the history is sound, the round is at the machine from scratch, and its
-/// marks are exact.
+/// changes nothing. The counter rises by the instructions of the executed steps. Where the history is
+/// sound, the round is at the machine from scratch, and its marks are exact.
 ///
 /// # Errors
 ///
-/// An error where the host's memory ran out.
-pub fn drive(
+/// An error where the host's memory ran out; the counter may have risen, and is never lower.
+pub fn drive<L: Ledger>(
     alloc: Global,
     setup: Setup,
     past: Option<Arc<History>>,
     events: &[Event],
+    turns: &mut Turns<L>,
 ) -> Result<Round, AllocError>
     ensures round { IfOk result (λ round. round ≡ round_after setup (option_map arc_value past) events.now) }
+    ensures cost { IfOk result (λ round. turns.new ≡ turns.old + executed_by round) }
+    ensures never_lower { turns.old ≤ turns.new }
     ensures scratch { IfOk result (λ round. IsSound (option_map arc_value past) setup → IsFromScratch round) }
 {
     setup.sound();
     let mut driven = Driven::new(alloc, setup, past)?;
     for event in events {
-        driven.happen(alloc, *event)?;
+        driven.happen(alloc, *event, turns)?;
     }
     Ok(driven.round)
 }

@@ -4,20 +4,19 @@ ghost use Rattle.std.specs.Prelude.{◌≡◌, ◌<◌, ◌++◌, true, false, [
 ghost use Rattle.std.specs.Bool.{OnTrue, OnFalse};
 ghost use Rattle.std.specs.Arc.{arc_value};
 ghost use Rattle.history_spec.specs.History.{threads_of_records};
-ghost use Rattle.machine_spec.specs.Machine.{hart_of};
 ghost use Rattle.machine_spec.specs.Step.{lay, can_step};
+ghost use Rattle.release_core.specs.Jobs.{IsJobOf};
 ghost use Rattle.round_spec.specs.declared.events.Event.TheVariants as event;
 ghost use Rattle.round_spec.specs.Rounds.{is_out, can_take, can_reuse, happens};
 ghost use Rattle.propagate.specs.Committing.{CanCommit, Commits, GoesOn, entries_of};
 
 use super::picking::passed_from;
-use super::round::{Round, THREADS};
-use page_map::PageMap;
+use super::round::Round;
 use release_core::{Core, Records};
 use report_spec::Entry;
 use std::alloc::AllocError;
 use std::sync::Arc;
-use thunk_record::{Frame, Record};
+use thunk_record::Record;
 use thunk_run::{Job, Run};
 
 /// What came of committing an executed step.
@@ -69,32 +68,6 @@ fn append(
     }
 }
 
-/// Whether two page maps have the same pages.
-fn are_same_maps(a: &PageMap, b: &PageMap) -> bool
-    ensures yes { OnTrue result (a.now ≡ b.now) }
-    ensures no { OnFalse result (a.now ≡ b.now → ⊥) }
-{
-    if a.len() != b.len() {
-        return false;
-    }
-    for slot in 0..a.len() {
-        let page = a.page(slot);
-        let other = b.page(slot);
-        if page.number() != other.number() || page.permission() != other.permission() {
-            return false;
-        }
-    }
-    true
-}
-
-/// Whether two frames have the same pages and the same fuel.
-fn are_same_frames(a: &Frame, b: &Frame) -> bool
-    ensures yes { OnTrue result (a.now ≡ b.now) }
-    ensures no { OnFalse result (a.now ≡ b.now → ⊥) }
-{
-    a.fuel() == b.fuel() && are_same_maps(a.map(), b.map())
-}
-
 impl Round {
     /// Reuses the record of the next step of thread `t`, which may be reused.
     ///
@@ -130,11 +103,7 @@ impl Round {
     pub fn take(&mut self, t: u8) -> Result<Job, AllocError>
         requires { can_take self.old t ≡ true }
         ensures ok { OnOk result (self.new ≡ happens self.old (event.Take t)) }
-        ensures frame { IfOk result (λ job. arc_value job.frame ≡ self.old.machine.frame) }
-        ensures thread { IfOk result (λ job. job.thread ≡ t) }
-        ensures number { IfOk result (λ job. job.number ≡ (hart_of self.old.machine t).number) }
-        ensures regs { IfOk result (λ job. job.regs ≡ (hart_of self.old.machine t).regs) }
-        ensures view { IfOk result (λ job. arc_value job.view ≡ (hart_of self.old.machine t).view) }
+        ensures job { IfOk result (λ job. IsJobOf self.old.machine t job) }
         ensures same { GoesOn 0 self.old self.new }
         ensures err { OnErr result (self.new ≡ self.old) }
     {
@@ -150,7 +119,7 @@ impl Round {
     {
         !self.is_over()
             && self.is_out(run.rec.thread())
-            && are_same_frames(&run.frame, self.core.frame())
+            && *run.frame == *self.core.frame()
             && self.core.fits(&run.rec)
     }
 

@@ -1,14 +1,17 @@
 //! A round, and what it tells.
 
-ghost use Rattle.std.specs.Prelude.{◌≡◌, ◌<◌, true, false, length, is_some, option_map, slice_get, slice_index_or, Some, IfOk};
+ghost use Rattle.std.specs.Prelude.{◌≡◌, ◌<◌, true, false, length, is_some, option_map, slice_get, slice_index_or, Some, None, Decides, IfOk};
+ghost use Rattle.std.specs.Bool.{OnTrue};
 ghost use Rattle.std.specs.Arc.{arc_value};
 ghost use Rattle.machine_spec.specs.Setup.{IsSetup, first};
-ghost use Rattle.history_spec.specs.History.{IsHonest, IsSound};
+ghost use Rattle.history_spec.specs.History.{IsHonest, IsSound, IsMapped};
 ghost use Rattle.report_spec.specs.Report.{instructions_from};
 ghost use Rattle.round_spec.specs.Rounds.{nobody_out, opening, is_over, is_out, history_of};
 ghost use Rattle.round_spec.specs.Instructions.{executed_instructions};
 ghost use Rattle.round_spec.specs.Keeping.{IsInOrder, IsCounted};
+ghost use Rattle.propagate.specs.Kept.{IsOfMap};
 
+use guest_call::THREADS;
 use machine_spec::End;
 use page_store::PageTable;
 use release_core::{Core, History, Records, Setup};
@@ -17,9 +20,6 @@ use std::alloc::{AllocError, Global};
 use std::marker::Model;
 use std::sync::Arc;
 use thunk_record::Record;
-
-/// How many threads there can be.
-pub(super) const THREADS: usize = 32;
 
 /// A round as it stands: what it started from and goes by, the machine, the steps so far with their
 /// records, who is out, and what was discarded. A clause sees a `RoundState` of `round_spec`.
@@ -56,16 +56,7 @@ impl Model for Round {
       stopped = r.stopped;
     } };
 
-    ghost invariant = { λ r. IsKept (record {
-      setup = r.setup;
-      past = option_map arc_value r.past;
-      machine = r.core;
-      schedule = r.schedule.items;
-      records = r.records;
-      out = r.out;
-      discarded = r.discarded;
-      stopped = r.stopped;
-    }) r.instructions r.front };
+    ghost invariant = { λ r. IsKept (view r) r.instructions r.front };
 }
 
 /// None of the threads is out.
@@ -205,14 +196,36 @@ impl Round {
         }
     }
 
-    /// What it leaves to the next round: its setup, and the records of its steps. Takes no memory.
-    /// Where the round went by a sound history and has an end, this is an honest history.
-    #[tactic(auto, using(crate::proofs::Keeping::left_honest))]
-    pub fn into_history(self) -> History
-        ensures history { result ≡ history_of self }
-        ensures honest { IsSound self.past self.setup → is_some self.machine.ending ≡ true → IsHonest result }
+    /// Whether what it goes by has the page map of its setup, if it goes by anything. So all its
+    /// records have their slots in that map.
+    #[tactic(auto, using(crate::proofs::Mapped::same_image, crate::proofs::Mapped::all_mapped))]
+    fn has_same_map(&self) -> bool
+        ensures same { Decides result (IsOfMap self.now.past self.now.setup) }
+        ensures mapped { OnTrue result (IsMapped (history_of self.now)) }
     {
+        match &self.past {
+            Some(history) => {
+                history.keeps();
+                history.setup().image().map == self.setup.image().map
+            }
+            None => true,
+        }
+    }
+
+    /// What it leaves to the next round: its setup, and the records of its steps; or none where what
+    /// it goes by has another page map than its setup, which no sound history has. Takes no memory.
+    /// Where the round went by a sound history and has an end, this is an honest history.
+    #[tactic(auto, using(crate::proofs::Keeping::left_honest, crate::proofs::Mapped::sound_map))]
+    pub fn into_history(self) -> Option<History>
+        ensures same { IsOfMap self.past self.setup → result ≡ Some (history_of self) }
+        ensures other { (IsOfMap self.past self.setup → ⊥) → result ≡ None }
+        ensures sound { IsSound self.past self.setup → result ≡ Some (history_of self) }
+        ensures honest { IsSound self.past self.setup → is_some self.machine.ending ≡ true → IsHonest (history_of self) }
+    {
+        if !self.has_same_map() {
+            return None;
+        }
         let Round { setup, records, .. } = self;
-        History::new(setup, records)
+        Some(History::new(setup, records))
     }
 }

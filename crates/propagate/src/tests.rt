@@ -4,7 +4,7 @@
 ghost use Rattle.std.specs.Prelude.{◌≡◌, ◌<◌};
 
 use crate::{Round, drive, run_alone};
-use machine_spec::End;
+use machine_spec::{End, Limits};
 use release_core::{History, Setup};
 use round_spec::{Event, Pick};
 use std::alloc::{AllocError, Global};
@@ -13,7 +13,8 @@ use std::process::Abort;
 use std::sync::Arc;
 use std::sync::ledger::{Blank, Ledger};
 use std::test::Fail;
-use thunk_run::Steps;
+use std::thread::Threads;
+use turn_count::Turns;
 
 /// lui a0,0x10; addi a0,a0,0x20; addi a1,x0,3; addi a7,x0,1; ecall; addi a0,x0,0; addi a7,x0,0;
 /// ecall; and "hi\n", in one segment at 0x10000.
@@ -31,34 +32,51 @@ const HI: [u8; 119] = [
 /// The setup of the guest with no input, or none where its file isn't taken.
 fn setup(alloc: Global) -> Result<Option<Setup>, AllocError> {
     let elf = Vec::from_array(alloc, HI)?;
-    if elf.len() > 4096 {
-        return Ok(None);
-    }
-    match Setup::new(alloc, elf, Vec::new(alloc), 1_000_000, 4096) {
-        Ok(setup) => Ok(Some(setup)),
-        Err(_) => Ok(None),
+    match Limits::new(1_000_000, 4096) {
+        Some(limits) if elf.len() <= 4096 => {
+            Ok(Setup::new(alloc, elf, Vec::new(alloc), limits).ok())
+        }
+        _ => Ok(None),
     }
 }
 
-/// The round of one worker, with a counter of its own.
-fn counted<L: Ledger>(
+/// What makes a round: one worker, or given events.
+#[derive(Clone, Copy)]
+enum By {
+    Worker,
+    Events(&'static [Event]),
+}
+
+/// A round with a counter that the runtime made.
+fn counted<R: Threads, L: Ledger>(
+    rt: &R,
     alloc: Global,
     setup: Setup,
     past: Option<Arc<History>>,
+    by: By,
     blank: Blank,
 ) -> Result<Round, AllocError>
     requires name { blank.name ≡ L.name }
     requires parts { blank.parts ≡ L.parts }
     requires some { 0 < L.parts }
 {
-    run_alone(alloc, setup, past, &mut Steps::<L>::new(blank))
+    let mut turns = Turns::<L>::new(rt, blank);
+    match by {
+        By::Worker => run_alone(alloc, setup, past, &mut turns),
+        By::Events(events) => drive(alloc, setup, past, events, &mut turns),
+    }
 }
 
-/// The round of one worker, with nobody who looks at the counter.
-fn alone(alloc: Global, past: Option<Arc<History>>) -> Result<Option<Round>, AllocError> {
+/// The round of the guest, with nobody who looks at the counter.
+fn made<R: Threads>(
+    rt: &R,
+    alloc: Global,
+    past: Option<Arc<History>>,
+    by: By,
+) -> Result<Round, Fail> {
     match setup(alloc)? {
-        Some(setup) => Ok(Some(counted::<Brand>(alloc, setup, past, Blank::new(1))?)),
-        None => Ok(None),
+        Some(setup) => Ok(counted::<R, Brand>(rt, alloc, setup, past, by, Blank::new(1))?),
+        None => Err(Fail::new("the guest isn't taken")),
     }
 }
 
@@ -81,13 +99,12 @@ fn without_an_edit_all_is_reused(rt: HostRuntime) -> Result<(), Fail> {
     let alloc = rt.alloc();
     let mut past = None;
     for (marks, instructions) in [([false, false], 8), ([true, true], 0), ([true, true], 0)] {
-        match alone(alloc, past)? {
-            Some(round) => {
-                compare(&rt, &round, &marks, instructions, 0);
-                past = Some(Arc::new(alloc, round.into_history())?);
-            }
-            None => return Err(Fail::new("the guest isn't taken")),
-        }
+        let round = made(&rt, alloc, past, By::Worker)?;
+        compare(&rt, &round, &marks, instructions, 0);
+        past = match round.into_history() {
+            Some(left) => Some(Arc::new(alloc, left)?),
+            None => return Err(Fail::new("nothing is left")),
+        };
     }
     Ok(())
 }
@@ -106,15 +123,9 @@ const EVENTS: [Event; 8] = [
 
 #[test]
 fn events_make_a_round(rt: HostRuntime) -> Result<(), Fail> {
-    let alloc = rt.alloc();
-    match setup(alloc)? {
-        Some(setup) => {
-            let round = drive(alloc, setup, None, &EVENTS)?;
-            compare(&rt, &round, &[false, false], 8, 1);
-            assert!(rt; round.stopped());
-            assert!(rt; round.pick() == Pick::Over);
-        }
-        None => return Err(Fail::new("the guest isn't taken")),
-    }
+    let round = made(&rt, rt.alloc(), None, By::Events(&EVENTS))?;
+    compare(&rt, &round, &[false, false], 8, 1);
+    assert!(rt; round.stopped());
+    assert!(rt; round.pick() == Pick::Over);
     Ok(())
 }

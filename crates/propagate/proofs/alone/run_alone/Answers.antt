@@ -1,7 +1,7 @@
 use Rattle.std.proofs.Common.{option_map, arith}
 use Rattle.std.specs.Arc.{arc_value}
-use Rattle.propagate.specs.Turning.{IsReplayOf}
-use Rattle.propagate.proofs.Turning.{alone-threads, alone-permitted, alone-complete, alone-scratch, alone-ends, alone-discarded, unedited-replays}
+use Rattle.round_spec.specs.Unedited.{OnlyReuses}
+use Rattle.propagate.proofs.Executing.{alone-threads, alone-permitted, alone-complete, alone-scratch, alone-ends, alone-discarded, alone-reuses}
 use Rattle.propagate.proofs.alone.run_alone.Goals as goal
 
 pub returns-clause-threads : goal.returns-clause-threads
@@ -23,10 +23,10 @@ pub returns-clause-discarded : goal.returns-clause-discarded
 returns-clause-discarded g c = alone-discarded c.args.setup (option_map arc_value c.args.past) _ c.sound.ensures c.in_ok-round.ensures.alone
 
 pub returns-clause-unedited : goal.returns-clause-unedited
-returns-clause-unedited g c = λ h. unedited-replays c.args.setup (option_map arc_value c.args.past) c.in_ok-round.round h c.in_ok-round.ensures.alone
+returns-clause-unedited g c = λ h. alone-reuses c.args.setup (option_map arc_value c.args.past) c.in_ok-round.round h c.in_ok-round.ensures.alone
 
 pub returns-clause-executes_nothing : goal.returns-clause-executes_nothing
 returns-clause-executes_nothing g c = λ h there unedited.
-    let replay : IsReplayOf h c.in_ok-round.round = unedited-replays c.args.setup (option_map arc_value c.args.past) c.in_ok-round.round h c.in_ok-round.ensures.alone there unedited in
-    let none = replay.executed in
-    omega (arith, c.in_ok-round.ensures.cost, none)
+    let reuses : OnlyReuses h c.in_ok-round.round =
+    alone-reuses c.args.setup (option_map arc_value c.args.past) c.in_ok-round.round h c.in_ok-round.ensures.alone there unedited in
+    omega (arith, c.in_ok-round.ensures.cost, reuses.executed)

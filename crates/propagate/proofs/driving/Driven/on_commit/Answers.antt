@@ -1,32 +1,49 @@
-use Rattle.std.proofs.Common.{◌≡◌, true, sym, ◌∙◌}
+use Rattle.std.proofs.Common.{◌≡◌, true, sym, ◌∙◌, arith}
 use Rattle.round_spec.specs.declared.events.Event.TheVariants.{GiveBack}
 use Rattle.round_spec.proofs.Conditions.{happens-commit_not}
 use Rattle.round_spec.specs.Rounds.{is_out}
-use Rattle.propagate.proofs.Jobs.{jobs-stay, jobs-commit, job-held, run-commits, over-discards}
+use Rattle.propagate.proofs.Jobs.{jobs-stay, jobs-commit, job-held, run-commits, run-counts, over-discards}
+use Rattle.propagate.proofs.Executing.{costs-nothing}
 use Rattle.propagate.proofs.driving.Driven.on_commit.Goals as goal
 
-pub returns-then-not-is_out : goal.returns-then-not-is_out
-returns-then-not-is_out c = sym (happens-commit_not c.args.self.now.round c.args.t (sym c.is_out.ensures ∙ c.if-not-is_out.true))
+pub returns-then-not-is_out-clause-round : goal.returns-then-not-is_out-clause-round
+returns-then-not-is_out-clause-round g c = sym (happens-commit_not c.args.self.now.round c.args.t (sym c.is_out.ensures ∙ c.if-not-is_out.true))
 
 pub invariant_of-self : goal.invariant_of-self
-invariant_of-self c =
+invariant_of-self g c =
     record { held = jobs-stay c.args.self.now.round c.give_back.new.self (GiveBack c.args.t) c.args.self.now.jobs tt c.keeps.ensures.in_order c.give_back.ensures.event c.args.self.now.held }
 
-pub returns-then-is_over : goal.returns-then-is_over
-returns-then-is_over c =
+pub returns-then-is_over-clause-round : goal.returns-then-is_over-clause-round
+returns-then-is_over-clause-round g c =
     c.give_back.ensures.event
     ∙ over-discards c.args.self.now.round c.args.t (sym c.is_out.ensures ∙ c.if-not-is_out.false) (sym c.is_over.ensures ∙ c.if-is_over.true)
 
 pub invariant_of-self-2 : goal.invariant_of-self-2
-invariant_of-self-2 c =
+invariant_of-self-2 g c =
     record { held = jobs-commit c.args.self.now.round c.commit.new.self c.in_ok-run-in-Some.run' c.args.self.now.jobs c.commit.result c.keeps.ensures.in_order c.commit.ensures.does c.args.self.now.held }
 
 pub unreachable-requires-in-Stale : goal.unreachable-requires-in-Stale
-unreachable-requires-in-Stale c =
+unreachable-requires-in-Stale g c =
     let out : is_out c.args.self.now.round c.args.t ≡ true = sym c.is_out.ensures ∙ c.if-not-is_out.false in
     c.in-Stale.ensures.does.0
     (run-commits c.args.self.now.round c.args.t c.in-Some.job c.in_ok-run-in-Some.run' c.keeps.ensures.in_order out
     (sym c.is_over.ensures ∙ c.if-is_over.false)
     (job-held c.args.self.now.round c.args.self.now.jobs c.args.t c.from.result c.index-self-from.result c.in-Some.job c.keeps.ensures.in_order c.args.self.now.held out
     c.from.ensures c.index-self-from.is (c.index-self-from.is ∙ c.in-Some.is))
-    c.in_ok-run-in-Some.ensures)
+    c.in_ok-run-in-Some.ensures.run')
+
+pub returns-then-is_over-clause-cost : goal.returns-then-is_over-clause-cost
+returns-then-is_over-clause-cost g c =
+    costs-nothing c.args.turns.now c.args.self.now.round c.give_back.new.self (GiveBack c.args.t) c.keeps.ensures.counted tt
+    c.give_back.ensures.event
+
+pub returns-in-Done-clause-cost : goal.returns-in-Done-clause-cost
+returns-in-Done-clause-cost g c =
+    let out : is_out c.args.self.now.round c.args.t ≡ true = sym c.is_out.ensures ∙ c.if-not-is_out.false in
+    let counts =
+    run-counts c.args.self.now.round c.commit.new.self c.args.t c.in-Some.job c.in_ok-run-in-Some.run' c.keeps.ensures.in_order c.keeps.ensures.counted out
+    (sym c.is_over.ensures ∙ c.if-is_over.false)
+    (job-held c.args.self.now.round c.args.self.now.jobs c.args.t c.from.result c.index-self-from.result c.in-Some.job c.keeps.ensures.in_order c.args.self.now.held out
+    c.from.ensures c.index-self-from.is (c.index-self-from.is ∙ c.in-Some.is))
+    c.in_ok-run-in-Some.ensures.run' c.in-Done.ensures.does.1 in
+    omega (arith, counts, c.in_ok-run-in-Some.ensures.cost)

@@ -1,6 +1,6 @@
 use Rattle.std.proofs.Common.{Some, set, sym, subst, ◌∙◌}
 use Rattle.round_spec.proofs.Conditions.{happens-take_not}
-use Rattle.propagate.specs.Jobs.{IsJobOf, HaveJobs}
+use Rattle.propagate.specs.Jobs.{HaveJobs}
 use Rattle.propagate.proofs.Jobs.{jobs-take}
 use Rattle.propagate.proofs.driving.Driven.on_take.Goals as goal
 
@@ -9,17 +9,9 @@ returns-then-not-can_take c = sym (happens-take_not c.args.self.now.round c.args
 
 pub invariant_of-self-2 : goal.invariant_of-self-2
 invariant_of-self-2 c =
-    let own : IsJobOf c.args.self.now.round.machine c.args.t c.in_ok-job.job =
-    record {
-      frame = c.in_ok-job.ensures.frame;
-      thread = c.in_ok-job.ensures.thread;
-      number = c.in_ok-job.ensures.number;
-      regs = c.in_ok-job.ensures.regs;
-      view = c.in_ok-job.ensures.view;
-    } in
     record {
       held =
           subst (λ k. HaveJobs c.take.new.self (set c.args.self.now.jobs k (Some c.in_ok-job.job))) (sym c.from.ensures)
           (jobs-take c.args.self.now.round c.take.new.self c.args.t c.args.self.now.jobs c.in_ok-job.job
-          (sym c.can_take.ensures ∙ c.if-not-can_take.false) c.keeps.ensures.in_order c.in_ok-job.ensures.ok own c.args.self.now.held);
+          (sym c.can_take.ensures ∙ c.if-not-can_take.false) c.keeps.ensures.in_order c.in_ok-job.ensures.ok c.in_ok-job.ensures.job c.args.self.now.held);
     }

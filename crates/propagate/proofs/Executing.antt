@@ -1,7 +1,8 @@
--- The turns of one worker.
-use Rattle.std.proofs.Common.{◌≡◌, ◌+◌, ℕ, zero, suc, Bool, true, false, not, ◌&&◌, List, [], ◌∷◌, Option, Some, None, is_some, refl, ap, sym, ◌∙◌, subst, arith}
+-- The picks of one worker, and what a round executes.
+use Rattle.std.proofs.Common.{◌≡◌, ◌+◌, ℕ, zero, suc, Bool, true, false, not, ◌&&◌, cond, List, [], ◌∷◌, length, Option, Some, None, is_some, refl, ap, sym, ◌∙◌, subst, arith}
 use Rattle.std.proofs.lemmas.Bool.{and_parts, not-true}
 use Rattle.std.proofs.lemmas.List.{get_or-set_same}
+use Rattle.std.specs.Arc.{arc_value}
 use Rattle.isa_spec.specs.Registers.{Registers}
 use Rattle.record_spec.specs.Record.{Record, Kept, kept_thunk}
 use Rattle.machine_spec.specs.Machine.{Machine, hart_of, is_ready}
@@ -12,26 +13,32 @@ use Rattle.history_spec.specs.History.{History, IsSound}
 use Rattle.history_spec.proofs.Truth.{record-fits}
 use Rattle.report_spec.specs.declared.Entry.{Entry}
 use Rattle.report_spec.specs.Report.{threads_of}
-use Rattle.round_spec.specs.declared.events.Event.TheVariants.{Take, Reuse, Commit}
+use Rattle.round_spec.specs.declared.events.Event.{Event}
+use Rattle.round_spec.specs.declared.events.Event.TheVariants.{Take, Reuse, Commit, GiveBack, Stop}
 use Rattle.round_spec.specs.declared.events.Pick.{Pick}
 use Rattle.round_spec.specs.Marks.{record_for, fits_next}
-use Rattle.round_spec.specs.Rounds.{RoundState, opening, is_over, is_out, can_begin, can_take, can_reuse, taken, committed, happens}
+use Rattle.round_spec.specs.Rounds.{RoundState, opening, is_over, is_out, can_begin, can_take, can_reuse, taken, reused_by, committed, given_back, happens}
 use Rattle.round_spec.specs.Choice.{pick_of}
-use Rattle.round_spec.specs.Alone.{one_worker, turned, turns, lone_round}
+use Rattle.round_spec.specs.Alone.{one_worker, after_pick, after_picks, lone_round}
 use Rattle.round_spec.specs.Instructions.{executed_instructions}
 use Rattle.round_spec.specs.Keeping.{IsInOrder, IsCounted, IsHeld, IsFromScratch}
-use Rattle.round_spec.specs.Unedited.{IsUnedited, is_all_reused}
-use Rattle.round_spec.proofs.Conditions.{happens-take, happens-reuse, happens-commit}
-use Rattle.worker_spec.proofs.Lone.{rounds-made, one_worker-permitted, one_worker-complete, lone-threads, lone-scratch, lone-ends}
-use Rattle.worker_spec.proofs.Unedited.{unedited-entries, unedited-reused, unedited-discarded, unedited-machine, unedited-records}
+use Rattle.round_spec.specs.Unedited.{IsUnedited, OnlyReuses}
+use Rattle.round_spec.proofs.Conditions.{happens-take, happens-commit}
+use Rattle.worker_spec.proofs.Lone.{one_worker-permitted, one_worker-complete, lone-threads, lone-scratch}
+use Rattle.worker_spec.proofs.Ending.{lone-ends, lone-discarded}
+use Rattle.worker_spec.proofs.Unedited.{unedited-reuses}
+use Rattle.thunk_run.specs.declared.job.Job.{Job}
+use Rattle.thunk_run.specs.declared.job.Run.{Run}
+use Rattle.thunk_run.specs.Running.{IsRunOf}
+use Rattle.release_core.specs.Jobs.{IsJobOf}
 use Rattle.propagate.specs.Committing.{CanCommit}
-use Rattle.propagate.specs.Turning.{IsPartWay, IsReplayOf}
+use Rattle.propagate.specs.Executing.{executed_by, Costs, IsPartWay}
 use Rattle.propagate.proofs.Keeping.{record_count, executed-more}
-use Rattle.propagate.proofs.Appending.{below-32, take-ready, reuses-some}
+use Rattle.propagate.proofs.Appending.{below-32, take-ready}
 
 -- the record of a thread's own next step
 
-pub own-record :
+own-record :
     (m : Machine) (t : ℕ) (r : Record)
     → r.thread ≡ t → r.number ≡ (hart_of m t).number → r.start ≡ (hart_of m t).regs
     → r.kept ≡ kept_thunk m.frame (hart_of m t).view (hart_of m t).regs
@@ -41,6 +48,13 @@ own-record m t r thread number start kept =
     ∙ ap (λ (n : ℕ). record { thread = t; number = n; start = r.start; kept = r.kept }) number
     ∙ ap (λ (x : Registers). record { thread = t; number = (hart_of m t).number; start = x; kept = r.kept }) start
     ∙ ap (λ (k : Kept). record { thread = t; number = (hart_of m t).number; start = (hart_of m t).regs; kept = k }) kept
+
+-- what running a job gave is that record
+pub run-record :
+    (m : Machine) (t : ℕ) (job : Job) (run : Run) → IsJobOf m t job → IsRunOf job run → arc_value run.rec ≡ record_of m t
+run-record m t job run own ran =
+    own-record m t (arc_value run.rec) (ran.thread ∙ own.thread) (ran.number ∙ own.number) (ran.start ∙ own.regs)
+    (ran.kept ∙ rw (own.frame, own.view, own.regs) refl)
 
 over-false : (b c : Bool) → (not b && c) ≡ true → b ≡ false
 over-false true c h = cc
@@ -88,94 +102,118 @@ pub own-commits :
 own-commits w v t r kept can is own =
     subst (λ (x : RoundState). CanCommit x w.machine.frame r) (sym (is ∙ happens-take w t can)) (taken-commits w t r kept can own)
 
--- and then its instructions are counted
+-- what was executed and committed is counted
+pub commit-counts :
+    (w v : RoundState) (t : ℕ) (r : Record)
+    → length w.records ≡ length w.schedule → CanCommit w w.machine.frame r
+    → v ≡ happens w (Commit r.thread) → r ≡ record_of w.machine t
+    → executed_by v ≡ executed_by w + r.kept.count
+commit-counts w v t r same commits is own =
+    let made : v ≡ committed w t =
+    is
+    ∙ ap (λ (x : Record). happens w (Commit x.thread)) own
+    ∙ happens-commit w t (ap (λ (x : Record). is_out w x.thread) (sym own) ∙ commits.taken) commits.going in
+    ap executed_by made
+    ∙ executed-more w.schedule w.records (record { thread = t; reused = false }) (record_of w.machine t) same
+    ∙ ap (λ (x : Record). executed_by w + x.kept.count) (sym own)
+
+-- also where it was taken just before
 pub own-counts :
     (w v u : RoundState) (t : ℕ) (r : Record)
     → IsInOrder w → IsCounted w → can_take w t ≡ true
     → v ≡ happens w (Take t) → u ≡ happens v (Commit r.thread) → r ≡ record_of w.machine t
-    → executed_instructions u.schedule u.records ≡ executed_instructions w.schedule w.records + r.kept.count
+    → executed_by u ≡ executed_by w + r.kept.count
 own-counts w v u t r kept counted can is_taken is_made own =
-    let took : v ≡ taken w t = is_taken ∙ happens-take w t can in
-    let commits : CanCommit v w.machine.frame r = own-commits w v t r kept can is_taken own in
-    let made : u ≡ committed (taken w t) t =
-    is_made
-    ∙ ap (λ (x : Record). happens v (Commit x.thread)) own
-    ∙ happens-commit v t (ap (λ (x : Record). is_out v x.thread) (sym own) ∙ commits.taken) commits.going
-    ∙ ap (λ (x : RoundState). committed x t) took in
-    ap (λ (x : RoundState). executed_instructions x.schedule x.records) made
-    ∙ executed-more w.schedule w.records (record { thread = t; reused = false }) (record_of w.machine t) (record_count w counted)
-    ∙ ap (λ (x : Record). executed_instructions w.schedule w.records + x.kept.count) (sym own)
+    commit-counts (taken w t) u t r (record_count w counted) (taken-commits w t r kept can own)
+    (is_made ∙ ap (λ (x : RoundState). happens x (Commit r.thread)) (is_taken ∙ happens-take w t can)) own
 
--- a record that is reused costs nothing
-pub reused-counts :
-    (w v : RoundState) (t : ℕ)
-    → IsCounted w → can_reuse w t ≡ true → v ≡ happens w (Reuse t)
-    → executed_instructions v.schedule v.records ≡ executed_instructions w.schedule w.records
-reused-counts w v t counted can is = by (record_for w.past w.machine t) refl
-  where
-    by :
-        (o : Option Record) → record_for w.past w.machine t ≡ o
-        → executed_instructions v.schedule v.records ≡ executed_instructions w.schedule w.records
-    by None none = absurd (reuses-some w t can none)
-    by (Some r) there =
-        let more = executed-more w.schedule w.records (record { thread = t; reused = true }) r (record_count w counted) in
-        ap (λ (x : RoundState). executed_instructions x.schedule x.records) (is ∙ happens-reuse w t r can there)
-        ∙ more ∙ omega arith
+-- whether an event executes nothing
+abbrev pub ExecutesNothing : Event → Type 0
+ExecutesNothing (Take t) = Unit {0}
+ExecutesNothing (Reuse t) = Unit {0}
+ExecutesNothing (Commit t) = ⊥
+ExecutesNothing (GiveBack t) = Unit {0}
+ExecutesNothing Stop = Unit {0}
 
--- one turn
+either-executed :
+    (c : Bool) (w a b : RoundState) → executed_by a ≡ executed_by w → executed_by b ≡ executed_by w → executed_by (cond c a b) ≡ executed_by w
+either-executed true w a b first second = first
+either-executed false w a b first second = second
 
-pub turned-at : (w : RoundState) (p : Pick) → p ≡ pick_of w → turned w p ≡ turned w (pick_of w)
-turned-at w p is = ap (turned w) is
+reused-executed :
+    (w : RoundState) (t : ℕ) (o : Option Record) → length w.records ≡ length w.schedule → executed_by (reused_by w t o) ≡ executed_by w
+reused-executed w t None same = refl
+reused-executed w t (Some r) same =
+    let more = executed-more w.schedule w.records (record { thread = t; reused = true }) r same in more ∙ omega arith
+
+aside-executed :
+    (w : RoundState) (e : Event) → length w.records ≡ length w.schedule → ExecutesNothing e → executed_by (happens w e) ≡ executed_by w
+unfolding happens
+aside-executed w (Take t) same nothing = either-executed (can_take w t) w (taken w t) w refl refl
+aside-executed w (Reuse t) same nothing =
+    either-executed (can_reuse w t) w (reused_by w t (record_for w.past w.machine t)) w
+    (reused-executed w t (record_for w.past w.machine t) same) refl
+aside-executed w (Commit t) same nothing = absurd nothing
+aside-executed w (GiveBack t) same nothing = either-executed (is_out w t) w (given_back w t) w refl refl
+aside-executed w Stop same nothing = refl
+
+-- so the counter stays as it is
+pub costs-nothing :
+    (n : ℕ) (w v : RoundState) (e : Event) → IsCounted w → ExecutesNothing e → v ≡ happens w e → Costs n w n v
+costs-nothing n w v e counted nothing is =
+    ap (λ k. n + k) (sym (ap executed_by is ∙ aside-executed w e (record_count w counted) nothing))
+
+-- one pick
 
 pub partway-start :
     (setup : Setup) (past : Option History) (n : ℕ) (w : RoundState) (count : ℕ)
     → n ≡ setup.limit → w ≡ opening setup past → IsPartWay setup past n w count count
 partway-start setup past n w count limit is =
     record {
-      rest = ap (turns n) is ∙ ap (λ k. turns k (opening setup past)) limit;
-      cost = let none : executed_instructions w.schedule w.records ≡ 0 = ap (λ (x : RoundState). executed_instructions x.schedule x.records) is in omega arith;
+      rest = ap (after_picks n) is ∙ ap (λ k. after_picks k (opening setup past)) limit;
+      cost = let none : executed_by w ≡ 0 = ap (λ (x : RoundState). executed_by x) is in omega arith;
     }
 
-turns-more : (n k : ℕ) (w : RoundState) → n ≡ suc k → turns k (turned w (pick_of w)) ≡ turns n w
-turns-more n k w is = rw is refl
+picks-more : (n k : ℕ) (w : RoundState) → n ≡ suc k → after_picks k (after_pick w (pick_of w)) ≡ after_picks n w
+picks-more n k w is = rw is refl
 
-pub partway-turn :
+pub partway-pick :
     (setup : Setup) (past : Option History) (n k : ℕ) (w v : RoundState) (start before now : ℕ)
     → IsPartWay setup past n w start before → n ≡ suc k
-    → v ≡ turned w (pick_of w)
-    → now + executed_instructions w.schedule w.records ≡ before + executed_instructions v.schedule v.records
+    → v ≡ after_pick w (pick_of w)
+    → now + executed_by w ≡ before + executed_by v
     → IsPartWay setup past k v start now
-partway-turn setup past n k w v start before now way more is cost =
+partway-pick setup past n k w v start before now way more is cost =
     record {
-      rest = ap (turns k) is ∙ turns-more n k w more ∙ way.rest;
+      rest = ap (after_picks k) is ∙ picks-more n k w more ∙ way.rest;
       cost = let so_far = way.cost in omega arith;
     }
 
 -- where nothing is picked, nothing is done any more
-turns-stay : (n : ℕ) (w : RoundState) → turned w (pick_of w) ≡ w → turns n w ≡ w
-turns-stay zero w stays = refl
-turns-stay (suc n) w stays = ap (turns n) stays ∙ turns-stay n w stays
+picks-stay : (n : ℕ) (w : RoundState) → after_pick w (pick_of w) ≡ w → after_picks n w ≡ w
+picks-stay zero w stays = refl
+picks-stay (suc n) w stays = ap (after_picks n) stays ∙ picks-stay n w stays
 
 pub partway-over :
     (setup : Setup) (past : Option History) (n : ℕ) (w v : RoundState) (start before now : ℕ)
     → IsPartWay setup past n w start before
-    → v ≡ turned w (pick_of w) → v ≡ w
-    → now + executed_instructions w.schedule w.records ≡ before + executed_instructions v.schedule v.records
-    → (v ≡ lone_round setup past) × (now ≡ start + executed_instructions v.schedule v.records)
+    → v ≡ after_pick w (pick_of w) → v ≡ w
+    → now + executed_by w ≡ before + executed_by v
+    → (v ≡ lone_round setup past) × (now ≡ start + executed_by v)
 partway-over setup past n w v start before now way is same cost = (
-  same ∙ sym (turns-stay n w (sym is ∙ same)) ∙ way.rest,
+  same ∙ sym (picks-stay n w (sym is ∙ same)) ∙ way.rest,
   (let so_far = way.cost in
-      let equal : executed_instructions v.schedule v.records ≡ executed_instructions w.schedule w.records =
-      ap (λ (x : RoundState). executed_instructions x.schedule x.records) same in
+      let equal : executed_by v ≡ executed_by w =
+      ap (λ (x : RoundState). executed_by x) same in
       omega arith),
 )
 
 pub partway-end :
     (setup : Setup) (past : Option History) (n : ℕ) (w : RoundState) (start now : ℕ)
     → IsPartWay setup past n w start now → n ≡ 0 → w ≡ lone_round setup past
-partway-end setup past n w start now way none = ap (λ k. turns k w) (sym none) ∙ way.rest
+partway-end setup past n w start now way none = ap (λ k. after_picks k w) (sym none) ∙ way.rest
 
--- the round of one worker by a sound history
+-- the round of one worker
 
 pub alone-threads :
     (setup : Setup) (past : Option History) (w : RoundState)
@@ -201,37 +239,21 @@ alone-scratch setup past w valid is sound = subst IsFromScratch (sym is) (lone-s
 
 pub alone-ends :
     (setup : Setup) (past : Option History) (w : RoundState)
-    → IsSetup setup → w ≡ lone_round setup past → IsSound past setup → is_some w.machine.ending ≡ true
-alone-ends setup past w valid is sound = ap (λ (x : RoundState). is_some x.machine.ending) is ∙ lone-ends setup past valid sound
+    → IsSetup setup → w ≡ lone_round setup past → is_some w.machine.ending ≡ true
+alone-ends setup past w valid is = ap (λ (x : RoundState). is_some x.machine.ending) is ∙ lone-ends setup past valid
 
 pub alone-discarded :
     (setup : Setup) (past : Option History) (w : RoundState)
-    → IsSetup setup → w ≡ lone_round setup past → IsSound past setup → w.discarded ≡ 0
-alone-discarded setup past w valid is sound =
-    ap (λ (x : RoundState). x.discarded) (is ∙ rounds-made setup past setup.limit valid sound)
+    → IsSetup setup → w ≡ lone_round setup past → w.discarded ≡ 0
+alone-discarded setup past w valid is =
+    ap (λ (x : RoundState). x.discarded) is ∙ lone-discarded setup past setup.limit valid
 
--- a round that replayed a history
+-- without an edit
 
-all-reused : (es : List Entry) (rs : List Record) → is_all_reused es ≡ true → executed_instructions es rs ≡ 0
-all-reused [] rs all = refl
-all-reused (e ∷ es) [] all = refl
-all-reused (e ∷ es) (r ∷ rs) all =
-    let parts = and_parts e.reused (is_all_reused es) all in
-    let rest = all-reused es rs parts.1 in rw parts.0 (omega arith)
-
-replayed : (h : History) → (w : RoundState) → IsUnedited h h.setup → w ≡ lone_round h.setup (Some h) → IsReplayOf h w
-replayed h w unedited is = subst (IsReplayOf h) (sym is) (record {
-  schedule = unedited-entries h unedited.honest;
-  reused = unedited-reused h unedited.honest;
-  executed = all-reused (lone_round h.setup (Some h)).schedule (lone_round h.setup (Some h)).records (unedited-reused h unedited.honest);
-  discarded = unedited-discarded h unedited.honest;
-  machine = unedited-machine h unedited.honest;
-  records = unedited-records h unedited.honest;
-})
-
-pub unedited-replays :
+pub alone-reuses :
     (setup : Setup) (past : Option History) (w : RoundState) (h : History)
-    → w ≡ lone_round setup past → past ≡ Some h → IsUnedited h setup → IsReplayOf h w
-unedited-replays setup past w h is there unedited =
-    replayed h w (record { honest = unedited.honest; same = refl })
-    (is ∙ ap (lone_round setup) there ∙ ap (λ (s : Setup). lone_round s (Some h)) (sym unedited.same))
+    → w ≡ lone_round setup past → past ≡ Some h → IsUnedited h setup → OnlyReuses h w
+alone-reuses setup past w h is there unedited =
+    subst (OnlyReuses h)
+    (sym (is ∙ ap (lone_round setup) there ∙ ap (λ (s : Setup). lone_round s (Some h)) (sym unedited.same)))
+    (unedited-reuses h unedited.honest)

@@ -1,4 +1,4 @@
-use Rattle.propagate.proofs.tests.alone.Given as goal
+use Rattle.propagate.proofs.tests.made.Given as goal
 
 abbrev pub ghosts-counted : goal.ghosts-counted
 ghosts-counted a = record { name = a.blank.name; parts = a.blank.parts }
