@@ -1,14 +1,20 @@
 //! Small guests under given schedules: how far each is permitted, how it ends, and what the steps take.
 
+ghost use Rattle.std.specs.Prelude.{◌≡◌, ◌<◌};
+
 use super::tests::executable;
-use machine_spec::End;
+use machine_spec::{End, Limits};
 use page_store::PageTable;
 use propagate::{Round, drive};
 use release_core::Setup;
 use round_spec::Event;
 use std::alloc::{AllocError, Global};
+use std::marker::Brand;
 use std::process::Abort;
+use std::sync::ledger::{Blank, Ledger};
 use std::test::Fail;
+use std::thread::Threads;
+use turn_count::Turns;
 use worked_guests::Guest;
 use worked_guests::guests::{BYTES, CROSS, PUTS};
 
@@ -18,34 +24,63 @@ fn setup_of(alloc: Global, guest: Guest, input: &[u8]) -> Result<Option<Setup>, 
     if file.len() > 4096 || input.len() > 4096 {
         return Ok(None);
     }
-    match Setup::new(alloc, file, Vec::from_slice(alloc, input)?, 1_000_000, 4096) {
-        Ok(setup) => Ok(Some(setup)),
-        Err(_) => Ok(None),
+    match Limits::new(1_000_000, 4096) {
+        Some(limits) => {
+            Ok(Setup::new(alloc, file, Vec::from_slice(alloc, input)?, limits).ok())
+        }
+        None => Ok(None),
     }
 }
 
+/// The round that events make, with a counter that the runtime made.
+fn counted<R: Threads, L: Ledger>(
+    rt: &R,
+    alloc: Global,
+    setup: Setup,
+    events: &[Event],
+    blank: Blank,
+) -> Result<Round, AllocError>
+    requires name { blank.name ≡ L.name }
+    requires parts { blank.parts ≡ L.parts }
+    requires some { 0 < L.parts }
+{
+    drive(alloc, setup, None, events, &mut Turns::<L>::new(rt, blank))
+}
+
 /// The round of a guest that these events make.
-fn driven(alloc: Global, guest: Guest, input: &[u8], events: &[Event]) -> Result<Round, Fail> {
+fn driven<R: Threads>(
+    rt: &R,
+    alloc: Global,
+    guest: Guest,
+    input: &[u8],
+    events: &[Event],
+) -> Result<Round, Fail> {
     match setup_of(alloc, guest, input)? {
-        Some(setup) => Ok(drive(alloc, setup, None, events)?),
+        Some(setup) => Ok(counted::<R, Brand>(rt, alloc, setup, events, Blank::new(1))?),
         None => Err(Fail::new("the guest isn't taken")),
     }
 }
 
 /// The round of a guest in which each step of a schedule is taken and committed before the next.
-fn scheduled(alloc: Global, guest: Guest, input: &[u8], schedule: &[u8]) -> Result<Round, Fail> {
+fn scheduled<R: Threads>(
+    rt: &R,
+    alloc: Global,
+    guest: Guest,
+    input: &[u8],
+    schedule: &[u8],
+) -> Result<Round, Fail> {
     let mut events = Vec::new(alloc);
     for &thread in schedule {
         events.push(Event::Take(thread))?;
         events.push(Event::Commit(thread))?;
     }
-    driven(alloc, guest, input, &events)
+    driven(rt, alloc, guest, input, &events)
 }
 
 #[test]
 fn schedules_are_followed_as_far_as_they_are_permitted(rt: HostRuntime) -> Result<(), Fail> {
     let alloc = rt.alloc();
-    let rows: [(Guest, &[u8], usize, u64, Option<End>); 6] = [
+    let rows: [(Guest, &[u8], usize, u64, Option<End>); 5] = [
         (CROSS, &[0, 0, 1, 0, 1], 5, 17, Some(End::Deadlock)),
         (
             CROSS,
@@ -57,28 +92,14 @@ fn schedules_are_followed_as_far_as_they_are_permitted(rt: HostRuntime) -> Resul
         (CROSS, &[0, 0, 1, 0, 1, 0], 5, 17, Some(End::Deadlock)),
         (CROSS, &[0, 0, 1], 3, 11, None),
         (CROSS, &[1], 0, 0, None),
-        (BYTES, &[0, 0, 1, 2, 0, 0, 0, 0], 8, 35, Some(End::Exit(0))),
     ];
     for (guest, schedule, steps, instructions, ending) in rows {
-        let round = scheduled(alloc, guest, b"", schedule)?;
+        let round = scheduled(&rt, alloc, guest, b"", schedule)?;
         assert_eq!(rt; round.schedule().len(), steps);
         assert_eq!(rt; round.instructions(), instructions);
         assert!(rt; round.end() == ending);
     }
     Ok(())
-}
-
-/// Whether two memories have the same pages.
-fn are_same(a: &PageTable, b: &PageTable) -> bool {
-    if a.len() != b.len() {
-        return false;
-    }
-    for slot in 0..a.len() {
-        if !a.page(slot).is_same(b.page(slot)) {
-            return false;
-        }
-    }
-    true
 }
 
 /// The byte at an offset of the page at a slot, if there is that page.
@@ -114,14 +135,17 @@ const INTERLEAVED: [Event; 16] = [
 #[test]
 fn masked_commits_keep_both_bytes(rt: HostRuntime) -> Result<(), Fail> {
     let alloc = rt.alloc();
-    let round = driven(alloc, BYTES, b"", &INTERLEAVED)?;
+    let round = driven(&rt, alloc, BYTES, b"", &INTERLEAVED)?;
     assert!(rt; round.end() == Some(End::Exit(0)));
     assert_eq!(rt; round.schedule().len(), 8);
     assert!(rt; round.output() == b"\x11\x12".as_slice());
     assert!(rt; byte_at(round.memory(), 1, 0) == Some(0x11));
     assert!(rt; byte_at(round.memory(), 1, 1) == Some(0x12));
-    let by_turns = scheduled(alloc, BYTES, b"", &[0, 0, 1, 2, 0, 0, 0, 0])?;
-    assert!(rt; are_same(round.memory(), by_turns.memory()));
+    let in_order = scheduled(&rt, alloc, BYTES, b"", &[0, 0, 1, 2, 0, 0, 0, 0])?;
+    assert_eq!(rt; in_order.schedule().len(), 8);
+    assert_eq!(rt; in_order.instructions(), 35);
+    assert!(rt; in_order.end() == Some(End::Exit(0)));
+    assert!(rt; *round.memory() == *in_order.memory());
     Ok(())
 }
 
@@ -144,7 +168,7 @@ fn compare_reads<R: Abort>(rt: &R, round: &Round, entry: usize, slots: &[usize])
 #[test]
 fn put_takes_its_pages(rt: HostRuntime) -> Result<(), Fail> {
     let alloc = rt.alloc();
-    let round = scheduled(alloc, PUTS, b"\x01\x02\x03", &[0, 0, 0, 0, 0, 0])?;
+    let round = scheduled(&rt, alloc, PUTS, b"\x01\x02\x03", &[0, 0, 0, 0, 0, 0])?;
     assert!(rt; round.end() == Some(End::Exit(0)));
     let rows: [&[usize]; 6] = [&[0], &[0], &[0], &[0, 2, 3], &[0, 1], &[0]];
     for (entry, slots) in rows.into_iter().enumerate() {

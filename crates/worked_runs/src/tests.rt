@@ -6,6 +6,7 @@ use std::alloc::{AllocError, Global};
 use std::collections::BTreeMap;
 use std::process::Abort;
 use std::test::Fail;
+use std::thread::Threads;
 use worked_guests::guests::{CREATES, CROSS, HI, LATE, LENGTH, PAIR, PERM, PUTS, SELF, TRAP, TRY};
 use worked_guests::{Guest, file_of};
 
@@ -17,18 +18,25 @@ pub(super) fn executable(alloc: Global, guest: Guest) -> Result<Vec<u8>, AllocEr
     }
 }
 
-/// A host that has a guest, an input and an edit list.
-fn host_of(alloc: Global, guest: Guest, input: &[u8], edits: &[u8]) -> Result<MemHost, AllocError> {
+/// A host that has a guest, an input and edit lists under their names.
+fn host_of(
+    alloc: Global,
+    guest: Guest,
+    input: &[u8],
+    lists: &[(&str, &[u8])],
+) -> Result<MemHost, AllocError> {
     let mut files = BTreeMap::new(alloc);
     files.insert(String::from_str(alloc, "guest")?, executable(alloc, guest)?)?;
     files.insert(
         String::from_str(alloc, "input")?,
         Vec::from_slice(alloc, input)?,
     )?;
-    files.insert(
-        String::from_str(alloc, "edits")?,
-        Vec::from_slice(alloc, edits)?,
-    )?;
+    for (name, list) in lists.iter().copied() {
+        files.insert(
+            String::from_str(alloc, name)?,
+            Vec::from_slice(alloc, list)?,
+        )?;
+    }
     Ok(MemHost::new(alloc, files, Vec::new(alloc), 0))
 }
 
@@ -42,23 +50,8 @@ struct Row {
     output: &'static [u8],
 }
 
-/// Two threads that add a word each.
-const PAIR_ROW: Row = Row {
-    guest: PAIR,
-    input: b"",
-    status: 0,
-    report: "round 0\nend exit 0\nsteps 12\nreused 0\nexecuted 12\ninstructions 51\nby 12\nschedule 0+ 1+ 0+ 2+ 1+ 2+ 0+ 1+ 2+ 0+ 0+ 0+\nmemory ",
-    output: b"\noutput 4\n\x0c\x00\x00\x00\n",
-};
-
-const ROWS: [Row; 10] = [
-    Row {
-        guest: TRY,
-        input: b"\x01",
-        status: 0,
-        report: "round 0\nend exit 4294967280\nsteps 6\nreused 0\nexecuted 6\ninstructions 23\nby 6\nschedule 0+ 0+ 1+ 1+ 0+ 0+\nmemory ",
-        output: b"\noutput 0\n\n",
-    },
+/// Runs without an edit. A run with edits begins as one without does: those of three more guests stand below.
+const ROWS: [Row; 8] = [
     Row {
         guest: TRY,
         input: b"\x00",
@@ -71,13 +64,6 @@ const ROWS: [Row; 10] = [
         input: b"",
         status: 0,
         report: "round 0\nend exit 51\nsteps 5\nreused 0\nexecuted 5\ninstructions 22\nby 5\nschedule 0+ 1+ 0+ 1+ 0+\nmemory ",
-        output: b"\noutput 0\n\n",
-    },
-    Row {
-        guest: LENGTH,
-        input: b"\x00\x00\x00\x00\x00",
-        status: 0,
-        report: "round 0\nend exit 5\nsteps 2\nreused 0\nexecuted 2\ninstructions 6\nby 2\nschedule 0+ 0+\nmemory ",
         output: b"\noutput 0\n\n",
     },
     Row {
@@ -126,7 +112,7 @@ const ROWS: [Row; 10] = [
 ];
 
 /// The status of a line, whose words stand between spaces.
-fn status_of<R: Sync>(
+fn status_of<R: Threads + Sync>(
     rt: &R,
     alloc: Global,
     host: &mut MemHost,
@@ -140,8 +126,8 @@ fn status_of<R: Sync>(
 }
 
 /// Runs a guest on an input, and compares.
-fn compare<R: Sync + Abort>(rt: &R, alloc: Global, row: &Row, input: &[u8]) -> Result<(), Fail> {
-    let mut host = host_of(alloc, row.guest, input, b"")?;
+fn compare<R: Threads + Sync + Abort>(rt: &R, alloc: Global, row: &Row) -> Result<(), Fail> {
+    let mut host = host_of(alloc, row.guest, row.input, &[])?;
     let status = status_of(rt, alloc, &mut host, "ithreads run guest input --workers 1")?;
     assert_eq!(rt; status, row.status);
     assert!(rt; host.printed().starts_with(row.report.as_bytes()));
@@ -153,13 +139,9 @@ fn compare<R: Sync + Abort>(rt: &R, alloc: Global, row: &Row, input: &[u8]) -> R
 fn guests_end_as_worked_out(rt: HostRuntime) -> Result<(), Fail> {
     let alloc = rt.alloc();
     for row in ROWS {
-        compare(&rt, alloc, &row, row.input)?;
+        compare(&rt, alloc, &row)?;
     }
-    // zeros, but for a 5 at the beginning and a 7 at the beginning of the second page
-    let mut input = vec![in alloc; 0u8; 4100]?;
-    input[0] = 5;
-    input[4096] = 7;
-    compare(&rt, alloc, &PAIR_ROW, input.as_slice())
+    Ok(())
 }
 
 /// A round: its report up to the digest, and the output with the line before it.
@@ -169,59 +151,68 @@ struct Told {
     output: &'static [u8],
 }
 
-/// A run with an edit list: the guest, the list, and the two rounds.
+/// A run with edit lists: the guest, the lists under their names, the line, and the round before them and after each.
 #[derive(Clone, Copy)]
 struct Edited {
     guest: Guest,
-    edits: &'static [u8],
-    first: Told,
-    second: Told,
+    lists: &'static [(&'static str, &'static [u8])],
+    line: &'static str,
+    rounds: &'static [Told],
 }
 
-/// Edit lists for two threads that add a word each, and their second rounds.
-const PAIR_SECOND: [(&[u8], Told); 2] = [
-    (
-        b"set 4096 08",
+/// Two threads that add a word each; the first list changes nothing.
+const PAIR_EDITED: Edited = Edited {
+    guest: PAIR,
+    lists: &[("same", b"set 4096 07"), ("edits", b"set 4096 08")],
+    line: "ithreads run guest input same edits --workers 1",
+    rounds: &[
         Told {
-            report: "round 1\nend exit 0\nsteps 12\nreused 8\nexecuted 4\ninstructions 18\nby 12\nschedule 0= 1= 0= 2+ 1= 2+ 0= 1= 2+ 0= 0+ 0=\nmemory ",
-            output: b"\noutput 4\n\x0d\x00\x00\x00\n",
+            report: "round 0\nend exit 0\nsteps 12\nreused 0\nexecuted 12\ninstructions 51\nby 12\nschedule 0+ 1+ 0+ 2+ 1+ 2+ 0+ 1+ 2+ 0+ 0+ 0+\nmemory ",
+            output: b"\noutput 4\n\x0c\x00\x00\x00\n",
         },
-    ),
-    (
-        b"set 4096 07",
         Told {
             report: "round 1\nend exit 0\nsteps 12\nreused 12\nexecuted 0\ninstructions 0\nby 12\nschedule 0= 1= 0= 2= 1= 2= 0= 1= 2= 0= 0= 0=\nmemory ",
             output: b"\noutput 4\n\x0c\x00\x00\x00\n",
         },
-    ),
-];
+        Told {
+            report: "round 2\nend exit 0\nsteps 12\nreused 8\nexecuted 4\ninstructions 18\nby 12\nschedule 0= 1= 0= 2+ 1= 2+ 0= 1= 2+ 0= 0+ 0=\nmemory ",
+            output: b"\noutput 4\n\x0d\x00\x00\x00\n",
+        },
+    ],
+};
 
 /// The guest that exits with the length of its input, five bytes that are cut off.
 const LENGTH_EDITED: Edited = Edited {
     guest: LENGTH,
-    edits: b"size 0\n",
-    first: Told {
-        report: "round 0\nend exit 5\nsteps 2\nreused 0\nexecuted 2\ninstructions 6\nby 2\nschedule 0+ 0+\nmemory ",
-        output: b"\noutput 0\n\n",
-    },
-    second: Told {
-        report: "round 1\nend exit 0\nsteps 2\nreused 1\nexecuted 1\ninstructions 4\nby 2\nschedule 0= 0+\nmemory ",
-        output: b"\noutput 0\n\n",
-    },
+    lists: &[("edits", b"size 0\n")],
+    line: "ithreads run guest input edits --workers 1",
+    rounds: &[
+        Told {
+            report: "round 0\nend exit 5\nsteps 2\nreused 0\nexecuted 2\ninstructions 6\nby 2\nschedule 0+ 0+\nmemory ",
+            output: b"\noutput 0\n\n",
+        },
+        Told {
+            report: "round 1\nend exit 0\nsteps 2\nreused 1\nexecuted 1\ninstructions 4\nby 2\nschedule 0= 0+\nmemory ",
+            output: b"\noutput 0\n\n",
+        },
+    ],
 };
 
 /// The guest whose second thread tries a lock, which is held at first.
 const TRY_EDITED: Edited = Edited {
     guest: TRY,
-    edits: b"set 0 00",
-    first: Told {
-        report: "round 0\nend exit 4294967280\nsteps 6\nreused 0\nexecuted 6\ninstructions 23\nby 6\nschedule 0+ 0+ 1+ 1+ 0+ 0+\nmemory ",
-        output: b"\noutput 0\n\n",
-    },
-    second: Told {
-        report: "round 1\nend exit 0\nsteps 6\nreused 1\nexecuted 5\ninstructions 19\nby 6\nschedule 0+ 0+ 1= 1+ 0+ 0+\nmemory ",
-        output: b"\noutput 0\n\n",
-    },
+    lists: &[("edits", b"set 0 00")],
+    line: "ithreads run guest input edits --workers 1",
+    rounds: &[
+        Told {
+            report: "round 0\nend exit 4294967280\nsteps 6\nreused 0\nexecuted 6\ninstructions 23\nby 6\nschedule 0+ 0+ 1+ 1+ 0+ 0+\nmemory ",
+            output: b"\noutput 0\n\n",
+        },
+        Told {
+            report: "round 1\nend exit 0\nsteps 6\nreused 1\nexecuted 5\ninstructions 19\nby 6\nschedule 0+ 0+ 1= 1+ 0+ 0+\nmemory ",
+            output: b"\noutput 0\n\n",
+        },
+    ],
 };
 
 /// How long a round's text is, with the digest's 64 digits.
@@ -239,50 +230,45 @@ fn is_told(text: &[u8], told: Told) -> bool {
         && text.ends_with(told.output)
 }
 
-/// Whether a text is that of two rounds.
-fn are_told(text: &[u8], first: Told, second: Told) -> bool {
-    let end = length_of(first);
-    if text.len() < end {
-        return false;
+/// Whether a text is that of some rounds, one after the other.
+fn are_told(text: &[u8], rounds: &[Told]) -> bool {
+    let mut rest = text;
+    for told in rounds {
+        let end = length_of(*told);
+        if rest.len() < end {
+            return false;
+        }
+        let (front, behind) = rest.split_at(end);
+        if !is_told(front, *told) {
+            return false;
+        }
+        rest = behind;
     }
-    let (front, rest) = text.split_at(end);
-    is_told(front, first) && is_told(rest, second)
+    rest.is_empty()
 }
 
-/// Runs a guest on an input and after an edit, and compares.
-fn compare_edited<R: Sync + Abort>(
+/// Runs a guest on an input and after edits, and compares.
+fn compare_edited<R: Threads + Sync + Abort>(
     rt: &R,
     alloc: Global,
     row: &Edited,
     input: &[u8],
 ) -> Result<(), Fail> {
-    let mut host = host_of(alloc, row.guest, input, row.edits)?;
-    let line = "ithreads run guest input edits --workers 1";
-    let status = status_of(rt, alloc, &mut host, line)?;
+    let mut host = host_of(alloc, row.guest, input, row.lists)?;
+    let status = status_of(rt, alloc, &mut host, row.line)?;
     assert_eq!(rt; status, 0);
-    assert!(rt; are_told(host.printed(), row.first, row.second));
+    assert!(rt; are_told(host.printed(), row.rounds));
     Ok(())
 }
 
 #[test]
 fn edits_execute_what_they_reach(rt: HostRuntime) -> Result<(), Fail> {
     let alloc = rt.alloc();
+    // zeros, but for a 5 at the beginning and a 7 at the beginning of the second page
     let mut input = vec![in alloc; 0u8; 4100]?;
     input[0] = 5;
     input[4096] = 7;
-    let first = Told {
-        report: PAIR_ROW.report,
-        output: PAIR_ROW.output,
-    };
-    for (edits, second) in PAIR_SECOND {
-        let row = Edited {
-            guest: PAIR,
-            edits,
-            first,
-            second,
-        };
-        compare_edited(&rt, alloc, &row, input.as_slice())?;
-    }
+    compare_edited(&rt, alloc, &PAIR_EDITED, input.as_slice())?;
     compare_edited(&rt, alloc, &LENGTH_EDITED, &[0; 5])?;
     compare_edited(&rt, alloc, &TRY_EDITED, &[1])
 }
@@ -292,7 +278,7 @@ fn limits_end_a_run(rt: HostRuntime) -> Result<(), Fail> {
     let alloc = rt.alloc();
     for (line, status, report) in [
         (
-            "ithreads run guest input --fuel 5",
+            "ithreads run guest input --fuel 5 --steps 2",
             0,
             "round 0\nend exit 0\nsteps 2\nreused 0\nexecuted 2\ninstructions 8\nby 2 0 0 0\nschedule 0+ 0+\n",
         ),
@@ -302,17 +288,12 @@ fn limits_end_a_run(rt: HostRuntime) -> Result<(), Fail> {
             "round 0\nend spent\nsteps 1\nreused 0\nexecuted 1\ninstructions 4\nby 1 0 0 0\nschedule 0+\n",
         ),
         (
-            "ithreads run guest input --steps 2",
-            0,
-            "round 0\nend exit 0\nsteps 2\nreused 0\nexecuted 2\ninstructions 8\nby 2 0 0 0\nschedule 0+ 0+\n",
-        ),
-        (
             "ithreads run guest input --steps 1",
             1,
             "round 0\nend spent\nsteps 1\nreused 0\nexecuted 1\ninstructions 5\nby 1 0 0 0\nschedule 0+\n",
         ),
     ] {
-        let mut host = host_of(alloc, HI, b"", b"")?;
+        let mut host = host_of(alloc, HI, b"", &[])?;
         let got = status_of(&rt, alloc, &mut host, line)?;
         assert_eq!(rt; got, status, "at {line}");
         assert!(rt; host.printed().starts_with(report.as_bytes()), "at {line}");
