@@ -4,6 +4,7 @@ ghost use Rattle.std.specs.Prelude.{◌≡◌, ◌<◌, ◌/◌, true, length, s
 ghost use Rattle.memory_spec.specs.Pages.{slot_of, ascends_above, unmapped};
 
 use super::pages::MappedPage;
+use memory_spec::PAGE_SIZE;
 
 /// How many hints there are.
 pub(super) const HINTS: usize = 4096;
@@ -11,7 +12,7 @@ pub(super) const HINTS: usize = 4096;
 /// The place of the hint for a page: the ranges of a guest's pages have different ones.
 #[inline(always)]
 pub(super) fn hint_place(number: u32) -> usize
-    ensures { result < 4096 }
+    ensures { result < HINTS }
 {
     let spread = number.wrapping_add((number >> 16) << 9);
     (spread & 0xfff) as usize
@@ -34,7 +35,7 @@ fn find(pages: &[MappedPage], address: u32) -> Option<usize>
     ensures found { IfSome result (λ slot. (slot ≡ slot_of pages.now address) × (slot < length pages.now)) }
     ensures missing { IfNone result (slot_of pages.now address ≡ length pages.now) }
 {
-    let number = address / 4096;
+    let number = address / PAGE_SIZE as u32;
     let mut low = 0;
     let mut high = pages.len();
     while low < high {
@@ -60,7 +61,7 @@ pub(super) fn find_near(pages: &[MappedPage], guess: usize, address: u32) -> Opt
     ensures missing { IfNone result (slot_of pages.now address ≡ length pages.now) }
 {
     if guess < pages.len() {
-        if number_at(pages, guess) == address / 4096 {
+        if number_at(pages, guess) == address / PAGE_SIZE as u32 {
             return Some(guess);
         }
     }

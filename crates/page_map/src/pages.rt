@@ -1,12 +1,13 @@
 //! The list of a guest's pages, in ascending order.
 
-ghost use Rattle.std.specs.Prelude.{◌≡◌, ◌==◌, ◌<◌, ◌*◌, true, Decides, length, slice_index_or, IfSome, IfNone};
+ghost use Rattle.std.specs.Prelude.{◌≡◌, ◌<◌, ◌*◌, true, Decides, length, slice_index_or, IfSome, IfNone};
 ghost use Rattle.std.specs.Cmp.{partial_equiv_from_equiv};
 ghost use Rattle.memory_spec.specs.Pages.{slot_of, ascends_above, unmapped};
 ghost use Rattle.page_map.specs.Equal.{is_same_page, is_same_map, is_same_page-equiv, is_same_map-equiv};
 
 use super::lookup::{HINTS, find_near, hint_place};
 use super::permission::Perm;
+use memory_spec::PAGE_SIZE;
 use std::marker::Model;
 
 /// The place of a page in the page map.
@@ -90,9 +91,11 @@ impl Model for PageMap {
 
     ghost Value = { List Mapped };
 
-    ghost view = { λ m. m.pages.items };
+    ghost use Rattle.page_map.specs.Maps.{pages_of};
 
-    ghost invariant = { λ m. ascends_above 0 m.pages.items ≡ true };
+    ghost view = { pages_of };
+
+    ghost invariant = { λ m. ascends_above 0 (pages_of m) ≡ true };
 }
 
 /// For each page the slot in which it may be looked for first.
@@ -122,7 +125,7 @@ impl PageMap {
         ensures found { IfSome result (λ slot. (slot ≡ slot_of self.now address) × (slot < length self.now)) }
         ensures missing { IfNone result (slot_of self.now address ≡ length self.now) }
     {
-        let guess = self.hints[hint_place(address / 4096)];
+        let guess = self.hints[hint_place(address / PAGE_SIZE as u32)];
         find_near(&self.pages, usize::from(guess), address)
     }
 
@@ -148,10 +151,10 @@ impl PageMap {
     /// The address of the first byte of the page in a slot.
     pub fn address(&self, slot: Slot) -> u64
         requires { slot < length self.now }
-        ensures { result ≡ (slice_index_or self.now slot unmapped).number * 4096 }
+        ensures { result ≡ (slice_index_or self.now slot unmapped).number * PAGE_SIZE }
     {
         let page = &self.pages[slot];
-        u64::from(page.number()) * 4096
+        u64::from(page.number()) * PAGE_SIZE as u64
     }
 
     /// How many pages are mapped.
@@ -161,13 +164,6 @@ impl PageMap {
         ensures ascending { ascends_above 0 self.now ≡ true }
     {
         self.pages.len()
-    }
-
-    /// Whether no page is mapped.
-    pub fn is_empty(&self) -> bool
-        ensures { result ≡ (length self.now == 0) }
-    {
-        self.pages.is_empty()
     }
 
     /// The mapped pages, in ascending order.

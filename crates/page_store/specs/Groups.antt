@@ -1,17 +1,12 @@
 -- Pages in groups of 32, all full but the last.
-use Rattle.std.specs.Prelude.{◌≡◌, ℕ, ◌-◌, ◌<◌, min, List, [], ◌∷◌, ◌++◌, All, length}
+use Rattle.std.specs.Prelude.{◌≡◌, ℕ, ◌-◌, ◌<◌, min, List, [], ◌∷◌, ◌++◌, length}
 
--- The pages of all groups, in order. (this project's own)
+-- The pages of all groups, in order.
 abbrev pub joined : {X : Type 0} → List (List X) → List X
 joined [] = []
 joined (group ∷ groups) = group ++ joined groups
 
--- So many pages stand in these groups: 32 in each but the last, which has the rest and isn't empty. (this project's own)
+-- So many pages stand in these groups: 32 in each but the last, which has the rest and isn't empty.
 abbrev pub AreGroupsOf : {X : Type 0} → ℕ → List (List X) → Type 0
 AreGroupsOf count [] = count ≡ 0
 AreGroupsOf count (group ∷ groups) = (0 < count) × (length group ≡ min count 32) × AreGroupsOf (count - 32) groups
-
--- What is true of the groups of a table with so many pages. (this project's own)
-pub record IsTable (count : ℕ) (groups : List (List (List ℕ))) : Type 0 where
-  pub grouped : AreGroupsOf count groups
-  pub pages : All (λ page. length page ≡ 4096) (joined groups)

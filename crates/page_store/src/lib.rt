@@ -5,7 +5,8 @@ mod group;
 mod page;
 mod table;
 
-pub use page::{PAGE_SIZE, Page};
+pub use memory_spec::PAGE_SIZE;
+pub use page::Page;
 pub use table::PageTable;
 
 #[cfg(test)]

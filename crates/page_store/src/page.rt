@@ -6,10 +6,8 @@ ghost use Rattle.std.specs.Cmp.Lexicographic.{nat_list_eq_equiv};
 ghost use Rattle.std.specs.Str.{bytes_eq};
 ghost use Rattle.memory_spec.specs.Pages.{zero_page};
 
+use memory_spec::PAGE_SIZE;
 use std::marker::Model;
-
-/// How many bytes a page has.
-pub const PAGE_SIZE: usize = 4096;
 
 /// A page of 4,096 bytes. A clause sees the list of its bytes.
 #[derive(Drop)]
@@ -19,12 +17,13 @@ pub struct Page {
 
 impl Model for Page {
     ghost use Rattle.std.specs.Prelude.{◌≡◌, ℕ, List, length};
+    ghost use Rattle.memory_spec.specs.declared.TheConstants.{PAGE_SIZE};
 
     ghost Value = { List ℕ };
 
     ghost view = { λ p. p.bytes };
 
-    ghost invariant = { λ p. length p.bytes ≡ 4096 };
+    ghost invariant = { λ p. length p.bytes ≡ PAGE_SIZE };
 }
 
 impl Page {
@@ -34,16 +33,6 @@ impl Page {
         ensures { result ≡ bytes }
     {
         Page { bytes }
-    }
-
-    /// The page of these 4,096 bytes.
-    pub fn from_slice(bytes: &[u8]) -> Page
-        requires { length bytes.now ≡ 4096 }
-        ensures { result ≡ bytes.now }
-    {
-        let mut page = [0; PAGE_SIZE];
-        page.copy_from_slice(bytes);
-        Page { bytes: page }
     }
 
     /// A page of zeros.
@@ -68,7 +57,7 @@ impl Page {
     #[inline(always)]
     pub fn bytes(&self) -> &[u8; PAGE_SIZE]
         ensures value { result.now ≡ self.now }
-        ensures whole { length self.now ≡ 4096 }
+        ensures whole { length self.now ≡ PAGE_SIZE }
     {
         &self.bytes
     }
@@ -76,7 +65,7 @@ impl Page {
     /// The byte at an offset.
     #[inline(always)]
     pub fn get(&self, offset: usize) -> u8
-        requires { offset < 4096 }
+        requires { offset < PAGE_SIZE }
         ensures { result ≡ slice_index self.now offset }
     {
         self.bytes[offset]
@@ -85,17 +74,10 @@ impl Page {
     /// Writes the byte at an offset.
     #[inline(always)]
     pub fn set(&mut self, offset: usize, byte: u8)
-        requires { offset < 4096 }
+        requires { offset < PAGE_SIZE }
         ensures { self.new ≡ slice_set self.old offset byte }
     {
         self.bytes[offset] = byte;
-    }
-
-    /// Whether another page has the same bytes.
-    pub fn is_same(&self, other: &Page) -> bool
-        ensures { result ≡ bytes_eq self.now other.now }
-    {
-        self.bytes.as_slice() == other.bytes.as_slice()
     }
 }
 

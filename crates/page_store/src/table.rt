@@ -1,6 +1,6 @@
 //! A table of pages, by slot.
 
-ghost use Rattle.std.specs.Prelude.{◌≡◌, ◌==◌, ◌<◌, [], ◌∷◌, ◌++◌, All, Decides, length, map, slice_set, IfOk, OnOk, OnErr};
+ghost use Rattle.std.specs.Prelude.{◌≡◌, ◌<◌, [], ◌∷◌, ◌++◌, All, Decides, length, slice_set, IfOk, OnOk, OnErr};
 ghost use Rattle.std.specs.Cmp.{partial_equiv_from_equiv};
 ghost use Rattle.std.specs.Cmp.Lexicographic.{lists_equiv, nat_list_eq_equiv, pointwise};
 ghost use Rattle.std.specs.Str.{bytes_eq};
@@ -9,6 +9,7 @@ ghost use Rattle.memory_spec.specs.Pages.{page_of};
 
 use super::group::{GROUP_SIZE, Group};
 use super::page::Page;
+use memory_spec::PAGE_SIZE;
 use std::alloc::{AllocError, Global};
 use std::marker::Model;
 use std::sync::Arc;
@@ -25,15 +26,15 @@ pub struct PageTable {
 }
 
 impl Model for PageTable {
-    ghost use Rattle.std.specs.Prelude.{ℕ, List, map};
-    ghost use Rattle.std.specs.Arc.{arc_value};
-    ghost use Rattle.page_store.specs.Groups.{joined, IsTable};
+    ghost use Rattle.memory_spec.specs.Pages.{Memory};
 
-    ghost Value = { List (List ℕ) };
+    ghost Value = { Memory };
 
-    ghost view = { λ t. joined (map arc_value t.groups.items) };
+    ghost use Rattle.page_store.specs.Tables.{pages_of, IsTable};
 
-    ghost invariant = { λ t. IsTable t.count (map arc_value t.groups.items) };
+    ghost view = { pages_of };
+
+    ghost invariant = { IsTable };
 }
 
 impl PageTable {
@@ -48,21 +49,6 @@ impl PageTable {
         }
     }
 
-    /// The table of these pages, each in its place. No byte is copied.
-    ///
-    /// # Errors
-    ///
-    /// An error where the host's memory ran out, or a page has as many holders as can be counted.
-    pub fn new(alloc: Global, pages: Vec<Arc<Page>>) -> Result<PageTable, AllocError>
-        ensures { IfOk result (λ table. table ≡ map arc_value pages.items) }
-    {
-        let mut table = PageTable::empty(alloc);
-        for page in &pages {
-            table.push_shared(page)?;
-        }
-        Ok(table)
-    }
-
     /// How many pages there are.
     #[inline(always)]
     pub fn len(&self) -> usize
@@ -71,17 +57,10 @@ impl PageTable {
         self.count
     }
 
-    /// Whether there is no page.
-    pub fn is_empty(&self) -> bool
-        ensures { result ≡ (length self.now == 0) }
-    {
-        self.count == 0
-    }
-
     /// Each page has 4,096 bytes: what a caller learns of any table.
     #[inline(always)]
     pub fn whole(&self)
-        ensures { All (λ page. length page ≡ 4096) self.now }
+        ensures { All (λ page. length page ≡ PAGE_SIZE) self.now }
     {
         let _groups = &self.groups;
     }

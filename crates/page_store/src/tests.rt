@@ -13,7 +13,8 @@ fn snapshot_keeps_the_old_page(rt: HostRuntime) -> Result<(), AllocError> {
     table.replace(1, Page::new([9; PAGE_SIZE]))?;
     assert_eq!(rt; before.page(1).get(4095), 7);
     assert_eq!(rt; table.page(1).get(4095), 9);
-    assert!(rt; table.page(0).is_same(before.page(0)));
+    assert!(rt; table.page(0) == before.page(0));
+    assert!(rt; table != before);
     let shared = table.share(1)?;
     assert_eq!(rt; shared.get(0), 9);
     Ok(())
@@ -70,15 +71,15 @@ fn push_behind_a_snapshot_leaves_it(rt: HostRuntime) -> Result<(), AllocError> {
 }
 
 #[test]
-fn new_keeps_each_page_in_its_place(rt: HostRuntime) -> Result<(), AllocError> {
-    let mut pages = Vec::new(rt.alloc());
-    for slot in 0..33u8 {
-        pages.push(Arc::new(rt.alloc(), Page::new([slot; PAGE_SIZE]))?)?;
-    }
-    let table = PageTable::new(rt.alloc(), pages)?;
-    assert_eq!(rt; table.len(), 33);
-    assert!(rt; table.len() > 32);
-    assert_eq!(rt; table.page(31).get(0), 31);
-    assert_eq!(rt; table.page(32).get(0), 32);
+fn tables_are_equal_where_their_pages_are(rt: HostRuntime) -> Result<(), AllocError> {
+    let table = numbered(rt.alloc())?;
+    let mut other = numbered(rt.alloc())?;
+    assert!(rt; table == other);
+    other.replace(99, Page::new([7; PAGE_SIZE]))?;
+    assert!(rt; table != other);
+    other.replace(99, Page::new([99; PAGE_SIZE]))?;
+    assert!(rt; table == other);
+    other.push(Page::zero())?;
+    assert!(rt; table != other);
     Ok(())
 }

@@ -16,7 +16,7 @@ with_number page offset Four value =
     (slice_set (slice_set (slice_set page offset (byte_of value 0)) (offset + 1) (byte_of value 1)) (offset + 2) (byte_of value 2))
     (offset + 3) (byte_of value 3)
 
--- A mask after that. (this project's own)
+-- A mask after that.
 unfoldable pub with_marks : List Bool → ℕ → Size → List Bool
 with_marks mask offset One = slice_set mask offset true
 with_marks mask offset Two = slice_set (slice_set mask offset true) (offset + 1) true

@@ -9,7 +9,7 @@ ghost use Rattle.priv_space.specs.Parts.{read_part, delta_part};
 ghost use Rattle.priv_space.specs.declared.slot.Held.TheVariants.{Untouched};
 ghost use Rattle.priv_space.specs.Slots.{untouched, slot_shared, slot_bytes, slot_marks, slot_taken};
 
-use memory_spec::Size;
+use memory_spec::{PAGE_SIZE, Size};
 use page_store::{Page, PageTable};
 use std::alloc::{AllocError, Global};
 use std::mem;
@@ -52,7 +52,7 @@ fn byte_at(value: u32, k: u32) -> u8
 #[inline]
 #[tactic(auto, unfolding(memory_spec::specs::Access::number_in))]
 fn word_at(page: &Page, offset: usize) -> u32
-    requires { offset + 4 ≤ 4096 }
+    requires { offset + 4 ≤ PAGE_SIZE }
     ensures { result ≡ number_in page.now offset Size.Four }
 {
     let bytes = page.bytes();
@@ -66,7 +66,7 @@ fn word_at(page: &Page, offset: usize) -> u32
 #[inline(always)]
 #[tactic(auto, unfolding(memory_spec::specs::Access::number_in))]
 fn number_at(page: &Page, offset: usize, size: Size) -> u32
-    requires { offset + byte_count size ≤ 4096 }
+    requires { offset + byte_count size ≤ PAGE_SIZE }
     ensures value { result ≡ number_in page.now offset size }
     ensures small { result < 2 ^ (8 * byte_count size) }
 {
@@ -82,7 +82,7 @@ fn number_at(page: &Page, offset: usize, size: Size) -> u32
 #[inline(always)]
 #[tactic(auto, unfolding(crate::specs::Written::with_number))]
 fn write_number(page: &mut Page, offset: usize, size: Size, value: u32)
-    requires { offset + byte_count size ≤ 4096 }
+    requires { offset + byte_count size ≤ PAGE_SIZE }
     ensures { page.new ≡ with_number page.old offset size value }
 {
     page.set(offset, byte_at(value, 0));
@@ -101,7 +101,7 @@ fn write_number(page: &mut Page, offset: usize, size: Size, value: u32)
 #[inline(always)]
 #[tactic(auto, unfolding(crate::specs::Written::with_marks))]
 fn mark_number(mask: &mut Mask, offset: usize, size: Size)
-    requires { offset + byte_count size ≤ 4096 }
+    requires { offset + byte_count size ≤ PAGE_SIZE }
     ensures { mask.new ≡ with_marks mask.old offset size }
 {
     mask.set(offset);
@@ -120,7 +120,7 @@ fn mark_number(mask: &mut Mask, offset: usize, size: Size)
 /// faster than by turns.
 #[inline(always)]
 fn store_number(stored: &mut StoredPage, offset: usize, size: Size, value: u32)
-    requires { offset + byte_count size ≤ 4096 }
+    requires { offset + byte_count size ≤ PAGE_SIZE }
     ensures page { stored.new.page ≡ with_number stored.old.page offset size value }
     ensures mask { stored.new.mask ≡ with_marks stored.old.mask offset size }
 {
@@ -140,7 +140,7 @@ fn own_copy(
     size: Size,
     value: u32,
 ) -> Result<Box<StoredPage>, AllocError>
-    requires { offset + byte_count size ≤ 4096 }
+    requires { offset + byte_count size ≤ PAGE_SIZE }
     ensures page { IfOk result (λ own. own.value.page ≡ with_number page.now offset size value) }
     ensures mask { IfOk result (λ own. own.value.mask ≡ with_marks no_marks offset size) }
 {
@@ -175,7 +175,7 @@ impl Slot {
         }
     }
 
-    /// Takes a number at an offset, where the view has the slot's page in this place.
+    /// Takes a number at an offset, where the view has its page in this slot.
     ///
     /// # Errors
     ///
@@ -185,24 +185,24 @@ impl Slot {
     pub(super) fn take(
         &mut self,
         view: &PageTable,
-        place: usize,
+        slot: usize,
         offset: usize,
         size: Size,
     ) -> Result<u32, AllocError>
-        requires within { place < length view.now }
-        requires inside { offset + byte_count size ≤ 4096 }
-        requires share { slot_shared (page_of view.now place) self.old ≡ page_of view.now place }
-        ensures value { IfOk result (λ number. number ≡ number_in (slot_bytes (page_of view.now place) self.old) offset size) }
+        requires within { slot < length view.now }
+        requires inside { offset + byte_count size ≤ PAGE_SIZE }
+        requires share { slot_shared (page_of view.now slot) self.old ≡ page_of view.now slot }
+        ensures value { IfOk result (λ number. number ≡ number_in (slot_bytes (page_of view.now slot) self.old) offset size) }
         ensures small { IfOk result (λ number. number < 2 ^ (8 * byte_count size)) }
-        ensures shared { slot_shared (page_of view.now place) self.new ≡ page_of view.now place }
-        ensures bytes { slot_bytes (page_of view.now place) self.new ≡ slot_bytes (page_of view.now place) self.old }
+        ensures shared { slot_shared (page_of view.now slot) self.new ≡ page_of view.now slot }
+        ensures bytes { slot_bytes (page_of view.now slot) self.new ≡ slot_bytes (page_of view.now slot) self.old }
         ensures marks { slot_marks self.new ≡ slot_marks self.old }
         ensures taken { OnOk result (slot_taken self.new ≡ true) }
         ensures taken_stays { OnErr result (slot_taken self.new ≡ slot_taken self.old) }
     {
         let number = match self.page() {
             Some(page) => number_at(page, offset, size),
-            None => self.first_number(view, place, offset, size)?,
+            None => self.first_number(view, slot, offset, size)?,
         };
         self.taken = true;
         Ok(number)
@@ -221,27 +221,27 @@ impl Slot {
     fn first_number(
         &mut self,
         view: &PageTable,
-        place: usize,
+        slot: usize,
         offset: usize,
         size: Size,
     ) -> Result<u32, AllocError>
-        requires within { place < length view.now }
-        requires inside { offset + byte_count size ≤ 4096 }
+        requires within { slot < length view.now }
+        requires inside { offset + byte_count size ≤ PAGE_SIZE }
         requires untouched { self.old.held ≡ Untouched }
-        ensures value { IfOk result (λ number. number ≡ number_in (page_of view.now place) offset size) }
+        ensures value { IfOk result (λ number. number ≡ number_in (page_of view.now slot) offset size) }
         ensures small { IfOk result (λ number. number < 2 ^ (8 * byte_count size)) }
-        ensures shared { slot_shared (page_of view.now place) self.new ≡ page_of view.now place }
-        ensures bytes { slot_bytes (page_of view.now place) self.new ≡ page_of view.now place }
+        ensures shared { slot_shared (page_of view.now slot) self.new ≡ page_of view.now slot }
+        ensures bytes { slot_bytes (page_of view.now slot) self.new ≡ page_of view.now slot }
         ensures marks { slot_marks self.new ≡ no_marks }
         ensures taken { slot_taken self.new ≡ slot_taken self.old }
     {
-        let shared = view.share(place)?;
+        let shared = view.share(slot)?;
         let number = number_at(&shared, offset, size);
         self.held = Held::Shared(shared);
         Ok(number)
     }
 
-    /// Stores the lowest bytes of a value at an offset, where the view has the slot's page in this place.
+    /// Stores the lowest bytes of a value at an offset, where the view has its page in this slot.
     ///
     /// # Errors
     ///
@@ -252,19 +252,19 @@ impl Slot {
         &mut self,
         alloc: Global,
         view: &PageTable,
-        place: usize,
+        slot: usize,
         offset: usize,
         size: Size,
         value: u32,
     ) -> Result<(), AllocError>
-        requires within { place < length view.now }
-        requires inside { offset + byte_count size ≤ 4096 }
-        requires share { slot_shared (page_of view.now place) self.old ≡ page_of view.now place }
-        ensures shared { slot_shared (page_of view.now place) self.new ≡ page_of view.now place }
+        requires within { slot < length view.now }
+        requires inside { offset + byte_count size ≤ PAGE_SIZE }
+        requires share { slot_shared (page_of view.now slot) self.old ≡ page_of view.now slot }
+        ensures shared { slot_shared (page_of view.now slot) self.new ≡ page_of view.now slot }
         ensures taken { slot_taken self.new ≡ slot_taken self.old }
-        ensures bytes { OnOk result (slot_bytes (page_of view.now place) self.new ≡ with_number (slot_bytes (page_of view.now place) self.old) offset size value) }
+        ensures bytes { OnOk result (slot_bytes (page_of view.now slot) self.new ≡ with_number (slot_bytes (page_of view.now slot) self.old) offset size value) }
         ensures marks { OnOk result (slot_marks self.new ≡ with_marks (slot_marks self.old) offset size) }
-        ensures bytes_stay { OnErr result (slot_bytes (page_of view.now place) self.new ≡ slot_bytes (page_of view.now place) self.old) }
+        ensures bytes_stay { OnErr result (slot_bytes (page_of view.now slot) self.new ≡ slot_bytes (page_of view.now slot) self.old) }
         ensures marks_stay { OnErr result (slot_marks self.new ≡ slot_marks self.old) }
     {
         match &mut self.held {
@@ -273,25 +273,25 @@ impl Slot {
                 Ok(())
             }
             Held::Shared(_) | Held::Untouched => {
-                self.held = Held::Own(own_copy(alloc, view.page(place), offset, size, value)?);
+                self.held = Held::Own(own_copy(alloc, view.page(slot), offset, size, value)?);
                 Ok(())
             }
         }
     }
 
-    /// Adds the page that the view has in this place to the read pages, if a byte was taken.
+    /// Adds the view's page in this slot to the read pages, if a byte was taken.
     #[tactic(auto, unfolding(crate::specs::Slots::slot_taken))]
     pub(super) fn add_read(
         &self,
         view: &PageTable,
-        place: usize,
+        slot: usize,
         pages: &mut Vec<ReadPage>,
     ) -> Result<(), AllocError>
-        requires { place < length view.now }
-        ensures { OnOk result (pages.new.items ≡ pages.old.items ++ read_part place (slot_taken self.now) (page_of view.now place)) }
+        requires { slot < length view.now }
+        ensures { OnOk result (pages.new.items ≡ pages.old.items ++ read_part slot (slot_taken self.now) (page_of view.now slot)) }
     {
         if self.taken {
-            pages.push(ReadPage::new(place, view.share(place)?))?;
+            pages.push(ReadPage::new(slot, view.share(slot)?))?;
         }
         Ok(())
     }
@@ -300,10 +300,10 @@ impl Slot {
     #[tactic(auto, unfolding(crate::specs::Slots::slot_bytes, crate::specs::Slots::slot_marks))]
     pub(super) fn give_delta(
         &mut self,
-        place: usize,
+        slot: usize,
         deltas: &mut Vec<PageDelta>,
     ) -> Result<(), AllocError>
-        ensures { (page : List ℕ) → OnOk result (deltas.new.items ≡ deltas.old.items ++ delta_part place (slot_marks self.old) (slot_bytes page self.old)) }
+        ensures { (page : List ℕ) → OnOk result (deltas.new.items ≡ deltas.old.items ++ delta_part slot (slot_marks self.old) (slot_bytes page self.old)) }
     {
         match mem::replace(&mut self.held, Held::Untouched) {
             Held::Untouched => Ok(()),
@@ -312,7 +312,7 @@ impl Slot {
                 if own.mask.is_empty() {
                     return Ok(());
                 }
-                deltas.push(PageDelta::new(place, own))?;
+                deltas.push(PageDelta::new(slot, own))?;
                 Ok(())
             }
         }

@@ -8,7 +8,7 @@ ghost use Rattle.priv_space.specs.Written.{with_number, with_marks};
 ghost use Rattle.priv_space.specs.Slots.{on_view, slot_shared, slot_bytes, slot_marks, slot_taken};
 
 use super::slot::Slot;
-use memory_spec::Size;
+use memory_spec::{PAGE_SIZE, Size};
 use page_store::PageTable;
 use std::alloc::{AllocError, Global};
 
@@ -27,7 +27,7 @@ pub(super) fn take(
 ) -> Result<u32, AllocError>
     requires count { length slots.old ≡ length view.now }
     requires within { slot < length slots.old }
-    requires inside { offset + byte_count size ≤ 4096 }
+    requires inside { offset + byte_count size ≤ PAGE_SIZE }
     requires share { on_view slot_shared view.now slots.old ≡ view.now }
     ensures value { IfOk result (λ number. number ≡ number_in (page_of (on_view slot_bytes view.now slots.old) slot) offset size) }
     ensures small { IfOk result (λ number. number < 2 ^ (8 * byte_count size)) }
@@ -57,7 +57,7 @@ pub(super) fn store(
 ) -> Result<(), AllocError>
     requires count { length slots.old ≡ length view.now }
     requires within { slot < length slots.old }
-    requires inside { offset + byte_count size ≤ 4096 }
+    requires inside { offset + byte_count size ≤ PAGE_SIZE }
     requires share { on_view slot_shared view.now slots.old ≡ view.now }
     ensures shared { on_view slot_shared view.now slots.new ≡ view.now }
     ensures taken { map slot_taken slots.new ≡ map slot_taken slots.old }

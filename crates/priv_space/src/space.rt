@@ -10,8 +10,8 @@ ghost use Rattle.record_spec.specs.Reads.{reads_from};
 
 use super::slot::Slot;
 use super::slots;
-use memory_spec::{MemoryError, Size};
-use page_map::{Mem, PageMap, Perm, Slot as Place};
+use memory_spec::{MemoryError, PAGE_SIZE, Size};
+use page_map::{Mem, PageMap, Perm};
 use page_store::PageTable;
 use std::alloc::{AllocError, Global};
 use std::marker::Model;
@@ -30,23 +30,22 @@ pub struct Space {
 }
 
 impl Model for Space {
-    ghost use Rattle.std.specs.Prelude.{map};
-    ghost use Rattle.std.specs.Arc.{arc_value};
     ghost use Rattle.memory_spec.specs.Workspace.{Workspace};
 
     ghost Value = { Workspace };
 
-    ghost use Rattle.priv_space.specs.Slots.{Fits, on_view, slot_bytes, slot_marks, slot_taken};
+    ghost use Rattle.priv_space.specs.Slots.{Fits};
+    ghost use Rattle.priv_space.specs.Spaces.{workspace_of};
 
-    ghost view = { λ s. record { map = arc_value s.pages; view = arc_value s.view; memory = on_view slot_bytes (arc_value s.view) s.slots.items; stored = map slot_marks s.slots.items; taken = map slot_taken s.slots.items } };
+    ghost view = { workspace_of };
 
-    ghost invariant = { λ s. Fits (arc_value s.pages) (arc_value s.view) s.slots.items };
+    ghost invariant = { λ s. Fits (workspace_of s).map (workspace_of s).view s.slots.items };
 }
 
 /// The slot of an address, and what its page permits. None exactly where no page has it.
 #[inline(always)]
 #[tactic(auto, unfolding(memory_spec::specs::Pages::permission_at))]
-fn permitted(pages: &PageMap, address: u32) -> Option<(Place, Perm)>
+fn permitted(pages: &PageMap, address: u32) -> Option<(usize, Perm)>
     ensures slot { IfSome result (λ p. (p.0 ≡ slot_of pages.now address) × (p.0 < length pages.now)) }
     ensures perm { IfSome result (λ p. p.1.0 ≡ permission_at pages.now address) }
     ensures missing { IfNone result (permission_at pages.now address ≡ 0) }
@@ -57,14 +56,14 @@ fn permitted(pages: &PageMap, address: u32) -> Option<(Place, Perm)>
     }
 }
 
-/// An address's place in its page.
+/// An address's offset in its page.
 #[inline(always)]
 fn offset_of(address: u32, size: Size) -> usize
     requires { address % byte_count size ≡ 0 }
-    ensures value { result ≡ address % 4096 }
-    ensures inside { result + byte_count size ≤ 4096 }
+    ensures value { result ≡ address % PAGE_SIZE }
+    ensures inside { result + byte_count size ≤ PAGE_SIZE }
 {
-    (address & 0xfff) as usize
+    (address % PAGE_SIZE as u32) as usize
 }
 
 impl Mem for Space {

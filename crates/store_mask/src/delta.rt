@@ -1,10 +1,9 @@
 //! The stored bytes of a thunk, page by page.
 
-ghost use Rattle.std.specs.Prelude.{◌≡◌, ◌==◌, true, length};
+ghost use Rattle.std.specs.Prelude.{◌≡◌, true};
 ghost use Rattle.record_spec.specs.Delta.{is_stored, chosen, spread};
 ghost use Rattle.record_spec.specs.Ascending.{deltas_ascend};
 
-use super::mask::Mask;
 use super::stored::StoredPage;
 use page_store::Page;
 use std::marker::Model;
@@ -44,14 +43,6 @@ impl PageDelta {
         self.slot
     }
 
-    /// The places that were stored to, at least one.
-    pub fn mask(&self) -> &Mask
-        ensures mask { result.now ≡ self.now.mask }
-        ensures any { is_stored self.now.mask ≡ true }
-    {
-        &self.stored.mask
-    }
-
     /// A page after the stored bytes were written into it.
     pub fn written(&self, page: &Page) -> Page
         ensures { result ≡ spread self.now.mask self.now.bytes page.now }
@@ -89,21 +80,6 @@ impl Delta {
         ensures { result ≡ pages.items }
     {
         Delta { pages }
-    }
-
-    /// How many pages were stored to.
-    #[inline(always)]
-    pub fn len(&self) -> usize
-        ensures { result ≡ length self.now }
-    {
-        self.pages.len()
-    }
-
-    /// Whether nothing was stored.
-    pub fn is_empty(&self) -> bool
-        ensures { result ≡ (length self.now == 0) }
-    {
-        self.pages.is_empty()
     }
 
     /// The pages, in ascending order of slots.

@@ -5,10 +5,11 @@ ghost use Rattle.memory_spec.specs.Workspace.{no_marks};
 ghost use Rattle.record_spec.specs.Delta.{is_stored, chosen, spread};
 ghost use Rattle.store_mask.specs.Flags.{flags_of};
 
+use page_store::PAGE_SIZE;
 use std::marker::Model;
 
 /// How many words hold the marks of a page.
-const WORDS: usize = 64;
+const WORDS: usize = PAGE_SIZE / 64;
 
 /// For each of the 4,096 places of a page: is it marked? A clause sees the list of these.
 #[derive(Drop)]
@@ -56,10 +57,10 @@ impl Mask {
         Mask { words: [0; WORDS] }
     }
 
-    /// There are 4,096 places: what a caller learns of any mask.
+    /// There are 4,096 places.
     #[inline(always)]
-    pub fn whole(&self)
-        ensures { length self.now ≡ 4096 }
+    fn whole(&self)
+        ensures { length self.now ≡ PAGE_SIZE }
     {
         let _words = &self.words;
     }
@@ -67,7 +68,7 @@ impl Mask {
     /// Whether a place is marked.
     #[inline(always)]
     pub fn get(&self, place: usize) -> bool
-        requires { place < 4096 }
+        requires { place < PAGE_SIZE }
         ensures { result ≡ slice_index_or self.now place false }
     {
         (self.words[place / 64] >> (place % 64)) & 1 == 1
@@ -76,7 +77,7 @@ impl Mask {
     /// Marks a place.
     #[inline(always)]
     pub fn set(&mut self, place: usize)
-        requires { place < 4096 }
+        requires { place < PAGE_SIZE }
         ensures { self.new ≡ slice_set self.old place true }
     {
         self.words[place / 64] |= 1 << (place % 64);
@@ -95,13 +96,13 @@ impl Mask {
     /// Writes the bytes of another page at the marked places of a page. Words without a mark, which are most,
     /// are passed over whole.
     pub fn merge(&self, page: &mut [u8], written: &[u8])
-        requires page_is_whole { length page.old ≡ 4096 }
-        requires written_is_whole { length written.now ≡ 4096 }
+        requires page_is_whole { length page.old ≡ PAGE_SIZE }
+        requires written_is_whole { length written.now ≡ PAGE_SIZE }
         ensures { page.new ≡ spread self.now (chosen self.now written.now) page.old }
     {
         self.whole();
         let mut place = 0;
-        while place < 4096 {
+        while place < PAGE_SIZE {
             if self.begins_blank_word(place) {
                 place += 64;
             } else {
@@ -115,7 +116,7 @@ impl Mask {
     #[inline(always)]
     #[tactic(auto, using(crate::proofs::Marks::blank_at))]
     fn begins_blank_word(&self, place: usize) -> bool
-        requires { place < 4096 }
+        requires { place < PAGE_SIZE }
         ensures first { result ≡ true → place % 64 ≡ 0 }
         ensures blank { result ≡ true → (k : ℕ) → place ≤ k → k < place + 64 → slice_index_or self.now k false ≡ false }
     {

@@ -1,6 +1,6 @@
 //! The read pages of a thunk.
 
-ghost use Rattle.std.specs.Prelude.{◌≡◌, ◌==◌, true, length};
+ghost use Rattle.std.specs.Prelude.{◌≡◌, true};
 ghost use Rattle.std.specs.Arc.{arc_value};
 ghost use Rattle.record_spec.specs.Ascending.{reads_ascend};
 
@@ -75,21 +75,6 @@ impl Reads {
         ensures { result ≡ pages.items }
     {
         Reads { pages }
-    }
-
-    /// How many pages were read.
-    #[inline(always)]
-    pub fn len(&self) -> usize
-        ensures { result ≡ length self.now }
-    {
-        self.pages.len()
-    }
-
-    /// Whether no page was read.
-    pub fn is_empty(&self) -> bool
-        ensures { result ≡ (length self.now == 0) }
-    {
-        self.pages.is_empty()
     }
 
     /// The read pages, in ascending order of slots.

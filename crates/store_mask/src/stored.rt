@@ -1,6 +1,6 @@
 //! A page that a thread stored to.
 
-ghost use Rattle.std.specs.Prelude.{◌≡◌, ◌<◌, true, slice_set};
+ghost use Rattle.std.specs.Prelude.{◌≡◌};
 ghost use Rattle.memory_spec.specs.Workspace.{no_marks};
 
 use super::mask::Mask;
@@ -25,16 +25,5 @@ impl StoredPage {
             page: page.copy(),
             mask: Mask::new(),
         }
-    }
-
-    /// Stores a byte at an offset.
-    #[inline(always)]
-    pub fn store(&mut self, offset: usize, byte: u8)
-        requires { offset < 4096 }
-        ensures page { self.new.page ≡ slice_set self.old.page offset byte }
-        ensures mask { self.new.mask ≡ slice_set self.old.mask offset true }
-    {
-        self.page.set(offset, byte);
-        self.mask.set(offset);
     }
 }
