@@ -37,6 +37,14 @@ pub(super) struct Slot {
     pub(super) taken: bool,
 }
 
+/// An aligned access: the slot of its page, where in the page it begins, and how many bytes it moves.
+#[derive(Clone, Copy)]
+pub(super) struct Access {
+    pub(super) slot: usize,
+    pub(super) offset: usize,
+    pub(super) size: Size,
+}
+
 /// One byte of a value, counted from the least.
 #[inline(always)]
 fn byte_at(value: u32, k: u32) -> u8
@@ -128,7 +136,7 @@ fn store_number(stored: &mut StoredPage, offset: usize, size: Size, value: u32)
     mark_number(&mut stored.mask, offset, size);
 }
 
-/// A copy of a page of the view, with the lowest bytes of a value stored at an offset.
+/// A copy of a page of the view, with the lowest bytes of a value stored by an access.
 ///
 /// It stands apart from the store into a copy that there is, which is the common case.
 #[cold]
@@ -136,16 +144,15 @@ fn store_number(stored: &mut StoredPage, offset: usize, size: Size, value: u32)
 fn own_copy(
     alloc: Global,
     page: &Page,
-    offset: usize,
-    size: Size,
+    access: Access,
     value: u32,
 ) -> Result<Box<StoredPage>, AllocError>
-    requires { offset + byte_count size ≤ PAGE_SIZE }
-    ensures page { IfOk result (λ own. own.value.page ≡ with_number page.now offset size value) }
-    ensures mask { IfOk result (λ own. own.value.mask ≡ with_marks no_marks offset size) }
+    requires { access.offset + byte_count access.size ≤ PAGE_SIZE }
+    ensures page { IfOk result (λ own. own.value.page ≡ with_number page.now access.offset access.size value) }
+    ensures mask { IfOk result (λ own. own.value.mask ≡ with_marks no_marks access.offset access.size) }
 {
     let mut own = Box::new(alloc, StoredPage::of(page))?;
-    store_number(&mut own, offset, size, value);
+    store_number(&mut own, access.offset, access.size, value);
     Ok(own)
 }
 
@@ -175,7 +182,7 @@ impl Slot {
         }
     }
 
-    /// Takes a number at an offset, where the view has its page in this slot.
+    /// Takes the number of an access to the slot's page.
     ///
     /// # Errors
     ///
@@ -185,30 +192,28 @@ impl Slot {
     pub(super) fn take(
         &mut self,
         view: &PageTable,
-        slot: usize,
-        offset: usize,
-        size: Size,
+        access: Access,
     ) -> Result<u32, AllocError>
-        requires within { slot < length view.now }
-        requires inside { offset + byte_count size ≤ PAGE_SIZE }
-        requires share { slot_shared (page_of view.now slot) self.old ≡ page_of view.now slot }
-        ensures value { IfOk result (λ number. number ≡ number_in (slot_bytes (page_of view.now slot) self.old) offset size) }
-        ensures small { IfOk result (λ number. number < 2 ^ (8 * byte_count size)) }
-        ensures shared { slot_shared (page_of view.now slot) self.new ≡ page_of view.now slot }
-        ensures bytes { slot_bytes (page_of view.now slot) self.new ≡ slot_bytes (page_of view.now slot) self.old }
+        requires within { access.slot < length view.now }
+        requires inside { access.offset + byte_count access.size ≤ PAGE_SIZE }
+        requires share { slot_shared (page_of view.now access.slot) self.old ≡ page_of view.now access.slot }
+        ensures value { IfOk result (λ number. number ≡ number_in (slot_bytes (page_of view.now access.slot) self.old) access.offset access.size) }
+        ensures small { IfOk result (λ number. number < 2 ^ (8 * byte_count access.size)) }
+        ensures shared { slot_shared (page_of view.now access.slot) self.new ≡ page_of view.now access.slot }
+        ensures bytes { slot_bytes (page_of view.now access.slot) self.new ≡ slot_bytes (page_of view.now access.slot) self.old }
         ensures marks { slot_marks self.new ≡ slot_marks self.old }
         ensures taken { OnOk result (slot_taken self.new ≡ true) }
         ensures taken_stays { OnErr result (slot_taken self.new ≡ slot_taken self.old) }
     {
         let number = match self.page() {
-            Some(page) => number_at(page, offset, size),
-            None => self.first_number(view, slot, offset, size)?,
+            Some(page) => number_at(page, access.offset, access.size),
+            None => self.first_number(view, access)?,
         };
         self.taken = true;
         Ok(number)
     }
 
-    /// The number that stands at an offset in the view's page, of which the slot gets its share.
+    /// The number of an access in the view's page, of which the slot gets its share.
     ///
     /// It stands apart from the taking of a later number, which is the common case.
     ///
@@ -221,27 +226,25 @@ impl Slot {
     fn first_number(
         &mut self,
         view: &PageTable,
-        slot: usize,
-        offset: usize,
-        size: Size,
+        access: Access,
     ) -> Result<u32, AllocError>
-        requires within { slot < length view.now }
-        requires inside { offset + byte_count size ≤ PAGE_SIZE }
+        requires within { access.slot < length view.now }
+        requires inside { access.offset + byte_count access.size ≤ PAGE_SIZE }
         requires untouched { self.old.held ≡ Untouched }
-        ensures value { IfOk result (λ number. number ≡ number_in (page_of view.now slot) offset size) }
-        ensures small { IfOk result (λ number. number < 2 ^ (8 * byte_count size)) }
-        ensures shared { slot_shared (page_of view.now slot) self.new ≡ page_of view.now slot }
-        ensures bytes { slot_bytes (page_of view.now slot) self.new ≡ page_of view.now slot }
+        ensures value { IfOk result (λ number. number ≡ number_in (page_of view.now access.slot) access.offset access.size) }
+        ensures small { IfOk result (λ number. number < 2 ^ (8 * byte_count access.size)) }
+        ensures shared { slot_shared (page_of view.now access.slot) self.new ≡ page_of view.now access.slot }
+        ensures bytes { slot_bytes (page_of view.now access.slot) self.new ≡ page_of view.now access.slot }
         ensures marks { slot_marks self.new ≡ no_marks }
         ensures taken { slot_taken self.new ≡ slot_taken self.old }
     {
-        let shared = view.share(slot)?;
-        let number = number_at(&shared, offset, size);
+        let shared = view.share(access.slot)?;
+        let number = number_at(&shared, access.offset, access.size);
         self.held = Held::Shared(shared);
         Ok(number)
     }
 
-    /// Stores the lowest bytes of a value at an offset, where the view has its page in this slot.
+    /// Stores the lowest bytes of a value by an access to the slot's page.
     ///
     /// # Errors
     ///
@@ -252,28 +255,26 @@ impl Slot {
         &mut self,
         alloc: Global,
         view: &PageTable,
-        slot: usize,
-        offset: usize,
-        size: Size,
+        access: Access,
         value: u32,
     ) -> Result<(), AllocError>
-        requires within { slot < length view.now }
-        requires inside { offset + byte_count size ≤ PAGE_SIZE }
-        requires share { slot_shared (page_of view.now slot) self.old ≡ page_of view.now slot }
-        ensures shared { slot_shared (page_of view.now slot) self.new ≡ page_of view.now slot }
+        requires within { access.slot < length view.now }
+        requires inside { access.offset + byte_count access.size ≤ PAGE_SIZE }
+        requires share { slot_shared (page_of view.now access.slot) self.old ≡ page_of view.now access.slot }
+        ensures shared { slot_shared (page_of view.now access.slot) self.new ≡ page_of view.now access.slot }
         ensures taken { slot_taken self.new ≡ slot_taken self.old }
-        ensures bytes { OnOk result (slot_bytes (page_of view.now slot) self.new ≡ with_number (slot_bytes (page_of view.now slot) self.old) offset size value) }
-        ensures marks { OnOk result (slot_marks self.new ≡ with_marks (slot_marks self.old) offset size) }
-        ensures bytes_stay { OnErr result (slot_bytes (page_of view.now slot) self.new ≡ slot_bytes (page_of view.now slot) self.old) }
+        ensures bytes { OnOk result (slot_bytes (page_of view.now access.slot) self.new ≡ with_number (slot_bytes (page_of view.now access.slot) self.old) access.offset access.size value) }
+        ensures marks { OnOk result (slot_marks self.new ≡ with_marks (slot_marks self.old) access.offset access.size) }
+        ensures bytes_stay { OnErr result (slot_bytes (page_of view.now access.slot) self.new ≡ slot_bytes (page_of view.now access.slot) self.old) }
         ensures marks_stay { OnErr result (slot_marks self.new ≡ slot_marks self.old) }
     {
         match &mut self.held {
             Held::Own(own) => {
-                store_number(own, offset, size, value);
+                store_number(own, access.offset, access.size, value);
                 Ok(())
             }
             Held::Shared(_) | Held::Untouched => {
-                self.held = Held::Own(own_copy(alloc, view.page(slot), offset, size, value)?);
+                self.held = Held::Own(own_copy(alloc, view.page(access.slot), access, value)?);
                 Ok(())
             }
         }

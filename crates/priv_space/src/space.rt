@@ -8,7 +8,7 @@ ghost use Rattle.memory_spec.specs.Workspace.{fresh};
 ghost use Rattle.record_spec.specs.Delta.{delta_from};
 ghost use Rattle.record_spec.specs.Reads.{reads_from};
 
-use super::slot::Slot;
+use super::slot::{Access, Slot};
 use super::slots;
 use memory_spec::{MemoryError, PAGE_SIZE, Size};
 use page_map::{Mem, PageMap, Perm};
@@ -56,14 +56,15 @@ fn permitted(pages: &PageMap, address: u32) -> Option<(usize, Perm)>
     }
 }
 
-/// An address's offset in its page.
+/// The access to an address, whose page is in this slot.
 #[inline(always)]
-fn offset_of(address: u32, size: Size) -> usize
+fn access_to(slot: usize, address: u32, size: Size) -> Access
     requires { address % byte_count size ≡ 0 }
-    ensures value { result ≡ address % PAGE_SIZE }
-    ensures inside { result + byte_count size ≤ PAGE_SIZE }
+    ensures value { result ≡ record { slot = slot; offset = address % PAGE_SIZE; size = size } }
+    ensures inside { result.offset + byte_count result.size ≤ PAGE_SIZE }
 {
-    (address % PAGE_SIZE as u32) as usize
+    let offset = (address % PAGE_SIZE as u32) as usize;
+    Access { slot, offset, size }
 }
 
 impl Mem for Space {
@@ -78,8 +79,8 @@ impl Mem for Space {
                 if !perm.executes() {
                     return Err(MemoryError::Access);
                 }
-                let offset = offset_of(address, Size::Four);
-                match slots::take(&self.view, &mut self.slots, slot, offset, Size::Four) {
+                let access = access_to(slot, address, Size::Four);
+                match slots::take(&self.view, &mut self.slots, access) {
                     Ok(number) => Ok(number),
                     Err(_) => Err(MemoryError::NoMemory),
                 }
@@ -96,8 +97,8 @@ impl Mem for Space {
                 if !perm.reads() {
                     return Err(MemoryError::Access);
                 }
-                let offset = offset_of(address, size);
-                match slots::take(&self.view, &mut self.slots, slot, offset, size) {
+                let access = access_to(slot, address, size);
+                match slots::take(&self.view, &mut self.slots, access) {
                     Ok(number) => Ok(number),
                     Err(_) => Err(MemoryError::NoMemory),
                 }
@@ -114,16 +115,10 @@ impl Mem for Space {
                 if !perm.writes() {
                     return Err(MemoryError::Access);
                 }
-                let offset = offset_of(address, size);
-                let Ok(()) = slots::store(
-                    self.alloc,
-                    &self.view,
-                    &mut self.slots,
-                    slot,
-                    offset,
-                    size,
-                    value,
-                ) else {
+                let access = access_to(slot, address, size);
+                let Ok(()) =
+                    slots::store(self.alloc, &self.view, &mut self.slots, access, value)
+                else {
                     return Err(MemoryError::NoMemory);
                 };
                 Ok(())

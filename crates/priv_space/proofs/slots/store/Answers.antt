@@ -9,58 +9,58 @@ use Rattle.priv_space.proofs.slots.store.Goals as goal
 
 pub store-requires-clause-share : goal.store-requires-clause-share
 store-requires-clause-share c =
-    let within : c.args.slot < length c.args.view.now = omega arith in
-    fitting-on_view slot_shared c.args.view.now c.args.slots.now c.args.slot c.index-slots-slot.result within c.requires.within c.requires.share
+    let within : c.args.access.slot < length c.args.view.now = omega arith in
+    fitting-on_view slot_shared c.args.view.now c.args.slots.now c.args.access.slot c.index-slots-access.result within c.requires.within c.requires.share
 
 pub returns-clause-shared : goal.returns-clause-shared
 returns-clause-shared c =
     let view = c.args.view.now in
     let slots = c.args.slots.now in
-    let within : c.args.slot < length view = omega arith in
-    on_view-set_same slot_shared view slots c.args.slot c.store.new.self c.index-slots-slot.result within c.requires.within
+    let within : c.args.access.slot < length view = omega arith in
+    on_view-set_same slot_shared view slots c.args.access.slot c.store.new.self c.index-slots-access.result within c.requires.within
     (c.store.ensures.shared
-    ∙ sym (fitting-on_view slot_shared view slots c.args.slot c.index-slots-slot.result within c.requires.within c.requires.share))
+    ∙ sym (fitting-on_view slot_shared view slots c.args.access.slot c.index-slots-access.result within c.requires.within c.requires.share))
     ∙ c.requires.share
 
 pub returns-clause-taken : goal.returns-clause-taken
-returns-clause-taken c = map-set_same slot_taken c.args.slots.now c.args.slot c.store.new.self c.index-slots-slot.result c.store.ensures.taken
+returns-clause-taken c = map-set_same slot_taken c.args.slots.now c.args.access.slot c.store.new.self c.index-slots-access.result c.store.ensures.taken
 
 pub returns-clause-bytes : goal.returns-clause-bytes
 returns-clause-bytes c =
     let view = c.args.view.now in
     let slots = c.args.slots.now in
-    let within : c.args.slot < length view = omega arith in
+    let within : c.args.access.slot < length view = omega arith in
     on_ok c.store.result
     (λ is.
-    on_view-set slot_bytes view slots c.args.slot c.store.new.self
-    ∙ ap (set (on_view slot_bytes view slots) c.args.slot)
+    on_view-set slot_bytes view slots c.args.access.slot c.store.new.self
+    ∙ ap (set (on_view slot_bytes view slots) c.args.access.slot)
     (is
-    ∙ ap (λ p. with_number p c.args.offset c.args.size c.args.value)
-    (sym (get_or-on_view slot_bytes view slots c.args.slot c.index-slots-slot.result within c.requires.within))))
+    ∙ ap (λ p. with_number p c.args.access.offset c.args.access.size c.args.value)
+    (sym (get_or-on_view slot_bytes view slots c.args.access.slot c.index-slots-access.result within c.requires.within))))
     c.store.ensures.bytes
 
 pub returns-clause-marks : goal.returns-clause-marks
 returns-clause-marks c =
     on_ok c.store.result
     (λ is.
-    map-set slot_marks c.args.slots.now c.args.slot c.store.new.self
-    ∙ ap (set (map slot_marks c.args.slots.now) c.args.slot)
+    map-set slot_marks c.args.slots.now c.args.access.slot c.store.new.self
+    ∙ ap (set (map slot_marks c.args.slots.now) c.args.access.slot)
     (is
-    ∙ ap (λ p. with_marks p c.args.offset c.args.size)
-    (sym (get_or-map slot_marks c.args.slots.now c.args.slot c.index-slots-slot.result [] c.requires.within))))
+    ∙ ap (λ p. with_marks p c.args.access.offset c.args.access.size)
+    (sym (get_or-map slot_marks c.args.slots.now c.args.access.slot c.index-slots-access.result [] c.requires.within))))
     c.store.ensures.marks
 
 pub returns-clause-bytes_stay : goal.returns-clause-bytes_stay
 returns-clause-bytes_stay c =
-    let within : c.args.slot < length c.args.view.now = omega arith in
+    let within : c.args.access.slot < length c.args.view.now = omega arith in
     on_err c.store.result
     (λ is.
-    on_view-set_same slot_bytes c.args.view.now c.args.slots.now c.args.slot c.store.new.self c.index-slots-slot.result within
+    on_view-set_same slot_bytes c.args.view.now c.args.slots.now c.args.access.slot c.store.new.self c.index-slots-access.result within
     c.requires.within is)
     c.store.ensures.bytes_stay
 
 pub returns-clause-marks_stay : goal.returns-clause-marks_stay
 returns-clause-marks_stay c =
     on_err c.store.result
-    (λ is. map-set_same slot_marks c.args.slots.now c.args.slot c.store.new.self c.index-slots-slot.result is)
+    (λ is. map-set_same slot_marks c.args.slots.now c.args.access.slot c.store.new.self c.index-slots-access.result is)
     c.store.ensures.marks_stay

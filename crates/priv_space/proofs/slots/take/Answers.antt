@@ -11,46 +11,46 @@ pub take-requires-clause-share : goal.take-requires-clause-share
 take-requires-clause-share c =
     let view = c.args.view.now in
     let slots = c.args.slots.now in
-    let within : c.args.slot < length view = omega arith in
-    fitting-on_view slot_shared view slots c.args.slot c.index-slots-slot.result within c.requires.within c.requires.share
+    let within : c.args.access.slot < length view = omega arith in
+    fitting-on_view slot_shared view slots c.args.access.slot c.index-slots-access.result within c.requires.within c.requires.share
 
 pub returns-clause-value : goal.returns-clause-value
 returns-clause-value c =
-    let within : c.args.slot < length c.args.view.now = omega arith in
+    let within : c.args.access.slot < length c.args.view.now = omega arith in
     if_ok c.take.result
-    (λ n is. is ∙ ap (λ page. number_in page c.args.offset c.args.size)
-    (sym (get_or-on_view slot_bytes c.args.view.now c.args.slots.now c.args.slot c.index-slots-slot.result within c.requires.within)))
+    (λ n is. is ∙ ap (λ page. number_in page c.args.access.offset c.args.access.size)
+    (sym (get_or-on_view slot_bytes c.args.view.now c.args.slots.now c.args.access.slot c.index-slots-access.result within c.requires.within)))
     c.take.ensures.value
 
 pub returns-clause-shared : goal.returns-clause-shared
 returns-clause-shared c =
     let view = c.args.view.now in
     let slots = c.args.slots.now in
-    let within : c.args.slot < length view = omega arith in
-    on_view-set_same slot_shared view slots c.args.slot c.take.new.self c.index-slots-slot.result within c.requires.within
+    let within : c.args.access.slot < length view = omega arith in
+    on_view-set_same slot_shared view slots c.args.access.slot c.take.new.self c.index-slots-access.result within c.requires.within
     (c.take.ensures.shared
-    ∙ sym (fitting-on_view slot_shared view slots c.args.slot c.index-slots-slot.result within c.requires.within c.requires.share))
+    ∙ sym (fitting-on_view slot_shared view slots c.args.access.slot c.index-slots-access.result within c.requires.within c.requires.share))
     ∙ c.requires.share
 
 pub returns-clause-bytes : goal.returns-clause-bytes
 returns-clause-bytes c =
-    let within : c.args.slot < length c.args.view.now = omega arith in
-    on_view-set_same slot_bytes c.args.view.now c.args.slots.now c.args.slot c.take.new.self c.index-slots-slot.result within
+    let within : c.args.access.slot < length c.args.view.now = omega arith in
+    on_view-set_same slot_bytes c.args.view.now c.args.slots.now c.args.access.slot c.take.new.self c.index-slots-access.result within
     c.requires.within c.take.ensures.bytes
 
 pub returns-clause-marks : goal.returns-clause-marks
-returns-clause-marks c = map-set_same slot_marks c.args.slots.now c.args.slot c.take.new.self c.index-slots-slot.result c.take.ensures.marks
+returns-clause-marks c = map-set_same slot_marks c.args.slots.now c.args.access.slot c.take.new.self c.index-slots-access.result c.take.ensures.marks
 
 pub returns-clause-taken : goal.returns-clause-taken
 returns-clause-taken c =
     on_ok c.take.result
     (λ is.
-    map-set slot_taken c.args.slots.now c.args.slot c.take.new.self
-    ∙ ap (set (map slot_taken c.args.slots.now) c.args.slot) is)
+    map-set slot_taken c.args.slots.now c.args.access.slot c.take.new.self
+    ∙ ap (set (map slot_taken c.args.slots.now) c.args.access.slot) is)
     c.take.ensures.taken
 
 pub returns-clause-taken_stays : goal.returns-clause-taken_stays
 returns-clause-taken_stays c =
     on_err c.take.result
-    (λ is. map-set_same slot_taken c.args.slots.now c.args.slot c.take.new.self c.index-slots-slot.result is)
+    (λ is. map-set_same slot_taken c.args.slots.now c.args.access.slot c.take.new.self c.index-slots-access.result is)
     c.take.ensures.taken_stays
