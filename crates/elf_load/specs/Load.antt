@@ -13,7 +13,7 @@ pub record IsImageOf (bytes : List ℕ) (image : Image) : Type 0 where
   pub pages : image.pages ≡ image_memory bytes
   pub start : image.entry ≡ entry_of bytes
 
--- The file gets this refusal; want of memory has no cause in it. (this project's own)
+-- The file gets this refusal; want of memory has no cause in it.
 abbrev pub Refuses : List ℕ → LoadError → Type 0
 Refuses bytes (Refused refusal) = refusal_of bytes ≡ Some refusal
 Refuses bytes NoMemory = ⊤

@@ -11,6 +11,6 @@ header_rows bytes = not_elf bytes ∷ not_elf32 bytes ∷ not_exec bytes ∷ not
 abbrev pub table_rows : List ℕ → List (Option Refusal)
 table_rows bytes = short_table bytes ∷ dynamic bytes ∷ short_segment bytes ∷ outside bytes ∷ overlap bytes ∷ []
 
--- What the rows of the pages give. (this project's own)
+-- What the rows of the pages give.
 abbrev pub page_rows : List ℕ → List (Option Refusal)
 page_rows bytes = too_many_pages bytes ∷ entry_refusal bytes ∷ []

@@ -1,3 +1,5 @@
+//! Bytes, half words and words of a file.
+
 ghost use Rattle.std.specs.Prelude.{◌≡◌, ◌<◌, ◌^◌, slice_index};
 ghost use Rattle.elf_spec.specs.Fields.{u16_at, u32_at};
 

@@ -1,3 +1,5 @@
+//! The program headers of a file.
+
 ghost use Rattle.std.specs.Prelude.{◌≡◌, ◌<◌, map, IfOk};
 ghost use Rattle.elf_spec.specs.Header as segment;
 ghost use Rattle.elf_spec.specs.Header.{e_phnum, program_header, program_headers};

@@ -1,3 +1,5 @@
+//! The segments of a file, and the bytes that they give a page.
+
 ghost use Rattle.std.specs.Prelude.{◌≡◌, ◌<◌, ◌≤◌, ◌*◌, ◌+◌, ◌^◌, [], ◌∷◌, ◌++◌, if◌then◌else◌, ◌/◌, map, filter, find, IfOk, OnOk, Some};
 ghost use Rattle.elf_spec.specs.Header.{segments};
 ghost use Rattle.elf_spec.specs.Header as segment_header;
@@ -8,6 +10,7 @@ ghost use Rattle.elf_load.specs.Header.{header_of};
 use crate::fields::byte_at;
 use crate::header::{Header, header_at, header_count, is_segment};
 use crate::pages::touches;
+use page_store::PAGE_SIZE;
 use std::alloc::{AllocError, Global};
 
 /// The headers of the segments, in their order.
@@ -89,7 +92,7 @@ fn segment_at(headers: &[Header], address: u64) -> Option<Header>
 
 /// The byte of the image at an address, from the segments that touch its page.
 fn image_byte_at(bytes: &[u8], near: &[Header], address: u64) -> u8
-    requires near { map header_of near.now ≡ filter (segment.touches (address / 4096)) (segments bytes.now) }
+    requires near { map header_of near.now ≡ filter (segment.touches (address / segment.page_size)) (segments bytes.now) }
     requires address { address < 2 ^ 33 }
     ensures { result ≡ image_byte bytes.now address }
 {
@@ -100,14 +103,14 @@ fn image_byte_at(bytes: &[u8], near: &[Header], address: u64) -> u8
 }
 
 /// The bytes of the image on the page of a number, from the segments that touch it.
-pub fn page_bytes(bytes: &[u8], near: &[Header], number: u32) -> [u8; 4096]
+pub fn page_bytes(bytes: &[u8], near: &[Header], number: u32) -> [u8; PAGE_SIZE]
     requires near { map header_of near.now ≡ filter (segment.touches number) (segments bytes.now) }
     requires number { number < 2 ^ 21 }
     ensures { result ≡ image_page bytes.now number }
 {
-    let mut page = [0; 4096];
-    let start = u64::from(number) * 4096;
-    for offset in 0..4096 {
+    let mut page = [0; PAGE_SIZE];
+    let start = u64::from(number) * PAGE_SIZE as u64;
+    for offset in 0..PAGE_SIZE {
         page[offset] = image_byte_at(bytes, near, start + offset as u64);
     }
     page

@@ -1,9 +1,12 @@
+//! The image of an executable: its pages, their access rights and bytes, and its entry.
+
 ghost use Rattle.std.specs.Prelude.{◌≡◌, ◌<◌, ◌^◌, [], ◌∷◌, ◌++◌, true, if◌then◌else◌, map, IfOk, IfErr, OnOk};
 ghost use Rattle.elf_spec.specs.Header.{segments};
 ghost use Rattle.elf_spec.specs.Segments.{page_permission};
 ghost use Rattle.elf_spec.specs.Image.{image_pages, image_memory, image_page, is_image};
 ghost use Rattle.elf_load.specs.Header.{header_of};
 ghost use Rattle.elf_load.specs.Load.{IsImageOf, Refuses};
+ghost use Rattle.elf_load.specs.declared.loader.LoadError.TheVariants.{NoMemory};
 
 use crate::fields::word_at;
 use crate::header::Header;
@@ -36,6 +39,14 @@ pub enum LoadError {
     NoMemory,
 }
 
+impl From<AllocError> for LoadError {
+    ghost from_gives = { λ _ error. error ≡ NoMemory };
+
+    fn from(_error: AllocError) -> LoadError {
+        LoadError::NoMemory
+    }
+}
+
 /// The image of an executable (System V gABI, ch. 5, Program Loading).
 ///
 /// # Errors
@@ -45,14 +56,9 @@ pub fn load(alloc: Global, bytes: &[u8]) -> Result<Image, LoadError>
     ensures loaded { IfOk result (λ image. IsImageOf bytes.now image) }
     ensures refused { IfErr result (Refuses bytes.now) }
 {
-    match refusal(alloc, bytes) {
-        Ok(Some(refusal)) => return Err(LoadError::Refused(refusal)),
-        Ok(None) => {}
-        Err(_) => return Err(LoadError::NoMemory),
-    }
-    match pages_of(alloc, bytes) {
-        Ok(pages) => Ok(image_of(pages, bytes)),
-        Err(_) => Err(LoadError::NoMemory),
+    match refusal(alloc, bytes)? {
+        Some(refusal) => Err(LoadError::Refused(refusal)),
+        None => Ok(image_of(pages_of(alloc, bytes)?, bytes)),
     }
 }
 

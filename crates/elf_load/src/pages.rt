@@ -1,3 +1,5 @@
+//! The pages that segments touch, and their access rights.
+
 ghost use Rattle.std.specs.Prelude.{ℕ, ◌≡◌, ◌<◌, ◌≤◌, ◌+◌, ◌^◌, ◌&&◌, ◌||◌, nat_le, false, get_or, max, length, map, fold, bit_or, if◌then◌else◌, IfOk};
 ghost use Rattle.std.specs.List.{list_any};
 ghost use Rattle.elf_spec.specs.Header.{segments, is_segment as is_segment_of};
@@ -7,6 +9,7 @@ ghost use Rattle.elf_load.specs.Header.{header_of};
 ghost use Rattle.elf_load.specs.Touched.{MarksTouched};
 
 use crate::header::{Header, header_at, header_count, is_segment};
+use page_store::PAGE_SIZE;
 use std::alloc::{AllocError, Global};
 
 /// The number of the page on which a segment's last byte lies.
@@ -14,14 +17,14 @@ fn last_page(header: Header) -> u32
     ensures page { result ≡ segment.last_page (header_of header) }
     ensures small { result < 2 ^ 21 }
 {
-    ((u64::from(header.vaddr) + u64::from(header.memsz)).saturating_sub(1) / 4096) as u32
+    ((u64::from(header.vaddr) + u64::from(header.memsz)).saturating_sub(1) / PAGE_SIZE as u64) as u32
 }
 
 /// Whether a segment touches the page of a number.
 pub fn touches(number: u32, header: Header) -> bool
     ensures { result ≡ segment.touches number (header_of header) }
 {
-    (header.vaddr / 4096 <= number) & (number <= last_page(header))
+    (header.vaddr / PAGE_SIZE as u32 <= number) & (number <= last_page(header))
 }
 
 /// The higher of a page and the last page of a header, if that is a segment's.
@@ -68,7 +71,7 @@ fn mark_segment(marks: &mut [bool], header: Header)
     if is_segment(header) {
         mark_pages(
             marks,
-            (header.vaddr / 4096) as usize,
+            header.vaddr as usize / PAGE_SIZE,
             last_page(header) as usize,
         );
     }

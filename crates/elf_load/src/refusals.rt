@@ -1,3 +1,5 @@
+//! The refusals of a file, row by row.
+
 ghost use Rattle.std.specs.Prelude.{◌≡◌, ◌<◌, ◌≤◌, ◌-◌, ◌/◌, filter, find, map, IfOk};
 ghost use Rattle.std.specs.List.{range_with_len};
 ghost use Rattle.elf_spec.specs.Header.{e_entry, e_phnum, program_header, program_headers, segments};
@@ -13,6 +15,7 @@ use crate::header::{Header, header_at, header_count, header_read, headers_of, is
 use crate::image::{segments_of, segments_on};
 use crate::pages::{page_count, rights_of, touched_pages};
 use elf_spec::Refusal;
+use page_store::PAGE_SIZE;
 use std::alloc::{AllocError, Global};
 
 /// ELF's magic number.
@@ -226,14 +229,14 @@ fn too_many_pages(bytes: &[u8], marks: &[bool]) -> Option<Refusal>
 
 /// The number of the page of the entry point.
 fn entry_page(bytes: &[u8]) -> u32
-    ensures { result ≡ e_entry bytes.now / 4096 }
+    ensures { result ≡ e_entry bytes.now / segment.page_size }
 {
-    word_at(bytes, 24) / 4096
+    word_at(bytes, 24) / PAGE_SIZE as u32
 }
 
 /// Whether no instruction can stand at the entry point, whose page these segments touch.
 fn entry_refusal(bytes: &[u8], near: &[Header]) -> Option<Refusal>
-    requires { map header_of near.now ≡ filter (segment.touches (e_entry bytes.now / 4096)) (segments bytes.now) }
+    requires { map header_of near.now ≡ filter (segment.touches (e_entry bytes.now / segment.page_size)) (segments bytes.now) }
     ensures { result ≡ row.entry_refusal bytes.now }
 {
     let start = word_at(bytes, 24);

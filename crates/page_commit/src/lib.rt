@@ -3,6 +3,7 @@
 
 ghost use Rattle.std.specs.Prelude.{◌≡◌, IfOk, OnOk, OnErr};
 ghost use Rattle.record_spec.specs.Delta.{masked};
+ghost use Rattle.page_commit.specs.Stores.{WritesStores};
 
 use page_store::PageTable;
 use std::alloc::AllocError;
@@ -10,13 +11,15 @@ use store_mask::Delta;
 
 /// A table of pages with the stored bytes of a thunk: exactly the bytes at the marked places are other
 /// ones; a slot past the table's end has no page, and nothing is written there. Pages that nothing
-/// is written to are shared with the table given.
+/// is written to are shared with the table given. Where the delta came from stores, it is as if these were
+/// made in order.
 ///
 /// # Errors
 ///
 /// An error where the host's memory ran out.
 pub fn committed(table: &PageTable, delta: &Delta) -> Result<PageTable, AllocError>
-    ensures { IfOk result (λ after. after ≡ masked table.now delta.now) }
+    ensures bytes { IfOk result (λ after. after ≡ masked table.now delta.now) }
+    ensures stores { IfOk result (WritesStores table.now delta.now) }
 {
     let mut after = table.snapshot()?;
     for stored in delta.pages() {
@@ -30,14 +33,15 @@ pub fn committed(table: &PageTable, delta: &Delta) -> Result<PageTable, AllocErr
 }
 
 /// Writes the stored bytes of a thunk into a table of pages: exactly the bytes at the marked places change;
-/// a slot past the table's end has no page, and nothing is written there.
-/// Tables that share pages with this one stay as they are.
+/// a slot past the table's end has no page, and nothing is written there. Where the delta came from stores, it is
+/// as if these were made in order. Tables that share pages with this one stay as they are.
 ///
 /// # Errors
 ///
 /// An error where the host's memory ran out; the table is then as before.
 pub fn commit(table: &mut PageTable, delta: &Delta) -> Result<(), AllocError>
-    ensures ok { OnOk result (table.new ≡ masked table.old delta.now) }
+    ensures bytes { OnOk result (table.new ≡ masked table.old delta.now) }
+    ensures stores { OnOk result (WritesStores table.old delta.now table.new) }
     ensures err { OnErr result (table.new ≡ table.old) }
 {
     *table = committed(table, delta)?;

@@ -1,7 +1,7 @@
 //! A commit writes the marked bytes, and leaves what was shared before.
 
 use crate::*;
-use page_store::{Page, PageTable};
+use page_store::{PAGE_SIZE, Page, PageTable};
 use std::alloc::AllocError;
 use store_mask::{Delta, PageDelta, StoredPage};
 
@@ -9,10 +9,11 @@ use store_mask::{Delta, PageDelta, StoredPage};
 fn a_snapshot_keeps_what_it_has(rt: HostRuntime) -> Result<(), AllocError> {
     let mut table = PageTable::empty(rt.alloc());
     table.push(Page::zero())?;
-    table.push(Page::new([5; 4096]))?;
+    table.push(Page::new([5; PAGE_SIZE]))?;
     let before = table.snapshot()?;
     let mut stored = StoredPage::of(&Page::zero());
-    stored.store(7, 1);
+    stored.page.set(7, 1);
+    stored.mask.set(7);
     if stored.mask.is_empty() {
         return Ok(());
     }

@@ -5,19 +5,11 @@ ghost use Rattle.std.specs.Str.{bytes_eq};
 ghost use Rattle.memory_spec.specs.Pages.{page_of};
 ghost use Rattle.record_spec.specs.Reads.{has};
 ghost use Rattle.record_spec.specs.Record.{fits_at};
-ghost use Rattle.isa_spec.specs.Registers.{same_registers};
 
 use super::kept::Record;
 use page_store::PageTable;
 use rv_alu::Regs;
 use store_mask::ReadPage;
-
-/// Whether two sets of registers are the same.
-fn are_same(a: &Regs, b: &Regs) -> bool
-    ensures { result ≡ same_registers a.now b.now }
-{
-    a.pc() == b.pc() && a.as_array() == b.as_array()
-}
 
 /// Whether a view has the bytes of a read page. One past its end it hasn't.
 #[tactic(auto, using(crate::proofs::Past::no_bytes))]
@@ -27,7 +19,7 @@ fn has_page(table: &PageTable, read: &ReadPage) -> bool
     let page = read.page();
     let _bytes = page.bytes();
     if read.slot() < table.len() {
-        table.page(read.slot()).is_same(page)
+        table.page(read.slot()) == page
     } else {
         false
     }
@@ -52,5 +44,5 @@ fn has_pages(table: &PageTable, reads: &[ReadPage]) -> bool
 pub fn fits(rec: &Record, number: u32, regs: &Regs, table: &PageTable) -> bool
     ensures { result ≡ fits_at rec.now number regs.now table.now }
 {
-    rec.number() == number && are_same(rec.start(), regs) && has_pages(table, rec.reads().pages())
+    rec.number() == number && rec.start() == regs && has_pages(table, rec.reads().pages())
 }

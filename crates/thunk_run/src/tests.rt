@@ -77,8 +77,8 @@ fn put_ends_the_first_thunk(rt: HostRuntime) -> Result<(), AllocError> {
     assert_eq!(rt; run.rec.count(), 5);
     assert!(rt; run.rec.end() == ThunkEnd::Call);
     assert_eq!(rt; run.rec.finish().pc(), 0x10010);
-    assert_eq!(rt; run.rec.reads().len(), 1);
-    assert!(rt; run.rec.delta().is_empty());
+    assert_eq!(rt; run.rec.reads().pages().len(), 1);
+    assert!(rt; run.rec.delta().pages().is_empty());
     assert!(rt; fits(&run.rec, 7, &job.regs, &job.view));
     assert!(rt; !fits(&run.rec, 8, &job.regs, &job.view));
     let short = job_of(rt.alloc(), &HI, 4)?;

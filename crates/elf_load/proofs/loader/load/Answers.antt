@@ -4,4 +4,4 @@ use Rattle.elf_load.proofs.loader.load.Goals as goal
 
 pub image_of-requires-clause-accepted : goal.image_of-requires-clause-accepted
 unfolding is_image
-image_of-requires-clause-accepted c = ap is_none (sym c.in-Ok-None.ensures ∙ c.in-Ok-None.field-0-is)
+image_of-requires-clause-accepted c = ap is_none (sym c.in_ok-refusal.ensures ∙ c.in-None.is)
