@@ -5,7 +5,8 @@ use Rattle.elf_spec.specs.Refusals.{not_elf, not_elf32, not_exec, not_riscv, com
 
 -- What the rows of the header give. (System V gABI, ch. 4, ELF Header)
 abbrev pub header_rows : List ℕ → List (Option Refusal)
-header_rows bytes = not_elf bytes ∷ not_elf32 bytes ∷ not_exec bytes ∷ not_riscv bytes ∷ compressed bytes ∷ entry_size bytes ∷ []
+header_rows bytes =
+    not_elf bytes ∷ not_elf32 bytes ∷ not_exec bytes ∷ not_riscv bytes ∷ compressed bytes ∷ entry_size bytes ∷ []
 
 -- What the rows of the program headers give. (System V gABI, ch. 5, Program Header)
 abbrev pub table_rows : List ℕ → List (Option Refusal)

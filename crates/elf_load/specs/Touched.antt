@@ -8,7 +8,9 @@ use Rattle.elf_spec.specs.Segments.{touches, page_permission, highest_page}
 -- Each page up to the highest that a segment touches has a mark, which says whether a segment touches it.
 pub record MarksTouched (bytes : List ℕ) (marks : List Bool) : Type 0 where
   pub count : length marks ≡ highest_page (segments bytes) + 1
-  pub each : (number : ℕ) → number < length marks → get_or marks number false ≡ list_any (touches number) (segments bytes)
+  pub each :
+      (number : ℕ) → number < length marks
+      → get_or marks number false ≡ list_any (touches number) (segments bytes)
 
 -- The numbers below a count of the pages that a segment touches.
 abbrev pub touched_below : List ℕ → ℕ → List ℕ

@@ -26,7 +26,8 @@ pub fn segments_of(alloc: Global, bytes: &[u8]) -> Result<Vec<Header>, AllocErro
 
 /// Puts a header behind the others, if it is a segment's.
 fn push_segment(found: &mut Vec<Header>, header: Header) -> Result<(), AllocError>
-    ensures { OnOk result (found.new.items ≡ (if segment_header.is_segment (header_of header) then found.old.items ++ header ∷ [] else found.old.items)) }
+    ensures { OnOk result (found.new.items
+        ≡ (if segment_header.is_segment (header_of header) then found.old.items ++ header ∷ [] else found.old.items)) }
 {
     if is_segment(header) {
         found.push(header)?;
@@ -40,7 +41,8 @@ pub fn segments_on(
     headers: &[Header],
     number: u32,
 ) -> Result<Vec<Header>, AllocError>
-    ensures { IfOk result (λ found. found.items ≡ filter (λ header. segment.touches number (header_of header)) headers.now) }
+    ensures { IfOk result (λ found. found.items
+        ≡ filter (λ header. segment.touches number (header_of header)) headers.now) }
 {
     let mut found = Vec::new(alloc);
     for header in headers {
@@ -51,7 +53,8 @@ pub fn segments_on(
 
 /// Puts a header behind the others, if it touches the page of a number.
 fn push_touching(found: &mut Vec<Header>, header: Header, number: u32) -> Result<(), AllocError>
-    ensures { OnOk result (found.new.items ≡ (if segment.touches number (header_of header) then found.old.items ++ header ∷ [] else found.old.items)) }
+    ensures { OnOk result (found.new.items
+        ≡ (if segment.touches number (header_of header) then found.old.items ++ header ∷ [] else found.old.items)) }
 {
     if touches(number, header) {
         found.push(header)?;
@@ -92,7 +95,8 @@ fn segment_at(headers: &[Header], address: u64) -> Option<Header>
 
 /// The byte of the image at an address, from the segments that touch its page.
 fn image_byte_at(bytes: &[u8], near: &[Header], address: u64) -> u8
-    requires near { map header_of near.now ≡ filter (segment.touches (address / segment.page_size)) (segments bytes.now) }
+    requires near { map header_of near.now
+        ≡ filter (segment.touches (address / segment.page_size)) (segments bytes.now) }
     requires address { address < 2 ^ 33 }
     ensures { result ≡ image_byte bytes.now address }
 {

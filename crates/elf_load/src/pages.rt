@@ -17,7 +17,8 @@ fn last_page(header: Header) -> u32
     ensures page { result ≡ segment.last_page (header_of header) }
     ensures small { result < 2 ^ 21 }
 {
-    ((u64::from(header.vaddr) + u64::from(header.memsz)).saturating_sub(1) / PAGE_SIZE as u64) as u32
+    ((u64::from(header.vaddr) + u64::from(header.memsz)).saturating_sub(1)
+        / PAGE_SIZE as u64) as u32
 }
 
 /// Whether a segment touches the page of a number.
@@ -30,7 +31,8 @@ pub fn touches(number: u32, header: Header) -> bool
 /// The higher of a page and the last page of a header, if that is a segment's.
 fn higher(page: u32, header: Header) -> u32
     requires { page < 2 ^ 21 }
-    ensures page { result ≡ (if is_segment_of (header_of header) then max page (segment.last_page (header_of header)) else page) }
+    ensures page { result ≡
+        (if is_segment_of (header_of header) then max page (segment.last_page (header_of header)) else page) }
     ensures small { result < 2 ^ 21 }
 {
     if is_segment(header) {
@@ -56,7 +58,8 @@ pub fn highest_page(bytes: &[u8]) -> u32
 fn mark_pages(marks: &mut [bool], first: usize, last: usize)
     requires { last < 2 ^ 21 }
     ensures same { length marks.new ≡ length marks.old }
-    ensures each { (k : ℕ) → k < length marks.old → get_or marks.new k false ≡ (get_or marks.old k false || (nat_le first k && nat_le k last)) }
+    ensures each { (k : ℕ) → k < length marks.old
+        → get_or marks.new k false ≡ (get_or marks.old k false || (nat_le first k && nat_le k last)) }
 {
     for number in first..(last + 1).min(marks.len()) {
         marks[number] = true;
@@ -66,7 +69,8 @@ fn mark_pages(marks: &mut [bool], first: usize, last: usize)
 /// Marks the pages that a header touches, if it is a segment's.
 fn mark_segment(marks: &mut [bool], header: Header)
     ensures same { length marks.new ≡ length marks.old }
-    ensures each { (k : ℕ) → k < length marks.old → get_or marks.new k false ≡ (get_or marks.old k false || (is_segment_of (header_of header) && segment.touches k (header_of header))) }
+    ensures each { (k : ℕ) → k < length marks.old → get_or marks.new k false
+        ≡ (get_or marks.old k false || (is_segment_of (header_of header) && segment.touches k (header_of header))) }
 {
     if is_segment(header) {
         mark_pages(
@@ -81,7 +85,8 @@ fn mark_segment(marks: &mut [bool], header: Header)
 fn mark_all(marks: &mut [bool], bytes: &[u8])
     requires { (k : ℕ) → k < length marks.old → get_or marks.old k false ≡ false }
     ensures same { length marks.new ≡ length marks.old }
-    ensures each { (k : ℕ) → k < length marks.old → get_or marks.new k false ≡ list_any (segment.touches k) (segments bytes.now) }
+    ensures each { (k : ℕ) → k < length marks.old
+        → get_or marks.new k false ≡ list_any (segment.touches k) (segments bytes.now) }
 {
     for i in 0..header_count(bytes) {
         mark_segment(marks, header_at(bytes, i));

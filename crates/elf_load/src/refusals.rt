@@ -193,7 +193,8 @@ fn overlap_from(bytes: &[u8], headers: &[Header], earlier: u32, from: u32) -> Op
     requires headers { map header_of headers.now ≡ program_headers bytes.now }
     requires earlier { earlier < e_phnum bytes.now }
     requires from { from ≤ e_phnum bytes.now }
-    ensures { result ≡ find (λ j. row.overlaps (program_header bytes.now earlier) (program_header bytes.now j)) (range_with_len from (e_phnum bytes.now - from)) }
+    ensures { result ≡ find (λ j. row.overlaps (program_header bytes.now earlier) (program_header bytes.now j))
+        (range_with_len from (e_phnum bytes.now - from)) }
 {
     let one = header_read(bytes, headers, earlier);
     for number in from..header_count(bytes) {
@@ -236,7 +237,8 @@ fn entry_page(bytes: &[u8]) -> u32
 
 /// Whether no instruction can stand at the entry point, whose page these segments touch.
 fn entry_refusal(bytes: &[u8], near: &[Header]) -> Option<Refusal>
-    requires { map header_of near.now ≡ filter (segment.touches (e_entry bytes.now / segment.page_size)) (segments bytes.now) }
+    requires { map header_of near.now
+        ≡ filter (segment.touches (e_entry bytes.now / segment.page_size)) (segments bytes.now) }
     ensures { result ≡ row.entry_refusal bytes.now }
 {
     let start = word_at(bytes, 24);

@@ -5,7 +5,9 @@ use Rattle.record_spec.specs.Delta.{PageDelta, masked}
 use Rattle.record_spec.proofs.Merging.{masked-delta_of}
 use Rattle.page_commit.specs.Stores.{WritesStores}
 
-pub writes_stores : (before : Memory) (delta : List PageDelta) (after : Memory) → after ≡ masked before delta → WritesStores before delta after
+pub writes_stores :
+    (before : Memory) (delta : List PageDelta) (after : Memory) → after ≡ masked before delta
+    → WritesStores before delta after
 writes_stores before delta after is = record {
   laid_is = λ map stores shape from. is ∙ ap (masked before) from ∙ masked-delta_of map before stores shape;
 }

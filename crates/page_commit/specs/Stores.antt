@@ -6,4 +6,6 @@ use Rattle.record_spec.specs.Delta.{PageDelta, delta_of}
 
 -- The memory after it is the one before with these stores, in order, for all stores from which the delta came.
 pub record WritesStores (before : Memory) (delta : List PageDelta) (after : Memory) : Type 0 where
-  pub laid_is : (map : List Mapped) (stores : List StoredByte) → IsMemory map before → delta ≡ delta_of map stores → after ≡ laid map before stores
+  pub laid_is :
+      (map : List Mapped) (stores : List StoredByte) → IsMemory map before → delta ≡ delta_of map stores
+      → after ≡ laid map before stores

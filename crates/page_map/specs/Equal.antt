@@ -14,7 +14,8 @@ abbrev pub is_same_map : List Mapped → List Mapped → Bool
 is_same_map = pointwise is_same_page
 
 pub is_same_page-equiv : IsEquivalence is_same_page
-is_same_page-equiv = and_equiv (on_equiv (λ page. page.number) nat_eq_equiv) (on_equiv (λ page. page.permission) nat_eq_equiv)
+is_same_page-equiv =
+    and_equiv (on_equiv (λ page. page.number) nat_eq_equiv) (on_equiv (λ page. page.permission) nat_eq_equiv)
 
 pub is_same_map-equiv : IsEquivalence is_same_map
 is_same_map-equiv = lists_equiv is_same_page-equiv

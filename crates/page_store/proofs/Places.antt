@@ -6,46 +6,58 @@ use Rattle.page_store.proofs.Groups.{length-joined, place_at, get_or-joined, joi
 
 module _ {X Y : Type 0} (f : Y → List X) where
   -- the table has so many pages
-  pub count_is : (count : ℕ) (items : List Y) (now : List X) → AreGroupsOf count (map f items) → joined (map f items) ≡ now → count ≡ length now
+  pub count_is :
+      (count : ℕ) (items : List Y) (now : List X) → AreGroupsOf count (map f items) → joined (map f items) ≡ now
+      → count ≡ length now
   count_is count items now is view = sym (length-joined count (map f items) is) ∙ ap length view
 
   -- the group of a slot is one of the table's
-  pub group_of : (count slot : ℕ) (items : List Y) (now : List X) → AreGroupsOf count (map f items) → joined (map f items) ≡ now → slot < length now → slot / 32 < length items
+  pub group_of :
+      (count slot : ℕ) (items : List Y) (now : List X) → AreGroupsOf count (map f items) → joined (map f items) ≡ now
+      → slot < length now
+      → slot / 32 < length items
   group_of count slot items now is view lt =
       let all = count_is count items now is view in
       let at = place_at count (slot / 32) (slot % 32) (map f items) is (omega arith) (omega arith) in
       omega (arith, at.group, length-map items f)
 
   -- what was read of the list of groups
-  group_read : (items : List Y) (i : ℕ) (y : Y) → i < length items → y ≡ get_or items i y → get_or (map f items) i [] ≡ f y
+  group_read :
+      (items : List Y) (i : ℕ) (y : Y) → i < length items → y ≡ get_or items i y
+      → get_or (map f items) i [] ≡ f y
   group_read items i y lt read = get_or-map f items i y [] lt ∙ ap f (sym read)
 
   -- the place of a slot is one of its group's
   pub place_of :
       (count slot : ℕ) (items : List Y) (now : List X) (y : Y)
-      → AreGroupsOf count (map f items) → joined (map f items) ≡ now → slot < length now → y ≡ get_or items (slot / 32) y
+      → AreGroupsOf count (map f items) → joined (map f items) ≡ now → slot < length now
+      → y ≡ get_or items (slot / 32) y
       → slot % 32 < length (f y)
   place_of count slot items now y is view lt read =
       let all = count_is count items now is view in
       let at = place_at count (slot / 32) (slot % 32) (map f items) is (omega arith) (omega arith) in
-      subst (λ group. slot % 32 < length group) (group_read items (slot / 32) y (group_of count slot items now is view lt) read) at.place
+      subst (λ group. slot % 32 < length group)
+      (group_read items (slot / 32) y (group_of count slot items now is view lt) read) at.place
 
   -- the page of a slot stands there
   pub page_at :
       (count slot : ℕ) (items : List Y) (now : List X) (y : Y) (d : X)
-      → AreGroupsOf count (map f items) → joined (map f items) ≡ now → slot < length now → y ≡ get_or items (slot / 32) y
+      → AreGroupsOf count (map f items) → joined (map f items) ≡ now → slot < length now
+      → y ≡ get_or items (slot / 32) y
       → get_or (f y) (slot % 32) d ≡ get_or now slot d
   page_at count slot items now y d is view lt read =
       let all = count_is count items now is view in
       let whole : 32 * (slot / 32) + slot % 32 ≡ slot = omega arith in
-      ap (λ group. get_or group (slot % 32) d) (sym (group_read items (slot / 32) y (group_of count slot items now is view lt) read))
+      ap (λ group. get_or group (slot % 32) d)
+      (sym (group_read items (slot / 32) y (group_of count slot items now is view lt) read))
       ∙ sym (get_or-joined count (slot / 32) (slot % 32) (map f items) d is (omega arith) (omega arith))
       ∙ ap (λ k. get_or (joined (map f items)) k d) whole
       ∙ ap (λ pages. get_or pages slot d) view
 
   -- A group z with another page in the slot's place, in the place of the group y.
   module _ (count slot : ℕ) (items : List Y) (now : List X) (y z : Y) (x : X)
-      (is : AreGroupsOf count (map f items)) (view : joined (map f items) ≡ now) (lt : slot < length now) (read : y ≡ get_or items (slot / 32) y)
+      (is : AreGroupsOf count (map f items)) (view : joined (map f items) ≡ now) (lt : slot < length now)
+      (read : y ≡ get_or items (slot / 32) y)
       (made : f z ≡ set (f y) (slot % 32) x) where
     read_is : get_or (map f items) (slot / 32) [] ≡ f y
     read_is = group_read items (slot / 32) y (group_of count slot items now is view lt) read
@@ -55,7 +67,8 @@ module _ {X Y : Type 0} (f : Y → List X) where
         let all = count_is count items now is view in
         let whole : 32 * (slot / 32) + slot % 32 ≡ slot = omega arith in
         ap joined (map-set f items (slot / 32) z)
-        ∙ ap (λ group. joined (set (map f items) (slot / 32) group)) (made ∙ ap (λ group. set group (slot % 32) x) (sym read_is))
+        ∙ ap (λ group. joined (set (map f items) (slot / 32) group))
+        (made ∙ ap (λ group. set group (slot % 32) x) (sym read_is))
         ∙ joined-set count (slot / 32) (slot % 32) (map f items) x is (omega arith) (omega arith)
         ∙ ap (λ k. set (joined (map f items)) k x) whole
         ∙ ap (λ pages. set pages slot x) view
@@ -80,17 +93,23 @@ module _ {X Y : Type 0} (f : Y → List X) where
     grouped =
         subst (AreGroupsOf (count + 1)) (ap (λ group. map f items ++ group ∷ []) (sym made) ∙ sym (map_push f items z))
         (are_groups-push count (map f items) x is whole);
-    pages = ap joined (map_push f items z) ∙ joined-push (map f items) (f z) ∙ ap (λ pages. pages ++ f z) view ∙ ap (λ group. now ++ group) made;
+    pages =
+        ap joined (map_push f items z) ∙ joined-push (map f items) (f z) ∙ ap (λ pages. pages ++ f z) view
+        ∙ ap (λ group. now ++ group) made;
   }
 
   -- the last group, where it isn't full
-  pub last_of : (count : ℕ) (items : List Y) → AreGroupsOf count (map f items) → 0 < count % 32 → count / 32 < length items
-  last_of count items is some = omega (arith, last_group count (count / 32) (map f items) is (omega arith), length-map items f)
+  pub last_of :
+      (count : ℕ) (items : List Y) → AreGroupsOf count (map f items) → 0 < count % 32
+      → count / 32 < length items
+  last_of count items is some =
+      omega (arith, last_group count (count / 32) (map f items) is (omega arith), length-map items f)
 
   -- a group z with one more page, in the place of the last group y
   pub extended :
       (count : ℕ) (items : List Y) (now : List X) (y z : Y) (x : X)
-      → AreGroupsOf count (map f items) → joined (map f items) ≡ now → 0 < count % 32 → y ≡ get_or items (count / 32) y → f z ≡ f y ++ x ∷ []
+      → AreGroupsOf count (map f items) → joined (map f items) ≡ now → 0 < count % 32 → y ≡ get_or items (count / 32) y
+      → f z ≡ f y ++ x ∷ []
       → HasOneMore count now x (set items (count / 32) z)
   extended count items now y z x is view some read made =
       let made_is : f z ≡ get_or (map f items) (count / 32) [] ++ x ∷ [] =

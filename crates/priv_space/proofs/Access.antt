@@ -65,10 +65,12 @@ laid-access map m address Two value h lt =
     let o = address % 4096 in
     let zero_more : address + 0 ≡ address = omega arith in
     let p0 = set p o (byte_of value 0) in
-    ap (λ start. with_byte map (with_byte map start (byte_stored address value 0)) (byte_stored address value 1)) (sym (set-get_or m s []))
+    ap (λ start. with_byte map (with_byte map start (byte_stored address value 0)) (byte_stored address value 1))
+    (sym (set-get_or m s []))
     ∙ ap (λ start. with_byte map start (byte_stored address value 1))
     (byte_more map m p s o (address + 0) (byte_of value 0) (ap (slot_of map) zero_more) (omega arith) lt)
-    ∙ byte_more map m p0 s (o + 1) (address + 1) (byte_of value 1) (slot_of-same map (address + 1) address (omega arith)) (omega arith) lt
+    ∙ byte_more map m p0 s (o + 1) (address + 1) (byte_of value 1)
+    (slot_of-same map (address + 1) address (omega arith)) (omega arith) lt
 laid-access map m address Four value h lt =
     let s = slot_of map address in
     let p = page_of m s in
@@ -77,14 +79,21 @@ laid-access map m address Four value h lt =
     let p0 = set p o (byte_of value 0) in
     let p1 = set p0 (o + 1) (byte_of value 1) in
     let p2 = set p1 (o + 2) (byte_of value 2) in
-    ap (λ start. with_byte map (with_byte map (with_byte map (with_byte map start (byte_stored address value 0)) (byte_stored address value 1)) (byte_stored address value 2)) (byte_stored address value 3)) (sym (set-get_or m s []))
-    ∙ ap (λ start. with_byte map (with_byte map (with_byte map start (byte_stored address value 1)) (byte_stored address value 2)) (byte_stored address value 3))
+    ap (λ start. with_byte map
+    (with_byte map (with_byte map (with_byte map start (byte_stored address value 0)) (byte_stored address value 1))
+    (byte_stored address value 2)) (byte_stored address value 3)) (sym (set-get_or m s []))
+    ∙ ap (λ start. with_byte map
+    (with_byte map (with_byte map start (byte_stored address value 1)) (byte_stored address value 2))
+    (byte_stored address value 3))
     (byte_more map m p s o (address + 0) (byte_of value 0) (ap (slot_of map) zero_more) (omega arith) lt)
     ∙ ap (λ start. with_byte map (with_byte map start (byte_stored address value 2)) (byte_stored address value 3))
-    (byte_more map m p0 s (o + 1) (address + 1) (byte_of value 1) (slot_of-same map (address + 1) address (omega arith)) (omega arith) lt)
+    (byte_more map m p0 s (o + 1) (address + 1) (byte_of value 1)
+    (slot_of-same map (address + 1) address (omega arith)) (omega arith) lt)
     ∙ ap (λ start. with_byte map start (byte_stored address value 3))
-    (byte_more map m p1 s (o + 2) (address + 2) (byte_of value 2) (slot_of-same map (address + 2) address (omega arith)) (omega arith) lt)
-    ∙ byte_more map m p2 s (o + 3) (address + 3) (byte_of value 3) (slot_of-same map (address + 3) address (omega arith)) (omega arith) lt
+    (byte_more map m p1 s (o + 2) (address + 2) (byte_of value 2)
+    (slot_of-same map (address + 2) address (omega arith)) (omega arith) lt)
+    ∙ byte_more map m p2 s (o + 3) (address + 3) (byte_of value 3)
+    (slot_of-same map (address + 3) address (omega arith)) (omega arith) lt
 
 -- and marks in its page's mask alone
 pub marked-access :
@@ -106,10 +115,12 @@ marked-access map m address Two value h lt =
     let o = address % 4096 in
     let zero_more : address + 0 ≡ address = omega arith in
     let p0 = set p o true in
-    ap (λ start. with_mark map (with_mark map start (byte_stored address value 0)) (byte_stored address value 1)) (sym (set-get_or m s []))
+    ap (λ start. with_mark map (with_mark map start (byte_stored address value 0)) (byte_stored address value 1))
+    (sym (set-get_or m s []))
     ∙ ap (λ start. with_mark map start (byte_stored address value 1))
     (mark_more map m p s o (address + 0) (byte_of value 0) (ap (slot_of map) zero_more) (omega arith) lt)
-    ∙ mark_more map m p0 s (o + 1) (address + 1) (byte_of value 1) (slot_of-same map (address + 1) address (omega arith)) (omega arith) lt
+    ∙ mark_more map m p0 s (o + 1) (address + 1) (byte_of value 1)
+    (slot_of-same map (address + 1) address (omega arith)) (omega arith) lt
 marked-access map m address Four value h lt =
     let s = slot_of map address in
     let p = mask_of m s in
@@ -118,11 +129,18 @@ marked-access map m address Four value h lt =
     let p0 = set p o true in
     let p1 = set p0 (o + 1) true in
     let p2 = set p1 (o + 2) true in
-    ap (λ start. with_mark map (with_mark map (with_mark map (with_mark map start (byte_stored address value 0)) (byte_stored address value 1)) (byte_stored address value 2)) (byte_stored address value 3)) (sym (set-get_or m s []))
-    ∙ ap (λ start. with_mark map (with_mark map (with_mark map start (byte_stored address value 1)) (byte_stored address value 2)) (byte_stored address value 3))
+    ap (λ start. with_mark map
+    (with_mark map (with_mark map (with_mark map start (byte_stored address value 0)) (byte_stored address value 1))
+    (byte_stored address value 2)) (byte_stored address value 3)) (sym (set-get_or m s []))
+    ∙ ap (λ start. with_mark map
+    (with_mark map (with_mark map start (byte_stored address value 1)) (byte_stored address value 2))
+    (byte_stored address value 3))
     (mark_more map m p s o (address + 0) (byte_of value 0) (ap (slot_of map) zero_more) (omega arith) lt)
     ∙ ap (λ start. with_mark map (with_mark map start (byte_stored address value 2)) (byte_stored address value 3))
-    (mark_more map m p0 s (o + 1) (address + 1) (byte_of value 1) (slot_of-same map (address + 1) address (omega arith)) (omega arith) lt)
+    (mark_more map m p0 s (o + 1) (address + 1) (byte_of value 1)
+    (slot_of-same map (address + 1) address (omega arith)) (omega arith) lt)
     ∙ ap (λ start. with_mark map start (byte_stored address value 3))
-    (mark_more map m p1 s (o + 2) (address + 2) (byte_of value 2) (slot_of-same map (address + 2) address (omega arith)) (omega arith) lt)
-    ∙ mark_more map m p2 s (o + 3) (address + 3) (byte_of value 3) (slot_of-same map (address + 3) address (omega arith)) (omega arith) lt
+    (mark_more map m p1 s (o + 2) (address + 2) (byte_of value 2)
+    (slot_of-same map (address + 2) address (omega arith)) (omega arith) lt)
+    ∙ mark_more map m p2 s (o + 3) (address + 3) (byte_of value 3)
+    (slot_of-same map (address + 3) address (omega arith)) (omega arith) lt

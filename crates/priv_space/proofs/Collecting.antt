@@ -24,7 +24,9 @@ pub is_stored-no_marks : is_stored no_marks ≡ false
 unfolding no_marks
 is_stored-no_marks = unstored 4096
 
-reads_cons : (k : ℕ) (f : Bool) (fs : List Bool) (view : Memory) → read_part k f (page_of view k) ++ reads_from (suc k) fs view ≡ reads_from k (f ∷ fs) view
+reads_cons :
+    (k : ℕ) (f : Bool) (fs : List Bool) (view : Memory)
+    → read_part k f (page_of view k) ++ reads_from (suc k) fs view ≡ reads_from k (f ∷ fs) view
 reads_cons k true fs view = refl
 reads_cons k false fs view = refl
 
@@ -40,7 +42,8 @@ read_step flags view i flag page items items' all lt flag_is page_is before is =
     ∙ append_assoc items (read_part i flag page) (reads_from (i + 1) (drop (i + 1) flags) view)
     ∙ ap (λ f. items ++ (read_part i f page ++ reads_from (i + 1) (drop (i + 1) flags) view)) flag_is
     ∙ ap (λ p. items ++ (read_part i (get_or flags i false) p ++ reads_from (i + 1) (drop (i + 1) flags) view)) page_is
-    ∙ ap (λ k. items ++ (read_part i (get_or flags i false) (page_of view i) ++ reads_from k (drop (i + 1) flags) view)) next
+    ∙ ap (λ k. items ++ (read_part i (get_or flags i false) (page_of view i) ++ reads_from k (drop (i + 1) flags)
+    view)) next
     ∙ ap (λ rest. items ++ rest) (reads_cons i (get_or flags i false) (drop (i + 1) flags) view)
     ∙ ap (λ rest. items ++ reads_from i rest view) (sym (drop_more flags i false lt))
     ∙ before
@@ -54,7 +57,9 @@ read_end flags view i items all le before =
 le_from : (a b : ℕ) → a ≤ b → nat_le a b ≡ true
 le_from a b le = grind (arith, nat_tests)
 
-pub reads_from-ascend : (low k : ℕ) (flags : List Bool) (view : Memory) → low ≤ k → reads_ascend low (reads_from k flags view) ≡ true
+pub reads_from-ascend :
+    (low k : ℕ) (flags : List Bool) (view : Memory) → low ≤ k
+    → reads_ascend low (reads_from k flags view) ≡ true
 reads_from-ascend low k [] view le = refl
 reads_from-ascend low k (true ∷ flags) view le =
     and_from (nat_le low k) (reads_ascend (suc k) (reads_from (suc k) flags view)) (le_from low k le)
@@ -67,7 +72,8 @@ delta_cons :
 delta_cons k m ms p ps =
     let d : PageDelta = record { slot = k; mask = m; bytes = chosen m p } in
     elim (is_stored m)
-    as (λ b. cond b (d ∷ []) [] ++ delta_from (suc k) ms ps ≡ cond b (d ∷ delta_from (suc k) ms ps) (delta_from (suc k) ms ps))
+    as (λ b. cond b (d ∷ []) [] ++ delta_from (suc k) ms ps
+    ≡ cond b (d ∷ delta_from (suc k) ms ps) (delta_from (suc k) ms ps))
     [ true ↦ refl | false ↦ refl ]
 
 pub delta_step :
@@ -80,9 +86,12 @@ delta_step masks pages i mask page items items' all lt below mask_is page_is bef
     ap (λ front. front ++ delta_from (i + 1) (drop (i + 1) masks) (drop (i + 1) pages)) is
     ∙ append_assoc items (delta_part i mask page) (delta_from (i + 1) (drop (i + 1) masks) (drop (i + 1) pages))
     ∙ ap (λ m. items ++ (delta_part i m page ++ delta_from (i + 1) (drop (i + 1) masks) (drop (i + 1) pages))) mask_is
-    ∙ ap (λ p. items ++ (delta_part i (mask_of masks i) p ++ delta_from (i + 1) (drop (i + 1) masks) (drop (i + 1) pages))) page_is
-    ∙ ap (λ k. items ++ (delta_part i (mask_of masks i) (page_of pages i) ++ delta_from k (drop (i + 1) masks) (drop (i + 1) pages))) next
-    ∙ ap (λ rest. items ++ rest) (delta_cons i (mask_of masks i) (drop (i + 1) masks) (page_of pages i) (drop (i + 1) pages))
+    ∙ ap (λ p. items ++ (delta_part i (mask_of masks i) p ++ delta_from (i + 1) (drop (i + 1) masks)
+    (drop (i + 1) pages))) page_is
+    ∙ ap (λ k. items ++ (delta_part i (mask_of masks i) (page_of pages i) ++ delta_from k (drop (i + 1) masks)
+    (drop (i + 1) pages))) next
+    ∙ ap (λ rest. items ++ rest)
+    (delta_cons i (mask_of masks i) (drop (i + 1) masks) (page_of pages i) (drop (i + 1) pages))
     ∙ ap (λ rest. items ++ delta_from i rest (page_of pages i ∷ drop (i + 1) pages)) (sym (drop_more masks i [] lt))
     ∙ ap (λ rest. items ++ delta_from i (drop i masks) rest) (sym (drop_more pages i [] below))
     ∙ before
@@ -93,7 +102,9 @@ pub delta_end :
 delta_end masks pages i items all le before =
     sym (append-nil items) ∙ ap (λ rest. items ++ delta_from i rest (drop i pages)) (sym (drop_all i masks le)) ∙ before
 
-pub delta_from-ascend : (low k : ℕ) (masks : Masks) (pages : Memory) → low ≤ k → deltas_ascend low (delta_from k masks pages) ≡ true
+pub delta_from-ascend :
+    (low k : ℕ) (masks : Masks) (pages : Memory) → low ≤ k
+    → deltas_ascend low (delta_from k masks pages) ≡ true
 delta_from-ascend low k [] pages le = refl
 delta_from-ascend low k (m ∷ ms) [] le = refl
 delta_from-ascend low k (m ∷ ms) (p ∷ ps) le =
@@ -107,13 +118,16 @@ delta_from-ascend low k (m ∷ ms) (p ∷ ps) le =
     ]
 
 -- what is chosen of a merged page is what was merged
-chosen-merged : (o n : List ℕ) (m : List Bool) → length n ≡ length o → length m ≡ length o → chosen m (merged o n m) ≡ chosen m n
+chosen-merged :
+    (o n : List ℕ) (m : List Bool) → length n ≡ length o → length m ≡ length o
+    → chosen m (merged o n m) ≡ chosen m n
 chosen-merged [] [] [] p q = refl
 chosen-merged [] [] (m ∷ ms) p q = absurd (omega arith)
 chosen-merged [] (n ∷ ns) m p q = absurd (omega arith)
 chosen-merged (o ∷ os) [] m p q = absurd (omega arith)
 chosen-merged (o ∷ os) (n ∷ ns) [] p q = absurd (omega arith)
-chosen-merged (o ∷ os) (n ∷ ns) (true ∷ ms) p q = ap (λ rest. n ∷ rest) (chosen-merged os ns ms (omega arith) (omega arith))
+chosen-merged (o ∷ os) (n ∷ ns) (true ∷ ms) p q =
+    ap (λ rest. n ∷ rest) (chosen-merged os ns ms (omega arith) (omega arith))
 chosen-merged (o ∷ os) (n ∷ ns) (false ∷ ms) p q = chosen-merged os ns ms (omega arith) (omega arith)
 
 delta_from-merged :
@@ -125,10 +139,12 @@ delta_from-merged k (o ∷ os) [] ms h = absurd h
 delta_from-merged k (o ∷ os) (n ∷ ns) [] h = absurd h
 delta_from-merged k (o ∷ os) (n ∷ ns) (m ∷ ms) h =
     let d : List ℕ → PageDelta = λ bytes. record { slot = k; mask = m; bytes = bytes } in
-    let rest : delta_from (suc k) ms (merged_all os ns ms) ≡ delta_from (suc k) ms ns = delta_from-merged (suc k) os ns ms h.2 in
+    let rest : delta_from (suc k) ms (merged_all os ns ms) ≡ delta_from (suc k) ms ns =
+    delta_from-merged (suc k) os ns ms h.2 in
     elim (is_stored m)
     as (λ b.
-    cond b (d (chosen m (merged o n m)) ∷ delta_from (suc k) ms (merged_all os ns ms)) (delta_from (suc k) ms (merged_all os ns ms))
+    cond b (d (chosen m (merged o n m)) ∷ delta_from (suc k) ms (merged_all os ns ms))
+    (delta_from (suc k) ms (merged_all os ns ms))
     ≡ cond b (d (chosen m n) ∷ delta_from (suc k) ms ns) (delta_from (suc k) ms ns)) [
       | true ↦
           ap (λ bytes. d bytes ∷ delta_from (suc k) ms (merged_all os ns ms)) (chosen-merged o n m h.0 h.1)
@@ -150,22 +166,26 @@ delta_from-laid map view stores h =
     (sym
     (merged_all-laid map view (on_each zero_page map) (on_each no_marks map) stores shape
     ∙ ap (λ start. laid map start stores) (merged_all-no_marks map view)))
-    ∙ delta_from-merged 0 view zeros masks (shaped-laid map view (on_each zero_page map) (on_each no_marks map) stores shape)
+    ∙ delta_from-merged 0 view zeros masks
+    (shaped-laid map view (on_each zero_page map) (on_each no_marks map) stores shape)
 
 -- a slot to which nothing was stored gives nothing
 pub part_none :
-    (slot : ℕ) (mask : List Bool) (page : List ℕ) (items : List PageDelta) → is_stored mask ≡ false → items ≡ items ++ delta_part slot mask page
+    (slot : ℕ) (mask : List Bool) (page : List ℕ) (items : List PageDelta) → is_stored mask ≡ false
+    → items ≡ items ++ delta_part slot mask page
 part_none slot mask page items h =
     let d : PageDelta = record { slot = slot; mask = mask; bytes = chosen mask page } in
     sym (append-nil items) ∙ ap (λ b. items ++ cond b (d ∷ []) []) (sym h)
 
 -- a change of a slot that was passed leaves what the others give
 pub drop-map-set :
-    {A B : Type 0} (f : A → B) (xs : List A) (i : ℕ) (x : A) → drop (i + 1) (map f (set xs i x)) ≡ drop (i + 1) (map f xs)
+    {A B : Type 0} (f : A → B) (xs : List A) (i : ℕ) (x : A) → drop (i + 1) (map f (set xs i x))
+    ≡ drop (i + 1) (map f xs)
 drop-map-set f xs i x = ap (drop (i + 1)) (map-set f xs i x) ∙ drop-set-lt (i + 1) (map f xs) i (f x) (omega arith)
 
 pub drop-on_view-set :
     (f : List ℕ → Slot → List ℕ) (view : Memory) (slots : List Slot) (i : ℕ) (s : Slot)
     → drop (i + 1) (on_view f view (set slots i s)) ≡ drop (i + 1) (on_view f view slots)
 drop-on_view-set f view slots i s =
-    ap (drop (i + 1)) (on_view-set f view slots i s) ∙ drop-set-lt (i + 1) (on_view f view slots) i (f (page_of view i) s) (omega arith)
+    ap (drop (i + 1)) (on_view-set f view slots i s)
+    ∙ drop-set-lt (i + 1) (on_view f view slots) i (f (page_of view i) s) (omega arith)

@@ -31,8 +31,10 @@ on_each-replicate a (p ∷ ps) (suc n) h = ap (λ rest. a ∷ rest) (on_each-rep
 -- slots that weren't touched are a fresh workspace
 pub fresh_space :
     (pages pages' : List Mapped) (view view' : Memory) (count : ℕ) (slots : List Slot)
-    → pages' ≡ pages → view' ≡ view → slots ≡ replicate count untouched → length view ≡ count → length view ≡ length pages
-    → (let w : Workspace = record { map = pages'; view = view'; memory = on_view slot_bytes view' slots; stored = map slot_marks slots; taken = map slot_taken slots } in w)
+    → pages' ≡ pages → view' ≡ view → slots ≡ replicate count untouched → length view ≡ count → length view
+    ≡ length pages
+    → (let w : Workspace = record { map = pages'; view = view'; memory = on_view slot_bytes view' slots; stored = map
+    slot_marks slots; taken = map slot_taken slots } in w)
     ≡ fresh pages view
 unfolding slot_marks slot_taken untouched
 fresh_space pages pages' view view' count slots pages_are view_is slots_are all same =
@@ -53,8 +55,10 @@ pub stored_space :
     → slot ≡ slot_of map address → offset ≡ address % 4096 → address % byte_count size ≡ 0
     → slot < length memory → slot < length stored
     → (let w : Workspace = record { map = map; view = view'; memory = memory'; stored = stored'; taken = taken' } in w)
-    ≡ after_storing (record { map = map; view = view; memory = memory; stored = stored; taken = taken }) (bytes_stored address size value)
-stored_space map view memory stored taken view' memory' stored' taken' address size value slot offset view_is taken_is memory_is stored_is slot_is offset_is aligned lt below =
+    ≡ after_storing (record { map = map; view = view; memory = memory; stored = stored; taken = taken })
+    (bytes_stored address size value)
+stored_space map view memory stored taken view' memory' stored' taken' address size value slot offset view_is taken_is
+memory_is stored_is slot_is offset_is aligned lt below =
     let within : slot_of map address < length memory = omega arith in
     let within' : slot_of map address < length stored = omega arith in
     let bytes = laid-access map memory address size value aligned within in

@@ -24,8 +24,10 @@ get_or-on_view f (p ∷ ps) (q ∷ qs) (suc i) d lt below = get_or-on_view f ps 
 -- a slot that fits its page makes it of it
 pub fitting-on_view :
     (f : List ℕ → Slot → List ℕ) (view : Memory) (slots : List Slot) (i : ℕ) (d : Slot)
-    → i < length view → i < length slots → on_view f view slots ≡ view → f (page_of view i) (get_or slots i d) ≡ page_of view i
-fitting-on_view f view slots i d lt below fits = sym (get_or-on_view f view slots i d lt below) ∙ ap (λ pages. page_of pages i) fits
+    → i < length view → i < length slots → on_view f view slots ≡ view → f (page_of view i) (get_or slots i d)
+    ≡ page_of view i
+fitting-on_view f view slots i d lt below fits =
+    sym (get_or-on_view f view slots i d lt below) ∙ ap (λ pages. page_of pages i) fits
 
 pub length-on_view :
     (f : List ℕ → Slot → List ℕ) (view : Memory) (slots : List Slot)
@@ -52,7 +54,9 @@ on_view-replicate :
     (f : List ℕ → Slot → List ℕ) (s : Slot) → ((page : List ℕ) → f page s ≡ page)
     → (view : Memory) → on_view f view (replicate (length view) s) ≡ view
 on_view-replicate f s same [] = refl
-on_view-replicate f s same (p ∷ ps) = ap (λ page. page ∷ on_view f ps (replicate (length ps) s)) (same p) ∙ ap (λ rest. p ∷ rest) (on_view-replicate f s same ps)
+on_view-replicate f s same (p ∷ ps) =
+    ap (λ page. page ∷ on_view f ps (replicate (length ps) s)) (same p)
+    ∙ ap (λ rest. p ∷ rest) (on_view-replicate f s same ps)
 
 -- slots that weren't touched share the view's pages, and have its bytes
 pub shared-untouched : (view : Memory) → on_view slot_shared view (replicate (length view) untouched) ≡ view

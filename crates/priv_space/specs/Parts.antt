@@ -9,4 +9,5 @@ read_part slot taken page = if taken then (record { slot = slot; bytes = page })
 
 -- The stored bytes of a slot, if a byte was stored to it.
 abbrev pub delta_part : ℕ → List Bool → List ℕ → List PageDelta
-delta_part slot mask page = if is_stored mask then (record { slot = slot; mask = mask; bytes = chosen mask page }) ∷ [] else []
+delta_part slot mask page =
+    if is_stored mask then (record { slot = slot; mask = mask; bytes = chosen mask page }) ∷ [] else []

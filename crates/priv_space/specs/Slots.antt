@@ -51,7 +51,8 @@ on_view f [] slots = []
 on_view f (page ∷ view) [] = []
 on_view f (page ∷ view) (s ∷ slots) = f page s ∷ on_view f view slots
 
--- There is a slot for each page of the map and of the view, and each that has a share has it of the view's page in its place.
+-- There is a slot for each page of the map and of the view, and each that has a share has it of the view's page in its
+-- place.
 --
 pub record Fits (map : List Mapped) (view : Memory) (slots : List Slot) : Type 0 where
   pub pages : length view ≡ length map

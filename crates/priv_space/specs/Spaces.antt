@@ -1,4 +1,5 @@
--- What a thread's memory means: its map, the view, the view with its own stores, where it stored, and which pages it took bytes from.
+-- What a thread's memory means: its map, the view, the view with its own stores, where it stored, and which pages it
+-- took bytes from.
 use Rattle.std.specs.Prelude.{map}
 use Rattle.std.specs.Arc.{arc_value}
 use Rattle.memory_spec.specs.Workspace.{Workspace}

@@ -13,7 +13,8 @@ with_number page offset One value = slice_set page offset (byte_of value 0)
 with_number page offset Two value = slice_set (slice_set page offset (byte_of value 0)) (offset + 1) (byte_of value 1)
 with_number page offset Four value =
     slice_set
-    (slice_set (slice_set (slice_set page offset (byte_of value 0)) (offset + 1) (byte_of value 1)) (offset + 2) (byte_of value 2))
+    (slice_set (slice_set (slice_set page offset (byte_of value 0)) (offset + 1) (byte_of value 1)) (offset + 2)
+    (byte_of value 2))
     (offset + 3) (byte_of value 3)
 
 -- A mask after that.

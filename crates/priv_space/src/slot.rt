@@ -172,7 +172,8 @@ impl Slot {
     #[inline(always)]
     #[tactic(auto, unfolding(crate::specs::Slots::slot_shared, crate::specs::Slots::slot_bytes))]
     fn page(&self) -> Option<&Page>
-        ensures held { (page : List ℕ) → slot_shared page self.now ≡ page → IfSome result (λ held. held.now ≡ slot_bytes page self.now) }
+        ensures held { (page : List ℕ) → slot_shared page self.now ≡ page
+            → IfSome result (λ held. held.now ≡ slot_bytes page self.now) }
         ensures missing { IfNone result (self.now.held ≡ Untouched) }
     {
         match &self.held {
@@ -189,18 +190,16 @@ impl Slot {
     /// An error where the page has as many holders as can be counted; nothing changes then.
     #[inline(always)]
     #[tactic(auto, unfolding(crate::specs::Slots::slot_shared, crate::specs::Slots::slot_bytes, crate::specs::Slots::slot_marks, crate::specs::Slots::slot_taken))]
-    pub(super) fn take(
-        &mut self,
-        view: &PageTable,
-        access: Access,
-    ) -> Result<u32, AllocError>
+    pub(super) fn take(&mut self, view: &PageTable, access: Access) -> Result<u32, AllocError>
         requires within { access.slot < length view.now }
         requires inside { access.offset + byte_count access.size ≤ PAGE_SIZE }
         requires share { slot_shared (page_of view.now access.slot) self.old ≡ page_of view.now access.slot }
-        ensures value { IfOk result (λ number. number ≡ number_in (slot_bytes (page_of view.now access.slot) self.old) access.offset access.size) }
+        ensures value { IfOk result (λ number. number
+            ≡ number_in (slot_bytes (page_of view.now access.slot) self.old) access.offset access.size) }
         ensures small { IfOk result (λ number. number < 2 ^ (8 * byte_count access.size)) }
         ensures shared { slot_shared (page_of view.now access.slot) self.new ≡ page_of view.now access.slot }
-        ensures bytes { slot_bytes (page_of view.now access.slot) self.new ≡ slot_bytes (page_of view.now access.slot) self.old }
+        ensures bytes { slot_bytes (page_of view.now access.slot) self.new
+            ≡ slot_bytes (page_of view.now access.slot) self.old }
         ensures marks { slot_marks self.new ≡ slot_marks self.old }
         ensures taken { OnOk result (slot_taken self.new ≡ true) }
         ensures taken_stays { OnErr result (slot_taken self.new ≡ slot_taken self.old) }
@@ -223,15 +222,12 @@ impl Slot {
     #[cold]
     #[inline(never)]
     #[tactic(auto, unfolding(crate::specs::Slots::slot_shared, crate::specs::Slots::slot_bytes, crate::specs::Slots::slot_marks, crate::specs::Slots::slot_taken))]
-    fn first_number(
-        &mut self,
-        view: &PageTable,
-        access: Access,
-    ) -> Result<u32, AllocError>
+    fn first_number(&mut self, view: &PageTable, access: Access) -> Result<u32, AllocError>
         requires within { access.slot < length view.now }
         requires inside { access.offset + byte_count access.size ≤ PAGE_SIZE }
         requires untouched { self.old.held ≡ Untouched }
-        ensures value { IfOk result (λ number. number ≡ number_in (page_of view.now access.slot) access.offset access.size) }
+        ensures value { IfOk result (λ number. number
+            ≡ number_in (page_of view.now access.slot) access.offset access.size) }
         ensures small { IfOk result (λ number. number < 2 ^ (8 * byte_count access.size)) }
         ensures shared { slot_shared (page_of view.now access.slot) self.new ≡ page_of view.now access.slot }
         ensures bytes { slot_bytes (page_of view.now access.slot) self.new ≡ page_of view.now access.slot }
@@ -263,9 +259,11 @@ impl Slot {
         requires share { slot_shared (page_of view.now access.slot) self.old ≡ page_of view.now access.slot }
         ensures shared { slot_shared (page_of view.now access.slot) self.new ≡ page_of view.now access.slot }
         ensures taken { slot_taken self.new ≡ slot_taken self.old }
-        ensures bytes { OnOk result (slot_bytes (page_of view.now access.slot) self.new ≡ with_number (slot_bytes (page_of view.now access.slot) self.old) access.offset access.size value) }
+        ensures bytes { OnOk result (slot_bytes (page_of view.now access.slot) self.new
+            ≡ with_number (slot_bytes (page_of view.now access.slot) self.old) access.offset access.size value) }
         ensures marks { OnOk result (slot_marks self.new ≡ with_marks (slot_marks self.old) access.offset access.size) }
-        ensures bytes_stay { OnErr result (slot_bytes (page_of view.now access.slot) self.new ≡ slot_bytes (page_of view.now access.slot) self.old) }
+        ensures bytes_stay { OnErr result (slot_bytes (page_of view.now access.slot) self.new
+            ≡ slot_bytes (page_of view.now access.slot) self.old) }
         ensures marks_stay { OnErr result (slot_marks self.new ≡ slot_marks self.old) }
     {
         match &mut self.held {
@@ -289,7 +287,8 @@ impl Slot {
         pages: &mut Vec<ReadPage>,
     ) -> Result<(), AllocError>
         requires { slot < length view.now }
-        ensures { OnOk result (pages.new.items ≡ pages.old.items ++ read_part slot (slot_taken self.now) (page_of view.now slot)) }
+        ensures { OnOk result (pages.new.items
+            ≡ pages.old.items ++ read_part slot (slot_taken self.now) (page_of view.now slot)) }
     {
         if self.taken {
             pages.push(ReadPage::new(slot, view.share(slot)?))?;
@@ -304,7 +303,8 @@ impl Slot {
         slot: usize,
         deltas: &mut Vec<PageDelta>,
     ) -> Result<(), AllocError>
-        ensures { (page : List ℕ) → OnOk result (deltas.new.items ≡ deltas.old.items ++ delta_part slot (slot_marks self.old) (slot_bytes page self.old)) }
+        ensures { (page : List ℕ) → OnOk result (deltas.new.items
+            ≡ deltas.old.items ++ delta_part slot (slot_marks self.old) (slot_bytes page self.old)) }
     {
         match mem::replace(&mut self.held, Held::Untouched) {
             Held::Untouched => Ok(()),

@@ -18,16 +18,13 @@ use std::alloc::{AllocError, Global};
 ///
 /// An error where the view's page has as many holders as can be counted; nothing changes then.
 #[inline(always)]
-pub(super) fn take(
-    view: &PageTable,
-    slots: &mut [Slot],
-    access: Access,
-) -> Result<u32, AllocError>
+pub(super) fn take(view: &PageTable, slots: &mut [Slot], access: Access) -> Result<u32, AllocError>
     requires count { length slots.old ≡ length view.now }
     requires within { access.slot < length slots.old }
     requires inside { access.offset + byte_count access.size ≤ PAGE_SIZE }
     requires share { on_view slot_shared view.now slots.old ≡ view.now }
-    ensures value { IfOk result (λ number. number ≡ number_in (page_of (on_view slot_bytes view.now slots.old) access.slot) access.offset access.size) }
+    ensures value { IfOk result (λ number. number
+        ≡ number_in (page_of (on_view slot_bytes view.now slots.old) access.slot) access.offset access.size) }
     ensures small { IfOk result (λ number. number < 2 ^ (8 * byte_count access.size)) }
     ensures shared { on_view slot_shared view.now slots.new ≡ view.now }
     ensures bytes { on_view slot_bytes view.now slots.new ≡ on_view slot_bytes view.now slots.old }
@@ -57,8 +54,12 @@ pub(super) fn store(
     requires share { on_view slot_shared view.now slots.old ≡ view.now }
     ensures shared { on_view slot_shared view.now slots.new ≡ view.now }
     ensures taken { map slot_taken slots.new ≡ map slot_taken slots.old }
-    ensures bytes { OnOk result (on_view slot_bytes view.now slots.new ≡ slice_set (on_view slot_bytes view.now slots.old) access.slot (with_number (page_of (on_view slot_bytes view.now slots.old) access.slot) access.offset access.size value)) }
-    ensures marks { OnOk result (map slot_marks slots.new ≡ slice_set (map slot_marks slots.old) access.slot (with_marks (mask_of (map slot_marks slots.old) access.slot) access.offset access.size)) }
+    ensures bytes { OnOk result (on_view slot_bytes view.now slots.new
+        ≡ slice_set (on_view slot_bytes view.now slots.old) access.slot
+        (with_number (page_of (on_view slot_bytes view.now slots.old) access.slot) access.offset access.size value)) }
+    ensures marks { OnOk result (map slot_marks slots.new
+        ≡ slice_set (map slot_marks slots.old) access.slot
+        (with_marks (mask_of (map slot_marks slots.old) access.slot) access.offset access.size)) }
     ensures bytes_stay { OnErr result (on_view slot_bytes view.now slots.new ≡ on_view slot_bytes view.now slots.old) }
     ensures marks_stay { OnErr result (map slot_marks slots.new ≡ map slot_marks slots.old) }
 {

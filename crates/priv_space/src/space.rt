@@ -116,8 +116,7 @@ impl Mem for Space {
                     return Err(MemoryError::Access);
                 }
                 let access = access_to(slot, address, size);
-                let Ok(()) =
-                    slots::store(self.alloc, &self.view, &mut self.slots, access, value)
+                let Ok(()) = slots::store(self.alloc, &self.view, &mut self.slots, access, value)
                 else {
                     return Err(MemoryError::NoMemory);
                 };

@@ -24,7 +24,8 @@ flags_of-at words k d lt = flag_at 4096 words k d lt
 
 -- the test that code makes of a place
 pub tested_at :
-    (words : List ℕ) (k : ℕ) → k < 4096 → (bit_and (get_or words (k / 64) 0 / 2 ^ (k % 64)) 1 == 1) ≡ get_or (flags_of words) k false
+    (words : List ℕ) (k : ℕ) → k < 4096 → (bit_and (get_or words (k / 64) 0 / 2 ^ (k % 64)) 1 == 1)
+    ≡ get_or (flags_of words) k false
 tested_at words k lt =
     ap (λ b. b == 1) (shr_and_one (get_or words (k / 64) 0) (k % 64)) ∙ sym (flags_of-at words k false lt)
 
@@ -55,18 +56,23 @@ unfolding flags_of no_marks
 flags_of-zeros words zeros = none_in 4096 words zeros
 
 pub flags_of-none : flags_of (replicate 64 0) ≡ no_marks
-flags_of-none = flags_of-zeros (replicate 64 0) (λ j lt. get_or-replicate 64 j 0 0 (omega (arith, length-replicate {A = ℕ} 64 0)))
+flags_of-none =
+    flags_of-zeros (replicate 64 0) (λ j lt. get_or-replicate 64 j 0 0 (omega (arith, length-replicate {A = ℕ} 64 0)))
 
 -- a word after one more of its bits was set
 abbrev pub with_bit : List ℕ → ℕ → ℕ
 with_bit words place = bit_or (get_or words (place / 64) 0) (1 * 2 ^ (place % 64) % 2 ^ 64)
 
-flag-set_same : (words : List ℕ) (p : ℕ) → p / 64 < length words → flag_in (set words (p / 64) (with_bit words p)) p ≡ true
+flag-set_same :
+    (words : List ℕ) (p : ℕ) → p / 64 < length words
+    → flag_in (set words (p / 64) (with_bit words p)) p ≡ true
 flag-set_same words p within =
     ap (λ w. bit_at w (p % 64) == 1) (get_or-set_same words (p / 64) (with_bit words p) 0 within)
     ∙ ap (λ b. b == 1) (bit_at_set_same w64 (get_or words (p / 64) 0) (p % 64) (omega arith))
 
-flag-set_other : (words : List ℕ) (p k : ℕ) → p / 64 < length words → k ≢ p → flag_in (set words (p / 64) (with_bit words p)) k ≡ flag_in words k
+flag-set_other :
+    (words : List ℕ) (p k : ℕ) → p / 64 < length words → k ≢ p
+    → flag_in (set words (p / 64) (with_bit words p)) k ≡ flag_in words k
 flag-set_other words p k within other =
     elim (cases_eq (k / 64) (p / 64)) [
       | inl same ↦
@@ -75,7 +81,8 @@ flag-set_other words p k within other =
           ∙ ap (λ w. bit_at w (k % 64) == 1) (get_or-set_same words (p / 64) (with_bit words p) 0 within)
           ∙ ap (λ b. b == 1) (bit_at_set_other w64 (get_or words (p / 64) 0) (p % 64) (omega arith) (k % 64) apart)
           ∙ ap (λ j. bit_at (get_or words j 0) (k % 64) == 1) (sym same)
-      | inr differ ↦ ap (λ w. bit_at w (k % 64) == 1) (get_or-set_other words (p / 64) (k / 64) (with_bit words p) 0 differ)
+      | inr differ ↦ ap (λ w. bit_at w (k % 64) == 1)
+          (get_or-set_other words (p / 64) (k / 64) (with_bit words p) 0 differ)
     ]
 
 -- a word with one more bit marks one more place
@@ -84,7 +91,8 @@ pub flags_of-set :
     → flags_of (set words (p / 64) (with_bit words p)) ≡ set (flags_of words) p true
 flags_of-set words p count lt =
     same_lists (flags_of (set words (p / 64) (with_bit words p))) (set (flags_of words) p true)
-    (length-flags_of (set words (p / 64) (with_bit words p)) ∙ sym (length-set (flags_of words) p true ∙ length-flags_of words))
+    (length-flags_of (set words (p / 64) (with_bit words p))
+    ∙ sym (length-set (flags_of words) p true ∙ length-flags_of words))
     (λ k d before.
     let below : k < 4096 = omega (arith, length-flags_of (set words (p / 64) (with_bit words p))) in
     let within : p / 64 < length words = omega arith in
@@ -107,7 +115,8 @@ is_stored-zeros words zeros =
     (λ k d lt. flags_of-at words k d (omega (arith, length-flags_of words)) ∙ flag-zeros words k zeros)
 
 pub is_stored-word :
-    (words : List ℕ) (k : ℕ) → k < 64 → 0 < get_or words k 0 → get_or words k 0 < 2 ^ 64 → is_stored (flags_of words) ≡ true
+    (words : List ℕ) (k : ℕ) → k < 64 → 0 < get_or words k 0 → get_or words k 0 < 2 ^ 64 → is_stored (flags_of words)
+    ≡ true
 is_stored-word words k lt some small =
     let found = bit_at-trailing_zeros w64 (get_or words k 0) some small in
     let t = trailing_zeros w64 (get_or words k 0) in

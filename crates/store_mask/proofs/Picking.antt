@@ -13,7 +13,8 @@ merged-nil (o ∷ os) (n ∷ ns) = refl
 pub merged-more :
     (o n : List ℕ) (m : List Bool) (i : ℕ)
     → length n ≡ length o → length m ≡ length o → i < length o
-    → set (merged o n (take i m)) i (cond (get_or m i false) (get_or n i 0) (get_or (merged o n (take i m)) i 0)) ≡ merged o n (take (suc i) m)
+    → set (merged o n (take i m)) i (cond (get_or m i false) (get_or n i 0) (get_or (merged o n (take i m)) i 0))
+    ≡ merged o n (take (suc i) m)
 merged-more [] n m i p q lt = absurd (omega arith)
 merged-more (o ∷ os) [] m i p q lt = absurd (omega arith)
 merged-more (o ∷ os) (n ∷ ns) [] i p q lt = absurd (omega arith)

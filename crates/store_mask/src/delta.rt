@@ -1,8 +1,9 @@
 //! The stored bytes of a thunk, page by page.
 
 ghost use Rattle.std.specs.Prelude.{◌≡◌, true};
-ghost use Rattle.record_spec.specs.Delta.{is_stored, chosen, spread};
+ghost use Rattle.record_spec.specs.Delta.{is_stored, spread};
 ghost use Rattle.record_spec.specs.Ascending.{deltas_ascend};
+ghost use Rattle.store_mask.specs.Stored.{delta_in};
 
 use super::stored::StoredPage;
 use page_store::Page;
@@ -17,11 +18,12 @@ pub struct PageDelta {
 
 impl Model for PageDelta {
     ghost use Rattle.std.specs.Prelude.{◌≡◌, true};
-    ghost use Rattle.record_spec.specs.Delta.{PageDelta, is_stored, chosen};
+    ghost use Rattle.record_spec.specs.Delta.{PageDelta, is_stored};
+    ghost use Rattle.store_mask.specs.Stored.{delta_in};
 
     ghost Value = { PageDelta };
 
-    ghost view = { λ d. record { slot = d.slot; mask = d.stored.value.mask; bytes = chosen d.stored.value.mask d.stored.value.page } };
+    ghost view = { λ d. delta_in d.slot d.stored.value };
 
     ghost invariant = { λ d. is_stored d.stored.value.mask ≡ true };
 }
@@ -30,7 +32,7 @@ impl PageDelta {
     /// What was stored to the page in a slot, at least one byte.
     pub fn new(slot: usize, stored: Box<StoredPage>) -> PageDelta
         requires { is_stored stored.value.mask ≡ true }
-        ensures { result ≡ record { slot = slot; mask = stored.value.mask; bytes = chosen stored.value.mask stored.value.page } }
+        ensures { result ≡ delta_in slot stored.value }
     {
         PageDelta { slot, stored }
     }

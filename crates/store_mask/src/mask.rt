@@ -30,7 +30,8 @@ impl Model for Mask {
 
 /// The place of a word that isn't zero.
 fn first_marked(words: &[u64]) -> Option<usize>
-    ensures found { IfSome result (λ k. (k < length words.now) × (0 < slice_index words.now k) × (slice_index words.now k < 2 ^ 64)) }
+    ensures found { IfSome result (λ k. (k < length words.now) × (0 < slice_index words.now k)
+        × (slice_index words.now k < 2 ^ 64)) }
     ensures missing { IfNone result ((k : ℕ) → k < length words.now → slice_index words.now k ≡ 0) }
 {
     for (k, word) in words.iter().enumerate() {

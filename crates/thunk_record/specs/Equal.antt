@@ -10,4 +10,5 @@ abbrev pub is_same_frame : Frame → Frame → Bool
 is_same_frame = eq_of_both (on (λ frame. frame.map) is_same_map) (on (λ frame. frame.fuel) ◌==◌)
 
 pub is_same_frame-equiv : IsEquivalence is_same_frame
-is_same_frame-equiv = and_equiv (on_equiv (λ frame. frame.map) is_same_map-equiv) (on_equiv (λ frame. frame.fuel) nat_eq_equiv)
+is_same_frame-equiv =
+    and_equiv (on_equiv (λ frame. frame.map) is_same_map-equiv) (on_equiv (λ frame. frame.fuel) nat_eq_equiv)

@@ -20,14 +20,20 @@ loop-offset-preserved c =
     let place : c.from.result * 4096 + offset ≡ 4096 * c.args.number + offset = omega arith in
     let byte : c.image_byte_at.result ≡ f offset = c.image_byte_at.ensures ∙ ap (image_byte bytes) place in
     let inside : offset < length c.loop-offset.page = omega arith in
-    let more = fill_by_more f c.loop-offset.page offset 0 inside c.loop-offset.invariant.1 in
-    (length-set c.loop-offset.page offset c.image_byte_at.result ∙ c.loop-offset.invariant.0, λ k below. let P : ℕ → Type 0 = λ v. get_or (set c.loop-offset.page offset v) k 0 ≡ f k in subst P (sym byte) (more k below))
+    let more = fill_by_more f c.loop-offset.page offset 0 inside c.loop-offset.invariant.1 in (
+      length-set c.loop-offset.page offset c.image_byte_at.result
+          ∙ c.loop-offset.invariant.0,
+      λ k below. let P : ℕ → Type 0 = λ v. get_or (set c.loop-offset.page offset v) k 0
+          ≡ f k in subst P (sym byte) (more k below),
+    )
 
 pub returns : goal.returns
 unfolding image_page
 returns c =
     let bytes = c.args.bytes.now in
     let start = 4096 * c.args.number in
-    let all : (k : ℕ) → k < 4096 → get_or c.loop-offset.page k 0 ≡ image_byte bytes (start + k) = λ k below. c.loop-offset.invariant.1 k (omega arith) in
+    let all : (k : ℕ) → k < 4096 → get_or c.loop-offset.page k 0 ≡ image_byte bytes (start + k) =
+    λ k below. c.loop-offset.invariant.1 k (omega arith) in
     let e : start + 0 ≡ start = add-zero start in
-    fill_by_all (λ k. image_byte bytes (start + k)) c.loop-offset.page 4096 0 c.loop-offset.invariant.0 all ∙ map-shifted (image_byte bytes) start 0 4096 ∙ ap (λ k. map (image_byte bytes) (range_with_len k 4096)) e
+    fill_by_all (λ k. image_byte bytes (start + k)) c.loop-offset.page 4096 0 c.loop-offset.invariant.0 all
+    ∙ map-shifted (image_byte bytes) start 0 4096 ∙ ap (λ k. map (image_byte bytes) (range_with_len k 4096)) e

@@ -5,4 +5,5 @@ use Rattle.elf_load.proofs.image.segments_on.Given as goal
 
 -- those of the headers so far that touch the page
 abbrev pub invariant-loop-header : goal.invariant-loop-header
-invariant-loop-header l = l.found.items ≡ filter (λ header. touches l.number (header_of header)) (take l.header-index l.headers)
+invariant-loop-header l =
+    l.found.items ≡ filter (λ header. touches l.number (header_of header)) (take l.header-index l.headers)

@@ -7,14 +7,25 @@ use Rattle.elf_load.proofs.Searches.{map-filter}
 use Rattle.elf_load.proofs.loader.add_page.Goals as goal
 
 -- the segments on a page, from those that were read
-on_page : (bytes : List ℕ) (number : ℕ) (near headers : List Header) → near ≡ filter (λ header. touches number (header_of header)) headers → map header_of headers ≡ segments bytes → map header_of near ≡ filter (touches number) (segments bytes)
-on_page bytes number near headers kept same = ap (map header_of) kept ∙ map-filter header_of (touches number) headers ∙ ap (filter (touches number)) same
+on_page :
+    (bytes : List ℕ) (number : ℕ) (near headers : List Header)
+    → near ≡ filter (λ header. touches number (header_of header)) headers → map header_of headers ≡ segments bytes
+    → map header_of near ≡ filter (touches number) (segments bytes)
+on_page bytes number near headers kept same =
+    ap (map header_of) kept ∙ map-filter header_of (touches number) headers ∙ ap (filter (touches number)) same
 
 pub page_bytes-requires-clause-near : goal.page_bytes-requires-clause-near
-page_bytes-requires-clause-near c = ap (map header_of) c.as_slice-then-touched.ensures.value ∙ on_page c.args.bytes.now c.args.number c.in_ok-near.near.items c.args.headers.now c.in_ok-near.ensures c.requires.headers
+page_bytes-requires-clause-near c =
+    ap (map header_of) c.as_slice-then-touched.ensures.value
+    ∙ on_page c.args.bytes.now c.args.number c.in_ok-near.near.items c.args.headers.now c.in_ok-near.ensures
+    c.requires.headers
 
 pub returns-in_ok-push-2-clause-mapped : goal.returns-in_ok-push-2-clause-mapped
 returns-in_ok-push-2-clause-mapped c =
-    let near = ap (map header_of) c.as_slice.ensures.value ∙ on_page c.args.bytes.now c.args.number c.in_ok-near.near.items c.args.headers.now c.in_ok-near.ensures c.requires.headers in
-    let rights : c.rights_of.result ≡ page_permission (segments c.args.bytes.now) c.args.number = c.rights_of.ensures ∙ ap (λ (list : List ProgramHeader). fold bit_or 0 (map segment_permission list)) near in
+    let near =
+    ap (map header_of) c.as_slice.ensures.value
+    ∙ on_page c.args.bytes.now c.args.number c.in_ok-near.near.items c.args.headers.now c.in_ok-near.ensures
+    c.requires.headers in
+    let rights : c.rights_of.result ≡ page_permission (segments c.args.bytes.now) c.args.number =
+    c.rights_of.ensures ∙ ap (λ (list : List ProgramHeader). fold bit_or 0 (map segment_permission list)) near in
     grind (arith, rights)

@@ -11,19 +11,25 @@ use Rattle.elf_load.proofs.Searches.{range_split}
 use Rattle.elf_load.proofs.loader.pages_of.Goals as goal
 
 -- the touched pages among one number more
-touched_more : (bytes : List ℕ) (n : ℕ) → touched_below bytes (n + 1) ≡ touched_below bytes n ++ cond (list_any (touches n) (segments bytes)) (n ∷ []) []
+touched_more :
+    (bytes : List ℕ) (n : ℕ)
+    → touched_below bytes (n + 1) ≡ touched_below bytes n ++ cond (list_any (touches n) (segments bytes)) (n ∷ []) []
 touched_more bytes n =
     let test : ℕ → Bool = λ number. list_any (touches number) (segments bytes) in
     ap (filter test) (range_split 0 n 1) ∙ filter-append test (range_with_len 0 n) (range_with_len (0 + n) 1) ∙
     ap (λ k. touched_below bytes n ++ filter test (k ∷ [])) (zero-add n)
 
 -- what a list of numbers gives with one more, if a test holds
-map-pushed : {X : Type 0} (f : ℕ → X) (b : Bool) (ns : List ℕ) (n : ℕ) (before : List X) → before ≡ map f ns → cond b (before ++ f n ∷ []) before ≡ map f (ns ++ cond b (n ∷ []) [])
+map-pushed :
+    {X : Type 0} (f : ℕ → X) (b : Bool) (ns : List ℕ) (n : ℕ) (before : List X) → before ≡ map f ns
+    → cond b (before ++ f n ∷ []) before ≡ map f (ns ++ cond b (n ∷ []) [])
 map-pushed f true ns n before is = ap (λ list. list ++ f n ∷ []) is ∙ sym (map-append f ns (n ∷ []))
 map-pushed f false ns n before is = is ∙ ap (map f) (sym (append-nil ns))
 
 -- the pages' bytes are those at the pages' numbers
-bytes_of_pages : (bytes : List ℕ) (ns : List ℕ) → map (image_page bytes) ns ≡ map (λ (page : Mapped). image_page bytes page.number) (map (mapped_at bytes) ns)
+bytes_of_pages :
+    (bytes : List ℕ) (ns : List ℕ)
+    → map (image_page bytes) ns ≡ map (λ (page : Mapped). image_page bytes page.number) (map (mapped_at bytes) ns)
 bytes_of_pages bytes [] = refl
 bytes_of_pages bytes (n ∷ ns) = ap (λ rest. image_page bytes n ∷ rest) (bytes_of_pages bytes ns)
 
@@ -32,12 +38,21 @@ loop-number-preserved c =
     let bytes = c.args.bytes.now in
     let n = c.loop-number.number in
     let test = list_any (touches n) (segments bytes) in
-    let inside : n < length c.in_ok-marks.marks.items = omega (arith, c.in_ok-marks.ensures.count, c.highest_page-number-end.ensures.page, c.loop-number-test.true) in
-    let marked : c.index-touched.result.now ≡ test = c.index-touched.ensures ∙ get_or_default c.in_ok-marks.marks.items n c.index-touched.result.now false inside ∙ c.in_ok-marks.ensures.each n inside in
+    let inside : n < length c.in_ok-marks.marks.items =
+    omega (arith, c.in_ok-marks.ensures.count, c.highest_page-number-end.ensures.page, c.loop-number-test.true) in
+    let marked : c.index-touched.result.now ≡ test =
+    c.index-touched.ensures ∙ get_or_default c.in_ok-marks.marks.items n c.index-touched.result.now false inside
+    ∙ c.in_ok-marks.ensures.each n inside in
     let more = sym (touched_more bytes n) in (
       c.loop-number.invariant.0,
-      c.in_ok-add_page.ensures.mapped ∙ ap (λ b. cond b (c.loop-number.pages.mapped.items ++ mapped_at bytes n ∷ []) c.loop-number.pages.mapped.items) marked ∙ map-pushed (mapped_at bytes) test (touched_below bytes n) n c.loop-number.pages.mapped.items c.loop-number.invariant.1 ∙ ap (map (mapped_at bytes)) more,
-      c.in_ok-add_page.ensures.table ∙ ap (λ b. cond b (c.loop-number.pages.table ++ image_page bytes n ∷ []) c.loop-number.pages.table) marked ∙ map-pushed (image_page bytes) test (touched_below bytes n) n c.loop-number.pages.table c.loop-number.invariant.2 ∙ ap (map (image_page bytes)) more,
+      c.in_ok-add_page.ensures.mapped
+          ∙ ap (λ b. cond b (c.loop-number.pages.mapped.items ++ mapped_at bytes n ∷ []) c.loop-number.pages.mapped.items)
+          marked ∙ map-pushed (mapped_at bytes) test (touched_below bytes n) n c.loop-number.pages.mapped.items
+          c.loop-number.invariant.1 ∙ ap (map (mapped_at bytes)) more,
+      c.in_ok-add_page.ensures.table
+          ∙ ap (λ b. cond b (c.loop-number.pages.table ++ image_page bytes n ∷ []) c.loop-number.pages.table) marked
+          ∙ map-pushed (image_page bytes) test (touched_below bytes n) n c.loop-number.pages.table
+          c.loop-number.invariant.2 ∙ ap (map (image_page bytes)) more,
     )
 
 pub returns-clause-mapped : goal.returns-clause-mapped
@@ -52,4 +67,5 @@ unfolding image_pages image_memory
 returns-clause-table c =
     let bytes = c.args.bytes.now in
     let all : c.loop-number.number ≡ highest_page (segments bytes) + 1 = omega arith in
-    c.loop-number.invariant.2 ∙ ap (λ n. map (image_page bytes) (touched_below bytes n)) all ∙ bytes_of_pages bytes (touched_below bytes (highest_page (segments bytes) + 1))
+    c.loop-number.invariant.2 ∙ ap (λ n. map (image_page bytes) (touched_below bytes n)) all
+    ∙ bytes_of_pages bytes (touched_below bytes (highest_page (segments bytes) + 1))

@@ -7,4 +7,7 @@ use Rattle.elf_load.proofs.loader.pages_of.Given as goal
 
 -- the pages so far, with the rights and the bytes of each
 abbrev pub invariant-loop-number : goal.invariant-loop-number
-invariant-loop-number l = (map header_of l.headers.items ≡ segments l.bytes) × (l.pages.mapped.items ≡ map (mapped_at l.bytes) (touched_below l.bytes l.number)) × (l.pages.table ≡ map (image_page l.bytes) (touched_below l.bytes l.number))
+invariant-loop-number l =
+    (map header_of l.headers.items ≡ segments l.bytes)
+    × (l.pages.mapped.items ≡ map (mapped_at l.bytes) (touched_below l.bytes l.number))
+    × (l.pages.table ≡ map (image_page l.bytes) (touched_below l.bytes l.number))

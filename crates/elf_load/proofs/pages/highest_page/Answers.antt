@@ -6,5 +6,9 @@ use Rattle.elf_load.proofs.pages.highest_page.Goals as goal
 
 pub loop-i-preserved : goal.loop-i-preserved
 loop-i-preserved c =
-    let next : ProgramHeader → ℕ → ℕ = λ header highest. cond (is_segment header) (max highest (last_page header)) highest in
-    (c.higher-highest.ensures.page ∙ ap₂ next c.header_at.ensures c.loop-i.invariant.0 ∙ sym (highest_more c.args.bytes.now c.loop-i.i), c.higher-highest.ensures.small)
+    let next : ProgramHeader → ℕ → ℕ =
+    λ header highest. cond (is_segment header) (max highest (last_page header)) highest in (
+      c.higher-highest.ensures.page ∙ ap₂ next c.header_at.ensures c.loop-i.invariant.0
+          ∙ sym (highest_more c.args.bytes.now c.loop-i.i),
+      c.higher-highest.ensures.small,
+    )

@@ -10,5 +10,6 @@ loop-i-preserved c = (
   λ k below.
       let inside : k < length c.loop-i.marks = subst (λ n. k < n) c.mark_segment.ensures.same below in
       let touching : ProgramHeader → Bool = λ header. is_segment header && touches k header in
-      c.mark_segment.ensures.each k inside ∙ ap₂ (λ (a : Bool) (b : Bool). a || b) (c.loop-i.invariant.1 k inside) (ap touching c.header_at.ensures) ∙ sym (list_any_more k c.args.bytes.now c.loop-i.i),
+      c.mark_segment.ensures.each k inside ∙ ap₂ (λ (a : Bool) (b : Bool). a || b) (c.loop-i.invariant.1 k inside)
+      (ap touching c.header_at.ensures) ∙ sym (list_any_more k c.args.bytes.now c.loop-i.i),
 )

@@ -15,5 +15,9 @@ loop-number-preserved c =
     let next : Bool → ℕ → ℕ = λ b count. cond b (count + 1) count in
     let test : ℕ → Bool = λ n. list_any (touches n) (segments c.args.bytes.now) in
     let marked = c.requires.each c.loop-number.number (omega arith) in
-    let P : ℕ → Type 0 = λ n. n ≤ c.loop-number.number + 1 in
-    (c.count_with-count.ensures ∙ ap₂ next marked c.loop-number.invariant.0 ∙ sym (count_more test c.loop-number.number), subst P (sym c.count_with-count.ensures) (one_more _ c.loop-number.count c.loop-number.number c.loop-number.invariant.1))
+    let P : ℕ → Type 0 = λ n. n ≤ c.loop-number.number + 1 in (
+      c.count_with-count.ensures ∙ ap₂ next marked c.loop-number.invariant.0
+          ∙ sym (count_more test c.loop-number.number),
+      subst P (sym c.count_with-count.ensures)
+          (one_more _ c.loop-number.count c.loop-number.number c.loop-number.invariant.1),
+    )

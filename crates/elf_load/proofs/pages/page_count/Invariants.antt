@@ -6,4 +6,6 @@ use Rattle.elf_load.proofs.pages.page_count.Given as goal
 
 -- how many pages so far are touched
 abbrev pub invariant-loop-number : goal.invariant-loop-number
-invariant-loop-number l = (l.count ≡ length (filter (λ n. list_any (touches n) (segments l.bytes)) (range_with_len 0 l.number))) × (l.count ≤ l.number)
+invariant-loop-number l =
+    (l.count ≡ length (filter (λ n. list_any (touches n) (segments l.bytes)) (range_with_len 0 l.number)))
+    × (l.count ≤ l.number)

@@ -5,4 +5,6 @@ use Rattle.elf_load.proofs.pages.rights_of.Given as goal
 
 -- the rights of the segments so far
 abbrev pub invariant-loop-header : goal.invariant-loop-header
-invariant-loop-header l = l.rights ≡ fold (λ (rights : ℕ) header. bit_or rights (segment_permission (header_of header))) 0 (take l.header-index l.headers)
+invariant-loop-header l =
+    l.rights ≡ fold (λ (rights : ℕ) header. bit_or rights (segment_permission (header_of header))) 0
+    (take l.header-index l.headers)

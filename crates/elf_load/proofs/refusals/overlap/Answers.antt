@@ -18,8 +18,11 @@ returns-in-Some c =
     let earlier = c.loop-earlier.earlier in
     let test : ℕ × ℕ → Bool = λ pair. overlaps (program_header bytes pair.0) (program_header bytes pair.1) in
     let pair_of : ℕ → ℕ × ℕ = λ j. (earlier, j) in
-    let found : find test (row total earlier) ≡ Some (pair_of c.in-Some.later) = find-map test pair_of (range_with_len (earlier + 1) (total - (earlier + 1))) ∙ ap (option_map pair_of) (sym c.overlap_from.ensures ∙ c.in-Some.is) in
-    let whole = rows_here test (row total) earlier total (pair_of c.in-Some.later) (omega arith) c.loop-earlier.invariant found in
+    let found : find test (row total earlier) ≡ Some (pair_of c.in-Some.later) =
+    find-map test pair_of (range_with_len (earlier + 1) (total - (earlier + 1)))
+    ∙ ap (option_map pair_of) (sym c.overlap_from.ensures ∙ c.in-Some.is) in
+    let whole =
+    rows_here test (row total) earlier total (pair_of c.in-Some.later) (omega arith) c.loop-earlier.invariant found in
     sym (ap (option_map (λ (pair : ℕ × ℕ). Overlap pair.0 pair.1)) whole)
 
 pub loop-earlier-preserved : goal.loop-earlier-preserved
@@ -30,5 +33,7 @@ loop-earlier-preserved c =
     let earlier = c.loop-earlier.earlier in
     let test : ℕ × ℕ → Bool = λ pair. overlaps (program_header bytes pair.0) (program_header bytes pair.1) in
     let pair_of : ℕ → ℕ × ℕ = λ j. (earlier, j) in
-    let none : find test (row total earlier) ≡ None = find-map test pair_of (range_with_len (earlier + 1) (total - (earlier + 1))) ∙ ap (option_map pair_of) (sym c.overlap_from.ensures ∙ c.in-None.is) in
+    let none : find test (row total earlier) ≡ None =
+    find-map test pair_of (range_with_len (earlier + 1) (total - (earlier + 1)))
+    ∙ ap (option_map pair_of) (sym c.overlap_from.ensures ∙ c.in-None.is) in
     rows_more test (row total) earlier c.loop-earlier.invariant none

@@ -6,4 +6,7 @@ use Rattle.elf_load.proofs.refusals.overlap.Given as goal
 
 -- no header so far shares an address with a later one
 abbrev pub invariant-loop-earlier : goal.invariant-loop-earlier
-invariant-loop-earlier l = find (λ (pair : ℕ × ℕ). overlaps (program_header l.bytes pair.0) (program_header l.bytes pair.1)) (flat_map (λ i. map (λ j. (i, j)) (range_with_len (i + 1) (e_phnum l.bytes - (i + 1)))) (range_with_len 0 l.earlier)) ≡ None
+invariant-loop-earlier l =
+    find (λ (pair : ℕ × ℕ). overlaps (program_header l.bytes pair.0) (program_header l.bytes pair.1))
+    (flat_map (λ i. map (λ j. (i, j)) (range_with_len (i + 1) (e_phnum l.bytes - (i + 1))))
+    (range_with_len 0 l.earlier)) ≡ None

@@ -6,4 +6,6 @@ use Rattle.elf_load.proofs.refusals.overlap_from.Given as goal
 
 -- no header so far shares an address with the earlier one
 abbrev pub invariant-loop-number : goal.invariant-loop-number
-invariant-loop-number l = find (λ j. overlaps (program_header l.bytes l.earlier) (program_header l.bytes j)) (range_with_len l.from (l.number - l.from)) ≡ None
+invariant-loop-number l =
+    find (λ j. overlaps (program_header l.bytes l.earlier) (program_header l.bytes j))
+    (range_with_len l.from (l.number - l.from)) ≡ None

@@ -14,21 +14,29 @@ pub returns-in-Some : goal.returns-in-Some
 unfolding refusal_of later_rows
 returns-in-Some c =
     let bytes = c.args.bytes.now in
-    sym (stop_within (header_rows bytes) (later_rows bytes) c.in-Some.refusal (sym c.header_refusal.ensures ∙ c.in-Some.is))
+    sym (stop_within (header_rows bytes) (later_rows bytes) c.in-Some.refusal
+    (sym c.header_refusal.ensures ∙ c.in-Some.is))
 
 -- where the header and the program headers get no refusal, the pages decide
-past_tables : (bytes : List ℕ) → first_given (header_rows bytes) ≡ None → first_given (table_rows bytes) ≡ None → refusal_of bytes ≡ first_given (page_rows bytes)
+past_tables :
+    (bytes : List ℕ) → first_given (header_rows bytes) ≡ None → first_given (table_rows bytes) ≡ None
+    → refusal_of bytes ≡ first_given (page_rows bytes)
 unfolding refusal_of later_rows
-past_tables bytes header table = skip_all (header_rows bytes) (later_rows bytes) header ∙ skip_all (table_rows bytes) (page_rows bytes) table
+past_tables bytes header table =
+    skip_all (header_rows bytes) (later_rows bytes) header ∙ skip_all (table_rows bytes) (page_rows bytes) table
 
 pub returns-in-Some-table_refusal : goal.returns-in-Some-table_refusal
 unfolding refusal_of later_rows
 returns-in-Some-table_refusal c =
     let bytes = c.args.bytes.now in
-    sym (skip_all (header_rows bytes) (later_rows bytes) (sym c.header_refusal.ensures ∙ c.in-None.is) ∙ stop_within (table_rows bytes) (page_rows bytes) c.in-Some-table_refusal.refusal (sym c.table_refusal.ensures ∙ c.in-Some-table_refusal.is))
+    sym (skip_all (header_rows bytes) (later_rows bytes) (sym c.header_refusal.ensures ∙ c.in-None.is)
+    ∙ stop_within (table_rows bytes) (page_rows bytes) c.in-Some-table_refusal.refusal
+    (sym c.table_refusal.ensures ∙ c.in-Some-table_refusal.is))
 
 pub returns : goal.returns
 returns c =
     let bytes = c.args.bytes.now in
-    let same : first_given (page_rows bytes) ≡ refusal_of bytes = sym (past_tables bytes (sym c.header_refusal.ensures ∙ c.in-None.is) (sym c.table_refusal.ensures ∙ c.in-None-table_refusal.is)) in
+    let same : first_given (page_rows bytes) ≡ refusal_of bytes =
+    sym (past_tables bytes (sym c.header_refusal.ensures ∙ c.in-None.is)
+    (sym c.table_refusal.ensures ∙ c.in-None-table_refusal.is)) in
     subst (λ answer. IfOk c.page_refusal.result (λ refusal. refusal ≡ answer)) same c.page_refusal.ensures

@@ -33,5 +33,7 @@ loop-low-preserved c =
 pub returns-clause-missing : goal.returns-clause-missing
 returns-clause-missing c =
     let most = slot_of-length c.args.pages.now c.args.address in
-    let below : slot_of c.args.pages.now c.args.address < length c.args.pages.now → slot_of c.args.pages.now c.args.address < c.loop-low.high = c.loop-low.invariant.below in
+    let below : slot_of c.args.pages.now c.args.address < length c.args.pages.now → slot_of c.args.pages.now
+    c.args.address < c.loop-low.high =
+    c.loop-low.invariant.below in
     grind arith

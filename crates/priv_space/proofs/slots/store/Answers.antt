@@ -10,20 +10,25 @@ use Rattle.priv_space.proofs.slots.store.Goals as goal
 pub store-requires-clause-share : goal.store-requires-clause-share
 store-requires-clause-share c =
     let within : c.args.access.slot < length c.args.view.now = omega arith in
-    fitting-on_view slot_shared c.args.view.now c.args.slots.now c.args.access.slot c.index-slots-access.result within c.requires.within c.requires.share
+    fitting-on_view slot_shared c.args.view.now c.args.slots.now c.args.access.slot c.index-slots-access.result within
+    c.requires.within c.requires.share
 
 pub returns-clause-shared : goal.returns-clause-shared
 returns-clause-shared c =
     let view = c.args.view.now in
     let slots = c.args.slots.now in
     let within : c.args.access.slot < length view = omega arith in
-    on_view-set_same slot_shared view slots c.args.access.slot c.store.new.self c.index-slots-access.result within c.requires.within
+    on_view-set_same slot_shared view slots c.args.access.slot c.store.new.self c.index-slots-access.result within
+    c.requires.within
     (c.store.ensures.shared
-    ∙ sym (fitting-on_view slot_shared view slots c.args.access.slot c.index-slots-access.result within c.requires.within c.requires.share))
+    ∙ sym (fitting-on_view slot_shared view slots c.args.access.slot c.index-slots-access.result within
+    c.requires.within c.requires.share))
     ∙ c.requires.share
 
 pub returns-clause-taken : goal.returns-clause-taken
-returns-clause-taken c = map-set_same slot_taken c.args.slots.now c.args.access.slot c.store.new.self c.index-slots-access.result c.store.ensures.taken
+returns-clause-taken c =
+    map-set_same slot_taken c.args.slots.now c.args.access.slot c.store.new.self c.index-slots-access.result
+    c.store.ensures.taken
 
 pub returns-clause-bytes : goal.returns-clause-bytes
 returns-clause-bytes c =
@@ -36,7 +41,8 @@ returns-clause-bytes c =
     ∙ ap (set (on_view slot_bytes view slots) c.args.access.slot)
     (is
     ∙ ap (λ p. with_number p c.args.access.offset c.args.access.size c.args.value)
-    (sym (get_or-on_view slot_bytes view slots c.args.access.slot c.index-slots-access.result within c.requires.within))))
+    (sym (get_or-on_view slot_bytes view slots c.args.access.slot c.index-slots-access.result within
+    c.requires.within))))
     c.store.ensures.bytes
 
 pub returns-clause-marks : goal.returns-clause-marks
@@ -55,7 +61,8 @@ returns-clause-bytes_stay c =
     let within : c.args.access.slot < length c.args.view.now = omega arith in
     on_err c.store.result
     (λ is.
-    on_view-set_same slot_bytes c.args.view.now c.args.slots.now c.args.access.slot c.store.new.self c.index-slots-access.result within
+    on_view-set_same slot_bytes c.args.view.now c.args.slots.now c.args.access.slot c.store.new.self
+    c.index-slots-access.result within
     c.requires.within is)
     c.store.ensures.bytes_stay
 

@@ -12,14 +12,16 @@ take-requires-clause-share c =
     let view = c.args.view.now in
     let slots = c.args.slots.now in
     let within : c.args.access.slot < length view = omega arith in
-    fitting-on_view slot_shared view slots c.args.access.slot c.index-slots-access.result within c.requires.within c.requires.share
+    fitting-on_view slot_shared view slots c.args.access.slot c.index-slots-access.result within c.requires.within
+    c.requires.share
 
 pub returns-clause-value : goal.returns-clause-value
 returns-clause-value c =
     let within : c.args.access.slot < length c.args.view.now = omega arith in
     if_ok c.take.result
     (λ n is. is ∙ ap (λ page. number_in page c.args.access.offset c.args.access.size)
-    (sym (get_or-on_view slot_bytes c.args.view.now c.args.slots.now c.args.access.slot c.index-slots-access.result within c.requires.within)))
+    (sym (get_or-on_view slot_bytes c.args.view.now c.args.slots.now c.args.access.slot c.index-slots-access.result
+    within c.requires.within)))
     c.take.ensures.value
 
 pub returns-clause-shared : goal.returns-clause-shared
@@ -27,19 +29,24 @@ returns-clause-shared c =
     let view = c.args.view.now in
     let slots = c.args.slots.now in
     let within : c.args.access.slot < length view = omega arith in
-    on_view-set_same slot_shared view slots c.args.access.slot c.take.new.self c.index-slots-access.result within c.requires.within
+    on_view-set_same slot_shared view slots c.args.access.slot c.take.new.self c.index-slots-access.result within
+    c.requires.within
     (c.take.ensures.shared
-    ∙ sym (fitting-on_view slot_shared view slots c.args.access.slot c.index-slots-access.result within c.requires.within c.requires.share))
+    ∙ sym (fitting-on_view slot_shared view slots c.args.access.slot c.index-slots-access.result within
+    c.requires.within c.requires.share))
     ∙ c.requires.share
 
 pub returns-clause-bytes : goal.returns-clause-bytes
 returns-clause-bytes c =
     let within : c.args.access.slot < length c.args.view.now = omega arith in
-    on_view-set_same slot_bytes c.args.view.now c.args.slots.now c.args.access.slot c.take.new.self c.index-slots-access.result within
+    on_view-set_same slot_bytes c.args.view.now c.args.slots.now c.args.access.slot c.take.new.self
+    c.index-slots-access.result within
     c.requires.within c.take.ensures.bytes
 
 pub returns-clause-marks : goal.returns-clause-marks
-returns-clause-marks c = map-set_same slot_marks c.args.slots.now c.args.access.slot c.take.new.self c.index-slots-access.result c.take.ensures.marks
+returns-clause-marks c =
+    map-set_same slot_marks c.args.slots.now c.args.access.slot c.take.new.self c.index-slots-access.result
+    c.take.ensures.marks
 
 pub returns-clause-taken : goal.returns-clause-taken
 returns-clause-taken c =

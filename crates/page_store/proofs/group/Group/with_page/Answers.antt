@@ -6,4 +6,5 @@ use Rattle.page_store.proofs.group.Group.with_page.Goals as goal
 pub returns : goal.returns
 returns c =
     map-set arc_value c.in_ok-pages.pages.items c.args.place c.args.page
-    ∙ ap (λ pages. set pages c.args.place (arc_value c.args.page)) (c.in_ok-pages.ensures ∙ ap (λ pages. map arc_value pages) c.deref.ensures.value ∙ c.self.view_is)
+    ∙ ap (λ pages. set pages c.args.place (arc_value c.args.page))
+    (c.in_ok-pages.ensures ∙ ap (λ pages. map arc_value pages) c.deref.ensures.value ∙ c.self.view_is)

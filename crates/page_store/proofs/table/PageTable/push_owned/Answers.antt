@@ -21,34 +21,45 @@ pub invariant_of-self-2 : goal.invariant_of-self-2
 invariant_of-self-2 c =
     let t = c.self.inside in
     let more : c.in_ok-count.count ≡ t.count + 1 = (rw c.in_ok-count.ensures.ok_part at c.checked_add.ensures).1 in
-    let next : HasOneMore arc_value t.count c.args.self.now (arc_value c.args.page) c.if-self-eq0.self-inside.groups.items =
+    let next : HasOneMore arc_value t.count c.args.self.now (arc_value c.args.page)
+    c.if-self-eq0.self-inside.groups.items =
     elim c.if-self-eq0.branch [
       | then-self-eq0+in_ok-of_one+in_ok-group+in_ok-push w ↦
           rw (w.self-inside-is, w.in_ok-push.ensures.items)
-          (begun arc_value t.count t.groups.items c.args.self.now w.in_ok-group.group (arc_value c.args.page) c.self.invariant.grouped c.self.view_is w.if-self-eq0.true (w.in_ok-group.ensures.ok ∙ w.in_ok-of_one.ensures))
+          (begun arc_value t.count t.groups.items c.args.self.now w.in_ok-group.group (arc_value c.args.page)
+          c.self.invariant.grouped c.self.view_is w.if-self-eq0.true
+          (w.in_ok-group.ensures.ok ∙ w.in_ok-of_one.ensures))
       | else-self-eq0+in_ok-group-2+in_ok-group-3 w ↦
           rw w.self-inside-is
-          (extended arc_value t.count t.groups.items c.args.self.now w.index.result.now w.in_ok-group-3.group (arc_value c.args.page) c.self.invariant.grouped c.self.view_is (omega (arith, w.if-self-eq0.false)) w.index.ensures
+          (extended arc_value t.count t.groups.items c.args.self.now w.index.result.now w.in_ok-group-3.group
+          (arc_value c.args.page) c.self.invariant.grouped c.self.view_is (omega (arith, w.if-self-eq0.false))
+          w.index.ensures
           (w.in_ok-group-3.ensures.ok ∙ w.in_ok-group-2.ensures ∙ rw w.deref-else-self-eq0.ensures refl))
     ] in
     record {
       grouped = rw more next.grouped;
       pages =
           rw (next.pages, ← c.self.view_is)
-          (All-push (λ (page : List ℕ). length page ≡ 4096) _ (arc_value c.args.page) c.self.invariant.pages (rw (← c.deref.ensures) c.bytes.ensures.whole));
+          (All-push (λ (page : List ℕ). length page ≡ 4096) _ (arc_value c.args.page) c.self.invariant.pages
+          (rw (← c.deref.ensures) c.bytes.ensures.whole));
     }
 
 pub returns-clause-ok : goal.returns-clause-ok
 returns-clause-ok c =
     let t = c.self.inside in
-    let next : HasOneMore arc_value t.count c.args.self.now (arc_value c.args.page) c.if-self-eq0.self-inside.groups.items =
+    let next : HasOneMore arc_value t.count c.args.self.now (arc_value c.args.page)
+    c.if-self-eq0.self-inside.groups.items =
     elim c.if-self-eq0.branch [
       | then-self-eq0+in_ok-of_one+in_ok-group+in_ok-push w ↦
           rw (w.self-inside-is, w.in_ok-push.ensures.items)
-          (begun arc_value t.count t.groups.items c.args.self.now w.in_ok-group.group (arc_value c.args.page) c.self.invariant.grouped c.self.view_is w.if-self-eq0.true (w.in_ok-group.ensures.ok ∙ w.in_ok-of_one.ensures))
+          (begun arc_value t.count t.groups.items c.args.self.now w.in_ok-group.group (arc_value c.args.page)
+          c.self.invariant.grouped c.self.view_is w.if-self-eq0.true
+          (w.in_ok-group.ensures.ok ∙ w.in_ok-of_one.ensures))
       | else-self-eq0+in_ok-group-2+in_ok-group-3 w ↦
           rw w.self-inside-is
-          (extended arc_value t.count t.groups.items c.args.self.now w.index.result.now w.in_ok-group-3.group (arc_value c.args.page) c.self.invariant.grouped c.self.view_is (omega (arith, w.if-self-eq0.false)) w.index.ensures
+          (extended arc_value t.count t.groups.items c.args.self.now w.index.result.now w.in_ok-group-3.group
+          (arc_value c.args.page) c.self.invariant.grouped c.self.view_is (omega (arith, w.if-self-eq0.false))
+          w.index.ensures
           (w.in_ok-group-3.ensures.ok ∙ w.in_ok-group-2.ensures ∙ rw w.deref-else-self-eq0.ensures refl))
     ] in
     next.pages

@@ -7,28 +7,46 @@ use Rattle.page_store.proofs.table.PageTable.replace.Goals as goal
 pub index-requires : goal.index-requires
 index-requires c =
     let t = c.self.inside in
-    omega (arith, group_of arc_value t.count c.args.slot t.groups.items c.args.self.now c.self.invariant.grouped c.self.view_is c.requires, t.groups.ok)
+    omega (
+      arith,
+      group_of arc_value t.count c.args.slot t.groups.items c.args.self.now c.self.invariant.grouped
+          c.self.view_is c.requires,
+      t.groups.ok,
+    )
 
 pub with_page-requires : goal.with_page-requires
 with_page-requires c =
     let t = c.self.inside in
     rw c.deref.ensures
-    (place_of arc_value t.count c.args.slot t.groups.items c.args.self.now c.index.result.now c.self.invariant.grouped c.self.view_is c.requires c.index.ensures)
+    (place_of arc_value t.count c.args.slot t.groups.items c.args.self.now c.index.result.now c.self.invariant.grouped
+    c.self.view_is c.requires c.index.ensures)
 
 pub index_mut-requires : goal.index_mut-requires
 index_mut-requires c =
     let t = c.self.inside in
-    omega (arith, group_of arc_value t.count c.args.slot t.groups.items c.args.self.now c.self.invariant.grouped c.self.view_is c.requires, t.groups.ok)
+    omega (
+      arith,
+      group_of arc_value t.count c.args.slot t.groups.items c.args.self.now c.self.invariant.grouped
+          c.self.view_is c.requires,
+      t.groups.ok,
+    )
 
 pub invariant_of-self : goal.invariant_of-self
 invariant_of-self c =
     let t = c.self.inside in
     let made : arc_value c.in_ok-group-2.group ≡ set (arc_value c.index.result.now) (c.args.slot % 32) c.args.page =
     c.in_ok-group-2.ensures.ok ∙ c.in_ok-group.ensures ∙ rw (c.deref.ensures, c.in_ok-shared.ensures.ok) refl in
-    let pages = pages-set arc_value t.count c.args.slot t.groups.items c.args.self.now c.index.result.now c.in_ok-group-2.group c.args.page c.self.invariant.grouped c.self.view_is c.requires c.index.ensures made in
+    let pages =
+    pages-set arc_value t.count c.args.slot t.groups.items c.args.self.now c.index.result.now c.in_ok-group-2.group
+    c.args.page c.self.invariant.grouped c.self.view_is c.requires c.index.ensures made in
     record {
-      grouped = groups-set arc_value t.count c.args.slot t.groups.items c.args.self.now c.index.result.now c.in_ok-group-2.group c.args.page c.self.invariant.grouped c.self.view_is c.requires c.index.ensures made;
-      pages = rw (pages, ← c.self.view_is) (All-set (λ (page : List ℕ). length page ≡ 4096) _ c.args.slot c.args.page c.bytes.ensures.whole c.self.invariant.pages);
+      grouped =
+          groups-set arc_value t.count c.args.slot t.groups.items c.args.self.now c.index.result.now
+          c.in_ok-group-2.group c.args.page c.self.invariant.grouped c.self.view_is c.requires c.index.ensures made;
+      pages =
+          rw (pages, ← c.self.view_is)
+          (All-set (λ (page : List ℕ). length page ≡ 4096) _ c.args.slot c.args.page c.bytes.ensures.whole
+          c.self.invariant.pages);
     }
 
 pub returns-clause-ok : goal.returns-clause-ok
@@ -36,4 +54,5 @@ returns-clause-ok c =
     let t = c.self.inside in
     let made : arc_value c.in_ok-group-2.group ≡ set (arc_value c.index.result.now) (c.args.slot % 32) c.args.page =
     c.in_ok-group-2.ensures.ok ∙ c.in_ok-group.ensures ∙ rw (c.deref.ensures, c.in_ok-shared.ensures.ok) refl in
-    pages-set arc_value t.count c.args.slot t.groups.items c.args.self.now c.index.result.now c.in_ok-group-2.group c.args.page c.self.invariant.grouped c.self.view_is c.requires c.index.ensures made
+    pages-set arc_value t.count c.args.slot t.groups.items c.args.self.now c.index.result.now c.in_ok-group-2.group
+    c.args.page c.self.invariant.grouped c.self.view_is c.requires c.index.ensures made

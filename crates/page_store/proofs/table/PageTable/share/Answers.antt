@@ -6,16 +6,24 @@ use Rattle.page_store.proofs.table.PageTable.share.Goals as goal
 pub index-requires : goal.index-requires
 index-requires c =
     let t = c.self.inside in
-    omega (arith, group_of arc_value t.count c.args.slot t.groups.items c.args.self.now c.self.invariant.grouped c.self.view_is c.requires, t.groups.ok)
+    omega (
+      arith,
+      group_of arc_value t.count c.args.slot t.groups.items c.args.self.now c.self.invariant.grouped
+          c.self.view_is c.requires,
+      t.groups.ok,
+    )
 
 pub share-requires : goal.share-requires
 share-requires c =
     let t = c.self.inside in
     rw c.deref.ensures
-    (place_of arc_value t.count c.args.slot t.groups.items c.args.self.now c.index.result.now c.self.invariant.grouped c.self.view_is c.requires c.index.ensures)
+    (place_of arc_value t.count c.args.slot t.groups.items c.args.self.now c.index.result.now c.self.invariant.grouped
+    c.self.view_is c.requires c.index.ensures)
 
 pub returns : goal.returns
 returns c =
     let t = c.self.inside in
-    let at = page_at arc_value t.count c.args.slot t.groups.items c.args.self.now c.index.result.now [] c.self.invariant.grouped c.self.view_is c.requires c.index.ensures in
+    let at =
+    page_at arc_value t.count c.args.slot t.groups.items c.args.self.now c.index.result.now [] c.self.invariant.grouped
+    c.self.view_is c.requires c.index.ensures in
     rw (← at, ← c.deref.ensures) c.share.ensures

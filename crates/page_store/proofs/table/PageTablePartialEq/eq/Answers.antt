@@ -16,10 +16,12 @@ loop-slot-preserved c =
 pub returns-then-ne-clause-eq : goal.returns-then-ne-clause-eq
 returns-then-ne-clause-eq c =
     compared false c.args.self.now c.args.other.now
-    (differ c.args.self.now c.args.other.now c.loop-slot.slot c.page.result.now c.page-in-loop-slot.result.now c.page.ensures c.page-in-loop-slot.ensures
+    (differ c.args.self.now c.args.other.now c.loop-slot.slot c.page.result.now c.page-in-loop-slot.result.now
+    c.page.ensures c.page-in-loop-slot.ensures
     (sym (c.ne.ensures) ∙ c.if-ne.true))
 
 pub returns-clause-eq : goal.returns-clause-eq
 returns-clause-eq c =
     let long : length c.args.self.now ≡ length c.args.other.now = omega arith in
-    compared true c.args.self.now c.args.other.now (all_same c.args.self.now c.args.other.now c.loop-slot.slot (omega arith) long c.loop-slot.invariant)
+    compared true c.args.self.now c.args.other.now
+    (all_same c.args.self.now c.args.other.now c.loop-slot.slot (omega arith) long c.loop-slot.invariant)

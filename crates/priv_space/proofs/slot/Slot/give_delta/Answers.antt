@@ -7,11 +7,15 @@ use Rattle.priv_space.proofs.slot.Slot.give_delta.Goals as goal
 pub returns-in-Untouched : goal.returns-in-Untouched
 unfolding slot_marks
 returns-in-Untouched c page =
-    let unstored : is_stored (slot_marks c.args.self.now) ≡ false = ap (λ held. is_stored (marks_in held)) (sym c.in-Untouched.ensures.value) ∙ is_stored-no_marks in
-    part_none c.args.slot (slot_marks c.args.self.now) (slot_bytes page c.args.self.now) c.args.deltas.now.items unstored
+    let unstored : is_stored (slot_marks c.args.self.now) ≡ false =
+    ap (λ held. is_stored (marks_in held)) (sym c.in-Untouched.ensures.value) ∙ is_stored-no_marks in
+    part_none c.args.slot (slot_marks c.args.self.now) (slot_bytes page c.args.self.now) c.args.deltas.now.items
+    unstored
 
 pub returns-in-Shared : goal.returns-in-Shared
 unfolding slot_marks
 returns-in-Shared c page =
-    let unstored : is_stored (slot_marks c.args.self.now) ≡ false = ap (λ held. is_stored (marks_in held)) (sym c.in-Shared.ensures.value) ∙ is_stored-no_marks in
-    part_none c.args.slot (slot_marks c.args.self.now) (slot_bytes page c.args.self.now) c.args.deltas.now.items unstored
+    let unstored : is_stored (slot_marks c.args.self.now) ≡ false =
+    ap (λ held. is_stored (marks_in held)) (sym c.in-Shared.ensures.value) ∙ is_stored-no_marks in
+    part_none c.args.slot (slot_marks c.args.self.now) (slot_bytes page c.args.self.now) c.args.deltas.now.items
+    unstored

@@ -23,19 +23,24 @@ loop-slot-preserved c =
     let pages : length view ≡ length (arc_value c.self.inside.pages) = ap length seen ∙ c.self.invariant.pages in
     let same : length slots ≡ length view = count ∙ c.self.invariant.count ∙ sym pages in
     let below : i < length view = omega arith in
-    let within : i < length (on_view slot_bytes view slots) = omega (arith, length-on_view slot_bytes view slots same) in
+    let within : i < length (on_view slot_bytes view slots) =
+    omega (arith, length-on_view slot_bytes view slots same) in
     let more =
-    delta_step (map slot_marks slots) (on_view slot_bytes view slots) i (slot_marks here) (slot_bytes (page_of view i) here) c.loop-slot.deltas.items
+    delta_step (map slot_marks slots) (on_view slot_bytes view slots) i (slot_marks here)
+    (slot_bytes (page_of view i) here) c.loop-slot.deltas.items
     c.give_delta.new.deltas.items (delta_from 0 (map slot_marks first) (on_view slot_bytes view first))
     (omega (arith, length-map slots slot_marks)) within
     (ap slot_marks c.index_mut.ensures.value ∙ sym (get_or-map slot_marks slots i here [] lt))
-    (ap (slot_bytes (page_of view i)) c.index_mut.ensures.value ∙ sym (get_or-on_view slot_bytes view slots i here below lt))
+    (ap (slot_bytes (page_of view i)) c.index_mut.ensures.value
+    ∙ sym (get_or-on_view slot_bytes view slots i here below lt))
     c.loop-slot.invariant.all (c.in_ok-give_delta.ensures (page_of view i)) in
     record {
       count = length-set slots i after ∙ count;
       all =
-          ap (λ masks. c.give_delta.new.deltas.items ++ delta_from (i + 1) masks (drop (i + 1) (on_view slot_bytes view (set slots i after)))) (drop-map-set slot_marks slots i after)
-          ∙ ap (λ pages. c.give_delta.new.deltas.items ++ delta_from (i + 1) (drop (i + 1) (map slot_marks slots)) pages) (drop-on_view-set slot_bytes view slots i after)
+          ap (λ masks. c.give_delta.new.deltas.items ++ delta_from (i + 1) masks
+          (drop (i + 1) (on_view slot_bytes view (set slots i after)))) (drop-map-set slot_marks slots i after)
+          ∙ ap (λ pages. c.give_delta.new.deltas.items ++ delta_from (i + 1) (drop (i + 1) (map slot_marks slots))
+          pages) (drop-on_view-set slot_bytes view slots i after)
           ∙ more;
     }
 
@@ -49,7 +54,8 @@ new-requires c =
     let all =
     delta_end (map slot_marks slots) (on_view slot_bytes view slots) c.loop-slot.slot c.loop-slot.deltas.items
     (delta_from 0 (map slot_marks first) (on_view slot_bytes view first)) le c.loop-slot.invariant.all in
-    ap (deltas_ascend 0) all ∙ delta_from-ascend 0 0 (map slot_marks first) (on_view slot_bytes view first) (omega arith)
+    ap (deltas_ascend 0) all
+    ∙ delta_from-ascend 0 0 (map slot_marks first) (on_view slot_bytes view first) (omega arith)
 
 pub returns : goal.returns
 returns c =

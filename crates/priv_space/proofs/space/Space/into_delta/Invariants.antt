@@ -9,6 +9,8 @@ invariant-loop-slot l =
     let view = l.fn.self.view in
     record {
       count : length l.slots.items ≡ length l.initial.slots.items;
-      all : l.deltas.items ++ delta_from l.slot (drop l.slot (map slot_marks l.slots.items)) (drop l.slot (on_view slot_bytes view l.slots.items))
+      all :
+          l.deltas.items ++ delta_from l.slot (drop l.slot (map slot_marks l.slots.items))
+          (drop l.slot (on_view slot_bytes view l.slots.items))
           ≡ delta_from 0 (map slot_marks l.initial.slots.items) (on_view slot_bytes view l.initial.slots.items);
     }

@@ -24,7 +24,8 @@ invariant_of-result c =
     let same : length view ≡ length pages = c.requires in
     let seen : length c.deref.result.now ≡ length view = ap (λ v. length v) c.deref.ensures in
     let all : c.loop.counter ≡ length view = omega arith in
-    let untouched_all : slots ≡ replicate (length view) untouched = c.loop.invariant ∙ ap (λ n. replicate n untouched) all in
+    let untouched_all : slots ≡ replicate (length view) untouched =
+    c.loop.invariant ∙ ap (λ n. replicate n untouched) all in
     rw (c.in_ok-try_clone-2.ensures, c.in_ok-try_clone.ensures, untouched_all) record {
       pages = same;
       count = length-replicate (length view) untouched ∙ same;
@@ -34,5 +35,7 @@ invariant_of-result c =
 pub returns : goal.returns
 returns c =
     let seen : length c.deref.result.now ≡ length (arc_value c.args.view.now) = ap (λ v. length v) c.deref.ensures in
-    fresh_space (arc_value c.args.pages.now) (arc_value c.in_ok-try_clone-2.field-0) (arc_value c.args.view.now) (arc_value c.in_ok-try_clone.field-0)
-    c.loop.counter c.loop.slots.items c.in_ok-try_clone-2.ensures c.in_ok-try_clone.ensures c.loop.invariant (omega arith) c.requires
+    fresh_space (arc_value c.args.pages.now) (arc_value c.in_ok-try_clone-2.field-0) (arc_value c.args.view.now)
+    (arc_value c.in_ok-try_clone.field-0)
+    c.loop.counter c.loop.slots.items c.in_ok-try_clone-2.ensures c.in_ok-try_clone.ensures c.loop.invariant
+    (omega arith) c.requires

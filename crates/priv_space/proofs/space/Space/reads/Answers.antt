@@ -16,7 +16,8 @@ loop-slot-preserved c =
     let i = c.loop-slot.slot in
     let here = c.index.result.now in
     let lt : i < length slots = omega arith in
-    read_step flags view i (slot_taken here) (page_of view i) c.loop-slot.pages.items c.add_read.new.pages.items (reads_from 0 flags view)
+    read_step flags view i (slot_taken here) (page_of view i) c.loop-slot.pages.items c.add_read.new.pages.items
+    (reads_from 0 flags view)
     (omega (arith, length-map slots slot_taken))
     (ap slot_taken c.index.ensures ∙ sym (get_or-map slot_taken slots i here false lt))
     refl
@@ -28,5 +29,6 @@ new-requires c =
     let flags = map slot_taken slots in
     let view = arc_value c.self.inside.view in
     let le : length flags ≤ c.loop-slot.slot = omega (arith, length-map slots slot_taken) in
-    let all = read_end flags view c.loop-slot.slot c.loop-slot.pages.items (reads_from 0 flags view) le c.loop-slot.invariant in
+    let all =
+    read_end flags view c.loop-slot.slot c.loop-slot.pages.items (reads_from 0 flags view) le c.loop-slot.invariant in
     ap (reads_ascend 0) all ∙ reads_from-ascend 0 0 flags view (omega arith)

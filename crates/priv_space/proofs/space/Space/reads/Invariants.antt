@@ -7,5 +7,6 @@ use Rattle.priv_space.proofs.space.Space.reads.Given as goal
 
 abbrev pub invariant-loop-slot : goal.invariant-loop-slot
 invariant-loop-slot l =
-    l.pages.items ++ reads_from l.slot (drop l.slot (map slot_taken l.self-inside.slots.items)) (arc_value l.self-inside.view)
+    l.pages.items ++ reads_from l.slot (drop l.slot (map slot_taken l.self-inside.slots.items))
+    (arc_value l.self-inside.view)
     ≡ reads_from 0 (map slot_taken l.self-inside.slots.items) (arc_value l.self-inside.view)

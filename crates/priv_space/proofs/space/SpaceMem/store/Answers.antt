@@ -16,8 +16,10 @@ returns-in-Ok c =
     let view = arc_value c.self.inside.view in
     let slots = c.self.inside.slots.items in
     let after = c.store.new.slots in
-    let items : (with_items c.self.inside.slots after).items ≡ after = with_items_is c.self.inside.slots after (omega arith) in
-    let done = rw (c.deref_mut.ensures.value, c.deref-in-Some.ensures, c.access_to-access.ensures.value) at c.in-Ok.ensures in
+    let items : (with_items c.self.inside.slots after).items ≡ after =
+    with_items_is c.self.inside.slots after (omega arith) in
+    let done =
+    rw (c.deref_mut.ensures.value, c.deref-in-Some.ensures, c.access_to-access.ensures.value) at c.in-Ok.ensures in
     let at_slot : c.in-Some.slot ≡ slot_of pages c.args.address = rw (← c.deref.ensures) c.in-Some.ensures.slot.0 in
     let perm : c.in-Some.perm.0 ≡ permission_at pages c.args.address = rw (← c.deref.ensures) c.in-Some.ensures.perm in
     let under : c.in-Some.slot < length pages = rw (← c.deref.ensures) c.in-Some.ensures.slot.1 in
@@ -28,7 +30,8 @@ returns-in-Ok c =
       ap (allows write_right) (sym perm) ∙ sym c.if-not-writes.ensures,
       stored_space pages view (on_view slot_bytes view slots) (map slot_marks slots) (map slot_taken slots)
           view (on_view slot_bytes view (with_items c.self.inside.slots after).items)
-          (map slot_marks (with_items c.self.inside.slots after).items) (map slot_taken (with_items c.self.inside.slots after).items)
+          (map slot_marks (with_items c.self.inside.slots after).items)
+          (map slot_taken (with_items c.self.inside.slots after).items)
           c.args.address c.args.size c.args.value c.in-Some.slot (c.args.address % 4096)
           refl (ap (map slot_taken) items ∙ done.taken)
           (ap (on_view slot_bytes view) items ∙ done.bytes) (ap (map slot_marks) items ∙ done.marks)

@@ -20,7 +20,8 @@ loop-place-preserved-then-begins_blank_word c =
 pub loop-place-preserved : goal.loop-place-preserved
 loop-place-preserved c = (
   omega arith,
-  merged-step c.args.page.now c.args.written.now c.loop-place.page c.args.self.now c.loop-place.place c.pick.result c.get.result
+  merged-step c.args.page.now c.args.written.now c.loop-place.page c.args.self.now c.loop-place.place c.pick.result
+      c.get.result
       c.loop-place.invariant.1 c.get.ensures c.pick.ensures (omega arith) (omega arith) (omega arith),
 )
 
