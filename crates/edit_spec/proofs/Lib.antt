@@ -3,3 +3,4 @@ pub mod Spelling
 pub mod Saying
 pub mod Lengths
 pub mod Examples
+pub mod Deciding

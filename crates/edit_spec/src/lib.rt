@@ -25,6 +25,11 @@ pub fn list_says_one_thing()
     ensures { (bytes : List ℕ) (a b : Result (List LineEdit) ℕ) → Says bytes a → Says bytes b → a ≡ b }
 {}
 
+/// The bytes of a list of edits say something: edits, or which line is the first bad one.
+pub fn every_list_says_something()
+    ensures { (bytes : List ℕ) → (answer : Result (List LineEdit) ℕ) × Says bytes answer }
+{}
+
 /// No edits change nothing.
 pub fn no_edits_change_nothing()
     ensures { (input : List ℕ) → edited [] input ≡ Ok input }

@@ -11,7 +11,7 @@ use Rattle.edit_spec.proofs.Examples.{five, zero_is_spelled}
 use Rattle.rerun_spec.specs.Inputs.{Makes, AreInputs, BadLine, OutOfRange, IsFirstRefused}
 use Rattle.rerun_spec.specs.Rounds.{with_input, left_by, round_on, rounds_of, IsRepeated}
 use Rattle.rerun_spec.specs.Reports.{shares_of_first, is_exit}
-use Rattle.rerun_spec.proofs.Deciding.{no-byte-odd}
+use Rattle.edit_spec.proofs.Deciding.{no-byte-odd}
 
 -- the byte at offset 1 is 2 already
 same_byte_is_spelled : Spells (codes "set 1 02") (Set 1 (2 ∷ []))

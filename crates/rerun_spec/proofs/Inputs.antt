@@ -8,7 +8,7 @@ use Rattle.edit_spec.specs.Editing.{edited, longest_input}
 use Rattle.edit_spec.proofs.Saying.{one_thing}
 use Rattle.edit_spec.proofs.Lengths.{stays_short}
 use Rattle.rerun_spec.specs.Inputs.{Makes, AreMade, AreInputs, Refusal, BadLine, OutOfRange, Refuses, IsFirstRefused}
-use Rattle.rerun_spec.proofs.Deciding.{lines-say}
+use Rattle.edit_spec.proofs.Deciding.{lines-say}
 
 -- two answers of one list
 same-edits : (list : List ℕ) (a b : List LineEdit) → Says list (Ok a) → Says list (Ok b) → a ≡ b

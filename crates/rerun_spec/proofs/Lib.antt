@@ -1,5 +1,4 @@
 -- The files of lemmas and examples of this crate.
-pub mod Deciding
 pub mod Inputs
 pub mod Rounds
 pub mod Repeating

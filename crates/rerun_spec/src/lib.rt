@@ -4,10 +4,8 @@
 //! round holds of each of them, and that without lists there is the one run from scratch. No code.
 #![tactic(auto)]
 
-ghost use Rattle.std.specs.Prelude.{◌≡◌, ◌≢◌, ◌≤◌, ◌<◌, ℕ, suc, true, List, [], ◌∷◌, ◌++◌, All, length, map, sum, slice_get, Option, Some, None, is_some, Result, ◌⊎◌};
+ghost use Rattle.std.specs.Prelude.{◌≡◌, ◌≢◌, ◌≤◌, ◌<◌, ℕ, suc, true, List, [], ◌∷◌, ◌++◌, All, length, map, sum, slice_get, Option, Some, None, is_some, ◌⊎◌};
 ghost use Rattle.std.specs.List.{range_with_len};
-ghost use Rattle.edit_spec.specs.Edit.{LineEdit};
-ghost use Rattle.edit_spec.specs.Grammar.{Says};
 ghost use Rattle.edit_spec.specs.Editing.{longest_input};
 ghost use Rattle.machine_spec.specs.Setup.{Setup, IsSetup, first, scratch, is_permitted, is_complete, records};
 ghost use Rattle.machine_spec.specs.Choice.{alone};
@@ -23,11 +21,6 @@ ghost use Rattle.worker_spec.specs.OneWorker.{executed_in};
 ghost use Rattle.rerun_spec.specs.Inputs.{Makes, AreInputs, Refusal, Refuses, IsFirstRefused};
 ghost use Rattle.rerun_spec.specs.Rounds.{Round, with_input, made, left_by, rounds_of, schedule_in, entries_of, machine_of, IsRepeated};
 ghost use Rattle.rerun_spec.specs.Reports.{all_executed, shares_of_first, report_of, reports_of, is_exit, exits, all_exit};
-
-/// The bytes of a list of edits say something: edits, or which line is the first bad one.
-pub fn every_list_says_something()
-    ensures { (bytes : List ℕ) → (answer : Result (List LineEdit) ℕ) × Says bytes answer }
-{}
 
 /// For each first input and lists of edits either the inputs of the rounds are there, or a list is the
 /// first that is refused; never both; and there is one answer. The place of the refused list is one of

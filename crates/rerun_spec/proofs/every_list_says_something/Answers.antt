@@ -1,6 +1,0 @@
-use Rattle.edit_spec.specs.Grammar.{lines}
-use Rattle.rerun_spec.proofs.Deciding.{lines-say}
-use Rattle.rerun_spec.proofs.every_list_says_something.Goals as goal
-
-pub returns : goal.returns
-returns c = λ bytes. lines-say (lines bytes)
