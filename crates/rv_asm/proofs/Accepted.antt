@@ -33,7 +33,9 @@ filesz_fits base filesz memsz fits = let few = fits.few in let within = fits.wit
 pub memsz_fits : (base filesz memsz : ℕ) → Fits base filesz memsz → memsz < 2 ^ 32
 memsz_fits base filesz memsz fits = let few = fits.few in omega arith
 
-none_first : (row : Option Refusal) (rest : List (Option Refusal)) → row ≡ None → first_given rest ≡ None → first_given (row ∷ rest) ≡ None
+none_first :
+    (row : Option Refusal) (rest : List (Option Refusal)) → row ≡ None → first_given rest ≡ None
+    → first_given (row ∷ rest) ≡ None
 none_first row rest e r = ap (λ o. first_given (o ∷ rest)) e ∙ r
 
 module _ (base filesz memsz : ℕ) (bytes : List ℕ) where
@@ -76,10 +78,14 @@ module _ (base filesz memsz : ℕ) (bytes : List ℕ) where
 
   module _ (fits : Fits base filesz memsz) where
     header : program_header file 0 ≡ guest_segment base filesz memsz
-    header = header-file base filesz memsz bytes (base_fits base filesz memsz fits) (filesz_fits base filesz memsz fits) (memsz_fits base filesz memsz fits)
+    header =
+        header-file base filesz memsz bytes (base_fits base filesz memsz fits) (filesz_fits base filesz memsz fits)
+        (memsz_fits base filesz memsz fits)
 
     pub one_segment : segments file ≡ guest_segment base filesz memsz ∷ []
-    one_segment = segments-file base filesz memsz bytes (base_fits base filesz memsz fits) (filesz_fits base filesz memsz fits) (memsz_fits base filesz memsz fits) fits.some
+    one_segment =
+        segments-file base filesz memsz bytes (base_fits base filesz memsz fits) (filesz_fits base filesz memsz fits)
+        (memsz_fits base filesz memsz fits) fits.some
 
     dynamic_row : dynamic file ≡ None
     unfolding u16_at
@@ -90,7 +96,8 @@ module _ (base filesz memsz : ℕ) (bytes : List ℕ) where
     short_row size =
         let long = length-file base filesz memsz bytes in
         let within = fits.within in
-        let here : is_short file (guest_segment base filesz memsz) ≡ false = or_from _ _ (le-ltb (length file) (84 + filesz) (omega arith)) (le-ltb memsz filesz within) in
+        let here : is_short file (guest_segment base filesz memsz) ≡ false =
+        or_from _ _ (le-ltb (length file) (84 + filesz) (omega arith)) (le-ltb memsz filesz within) in
         ap (λ h. option_map ShortSegment (cond (is_load h && is_short file h) (Some 0) None)) header
         ∙ ap (λ b. option_map ShortSegment (cond b (Some 0) None)) here
 
@@ -98,14 +105,18 @@ module _ (base filesz memsz : ℕ) (bytes : List ℕ) where
     unfolding u16_at
     outside_row =
         let segment = guest_segment base filesz memsz in
-        let here : is_outside segment ≡ false = or_from _ _ (le-ltb base 0x1000 fits.low) (le-ltb 0xC0000000 (base + memsz) fits.high) in
+        let here : is_outside segment ≡ false =
+        or_from _ _ (le-ltb base 0x1000 fits.low) (le-ltb 0xC0000000 (base + memsz) fits.high) in
         ap (λ h. option_map Outside (cond (is_segment h && is_outside h) (Some 0) None)) header
         ∙ ap (λ b. option_map Outside (cond b (Some 0) None)) (and_right (is_segment segment) (is_outside segment) here)
 
     pages_row : too_many_pages file ≡ None
     pages_row =
         let few = fits.few in
-        let count : length (page_numbers (segments file)) ≡ pages_taken memsz = ap (λ list. length (page_numbers list)) one_segment ∙ ap length (page_numbers-one base filesz memsz fits.page fits.some) ∙ length-range_with_len (base / 4096) (pages_taken memsz) in
+        let count : length (page_numbers (segments file)) ≡ pages_taken memsz =
+        ap (λ list. length (page_numbers list)) one_segment
+        ∙ ap length (page_numbers-one base filesz memsz fits.page fits.some)
+        ∙ length-range_with_len (base / 4096) (pages_taken memsz) in
         ap (λ n. refuse_if (nat_lt 1024 n) (TooManyPages n)) count
         ∙ ap (λ b. refuse_if b (TooManyPages (pages_taken memsz))) (le-ltb 1024 (pages_taken memsz) (omega arith))
 
@@ -113,10 +124,12 @@ module _ (base filesz memsz : ℕ) (bytes : List ℕ) where
     entry_row =
         let page = fits.page in
         let some = fits.some in
-        let test : List ProgramHeader → ℕ → Option Refusal = λ list start. refuse_if (not (start % 4 == 0 && (bit_at (page_permission list (start / 4096)) 0 == 1))) Entry in
+        let test : List ProgramHeader → ℕ → Option Refusal =
+        λ list start. refuse_if (not (start % 4 == 0 && (bit_at (page_permission list (start / 4096)) 0 == 1))) Entry in
         let start : e_entry file ≡ base = entry-file base filesz memsz bytes (base_fits base filesz memsz fits) in
         let aligned : base % 4 ≡ 0 = omega arith in
-        let rights : page_permission (guest_segment base filesz memsz ∷ []) (base / 4096) ≡ 7 = permission-one base filesz memsz (base / 4096) page some (omega arith) (omega arith) in
+        let rights : page_permission (guest_segment base filesz memsz ∷ []) (base / 4096) ≡ 7 =
+        permission-one base filesz memsz (base / 4096) page some (omega arith) (omega arith) in
         (λ i. test (one_segment i) (start i))
         ∙ (λ i. refuse_if (not (aligned i == 0 && (bit_at (rights i) 0 == 1))) Entry)
 

@@ -1,3 +1,4 @@
+-- The files of lemmas of this crate.
 pub mod Headers
 pub mod Pages
 pub mod Accepted

@@ -12,11 +12,19 @@ use Rattle.rv_asm.proofs.Pages.{mapped, pages-one}
 use Rattle.rv_asm.proofs.Accepted.{Fits, base_fits, file, one_segment, accepted}
 
 -- the same addresses, by the segment's bytes and by what stands there
-same_place : (base filesz memsz address : ℕ) → filesz ≤ memsz → ((nat_le base address && nat_lt address (base + memsz)) && nat_lt (address - base) filesz) ≡ (nat_le base address && nat_lt address (base + filesz))
+same_place :
+    (base filesz memsz address : ℕ) → filesz ≤ memsz
+    → ((nat_le base address && nat_lt address (base + memsz)) && nat_lt (address - base) filesz)
+    ≡ (nat_le base address && nat_lt address (base + filesz))
 same_place base filesz memsz address within = grind arith
 
 -- the byte that a search for one segment gives
-found : (base memsz address : ℕ) (bytes : List ℕ) (b : Bool) → segment_byte (file base (length bytes) memsz bytes) (cond b (Some (guest_segment base (length bytes) memsz)) None) address ≡ cond (b && nat_lt (address - base) (length bytes)) (slice_index (file base (length bytes) memsz bytes) (84 + (address - base))) 0
+found :
+    (base memsz address : ℕ) (bytes : List ℕ) (b : Bool)
+    → segment_byte (file base (length bytes) memsz bytes)
+    (cond b (Some (guest_segment base (length bytes) memsz)) None) address
+    ≡ cond (b && nat_lt (address - base) (length bytes))
+    (slice_index (file base (length bytes) memsz bytes) (84 + (address - base))) 0
 found base memsz address bytes true = refl
 found base memsz address bytes false = refl
 
@@ -30,28 +38,35 @@ module _ (base memsz : ℕ) (bytes : List ℕ) (fits : Fits base (length bytes) 
   pub pages-loaded : image_pages whole ≡ guest_pages base memsz
   unfolding image_pages
   pages-loaded =
-      ap (λ (list : List ProgramHeader). map (λ number. mapped number (page_permission list number)) (page_numbers list)) (one_segment base (length bytes) memsz bytes fits)
+      ap (λ (list : List ProgramHeader). map (λ number. mapped number (page_permission list number))
+      (page_numbers list)) (one_segment base (length bytes) memsz bytes fits)
       ∙ pages-one base (length bytes) memsz fits.page fits.some
 
   pub bytes-loaded : (address : ℕ) → image_byte whole address ≡ byte_from base bytes address
   unfolding image_byte
   bytes-loaded address =
       let here = nat_le base address && nat_lt address (base + length bytes) in
-      ap (λ (list : List ProgramHeader). segment_byte whole (find (λ segment. has_address segment address) list) address) (one_segment base (length bytes) memsz bytes fits)
+      ap (λ (list : List ProgramHeader). segment_byte whole (find (λ segment. has_address segment address) list)
+      address) (one_segment base (length bytes) memsz bytes fits)
       ∙ found base memsz address bytes (has_address one address)
-      ∙ ap (λ b. cond b (slice_index whole (84 + (address - base))) 0) (same_place base (length bytes) memsz address fits.within)
+      ∙ ap (λ b. cond b (slice_index whole (84 + (address - base))) 0)
+      (same_place base (length bytes) memsz address fits.within)
       ∙ ap (λ byte. cond here byte 0) (byte-file base (length bytes) memsz bytes (address - base))
 
   pub memory-loaded : image_memory whole ≡ guest_memory base bytes memsz
   unfolding image_memory image_page
-  memory-loaded = λ i. map (λ (page : Mapped). map (λ address. bytes-loaded address i) (range_with_len (4096 * page.number) 4096)) (pages-loaded i)
+  memory-loaded =
+      λ i. map (λ (page : Mapped). map (λ address. bytes-loaded address i) (range_with_len (4096 * page.number) 4096))
+      (pages-loaded i)
 
   pub start-loaded : entry_of whole ≡ base
   unfolding entry_of
   start-loaded = entry-file base (length bytes) memsz bytes (base_fits base (length bytes) memsz fits)
 
 -- a guest's file is a guest
-pub guest-loaded : (base bss : ℕ) (bytes : List ℕ) → Fits base (length bytes) (length bytes + bss) → IsGuest base bytes bss (guest_file base bytes bss)
+pub guest-loaded :
+    (base bss : ℕ) (bytes : List ℕ) → Fits base (length bytes) (length bytes + bss)
+    → IsGuest base bytes bss (guest_file base bytes bss)
 unfolding guest_file
 guest-loaded base bss bytes fits =
     let memsz = length bytes + bss in

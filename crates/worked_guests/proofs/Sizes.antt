@@ -11,10 +11,13 @@ one_size (Word word) = (omega arith, omega arith)
 one_size (Byte byte) = (omega arith, omega arith)
 
 -- items take at least a byte each, and at most four
-pub sizes : (items : List Item) → (length items ≤ length (items_bytes items)) × (length (items_bytes items) ≤ 4 * length items)
+pub sizes :
+    (items : List Item)
+    → (length items ≤ length (items_bytes items)) × (length (items_bytes items) ≤ 4 * length items)
 sizes [] = (omega arith, omega arith)
 sizes (item ∷ items) =
     let one = one_size item in
     let rest = sizes items in
-    let both : length (items_bytes (item ∷ items)) ≡ length (item_bytes item) + length (items_bytes items) = length-append (item_bytes item) (items_bytes items) in
+    let both : length (items_bytes (item ∷ items)) ≡ length (item_bytes item) + length (items_bytes items) =
+    length-append (item_bytes item) (items_bytes items) in
     (omega (arith, one.0, rest.0, both), omega (arith, one.1, rest.1, both))

@@ -14,5 +14,14 @@ returns-clause-file c = grind arith
 pub returns-clause-guest : goal.returns-clause-guest
 returns-clause-guest c =
     let bytes = items_bytes c.args.items.now in
-    let fits : Fits c.args.base (length bytes) (length bytes + c.args.bss) = record { page = c.requires.page; low = c.requires.low; high = c.requires.high; some = c.requires.some; few = (let few = c.requires.few in omega arith); within = omega arith } in
-    subst (IsGuest c.args.base bytes c.args.bss) (sym (returns-clause-file c)) (guest-loaded c.args.base c.args.bss bytes fits)
+    let fits : Fits c.args.base (length bytes) (length bytes + c.args.bss) =
+    record {
+      page = c.requires.page;
+      low = c.requires.low;
+      high = c.requires.high;
+      some = c.requires.some;
+      few = (let few = c.requires.few in omega arith);
+      within = omega arith;
+    } in
+    subst (IsGuest c.args.base bytes c.args.bss) (sym (returns-clause-file c))
+    (guest-loaded c.args.base c.args.bss bytes fits)
