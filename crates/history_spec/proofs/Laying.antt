@@ -1,20 +1,15 @@
 -- What holds of a machine after any record that fits was laid, true or not.
 use Rattle.std.proofs.Common.{◌≡◌, ◌≢◌, ℕ, zero, suc, Bool, true, false, List, [], ◌∷◌, is_none, length, set, refl, ap, ◌∙◌}
-use Rattle.std.proofs.lemmas.List.{length-set, get_or-set_other}
+use Rattle.std.proofs.lemmas.List.{length-set}
 use Rattle.std.proofs.lemmas.List.Elements.{recursion_from_All, All-from_recursion}
 use Rattle.std.specs.List.{AllByRecursion}
 use Rattle.memory_spec.specs.Pages.{Mapped, Memory, IsMemory, page_of}
-use Rattle.thunk_spec.specs.Put.{is_readable}
 use Rattle.record_spec.specs.Delta.{PageDelta, spread, masked}
 use Rattle.record_spec.specs.Record.{Record, put_of, fits_at}
-use Rattle.machine_spec.specs.declared.states.Asked.{Asked}
-use Rattle.machine_spec.specs.declared.states.Asked.TheVariants.{Asks, Stops}
-use Rattle.machine_spec.specs.Machine.{Hart, Machine, hart_of, nobody, is_ready}
-use Rattle.machine_spec.specs.Step.{written, asked, done_as_asked, finished, lay, fits, can_step}
-use Rattle.machine_spec.specs.Whole.{IsTied, IsWhole}
-use Rattle.machine_spec.proofs.Harts.{status-set}
-use Rattle.machine_spec.proofs.Tied.{tied-written, stays-called}
-use Rattle.machine_spec.proofs.Steps.{finished-whole}
+use Rattle.machine_spec.specs.Machine.{Machine, hart_of, is_ready}
+use Rattle.machine_spec.specs.Step.{lay, fits, can_step}
+use Rattle.machine_spec.specs.Whole.{IsWhole}
+use Rattle.machine_spec.proofs.Steps.{finished-whole, finished-stays}
 use Rattle.machine_spec.proofs.Alone.{finished-limit}
 use Rattle.history_spec.proofs.Scratch.{and-left, and-right, finished-frame}
 
@@ -76,40 +71,14 @@ lay-whole m r whole can =
     (put_of m.frame.map (hart_of m r.thread).view r.kept) whole can
     (IsMemory-masked m.frame.map m.memory r.kept.delta whole.memory)
 
-done-stays :
-    (m : Machine) (t u : ℕ) (a : Asked)
-    → IsTied m.objects m.harts → is_ready (hart_of m t).status ≡ true
-    → u ≢ t → is_ready (hart_of m u).status ≡ true
-    → hart_of (done_as_asked m t a) u ≡ hart_of m u
-done-stays m t u (Asks call) tied ready other ready_u =
-    stays-called (is_readable m.frame.map) m.objects m.harts t call m.memory u tied ready other ready_u
-done-stays m t u (Stops e) tied ready other ready_u = refl
-
 -- a laid record leaves every other ready thread as it is
 pub lay-stays :
     (m : Machine) (r : Record) (u : ℕ)
     → IsWhole m → can_step m r.thread ≡ true
     → u ≢ r.thread → is_ready (hart_of m u).status ≡ true
     → hart_of (lay m r) u ≡ hart_of m u
-unfolding lay finished
+unfolding lay
 lay-stays m r u whole can other ready_u =
-    let h : Hart =
-    record {
-      view = (hart_of m r.thread).view;
-      regs = r.kept.finish;
-      number = suc (hart_of m r.thread).number;
-      status = (hart_of m r.thread).status;
-    } in
-    let ready : is_ready (hart_of m r.thread).status ≡ true =
-    and-right (is_none m.ending) (is_ready (hart_of m r.thread).status) can in
-    let same : hart_of (written m r.thread (masked m.memory r.kept.delta) r.kept.finish
-    (put_of m.frame.map (hart_of m r.thread).view r.kept)) u ≡ hart_of m u =
-    get_or-set_other m.harts r.thread u h nobody other in
-    done-stays (written m r.thread (masked m.memory r.kept.delta) r.kept.finish
-    (put_of m.frame.map (hart_of m r.thread).view r.kept)) r.thread u
-    (asked r.thread r.kept.end r.kept.finish)
-    (tied-written m.objects m.harts r.thread h refl whole.tied)
-    (ap is_ready (status-set m.harts r.thread r.thread h refl) ∙ ready)
-    other
-    (ap (λ (x : Hart). is_ready x.status) same ∙ ready_u)
-    ∙ same
+    finished-stays m r.thread u (masked m.memory r.kept.delta) r.kept.finish r.kept.end
+    (put_of m.frame.map (hart_of m r.thread).view r.kept) whole.tied
+    (and-right (is_none m.ending) (is_ready (hart_of m r.thread).status) can) other ready_u

@@ -17,7 +17,7 @@ use Rattle.machine_spec.specs.declared.states.Asked.{Asked}
 use Rattle.machine_spec.specs.declared.states.Asked.TheVariants.{Asks, Stops}
 use Rattle.machine_spec.specs.Machine.{Hart, Machine, hart_in, hart_of, nobody, is_ready}
 use Rattle.machine_spec.specs.Performing.{returned, fated, woken, first_hart, with_created, settled}
-use Rattle.machine_spec.specs.Step.{written, asked, done_as_asked, finished, step, lay, can_step}
+use Rattle.machine_spec.specs.Step.{advanced, written, asked, done_as_asked, finished, step, lay, can_step}
 use Rattle.machine_spec.specs.Schedule.{scratch_from, is_permitted_from, records_from}
 use Rattle.machine_spec.specs.Setup.{Setup, first}
 use Rattle.machine_spec.proofs.Alone.{finished-steps}
@@ -93,25 +93,13 @@ number-written m t memory regs put u ready =
           let below : t < length m.harts = ready-below m.harts t ready in
           let here : (hart_of (written m t memory regs put) t).number ≡ suc (hart_of m t).number =
           ap (λ (x : Hart). x.number)
-          (get_or-set_same m.harts t
-          (record {
-            view = (hart_of m t).view;
-            regs = regs;
-            number = suc (hart_of m t).number;
-            status = (hart_of m t).status;
-          }) nobody below) in
+          (get_or-set_same m.harts t (advanced (hart_of m t) regs) nobody below) in
           let is : eqb t t ≡ true = eq-eqb t t refl in
           rw (same, is) (here ∙ omega arith)
       | inr other ↦
           let here : (hart_of (written m t memory regs put) u).number ≡ (hart_of m u).number =
           ap (λ (x : Hart). x.number)
-          (get_or-set_other m.harts t u
-          (record {
-            view = (hart_of m t).view;
-            regs = regs;
-            number = suc (hart_of m t).number;
-            status = (hart_of m t).status;
-          }) nobody other) in
+          (get_or-set_other m.harts t u (advanced (hart_of m t) regs) nobody other) in
           let is : eqb t u ≡ false = grind (arith, nat_tests) in
           rw is (here ∙ omega arith)
     ]

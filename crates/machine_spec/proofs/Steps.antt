@@ -63,7 +63,7 @@ done-stays m t u (Asks call) tied ready other ready_u =
     stays-called (is_readable m.frame.map) m.objects m.harts t call m.memory u tied ready other ready_u
 done-stays m t u (Stops e) tied ready other ready_u = refl
 
-finished-stays :
+pub finished-stays :
     (m : Machine) (t u : ℕ) (memory : Memory) (regs : Registers) (e : ThunkEnd) (put : List ℕ)
     → IsTied m.objects m.harts → is_ready (hart_of m t).status ≡ true
     → u ≢ t → is_ready (hart_of m u).status ≡ true

@@ -1,5 +1,5 @@
 -- What holds of a round holds after each event.
-use Rattle.std.proofs.Common.{◌≡◌, ◌≢◌, ℕ, zero, suc, Bool, true, false, not, cond, ◌&&◌, ◌||◌, List, [], ◌∷◌, ◌++◌, length, replicate, get_or, set, Option, Some, None, is_some, is_none, unwrap_or, refl, ap, sym, ◌∙◌, inl, inr}
+use Rattle.std.proofs.Common.{◌≡◌, ◌≢◌, ℕ, zero, suc, Bool, true, false, not, cond, min, ◌&&◌, ◌||◌, List, [], ◌∷◌, ◌++◌, length, replicate, get_or, set, Option, Some, None, is_some, is_none, unwrap_or, refl, ap, sym, ◌∙◌, inl, inr}
 use Rattle.std.proofs.lemmas.Bool.{cases_eq}
 use Rattle.std.proofs.lemmas.List.{get_or-set_other, length-set}
 use Rattle.record_spec.specs.Record.{Record}
@@ -157,6 +157,19 @@ held-same w v u past same held =
           ∙ held.unfit;
     }
 
+-- who is out, what was discarded and whether the round was stopped are no part of what is from scratch
+aside-scratch :
+    (w : RoundState) (out : List Bool) (discarded : ℕ) (stopped : Bool) → IsFromScratch w
+    → IsFromScratch (record w { out = out; discarded = discarded; stopped = stopped })
+aside-scratch w out discarded stopped s =
+    record {
+      machine = s.machine;
+      permitted = s.permitted;
+      records = s.records;
+      sources = s.sources;
+      marks = s.marks;
+    }
+
 -- each event
 
 take-kept : (w : RoundState) (t : ℕ) (b : Bool) → can_take w t ≡ b → IsInOrder w → IsInOrder (cond b (taken w t) w)
@@ -179,15 +192,7 @@ take-kept w t true is kept =
                 let before : IsHeld w u = kept.held u (sym (get_or-set_other w.out t u true false other) ∙ out) in
                 record { ready = before.ready; unfit = before.unfit }
           ];
-      scratch = λ sound.
-          let s : IsFromScratch w = kept.scratch sound in
-          record {
-            machine = s.machine;
-            permitted = s.permitted;
-            records = s.records;
-            sources = s.sources;
-            marks = s.marks;
-          };
+      scratch = λ sound. aside-scratch w (set w.out t true) w.discarded w.stopped (kept.scratch sound);
     }
 
 reuse-some :
@@ -240,14 +245,7 @@ given_back-kept w t kept =
           let before : IsHeld w u = kept.held u (still_out w.out t u out).1 in
           record { ready = before.ready; unfit = before.unfit };
       scratch = λ sound.
-          let s : IsFromScratch w = kept.scratch sound in
-          record {
-            machine = s.machine;
-            permitted = s.permitted;
-            records = s.records;
-            sources = s.sources;
-            marks = s.marks;
-          };
+          aside-scratch w (set w.out t false) (min (suc w.discarded) 18446744073709551615) w.stopped (kept.scratch sound);
     }
 
 committed-kept :
@@ -290,15 +288,7 @@ stop-kept w kept =
       held = λ u out.
           let before : IsHeld w u = kept.held u out in
           record { ready = before.ready; unfit = before.unfit };
-      scratch = λ sound.
-          let s : IsFromScratch w = kept.scratch sound in
-          record {
-            machine = s.machine;
-            permitted = s.permitted;
-            records = s.records;
-            sources = s.sources;
-            marks = s.marks;
-          };
+      scratch = λ sound. aside-scratch w w.out w.discarded true (kept.scratch sound);
     }
 
 -- what holds of a round holds after an event

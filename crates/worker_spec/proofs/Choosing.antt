@@ -9,15 +9,12 @@ use Rattle.history_spec.specs.History.{History}
 use Rattle.round_spec.specs.Rounds.{nobody_out, is_out_of, is_free_in}
 use Rattle.round_spec.specs.Due.{place_in, is_due}
 use Rattle.round_spec.specs.Choice.{free_threads, first_of, least_by, best, is_any_out, eligible, choice_by}
-use Rattle.worker_spec.proofs.Lists.{some-filter, any-range, first-all, all-filter, all-pass, all-unfiltered, range-at, least-under, some-least_by, get-false}
-
-pub out-nobody : (v : ℕ) → is_out_of nobody_out v ≡ false
-unfolding nobody_out
-out-nobody v = get-false 32 v
+use Rattle.round_spec.proofs.Happening.{nobody_out-none}
+use Rattle.worker_spec.proofs.Lists.{some-filter, any-range, first-all, all-filter, all-pass, all-unfiltered, range-at, least-under, some-least_by}
 
 -- with nobody out, who is ready is free
 pub free-ready : (m : Machine) (v : ℕ) → is_free_in m nobody_out v ≡ is_ready (hart_of m v).status
-free-ready m v = rw (out-nobody v) (right (is_ready (hart_of m v).status))
+free-ready m v = rw (nobody_out-none v) (right (is_ready (hart_of m v).status))
   where
     right : (a : Bool) → (a && true) ≡ a
     right true = refl

@@ -105,11 +105,6 @@ some-least_by f [] = refl
 some-least_by f (x ∷ xs) =
     some-filter (λ t. eqb (f t) (least (map f (x ∷ xs)))) (x ∷ xs) ∙ least-there f x xs (least (map f (x ∷ xs))) refl
 
-pub get-false : (n v : ℕ) → get_or (replicate n false) v false ≡ false
-get-false zero v = refl
-get-false (suc n) zero = refl
-get-false (suc n) (suc v) = get-false n v
-
 -- a flag that is raised is up, and lowered again all are down
 pub get-raised : (n v : ℕ) → v < n → get_or (set (replicate n false) v true) v false ≡ true
 get-raised zero v below = absurd (omega arith)

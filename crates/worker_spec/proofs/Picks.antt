@@ -20,9 +20,10 @@ use Rattle.round_spec.specs.Rounds.{RoundState, nobody_out, happens}
 use Rattle.round_spec.specs.Choice.{choice_by, pick_of}
 use Rattle.round_spec.specs.Alone.{guided_from, after_pick}
 use Rattle.round_spec.proofs.Fits.{marked-more}
+use Rattle.round_spec.proofs.Happening.{nobody_out-none}
 use Rattle.worker_spec.specs.OneWorker.{made_by}
 use Rattle.worker_spec.proofs.Lists.{get-raised, set-lowered}
-use Rattle.worker_spec.proofs.Choosing.{out-nobody, choice_by-some, choice_by-chosen}
+use Rattle.worker_spec.proofs.Choosing.{choice_by-some, choice_by-chosen}
 
 -- marks
 
@@ -63,7 +64,7 @@ pub after-reuse :
     → after_pick (lone_state setup past m schedule rs) (pick.Reuse t)
     ≡ lone_state setup past (lay m r) (schedule ++ record { thread = t; reused = true } ∷ []) (rs ++ r ∷ [])
 unfolding happens
-after-reuse setup past m schedule rs t r none ready there fit = rw (none, ready, out-nobody t, there, fit) refl
+after-reuse setup past m schedule rs t r none ready there fit = rw (none, ready, nobody_out-none t, there, fit) refl
 
 raised : (t : ℕ) → t < 32 → get_or (set nobody_out t true) t false ≡ true
 unfolding nobody_out
@@ -82,7 +83,7 @@ pub after-run :
     (rs ++ record_of m t ∷ [])
 unfolding happens
 after-run setup past m schedule rs t none ready below unfit =
-    rw (none, ready, out-nobody t, unfit, raised t below, lowered t, none) refl
+    rw (none, ready, nobody_out-none t, unfit, raised t below, lowered t, none) refl
 
 pub pick-over :
     (setup : Setup) (past : Option History) (m : Machine) (schedule : List Entry) (rs : List Record)

@@ -28,8 +28,8 @@ use Rattle.round_spec.specs.Instructions.{executed_instructions}
 use Rattle.round_spec.specs.Unedited.{is_all_reused, all_reused_of, OnlyReuses}
 use Rattle.round_spec.proofs.Conditions.{happens-commit_not, happens-give_back_not, happens-stop}
 use Rattle.round_spec.proofs.Fits.{threads-more}
+use Rattle.round_spec.proofs.Happening.{nobody_out-none}
 use Rattle.worker_spec.specs.Replaying.{IsReplaying, IsNextStep, goes_on_by}
-use Rattle.worker_spec.proofs.Choosing.{out-nobody}
 use Rattle.worker_spec.proofs.Numbers.{can_step-ready}
 use Rattle.worker_spec.proofs.Following.{IsNext, honest-next, honest-whole, honest-end, next-place, other-place, next-due, next-found, next-fits, next-chosen, can_step-none}
 use Rattle.worker_spec.proofs.Unedited.{reused-all, reused-instructions, reused-executed, unedited-begun}
@@ -136,7 +136,7 @@ unfolding happens
 reuse-happens w t r going ready inside there fit = rw (going, ready, inside, there, fit) refl
 
 replay-out : (h : History) (w : RoundState) (t : ℕ) → IsReplaying h w → is_out w t ≡ false
-replay-out h w t replays = ap (λ (out : List Bool). is_out_of out t) replays.out ∙ out-nobody t
+replay-out h w t replays = ap (λ (out : List Bool). is_out_of out t) replays.out ∙ nobody_out-none t
 
 replay-pick :
     (h : History) (w : RoundState) (t : ℕ) (ys : List ℕ)
