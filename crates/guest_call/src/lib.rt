@@ -14,7 +14,7 @@ ghost use Rattle.guest_call.specs.Answers.{answer_eperm, answer_esrch, answer_ea
 
 mod thread_number;
 
-pub use thread_number::{THREADS, Thread};
+pub use thread_number::{THREADS, Thread, threads_are_few};
 
 /// How many objects there are of each kind.
 pub const OBJECTS: usize = 64;

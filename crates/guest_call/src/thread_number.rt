@@ -27,6 +27,15 @@ impl Model for Thread {
     ghost invariant = { λ t. t.number < THREADS };
 }
 
+impl Default for Thread {
+    /// The first thread of a run.
+    fn default() -> Thread
+        ensures { result ≡ 0 }
+    {
+        Thread { number: 0 }
+    }
+}
+
 impl Thread {
     /// The thread of this number. None exactly where the number is above 31.
     pub fn new(number: u8) -> Option<Thread>
@@ -41,9 +50,15 @@ impl Thread {
 
     /// The thread's number.
     pub fn number(self) -> u8
-        ensures number { result ≡ self }
-        ensures few { self < THREADS }
+        ensures { result ≡ self }
     {
         self.number
     }
+}
+
+/// The number of a thread is below 32.
+pub fn threads_are_few(thread: Thread)
+    ensures { thread < THREADS }
+{
+    let _ = &thread.number;
 }

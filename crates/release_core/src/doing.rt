@@ -86,7 +86,10 @@ fn effect_of(map: &PageMap, objects: &mut Objects, t: u8, call: Call) -> Effect
 {
     match call {
         Call::Put(address, count) => Effect::answers(put_answer(map, address, count)),
-        other => objects.act(t, other),
+        other => match objects.thread(t) {
+            Some(thread) => objects.act(thread, other),
+            None => unreachable!(),
+        },
     }
 }
 

@@ -112,7 +112,7 @@ fn wake(
     ensures count { vec_len views.old ≤ vec_len views.new + length threads.now }
 {
     for i in 0..threads.len() {
-        let thread = usize::from(threads.at(i));
+        let thread = usize::from(threads.at(i).number());
         let view = next_view(memory, views);
         if thread < harts.len() {
             let hart = &mut harts[thread];

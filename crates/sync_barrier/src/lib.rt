@@ -1,25 +1,26 @@
-//! The 64 barriers of a guest, at which threads wait until as many have come as the barrier counts. No call takes memory.
+//! The 64 barriers of a guest, at which threads wait until as many have come as the barrier counts. No call takes
+//! memory.
 #![tactic(auto)]
 
-ghost use Rattle.std.specs.Prelude.{◌≡◌, ◌==◌, ◌<◌, length, slice_index_or, not};
-ghost use Rattle.std.specs.List.{list_any};
+ghost use Rattle.std.specs.Prelude.{◌≡◌, ◌<◌, length};
 ghost use Rattle.guest_call.specs.Queues.{waits};
-ghost use Rattle.guest_call.specs.Tables.{at_cell};
+ghost use Rattle.guest_call.specs.Tables as tables;
 ghost use Rattle.guest_call.specs.Barriers.{uninitialised, barrier_queue, barrier_init_row, barrier_init_at, barrier_wait_row};
 ghost use Rattle.guest_call.specs.Objects.{all_uninitialised};
 
 use call_effect::Effect;
-use guest_call::{EBUSY, EINVAL, Fate};
+use guest_call::{EBUSY, EINVAL, Fate, OBJECTS, THREADS, Thread, threads_are_few};
+use object_table::{all_of, at_cell};
 use std::marker::Model;
-use std::{array, mem};
+use std::mem;
 use wait_queue::Queue;
 
-/// The answer to the thread that lets the others go (POSIX.1-2017, pthread_barrier_wait, PTHREAD_BARRIER_SERIAL_THREAD; the
-/// number is this project's own).
+/// The answer to the thread that lets the others go (POSIX.1-2017, pthread_barrier_wait,
+/// PTHREAD_BARRIER_SERIAL_THREAD).
 const SERIAL_THREAD: u32 = 1;
 
 /// The largest count of a barrier: as many as there can be threads.
-const LARGEST_COUNT: u32 = 32;
+pub const LARGEST_COUNT: u32 = THREADS as u32;
 
 /// One barrier: how many threads it lets go together, once it is initialised, and who waits at it.
 #[derive(Drop)]
@@ -59,8 +60,8 @@ impl Cell {
     }
 
     /// Thread `t` comes to the barrier.
-    fn wait(&mut self, t: u8) -> Effect
-        requires { length self.old.queue < 32 }
+    fn wait(&mut self, t: Thread) -> Effect
+        requires { length self.old.queue < THREADS }
         ensures { (result, self.new) ≡ barrier_wait_row t self.old }
     {
         match self.count {
@@ -77,55 +78,10 @@ impl Cell {
     }
 }
 
-/// 64 barriers that aren't initialised.
-fn uninitialised_cells() -> [Cell; 64]
-    ensures { result ≡ all_uninitialised }
-{
-    array::from_fn(
-        |_i: usize| -> Cell
-            ensures { result ≡ uninitialised }
-        { Cell::uninitialised() },
-    )
-}
-
-/// A thread gives the barrier of number `b` the count `n`.
-fn init_in(cells: &mut [Cell; 64], b: u32, n: u32) -> Effect
-    ensures { (result, cells.new) ≡ barrier_init_at n cells.old b }
-{
-    if b >= 64 || n == 0 || n > LARGEST_COUNT {
-        return Effect::answers(EINVAL);
-    }
-    let cell = &mut cells[b as usize];
-    cell.init(n)
-}
-
-/// Thread `t` comes to the barrier of number `b`.
-fn wait_in(cells: &mut [Cell; 64], t: u8, b: u32) -> Effect
-    requires { b < 64 → length (slice_index_or cells.old b uninitialised).queue < 32 }
-    ensures { (result, cells.new) ≡ at_cell uninitialised (barrier_wait_row t) cells.old b }
-{
-    if b >= 64 {
-        return Effect::answers(EINVAL);
-    }
-    let cell = &mut cells[b as usize];
-    cell.wait(t)
-}
-
-/// Whether thread `t` waits at a barrier.
-fn is_waiting_in(cells: &[Cell; 64], t: u8) -> bool
-    ensures { result ≡ list_any (λ c. list_any (λ u. u == t) (barrier_queue c)) cells.now }
-{
-    cells.iter().any(
-        |cell: &Cell| -> bool
-            ensures { result ≡ list_any (λ u. u == t) (barrier_queue cell.now) }
-        { cell.queue.threads().iter().any(|u: &u8| *u == t) },
-    )
-}
-
 /// The barriers of a guest, numbered from 0 to 63. No thread waits in more than one place of them.
 #[derive(Drop)]
 pub struct Barriers {
-    cells: [Cell; 64],
+    cells: [Cell; OBJECTS],
 }
 
 impl Model for Barriers {
@@ -146,36 +102,38 @@ impl Barriers {
         ensures { result ≡ all_uninitialised }
     {
         Barriers {
-            cells: uninitialised_cells(),
+            cells: all_of(Cell::uninitialised),
         }
     }
 
-    /// `barrier_init(b, n)`, called by thread `t`: the count becomes `n`, and the answer is 0. EINVAL: the number is above
-    /// 63, or `n` is 0 or above 32; EBUSY: somebody waits (POSIX.1-2017, pthread_barrier_init).
-    pub fn init(&mut self, t: u8, b: u32, n: u32) -> Effect
-        requires thread { t < 32 }
-        requires free { waits barrier_queue self.old t ≡ 0 }
+    /// `barrier_init(b, n)`, called by a thread: the count becomes `n`, and the answer is 0. EINVAL: the number is
+    /// above 63, or `n` is 0 or above 32; EBUSY: somebody waits (POSIX.1-2017, pthread_barrier_init).
+    pub fn init(&mut self, _t: Thread, b: u32, n: u32) -> Effect
         ensures { (result, self.new) ≡ barrier_init_at n self.old b }
     {
-        init_in(&mut self.cells, b, n)
+        if n == 0 || n > LARGEST_COUNT {
+            return Effect::answers(EINVAL);
+        }
+        at_cell(&mut self.cells, b, |cell: &mut Cell| cell.init(n))
     }
 
-    /// `barrier_wait(b)`, called by thread `t`: where `t` is the last of those that the barrier counts, its answer is 1
-    /// (PTHREAD_BARRIER_SERIAL_THREAD), and all who wait are woken, each with the answer 0; else `t` waits at the end of
-    /// the queue. EINVAL: the number is above 63, or the barrier isn't initialised (POSIX.1-2017, pthread_barrier_wait).
-    pub fn wait(&mut self, t: u8, b: u32) -> Effect
-        requires thread { t < 32 }
+    /// `barrier_wait(b)`, called by thread `t`: where `t` is the last of those that the barrier counts, its answer is
+    /// 1 (PTHREAD_BARRIER_SERIAL_THREAD), and all who wait are woken, each with the answer 0; else `t` waits at the
+    /// end of the queue. EINVAL: the number is above 63, or the barrier isn't initialised (POSIX.1-2017,
+    /// pthread_barrier_wait).
+    pub fn wait(&mut self, t: Thread, b: u32) -> Effect
         requires free { waits barrier_queue self.old t ≡ 0 }
-        ensures { (result, self.new) ≡ at_cell uninitialised (barrier_wait_row t) self.old b }
+        ensures { (result, self.new) ≡ tables.at_cell uninitialised (barrier_wait_row t) self.old b }
     {
-        wait_in(&mut self.cells, t, b)
-    }
-
-    /// Whether thread `t` waits at a barrier.
-    pub fn is_waiting(&self, t: u8) -> bool
-        ensures { result ≡ not (waits barrier_queue self.now t == 0) }
-    {
-        is_waiting_in(&self.cells, t)
+        threads_are_few(t);
+        at_cell(
+            &mut self.cells,
+            b,
+            |cell: &mut Cell| -> Effect
+                requires { length cell.old.queue < THREADS }
+                ensures { (result, cell.new) ≡ barrier_wait_row t cell.old }
+            { cell.wait(t) },
+        )
     }
 }
 

@@ -2,8 +2,7 @@
 //! the caller's to do. No call takes memory.
 #![tactic(auto)]
 
-ghost use Rattle.std.specs.Prelude.{◌≡◌, ◌==◌, ℕ, ◌<◌, ◌≤◌, length, slice_index_or, not};
-ghost use Rattle.std.specs.List.{list_any};
+ghost use Rattle.std.specs.Prelude.{◌≡◌, ℕ, ◌<◌, ◌≤◌, length, slice_index_or};
 ghost use Rattle.std.specs.Option.{IfSome};
 ghost use Rattle.guest_call.specs.Queues.{places, waits};
 ghost use Rattle.guest_call.specs.Conditions.{unawaited, condition_queue, signal_leaving, broadcast_leaving};
@@ -11,8 +10,10 @@ ghost use Rattle.guest_call.specs.Objects.{all_unawaited};
 ghost use Rattle.sync_cond.specs.ConditionTable.{wait_row, wait_at, awaited_with};
 ghost use Rattle.sync_cond.specs.Leaving.{leaving_of, leaving_at};
 
+use guest_call::{OBJECTS, THREADS, Thread, threads_are_few};
+use object_table::{all_of, row_at};
 use std::marker::Model;
-use std::{array, mem};
+use std::mem;
 use wait_queue::Queue;
 
 /// The threads that leave a condition, in order, and the number of the mutex to which they come.
@@ -51,8 +52,8 @@ impl Cell {
     }
 
     /// Thread `t`, which owns mutex `m`, wants to wait. Gives whether it does.
-    fn wait(&mut self, t: u8, m: u32) -> bool
-        requires { length self.old.queue < 32 }
+    fn wait(&mut self, t: Thread, m: u32) -> bool
+        requires { length self.old.queue < THREADS }
         ensures { (result, self.new) ≡ wait_row t m self.old }
     {
         if !self.queue.is_empty() && self.mutex != m {
@@ -89,65 +90,11 @@ impl Cell {
     }
 }
 
-/// 64 conditions for which nobody waits.
-fn unawaited_cells() -> [Cell; 64]
-    ensures { result ≡ all_unawaited }
-{
-    array::from_fn(
-        |_i: usize| -> Cell
-            ensures { result ≡ unawaited }
-        { Cell::unawaited() },
-    )
-}
-
-/// Thread `t`, which owns mutex `m`, wants to wait for the condition of number `c`.
-fn wait_in(cells: &mut [Cell; 64], t: u8, c: u32, m: u32) -> bool
-    requires condition { c < 64 }
-    requires room { length (slice_index_or cells.old c unawaited).queue < 32 }
-    ensures { (result, cells.new) ≡ wait_at t m cells.old c }
-{
-    let cell = &mut cells[c as usize];
-    cell.wait(t, m)
-}
-
-/// The first who waits for the condition of number `c` leaves it.
-fn signal_in(cells: &mut [Cell; 64], c: u32) -> Option<Leaving>
-    ensures { (result, cells.new) ≡ leaving_at signal_leaving cells.old c }
-{
-    if c >= 64 {
-        return None;
-    }
-    let cell = &mut cells[c as usize];
-    Some(cell.signal())
-}
-
-/// All who wait for the condition of number `c` leave it.
-fn broadcast_in(cells: &mut [Cell; 64], c: u32) -> Option<Leaving>
-    ensures { (result, cells.new) ≡ leaving_at broadcast_leaving cells.old c }
-{
-    if c >= 64 {
-        return None;
-    }
-    let cell = &mut cells[c as usize];
-    Some(cell.broadcast())
-}
-
-/// Whether thread `t` waits for a condition.
-fn is_waiting_in(cells: &[Cell; 64], t: u8) -> bool
-    ensures { result ≡ list_any (λ c. list_any (λ u. u == t) (condition_queue c)) cells.now }
-{
-    cells.iter().any(
-        |cell: &Cell| -> bool
-            ensures { result ≡ list_any (λ u. u == t) (condition_queue cell.now) }
-        { cell.queue.threads().iter().any(|u: &u8| *u == t) },
-    )
-}
-
 /// The conditions of a guest, numbered from 0 to 63. No thread waits in more than one place of them, and each names a
 /// mutex from 0 to 63.
 #[derive(Drop)]
 pub struct Conditions {
-    cells: [Cell; 64],
+    cells: [Cell; OBJECTS],
 }
 
 impl Model for Conditions {
@@ -168,46 +115,47 @@ impl Conditions {
         ensures { result ≡ all_unawaited }
     {
         Conditions {
-            cells: unawaited_cells(),
+            cells: all_of(Cell::unawaited),
         }
     }
 
-    /// The condition's part of `cond_wait(c, m)`, called by thread `t`, the owner of mutex `m`: it waits at the end of the
-    /// queue, with that mutex. It doesn't, and nothing changes, exactly where others wait with another mutex, which is
-    /// EINVAL. Gives whether it waits (POSIX.1-2017, pthread_cond_wait).
-    pub fn wait(&mut self, t: u8, c: u32, m: u32) -> bool
-        requires thread { t < 32 }
+    /// The condition's part of `cond_wait(c, m)`, called by thread `t`, the owner of mutex `m`: it waits at the end of
+    /// the queue, with that mutex. It doesn't, and nothing changes, exactly where others wait with another mutex,
+    /// which is EINVAL. Gives whether it waits (POSIX.1-2017, pthread_cond_wait).
+    pub fn wait(&mut self, t: Thread, c: u32, m: u32) -> bool
         requires free { waits condition_queue self.old t ≡ 0 }
-        requires condition { c < 64 }
-        requires mutex { m < 64 }
+        requires condition { c < OBJECTS }
+        requires mutex { m < OBJECTS }
         ensures { (result, self.new) ≡ wait_at t m self.old c }
     {
-        wait_in(&mut self.cells, t, c, m)
+        threads_are_few(t);
+        let cell = &mut self.cells[c as usize];
+        cell.wait(t, m)
     }
 
-    /// The condition's part of `signal(c)`: who has waited longest leaves, if anybody waits. None exactly where `c` is above
-    /// 63, which is EINVAL (POSIX.1-2017, pthread_cond_signal).
+    /// The condition's part of `signal(c)`: who has waited longest leaves, if anybody waits. None exactly where `c` is
+    /// above 63, which is EINVAL (POSIX.1-2017, pthread_cond_signal).
     pub fn signal(&mut self, c: u32) -> Option<Leaving>
         ensures does { (result, self.new) ≡ leaving_at signal_leaving self.old c }
-        ensures mutex { IfSome result (λ l. l.mutex < 64) }
+        ensures mutex { IfSome result (λ l. l.mutex < OBJECTS) }
         ensures waited { IfSome result (λ l. (u : ℕ) → places u l.threads ≤ waits condition_queue self.old u) }
     {
-        signal_in(&mut self.cells, c)
+        row_at(&mut self.cells, c, Cell::signal)
     }
 
-    /// The condition's part of `broadcast(c)`: all who wait leave, in order. None exactly where `c` is above 63, which is
-    /// EINVAL (POSIX.1-2017, pthread_cond_broadcast).
+    /// The condition's part of `broadcast(c)`: all who wait leave, in order. None exactly where `c` is above 63, which
+    /// is EINVAL (POSIX.1-2017, pthread_cond_broadcast).
     pub fn broadcast(&mut self, c: u32) -> Option<Leaving>
         ensures does { (result, self.new) ≡ leaving_at broadcast_leaving self.old c }
-        ensures mutex { IfSome result (λ l. l.mutex < 64) }
+        ensures mutex { IfSome result (λ l. l.mutex < OBJECTS) }
         ensures waited { IfSome result (λ l. (u : ℕ) → places u l.threads ≤ waits condition_queue self.old u) }
     {
-        broadcast_in(&mut self.cells, c)
+        row_at(&mut self.cells, c, Cell::broadcast)
     }
 
     /// The mutex with which threads wait for the condition of number `c`. None exactly where nobody waits for it.
     pub fn awaited_with(&self, c: u32) -> Option<u32>
-        requires { c < 64 }
+        requires { c < OBJECTS }
         ensures { result ≡ awaited_with (slice_index_or self.now c unawaited) }
     {
         let cell = &self.cells[c as usize];
@@ -216,12 +164,5 @@ impl Conditions {
         } else {
             Some(cell.mutex)
         }
-    }
-
-    /// Whether thread `t` waits for a condition.
-    pub fn is_waiting(&self, t: u8) -> bool
-        ensures { result ≡ not (waits condition_queue self.now t == 0) }
-    {
-        is_waiting_in(&self.cells, t)
     }
 }

@@ -1,24 +1,20 @@
 //! The threads of a guest: who has ended with which value, and who joins whom. No call takes memory.
 #![tactic(auto)]
 
-ghost use Rattle.std.specs.Prelude.{◌≡◌, ◌==◌, ◌<◌, ◌≤◌, ◌∷◌, [], None, is_some, slice_index_or, length, not};
-ghost use Rattle.std.specs.List.{list_any};
+ghost use Rattle.std.specs.Prelude.{◌≡◌, ◌<◌, ◌≤◌, ◌∷◌, [], None, is_some, length};
 ghost use Rattle.guest_call.specs.Queues.{waits};
-ghost use Rattle.guest_call.specs.Threads.{fresh, joins, ended_with, joined_by, member_queue, member_at, create_row, thread_exit_row, join_row};
+ghost use Rattle.guest_call.specs.Threads.{fresh, joins, ended_with, joined_by, member_queue, create_row, thread_exit_row, join_row};
 
 use arrayvec::ArrayVec;
 use call_effect::Effect;
-use guest_call::{EAGAIN, EDEADLK, EINVAL, ESRCH, Fate};
+use guest_call::{EAGAIN, EDEADLK, EINVAL, ESRCH, Fate, THREADS, Thread};
 use std::marker::Model;
 use wait_queue::Queue;
-
-/// How many threads a guest may have, ended ones counted.
-const MOST_THREADS: usize = 32;
 
 /// One thread: who joins it or has joined it, and its value once it has ended.
 #[derive(Clone, Copy)]
 struct Seat {
-    joiner: Option<u8>,
+    joiner: Option<Thread>,
     value: Option<u32>,
 }
 
@@ -72,8 +68,8 @@ impl Seat {
         waiting
     }
 
-    /// Thread `t` joins the thread.
-    fn join(&mut self, t: u8) -> Effect
+    /// The thread has the joiner `t`.
+    fn take_joiner(&mut self, t: Thread) -> Effect
         ensures effect { result ≡ joins self.old.value }
         ensures joined { self.new ≡ joined_by t self.old }
     {
@@ -86,14 +82,14 @@ impl Seat {
 }
 
 /// A thread is created at `pc` with an argument.
-fn create_in(seats: &mut ArrayVec<Seat, 32>, pc: u32, argument: u32) -> Effect
+fn create_in(seats: &mut ArrayVec<Seat, THREADS>, pc: u32, argument: u32) -> Effect
     ensures { (result, seats.new.items) ≡ create_row pc argument seats.old.items }
 {
     if pc % 4 != 0 {
         return Effect::answers(EINVAL);
     }
     let number = seats.len();
-    if number >= MOST_THREADS {
+    if number >= THREADS {
         return Effect::answers(EAGAIN);
     }
     seats.push(Seat::default());
@@ -101,48 +97,37 @@ fn create_in(seats: &mut ArrayVec<Seat, 32>, pc: u32, argument: u32) -> Effect
 }
 
 /// Thread `t` ends with a value.
-fn thread_exit_in(seats: &mut ArrayVec<Seat, 32>, t: u8, value: u32) -> Effect
+fn thread_exit_in(seats: &mut ArrayVec<Seat, THREADS>, t: Thread, value: u32) -> Effect
     requires { t < length seats.old.items }
     ensures { (result, seats.new.items) ≡ thread_exit_row t value seats.old.items }
 {
-    let seat = &mut seats[t as usize];
+    let seat = &mut seats[usize::from(t.number())];
     let woken = seat.end(value);
     Effect::ends(value, woken)
 }
 
 /// Thread `t` joins thread `u`.
-fn join_in(seats: &mut ArrayVec<Seat, 32>, t: u8, u: u32) -> Effect
+fn join_in(seats: &mut ArrayVec<Seat, THREADS>, t: Thread, u: u32) -> Effect
     ensures { (result, seats.new.items) ≡ join_row t u seats.old.items }
 {
     if u as usize >= seats.len() {
         return Effect::answers(ESRCH);
     }
-    if u == t as u32 {
+    if u == u32::from(t.number()) {
         return Effect::answers(EDEADLK);
     }
     if seats[u as usize].is_joined() {
         return Effect::answers(EINVAL);
     }
     let seat = &mut seats[u as usize];
-    seat.join(t)
-}
-
-/// Whether thread `t` waits to join one of these.
-fn is_waiting_in(seats: &ArrayVec<Seat, 32>, t: u8) -> bool
-    ensures { result ≡ list_any (λ c. list_any (λ u. u == t) (member_queue c)) seats.now.items }
-{
-    seats.as_slice().iter().any(
-        |seat: &Seat| -> bool
-            ensures { result ≡ list_any (λ u. u == t) (member_queue seat.now) }
-        { seat.waiting().threads().iter().any(|u: &u8| *u == t) },
-    )
+    seat.take_joiner(t)
 }
 
 /// The threads of a guest, numbered from 0 in the order in which they were created; thread 0 is there from the start.
 /// No thread waits to join more than one.
 #[derive(Drop)]
 pub struct Threads {
-    seats: ArrayVec<Seat, 32>,
+    seats: ArrayVec<Seat, THREADS>,
 }
 
 impl Model for Threads {
@@ -170,34 +155,15 @@ impl Threads {
     /// How many threads exist, ended ones counted.
     pub fn len(&self) -> usize
         ensures count { result ≡ length self.now }
-        ensures fits { result ≤ 32 }
+        ensures fits { result ≤ THREADS }
     {
         self.seats.len()
     }
 
-    /// The value with which thread `u` has ended. None exactly where there is no such thread or it has not ended.
-    pub fn value(&self, u: u8) -> Option<u32>
-        ensures { result ≡ (member_at self.now u).value }
-    {
-        if u as usize >= self.seats.len() {
-            return None;
-        }
-        let seat = &self.seats[u as usize];
-        seat.value
-    }
-
-    /// Whether thread `t` waits to join another.
-    pub fn is_waiting(&self, t: u8) -> bool
-        ensures { result ≡ not (waits member_queue self.now t == 0) }
-    {
-        is_waiting_in(&self.seats, t)
-    }
-
-    /// `create(pc, argument)`, called by thread `t`: the answer is the new thread's number, the least that is unused. A pc
-    /// that isn't a multiple of 4 is EINVAL; where 32 threads exist the answer is EAGAIN (POSIX.1-2017, pthread_create).
-    pub fn create(&mut self, t: u8, pc: u32, argument: u32) -> Effect
-        requires exists { t < length self.old }
-        requires free { waits member_queue self.old t ≡ 0 }
+    /// `create(pc, argument)`, called by a thread: the answer is the new thread's number, the least that is unused. A
+    /// pc that isn't a multiple of 4 is EINVAL; where 32 threads exist the answer is EAGAIN (POSIX.1-2017,
+    /// pthread_create).
+    pub fn create(&mut self, _t: Thread, pc: u32, argument: u32) -> Effect
         ensures { (result, self.new) ≡ create_row pc argument self.old }
     {
         create_in(&mut self.seats, pc, argument)
@@ -205,18 +171,17 @@ impl Threads {
 
     /// `thread_exit(value)`, called by thread `t`, which ends: who waits to join it is woken and told the value
     /// (POSIX.1-2017, pthread_exit).
-    pub fn thread_exit(&mut self, t: u8, value: u32) -> Effect
+    pub fn thread_exit(&mut self, t: Thread, value: u32) -> Effect
         requires exists { t < length self.old }
-        requires free { waits member_queue self.old t ≡ 0 }
         ensures { (result, self.new) ≡ thread_exit_row t value self.old }
     {
         thread_exit_in(&mut self.seats, t, value)
     }
 
-    /// `join(u)`, called by thread `t`: where thread `u` has ended the answer is 0 with its value, and else `t` waits for
-    /// its end. ESRCH: there is no thread `u`; EDEADLK: it is `t`; EINVAL: it has or had a joiner (POSIX.1-2017,
+    /// `join(u)`, called by thread `t`: where thread `u` has ended the answer is 0 with its value, and else `t` waits
+    /// for its end. ESRCH: there is no thread `u`; EDEADLK: it is `t`; EINVAL: it has or had a joiner (POSIX.1-2017,
     /// pthread_join).
-    pub fn join(&mut self, t: u8, u: u32) -> Effect
+    pub fn join(&mut self, t: Thread, u: u32) -> Effect
         requires exists { t < length self.old }
         requires free { waits member_queue self.old t ≡ 0 }
         ensures { (result, self.new) ≡ join_row t u self.old }

@@ -4,7 +4,7 @@ use Rattle.guest_call.specs.declared.Object.{Object}
 use Rattle.sync_objects.specs.declared.acting.ActedOn.{ActedOn}
 use Rattle.sync_objects.specs.declared.acting.ActedOn.TheVariants.{Nothing, One, Two}
 
--- the objects, in order (this project's own)
+-- the objects, in order
 abbrev pub objects_in : ActedOn → List Object
 objects_in Nothing = []
 objects_in (One p) = p ∷ []

@@ -1,20 +1,22 @@
 //! The objects on which a call acts.
 
-ghost use Rattle.std.specs.Prelude.{◌≡◌, ℕ, Bool, false};
+ghost use Rattle.std.specs.Prelude.{◌≡◌, ℕ, Bool, false, nat_lt};
 ghost use Rattle.guest_call.specs.Objects as spec;
 ghost use Rattle.sync_objects.specs.Pairs.{leave_objects_in};
 ghost use Rattle.sync_objects.specs.Acting.{objects_in};
 ghost use Rattle.sync_objects.specs.Puts.{is_put};
 
-use super::OBJECTS;
-use guest_call::{Call, Object};
+use guest_call::{Call, OBJECTS, Object};
+use sync_barrier::LARGEST_COUNT;
 use sync_cond::Conditions;
+use sync_sem::LARGEST_VALUE;
 
-/// The largest value of a semaphore (POSIX.1-2017, `<limits.h>`, SEM_VALUE_MAX).
-const LARGEST_VALUE: u32 = 2_147_483_647;
-
-/// The largest count of a barrier.
-const LARGEST_COUNT: u32 = 32;
+/// Whether an object of each kind has this number.
+pub(super) fn is_object(number: u32) -> bool
+    ensures { result ≡ nat_lt number OBJECTS }
+{
+    (number as usize) < OBJECTS
+}
 
 /// The objects on which a call acts, in the order in which the table of calls names them.
 #[derive(Clone, Copy, Debug, PartialEq, Eq)]
@@ -44,7 +46,7 @@ impl ActedOn {
 fn leave_objects(conditions: &Conditions, c: u32) -> ActedOn
     ensures { objects_in result ≡ leave_objects_in conditions.now c }
 {
-    if c >= OBJECTS {
+    if !is_object(c) {
         return ActedOn::Nothing;
     }
     match conditions.awaited_with(c) {
@@ -64,21 +66,21 @@ pub(super) fn acts_on(conditions: &Conditions, call: Call) -> ActedOn
         Call::Create(pc, _) => ActedOn::one_of(pc % 4 == 0, Object::ThreadTable),
         Call::ThreadExit(_) | Call::Join(_) => ActedOn::One(Object::ThreadTable),
         Call::Lock(m) | Call::TryLock(m) | Call::Unlock(m) => {
-            ActedOn::one_of(m < OBJECTS, Object::Mutex(m))
+            ActedOn::one_of(is_object(m), Object::Mutex(m))
         }
         Call::SemWait(s) | Call::SemTryWait(s) | Call::SemPost(s) => {
-            ActedOn::one_of(s < OBJECTS, Object::Semaphore(s))
+            ActedOn::one_of(is_object(s), Object::Semaphore(s))
         }
         Call::SemInit(s, value) => {
-            ActedOn::one_of(s < OBJECTS && value <= LARGEST_VALUE, Object::Semaphore(s))
+            ActedOn::one_of(is_object(s) && value <= LARGEST_VALUE, Object::Semaphore(s))
         }
         Call::BarrierInit(b, count) => ActedOn::one_of(
-            b < OBJECTS && 1 <= count && count <= LARGEST_COUNT,
+            is_object(b) && 1 <= count && count <= LARGEST_COUNT,
             Object::Barrier(b),
         ),
-        Call::BarrierWait(b) => ActedOn::one_of(b < OBJECTS, Object::Barrier(b)),
+        Call::BarrierWait(b) => ActedOn::one_of(is_object(b), Object::Barrier(b)),
         Call::CondWait(c, m) => {
-            if c < OBJECTS && m < OBJECTS {
+            if is_object(c) && is_object(m) {
                 ActedOn::Two(Object::Condition(c), Object::Mutex(m))
             } else {
                 ActedOn::Nothing

@@ -2,7 +2,7 @@
 //! answers and changes. No call takes memory.
 #![tactic(auto)]
 
-ghost use Rattle.std.specs.Prelude.{◌≡◌, ℕ, ◌==◌, ◌+◌, ◌<◌, ◌≤◌, Bool, false, not, nat_lt, None, length};
+ghost use Rattle.std.specs.Prelude.{◌≡◌, ℕ, ◌+◌, ◌<◌, ◌≤◌, Bool, false, nat_lt, Some, None, length, if◌then◌else◌};
 ghost use Rattle.guest_call.specs.Queues.{places, waits};
 ghost use Rattle.guest_call.specs.Effect.{wakes};
 ghost use Rattle.guest_call.specs.Mutexes.{mutex_queue};
@@ -16,8 +16,9 @@ ghost use Rattle.sync_objects.specs.Acting.{objects_in};
 mod acting;
 
 pub use acting::ActedOn;
+use acting::is_object;
 use call_effect::Effect;
-use guest_call::{Call, EINVAL, EPERM, Fate};
+use guest_call::{Call, EINVAL, EPERM, Fate, OBJECTS, Thread};
 use std::marker::Model;
 use sync_barrier::Barriers;
 use sync_cond::{Conditions, Leaving};
@@ -25,17 +26,28 @@ use sync_join::Threads;
 use sync_mutex::Mutexes;
 use sync_sem::Semaphores;
 
-/// How many objects of each kind there are.
-const OBJECTS: u32 = 64;
+/// The tables of threads and of the objects of each kind.
+#[derive(Drop)]
+struct Tables {
+    threads: Threads,
+    mutexes: Mutexes,
+    semaphores: Semaphores,
+    barriers: Barriers,
+    conditions: Conditions,
+}
 
 /// Thread `t` gives up mutex `m`, and waits for condition `c`.
-fn cond_wait(conditions: &mut Conditions, mutexes: &mut Mutexes, t: u8, c: u32, m: u32) -> Effect
-    requires thread { t < 32 }
-    requires waits_for_no_mutex { waits mutex_queue mutexes.old t ≡ 0 }
-    requires waits_for_no_condition { waits condition_queue conditions.old t ≡ 0 }
+fn cond_wait(
+    conditions: &mut Conditions,
+    mutexes: &mut Mutexes,
+    t: Thread,
+    c: u32,
+    m: u32,
+) -> Effect
+    requires { waits condition_queue conditions.old t ≡ 0 }
     ensures { (result, (conditions.new, mutexes.new)) ≡ cond_wait_at t conditions.old mutexes.old c m }
 {
-    if c >= OBJECTS || m >= OBJECTS {
+    if !is_object(c) || !is_object(m) {
         return Effect::answers(EINVAL);
     }
     if mutexes.owner(m) != Some(t) {
@@ -50,8 +62,7 @@ fn cond_wait(conditions: &mut Conditions, mutexes: &mut Mutexes, t: u8, c: u32, 
 
 /// The threads that left a condition come to its mutex: who has it now is woken, and the caller gets 0.
 fn come_back(mutexes: &mut Mutexes, leaving: &Leaving) -> Effect
-    requires mutex { leaving.now.mutex < 64 }
-    requires low { (u : ℕ) → 32 ≤ u → places u leaving.now.threads ≡ 0 }
+    requires mutex { leaving.now.mutex < OBJECTS }
     requires once { (u : ℕ) → waits mutex_queue mutexes.old u + places u leaving.now.threads ≤ 1 }
     ensures effect { result ≡ wakes (Fate.Returns 0 None) (admit_each_at mutexes.old leaving.now.mutex leaving.now.threads).0 }
     ensures mutexes { mutexes.new ≡ (admit_each_at mutexes.old leaving.now.mutex leaving.now.threads).1 }
@@ -62,8 +73,7 @@ fn come_back(mutexes: &mut Mutexes, leaving: &Leaving) -> Effect
 
 /// The first who waits for condition `c` comes to its mutex.
 fn signal(conditions: &mut Conditions, mutexes: &mut Mutexes, c: u32) -> Effect
-    requires low { (u : ℕ) → 32 ≤ u → waits condition_queue conditions.old u ≡ 0 }
-    requires once { (u : ℕ) → waits mutex_queue mutexes.old u + waits condition_queue conditions.old u ≤ 1 }
+    requires { (u : ℕ) → waits mutex_queue mutexes.old u + waits condition_queue conditions.old u ≤ 1 }
     ensures { (result, (conditions.new, mutexes.new)) ≡ leave_at signal_leaving conditions.old mutexes.old c }
 {
     match conditions.signal(c) {
@@ -74,8 +84,7 @@ fn signal(conditions: &mut Conditions, mutexes: &mut Mutexes, c: u32) -> Effect
 
 /// All who wait for condition `c` come to its mutex.
 fn broadcast(conditions: &mut Conditions, mutexes: &mut Mutexes, c: u32) -> Effect
-    requires low { (u : ℕ) → 32 ≤ u → waits condition_queue conditions.old u ≡ 0 }
-    requires once { (u : ℕ) → waits mutex_queue mutexes.old u + waits condition_queue conditions.old u ≤ 1 }
+    requires { (u : ℕ) → waits mutex_queue mutexes.old u + waits condition_queue conditions.old u ≤ 1 }
     ensures { (result, (conditions.new, mutexes.new)) ≡ leave_at broadcast_leaving conditions.old mutexes.old c }
 {
     match conditions.broadcast(c) {
@@ -85,42 +94,42 @@ fn broadcast(conditions: &mut Conditions, mutexes: &mut Mutexes, c: u32) -> Effe
 }
 
 /// What a call of thread `t` does to the tables.
-fn act_on(
-    threads: &mut Threads,
-    mutexes: &mut Mutexes,
-    semaphores: &mut Semaphores,
-    barriers: &mut Barriers,
-    conditions: &mut Conditions,
-    t: u8,
-    call: Call,
-) -> Effect
-    requires kept { spec.IsKept (objects_of threads.old mutexes.old semaphores.old barriers.old conditions.old) }
-    requires exists { t < length threads.old }
-    requires free { spec.waits_at (objects_of threads.old mutexes.old semaphores.old barriers.old conditions.old) t ≡ 0 }
+fn act_on(tables: &mut Tables, t: Thread, call: Call) -> Effect
+    requires kept { spec.IsKept (objects_of tables.old) }
+    requires exists { t < length tables.old.threads }
+    requires free { spec.waits_at (objects_of tables.old) t ≡ 0 }
     requires no_put { is_put call ≡ false }
-    ensures { (readable : ℕ → ℕ → Bool)
-        → (result, objects_of threads.new mutexes.new semaphores.new barriers.new conditions.new)
-        ≡ spec.act readable (objects_of threads.old mutexes.old semaphores.old barriers.old conditions.old) t call }
+    ensures { (readable : ℕ → ℕ → Bool) → (result, objects_of tables.new) ≡ spec.act readable (objects_of tables.old) t call }
 {
     match call {
         Call::Exit(code) => Effect::exits(code),
         Call::Put(_, _) => unreachable!(),
-        Call::Create(pc, argument) => threads.create(t, pc, argument),
-        Call::ThreadExit(value) => threads.thread_exit(t, value),
-        Call::Join(thread) => threads.join(t, thread),
+        Call::Create(pc, argument) => tables.threads.create(t, pc, argument),
+        Call::ThreadExit(value) => tables.threads.thread_exit(t, value),
+        Call::Join(thread) => tables.threads.join(t, thread),
         Call::Yield => Effect::answers(0),
-        Call::Lock(mutex) => mutexes.lock(t, mutex),
-        Call::TryLock(mutex) => mutexes.trylock(t, mutex),
-        Call::Unlock(mutex) => mutexes.unlock(t, mutex),
-        Call::SemWait(semaphore) => semaphores.wait(t, semaphore),
-        Call::SemTryWait(semaphore) => semaphores.trywait(t, semaphore),
-        Call::SemPost(semaphore) => semaphores.post(t, semaphore),
-        Call::SemInit(semaphore, value) => semaphores.init(t, semaphore, value),
-        Call::BarrierInit(barrier, count) => barriers.init(t, barrier, count),
-        Call::BarrierWait(barrier) => barriers.wait(t, barrier),
-        Call::CondWait(condition, mutex) => cond_wait(conditions, mutexes, t, condition, mutex),
-        Call::Signal(condition) => signal(conditions, mutexes, condition),
-        Call::Broadcast(condition) => broadcast(conditions, mutexes, condition),
+        Call::Lock(mutex) => tables.mutexes.lock(t, mutex),
+        Call::TryLock(mutex) => tables.mutexes.trylock(t, mutex),
+        Call::Unlock(mutex) => tables.mutexes.unlock(t, mutex),
+        Call::SemWait(semaphore) => tables.semaphores.wait(t, semaphore),
+        Call::SemTryWait(semaphore) => tables.semaphores.trywait(t, semaphore),
+        Call::SemPost(semaphore) => tables.semaphores.post(t, semaphore),
+        Call::SemInit(semaphore, value) => tables.semaphores.init(t, semaphore, value),
+        Call::BarrierInit(barrier, count) => tables.barriers.init(t, barrier, count),
+        Call::BarrierWait(barrier) => tables.barriers.wait(t, barrier),
+        Call::CondWait(condition, mutex) => cond_wait(
+            &mut tables.conditions,
+            &mut tables.mutexes,
+            t,
+            condition,
+            mutex,
+        ),
+        Call::Signal(condition) => {
+            signal(&mut tables.conditions, &mut tables.mutexes, condition)
+        }
+        Call::Broadcast(condition) => {
+            broadcast(&mut tables.conditions, &mut tables.mutexes, condition)
+        }
     }
 }
 
@@ -128,11 +137,7 @@ fn act_on(
 /// that exist wait.
 #[derive(Drop)]
 pub struct Objects {
-    threads: Threads,
-    mutexes: Mutexes,
-    semaphores: Semaphores,
-    barriers: Barriers,
-    conditions: Conditions,
+    tables: Tables,
 }
 
 impl Model for Objects {
@@ -141,9 +146,9 @@ impl Model for Objects {
 
     ghost Value = { spec.Objects };
 
-    ghost view = { λ o. objects_of o.threads o.mutexes o.semaphores o.barriers o.conditions };
+    ghost view = { λ o. objects_of o.tables };
 
-    ghost invariant = { λ o. spec.IsKept (objects_of o.threads o.mutexes o.semaphores o.barriers o.conditions) };
+    ghost invariant = { λ o. spec.IsKept (objects_of o.tables) };
 }
 
 impl Objects {
@@ -153,31 +158,36 @@ impl Objects {
     {
         guest_call::opening_is_kept();
         Objects {
-            threads: Threads::new(),
-            mutexes: Mutexes::new(),
-            semaphores: Semaphores::new(),
-            barriers: Barriers::new(),
-            conditions: Conditions::new(),
+            tables: Tables {
+                threads: Threads::new(),
+                mutexes: Mutexes::new(),
+                semaphores: Semaphores::new(),
+                barriers: Barriers::new(),
+                conditions: Conditions::new(),
+            },
+        }
+    }
+
+    /// The thread of this number. None exactly where no such thread exists, ended ones counted.
+    pub fn thread(&self, number: u8) -> Option<Thread>
+        ensures { result ≡ if nat_lt number (length self.now.threads) then Some number else None }
+    {
+        if usize::from(number) < self.tables.threads.len() {
+            Thread::new(number)
+        } else {
+            None
         }
     }
 
     /// What a call of thread `t`, which is ready, answers and changes. A put has its row where the
     /// pages are.
-    pub fn act(&mut self, t: u8, call: Call) -> Effect
+    pub fn act(&mut self, t: Thread, call: Call) -> Effect
         requires exists { t < length self.old.threads }
         requires free { spec.waits_at self.old t ≡ 0 }
         requires no_put { is_put call ≡ false }
         ensures { (readable : ℕ → ℕ → Bool) → (result, self.new) ≡ spec.act readable self.old t call }
     {
-        act_on(
-            &mut self.threads,
-            &mut self.mutexes,
-            &mut self.semaphores,
-            &mut self.barriers,
-            &mut self.conditions,
-            t,
-            call,
-        )
+        act_on(&mut self.tables, t, call)
     }
 
     /// The objects on which a call would act, exactly: all that it reads and changes. A put acts on the output, where
@@ -186,32 +196,7 @@ impl Objects {
         requires { is_put call ≡ false }
         ensures { (readable : ℕ → ℕ → Bool) → objects_in result ≡ spec.acts_on readable self.now call }
     {
-        acting::acts_on(&self.conditions, call)
-    }
-
-    /// Whether thread `t` exists, ended ones counted.
-    pub fn exists(&self, t: u8) -> bool
-        ensures { result ≡ nat_lt t (length self.now.threads) }
-    {
-        (t as usize) < self.threads.len()
-    }
-
-    /// Whether thread `t` waits somewhere.
-    pub fn is_waiting(&self, t: u8) -> bool
-        ensures { result ≡ not (spec.waits_at self.now t == 0) }
-    {
-        self.threads.is_waiting(t)
-            || self.mutexes.is_waiting(t)
-            || self.semaphores.is_waiting(t)
-            || self.barriers.is_waiting(t)
-            || self.conditions.is_waiting(t)
-    }
-
-    /// The value with which thread `u` has ended. None exactly where there is no such thread or it has not ended.
-    pub fn ended(&self, u: u8) -> Option<u32>
-        ensures { result ≡ spec.ended_at self.now u }
-    {
-        self.threads.value(u)
+        acting::acts_on(&self.tables.conditions, call)
     }
 }
 

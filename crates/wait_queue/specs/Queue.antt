@@ -1,7 +1,13 @@
--- What a queue gives and keeps when its first thread leaves.
-use Rattle.std.specs.Prelude.{ℕ, List, [], ◌∷◌, Option, Some, None}
+-- What a queue keeps, and what it gives when its first thread leaves.
+use Rattle.std.specs.Prelude.{ℕ, ◌≡◌, ◌≤◌, List, [], ◌∷◌, Option, Some, None}
+use Rattle.guest_call.specs.declared.thread_number.TheConstants.{THREADS}
+use Rattle.guest_call.specs.Queues.{places}
 
--- the first of a queue, if there is one, and the queue without it (this project's own)
+-- no number from 32 on stands in a queue
+abbrev pub AreThreads : List ℕ → Type 0
+AreThreads q = (t : ℕ) → THREADS ≤ t → places t q ≡ 0
+
+-- the first of a queue, if there is one, and the queue without it
 abbrev pub popped : List ℕ → Option ℕ × List ℕ
 popped [] = (None, [])
 popped (t ∷ rest) = (Some t, rest)

@@ -2,26 +2,30 @@
 #![tactic(auto)]
 
 ghost use Rattle.std.specs.Prelude.{◌≡◌, ◌==◌, ◌<◌, ◌≤◌, [], ◌∷◌, ◌++◌, length, slice_index};
-ghost use Rattle.wait_queue.specs.Queue.{popped};
+ghost use Rattle.wait_queue.specs.Queue.{popped, AreThreads};
 
 use arrayvec::ArrayVec;
+use guest_call::{THREADS, Thread, threads_are_few};
 use std::marker::Model;
 
 /// How many threads a queue has room for.
-pub const ROOM: usize = 32;
+pub const ROOM: usize = THREADS;
 
-/// A queue of at most 32 thread numbers, the first to come first.
+/// A queue of threads, the first to come first.
 #[derive(Drop)]
 pub struct Queue {
-    threads: ArrayVec<u8, 32>,
+    threads: ArrayVec<Thread, ROOM>,
 }
 
 impl Model for Queue {
     ghost use Rattle.std.specs.Prelude.{ℕ, List};
+    ghost use Rattle.wait_queue.specs.Queue.{AreThreads};
 
     ghost Value = { List ℕ };
 
     ghost view = { λ q. q.threads.items };
+
+    ghost invariant = { λ q. AreThreads q.threads.items };
 }
 
 impl Queue {
@@ -34,22 +38,10 @@ impl Queue {
         }
     }
 
-    /// A queue of these threads, in this order.
-    pub fn new(threads: &[u8]) -> Queue
-        requires { length threads.now ≤ 32 }
-        ensures { result ≡ threads.now }
-    {
-        let mut queue = Queue::empty();
-        for thread in threads {
-            queue.push(*thread);
-        }
-        queue
-    }
-
     /// How many threads are in the queue.
     pub fn len(&self) -> usize
         ensures count { result ≡ length self.now }
-        ensures fits { result ≤ 32 }
+        ensures fits { result ≤ ROOM }
     {
         self.threads.len()
     }
@@ -61,15 +53,8 @@ impl Queue {
         self.threads.is_empty()
     }
 
-    /// Whether there is no room for one more.
-    pub fn is_full(&self) -> bool
-        ensures { result ≡ (length self.now == 32) }
-    {
-        self.threads.is_full()
-    }
-
     /// The thread at place `i`, counted from the front from 0.
-    pub fn at(&self, i: usize) -> u8
+    pub fn at(&self, i: usize) -> Thread
         requires { i < length self.now }
         ensures { result ≡ slice_index self.now i }
     {
@@ -77,22 +62,24 @@ impl Queue {
     }
 
     /// The threads, the first in front.
-    pub fn threads(&self) -> &[u8]
-        ensures { result.now ≡ self.now }
+    pub fn threads(&self) -> &[Thread]
+        ensures same { result.now ≡ self.now }
+        ensures threads { AreThreads self.now }
     {
         self.threads.as_slice()
     }
 
     /// Puts a thread at the end.
-    pub fn push(&mut self, thread: u8)
-        requires { length self.old < 32 }
+    pub fn push(&mut self, thread: Thread)
+        requires { length self.old < ROOM }
         ensures { self.new ≡ self.old ++ thread ∷ [] }
     {
+        threads_are_few(thread);
         self.threads.push(thread);
     }
 
     /// Takes the first thread out. None exactly where the queue is empty.
-    pub fn pop_first(&mut self) -> Option<u8>
+    pub fn pop_first(&mut self) -> Option<Thread>
         ensures { (result, self.new) ≡ popped self.old }
     {
         self.threads.pop_at(0)

@@ -1,13 +1,17 @@
-use Rattle.guest_call.specs.Conditions.{unawaited, condition_queue}
-use Rattle.call_effect.proofs.TableKept.{queue-room}
-use Rattle.sync_cond.proofs.TableOfConditions.{wait_kept}
+-- The condition has room for who waits for none, and the table after it has come.
+use Rattle.guest_call.specs.Conditions.{condition_queue}
+use Rattle.object_table.proofs.TableKept.{queue-room}
+use Rattle.sync_cond.proofs.TableOfConditions.{wait_kept, wait_at-done}
 use Rattle.sync_cond.proofs.Conditions.wait.Goals as goal
+
+pub wait-requires : goal.wait-requires
+wait-requires c =
+    queue-room condition_queue c.self.inside.cells c.args.c c.args.t _ c.self.invariant.table c.threads_are_few.ensures
+    (rw c.self.view_is c.requires.free) c.requires.condition
 
 pub invariant_of-self : goal.invariant_of-self
 invariant_of-self c =
-    wait_kept c.self.inside.cells c.wait_in.new.cells c.wait_in.result c.args.t c.args.c c.args.m c.wait_in.ensures c.self.invariant
-    c.requires.thread (rw c.self.view_is c.requires.free) c.requires.condition c.requires.mutex
-
-pub wait_in-requires-clause-room : goal.wait_in-requires-clause-room
-wait_in-requires-clause-room c =
-    queue-room condition_queue c.self.inside.cells c.args.c c.args.t unawaited c.self.invariant.table c.requires.thread (rw c.self.view_is c.requires.free) c.requires.condition
+    wait_kept c.self.inside.cells _ c.wait.result c.args.t c.args.c c.args.m
+    (wait_at-done c.self.inside.cells _ c.args.t c.args.c c.args.m c.wait.result _ c.self.invariant
+    c.requires.condition c.wait.ensures)
+    c.self.invariant c.threads_are_few.ensures (rw c.self.view_is c.requires.free) c.requires.condition c.requires.mutex

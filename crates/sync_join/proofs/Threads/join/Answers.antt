@@ -1,3 +1,4 @@
+-- The table after a join.
 use Rattle.sync_join.proofs.TableOfThreads.{join_kept}
 use Rattle.sync_join.proofs.Threads.join.Goals as goal
 

@@ -1,3 +1,4 @@
+-- Thread 0 alone is a table.
 use Rattle.sync_join.proofs.TableOfThreads.{first_table}
 use Rattle.sync_join.proofs.Threads.new.Goals as goal
 

@@ -5,7 +5,11 @@ use Rattle.sync_mutex.proofs.Cell.admit_each.Given as goal
 
 abbrev pub invariant-loop-thread : goal.invariant-loop-thread
 invariant-loop-thread l = record {
-  whole : (l.admitted ++ (admit_each (drop l.thread-index l.threads) l.self).0, (admit_each (drop l.thread-index l.threads) l.self).1) ≡ admit_each l.threads l.initial.self;
+  whole : (
+    l.admitted ++ (admit_each (drop l.thread-index l.threads) l.self).0,
+    (admit_each (drop l.thread-index l.threads)
+        l.self).1,
+  ) ≡ admit_each l.threads l.initial.self;
   room : length l.self.queue + length l.threads ≤ 32 + l.thread-index;
   few : length l.admitted ≤ l.thread-index;
 }

@@ -1,12 +1,28 @@
-use Rattle.guest_call.specs.Mutexes.{unlocked, mutex_queue}
-use Rattle.call_effect.proofs.TableKept.{queue-room}
-use Rattle.sync_mutex.proofs.TableOfMutexes.{lock_kept}
+-- The row at the mutex, whose queue has room for the caller, and the table after it.
+use Rattle.std.proofs.Common.{rules, arith}
+use Rattle.guest_call.specs.Mutexes.{unlocked, mutex_queue, lock_row}
+use Rattle.guest_call.proofs.Rows.{lock_fair}
+use Rattle.object_table.proofs.TableKept.{row_kept, queue-room}
 use Rattle.sync_mutex.proofs.Mutexes.lock.Goals as goal
+
+pub returns : goal.returns
+returns c =
+    rw (← c.self.view_is) (c.at_cell.ensures unlocked (lock_row c.args.t)
+    (λ x y e k. search (rules, k.met, k.shows, k.leaves)))
 
 pub invariant_of-self : goal.invariant_of-self
 invariant_of-self c =
-    lock_kept c.self.inside.cells c.lock_in.new.cells c.lock_in.result c.args.t c.args.m c.lock_in.ensures c.self.invariant c.requires.thread (rw c.self.view_is c.requires.free)
+    row_kept mutex_queue unlocked (lock_row c.args.t) c.self.inside.cells c.at_cell.new.cells c.at_cell.result c.args.m
+    c.args.t (lock_fair c.args.t)
+    (c.at_cell.ensures unlocked (lock_row c.args.t) (λ x y e k. search (rules, k.met, k.shows, k.leaves)))
+    c.self.invariant c.threads_are_few.ensures (rw c.self.view_is c.requires.free)
 
-pub lock_in-requires : goal.lock_in-requires
-lock_in-requires c = λ there.
-    queue-room mutex_queue c.self.inside.cells c.args.m c.args.t unlocked c.self.invariant c.requires.thread (rw c.self.view_is c.requires.free) there
+pub at_cell-requires : goal.at_cell-requires
+at_cell-requires c = (
+  omega arith,
+  λ free there p is.
+      let room =
+      queue-room mutex_queue c.self.inside.cells c.args.m c.args.t free c.self.invariant c.threads_are_few.ensures
+      (rw c.self.view_is c.requires.free) there in
+      search (rules, is, room),
+)

@@ -1,8 +1,16 @@
-use Rattle.std.proofs.Common.{subst, sym}
+-- Each object is as it is at the start.
+use Rattle.std.proofs.Common.{rules, replicate, ◌≡◌, refl, subst, sym}
 use Rattle.guest_call.specs.Tables.{IsTable}
-use Rattle.guest_call.specs.Mutexes.{mutex_queue}
-use Rattle.sync_mutex.proofs.TableOfMutexes.{unlocked_table}
+use Rattle.guest_call.specs.Mutexes.{unlocked, mutex_queue}
+use Rattle.guest_call.specs.Objects.{all_unlocked}
+use Rattle.object_table.proofs.TableKept.{replicate_table}
 use Rattle.sync_mutex.proofs.Mutexes.new.Goals as goal
 
+pub returns : goal.returns
+unfolding all_unlocked
+returns c = c.all_of.ensures unlocked (λ f x k. search (rules, k))
+
 pub invariant_of-result : goal.invariant_of-result
-invariant_of-result c = subst (IsTable mutex_queue) (sym c.free_cells.ensures) unlocked_table
+invariant_of-result c =
+    subst (IsTable mutex_queue) (sym (c.all_of.ensures unlocked (λ f x k. search (rules, k))))
+    (replicate_table mutex_queue unlocked refl)

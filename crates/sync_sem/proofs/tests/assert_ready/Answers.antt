@@ -1,6 +1,8 @@
+-- The test found the thread in no queue.
 use Rattle.std.proofs.Common.{rules}
-use Rattle.sync_sem.proofs.Idle.{waits-none}
+use Rattle.guest_call.specs.Semaphores.{semaphore_queue}
+use Rattle.object_table.proofs.Idle.{waits-none}
 use Rattle.sync_sem.proofs.tests.assert_ready.Goals as goal
 
-pub returns-clause-free : goal.returns-clause-free
-returns-clause-free g c = waits-none c.args.t c.args.semaphores.now (search (rules, c.is_waiting.ensures))
+pub returns : goal.returns
+returns g c = waits-none semaphore_queue c.args.t c.args.semaphores.now (search (rules, c.is_waiting.ensures))
