@@ -11,7 +11,9 @@ use Rattle.edit_list.specs.declared.line.LineFault.TheVariants as fault
 use Rattle.edit_list.specs.Refusals.{WhyNoBytes}
 
 -- what an answer shows that came by two steps
-bind_ok : {A B : Type 0} (r : Result A FromHexError) (f : A → Result B FromHexError) (y : B) → (r >>= f) ≡ Ok y → (x : A) × (r ≡ Ok x) × (f x ≡ Ok y)
+bind_ok :
+    {A B : Type 0} (r : Result A FromHexError) (f : A → Result B FromHexError) (y : B) → (r >>= f) ≡ Ok y
+    → (x : A) × (r ≡ Ok x) × (f x ≡ Ok y)
 bind_ok (Ok x) f y h = (x, refl, h)
 bind_ok (Err e) f y h = cc h
 
@@ -25,7 +27,9 @@ small_value : (c v : ℕ) → hex_digit_value c ≡ Some v → v < 16
 small_value c v h = grind (arith)
 
 -- two digits that spell a byte are read as it
-pair_from : (high low byte i : ℕ) → hex_digit_value high ≡ Some (byte / 16) → hex_digit_value low ≡ Some (byte % 16) → pair_value high low i ≡ Ok byte
+pair_from :
+    (high low byte i : ℕ) → hex_digit_value high ≡ Some (byte / 16) → hex_digit_value low ≡ Some (byte % 16)
+    → pair_value high low i ≡ Ok byte
 pair_from high low byte i h l =
     let a : value_at high i ≡ Ok (byte / 16) = ap (digit_or_error high i) h in
     let b : value_at low (i + 1) ≡ Ok (byte % 16) = ap (digit_or_error low (i + 1)) l in
@@ -33,7 +37,9 @@ pair_from high low byte i h l =
     rw (a, b) (ap (λ (v : ℕ). Ok v) whole)
 
 -- two digits that are read as a byte spell it
-pair_to : (high low byte i : ℕ) → pair_value high low i ≡ Ok byte → (hex_digit_value high ≡ Some (byte / 16)) × (hex_digit_value low ≡ Some (byte % 16))
+pair_to :
+    (high low byte i : ℕ) → pair_value high low i ≡ Ok byte
+    → (hex_digit_value high ≡ Some (byte / 16)) × (hex_digit_value low ≡ Some (byte % 16))
 pair_to high low byte i e =
     let first = bind_ok (value_at high i) (λ (h : ℕ). value_at low (i + 1) >>= λ (l : ℕ). Ok (h * 16 + l)) byte e in
     let second = bind_ok (value_at low (i + 1)) (λ (l : ℕ). Ok (first.0 * 16 + l)) byte first.2 in
@@ -53,14 +59,16 @@ read_spelled i (high ∷ []) [] s = absurd s
 read_spelled i (high ∷ []) (b ∷ bytes) s = absurd s
 read_spelled i (high ∷ low ∷ digits) [] s = absurd s
 read_spelled i (high ∷ low ∷ digits) (b ∷ bytes) s =
-    decode_pairs-ok_pair i high low b digits (pair_from high low b i s.0 s.1) ∙ ap (cons_byte b) (read_spelled (i + 2) digits bytes s.2)
+    decode_pairs-ok_pair i high low b digits (pair_from high low b i s.0 s.1)
+    ∙ ap (cons_byte b) (read_spelled (i + 2) digits bytes s.2)
 
 pub spelled_read : (i : ℕ) (digits bytes : List ℕ) → decode_pairs i digits ≡ Ok bytes → SpellBytes digits bytes
 unfolding decode_pairs
 spelled_read i [] bytes e = let none : [] ≡ bytes = cc in subst (SpellBytes []) none tt
 spelled_read i (high ∷ []) bytes e = cc
 spelled_read i (high ∷ low ∷ digits) bytes e =
-    let first = bind_ok (pair_value high low i) (λ (b : ℕ). decode_pairs (i + 2) digits >>= λ (bs : List ℕ). Ok (b ∷ bs)) bytes e in
+    let first =
+    bind_ok (pair_value high low i) (λ (b : ℕ). decode_pairs (i + 2) digits >>= λ (bs : List ℕ). Ok (b ∷ bs)) bytes e in
     let second = bind_ok (decode_pairs (i + 2) digits) (λ (bs : List ℕ). Ok (first.0 ∷ bs)) bytes first.2 in
     let pair = pair_to high low first.0 i first.1 in
     let rest = spelled_read (i + 2) digits second.0 second.1 in
@@ -89,10 +97,13 @@ spelled_is_decoded digits bytes s =
     decode_of-even digits (omega arith) ∙ read_spelled 0 digits bytes s
 
 -- why digits gave no bytes, where the decoder refuses them
-pub refused_by_decoder : (digits : List ℕ) (error : FromHexError) (answer : LineFault) → (answer ≡ fault.Bad → error ≢ OutOfMemory)
+pub refused_by_decoder :
+    (digits : List ℕ) (error : FromHexError) (answer : LineFault)
+    → (answer ≡ fault.Bad → error ≢ OutOfMemory)
     → (error ≡ OutOfMemory) ⊎ (decode_of digits ≡ Err error) → WhyNoBytes digits answer
 refused_by_decoder digits error fault.Bad other (inl memory) = absurd (other refl memory)
-refused_by_decoder digits error fault.Bad other (inr refused) = λ bytes some spelled. let read = spelled_is_decoded digits bytes spelled in cc
+refused_by_decoder digits error fault.Bad other (inr refused) =
+    λ bytes some spelled. let read = spelled_is_decoded digits bytes spelled in cc
 refused_by_decoder digits error fault.NoMemory other why = tt
 
 -- some digits spell some bytes

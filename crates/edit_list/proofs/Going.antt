@@ -12,22 +12,27 @@ use Rattle.edit_list.proofs.Showing.{shown-whole}
 
 -- a buffer shows an input of this length, from which the edits come to the whole
 abbrev pub IsAt : List LineEdit → List ℕ → ℕ → ℕ → Result (List ℕ) ℕ → Type 0
-IsAt edits buffer current last whole = (now : List ℕ) × (length now ≡ current) × (edited edits now ≡ whole) × Shows buffer now (min current (least edits last))
+IsAt edits buffer current last whole =
+    (now : List ℕ) × (length now ≡ current) × (edited edits now ≡ whole)
+    × Shows buffer now (min current (least edits last))
 
 -- what an edit does to a buffer, with the least length that it and those after it give
 abbrev pub DoesEdit : LineEdit → List ℕ → List ℕ → ℕ → ℕ → ℕ → Type 0
 DoesEdit e before after current result here =
-    (input : List ℕ) (rest : ℕ) → length input ≡ current → is_out_of_range e.edit current ≡ false → here ≡ lesser e.edit rest
+    (input : List ℕ) (rest : ℕ) → length input ≡ current → is_out_of_range e.edit current ≡ false → here
+    ≡ lesser e.edit rest
     → Shows before input (min current here) → Shows after (edited_once e.edit input) (min result rest)
 
 pub one-edit :
-    (e : LineEdit) (edits : List LineEdit) (before after : List ℕ) (current result here last : ℕ) (whole : Result (List ℕ) ℕ)
+    (e : LineEdit) (edits : List LineEdit) (before after : List ℕ) (current result here last : ℕ)
+    (whole : Result (List ℕ) ℕ)
     → is_out_of_range e.edit current ≡ false → result ≡ new_length e.edit current → here ≡ least (e ∷ edits) last
     → DoesEdit e before after current result here
     → IsAt (e ∷ edits) before current last whole → IsAt edits after result last whole
 one-edit e edits before after current result here last whole within count at does is =
     let inside : is_out_of_range e.edit (length is.0) ≡ false = rw is.1 within in
-    let size : length (edited_once e.edit is.0) ≡ result = length-edited_once e.edit is.0 inside ∙ ap (new_length e.edit) is.1 ∙ sym count in
+    let size : length (edited_once e.edit is.0) ≡ result =
+    length-edited_once e.edit is.0 inside ∙ ap (new_length e.edit) is.1 ∙ sym count in
     let goes : edited (e ∷ edits) is.0 ≡ edited edits (edited_once e.edit is.0) = rw inside refl in
     let shown = subst (λ (n : ℕ). Shows before is.0 (min current n)) (sym at) is.3 in
     (edited_once e.edit is.0, size, sym goes ∙ is.2, does is.0 (least edits last) is.1 within at shown)
@@ -37,15 +42,21 @@ pub all-edits :
     (buffer : List ℕ) (current last : ℕ) (whole : Result (List ℕ) ℕ) → current ≡ last → length buffer ≡ last
     → IsAt [] buffer current last whole → whole ≡ Ok buffer
 all-edits buffer current last whole comes size is =
-    let same : is.0 ≡ buffer = shown-whole buffer is.0 (min current last) (omega (arith, is.1)) (omega (arith, is.1)) is.3 in
+    let same : is.0 ≡ buffer =
+    shown-whole buffer is.0 (min current last) (omega (arith, is.1)) (omega (arith, is.1)) is.3 in
     sym is.2 ∙ ap (λ (x : List ℕ). Ok x) same
 
 -- the least lengths as the code has them
-pub kept-is : (lengths : List ℕ) (edits : List LineEdit) (most kept : ℕ) → lengths ≡ leasts edits most → kept ≡ slice_index_or lengths 0 most → kept ≡ least edits most
-kept-is lengths edits most kept are is = is ∙ ap (λ (ls : List ℕ). slice_index_or ls 0 most) are ∙ first-least edits most
+pub kept-is :
+    (lengths : List ℕ) (edits : List LineEdit) (most kept : ℕ) → lengths ≡ leasts edits most
+    → kept ≡ slice_index_or lengths 0 most
+    → kept ≡ least edits most
+kept-is lengths edits most kept are is =
+    is ∙ ap (λ (ls : List ℕ). slice_index_or ls 0 most) are ∙ first-least edits most
 
 pub least-at :
-    (lengths : List ℕ) (lines : List Kept) (most place : ℕ) → lengths ≡ leasts (map line_said lines) most → place < length lines
+    (lengths : List ℕ) (lines : List Kept) (most place : ℕ) → lengths ≡ leasts (map line_said lines) most
+    → place < length lines
     → slice_index_or lengths place 0 ≡ least (map line_said (drop place lines)) most
 least-at lengths lines most place are under =
     let within : place < length (map line_said lines) = omega (arith, length-map lines line_said) in

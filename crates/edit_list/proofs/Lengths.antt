@@ -10,20 +10,27 @@ use Rattle.edit_list.specs.Lengths.{least, leasts, lesser, new_length, line_out_
 use Rattle.edit_list.specs.Refusals.{WhyNotApplied, WhyNoLength}
 
 -- how long an edited input is
-pub length-edited_once : (edit : Edit) (input : List ℕ) → is_out_of_range edit (length input) ≡ false → length (edited_once edit input) ≡ new_length edit (length input)
+pub length-edited_once :
+    (edit : Edit) (input : List ℕ) → is_out_of_range edit (length input) ≡ false
+    → length (edited_once edit input) ≡ new_length edit (length input)
 length-edited_once (Set offset bytes) input within = grind (arith, common_steps, nat_tests, within)
 length-edited_once (Size size) input within = grind (arith, common_steps, nat_tests, within)
 
 -- which way a choice of lines went
-chosen : {A : Type 0} (b : Bool) (x y z : A) → (if b then x else y) ≡ z → ((b ≡ true) × (x ≡ z)) ⊎ ((b ≡ false) × (y ≡ z))
+chosen :
+    {A : Type 0} (b : Bool) (x y z : A) → (if b then x else y) ≡ z
+    → ((b ≡ true) × (x ≡ z)) ⊎ ((b ≡ false) × (y ≡ z))
 chosen true x y z e = inl (refl, e)
 chosen false x y z e = inr (refl, e)
 
 -- lengths alone say which line passes its bound
-pub out_of_range_is : (edits : List LineEdit) (input : List ℕ) (number : ℕ) → line_out_of_range edits (length input) ≡ Some number → edited edits input ≡ Err number
+pub out_of_range_is :
+    (edits : List LineEdit) (input : List ℕ) (number : ℕ) → line_out_of_range edits (length input) ≡ Some number
+    → edited edits input ≡ Err number
 out_of_range_is [] input number is = cc
 out_of_range_is (e ∷ edits) input number is =
-    elim (chosen (is_out_of_range e.edit (length input)) (Some e.line) (line_out_of_range edits (new_length e.edit (length input))) (Some number) is) [
+    elim (chosen (is_out_of_range e.edit (length input)) (Some e.line)
+    (line_out_of_range edits (new_length e.edit (length input))) (Some number) is) [
       | inl out ↦ rw out.0 (let same : e.line ≡ number = cc in ap (λ (n : ℕ). Err n) same)
       | inr within ↦
           rw within.0
@@ -31,7 +38,9 @@ out_of_range_is (e ∷ edits) input number is =
           (ap (line_out_of_range edits) (length-edited_once e.edit input within.0) ∙ within.1))
     ]
 
-pub not_applied : (edits : List LineEdit) (input : List ℕ) (error : ApplyError) → WhyNoLength edits (length input) error → WhyNotApplied edits input error
+pub not_applied :
+    (edits : List LineEdit) (input : List ℕ) (error : ApplyError) → WhyNoLength edits (length input) error
+    → WhyNotApplied edits input error
 not_applied edits input (OutOfRange number) why = out_of_range_is edits input number why
 not_applied edits input NoMemory why = absurd why
 
@@ -53,7 +62,9 @@ pub length-leasts : (edits : List LineEdit) (most : ℕ) → length (leasts edit
 length-leasts [] most = refl
 length-leasts (e ∷ edits) most = ap (λ (n : ℕ). suc n) (length-leasts edits most)
 
-pub get_or-leasts : (edits : List LineEdit) (most k d : ℕ) → k < length edits → slice_index_or (leasts edits most) k d ≡ least (drop k edits) most
+pub get_or-leasts :
+    (edits : List LineEdit) (most k d : ℕ) → k < length edits
+    → slice_index_or (leasts edits most) k d ≡ least (drop k edits) most
 get_or-leasts [] most k d under = absurd (omega arith)
 get_or-leasts (e ∷ edits) most zero d under = refl
 get_or-leasts (e ∷ edits) most (suc k) d under = get_or-leasts edits most k d (omega arith)

@@ -1,3 +1,4 @@
+-- The files of lemmas of this crate.
 pub mod Numerals
 pub mod Digits
 pub mod Words

@@ -19,15 +19,22 @@ pub decimal_texts : IsNumeralModel (λ ds. list_all is_ascii_digit ds ≡ true) 
 decimal_texts = numerals_by_value (λ ds. list_all is_ascii_digit ds ≡ true) (search rules)
 
 -- each byte of such a text is a digit
-pub digit_there : (ds : List ℕ) (i : ℕ) → list_all is_ascii_digit ds ≡ true → i < length ds → IsInRange 48 57 (get_or ds i 0)
+pub digit_there :
+    (ds : List ℕ) (i : ℕ) → list_all is_ascii_digit ds ≡ true → i < length ds
+    → IsInRange 48 57 (get_or ds i 0)
 digit_there ds i all within = digit_at ds i (decimal_texts.to ds all) within
 
 -- the number so far has at most seven digits
-pub small_so_far : (ds : List ℕ) (i : ℕ) → list_all is_ascii_digit ds ≡ true → length ds ≤ 7 → digits_value 10 (take i ds) < 10000000
-small_so_far ds i all few = omega (arith, digits_value-take-le 10 ds i (omega arith), digits_value_short decimal_texts ds 7 all few)
+pub small_so_far :
+    (ds : List ℕ) (i : ℕ) → list_all is_ascii_digit ds ≡ true → length ds ≤ 7
+    → digits_value 10 (take i ds) < 10000000
+small_so_far ds i all few =
+    omega (arith, digits_value-take-le 10 ds i (omega arith), digits_value_short decimal_texts ds 7 all few)
 
 -- one digit more
-pub one_more : (ds : List ℕ) (i : ℕ) → list_all is_ascii_digit ds ≡ true → i < length ds → digits_value 10 (take (i + 1) ds) ≡ digits_value 10 (take i ds) * 10 + (get_or ds i 0 - 48)
+pub one_more :
+    (ds : List ℕ) (i : ℕ) → list_all is_ascii_digit ds ≡ true → i < length ds
+    → digits_value 10 (take (i + 1) ds) ≡ digits_value 10 (take i ds) * 10 + (get_or ds i 0 - 48)
 one_more ds i all within =
     let range = digit_there ds i all within in
     let value = digit_value_digit (get_or ds i 0) range in
@@ -38,14 +45,20 @@ ands : (a b c d : Bool) → a ≡ true → b ≡ true → c ≡ true → d ≡ t
 ands a b c d p q r s = rw (p, q, r, s) refl
 
 -- a numeral is the spelling of its number
-pub numeral_is : (ds : List ℕ) → is_numeral ds ≡ true → (digits_value 10 ds < number_limit) × (ds ≡ decimal (digits_value 10 ds))
+pub numeral_is :
+    (ds : List ℕ) → is_numeral ds ≡ true
+    → (digits_value 10 ds < number_limit) × (ds ≡ decimal (digits_value 10 ds))
 numeral_is ds is =
-    let whole = and_parts (nat_lt 0 (length ds) && nat_le (length ds) 7 && (not (slice_index ds 0 == 48) || length ds == 1)) (list_all is_ascii_digit ds) is in
-    let front = and_parts (nat_lt 0 (length ds) && nat_le (length ds) 7) (not (slice_index ds 0 == 48) || length ds == 1) whole.0 in
+    let whole =
+    and_parts (nat_lt 0 (length ds) && nat_le (length ds) 7 && (not (slice_index ds 0 == 48) || length ds == 1))
+    (list_all is_ascii_digit ds) is in
+    let front =
+    and_parts (nat_lt 0 (length ds) && nat_le (length ds) 7) (not (slice_index ds 0 == 48) || length ds == 1) whole.0 in
     let sizes = and_parts (nat_lt 0 (length ds)) (nat_le (length ds) 7) front.0 in
     let some : 0 < length ds = grind (arith, nat_tests, sizes.0) in
     let few : length ds ≤ 7 = grind (arith, nat_tests, sizes.1) in
-    let lead : get_or ds 0 0 ≡ 48 → length ds ≡ 1 = λ zero_first. single (get_or ds 0 0) (length ds) front.1 zero_first in
+    let lead : get_or ds 0 0 ≡ 48 → length ds ≡ 1 =
+    λ zero_first. single (get_or ds 0 0) (length ds) front.1 zero_first in
     let small = digits_value_short decimal_texts ds 7 whole.1 few in
     (omega arith, sym (decimal-digits_value decimal_texts ds whole.1 some lead (omega arith)))
   where
@@ -57,7 +70,9 @@ single_zero : (n : ℕ) → n < number_limit → (not (slice_index (decimal n) 0
 single_zero n small =
     elim (cases_lt 0 n) [
       | inl some ↦ let first = first_decimal n some (omega arith) in grind (arith, nat_tests, first)
-      | inr none ↦ let digit = decimal_digit n (omega arith) in let count : length (decimal n) ≡ 1 = ap length digit in grind (arith, nat_tests, count)
+      | inr none ↦ let digit =
+          decimal_digit n (omega arith) in let count : length (decimal n) ≡ 1 = ap length digit in
+          grind (arith, nat_tests, count)
     ]
 
 -- the spelling of a small number is a numeral
@@ -66,5 +81,6 @@ is_numeral-decimal n small =
     let some = decimal_nonempty n (omega arith) in
     let few = length-decimal-le 7 n (omega arith) (omega arith) (omega arith) in
     let digits = digits_decimal decimal_texts n (omega arith) in
-    ands (nat_lt 0 (length (decimal n))) (nat_le (length (decimal n)) 7) (not (slice_index (decimal n) 0 == 48) || length (decimal n) == 1) (list_all is_ascii_digit (decimal n))
+    ands (nat_lt 0 (length (decimal n))) (nat_le (length (decimal n)) 7)
+    (not (slice_index (decimal n) 0 == 48) || length (decimal n) == 1) (list_all is_ascii_digit (decimal n))
     (grind (arith, nat_tests, some)) (grind (arith, nat_tests, few)) (single_zero n small) digits

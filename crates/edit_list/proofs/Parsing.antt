@@ -17,11 +17,13 @@ after_front front (Err number) = Err number
 
 -- what the rest of a list says is what the list says, after the edits so far
 abbrev pub Leads : List ℕ → ℕ → List (List ℕ) → List LineEdit → Type 0
-Leads bytes number pieces front = (answer : Result (List LineEdit) ℕ) → Say (lines_from number pieces) answer → Says bytes (after_front front answer)
+Leads bytes number pieces front =
+    (answer : Result (List LineEdit) ℕ) → Say (lines_from number pieces) answer → Says bytes (after_front front answer)
 
 -- the edits of one line, and what the lines after it say
 joined : (number : ℕ) (text : List ℕ) (more : List (List ℕ)) (added : List LineEdit) (answer : Result (List LineEdit) ℕ)
-    → SpellAll (lines_from number (text ∷ [])) added → Say (lines_from (number + 1) more) answer → Say (lines_from number (text ∷ more)) (after_front added answer)
+    → SpellAll (lines_from number (text ∷ [])) added → Say (lines_from (number + 1) more) answer
+    → Say (lines_from number (text ∷ more)) (after_front added answer)
 joined number [] more [] (Ok edits) s said = said
 joined number [] more [] (Err bad) s said = said
 joined number [] more (e ∷ added) answer s said = absurd s
@@ -31,7 +33,9 @@ joined number (b ∷ text) more (e ∷ []) (Err bad) s said = inr ((e.edit, s.0.
 joined number (b ∷ text) more (e ∷ f ∷ added) answer s said = absurd s.1
 
 -- edits in front of edits in front
-in_front : (before added : List LineEdit) (answer : Result (List LineEdit) ℕ) → after_front before (after_front added answer) ≡ after_front (before ++ added) answer
+in_front :
+    (before added : List LineEdit) (answer : Result (List LineEdit) ℕ)
+    → after_front before (after_front added answer) ≡ after_front (before ++ added) answer
 in_front before added (Ok edits) = ap (λ (x : List LineEdit). Ok x) (sym (append_assoc before added edits))
 in_front before added (Err bad) = refl
 
@@ -40,7 +44,8 @@ pub one_line_more : (bytes : List ℕ) (number : ℕ) (text : List ℕ) (more : 
     → AddsLine number text before after → Leads bytes number (text ∷ more) before → Leads bytes (number + 1) more after
 one_line_more bytes number text more before after adds leads answer said =
     let there = leads (after_front adds.0 answer) (joined number text more adds.0 answer adds.1 said) in
-    subst (Says bytes) (in_front before adds.0 answer ∙ ap (λ (front : List LineEdit). after_front front answer) (sym adds.2)) there
+    subst (Says bytes) (in_front before adds.0 answer
+    ∙ ap (λ (front : List LineEdit). after_front front answer) (sym adds.2)) there
 
 -- a bad line after lines that were read
 pub bad_line : (bytes : List ℕ) (number : ℕ) (text : List ℕ) (more : List (List ℕ)) (before : List LineEdit)
@@ -55,19 +60,25 @@ no_line_yet bytes (Ok edits) said = said
 no_line_yet bytes (Err bad) said = said
 
 -- all lines were read
-pub all_lines : (bytes : List ℕ) (number : ℕ) (edits : List LineEdit) → Leads bytes number [] edits → Says bytes (Ok edits)
-all_lines bytes number edits leads = subst (λ (x : List LineEdit). Says bytes (Ok x)) (append-nil edits) (leads (Ok []) tt)
+pub all_lines :
+    (bytes : List ℕ) (number : ℕ) (edits : List LineEdit) → Leads bytes number [] edits
+    → Says bytes (Ok edits)
+all_lines bytes number edits leads =
+    subst (λ (x : List LineEdit). Says bytes (Ok x)) (append-nil edits) (leads (Ok []) tt)
 
 -- the edit of a line is put behind others
 pub edit_added : (number : ℕ) (text : List ℕ) (edit : Edit) (before after : List LineEdit)
-    → 0 < length text → Spells text edit → after ≡ before ++ record { line = number; edit = edit } ∷ [] → AddsLine number text before after
+    → 0 < length text → Spells text edit → after ≡ before ++ record { line = number; edit = edit } ∷ []
+    → AddsLine number text before after
 edit_added number [] edit before after some spells is = absurd (omega arith)
-edit_added number (b ∷ text) edit before after some spells is = (record { line = number; edit = edit } ∷ [], ((refl, spells), tt), is)
+edit_added number (b ∷ text) edit before after some spells is =
+    (record { line = number; edit = edit } ∷ [], ((refl, spells), tt), is)
 
 -- the rest of a list is cut at its first newline
 pub cut_leads : (bytes : List ℕ) (number : ℕ) (rest text after : List ℕ) (front : List LineEdit)
     → All (λ b. (b == 10) ≡ false) text × (rest ≡ text ++ 10 ∷ after)
-    → Leads bytes number (slice_split (λ byte. byte == 10) rest) front → Leads bytes number (text ∷ slice_split (λ byte. byte == 10) after) front
+    → Leads bytes number (slice_split (λ byte. byte == 10) rest) front
+    → Leads bytes number (text ∷ slice_split (λ byte. byte == 10) after) front
 cut_leads bytes number rest text after front parts leads =
     let e : slice_split (λ byte. byte == 10) rest ≡ text ∷ slice_split (λ byte. byte == 10) after =
     ap (slice_split (λ byte. byte == 10)) parts.1 ∙ slice_split_at (λ byte. byte == 10) text 10 after parts.0 refl in
@@ -75,15 +86,21 @@ cut_leads bytes number rest text after front parts leads =
 
 -- the rest of a list without a newline is its last line
 pub last_leads : (bytes : List ℕ) (number : ℕ) (rest : List ℕ) (front : List LineEdit)
-    → All (λ b. (b == 10) ≡ false) rest → Leads bytes number (slice_split (λ byte. byte == 10) rest) front → Leads bytes number (rest ∷ []) front
-last_leads bytes number rest front all leads = subst (λ (pieces : List (List ℕ)). Leads bytes number pieces front) (slice_split_none (λ byte. byte == 10) rest all) leads
+    → All (λ b. (b == 10) ≡ false) rest → Leads bytes number (slice_split (λ byte. byte == 10) rest) front
+    → Leads bytes number (rest ∷ []) front
+last_leads bytes number rest front all leads =
+    subst (λ (pieces : List (List ℕ)). Leads bytes number pieces front)
+    (slice_split_none (λ byte. byte == 10) rest all) leads
 
 -- why a list gave no edits, where one of its lines was not added
-pub refused_there : (bytes : List ℕ) (number : ℕ) (text : List ℕ) (more : List (List ℕ)) (front : List LineEdit) (error : ParseError)
+pub refused_there :
+    (bytes : List ℕ) (number : ℕ) (text : List ℕ) (more : List (List ℕ)) (front : List LineEdit) (error : ParseError)
     → WhyNotAdded number text error → Leads bytes number (text ∷ more) front → WhyNotParsed bytes error
-refused_there bytes number text more front (BadLine bad) why leads = subst (λ (n : ℕ). Says bytes (Err n)) (sym why.0) (bad_line bytes number text more front why.1 why.2 leads)
+refused_there bytes number text more front (BadLine bad) why leads =
+    subst (λ (n : ℕ). Says bytes (Err n)) (sym why.0) (bad_line bytes number text more front why.1 why.2 leads)
 refused_there bytes number text more front NoMemory why leads = tt
 
 -- what follows a newline is shorter
 pub after_is_shorter : (rest text after : List ℕ) → rest ≡ text ++ 10 ∷ after → length after < length rest
-after_is_shorter rest text after e = let count = ap length e in let parts = length-append text (10 ∷ after) in omega arith
+after_is_shorter rest text after e =
+    let count = ap length e in let parts = length-append text (10 ∷ after) in omega arith

@@ -8,7 +8,8 @@ use Rattle.edit_list.specs.Showing.{Shows}
 
 -- a byte among those that are written, and one beside them
 at-inside :
-    (offset : ℕ) (bytes input : List ℕ) (p : ℕ) → offset + length bytes ≤ length input → offset ≤ p → p < offset + length bytes
+    (offset : ℕ) (bytes input : List ℕ) (p : ℕ) → offset + length bytes ≤ length input → offset ≤ p
+    → p < offset + length bytes
     → get_or (take offset input ++ bytes ++ drop (offset + length bytes) input) p 0 ≡ get_or bytes (p - offset) 0
 at-inside offset bytes input p fits low high = grind (arith, common_steps)
 
@@ -23,7 +24,9 @@ at-behind :
 at-behind offset bytes input p fits high = grind (arith, common_steps)
 
 -- a byte of an input that got another length
-at-cut : (size : ℕ) (input : List ℕ) (p : ℕ) → p < size → get_or (take size input ++ replicate (size - length input) 0) p 0 ≡ get_or input p 0
+at-cut :
+    (size : ℕ) (input : List ℕ) (p : ℕ) → p < size
+    → get_or (take size input ++ replicate (size - length input) 0) p 0 ≡ get_or input p 0
 at-cut size input p under = grind (arith, common_steps)
 
 at-end : (input : List ℕ) (p : ℕ) → length input ≤ p → get_or input p 0 ≡ 0
@@ -49,7 +52,9 @@ shows-size buffer input size after shows p = (low, high)
     high over = (shows p).1 (omega arith)
 
 -- two lists with the same bytes are the same
-pub shown-whole : (buffer input : List ℕ) (count : ℕ) → length buffer ≡ length input → length input ≤ count → Shows buffer input count → input ≡ buffer
+pub shown-whole :
+    (buffer input : List ℕ) (count : ℕ) → length buffer ≡ length input → length input ≤ count → Shows buffer input count
+    → input ≡ buffer
 shown-whole buffer input count same whole shows =
     ext_get_or 0 input buffer (sym same) (λ i under. sym ((shows i).0 (omega arith)))
 
@@ -65,7 +70,9 @@ shows-cleared buffer input kept fits shows p = (low, high)
     at-back : kept ≤ p → get_or (take kept buffer ++ replicate (length buffer - kept) 0) p 0 ≡ 0
     at-back over = grind (arith, common_steps)
 
-    low : p < min (length input) kept → get_or (take kept buffer ++ replicate (length buffer - kept) 0) p 0 ≡ get_or input p 0
+    low :
+        p < min (length input) kept
+        → get_or (take kept buffer ++ replicate (length buffer - kept) 0) p 0 ≡ get_or input p 0
     low under = at-front (omega arith) ∙ (shows p).0 (omega arith)
 
     split : (a b : ℕ) → (a < b) ⊎ (b ≤ a)

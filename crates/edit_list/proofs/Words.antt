@@ -31,7 +31,9 @@ pub no_space-decimal : (n : ℕ) → n < number_limit → All NoSpace (decimal n
 no_space-decimal n small = no_space (decimal n) (digits_decimal decimal_texts n (omega arith))
 
 -- the first space is found again, and what stands around it
-pub around_first_space : (xs ys a b : List ℕ) → All NoSpace xs → All NoSpace ys → xs ++ 32 ∷ a ≡ ys ++ 32 ∷ b → (xs ≡ ys) × (a ≡ b)
+pub around_first_space :
+    (xs ys a b : List ℕ) → All NoSpace xs → All NoSpace ys → xs ++ 32 ∷ a ≡ ys ++ 32 ∷ b
+    → (xs ≡ ys) × (a ≡ b)
 around_first_space [] [] a b p q e = (refl, cc)
 around_first_space [] (y ∷ ys) a b p q e =
     let is : y ≡ 32 = cc in
@@ -54,26 +56,34 @@ space_is_there (x ∷ xs) [] a p e =
     let is : x ≡ 32 = cc in
     let not : (32 == 32) ≡ false = subst NoSpace is (All-head NoSpace x xs p) in
     cc
-space_is_there (x ∷ xs) (y ∷ ys) a p e = let tails : xs ≡ ys ++ 32 ∷ a = cc in space_is_there xs ys a (All-tail NoSpace x xs p) tails
+space_is_there (x ∷ xs) (y ∷ ys) a p e =
+    let tails : xs ≡ ys ++ 32 ∷ a = cc in space_is_there xs ys a (All-tail NoSpace x xs p) tails
 
 -- what a line says that begins with `set `
 pub set_line : (rest : List ℕ) → IsEdit (codes "set " ++ rest)
-    → (offset : ℕ) × (bytes : List ℕ) × (digits : List ℕ) × (offset < number_limit) × (0 < length bytes) × SpellBytes digits bytes × (rest ≡ decimal offset ++ 32 ∷ digits)
+    → (offset : ℕ) × (bytes : List ℕ) × (digits : List ℕ) × (offset < number_limit) × (0 < length bytes)
+    × SpellBytes digits bytes × (rest ≡ decimal offset ++ 32 ∷ digits)
 set_line rest (Set offset bytes, s) = (offset, bytes, s.2, s.0, s.1, s.3, cc)
 set_line rest (Size size, s) = absurd (other_word (codes "set " ++ rest) refl (sym s.1))
 
 -- what a line says that begins with `size `
-pub size_line : (rest : List ℕ) → IsEdit (codes "size " ++ rest) → (size : ℕ) × (size < number_limit) × (rest ≡ decimal size)
+pub size_line :
+    (rest : List ℕ) → IsEdit (codes "size " ++ rest)
+    → (size : ℕ) × (size < number_limit) × (rest ≡ decimal size)
 size_line rest (Set offset bytes, s) = absurd (other_word (codes "size " ++ rest) (sym s.4) refl)
 size_line rest (Size size, s) = (size, s.0, cc)
 
 -- a line begins with one of the two words
-pub no_other_line : (text : List ℕ) → ((rest : List ℕ) → text ≢ codes "set " ++ rest) → ((rest : List ℕ) → text ≢ codes "size " ++ rest) → IsEdit text → ⊥
+pub no_other_line :
+    (text : List ℕ) → ((rest : List ℕ) → text ≢ codes "set " ++ rest) → ((rest : List ℕ) → text ≢ codes "size " ++ rest)
+    → IsEdit text
+    → ⊥
 no_other_line text no_set no_size (Set offset bytes, s) = no_set (decimal offset ++ 32 ∷ s.2) s.4
 no_other_line text no_set no_size (Size size, s) = no_size (decimal size) s.1
 
 -- why a line that begins with `set ` gave no edit, where its digits gave no bytes
 pub no_set_without_bytes : (rest digits : List ℕ) (answer : LineFault) → WhyNoBytes digits answer
-    → (IsEdit (codes "set " ++ rest) → (bytes : List ℕ) × (0 < length bytes) × SpellBytes digits bytes) → WhyNoEdit (codes "set " ++ rest) answer
+    → (IsEdit (codes "set " ++ rest) → (bytes : List ℕ) × (0 < length bytes) × SpellBytes digits bytes)
+    → WhyNoEdit (codes "set " ++ rest) answer
 no_set_without_bytes rest digits fault.Bad why from = λ is. let found = from is in why found.0 found.1 found.2
 no_set_without_bytes rest digits fault.NoMemory why from = tt

@@ -4,10 +4,11 @@ use Rattle.std.specs.List.{enumerate_from}
 use Rattle.edit_spec.specs.Edit.{LineEdit}
 use Rattle.edit_spec.specs.Grammar.{Line, SpellAll, is_filled}
 
--- pieces as lines, numbered from this number; empty ones are numbered and left out (this project's own)
+-- pieces as lines, numbered from this number; empty ones are numbered and left out
 abbrev pub lines_from : ℕ → List (List ℕ) → List Line
 lines_from number pieces = filter (λ line. is_filled line.1) (enumerate_from number pieces)
 
--- the edit of one line was put behind others, if the line isn't empty (this project's own)
+-- the edit of one line was put behind others, if the line isn't empty
 abbrev pub AddsLine : ℕ → List ℕ → List LineEdit → List LineEdit → Type 0
-AddsLine number text before after = (added : List LineEdit) × SpellAll (lines_from number (text ∷ [])) added × (after ≡ before ++ added)
+AddsLine number text before after =
+    (added : List LineEdit) × SpellAll (lines_from number (text ∷ [])) added × (after ≡ before ++ added)

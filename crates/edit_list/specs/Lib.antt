@@ -1,3 +1,4 @@
+-- The files of definitions of this crate.
 pub mod Said
 pub mod Numerals
 pub mod Refusals

@@ -12,32 +12,32 @@ use Rattle.edit_list.specs.declared.apply.ApplyError.{ApplyError}
 use Rattle.edit_list.specs.declared.apply.ApplyError.TheVariants.{OutOfRange}
 use Rattle.edit_list.specs.declared.apply.ApplyError.TheVariants as applying
 
--- why digits gave no bytes: they spell none, or memory ran out (this project's own)
+-- why digits gave no bytes: they spell none, or memory ran out
 abbrev pub WhyNoBytes : List ℕ → LineFault → Type 0
 WhyNoBytes digits fault.Bad = (bytes : List ℕ) → 0 < length bytes → SpellBytes digits bytes → ⊥
 WhyNoBytes digits fault.NoMemory = Unit {0}
 
--- why a line gave no edit: it spells none, or memory ran out (this project's own)
+-- why a line gave no edit: it spells none, or memory ran out
 abbrev pub WhyNoEdit : List ℕ → LineFault → Type 0
 WhyNoEdit text fault.Bad = IsEdit text → ⊥
 WhyNoEdit text fault.NoMemory = Unit {0}
 
--- why a list gave no edits: the first line that spells none has this number, or memory ran out (this project's own)
+-- why a list gave no edits: the first line that spells none has this number, or memory ran out
 abbrev pub WhyNotParsed : List ℕ → ParseError → Type 0
 WhyNotParsed bytes (BadLine number) = Says bytes (Err number)
 WhyNotParsed bytes NoMemory = Unit {0}
 
--- why a line was not added to others: it spells no edit, or memory ran out (this project's own)
+-- why a line was not added to others: it spells no edit, or memory ran out
 abbrev pub WhyNotAdded : ℕ → List ℕ → ParseError → Type 0
 WhyNotAdded number text (BadLine bad) = (bad ≡ number) × (0 < length text) × (IsEdit text → ⊥)
 WhyNotAdded number text NoMemory = Unit {0}
 
--- why edits were not done: the first that passes its bound stands on this line, or memory ran out (this project's own)
+-- why edits were not done: the first that passes its bound stands on this line, or memory ran out
 abbrev pub WhyNotApplied : List LineEdit → List ℕ → ApplyError → Type 0
 WhyNotApplied edits input (OutOfRange number) = edited edits input ≡ Err number
 WhyNotApplied edits input applying.NoMemory = Unit {0}
 
--- why edits give no length: the first that passes its bound stands on this line (this project's own)
+-- why edits give no length: the first that passes its bound stands on this line
 abbrev pub WhyNoLength : List LineEdit → ℕ → ApplyError → Type 0
 WhyNoLength edits len (OutOfRange number) = line_out_of_range edits len ≡ Some number
 WhyNoLength edits len applying.NoMemory = ⊥

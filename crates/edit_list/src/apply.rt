@@ -9,10 +9,8 @@ ghost use Rattle.edit_list.specs.Lengths.{ComesTo, length_after, lesser, leasts,
 ghost use Rattle.edit_list.specs.Showing.{Shows};
 
 use super::edits::{Edit, Edits, LineEdit};
+use machine_spec::MOST_INPUT_BYTES;
 use std::alloc::{AllocError, Global};
-
-/// The most bytes that an edit may lengthen an input to.
-const LONGEST_INPUT: usize = 1_048_576;
 
 /// Why edits were not done.
 #[derive(Clone, Copy, Debug, PartialEq, Eq)]
@@ -35,7 +33,7 @@ fn length_after(edit: &Edit, input_length: usize) -> Option<usize>
             Some(input_length)
         }
         Edit::Size(size) => {
-            if *size as usize > LONGEST_INPUT {
+            if *size as usize > MOST_INPUT_BYTES {
                 return None;
             }
             Some(*size as usize)
@@ -166,8 +164,8 @@ impl Edits {
     /// # Errors
     ///
     /// `OutOfRange` with the line of the first edit that passes its bound: `set` where it would write past the end
-    /// of the input as the lines before left it, `size` above 1,048,576. Or `NoMemory`. After either the input is
-    /// as before.
+    /// of the input as the lines before left it, `size` above `MOST_INPUT_BYTES`. Or `NoMemory`. After either the
+    /// input is as before.
     pub fn apply(&self, input: &mut Vec<u8>) -> Result<(), ApplyError>
         ensures done { OnOk result (edited self.now input.old.items ≡ Ok input.new.items) }
         ensures same { OnErr result (input.new.items ≡ input.old.items) }

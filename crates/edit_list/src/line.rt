@@ -33,7 +33,8 @@ pub fn split_once(bytes: &[u8], byte: u8) -> Option<(&[u8], &[u8])>
 
 /// What follows a word at the start of a text.
 fn after_word<'a>(text: &'a [u8], word: &[u8]) -> Option<&'a [u8]>
-    ensures { MatchOption result ((rest : List ℕ) → text.now ≢ word.now ++ rest) (λ rest. text.now ≡ word.now ++ rest.now) }
+    ensures { MatchOption result ((rest : List ℕ) → text.now ≢ word.now ++ rest)
+        (λ rest. text.now ≡ word.now ++ rest.now) }
 {
     text.strip_prefix(word)
 }
@@ -57,11 +58,10 @@ fn bytes_of(alloc: Global, digits: &[u8]) -> Result<Vec<u8>, LineFault>
     if digits.is_empty() {
         return Err(LineFault::Bad);
     }
-    let bytes = match hex::decode(alloc, digits) {
-        Ok(bytes) => bytes,
-        Err(error) => return Err(fault_of(error)),
-    };
-    Ok(bytes)
+    match hex::decode(alloc, digits) {
+        Ok(bytes) => Ok(bytes),
+        Err(error) => Err(fault_of(error)),
+    }
 }
 
 /// The edit of a line that begins with `set `, from what follows.
@@ -69,18 +69,14 @@ fn set_of(alloc: Global, rest: &[u8]) -> Result<Edit, LineFault>
     ensures spelled { IfOk result (λ edit. Spells (codes "set " ++ rest.now) (edit_said edit)) }
     ensures refused { IfErr result (WhyNoEdit (codes "set " ++ rest.now)) }
 {
-    let (number, digits) = match split_once(rest, b' ') {
-        Some(parts) => parts,
-        None => return Err(LineFault::Bad),
+    let Some((number, digits)) = split_once(rest, b' ') else {
+        return Err(LineFault::Bad);
     };
-    let offset = match number_of(number) {
-        Some(offset) => offset,
-        None => return Err(LineFault::Bad),
+    let Some(offset) = number_of(number) else {
+        return Err(LineFault::Bad);
     };
-    match bytes_of(alloc, digits) {
-        Ok(bytes) => Ok(Edit::Set { offset, bytes }),
-        Err(fault) => Err(fault),
-    }
+    let bytes = bytes_of(alloc, digits)?;
+    Ok(Edit::Set { offset, bytes })
 }
 
 /// The edit of a line that begins with `size `, from what follows.

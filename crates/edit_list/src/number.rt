@@ -41,7 +41,8 @@ fn value_of(digits: &[u8]) -> u32
 
 /// The number that a text writes in decimal, with at most seven digits and without leading zeros.
 pub fn number_of(text: &[u8]) -> Option<u32>
-    ensures { MatchOption result ((n : ℕ) → n < number_limit → text.now ≢ decimal n) (λ n. (n < number_limit) × (text.now ≡ decimal n)) }
+    ensures { MatchOption result ((n : ℕ) → n < number_limit → text.now ≢ decimal n)
+        (λ n. (n < number_limit) × (text.now ≡ decimal n)) }
 {
     if is_numeral(text) {
         Some(value_of(text))

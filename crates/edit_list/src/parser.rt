@@ -8,7 +8,7 @@ ghost use Rattle.edit_list.specs.Refusals.{WhyNotAdded, WhyNotParsed};
 
 use super::edits::{Edits, LineEdit};
 use super::line::{LineFault, edit_of, split_once};
-use std::alloc::Global;
+use std::alloc::{AllocFailed, Global};
 
 /// Why the bytes of a list gave no edits.
 #[derive(Clone, Copy, Debug, PartialEq, Eq)]
@@ -19,6 +19,16 @@ pub enum ParseError {
     NoMemory,
 }
 
+impl<T: Drop> From<AllocFailed<T>> for ParseError {
+    ghost use Rattle.edit_list.specs.declared.parser.ParseError.TheVariants.{NoMemory};
+
+    ghost from_gives = { λ _ e. e ≡ NoMemory };
+
+    fn from(_failed: AllocFailed<T>) -> ParseError {
+        ParseError::NoMemory
+    }
+}
+
 /// Puts the edit of a line behind the others. An empty line has none.
 fn add_line(
     alloc: Global,
@@ -26,7 +36,8 @@ fn add_line(
     number: usize,
     text: &[u8],
 ) -> Result<(), ParseError>
-    ensures added { OnOk result (AddsLine number text.now (map line_said lines.old.items) (map line_said lines.new.items)) }
+    ensures added { OnOk result
+        (AddsLine number text.now (map line_said lines.old.items) (map line_said lines.new.items)) }
     ensures refused { IfErr result (WhyNotAdded number text.now) }
 {
     if text.is_empty() {
@@ -37,10 +48,7 @@ fn add_line(
         Err(LineFault::Bad) => return Err(ParseError::BadLine(number)),
         Err(LineFault::NoMemory) => return Err(ParseError::NoMemory),
     };
-    match lines.push(LineEdit { line: number, edit }) {
-        Ok(()) => {}
-        Err(_) => return Err(ParseError::NoMemory),
-    }
+    lines.push(LineEdit { line: number, edit })?;
     Ok(())
 }
 
@@ -61,15 +69,10 @@ pub fn parse(alloc: Global, bytes: &[u8]) -> Result<Edits, ParseError>
     let mut rest = bytes;
     let mut number = 1;
     while let Some((text, after)) = split_once(rest, b'\n') {
-        match add_line(alloc, &mut lines, number, text) {
-            Ok(()) => {}
-            Err(error) => return Err(error),
-        }
+        add_line(alloc, &mut lines, number, text)?;
         rest = after;
         number += 1;
     }
-    match add_line(alloc, &mut lines, number, rest) {
-        Ok(()) => Ok(Edits { lines }),
-        Err(error) => Err(error),
-    }
+    add_line(alloc, &mut lines, number, rest)?;
+    Ok(Edits { lines })
 }

@@ -1,5 +1,6 @@
 //! What no clause says: that lists are read and done with ample memory, and which lists are refused.
 use crate::*;
+use machine_spec::MOST_INPUT_BYTES;
 use std::alloc::{AllocError, Global};
 use std::test::Fail;
 
@@ -95,7 +96,7 @@ fn edits_are_done(rt: HostRuntime) -> Result<(), Fail> {
 fn an_input_grows_to_the_bound(rt: HostRuntime) -> Result<(), Fail> {
     let mut input = five(rt.alloc())?;
     assert!(rt; why_not_applied(rt.alloc(), b"size 1048576\nset 1048575 07", &mut input).is_none());
-    assert_eq!(rt; input.len(), 1_048_576);
+    assert_eq!(rt; input.len(), MOST_INPUT_BYTES);
     assert_eq!(rt; input.last(), Some(&7));
     Ok(())
 }

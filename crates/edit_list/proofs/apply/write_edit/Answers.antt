@@ -1,3 +1,4 @@
+-- What is left to prove of `write_edit`.
 use Rattle.std.proofs.Common.{◌≡◌, ◌≤◌, ◌+◌, length, min, sym, subst, arith}
 use Rattle.std.proofs.lemmas.Bool.Decides.{nat_tests}
 use Rattle.edit_list.specs.Showing.{Shows}

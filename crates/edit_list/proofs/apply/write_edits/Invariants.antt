@@ -1,3 +1,4 @@
+-- What holds at the loop of `write_edits`.
 use Rattle.std.proofs.Common.{◌≡◌, ℕ, List, drop, map, min, length}
 use Rattle.edit_spec.specs.Editing.{edited}
 use Rattle.edit_list.specs.Said.{line_said}
@@ -10,6 +11,8 @@ abbrev pub invariant-loop-place : goal.invariant-loop-place
 invariant-loop-place l = record {
   last : ComesTo (map line_said (drop l.place l.lines)) l.current (length l.initial.buffer);
   done :
-      (input : List ℕ) → length input ≡ l.input_length → Shows l.initial.buffer input (min l.input_length (least (map line_said l.lines) (length l.initial.buffer)))
-      → IsAt (map line_said (drop l.place l.lines)) l.buffer l.current (length l.initial.buffer) (edited (map line_said l.lines) input);
+      (input : List ℕ) → length input ≡ l.input_length
+      → Shows l.initial.buffer input (min l.input_length (least (map line_said l.lines) (length l.initial.buffer)))
+      → IsAt (map line_said (drop l.place l.lines)) l.buffer l.current (length l.initial.buffer)
+      (edited (map line_said l.lines) input);
 }

@@ -1,6 +1,8 @@
+-- What is left to prove of `after_word`.
 use Rattle.std.proofs.lemmas.Bool.Decides.{Decides-eqb}
 use Rattle.std.proofs.lemmas.Slice.Eq.{strip_prefix_is}
 use Rattle.edit_list.proofs.line.after_word.Goals as goal
 
 pub returns : goal.returns
-returns c = strip_prefix_is Decides-eqb c.args.text.now c.args.word.now c.strip_prefix.result c.strip_prefix.ensures.cases
+returns c =
+    strip_prefix_is Decides-eqb c.args.text.now c.args.word.now c.strip_prefix.result c.strip_prefix.ensures.cases

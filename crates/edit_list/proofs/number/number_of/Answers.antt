@@ -1,3 +1,4 @@
+-- What is left to prove of `number_of`.
 use Rattle.std.proofs.Common.{◌≡◌, ℕ, List, true, false, subst, sym, ◌∙◌}
 use Rattle.edit_list.specs.Numerals.{is_numeral}
 use Rattle.edit_list.proofs.Numerals.{numeral_is, is_numeral-decimal}
@@ -10,6 +11,7 @@ returns-then-is_numeral c =
 
 pub returns-else-is_numeral : goal.returns-else-is_numeral
 returns-else-is_numeral c = λ n small is.
-    let yes : is_numeral c.args.text.now ≡ true = subst (λ (t : List ℕ). is_numeral t ≡ true) (sym is) (is_numeral-decimal n small) in
+    let yes : is_numeral c.args.text.now ≡ true =
+    subst (λ (t : List ℕ). is_numeral t ≡ true) (sym is) (is_numeral-decimal n small) in
     let no : is_numeral c.args.text.now ≡ false = sym c.is_numeral.ensures ∙ c.if-is_numeral.false in
     cc
