@@ -16,7 +16,8 @@ use Rattle.round_inputs.specs.Refusals.{refusal_of, WhyNotMade, WhyNoInputs}
 use Rattle.round_inputs.proofs.Leading.{Leads, leads-last, leads-more, inputs_from-more}
 
 -- the lists so far make the inputs so far, and the last of these is at hand
-pub record IsGoing (first : List ℕ) (lists : List (Vec ℕ Global)) (place : ℕ) (later : List (List LineEdit)) (last : List ℕ) : Type 0 where
+pub record IsGoing (first : List ℕ) (lists : List (Vec ℕ Global)) (place : ℕ) (later : List (List LineEdit))
+    (last : List ℕ) : Type 0 where
   pub made : AreInputs first (bytes_of_each (take place lists)) (inputs_from later first)
   pub leads : Leads later first last
   pub count : length later ≡ place
@@ -32,15 +33,18 @@ current-there first lists place later last within going =
 
 -- a list that makes an input of the last one
 pub one-more :
-    (first : List ℕ) (lists : List (Vec ℕ Global)) (place : ℕ) (later : List (List LineEdit)) (last next : List ℕ) (list : Vec ℕ Global) (edits : List LineEdit)
+    (first : List ℕ) (lists : List (Vec ℕ Global)) (place : ℕ) (later : List (List LineEdit)) (last next : List ℕ)
+    (list : Vec ℕ Global) (edits : List LineEdit)
     → place < length lists → list ≡ get_or lists place list → IsGoing first lists place later last
     → Says list.items (Ok edits) → edited edits last ≡ Ok next
     → IsGoing first lists (place + 1) (later ++ edits ∷ []) next
 one-more first lists place later last next list edits within at going said done =
-    let more = inputs-more first (bytes_of_each (take place lists)) (inputs_from later first) last list.items next going.made
+    let more =
+    inputs-more first (bytes_of_each (take place lists)) (inputs_from later first) last list.items next going.made
     (current-there first lists place later last within going) (record { edits = edits; said = said; done = done }) in
     let taken : bytes_of_each (take (place + 1) lists) ≡ bytes_of_each (take place lists) ++ list.items ∷ [] =
-    map_more (λ v. v.items) lists place list within ∙ ap (λ (v : Vec ℕ Global). bytes_of_each (take place lists) ++ v.items ∷ []) (sym at) in
+    map_more (λ v. v.items) lists place list within
+    ∙ ap (λ (v : Vec ℕ Global). bytes_of_each (take place lists) ++ v.items ∷ []) (sym at) in
     let count : length (later ++ edits ∷ []) ≡ place + 1 = let before = going.count in grind (arith, common_steps) in
     record {
       made = rw (taken, inputs_from-more later edits first last next going.leads done) more;
@@ -50,7 +54,8 @@ one-more first lists place later last next list edits within at going said done 
 
 -- a list that is refused on the last one
 pub refused-there :
-    (first : List ℕ) (lists : List (Vec ℕ Global)) (place : ℕ) (later : List (List LineEdit)) (last : List ℕ) (list : Vec ℕ Global) (error : InputsError)
+    (first : List ℕ) (lists : List (Vec ℕ Global)) (place : ℕ) (later : List (List LineEdit)) (last : List ℕ)
+    (list : Vec ℕ Global) (error : InputsError)
     → place < length lists → list ≡ get_or lists place list → IsGoing first lists place later last
     → WhyNotMade place list.items last error
     → WhyNoInputs first (bytes_of_each lists) error
@@ -59,7 +64,9 @@ refused-there first lists place later last list (Refused number line why) within
     let behind = bytes_of_each (drop (place + 1) lists) in
     let there = inputs-refused first (bytes_of_each (take place lists)) (inputs_from later first) last list.items
     (refusal_of line why) behind going.made current refuses.1 in
-    let places : length (bytes_of_each (take place lists)) ≡ number = let size : length (bytes_of_each (take place lists)) ≡ place = grind (arith, common_steps) in size ∙ sym refuses.0 in
+    let places : length (bytes_of_each (take place lists)) ≡ number =
+    let size : length (bytes_of_each (take place lists)) ≡ place = grind (arith, common_steps) in
+    size ∙ sym refuses.0 in
     let rest : drop place lists ≡ list ∷ drop (place + 1) lists =
     drop_more lists place list within ∙ ap (λ (v : Vec ℕ Global). v ∷ drop (place + 1) lists) (sym at) in
     let whole : bytes_of_each (take place lists) ++ list.items ∷ behind ≡ bytes_of_each lists =
@@ -67,5 +74,6 @@ refused-there first lists place later last list (Refused number line why) within
     ∙ ap (λ (vs : List (Vec ℕ Global)). bytes_of_each (take place lists ++ vs)) (sym rest)
     ∙ ap bytes_of_each (take-append-drop place lists) in
     subst (λ (n : ℕ). IsFirstRefused first (bytes_of_each lists) n (refusal_of line why)) places
-    (subst (λ (ls : List (List ℕ)). IsFirstRefused first ls (length (bytes_of_each (take place lists))) (refusal_of line why)) whole there)
+    (subst (λ (ls : List (List ℕ)). IsFirstRefused first ls (length (bytes_of_each (take place lists)))
+    (refusal_of line why)) whole there)
 refused-there first lists place later last list NoMemory within at going refuses = tt

@@ -11,9 +11,12 @@ Leads [] input last = input ≡ last
 Leads (edits ∷ lists) input last = (next : List ℕ) × (edited edits input ≡ Ok next) × Leads lists next last
 
 -- one input for each list, and the first
-pub inputs-count : (lists : List (List LineEdit)) (input : List ℕ) → length (inputs_from lists input) ≡ suc (length lists)
+pub inputs-count :
+    (lists : List (List LineEdit)) (input : List ℕ)
+    → length (inputs_from lists input) ≡ suc (length lists)
 inputs-count [] input = refl
-inputs-count (edits ∷ lists) input = ap (λ (n : ℕ). suc n) (inputs-count lists (result_unwrap_or (edited edits input) input))
+inputs-count (edits ∷ lists) input =
+    ap (λ (n : ℕ). suc n) (inputs-count lists (result_unwrap_or (edited edits input) input))
 
 -- they can be done
 pub leads-done : (lists : List (List LineEdit)) (input last : List ℕ) → Leads lists input last → CanBeDone lists input
@@ -21,7 +24,9 @@ leads-done [] input last leads = tt
 leads-done (edits ∷ lists) input last leads = (leads.0, leads.1, leads-done lists leads.0 last leads.2)
 
 -- what a list that can be done makes
-made-is : (edits : List LineEdit) (input next : List ℕ) → edited edits input ≡ Ok next → result_unwrap_or (edited edits input) input ≡ next
+made-is :
+    (edits : List LineEdit) (input next : List ℕ) → edited edits input ≡ Ok next
+    → result_unwrap_or (edited edits input) input ≡ next
 made-is edits input next done = ap (λ (made : Result (List ℕ) ℕ). result_unwrap_or made input) done
 
 -- the last input is there
@@ -30,18 +35,21 @@ pub leads-last :
     → Leads lists input last → slice_get (inputs_from lists input) (length lists) ≡ Some last
 leads-last [] input last leads = ap (λ (i : List ℕ). Some i) leads
 leads-last (edits ∷ lists) input last leads =
-    ap (λ (i : List ℕ). slice_get (inputs_from lists i) (length lists)) (made-is edits input leads.0 leads.1) ∙ leads-last lists leads.0 last leads.2
+    ap (λ (i : List ℕ). slice_get (inputs_from lists i) (length lists)) (made-is edits input leads.0 leads.1)
+    ∙ leads-last lists leads.0 last leads.2
 
 -- one list more
 pub leads-more :
     (lists : List (List LineEdit)) (edits : List LineEdit) (input last next : List ℕ)
     → Leads lists input last → edited edits last ≡ Ok next → Leads (lists ++ edits ∷ []) input next
 leads-more [] edits input last next leads done = (next, ap (edited edits) leads ∙ done, refl)
-leads-more (es ∷ lists) edits input last next leads done = (leads.0, leads.1, leads-more lists edits leads.0 last next leads.2 done)
+leads-more (es ∷ lists) edits input last next leads done =
+    (leads.0, leads.1, leads-more lists edits leads.0 last next leads.2 done)
 
 pub inputs_from-more :
     (lists : List (List LineEdit)) (edits : List LineEdit) (input last next : List ℕ)
-    → Leads lists input last → edited edits last ≡ Ok next → inputs_from (lists ++ edits ∷ []) input ≡ inputs_from lists input ++ next ∷ []
+    → Leads lists input last → edited edits last ≡ Ok next → inputs_from (lists ++ edits ∷ []) input
+    ≡ inputs_from lists input ++ next ∷ []
 inputs_from-more [] edits input last next leads done =
     ap (λ (i : List ℕ). input ∷ i ∷ []) (made-is edits input next (ap (edited edits) leads ∙ done))
 inputs_from-more (es ∷ lists) edits input last next leads done =

@@ -5,22 +5,22 @@ use Rattle.std.specs.Result.{result_unwrap_or}
 use Rattle.edit_spec.specs.Edit.{LineEdit}
 use Rattle.edit_spec.specs.Editing.{edited}
 
--- An input, and then what each list of edits makes of the one before; a list that can't be done would leave it. (this project's own)
+-- An input, and then what each list of edits makes of the one before; a list that can't be done would leave it.
 abbrev pub inputs_from : List (List LineEdit) → List ℕ → List (List ℕ)
 inputs_from [] input = input ∷ []
 inputs_from (edits ∷ lists) input = input ∷ inputs_from lists (result_unwrap_or (edited edits input) input)
 
--- Lists of edits can be done, the first to an input and each other to what the one before it made. (this project's own)
+-- Lists of edits can be done, the first to an input and each other to what the one before it made.
 abbrev pub CanBeDone : List (List LineEdit) → List ℕ → Type 0
 CanBeDone [] input = ⊤
 CanBeDone (edits ∷ lists) input = (next : List ℕ) × (edited edits input ≡ Ok next) × CanBeDone lists next
 
--- The inputs that are still to come, if there is a next one. (this project's own)
+-- The inputs that are still to come, if there is a next one.
 abbrev pub inputs_to_come : Option (Vec ℕ Global) → List (List LineEdit) → List (List ℕ)
 inputs_to_come None lists = []
 inputs_to_come (Some input) lists = inputs_from lists input.items
 
--- Each of them can be made. (this project's own)
+-- Each of them can be made.
 abbrev pub CanBeMade : Option (Vec ℕ Global) → List (List LineEdit) → Type 0
 CanBeMade None lists = ⊤
 CanBeMade (Some input) lists = CanBeDone lists input.items

@@ -8,8 +8,8 @@ use std::alloc::AllocError;
 use std::collections::VecDeque;
 use std::marker::Model;
 
-/// The inputs of the rounds that are still to come: the next one, and the edits that make the others, one list for each.
-/// A clause sees the list of the inputs.
+/// The inputs of the rounds that are still to come: the next one, and the edits that make the others, one list for
+/// each. A clause sees the list of the inputs.
 #[derive(Drop)]
 pub struct Inputs {
     /// The next input, or `None` where no more is to come.

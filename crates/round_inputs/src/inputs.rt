@@ -3,7 +3,7 @@
 ghost use Rattle.std.specs.Prelude.{◌≡◌, ◌≤◌, length, Ok, IfOk, IfErr};
 ghost use Rattle.std.specs.List.{All};
 ghost use Rattle.edit_spec.specs.Grammar.{Says};
-ghost use Rattle.edit_spec.specs.Editing.{edited, longest_input};
+ghost use Rattle.edit_spec.specs.Editing.{edited};
 ghost use Rattle.rerun_spec.specs.Inputs.{AreInputs};
 ghost use Rattle.round_inputs.specs.Lists.{bytes_of_each};
 ghost use Rattle.round_inputs.specs.Refusals.{WhyNotMade, WhyNoInputs};
@@ -11,6 +11,7 @@ ghost use Rattle.round_inputs.specs.Refusals.{WhyNotMade, WhyNoInputs};
 use super::coming::Inputs;
 use super::refusal::{InputsError, Why};
 use edit_list::{ApplyError, Edits, ParseError, parse};
+use machine_spec::MOST_INPUT_BYTES;
 use std::alloc::Global;
 use std::collections::VecDeque;
 
@@ -56,23 +57,15 @@ fn done_to(
 /// bound on the input before. Or `NoMemory`.
 pub fn inputs_of(alloc: Global, first: Vec<u8>, lists: &[Vec<u8>]) -> Result<Inputs, InputsError>
     ensures inputs { IfOk result (λ inputs. AreInputs first.items (bytes_of_each lists.now) inputs) }
-    ensures short { length first.items ≤ longest_input → IfOk result (λ inputs. All (λ input. length input ≤ longest_input) inputs) }
+    ensures short { length first.items ≤ MOST_INPUT_BYTES
+        → IfOk result (λ inputs. All (λ input. length input ≤ MOST_INPUT_BYTES) inputs) }
     ensures refused { IfErr result (WhyNoInputs first.items (bytes_of_each lists.now)) }
 {
-    let mut last = match Vec::from_slice(alloc, &first) {
-        Ok(copy) => copy,
-        Err(_) => return Err(InputsError::NoMemory),
-    };
+    let mut last = Vec::from_slice(alloc, &first)?;
     let mut later = VecDeque::new(alloc);
     for (place, list) in lists.iter().enumerate() {
-        let edits = match done_to(alloc, place, list, &mut last) {
-            Ok(edits) => edits,
-            Err(error) => return Err(error),
-        };
-        match later.push_back(edits) {
-            Ok(()) => {}
-            Err(_) => return Err(InputsError::NoMemory),
-        }
+        let edits = done_to(alloc, place, list, &mut last)?;
+        later.push_back(edits)?;
     }
     Ok(Inputs {
         input: Some(first),

@@ -1,5 +1,9 @@
 //! Why there are no inputs.
 
+ghost use Rattle.std.specs.Prelude.{◌≡◌};
+
+use std::alloc::{AllocError, AllocFailed};
+
 /// Why a line of an edit list is refused.
 #[derive(Clone, Copy, Debug, PartialEq, Eq)]
 pub enum Why {
@@ -17,4 +21,24 @@ pub enum InputsError {
     Refused { list: usize, line: usize, why: Why },
     /// The host's memory ran out.
     NoMemory,
+}
+
+impl From<AllocError> for InputsError {
+    ghost use Rattle.round_inputs.specs.declared.refusal.InputsError.TheVariants.{NoMemory};
+
+    ghost from_gives = { λ _ e. e ≡ NoMemory };
+
+    fn from(_error: AllocError) -> InputsError {
+        InputsError::NoMemory
+    }
+}
+
+impl<T: Drop> From<AllocFailed<T>> for InputsError {
+    ghost use Rattle.round_inputs.specs.declared.refusal.InputsError.TheVariants.{NoMemory};
+
+    ghost from_gives = { λ _ e. e ≡ NoMemory };
+
+    fn from(_failed: AllocFailed<T>) -> InputsError {
+        InputsError::NoMemory
+    }
 }

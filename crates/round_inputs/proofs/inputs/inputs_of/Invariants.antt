@@ -1,3 +1,4 @@
+-- What holds at the loop of `inputs_of`.
 use Rattle.round_inputs.proofs.Going.{IsGoing}
 use Rattle.round_inputs.proofs.inputs.inputs_of.Given as goal
 
