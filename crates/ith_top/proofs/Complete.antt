@@ -1,7 +1,10 @@
 -- Where nothing stands in its way, a line is done, or the host's memory ran out.
-use Rattle.std.proofs.Common.{◌≡◌, ◌<◌, ◌≤◌, ℕ, true, false, List, [], ◌∷◌, length, Option, Some, None, ◌⊎◌, inl, inr, refl, ap, ◌∙◌, subst, arith}
+use Rattle.std.proofs.Common.{◌≡◌, ◌<◌, ◌≤◌, ℕ, true, false, List, [], ◌∷◌, ◌++◌, length, Option, Some, None, ◌⊎◌, inl, inr, refl, ap, ◌∙◌, subst, arith}
 use Rattle.std.specs.Prelude.{IfSome}
 use Rattle.std.specs.List.{AllZip}
+use Rattle.elf_spec.specs.declared.TheConstants.{MOST_ELF_BYTES}
+use Rattle.edit_spec.specs.declared.TheConstants.{MOST_LIST_BYTES}
+use Rattle.machine_spec.specs.declared.TheConstants.{MOST_INPUT_BYTES}
 use Rattle.ith_host.specs.World.{World}
 use Rattle.elf_spec.specs.Image.{is_image}
 use Rattle.rerun_spec.specs.Inputs.{AreInputs}
@@ -10,12 +13,16 @@ use Rattle.ith_top.specs.declared.status.Status.{Status}
 use Rattle.ith_top.specs.declared.status.Status.TheVariants as status
 use Rattle.ith_top.specs.Words.{Text, Line, Runs, RunLine}
 use Rattle.ith_top.specs.Statuses.{code_of}
-use Rattle.ith_top.specs.Ends.{Named, OfOne, OfNone, FailedToRead, IsLong, files_named, lists_named, AreLists, IsSmooth, RunEnds, Answers, Completes, elf_most, input_most, list_most}
+use Rattle.ith_top.specs.Files.{Named, StopsAt, FailedToRead, IsLong, files_named, lists_named}
+use Rattle.ith_top.specs.Ends.{OfNone, AreLists, IsSmooth, RunEnds, Answers, Completes}
 
-none_of_one : (fact : Named → Type 0) (files : List Named) → OfNone fact files → OfOne fact files → ⊥
-none_of_one fact [] none one = one
-none_of_one fact (file ∷ files) none (inl here) = none.0 here
-none_of_one fact (file ∷ files) none (inr there) = none_of_one fact files none.1 there
+none_there : (fact : Named → Type 0) (earlier : List Named) (file : Named) (later : List Named) → OfNone fact (earlier ++ file ∷ later) → fact file → ⊥
+none_there fact [] file later none there = none.0 there
+none_there fact (first ∷ earlier) file later none there = none_there fact earlier file later none.1 there
+
+none_stops : (fact : Named → Type 0) (files : List Named) (a b : World) → OfNone fact files → StopsAt fact files a b → ⊥
+none_stops fact files a b none stops =
+    none_there fact stops.earlier stops.file stops.later (subst (OfNone fact) stops.are none) stops.cause
 
 -- what a told file is said to hold, it holds
 content-told : (told : Option (List ℕ)) (bytes content : List ℕ) → told ≡ Some bytes → IfSome told (λ t. t ≡ content) → bytes ≡ content
@@ -45,7 +52,7 @@ lists-short :
 lists-short before [] told is within = tt
 lists-short before (name ∷ names) [] is within = absurd is
 lists-short before (name ∷ names) (t ∷ told) is within =
-    (short-told (before.files name) t list_most is.0 within.0.1, lists-short before names told is.1 within.1)
+    (short-told (before.files name) t MOST_LIST_BYTES is.0 within.0.1, lists-short before names told is.1 within.1)
 
 by_status :
     (line : RunLine) (before after : World) (answer : ℕ) (s : Status)
@@ -70,19 +77,19 @@ by_status line before after answer status.EditList is ends smooth =
     (subst (λ (ls : List (List ℕ)). AreInputs smooth.contents.input ls smooth.inputs) lists smooth.edited) in
     absurd (inputs-unrefused ends.contents.input ends.contents.lists smooth.inputs ends.place ends.why edited ends.refused)
 by_status line before after answer status.ReadFault is ends smooth =
-    absurd (none_of_one (FailedToRead before after) (files_named line) smooth.no_read_fault ends.cause)
+    absurd (none_stops (FailedToRead before after) (files_named line) before after smooth.no_read_fault ends.stops)
 by_status line before after answer status.WriteFault is ends smooth = absurd (smooth.no_print_fault ends.part.cause)
 by_status line before after answer status.Memory is ends smooth = inr (inr is)
 by_status line before after answer status.TooLarge is ends smooth =
     absurd
-    (none_of_one (IsLong before) (files_named line) (
-      short-told (before.files line.elf) smooth.contents.elf elf_most smooth.elf smooth.read.contents.elf_within,
+    (none_stops (IsLong before) (files_named line) before after (
+      short-told (before.files line.elf) smooth.contents.elf MOST_ELF_BYTES smooth.elf smooth.read.contents.elf_within,
       (
-        short-told (before.files line.input) smooth.contents.input input_most smooth.input smooth.read.contents.input_within,
+        short-told (before.files line.input) smooth.contents.input MOST_INPUT_BYTES smooth.input smooth.read.contents.input_within,
         lists-short before line.edits smooth.contents.lists smooth.lists smooth.read.contents.lists,
       ),
     )
-    ends.cause)
+    ends.stops)
 
 pub complete : (line : Option Line) (before after : World) (answer : ℕ) → Answers line before after answer → Completes line before after answer
 complete None before after answer answers = tt

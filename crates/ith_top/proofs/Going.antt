@@ -7,10 +7,10 @@ use Rattle.std.proofs.lemmas.List.Folds.{list_all-append}
 use Rattle.std.specs.List.{AllByRecursion}
 use Rattle.machine_spec.specs.Setup.{Setup, IsSetup}
 use Rattle.history_spec.specs.History.{History}
-use Rattle.rerun_spec.specs.Rounds.{Round, IsRound, round_on, rounds_from, rounds_of, left_by}
+use Rattle.rerun_spec.specs.Rounds.{Round, round_on, rounds_from, rounds_of, left_by}
 use Rattle.rerun_spec.specs.Reports.{report_of, reports_of, exits, all_exit}
-use Rattle.rerun_spec.proofs.Rounds.{each-round}
-use Rattle.ith_host.specs.World.{World, NoneFell, Stays}
+use Rattle.rerun_spec.proofs.Rounds.{CanBeMade, each-round}
+use Rattle.ith_host.specs.World.{World, NoneFell, Stays, AsksNothing}
 use Rattle.ith_top.specs.declared.status.Status.{Status}
 use Rattle.ith_top.specs.declared.status.Status.TheVariants as status
 use Rattle.ith_top.specs.Ends.{Prints}
@@ -25,6 +25,7 @@ pub record IsGoing (s : Setup) (workers : ℕ) (inputs : List (List ℕ)) (a w :
   pub prints : Prints a w (concat (map (report_of workers) done))
   pub ended : exit ≡ list_all exits done
   pub counts : NoneFell a w
+  pub asked : AsksNothing a w
 
 appends-none : (told : Option (List ℕ)) → Appends told told []
 appends-none None = tt
@@ -86,16 +87,16 @@ pub going_start :
     (s : Setup) (workers : ℕ) (inputs rest : List (List ℕ)) (a : World) (number : ℕ)
     → number ≡ 0 → rest ≡ inputs → NoneFell a a → IsGoing s workers inputs a a number None rest true
 going_start s workers inputs rest a number first all counts =
-    rw (first, all) (record { done = []; rounds = refl; prints = prints_none a; ended = refl; counts = counts })
+    rw (first, all) (record { done = []; rounds = refl; prints = prints_none a; ended = refl; counts = counts; asked = refl })
 
 -- the next round may be made
 pub going_sound :
     (s : Setup) (workers : ℕ) (inputs : List (List ℕ)) (a w : World) (number : ℕ) (past : Option History) (input : List ℕ) (rest : List (List ℕ)) (exit : Bool)
     → IsSetup s → AreMadeByLists s.input inputs
-    → IsGoing s workers inputs a w number past (input ∷ rest) exit → IsRound (round_on number past s input)
+    → IsGoing s workers inputs a w number past (input ∷ rest) exit → CanBeMade (round_on number past s input)
 going_sound s workers inputs a w number past input rest exit valid made going =
     let each = each-round s made.0 inputs valid made.1 in
-    (all-behind IsRound going.done (rounds_from number past s (input ∷ rest)) (subst (λ (rs : List Round). AllByRecursion IsRound rs) going.rounds each)).0
+    (all-behind CanBeMade going.done (rounds_from number past s (input ∷ rest)) (subst (λ (rs : List Round). AllByRecursion CanBeMade rs) going.rounds each)).0
 
 -- the next round was made and printed
 pub going_next :
@@ -106,9 +107,9 @@ pub going_next :
     → ended ≡ exits (round_on number past s input)
     → left ≡ left_by (round_on number past s input)
     → next ≡ number + 1
-    → Prints w v text → NoneFell w v
+    → Prints w v text → NoneFell w v → AsksNothing w v
     → IsGoing s workers inputs a v next (Some left) rest (exit && ended)
-going_next s workers inputs a w v number past input rest exit text ended left next going texts ends leaves after prints counts =
+going_next s workers inputs a w v number past input rest exit text ended left next going texts ends leaves after prints counts asked =
     let r = round_on number past s input in
     let f = report_of workers in
     let before = concat (map f going.done) in
@@ -126,6 +127,7 @@ going_next s workers inputs a w v number past input rest exit text ended left ne
       prints = subst (Prints a v) (sym texts_are) printed;
       ended = sym all;
       counts = none_fell_trans a w v going.counts counts;
+      asked = asked ∙ going.asked;
     })
 
 reports-are :

@@ -1,5 +1,6 @@
 pub mod Complete
 pub mod Worlds
+pub mod Asking
 pub mod Reading
 pub mod Ending
 pub mod Making

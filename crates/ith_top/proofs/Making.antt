@@ -5,9 +5,9 @@ use Rattle.report_spec.specs.Report.{Told, instructions_from, report, report_tex
 use Rattle.machine_spec.specs.Setup.{Setup, first}
 use Rattle.round_spec.specs.Rounds.{RoundState}
 use Rattle.round_spec.specs.Keeping.{IsInOrder, IsFromScratch}
-use Rattle.rerun_spec.specs.Rounds.{Round, IsRound, made}
+use Rattle.rerun_spec.specs.Rounds.{Round, made}
 use Rattle.rerun_spec.specs.Reports.{shares_of_first, report_of, is_exit, exits}
-use Rattle.rerun_spec.proofs.Rounds.{round-made}
+use Rattle.rerun_spec.proofs.Rounds.{CanBeMade, round-made}
 use Rattle.rerun_spec.proofs.Reports.{report-made, exit-made}
 
 -- a round in order, by a sound history, is told as its report tells
@@ -35,16 +35,16 @@ told_text number workers w in_order sound =
       output = m.output;
     })) scratch.machine
 
-pub made_sound : (r : Round) → IsRound r → IsSound (made r).past (made r).setup
-made_sound r is = rw (round-made r is) is.past
+pub made_sound : (r : Round) → CanBeMade r → IsSound (made r).past (made r).setup
+made_sound r is = rw (round-made r is) is.sound
 
 pub made_report :
     (workers : ℕ) (r : Round)
-    → IsRound r
+    → CanBeMade r
     → report r.number (made r).setup (made r).schedule (shares_of_first workers (length (made r).schedule)) ≡ report_of workers r
 made_report workers r is =
     ap (λ s. report r.number s (made r).schedule (shares_of_first workers (length (made r).schedule))) (ap (λ (w : RoundState). w.setup) (round-made r is))
     ∙ sym (report-made workers r is)
 
-pub made_exit : (r : Round) → IsRound r → is_exit (made r).machine.ending ≡ exits r
+pub made_exit : (r : Round) → CanBeMade r → is_exit (made r).machine.ending ≡ exits r
 made_exit r is = sym (exit-made r is)

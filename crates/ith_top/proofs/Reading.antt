@@ -3,16 +3,19 @@ use Rattle.std.proofs.Common.{◌≡◌, ◌<◌, ◌≤◌, ◌+◌, ℕ, Optio
 use Rattle.std.specs.Global.{Global}
 use Rattle.std.specs.Option.{IfSome}
 use Rattle.std.specs.List.{AllZip}
-use Rattle.std.proofs.lemmas.List.{map_push, length-map, take_all, get_or-map}
+use Rattle.std.proofs.lemmas.List.{append-nil, map_push, map-append, length-map, take_all, take_more, get_or-map}
 use Rattle.std.proofs.lemmas.List.Elements.{all_zip_more}
+use Rattle.edit_spec.specs.declared.TheConstants.{MOST_LIST_BYTES}
 use Rattle.round_inputs.specs.Lists.{bytes_of_each}
-use Rattle.ith_host.specs.World.{World, NoneFell, Stays, IsContent}
+use Rattle.ith_host.specs.World.{World, NoneFell, Stays, AsksFor, AsksNothing, IsContent}
 use Rattle.ith_top.specs.declared.status.Status.{Status}
 use Rattle.ith_top.specs.declared.status.Status.TheVariants as status
 use Rattle.ith_top.specs.Words.{Text}
-use Rattle.ith_top.specs.Ends.{Named, OfOne, FailedToRead, IsLong, AreLists, list_most, lists_named}
-use Rattle.ith_top.specs.Refusals.{WhyUnread, WhyUnreadAmong}
-use Rattle.ith_top.proofs.Worlds.{stays_trans, none_fell_trans, content_before, rose_before}
+use Rattle.ith_top.specs.Files.{Named, AsksForFiles, lists_named}
+use Rattle.ith_top.specs.Ends.{AreLists}
+use Rattle.ith_top.specs.Refusals.{WhyUnread}
+use Rattle.ith_top.proofs.Worlds.{stays_trans, none_fell_trans, content_before}
+use Rattle.ith_top.proofs.Asking.{one_cut, asked_both, lists_asked, lists_within, split_at, unread_front, unread_more}
 
 -- the texts of names
 abbrev pub texts_of : List (Bor (List ℕ)) → List Text
@@ -23,9 +26,10 @@ pub record IsReading (a w : World) (names : List (Bor (List ℕ))) (place : ℕ)
   pub are : AreLists a (take place (texts_of names)) (bytes_of_each lists)
   pub stays : Stays a w
   pub counts : NoneFell a w
+  pub asked : AsksFor (take place (texts_of names)) a w
 
 pub none_read : (a : World) (names : List (Bor (List ℕ))) (lists : List (Vec ℕ Global)) → lists ≡ [] → Stays a a → NoneFell a a → IsReading a a names 0 lists
-none_read a names lists none stays counts = rw none (record { are = tt; stays = stays; counts = counts })
+none_read a names lists none stays counts = rw none (record { are = tt; stays = stays; counts = counts; asked = sym (append-nil a.asked) })
 
 pub stays_same : (a : World) → Stays a a
 stays_same a = record { tells = refl; files = refl; printed = refl }
@@ -36,22 +40,40 @@ none_fell_same a = record { reads = λ name. omega arith; writes = λ name. omeg
 name_at : (names : List (Bor (List ℕ))) (place : ℕ) (name d : Bor (List ℕ)) → place < length names → name ≡ get_or names place d → name.now ≡ get_or (texts_of names) place name.now
 name_at names place name d within at = ap (λ (n : Bor (List ℕ)). n.now) at ∙ sym (get_or-map (λ (n : Bor (List ℕ)). n.now) names place d name.now within)
 
+-- the names up to a place and the one there
+next_name : (names : List (Bor (List ℕ))) (place : ℕ) (name d : Bor (List ℕ)) → place < length names → name ≡ get_or names place d
+    → take (place + 1) (texts_of names) ≡ take place (texts_of names) ++ name.now ∷ []
+next_name names place name d within at =
+    let inside : place < length (texts_of names) = let same = length-map names (λ (n : Bor (List ℕ)). n.now) in omega arith in
+    take_more (texts_of names) place name.now inside
+    ∙ ap (λ (t : Text). take place (texts_of names) ++ t ∷ []) (sym (name_at names place name d within at))
+
 -- one list more was read
 pub one_read :
     (a w v : World) (names : List (Bor (List ℕ))) (place : ℕ) (name d : Bor (List ℕ)) (lists : List (Vec ℕ Global)) (list : Vec ℕ Global)
     → IsReading a w names place lists → place < length names → name ≡ get_or names place d
-    → IsContent w name.now list.items → length list.items ≤ list_most → Stays w v → NoneFell w v
+    → IsContent w name.now list.items → length list.items ≤ MOST_LIST_BYTES → Stays w v → NoneFell w v → AsksFor (name.now ∷ []) w v
     → IsReading a v names (place + 1) (lists ++ list ∷ [])
-one_read a w v names place name d lists list reading within at content short stays counts =
+one_read a w v names place name d lists list reading within at content short stays counts asked =
     let inside : place < length (texts_of names) = let same = length-map names (λ (n : Bor (List ℕ)). n.now) in omega arith in
     let more =
-    all_zip_more (λ name list. IsContent a name list × (length list ≤ list_most)) (texts_of names) (bytes_of_each lists) place name.now list.items inside
+    all_zip_more (λ name list. IsContent a name list × (length list ≤ MOST_LIST_BYTES)) (texts_of names) (bytes_of_each lists) place name.now list.items inside
     (name_at names place name d within at) reading.are (content_before a w name.now list.items reading.stays content, short) in
     record {
       are = rw (map_push (λ (v : Vec ℕ Global). v.items) lists list) more;
       stays = stays_trans a w v reading.stays stays;
       counts = none_fell_trans a w v reading.counts counts;
+      asked = subst (λ (ns : List Text). AsksFor ns a v) (sym (next_name names place name d within at))
+          (asked_both (take place (texts_of names)) (name.now ∷ []) a w v reading.asked asked);
     }
+
+-- all were asked for
+pub all_asked :
+    (a w : World) (names : List (Bor (List ℕ))) (place : ℕ) (lists : List (Vec ℕ Global))
+    → IsReading a w names place lists → length names ≤ place → AsksForFiles (lists_named (texts_of names)) a w
+all_asked a w names place lists reading over =
+    let past : length (texts_of names) ≤ place = let same = length-map names (λ (n : Bor (List ℕ)). n.now) in omega arith in
+    lists_asked (texts_of names) a w (subst (λ (ns : List Text). AsksFor ns a w) (take_all place (texts_of names) past) reading.asked)
 
 -- all were read
 pub all_read :
@@ -61,41 +83,30 @@ all_read a w names place lists reading over =
     let past : length (texts_of names) ≤ place = let same = length-map names (λ (n : Bor (List ℕ)). n.now) in omega arith in
     subst (λ (ns : List Text). AreLists a ns (bytes_of_each lists)) (take_all place (texts_of names) past) reading.are
 
--- a fact of one file among those of some names
-of_one_at :
-    (fact : Named → Type 0) (names : List Text) (place : ℕ) (name : Text)
-    → place < length names → name ≡ get_or names place name
-    → fact (record { name = name; most = list_most }) → OfOne fact (lists_named names)
-of_one_at fact [] place name within at holds = let no : ⊥ = omega arith in absurd no
-of_one_at fact (first ∷ names) zero name within at holds = inl (subst (λ (n : Text). fact (record { name = n; most = list_most })) at holds)
-of_one_at fact (first ∷ names) (suc place) name within at holds = inr (of_one_at fact names place name (omega arith) at holds)
-
--- a told file that is too long later was so before
-pub long_before : (a b : World) (file : Named) → Stays a b → IsLong b file → IsLong a file
-long_before a b file stays long =
-    subst (λ (files : List ℕ → Option (List ℕ)). IfSome (files file.name) (λ told. file.most < length told)) stays.files long
-
 -- one wasn't read, after the first so many were
 pub one_unread :
     (a w v : World) (names : List (Bor (List ℕ))) (place : ℕ) (name d : Bor (List ℕ)) (lists : List (Vec ℕ Global)) (s : Status)
     → IsReading a w names place lists → place < length names → name ≡ get_or names place d
-    → WhyUnread (record { name = name.now; most = list_most }) w v s
-    → WhyUnreadAmong (lists_named (texts_of names)) a v s
-one_unread a w v names place name d lists s reading within at why = go s why
-  where
-    inside : place < length (texts_of names)
-    inside = let same = length-map names (λ (n : Bor (List ℕ)). n.now) in omega arith
+    → WhyUnread (record { name = name.now; most = MOST_LIST_BYTES } ∷ []) w v s
+    → WhyUnread (lists_named (texts_of names)) a v s
+one_unread a w v names place name d lists s reading within at why =
+    let all = texts_of names in let front = take place all in
+    let inside : place < length all = let same = length-map names (λ (n : Bor (List ℕ)). n.now) in omega arith in
+    let split = split_at all place name.now inside (name_at names place name d within at) in
+    let here : Named = record { name = name.now; most = MOST_LIST_BYTES } in
+    let are : lists_named all ≡ lists_named front ++ here ∷ lists_named split.0 =
+    ap lists_named split.1 ∙ map-append (λ (n : Text). record { name = n; most = MOST_LIST_BYTES }) front (name.now ∷ split.0) in
+    subst (λ (files : List Named). WhyUnread files a v s) (sym are)
+    (unread_more (lists_named front) (here ∷ lists_named split.0) a w v s reading.stays reading.counts
+    (lists_asked front a w reading.asked) (lists_within a front (bytes_of_each lists) reading.are)
+    (unread_front (here ∷ []) (lists_named split.0) w v s why))
 
-    there : (fact : Named → Type 0) → fact (record { name = name.now; most = list_most }) → OfOne fact (lists_named (texts_of names))
-    there fact holds = of_one_at fact (texts_of names) place name.now inside (name_at names place name d within at) holds
-
-    go : (s : Status) → WhyUnread (record { name = name.now; most = list_most }) w v s → WhyUnreadAmong (lists_named (texts_of names)) a v s
-    go status.Finished why = why
-    go status.Unfinished why = why
-    go status.Words why = why
-    go status.Image why = why
-    go status.EditList why = why
-    go status.ReadFault why = there (FailedToRead a v) (rose_before _ _ _ (reading.counts.reads name.now) why)
-    go status.WriteFault why = why
-    go status.Memory why = tt
-    go status.TooLarge why = there (IsLong a) (long_before a w (record { name = name.now; most = list_most }) reading.stays why)
+-- one was read, and then found no room
+pub one_dropped :
+    (a w v u : World) (names : List (Bor (List ℕ))) (place : ℕ) (name d : Bor (List ℕ)) (lists : List (Vec ℕ Global))
+    → IsReading a w names place lists → place < length names → name ≡ get_or names place d
+    → AsksFor (name.now ∷ []) w v → AsksNothing v u
+    → WhyUnread (lists_named (texts_of names)) a u status.Memory
+one_dropped a w v u names place name d lists reading within at asked none =
+    one_unread a w u names place name d lists status.Memory reading within at
+    (one_cut (record { name = name.now; most = MOST_LIST_BYTES }) w v u asked none)

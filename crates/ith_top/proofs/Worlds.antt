@@ -1,7 +1,8 @@
 -- One change of the outside after another.
-use Rattle.std.proofs.Common.{◌≡◌, ◌≤◌, ℕ, List, Option, ◌∙◌, subst, arith}
+use Rattle.std.proofs.Common.{◌≡◌, ◌<◌, ◌≤◌, ℕ, List, length, Option, ◌∙◌, subst, arith}
 use Rattle.std.specs.Prelude.{IfSome}
 use Rattle.ith_host.specs.World.{World, Rose, NoneFell, Stays, IsContent}
+use Rattle.ith_top.specs.Files.{Named, IsLong, IsWithin}
 
 pub stays_trans : (a b c : World) → Stays a b → Stays b c → Stays a c
 stays_trans a b c one other =
@@ -27,3 +28,13 @@ rose_before a b c earlier rose = omega arith
 pub content_before : (a b : World) (name bytes : List ℕ) → Stays a b → IsContent b name bytes → IsContent a name bytes
 content_before a b name bytes stays content =
     subst (λ (files : List ℕ → Option (List ℕ)). IfSome (files name) (λ told. told ≡ bytes)) stays.files content
+
+-- a told file that is too long later was so before
+pub long_before : (a b : World) (file : Named) → Stays a b → IsLong b file → IsLong a file
+long_before a b file stays long =
+    subst (λ (files : List ℕ → Option (List ℕ)). IfSome (files file.name) (λ told. file.most < length told)) stays.files long
+
+-- and one that is within its limit
+pub within_before : (a b : World) (file : Named) → Stays a b → IsWithin b file → IsWithin a file
+within_before a b file stays within =
+    subst (λ (files : List ℕ → Option (List ℕ)). IfSome (files file.name) (λ told. length told ≤ file.most)) stays.files within

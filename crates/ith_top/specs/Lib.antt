@@ -1,6 +1,7 @@
 pub mod Words
 pub mod Statuses
 pub mod Rounds
+pub mod Files
 pub mod Ends
 pub mod Said
 pub mod Refusals

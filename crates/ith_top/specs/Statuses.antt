@@ -3,7 +3,7 @@ use Rattle.std.specs.Prelude.{ℕ}
 use Rattle.ith_top.specs.declared.status.Status.{Status}
 use Rattle.ith_top.specs.declared.status.Status.TheVariants as status
 
--- The number of a status. (this project's own)
+-- The number of a status.
 abbrev pub code_of : Status → ℕ
 code_of status.Finished = 0
 code_of status.Unfinished = 1

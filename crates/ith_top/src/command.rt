@@ -7,14 +7,11 @@ ghost use Rattle.ith_top.specs.Words as line;
 
 use clap::builder::ValueParser;
 use clap::{Arg, ArgAction, Command};
+use machine_spec::{MOST_FUEL, MOST_STEPS};
 use std::alloc::{AllocError, Global};
 
-/// The most workers, turns of a thunk and steps of a run that a line may ask for.
+/// The most workers that a line may ask for.
 pub const MOST_WORKERS: u32 = 16;
-
-pub const MOST_FUEL: u32 = 16_777_216;
-
-pub const MOST_STEPS: u32 = 65_536;
 
 /// An operand, which has to be there (POSIX.1-2017, XBD 12.1).
 fn operand<'a>(alloc: Global, id: &'a str, help: &'a str) -> Arg<'a>

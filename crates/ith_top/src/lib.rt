@@ -7,6 +7,7 @@ ghost use Rattle.ith_top.specs.Ends.{Answers, Completes};
 
 use ith_host::{Gate, Host};
 use std::alloc::Global;
+use std::thread::Threads;
 
 mod command;
 mod complaints;
@@ -31,8 +32,11 @@ pub use status::Status;
 /// `run ELF INPUT [EDITS].. --workers W --fuel F --steps S` runs the executable on the input from scratch, and then once for each edit
 /// list, on the input of the round before after the list's edits. Each of these rounds takes from the round before it the steps whose
 /// records fit, and executes the others. The report of each round is printed before the next round begins. The options may be left out.
+///
+/// The files are read in the line's order, each once, and no other is. The runtime is lent for the counter of turns, which nothing
+/// below this call can make of its own.
 #[tactic(auto, using(crate::proofs::Complete::complete))]
-pub fn top<R: Sync, H: Host, G: Gate + Sync>(
+pub fn top<R: Threads + Sync, H: Host, G: Gate + Sync>(
     rt: &R,
     alloc: Global,
     words: &[String],
@@ -42,5 +46,5 @@ pub fn top<R: Sync, H: Host, G: Gate + Sync>(
     ensures answers { Answers (line_of (map string_bytes words.now)) (H.world host.old) (H.world host.new) result }
     ensures complete { Completes (line_of (map string_bytes words.now)) (H.world host.old) (H.world host.new) result }
 {
-    program::status_of(alloc, words, host).code()
+    program::status_of(rt, alloc, words, host).code()
 }

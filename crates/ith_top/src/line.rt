@@ -2,6 +2,9 @@
 
 ghost use Rattle.std.specs.Prelude.{◌≤◌};
 
+use super::command::MOST_WORKERS;
+use machine_spec::Limits;
+
 /// A line that runs a guest.
 #[derive(Debug, Drop)]
 pub struct RunLine<'a> {
@@ -13,14 +16,8 @@ pub struct RunLine<'a> {
     pub edits: Vec<&'a str>,
     /// How many workers there are.
     pub workers: u32,
-    /// The most turns of a thunk.
-    pub fuel: u32,
-    /// The most steps of a run.
-    pub limit: u32,
+    /// The most turns of a thunk, and the most steps of a run.
+    pub limits: Limits,
     ghost some_worker: { 1 ≤ workers },
-    ghost most_workers: { workers ≤ 16 },
-    ghost some_fuel: { 1 ≤ fuel },
-    ghost most_fuel: { fuel ≤ 16777216 },
-    ghost some_steps: { 1 ≤ limit },
-    ghost most_steps: { limit ≤ 65536 },
+    ghost most_workers: { workers ≤ MOST_WORKERS },
 }

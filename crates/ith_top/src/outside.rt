@@ -1,7 +1,7 @@
 //! What the program does to the outside: it reads a file, and prints a text; and says why where it couldn't.
 
-ghost use Rattle.std.specs.Prelude.{◌≡◌, ◌≤◌, length, IfOk, IfErr, OnOk};
-ghost use Rattle.ith_host.specs.World.{Stays, NoneFell, IsContent};
+ghost use Rattle.std.specs.Prelude.{◌≡◌, ◌≤◌, ◌∷◌, [], length, IfOk, IfErr, OnOk};
+ghost use Rattle.ith_host.specs.World.{Stays, NoneFell, AsksFor, AsksNothing, IsContent};
 ghost use Rattle.ith_top.specs.Ends.{Prints};
 ghost use Rattle.ith_top.specs.Refusals.{WhyUnread, WhyUnprinted};
 
@@ -11,7 +11,7 @@ use ith_host::{Got, Host, Printed};
 use std::alloc::Global;
 
 /// Reads a file of at most so many bytes.
-#[tactic(auto, using(crate::proofs::Worlds::stays_trans, crate::proofs::Worlds::none_fell_trans, crate::proofs::Worlds::rose_then))]
+#[tactic(auto, using(crate::proofs::Worlds::stays_trans, crate::proofs::Worlds::none_fell_trans))]
 pub fn read_file<H: Host>(
     alloc: Global,
     host: &mut H,
@@ -20,7 +20,8 @@ pub fn read_file<H: Host>(
 ) -> Result<Vec<u8>, Status>
     ensures content { IfOk result (λ bytes. IsContent (H.world host.old) name.now bytes.items) }
     ensures within { IfOk result (λ bytes. length bytes.items ≤ most) }
-    ensures refused { IfErr result (λ status. WhyUnread (record { name = name.now; most = most }) (H.world host.old) (H.world host.new) status) }
+    ensures asked { AsksFor (name.now ∷ []) (H.world host.old) (H.world host.new) }
+    ensures refused { IfErr result (λ status. WhyUnread (record { name = name.now; most = most } ∷ []) (H.world host.old) (H.world host.new) status) }
     ensures stays { Stays (H.world host.old) (H.world host.new) }
     ensures counts { NoneFell (H.world host.old) (H.world host.new) }
 {
@@ -47,6 +48,7 @@ pub fn read_file<H: Host>(
 pub fn print_text<H: Host>(alloc: Global, host: &mut H, text: &[u8]) -> Result<(), Status>
     ensures printed { OnOk result (Prints (H.world host.old) (H.world host.new) text.now) }
     ensures refused { IfErr result (λ status. WhyUnprinted text.now (H.world host.old) (H.world host.new) status) }
+    ensures asked { AsksNothing (H.world host.old) (H.world host.new) }
     ensures counts { NoneFell (H.world host.old) (H.world host.new) }
 {
     match host.print(text) {

@@ -1,12 +1,12 @@
 //! What a line runs: its files are read, then the executable is looked at, and then the edit lists are.
 
 ghost use Rattle.std.specs.Prelude.{◌≡◌, ◌≤◌, All, length, IfOk, IfErr};
-ghost use Rattle.edit_spec.specs.Editing.{longest_input};
-ghost use Rattle.ith_host.specs.World.{Stays, NoneFell};
+ghost use Rattle.ith_host.specs.World.{Stays, NoneFell, AsksNothing};
 ghost use Rattle.machine_spec.specs.Setup.{IsSetup};
 ghost use Rattle.rerun_spec.specs.Inputs.{AreInputs};
 ghost use Rattle.round_inputs.specs.Lists.{bytes_of_each};
 ghost use Rattle.ith_top.specs.Said.{run_said};
+ghost use Rattle.ith_top.specs.Files.{files_named, AsksForFiles};
 ghost use Rattle.ith_top.specs.Ends.{RunEnds};
 ghost use Rattle.ith_top.specs.Refusals.{WhyNoSetup, WhyUnedited};
 ghost use Rattle.ith_top.specs.Playing.{IsPlan};
@@ -16,7 +16,9 @@ use super::files::{Files, read_files};
 use super::line::RunLine;
 use super::status::Status;
 use elf_load::LoadError;
+use elf_spec::MOST_ELF_BYTES;
 use ith_host::Host;
+use machine_spec::{Limits, MOST_INPUT_BYTES};
 use release_core::Setup;
 use round_inputs::{Inputs, InputsError, inputs_of};
 use std::alloc::Global;
@@ -37,17 +39,19 @@ fn set_up<H: Host>(
     host: &mut H,
     elf: Vec<u8>,
     input: Vec<u8>,
-    line: &RunLine<'_>,
+    limits: Limits,
 ) -> Result<Setup, Status>
-    requires elf_size { length elf.items ≤ 16777216 }
-    requires input_size { length input.items ≤ 1048576 }
-    ensures setup { IfOk result (λ s. s ≡ record { elf = elf.items; input = input.items; fuel = line.now.fuel; limit = line.now.limit }) }
+    requires elf_size { length elf.items ≤ MOST_ELF_BYTES }
+    requires input_size { length input.items ≤ MOST_INPUT_BYTES }
+    ensures setup { IfOk result (λ s. s
+        ≡ record { elf = elf.items; input = input.items; fuel = limits.fuel; limit = limits.steps }) }
     ensures sound { IfOk result (λ s. IsSetup s) }
     ensures refused { IfErr result (λ status. WhyNoSetup elf.items status) }
+    ensures asked { AsksNothing (H.world host.old) (H.world host.new) }
     ensures stays { Stays (H.world host.old) (H.world host.new) }
     ensures counts { NoneFell (H.world host.old) (H.world host.new) }
 {
-    match Setup::new(alloc, elf, input, line.fuel, line.limit) {
+    match Setup::new(alloc, elf, input, limits) {
         Ok(setup) => Ok(setup),
         Err(LoadError::Refused(refusal)) => {
             host.complain(&image_line(alloc, refusal));
@@ -70,6 +74,7 @@ fn edit<H: Host>(
 ) -> Result<Inputs, Status>
     ensures inputs { IfOk result (λ inputs. AreInputs first.now (bytes_of_each lists.now) inputs) }
     ensures refused { IfErr result (λ status. WhyUnedited first.now (bytes_of_each lists.now) status) }
+    ensures asked { AsksNothing (H.world host.old) (H.world host.new) }
     ensures stays { Stays (H.world host.old) (H.world host.new) }
     ensures counts { NoneFell (H.world host.old) (H.world host.new) }
 {
@@ -96,6 +101,7 @@ fn edit<H: Host>(
 /// What a line runs: its files are read, the executable is looked at, and then the edit lists are, all of them in order.
 pub fn prepare<H: Host>(alloc: Global, host: &mut H, line: &RunLine<'_>) -> Result<Plan, Status>
     ensures plan { IfOk result (λ plan. IsPlan (run_said line.now) (H.world host.old) plan.setup plan.inputs) }
+    ensures asked { IfOk result (λ _. AsksForFiles (files_named (run_said line.now)) (H.world host.old) (H.world host.new)) }
     ensures refused { IfErr result (λ status. RunEnds (run_said line.now) (H.world host.old) (H.world host.new) status) }
     ensures stays { Stays (H.world host.old) (H.world host.new) }
     ensures counts { NoneFell (H.world host.old) (H.world host.new) }
@@ -104,7 +110,7 @@ pub fn prepare<H: Host>(alloc: Global, host: &mut H, line: &RunLine<'_>) -> Resu
         Ok(files) => files,
         Err(status) => return Err(status),
     };
-    let setup = match set_up(alloc, host, elf, input, line) {
+    let setup = match set_up(alloc, host, elf, input, line.limits) {
         Ok(setup) => setup,
         Err(status) => return Err(status),
     };

@@ -2,12 +2,12 @@
 
 ghost use Rattle.std.specs.Prelude.{◌≡◌, ◌<◌, ◌≤◌, length, option_map, IfOk};
 ghost use Rattle.std.specs.Arc.{arc_value};
-ghost use Rattle.history_spec.specs.History.{IsSound};
+ghost use Rattle.history_spec.specs.History.{CanGoBy, IsSound};
 ghost use Rattle.report_spec.specs.Report.{report};
 ghost use Rattle.round_spec.specs.Alone.{lone_round};
-ghost use Rattle.rerun_spec.specs.Rounds.{IsRound, left_by};
+ghost use Rattle.rerun_spec.specs.Rounds.{with_input, left_by};
 ghost use Rattle.rerun_spec.specs.Reports as reports;
-ghost use Rattle.ith_top.specs.Playing.{round_at};
+ghost use Rattle.ith_top.specs.Playing.{round_ahead};
 
 use machine_spec::End;
 use propagate::{Round, run_alone};
@@ -17,7 +17,8 @@ use std::alloc::{AllocError, Global};
 use std::marker::Brand;
 use std::sync::Arc;
 use std::sync::ledger::{Blank, Ledger};
-use thunk_run::Steps;
+use std::thread::Threads;
+use turn_count::Turns;
 
 /// What there is of a round that was made.
 #[derive(Drop)]
@@ -30,8 +31,20 @@ pub struct Played {
     pub left: Arc<History>,
 }
 
+/// A round that comes next, of a line's program: its number, its input, and the history that it goes by, if there is one.
+#[derive(Drop)]
+pub struct Next {
+    /// How many rounds come before it.
+    pub number: usize,
+    /// Its input.
+    pub input: Vec<u8>,
+    /// What the round before it left.
+    pub past: Option<Arc<History>>,
+}
+
 /// The round of one worker, with a counter of its own.
-fn counted<L: Ledger>(
+fn counted<R: Threads, L: Ledger>(
+    rt: &R,
     alloc: Global,
     setup: Setup,
     past: Option<Arc<History>>,
@@ -42,14 +55,19 @@ fn counted<L: Ledger>(
     requires some { 0 < L.parts }
     ensures { IfOk result (λ round. round ≡ lone_round setup (option_map arc_value past)) }
 {
-    run_alone(alloc, setup, past, &mut Steps::<L>::new(blank))
+    run_alone(alloc, setup, past, &mut Turns::<L>::new(rt, blank))
 }
 
 /// The round of one worker, with nobody who looks at the counter.
-fn uncounted(alloc: Global, setup: Setup, past: Option<Arc<History>>) -> Result<Round, AllocError>
+fn uncounted<R: Threads>(
+    rt: &R,
+    alloc: Global,
+    setup: Setup,
+    past: Option<Arc<History>>,
+) -> Result<Round, AllocError>
     ensures { IfOk result (λ round. round ≡ lone_round setup (option_map arc_value past)) }
 {
-    counted::<Brand>(alloc, setup, past, Blank::new(1))
+    counted::<R, Brand>(rt, alloc, setup, past, Blank::new(1))
 }
 
 /// The shares where the first worker made all steps.
@@ -98,29 +116,38 @@ fn is_exit(ending: Option<End>) -> bool
     matches!(ending, Some(End::Exit(_)))
 }
 
-/// The round of a setup that goes by a history, if there is one, with its report. The digest of the
-/// last memory that was reported is taken where memory is the same.
+/// The next round of the program of a line's first setup, with its report. The digest of the last memory that was
+/// reported is taken where memory is the same.
 ///
 /// # Errors
 ///
 /// An error where the host's memory ran out.
-pub fn make_round(
+pub fn make_round<R: Threads>(
+    rt: &R,
     alloc: Global,
-    number: usize,
-    setup: Setup,
-    past: Option<Arc<History>>,
+    setup: &Setup,
+    next: Next,
     workers: u32,
     last: &mut Option<Digested>,
 ) -> Result<Played, AllocError>
     requires some { 1 ≤ workers }
-    requires sound { IsRound (round_at number setup (option_map arc_value past)) }
-    ensures text { IfOk result (λ played. played.text.items ≡ reports.report_of workers (round_at number setup (option_map arc_value past))) }
-    ensures exits { IfOk result (λ played. played.exits ≡ reports.exits (round_at number setup (option_map arc_value past))) }
-    ensures left { IfOk result (λ played. arc_value played.left ≡ left_by (round_at number setup (option_map arc_value past))) }
+    requires sound { CanGoBy (option_map arc_value next.past) (with_input setup.now next.input.items) }
+    ensures text { IfOk result (λ played. played.text.items ≡ reports.report_of workers (round_ahead setup.now next)) }
+    ensures exits { IfOk result (λ played. played.exits ≡ reports.exits (round_ahead setup.now next)) }
+    ensures left { IfOk result (λ played. arc_value played.left ≡ left_by (round_ahead setup.now next)) }
 {
-    let round = uncounted(alloc, setup, past)?;
+    let Next {
+        number,
+        input,
+        past,
+    } = next;
+    let start = setup.with(input, setup.limits())?;
+    let round = uncounted(rt, alloc, start, past)?;
     let text = round_text(alloc, number as u64, workers, &round, last)?;
     let exits = is_exit(round.end());
-    let left = Arc::new(alloc, round.into_history())?;
+    let Some(left) = round.into_history() else {
+        unreachable!()
+    };
+    let left = Arc::new(alloc, left)?;
     Ok(Played { text, exits, left })
 }

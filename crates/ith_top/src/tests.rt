@@ -1,9 +1,11 @@
 //! What no clause says: that a call succeeds, and the lines on the standard error.
 use crate::top;
 use ith_host::{MemHost, OpenGate};
+use machine_spec::MOST_INPUT_BYTES;
 use std::alloc::{AllocError, Global};
 use std::collections::BTreeMap;
 use std::test::Fail;
+use std::thread::Threads;
 
 /// An executable that puts out `hi` and a newline, and exits with 0: its header, its program header, its bytes.
 const HEADER: &[u8] =
@@ -64,13 +66,13 @@ fn host_with(alloc: Global, failing: &[u64], part: u64) -> Result<MemHost, Alloc
     )?;
     put(alloc, &mut files, "behind", [b"\n", b"set 5 00\n", b""])?;
     put(alloc, &mut files, "odd", [b"set 4 0\n", b"", b""])?;
-    let long = vec![in alloc; 0u8; 1_048_577]?;
+    let long = vec![in alloc; 0u8; MOST_INPUT_BYTES + 1]?;
     put(alloc, &mut files, "long", [long.as_slice(), b"", b""])?;
     Ok(MemHost::new(alloc, files, Vec::from_slice(alloc, failing)?, part))
 }
 
 /// The status of a line, whose words stand between spaces.
-fn status_of<R: Sync>(
+fn status_of<R: Threads + Sync>(
     rt: &R,
     alloc: Global,
     host: &mut MemHost,

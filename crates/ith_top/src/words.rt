@@ -1,16 +1,17 @@
 //! The words of the command line.
 
-ghost use Rattle.std.specs.Prelude.{◌≡◌, ◌≤◌, map, string_bytes, unwrap_or, [], IfOk, IfErr};
+ghost use Rattle.std.specs.Prelude.{◌≡◌, ◌≤◌, map, codes, string_bytes, unwrap_or, [], IfOk, IfErr};
 ghost use Rattle.clap.specs.Words.{all_of, fault_of, first_of, found_of, one_of, rows_of, subcommand_of, subcommand_rows_of};
 ghost use Rattle.ith_top.specs.Words as line;
 ghost use Rattle.ith_top.specs.Said.{run_said, line_said};
 ghost use Rattle.ith_top.specs.Refusals.{WhyNoLine, WhyFault};
 
-use super::command::{MOST_FUEL, MOST_STEPS, MOST_WORKERS, command_line};
+use super::command::{MOST_WORKERS, command_line};
 use super::complaints::{name_line, words_line};
 use super::line::RunLine;
 use clap::error::ErrorKind;
 use clap::{ArgMatches, Error};
+use machine_spec::{Limits, MOST_FUEL, MOST_STEPS};
 use std::alloc::{AllocError, Global};
 
 /// How many workers, turns of a thunk and steps of a run there are where the line doesn't say.
@@ -93,6 +94,19 @@ fn number_of(given: &ArgMatches<'_>, id: &str, most: u32, default: u32) -> u32
     }
 }
 
+/// The limits of what was found for the command that runs a guest.
+fn limits_of(given: &ArgMatches<'_>) -> Limits
+    ensures fuel { result.fuel ≡ line.number_or MOST_FUEL line.default_fuel (one_of (codes "fuel") (rows_of (found_of given.now))) }
+    ensures steps { result.steps ≡ line.number_or MOST_STEPS line.default_limit (one_of (codes "steps") (rows_of (found_of given.now))) }
+{
+    let fuel = number_of(given, "fuel", MOST_FUEL, DEFAULT_FUEL);
+    let steps = number_of(given, "steps", MOST_STEPS, DEFAULT_STEPS);
+    match Limits::new(fuel, steps) {
+        Some(limits) => limits,
+        None => unreachable!(),
+    }
+}
+
 /// The line of what was found for the command that runs a guest.
 fn run_line<'a>(alloc: Global, given: &ArgMatches<'a>) -> Result<RunLine<'a>, AllocError>
     ensures { IfOk result (λ said. run_said said ≡ line.run_line (rows_of (found_of given.now))) }
@@ -106,8 +120,7 @@ fn run_line<'a>(alloc: Global, given: &ArgMatches<'a>) -> Result<RunLine<'a>, Al
         input: text_of(given, "INPUT"),
         edits,
         workers: number_of(given, "workers", MOST_WORKERS, DEFAULT_WORKERS),
-        fuel: number_of(given, "fuel", MOST_FUEL, DEFAULT_FUEL),
-        limit: number_of(given, "steps", MOST_STEPS, DEFAULT_STEPS),
+        limits: limits_of(given),
     })
 }
 

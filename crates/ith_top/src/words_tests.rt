@@ -20,8 +20,8 @@ fn says(said: &RunLine<'_>, edits: &[&str], workers: u32, fuel: u32, limit: u32)
         && said.input == "b"
         && said.edits.as_slice() == edits
         && said.workers == workers
-        && said.fuel == fuel
-        && said.limit == limit
+        && said.limits.fuel() == fuel
+        && said.limits.steps() == limit
 }
 
 /// Whether words were refused, with a text that says so.

@@ -1,7 +1,6 @@
 use Rattle.round_inputs.specs.Lists.{bytes_of_each}
 use Rattle.ith_top.specs.Said.{run_said}
-use Rattle.ith_top.proofs.Worlds.{stays_trans, none_fell_trans}
-use Rattle.ith_top.proofs.Ending.{files_read, list_unread}
+use Rattle.ith_top.proofs.Ending.{files_read, elf_unread, input_unread, list_unread}
 use Rattle.ith_top.proofs.files.read_files.Goals as goal
 
 pub returns-in-Ok-read_lists-clause-contents : goal.returns-in-Ok-read_lists-clause-contents
@@ -12,10 +11,22 @@ returns-in-Ok-read_lists-clause-contents g c =
     c.in-Ok.ensures.stays c.in-Ok-read_file.ensures.stays c.in-Ok.ensures.content c.in-Ok.ensures.within c.in-Ok-read_file.ensures.content c.in-Ok-read_file.ensures.within
     (rw (← c.as_slice.ensures.value) c.in-Ok-read_lists.ensures.contents)
 
+pub returns-in-Err-clause-refused : goal.returns-in-Err-clause-refused
+returns-in-Err-clause-refused g c =
+    let world = g.H.Host.world in
+    elf_unread (run_said c.args.line.now) (world c.args.host.now) (world c.read_file.new.host) c.in-Err.status c.in-Err.ensures.refused
+
+pub returns-in-Err-read_file-clause-refused : goal.returns-in-Err-read_file-clause-refused
+returns-in-Err-read_file-clause-refused g c =
+    let world = g.H.Host.world in
+    input_unread (run_said c.args.line.now) (world c.args.host.now) (world c.read_file.new.host) (world c.read_file-2.new.host) c.in-Err-read_file.status c.in-Ok.bytes.items
+    c.in-Ok.ensures.stays c.in-Ok.ensures.counts c.in-Ok.ensures.asked c.in-Ok.ensures.content c.in-Ok.ensures.within c.in-Err-read_file.ensures.refused
+
 pub returns-in-Err-read_lists-clause-refused : goal.returns-in-Err-read_lists-clause-refused
 returns-in-Err-read_lists-clause-refused g c =
     let world = g.H.Host.world in
-    let stays = stays_trans (world c.args.host.now) (world c.read_file.new.host) (world c.read_file-2.new.host) c.in-Ok.ensures.stays c.in-Ok-read_file.ensures.stays in
-    let fell = none_fell_trans (world c.args.host.now) (world c.read_file.new.host) (world c.read_file-2.new.host) c.in-Ok.ensures.counts c.in-Ok-read_file.ensures.counts in
-    list_unread (run_said c.args.line.now) (world c.args.host.now) (world c.read_file-2.new.host) (world c.read_lists.new.host) c.in-Err-read_lists.status
-    stays fell c.in-Err-read_lists.ensures.stays (rw (← c.as_slice.ensures.value) c.in-Err-read_lists.ensures.refused)
+    list_unread (run_said c.args.line.now) (world c.args.host.now) (world c.read_file.new.host) (world c.read_file-2.new.host) (world c.read_lists.new.host)
+    c.in-Err-read_lists.status c.in-Ok.bytes.items c.in-Ok-read_file.bytes.items
+    c.in-Ok.ensures.stays c.in-Ok.ensures.counts c.in-Ok-read_file.ensures.stays c.in-Ok-read_file.ensures.counts c.in-Ok.ensures.asked c.in-Ok-read_file.ensures.asked
+    c.in-Ok.ensures.content c.in-Ok.ensures.within c.in-Ok-read_file.ensures.content c.in-Ok-read_file.ensures.within
+    (rw (← c.as_slice.ensures.value) c.in-Err-read_lists.ensures.refused)

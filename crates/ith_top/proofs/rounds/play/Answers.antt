@@ -21,8 +21,8 @@ returns-in-Err-clause-refused g c =
     c.loop-number.number (option_map arc_value c.loop-number.past) c.loop-number.inputs c.loop-number.all_exit
     c.loop-number.invariant.going c.no_memory.ensures.stays)
 
-pub next_round-requires-clause-sound : goal.next_round-requires-clause-sound
-next_round-requires-clause-sound g c =
+pub make_round-requires-clause-sound : goal.make_round-requires-clause-sound
+make_round-requires-clause-sound g c =
     let w = g.H.Host.world in
     let taken : c.loop-number.inputs ≡ c.in-Ok-Some.input.items ∷ c.next.new.self = rw c.in-Ok-Some.field-0-is at c.in-Ok-Some.ensures.taken in
     going_sound c.args.setup.now c.args.workers c.args.inputs (w c.args.host.now) (w c.loop-number.host)
@@ -30,13 +30,13 @@ next_round-requires-clause-sound g c =
     c.sound.ensures c.requires.edited
     (rw taken at c.loop-number.invariant.going)
 
-pub returns-in-Err-next_round-clause-refused : goal.returns-in-Err-next_round-clause-refused
-returns-in-Err-next_round-clause-refused g c =
+pub returns-in-Err-make_round-clause-refused : goal.returns-in-Err-make_round-clause-refused
+returns-in-Err-make_round-clause-refused g c =
     let w = g.H.Host.world in
-    rw (c.no_memory-in-Err-next_round.ensures.status)
-    (going_cut c.args.setup.now c.args.workers c.args.inputs (w c.args.host.now) (w c.loop-number.host) (w c.no_memory-in-Err-next_round.new.host)
+    rw (c.no_memory-in-Err-make_round.ensures.status)
+    (going_cut c.args.setup.now c.args.workers c.args.inputs (w c.args.host.now) (w c.loop-number.host) (w c.no_memory-in-Err-make_round.new.host)
     c.loop-number.number (option_map arc_value c.loop-number.past) c.loop-number.inputs c.loop-number.all_exit
-    c.loop-number.invariant.going c.no_memory-in-Err-next_round.ensures.stays)
+    c.loop-number.invariant.going c.no_memory-in-Err-make_round.ensures.stays)
 
 pub returns-in-Err-print_text-clause-refused : goal.returns-in-Err-print_text-clause-refused
 returns-in-Err-print_text-clause-refused g c =
@@ -62,7 +62,7 @@ loop-number-preserved g c =
           (rw taken at c.loop-number.invariant.going)
           c.in-Ok.ensures.text c.in-Ok.ensures.exits c.in-Ok.ensures.left
           refl
-          (rw (← c.as_slice.ensures.value) c.in-Ok-print_text.ensures.printed) c.in-Ok-print_text.ensures.counts;
+          (rw (← c.as_slice.ensures.value) c.in-Ok-print_text.ensures.printed) c.in-Ok-print_text.ensures.counts c.in-Ok-print_text.ensures.asked;
       left = omega arith;
     }
 

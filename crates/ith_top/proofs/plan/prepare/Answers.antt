@@ -1,0 +1,28 @@
+-- How a line ends that has no plan.
+use Rattle.std.proofs.Common.{rules, ◌≡◌, true, ◌∙◌}
+use Rattle.elf_spec.specs.Image.{is_image}
+use Rattle.round_inputs.specs.Lists.{bytes_of_each}
+use Rattle.ith_top.specs.Said.{run_said}
+use Rattle.ith_top.specs.Ends.{Contents}
+use Rattle.ith_top.specs.Refusals.{WhyUnedited}
+use Rattle.ith_top.proofs.Worlds.{stays_trans}
+use Rattle.ith_top.proofs.Ending.{refused_ends, unedited_ends}
+use Rattle.ith_top.proofs.plan.prepare.Goals as goal
+
+pub returns-in-Err-set_up-clause-refused : goal.returns-in-Err-set_up-clause-refused
+returns-in-Err-set_up-clause-refused g c =
+    let w = g.H.Host.world in let files = c.in-Ok.files in
+    let contents : Contents = record { elf = files.elf.items; input = files.input.items; lists = bytes_of_each files.lists.items } in
+    refused_ends (run_said c.args.line.now) (w c.args.host.now) (w c.read_files.new.host) (w c.set_up.new.host) contents c.in-Err-set_up.status
+    c.in-Ok.ensures.asked c.in-Err-set_up.ensures.asked c.in-Ok.ensures.stays c.in-Err-set_up.ensures.stays c.in-Ok.ensures.contents c.in-Err-set_up.ensures.refused
+
+pub returns-clause-refused : goal.returns-clause-refused
+returns-clause-refused g c =
+    let w = g.H.Host.world in let files = c.in-Ok.files in
+    let contents : Contents = record { elf = files.elf.items; input = files.input.items; lists = bytes_of_each files.lists.items } in
+    let accepted : is_image files.elf.items ≡ true = search rules in
+    let why : WhyUnedited files.input.items (bytes_of_each files.lists.items) c.in-Err-edit.status = search rules in
+    unedited_ends (run_said c.args.line.now) (w c.args.host.now) (w c.set_up.new.host) (w c.edit.new.host) contents c.in-Err-edit.status
+    (c.in-Ok-set_up.ensures.asked ∙ c.in-Ok.ensures.asked) c.in-Err-edit.ensures.asked
+    (stays_trans (w c.args.host.now) (w c.read_files.new.host) (w c.set_up.new.host) c.in-Ok.ensures.stays c.in-Ok-set_up.ensures.stays) c.in-Err-edit.ensures.stays
+    (record { contents = c.in-Ok.ensures.contents; accepted = accepted }) why

@@ -1,0 +1,54 @@
+-- The files that a line names to read, and how far a call read them.
+use Rattle.std.specs.Prelude.{◌≡◌, ℕ, ◌<◌, ◌≤◌, List, [], ◌∷◌, ◌++◌, All, length, map, IfSome}
+use Rattle.elf_spec.specs.declared.TheConstants.{MOST_ELF_BYTES}
+use Rattle.edit_spec.specs.declared.TheConstants.{MOST_LIST_BYTES}
+use Rattle.machine_spec.specs.declared.TheConstants.{MOST_INPUT_BYTES}
+use Rattle.ith_host.specs.World.{World, Rose, AsksFor}
+use Rattle.ith_top.specs.Words.{Text, RunLine}
+
+-- A file that a line names to read: its name, and the most bytes that it may have.
+pub record Named : Type 0 where
+  pub name : Text
+  pub most : ℕ
+
+-- The edit lists of these names.
+abbrev pub lists_named : List Text → List Named
+lists_named names = map (λ name. record { name = name; most = MOST_LIST_BYTES }) names
+
+-- The files that a line names to read, in the order in which they are read.
+abbrev pub files_named : RunLine → List Named
+files_named line =
+    record { name = line.elf; most = MOST_ELF_BYTES } ∷ record { name = line.input; most = MOST_INPUT_BYTES } ∷ lists_named line.edits
+
+-- These files were asked for, in order, and no other.
+abbrev pub AsksForFiles : List Named → World → World → Type 0
+AsksForFiles files before after = AsksFor (map (λ file. file.name) files) before after
+
+-- Reading a file failed, by the count of its name.
+abbrev pub FailedToRead : World → World → Named → Type 0
+FailedToRead before after file = Rose (before.read_faults file.name) (after.read_faults file.name)
+
+-- A file is longer than its limit, where it is told.
+abbrev pub IsLong : World → Named → Type 0
+IsLong before file = IfSome (before.files file.name) (λ told. file.most < length told)
+
+-- A file is within its limit, where it is told.
+abbrev pub IsWithin : World → Named → Type 0
+IsWithin before file = IfSome (before.files file.name) (λ told. length told ≤ file.most)
+
+-- Of these files some first ones were asked for, none to all of them.
+pub record AsksForSome (files : List Named) (before after : World) : Type 0 where
+  pub first : List Named
+  pub later : List Named
+  pub are : files ≡ first ++ later
+  pub asked : AsksForFiles first before after
+
+-- Of these files one was refused for a cause: it was asked for after those before it, which are within their limits, and none after it was.
+pub record StopsAt (IsRefused : Named → Type 0) (files : List Named) (before after : World) : Type 0 where
+  pub earlier : List Named
+  pub file : Named
+  pub later : List Named
+  pub are : files ≡ earlier ++ file ∷ later
+  pub asked : AsksForFiles (earlier ++ file ∷ []) before after
+  pub within : All (IsWithin before) earlier
+  pub cause : IsRefused file
