@@ -2,8 +2,9 @@
 use Rattle.std.specs.Prelude.{◌≡◌, ◌≢◌, ℕ, ◌+◌, ◌-◌, ◌^◌, ◌≤◌, min, Bool, IsTrue, List, ◌++◌, take, Option, Some, IfSome}
 use Rattle.std.specs.Io.KnownBytes.{Appends}
 
--- The outside: whether it tells what was written to it; the content of the file of each name, and the printed bytes, where they are told;
--- the names that reads asked for, in order; how many reads and writes of each name failed, and how many prints.
+-- The outside: whether it tells what was written to it; the content of the file of each name, and the printed bytes,
+-- where they are told; the names that reads asked for, in order; how many reads and writes of each name failed, and how
+-- many prints.
 pub record World : Type 0 where
   pub tells : Bool
   pub files : List ℕ → Option (List ℕ)

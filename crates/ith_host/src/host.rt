@@ -55,8 +55,10 @@ pub trait Host {
         requires { into.old.items ≡ [] }
         ensures content { result ≡ Got.Ok → IsContent (world self.old) name.now into.new.items }
         ensures within { result ≡ Got.Ok → length into.new.items ≤ limit }
-        ensures failed { result ≡ Got.Failed → Rose ((world self.old).read_faults name.now) ((world self.new).read_faults name.now) }
-        ensures too_long { result ≡ Got.TooLong → IfSome ((world self.old).files name.now) (λ content. limit < length content) }
+        ensures failed { result ≡ Got.Failed → Rose ((world self.old).read_faults name.now)
+            ((world self.new).read_faults name.now) }
+        ensures too_long { result ≡ Got.TooLong → IfSome ((world self.old).files name.now)
+            (λ content. limit < length content) }
         ensures emptied { result ≢ Got.Ok → into.new.items ≡ [] }
         ensures asked { AsksFor (name.now ∷ []) (world self.old) (world self.new) }
         ensures stays { Stays (world self.old) (world self.new) }
@@ -67,7 +69,8 @@ pub trait Host {
     /// `Failed` only after a fault of this name's writes, and then nothing is told of the file.
     fn write(&mut self, name: &str, bytes: &[u8]) -> Put
         ensures written { result ≡ Put.Ok → Holds (world self.new) name.now bytes.now }
-        ensures failed { result ≡ Put.Failed → Rose ((world self.old).write_faults name.now) ((world self.new).write_faults name.now) }
+        ensures failed { result ≡ Put.Failed → Rose ((world self.old).write_faults name.now)
+            ((world self.new).write_faults name.now) }
         ensures untold { result ≡ Put.Failed → (world self.new).files name.now ≡ None }
         ensures memory { result ≡ Put.Memory → Stays (world self.old) (world self.new) }
         ensures others { StaysBut name.now (world self.old) (world self.new) }

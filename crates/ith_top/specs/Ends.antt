@@ -26,7 +26,8 @@ pub record Contents : Type 0 where
 
 -- The contents of edit lists, which agree with each that is told, and are within their limit.
 abbrev pub AreLists : World → List Text → List (List ℕ) → Type 0
-AreLists before names lists = AllZip (λ name list. IsContent before name list × (length list ≤ MOST_LIST_BYTES)) names lists
+AreLists before names lists =
+    AllZip (λ name list. IsContent before name list × (length list ≤ MOST_LIST_BYTES)) names lists
 
 -- Contents that agree with each file that is told, and are within their limits.
 pub record AreContents (before : World) (line : RunLine) (c : Contents) : Type 0 where
@@ -45,8 +46,8 @@ pub record WasRead (line : RunLine) (before : World) (c : Contents) : Type 0 whe
   pub contents : AreContents before line c
   pub accepted : is_image c.elf ≡ true
 
--- What a line's rounds come from: what was read and accepted, and the input of each round, which the edit lists make in order; and what is
--- promised of these rounds.
+-- What a line's rounds come from: what was read and accepted, and the input of each round, which the edit lists make in
+-- order; and what is promised of these rounds.
 pub record HasRounds (line : RunLine) (before : World) : Type 0 where
   pub contents : Contents
   pub read : WasRead line before contents
@@ -54,8 +55,8 @@ pub record HasRounds (line : RunLine) (before : World) : Type 0 where
   pub edited : AreInputs contents.input contents.lists inputs
   pub promised : ArePromised (rounds_of (setup_of line contents) inputs)
 
--- The reports of a line's rounds, in order: round 0 is the run from scratch on the input, and each other is on the input of the round
--- before it after the next edit list.
+-- The reports of a line's rounds, in order: round 0 is the run from scratch on the input, and each other is on the
+-- input of the round before it after the next edit list.
 abbrev pub reports : (line : RunLine) → (before : World) → HasRounds line before → List (List ℕ)
 reports line before has = reports_of line.workers (setup_of line has.contents) has.inputs
 
@@ -85,8 +86,8 @@ pub record IsRefused (line : RunLine) (before after : World) : Type 0 where
   pub refused : is_image contents.elf ≡ false
   pub stays : Stays before after
 
--- The executable is accepted, and an edit list is the first that is refused, by its place among the lists, its line and why; and nothing
--- was printed.
+-- The executable is accepted, and an edit list is the first that is refused, by its place among the lists, its line and
+-- why; and nothing was printed.
 pub record IsListRefused (line : RunLine) (before after : World) : Type 0 where
   pub asked : AsksForFiles (files_named line) before after
   pub contents : Contents
@@ -159,8 +160,8 @@ Ends (Some (Runs line)) before after s = RunEnds line before after s
 abbrev pub Answers : Option Line → World → World → ℕ → Type 0
 Answers line before after answer = (s : Status) × (answer ≡ code_of s) × Ends line before after s
 
--- Nothing stands in a line's way: its files are told and within their limits, the executable and the edit lists are accepted, and no count
--- of faults rose.
+-- Nothing stands in a line's way: its files are told and within their limits, the executable and the edit lists are
+-- accepted, and no count of faults rose.
 pub record IsSmooth (line : RunLine) (before after : World) : Type 0 where
   pub contents : Contents
   pub elf : before.files line.elf ≡ Some contents.elf
@@ -176,4 +177,5 @@ pub record IsSmooth (line : RunLine) (before after : World) : Type 0 where
 abbrev pub Completes : Option Line → World → World → ℕ → Type 0
 Completes None before after answer = Unit {0}
 Completes (Some (Runs line)) before after answer =
-    IsSmooth line before after → (answer ≡ code_of status.Finished) ⊎ ((answer ≡ code_of status.Unfinished) ⊎ (answer ≡ code_of status.Memory))
+    IsSmooth line before after
+    → (answer ≡ code_of status.Finished) ⊎ ((answer ≡ code_of status.Unfinished) ⊎ (answer ≡ code_of status.Memory))

@@ -18,7 +18,9 @@ lists_named names = map (λ name. record { name = name; most = MOST_LIST_BYTES }
 -- The files that a line names to read, in the order in which they are read.
 abbrev pub files_named : RunLine → List Named
 files_named line =
-    record { name = line.elf; most = MOST_ELF_BYTES } ∷ record { name = line.input; most = MOST_INPUT_BYTES } ∷ lists_named line.edits
+    record { name = line.elf; most = MOST_ELF_BYTES }
+    ∷ record { name = line.input; most = MOST_INPUT_BYTES }
+    ∷ lists_named line.edits
 
 -- These files were asked for, in order, and no other.
 abbrev pub AsksForFiles : List Named → World → World → Type 0
@@ -43,7 +45,8 @@ pub record AsksForSome (files : List Named) (before after : World) : Type 0 wher
   pub are : files ≡ first ++ later
   pub asked : AsksForFiles first before after
 
--- Of these files one was refused for a cause: it was asked for after those before it, which are within their limits, and none after it was.
+-- Of these files one was refused for a cause: it was asked for after those before it, which are within their limits,
+-- and none after it was.
 pub record StopsAt (IsRefused : Named → Type 0) (files : List Named) (before after : World) : Type 0 where
   pub earlier : List Named
   pub file : Named

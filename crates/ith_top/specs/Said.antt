@@ -5,7 +5,14 @@ use Rattle.ith_top.specs.Words.{Line, Runs, RunLine}
 
 -- The line that runs a guest, in code, as a line of the definitions.
 abbrev pub run_said : run_line → RunLine
-run_said l = record { elf = l.elf.now; input = l.input.now; edits = map (λ name. name.now) l.edits.items; workers = l.workers; fuel = l.limits.fuel; limit = l.limits.steps }
+run_said l = record {
+  elf = l.elf.now;
+  input = l.input.now;
+  edits = map (λ name. name.now) l.edits.items;
+  workers = l.workers;
+  fuel = l.limits.fuel;
+  limit = l.limits.steps;
+}
 
 -- The same as a line of any kind.
 abbrev pub line_said : run_line → Line

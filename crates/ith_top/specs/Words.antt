@@ -14,7 +14,8 @@ use Rattle.clap.specs.declared.builder.value_parser.ValueParser.TheVariants as p
 abbrev pub Text : Type 0
 Text = List ℕ
 
--- A line that runs a guest: the names of the executable, of the input and of the edit lists, in order, how many workers, and the limits.
+-- A line that runs a guest: the names of the executable, of the input and of the edit lists, in order, how many
+-- workers, and the limits.
 pub record RunLine : Type 0 where
   pub elf : Text
   pub input : Text
@@ -62,17 +63,21 @@ run_operands =
 abbrev pub run_command : App
 run_command =
     with_rule
-    (with_rule (with_rule run_operands (number_rule (codes "workers") MOST_WORKERS)) (number_rule (codes "fuel") MOST_FUEL))
+    (with_rule
+    (with_rule run_operands (number_rule (codes "workers") MOST_WORKERS))
+    (number_rule (codes "fuel") MOST_FUEL))
     (number_rule (codes "steps") MOST_STEPS)
 
 -- The program's command line: one of its commands has to be named.
 abbrev pub command_line : App
-command_line = with_subcommand (on_top (λ s. record s { subcommand_required = true }) (new_app (codes "ithreads"))) run_command.top
+command_line =
+    with_subcommand (on_top (λ s. record s { subcommand_required = true }) (new_app (codes "ithreads"))) run_command.top
 
 -- The number that a text writes where it lies from 1 to the most, and else the default.
 abbrev pub number_or : ℕ → ℕ → Option Text → ℕ
 number_or most default None = default
-number_or most default (Some text) = if is_unsigned_in 1 most text then digits_value 10 (without_leading_plus text) else default
+number_or most default (Some text) =
+    if is_unsigned_in 1 most text then digits_value 10 (without_leading_plus text) else default
 
 -- The line of what was found for a command's operands and options.
 abbrev pub run_line : List Row → RunLine
@@ -97,4 +102,5 @@ if_faultless (k ∷ ks) line = None
 
 -- What the words ask for, or none where they aren't accepted; the first is the program's name.
 unfoldable pub line_of : List Text → Option Line
-line_of words = if_faultless (fault_of command_line words) (option_and_then line_named (subcommand_of command_line words))
+line_of words =
+    if_faultless (fault_of command_line words) (option_and_then line_named (subcommand_of command_line words))

@@ -31,9 +31,12 @@ pub struct Files {
 
 /// Reads edit lists, in order.
 fn read_lists<H: Host>(alloc: Global, host: &mut H, names: &[&str]) -> Result<Vec<Vec<u8>>, Status>
-    ensures contents { IfOk result (λ lists. AreLists (H.world host.old) (map (λ name. name.now) names.now) (bytes_of_each lists.items)) }
-    ensures asked { IfOk result (λ _. AsksForFiles (lists_named (map (λ name. name.now) names.now)) (H.world host.old) (H.world host.new)) }
-    ensures refused { IfErr result (λ status. WhyUnread (lists_named (map (λ name. name.now) names.now)) (H.world host.old) (H.world host.new) status) }
+    ensures contents { IfOk result (λ lists. AreLists
+        (H.world host.old) (map (λ name. name.now) names.now) (bytes_of_each lists.items)) }
+    ensures asked { IfOk result (λ _. AsksForFiles (lists_named (map (λ name. name.now) names.now))
+        (H.world host.old) (H.world host.new)) }
+    ensures refused { IfErr result (λ status. WhyUnread (lists_named (map (λ name. name.now) names.now))
+        (H.world host.old) (H.world host.new) status) }
     ensures stays { Stays (H.world host.old) (H.world host.new) }
     ensures counts { NoneFell (H.world host.old) (H.world host.new) }
 {
@@ -58,8 +61,10 @@ fn read_lists<H: Host>(alloc: Global, host: &mut H, names: &[&str]) -> Result<Ve
 pub fn read_files<H: Host>(alloc: Global, host: &mut H, line: &RunLine<'_>) -> Result<Files, Status>
     ensures contents { IfOk result (λ files. AreContents (H.world host.old) (run_said line.now)
         (record { elf = files.elf.items; input = files.input.items; lists = bytes_of_each files.lists.items })) }
-    ensures asked { IfOk result (λ _. AsksForFiles (files_named (run_said line.now)) (H.world host.old) (H.world host.new)) }
-    ensures refused { IfErr result (λ status. WhyUnread (files_named (run_said line.now)) (H.world host.old) (H.world host.new) status) }
+    ensures asked { IfOk result (λ _. AsksForFiles (files_named (run_said line.now))
+        (H.world host.old) (H.world host.new)) }
+    ensures refused { IfErr result (λ status. WhyUnread (files_named (run_said line.now))
+        (H.world host.old) (H.world host.new) status) }
     ensures stays { Stays (H.world host.old) (H.world host.new) }
     ensures counts { NoneFell (H.world host.old) (H.world host.new) }
 {

@@ -29,12 +29,13 @@ pub use status::Status;
 
 /// Does what the words ask for, and gives the exit status. The words begin with the program's name.
 ///
-/// `run ELF INPUT [EDITS].. --workers W --fuel F --steps S` runs the executable on the input from scratch, and then once for each edit
-/// list, on the input of the round before after the list's edits. Each of these rounds takes from the round before it the steps whose
-/// records fit, and executes the others. The report of each round is printed before the next round begins. The options may be left out.
+/// `run ELF INPUT [EDITS].. --workers W --fuel F --steps S` runs the executable on the input from scratch, and then
+/// once for each edit list, on the input of the round before after the list's edits. Each of these rounds takes from
+/// the round before it the steps whose records fit, and executes the others. The report of each round is printed before
+/// the next round begins. The options may be left out.
 ///
-/// The files are read in the line's order, each once, and no other is. The runtime is lent for the counter of turns, which nothing
-/// below this call can make of its own.
+/// The files are read in the line's order, each once, and no other is. The runtime is lent for the counter of turns,
+/// which nothing below this call can make of its own.
 #[tactic(auto, using(crate::proofs::Complete::complete))]
 pub fn top<R: Threads + Sync, H: Host, G: Gate + Sync>(
     rt: &R,

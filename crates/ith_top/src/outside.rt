@@ -21,7 +21,8 @@ pub fn read_file<H: Host>(
     ensures content { IfOk result (λ bytes. IsContent (H.world host.old) name.now bytes.items) }
     ensures within { IfOk result (λ bytes. length bytes.items ≤ most) }
     ensures asked { AsksFor (name.now ∷ []) (H.world host.old) (H.world host.new) }
-    ensures refused { IfErr result (λ status. WhyUnread (record { name = name.now; most = most } ∷ []) (H.world host.old) (H.world host.new) status) }
+    ensures refused { IfErr result (λ status. WhyUnread (record { name = name.now; most = most } ∷ [])
+        (H.world host.old) (H.world host.new) status) }
     ensures stays { Stays (H.world host.old) (H.world host.new) }
     ensures counts { NoneFell (H.world host.old) (H.world host.new) }
 {

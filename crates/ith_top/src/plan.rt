@@ -98,11 +98,14 @@ fn edit<H: Host>(
     }
 }
 
-/// What a line runs: its files are read, the executable is looked at, and then the edit lists are, all of them in order.
+/// What a line runs: its files are read, the executable is looked at, and then the edit lists are, all of them in
+/// order.
 pub fn prepare<H: Host>(alloc: Global, host: &mut H, line: &RunLine<'_>) -> Result<Plan, Status>
     ensures plan { IfOk result (λ plan. IsPlan (run_said line.now) (H.world host.old) plan.setup plan.inputs) }
-    ensures asked { IfOk result (λ _. AsksForFiles (files_named (run_said line.now)) (H.world host.old) (H.world host.new)) }
-    ensures refused { IfErr result (λ status. RunEnds (run_said line.now) (H.world host.old) (H.world host.new) status) }
+    ensures asked { IfOk result (λ _. AsksForFiles (files_named (run_said line.now))
+        (H.world host.old) (H.world host.new)) }
+    ensures refused { IfErr result (λ status. RunEnds (run_said line.now)
+        (H.world host.old) (H.world host.new) status) }
     ensures stays { Stays (H.world host.old) (H.world host.new) }
     ensures counts { NoneFell (H.world host.old) (H.world host.new) }
 {

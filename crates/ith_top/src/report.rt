@@ -31,7 +31,8 @@ pub struct Played {
     pub left: Arc<History>,
 }
 
-/// A round that comes next, of a line's program: its number, its input, and the history that it goes by, if there is one.
+/// A round that comes next, of a line's program: its number, its input, and the history that it goes by, if there is
+/// one.
 #[derive(Drop)]
 pub struct Next {
     /// How many rounds come before it.
@@ -94,7 +95,8 @@ fn round_text(
     requires some { 1 ≤ workers }
     requires sound { IsSound round.now.past round.now.setup }
     ensures { IfOk result (λ text. text.items
-        ≡ report number round.now.setup round.now.schedule (reports.shares_of_first workers (length round.now.schedule))) }
+        ≡ report number round.now.setup round.now.schedule
+        (reports.shares_of_first workers (length round.now.schedule))) }
 {
     round.keeps();
     let shares = shares_of_first(alloc, workers, round.schedule().len())?;

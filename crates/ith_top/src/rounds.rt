@@ -30,8 +30,8 @@ fn no_memory<H: Host>(host: &mut H) -> Status
     Status::Memory
 }
 
-/// Makes the rounds of a setup's program on these inputs, each going by what the one before it leaves, and prints the report of each before
-/// the next begins. The answer is whether each ended by exit.
+/// Makes the rounds of a setup's program on these inputs, each going by what the one before it leaves, and prints the
+/// report of each before the next begins. The answer is whether each ended by exit.
 pub fn play<R: Threads, H: Host>(
     rt: &R,
     alloc: Global,
@@ -42,9 +42,11 @@ pub fn play<R: Threads, H: Host>(
 ) -> Result<bool, Status>
     requires some { 1 ≤ workers }
     requires edited { AreMadeByLists setup.now.input inputs }
-    ensures printed { IfOk result (λ exits. Prints (H.world host.old) (H.world host.new) (concat (reports_of workers setup.now inputs))) }
+    ensures printed { IfOk result (λ exits. Prints
+        (H.world host.old) (H.world host.new) (concat (reports_of workers setup.now inputs))) }
     ensures exits { IfOk result (λ exits. exits ≡ all_exit setup.now inputs) }
-    ensures refused { IfErr result (λ status. WhyCutShort (reports_of workers setup.now inputs) (H.world host.old) (H.world host.new) status) }
+    ensures refused { IfErr result (λ status. WhyCutShort (reports_of workers setup.now inputs)
+        (H.world host.old) (H.world host.new) status) }
     ensures asked { AsksNothing (H.world host.old) (H.world host.new) }
     ensures counts { NoneFell (H.world host.old) (H.world host.new) }
 {
@@ -63,7 +65,9 @@ pub fn play<R: Threads, H: Host>(
             input,
             past,
         };
-        let Played { text, exits, left } = match make_round(rt, alloc, setup, next, workers, &mut last) {
+        let Played { text, exits, left } = match make_round(
+            rt, alloc, setup, next, workers, &mut last,
+        ) {
             Ok(played) => played,
             Err(_) => return Err(no_memory(host)),
         };

@@ -86,35 +86,7 @@ fn status_of<R: Threads + Sync>(
 }
 
 #[test]
-fn a_round_is_reported(rt: HostRuntime) -> Result<(), Fail> {
-    let alloc = rt.alloc();
-    let mut host = host_with(alloc, &[], 0)?;
-    let status = status_of(
-        &rt,
-        alloc,
-        &mut host,
-        "ithreads run hi.elf empty --workers 1",
-    )?;
-    assert_eq!(rt; status, 0);
-    assert_eq!(rt; host.printed(), REPORT);
-    assert_eq!(rt; host.complained().len(), 0);
-    let mut host = host_with(alloc, &[], 0)?;
-    let status = status_of(
-        &rt,
-        alloc,
-        &mut host,
-        "ithreads run trap.elf empty --workers 1",
-    )?;
-    assert_eq!(rt; status, 1);
-    assert!(rt;
-        host.printed()
-            .starts_with(b"round 0\nend trap 0 00010000 2\nsteps 1\n")
-    );
-    Ok(())
-}
-
-#[test]
-fn a_round_without_an_edit_reuses_all(rt: HostRuntime) -> Result<(), Fail> {
+fn rounds_are_reported(rt: HostRuntime) -> Result<(), Fail> {
     let alloc = rt.alloc();
     let mut host = host_with(alloc, &[], 0)?;
     let line = "ithreads run hi.elf empty empty --workers 1";
@@ -127,6 +99,20 @@ fn a_round_without_an_edit_reuses_all(rt: HostRuntime) -> Result<(), Fail> {
     assert!(rt; host.printed().starts_with(REPORT));
     assert!(rt; host.printed().ends_with(REPEATED));
     assert_eq!(rt; host.complained().len(), 0);
+    Ok(())
+}
+
+#[test]
+fn a_trap_is_reported(rt: HostRuntime) -> Result<(), Fail> {
+    let alloc = rt.alloc();
+    let mut host = host_with(alloc, &[], 0)?;
+    let line = "ithreads run trap.elf empty --workers 1";
+    let status = status_of(&rt, alloc, &mut host, line)?;
+    assert_eq!(rt; status, 1);
+    assert!(rt;
+        host.printed()
+            .starts_with(b"round 0\nend trap 0 00010000 2\nsteps 1\n")
+    );
     Ok(())
 }
 
@@ -186,21 +172,14 @@ fn bad_words_and_files_are_refused(rt: HostRuntime) -> Result<(), Fail> {
 #[test]
 fn a_call_of_the_host_that_fails_is_told(rt: HostRuntime) -> Result<(), Fail> {
     let alloc = rt.alloc();
-    let most = REPORT.len() as u64 - 1;
     for (call, part, status, complaint) in [
         (0, 0, 6, "read hi.elf\n"),
         (1, 0, 6, "read empty\n"),
-        (2, 0, 7, "write output\n"),
         (2, 1, 7, "write output\n"),
-        (2, most, 7, "write output\n"),
     ] {
         let mut host = host_with(alloc, &[call], part)?;
-        let got = status_of(
-            &rt,
-            alloc,
-            &mut host,
-            "ithreads run hi.elf empty --workers 1",
-        )?;
+        let line = "ithreads run hi.elf empty --workers 1";
+        let got = status_of(&rt, alloc, &mut host, line)?;
         assert_eq!(rt; got, status);
         assert!(rt; REPORT.starts_with(host.printed()));
         assert_eq!(rt; host.printed().len() as u64, part);
@@ -212,15 +191,14 @@ fn a_call_of_the_host_that_fails_is_told(rt: HostRuntime) -> Result<(), Fail> {
 #[test]
 fn a_report_that_fails_in_part_leaves_those_before_it(rt: HostRuntime) -> Result<(), Fail> {
     let alloc = rt.alloc();
-    for part in [0, 1, REPEATED.len() as u64 - 1] {
-        let mut host = host_with(alloc, &[4], part)?;
-        let line = "ithreads run hi.elf empty empty --workers 1";
-        let got = status_of(&rt, alloc, &mut host, line)?;
-        assert_eq!(rt; got, 7);
-        assert!(rt; host.printed().starts_with(REPORT));
-        let printed = host.printed().len() as u64;
-        assert_eq!(rt; printed, part.wrapping_add(REPORT.len() as u64));
-        assert_eq!(rt; host.complained(), b"write output\n".as_slice());
-    }
+    let part = REPEATED.len() as u64 - 1;
+    let mut host = host_with(alloc, &[4], part)?;
+    let line = "ithreads run hi.elf empty empty --workers 1";
+    let got = status_of(&rt, alloc, &mut host, line)?;
+    assert_eq!(rt; got, 7);
+    assert!(rt; host.printed().starts_with(REPORT));
+    let printed = host.printed().len() as u64;
+    assert_eq!(rt; printed, part.wrapping_add(REPORT.len() as u64));
+    assert_eq!(rt; host.complained(), b"write output\n".as_slice());
     Ok(())
 }

@@ -45,7 +45,8 @@ fn fault_by(alloc: Global, error: Error) -> LineFault
 #[tactic(auto, using(crate::proofs::NoLine::no_line))]
 fn matches_given<'a>(alloc: Global, words: &'a [String]) -> Result<ArgMatches<'a>, LineFault>
     ensures faultless { IfOk result (λ given. fault_of line.command_line (map string_bytes words.entry.now) ≡ []) }
-    ensures rows { IfOk result (λ given. subcommand_rows_of given ≡ subcommand_of line.command_line (map string_bytes words.entry.now)) }
+    ensures rows { IfOk result (λ given. subcommand_rows_of given ≡ subcommand_of line.command_line
+        (map string_bytes words.entry.now)) }
     ensures refused { IfErr result (WhyNoLine (map string_bytes words.entry.now)) }
 {
     let command = match command_line(alloc) {
@@ -72,7 +73,8 @@ fn text_of<'a>(given: &ArgMatches<'a>, id: &str) -> &'a str
 /// The texts of an operand that may be given any number of times.
 #[tactic(auto, using(crate::proofs::Given::values_of_rows))]
 fn texts_of<'a>(alloc: Global, given: &ArgMatches<'a>, id: &str) -> Result<Vec<&'a str>, AllocError>
-    ensures { IfOk result (λ texts. map (λ text. text.now) texts.items ≡ unwrap_or (all_of id.now (rows_of (found_of given.now))) []) }
+    ensures { IfOk result (λ texts. map (λ text. text.now) texts.items ≡ unwrap_or (all_of id.now (rows_of
+        (found_of given.now))) []) }
 {
     match given.get_raw(id) {
         Some(texts) => Vec::from_slice(alloc, texts),
@@ -96,8 +98,10 @@ fn number_of(given: &ArgMatches<'_>, id: &str, most: u32, default: u32) -> u32
 
 /// The limits of what was found for the command that runs a guest.
 fn limits_of(given: &ArgMatches<'_>) -> Limits
-    ensures fuel { result.fuel ≡ line.number_or MOST_FUEL line.default_fuel (one_of (codes "fuel") (rows_of (found_of given.now))) }
-    ensures steps { result.steps ≡ line.number_or MOST_STEPS line.default_limit (one_of (codes "steps") (rows_of (found_of given.now))) }
+    ensures fuel { result.fuel ≡ line.number_or MOST_FUEL line.default_fuel (one_of (codes "fuel") (rows_of
+        (found_of given.now))) }
+    ensures steps { result.steps ≡ line.number_or MOST_STEPS line.default_limit (one_of (codes "steps") (rows_of
+        (found_of given.now))) }
 {
     let fuel = number_of(given, "fuel", MOST_FUEL, DEFAULT_FUEL);
     let steps = number_of(given, "steps", MOST_STEPS, DEFAULT_STEPS);
