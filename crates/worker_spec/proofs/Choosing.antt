@@ -6,7 +6,7 @@ use Rattle.machine_spec.specs.Machine.{Hart, Machine, hart_in, hart_of, is_ready
 use Rattle.machine_spec.specs.Choice.{least}
 use Rattle.machine_spec.proofs.Harts.{ready-below}
 use Rattle.history_spec.specs.History.{History}
-use Rattle.round_spec.specs.Rounds.{nobody_out, is_out_of, is_free_in}
+use Rattle.round_spec.specs.Rounds.{nobody_out, is_free_in}
 use Rattle.round_spec.specs.Due.{place_in, is_due}
 use Rattle.round_spec.specs.Choice.{free_threads, first_of, least_by, best, is_any_out, eligible, choice_by}
 use Rattle.round_spec.proofs.Happening.{nobody_out-none}
