@@ -13,11 +13,17 @@ little_number-four xs = omega arith
 little_number-eight : (xs : List ℕ) → little_number 8 xs ≡ from_le_bytes w64 xs
 little_number-eight xs = omega arith
 
-pub spelled_two : (xs : List ℕ) (n : ℕ) → length xs ≡ 2 → ((i : ℕ) → get_or xs i 0 < 256) → n ≡ little_number 2 xs → little_bytes 2 n ≡ xs
+pub spelled_two :
+    (xs : List ℕ) (n : ℕ) → length xs ≡ 2 → ((i : ℕ) → get_or xs i 0 < 256) → n ≡ little_number 2 xs
+    → little_bytes 2 n ≡ xs
 spelled_two xs n count fits is = le_bytes_2 xs n count fits (is ∙ little_number-two xs)
 
-pub spelled_four : (xs : List ℕ) (n : ℕ) → length xs ≡ 4 → ((i : ℕ) → get_or xs i 0 < 256) → n ≡ little_number 4 xs → little_bytes 4 n ≡ xs
+pub spelled_four :
+    (xs : List ℕ) (n : ℕ) → length xs ≡ 4 → ((i : ℕ) → get_or xs i 0 < 256) → n ≡ little_number 4 xs
+    → little_bytes 4 n ≡ xs
 spelled_four xs n count fits is = le_bytes_4 xs n count fits (is ∙ little_number-four xs)
 
-pub spelled_eight : (xs : List ℕ) (n : ℕ) → length xs ≡ 8 → ((i : ℕ) → get_or xs i 0 < 256) → n ≡ little_number 8 xs → little_bytes 8 n ≡ xs
+pub spelled_eight :
+    (xs : List ℕ) (n : ℕ) → length xs ≡ 8 → ((i : ℕ) → get_or xs i 0 < 256) → n ≡ little_number 8 xs
+    → little_bytes 8 n ≡ xs
 spelled_eight xs n count fits is = le_bytes_8 xs n count fits (is ∙ little_number-eight xs)
