@@ -7,9 +7,12 @@ use Rattle.memory_spec.specs.Pages.{page_of}
 use Rattle.round_report.proofs.digest.digest_of.Goals as goal
 
 -- one page more
-concat_next : (pages : List (List ℕ)) (slot : ℕ) → slot < length pages → concat (take (slot + 1) pages) ≡ concat (take slot pages) ++ page_of pages slot
+concat_next :
+    (pages : List (List ℕ)) (slot : ℕ) → slot < length pages
+    → concat (take (slot + 1) pages) ≡ concat (take slot pages) ++ page_of pages slot
 concat_next pages slot within =
-    rw (take_more pages slot [] within, concat-append) (ap (λ page. concat (take slot pages) ++ page) (append-nil (get_or pages slot [])))
+    rw (take_more pages slot [] within, concat-append)
+    (ap (λ page. concat (take slot pages) ++ page) (append-nil (get_or pages slot [])))
 
 pub loop-slot-preserved : goal.loop-slot-preserved
 loop-slot-preserved c =

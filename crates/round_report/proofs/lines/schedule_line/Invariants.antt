@@ -9,4 +9,5 @@ use Rattle.round_report.proofs.lines.schedule_line.Given as goal
 abbrev pub invariant-loop-entry : goal.invariant-loop-entry
 invariant-loop-entry l =
     l.into.items
-    ≡ l.fn.into.items ++ codes "schedule" ++ flat_map (λ (e : Entry). space ++ entry_text e) (take l.entry-index l.schedule)
+    ≡ l.fn.into.items ++ codes "schedule" ++ flat_map (λ (e : Entry). space ++ entry_text e)
+    (take l.entry-index l.schedule)

@@ -18,7 +18,10 @@ opened : (n : ℕ) (t : Told) → report_text n t ≡ concat (report_lines n t) 
 unfolding report_text
 opened n t = refl
 
-in_parts : (n : ℕ) (t : Told) → concat (report_lines n t) ++ t.output ++ newline ≡ line (codes "round") (decimal n) ++ steps_part t ++ work_part t ++ outcome_part t
+in_parts :
+    (n : ℕ) (t : Told)
+    → concat (report_lines n t) ++ t.output ++ newline
+    ≡ line (codes "round") (decimal n) ++ steps_part t ++ work_part t ++ outcome_part t
 in_parts n t =
     cut
     (line (codes "round") (decimal n))
@@ -34,7 +37,9 @@ in_parts n t =
     t.output
     newline
 
-report_text_is : (n : ℕ) (t : Told) → report_text n t ≡ line (codes "round") (decimal n) ++ steps_part t ++ work_part t ++ outcome_part t
+report_text_is :
+    (n : ℕ) (t : Told)
+    → report_text n t ≡ line (codes "round") (decimal n) ++ steps_part t ++ work_part t ++ outcome_part t
 report_text_is n t = opened n t ∙ in_parts n t
 
 -- four parts, appended in turn
@@ -53,5 +58,7 @@ appended a b c d e e1 e2 e3 e4 =
 pub returns : goal.returns
 returns c =
     let t = c.args.told.now in
-    appended (line (codes "round") (decimal c.args.number)) (steps_part t) (work_part t) (outcome_part t) c.new-text.ensures.items c.in_ok-number_line.ensures c.in_ok-append_steps.ensures c.in_ok-append_work.ensures c.in_ok-append_outcome.ensures
+    appended (line (codes "round") (decimal c.args.number)) (steps_part t) (work_part t) (outcome_part t)
+    c.new-text.ensures.items c.in_ok-number_line.ensures c.in_ok-append_steps.ensures c.in_ok-append_work.ensures
+    c.in_ok-append_outcome.ensures
     ∙ sym (report_text_is c.args.number t)
