@@ -60,7 +60,7 @@ pub fn play<R: Threads, H: Host>(
             Ok(None) => unreachable!(),
             Err(_) => return Err(no_memory(host)),
         };
-        let next = Next {
+        let ahead = Next {
             number,
             input,
             past,
