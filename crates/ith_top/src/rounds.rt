@@ -66,7 +66,7 @@ pub fn play<R: Threads, H: Host>(
             past,
         };
         let Played { text, exits, left } = match make_round(
-            rt, alloc, setup, next, workers, &mut last,
+            rt, alloc, setup, ahead, workers, &mut last,
         ) {
             Ok(played) => played,
             Err(_) => return Err(no_memory(host)),
