@@ -31,10 +31,15 @@ on_each-replicate a (p ∷ ps) (suc n) h = ap (λ rest. a ∷ rest) (on_each-rep
 -- slots that weren't touched are a fresh workspace
 pub fresh_space :
     (pages pages' : List Mapped) (view view' : Memory) (count : ℕ) (slots : List Slot)
-    → pages' ≡ pages → view' ≡ view → slots ≡ replicate count untouched → length view ≡ count → length view
-    ≡ length pages
-    → (let w : Workspace = record { map = pages'; view = view'; memory = on_view slot_bytes view' slots; stored = map
-    slot_marks slots; taken = map slot_taken slots } in w)
+    → pages' ≡ pages → view' ≡ view → slots ≡ replicate count untouched → length view ≡ count
+    → length view ≡ length pages
+    → (let w : Workspace = record {
+      map = pages';
+      view = view';
+      memory = on_view slot_bytes view' slots;
+      stored = map slot_marks slots;
+      taken = map slot_taken slots;
+    } in w)
     ≡ fresh pages view
 unfolding slot_marks slot_taken untouched
 fresh_space pages pages' view view' count slots pages_are view_is slots_are all same =

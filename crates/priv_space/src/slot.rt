@@ -136,7 +136,7 @@ fn store_number(stored: &mut StoredPage, offset: usize, size: Size, value: u32)
     mark_number(&mut stored.mask, offset, size);
 }
 
-/// A copy of a page of the view, with the lowest bytes of a value stored by an access.
+/// A copy of a page of the view, with the lowest bytes of a value stored at an offset.
 ///
 /// It stands apart from the store into a copy that there is, which is the common case.
 #[cold]
@@ -144,15 +144,16 @@ fn store_number(stored: &mut StoredPage, offset: usize, size: Size, value: u32)
 fn own_copy(
     alloc: Global,
     page: &Page,
-    access: Access,
+    offset: usize,
+    size: Size,
     value: u32,
 ) -> Result<Box<StoredPage>, AllocError>
-    requires { access.offset + byte_count access.size ≤ PAGE_SIZE }
-    ensures page { IfOk result (λ own. own.value.page ≡ with_number page.now access.offset access.size value) }
-    ensures mask { IfOk result (λ own. own.value.mask ≡ with_marks no_marks access.offset access.size) }
+    requires { offset + byte_count size ≤ PAGE_SIZE }
+    ensures page { IfOk result (λ own. own.value.page ≡ with_number page.now offset size value) }
+    ensures mask { IfOk result (λ own. own.value.mask ≡ with_marks no_marks offset size) }
 {
     let mut own = Box::new(alloc, StoredPage::of(page))?;
-    store_number(&mut own, access.offset, access.size, value);
+    store_number(&mut own, offset, size, value);
     Ok(own)
 }
 
@@ -206,13 +207,13 @@ impl Slot {
     {
         let number = match self.page() {
             Some(page) => number_at(page, access.offset, access.size),
-            None => self.first_number(view, access)?,
+            None => self.first_number(view, access.slot, access.offset, access.size)?,
         };
         self.taken = true;
         Ok(number)
     }
 
-    /// The number of an access in the view's page, of which the slot gets its share.
+    /// The number that stands at an offset of the view's page, of which the slot gets its share.
     ///
     /// It stands apart from the taking of a later number, which is the common case.
     ///
@@ -222,20 +223,25 @@ impl Slot {
     #[cold]
     #[inline(never)]
     #[tactic(auto, unfolding(crate::specs::Slots::slot_shared, crate::specs::Slots::slot_bytes, crate::specs::Slots::slot_marks, crate::specs::Slots::slot_taken))]
-    fn first_number(&mut self, view: &PageTable, access: Access) -> Result<u32, AllocError>
-        requires within { access.slot < length view.now }
-        requires inside { access.offset + byte_count access.size ≤ PAGE_SIZE }
+    fn first_number(
+        &mut self,
+        view: &PageTable,
+        slot: usize,
+        offset: usize,
+        size: Size,
+    ) -> Result<u32, AllocError>
+        requires within { slot < length view.now }
+        requires inside { offset + byte_count size ≤ PAGE_SIZE }
         requires untouched { self.old.held ≡ Untouched }
-        ensures value { IfOk result (λ number. number
-            ≡ number_in (page_of view.now access.slot) access.offset access.size) }
-        ensures small { IfOk result (λ number. number < 2 ^ (8 * byte_count access.size)) }
-        ensures shared { slot_shared (page_of view.now access.slot) self.new ≡ page_of view.now access.slot }
-        ensures bytes { slot_bytes (page_of view.now access.slot) self.new ≡ page_of view.now access.slot }
+        ensures value { IfOk result (λ number. number ≡ number_in (page_of view.now slot) offset size) }
+        ensures small { IfOk result (λ number. number < 2 ^ (8 * byte_count size)) }
+        ensures shared { slot_shared (page_of view.now slot) self.new ≡ page_of view.now slot }
+        ensures bytes { slot_bytes (page_of view.now slot) self.new ≡ page_of view.now slot }
         ensures marks { slot_marks self.new ≡ no_marks }
         ensures taken { slot_taken self.new ≡ slot_taken self.old }
     {
-        let shared = view.share(access.slot)?;
-        let number = number_at(&shared, access.offset, access.size);
+        let shared = view.share(slot)?;
+        let number = number_at(&shared, offset, size);
         self.held = Held::Shared(shared);
         Ok(number)
     }
@@ -272,7 +278,13 @@ impl Slot {
                 Ok(())
             }
             Held::Shared(_) | Held::Untouched => {
-                self.held = Held::Own(own_copy(alloc, view.page(access.slot), access, value)?);
+                self.held = Held::Own(own_copy(
+                    alloc,
+                    view.page(access.slot),
+                    access.offset,
+                    access.size,
+                    value,
+                )?);
                 Ok(())
             }
         }
