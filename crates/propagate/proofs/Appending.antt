@@ -73,13 +73,19 @@ fits-parts :
 unfolding fits fits_at
 fits-parts m r fit =
     let parts = and_parts (is_ready (hart_of m r.thread).status)
-    ((eqb r.number (hart_of m r.thread).number && same_registers r.start (hart_of m r.thread).regs) && has (hart_of m r.thread).view r.kept.reads) fit in
-    let left = and_parts (eqb r.number (hart_of m r.thread).number && same_registers r.start (hart_of m r.thread).regs) (has (hart_of m r.thread).view r.kept.reads) parts.1 in
-    let number = and_parts (eqb r.number (hart_of m r.thread).number) (same_registers r.start (hart_of m r.thread).regs) left.0 in
+    ((eqb r.number (hart_of m r.thread).number && same_registers r.start (hart_of m r.thread).regs) && has
+    (hart_of m r.thread).view r.kept.reads) fit in
+    let left =
+    and_parts (eqb r.number (hart_of m r.thread).number && same_registers r.start (hart_of m r.thread).regs)
+    (has (hart_of m r.thread).view r.kept.reads) parts.1 in
+    let number =
+    and_parts (eqb r.number (hart_of m r.thread).number) (same_registers r.start (hart_of m r.thread).regs) left.0 in
     (parts.0, eqb-true r.number (hart_of m r.thread).number number.0)
 
 -- one that fits, in a round that isn't over
-pub fitting-append : (w : RoundState) (r : Record) → IsInOrder w → IsCounted w → is_over w ≡ false → fits w.machine r ≡ true → CanAppend w r
+pub fitting-append :
+    (w : RoundState) (r : Record) → IsInOrder w → IsCounted w → is_over w ≡ false → fits w.machine r ≡ true
+    → CanAppend w r
 fitting-append w r kept counted going fit =
     let parts = fits-parts w.machine r fit in
     can-append w r kept counted (going-none w.machine.ending w.stopped going) parts.0 parts.1
@@ -114,11 +120,14 @@ reuses-some w t can none =
 
 pub reuse-ready : (w : RoundState) (t : ℕ) → can_reuse w t ≡ true → is_ready (hart_of w.machine t).status ≡ true
 reuse-ready w t can =
-    let begins : CanBegin w t = can_begin-parts w t (and_parts (can_begin w t) (fits_next w.past w.machine t) can).0 in begins.ready
+    let begins : CanBegin w t = can_begin-parts w t (and_parts (can_begin w t) (fits_next w.past w.machine t) can).0 in
+    begins.ready
 
 pub take-ready : (w : RoundState) (t : ℕ) → can_take w t ≡ true → is_ready (hart_of w.machine t).status ≡ true
 take-ready w t can =
-    let begins : CanBegin w t = can_begin-parts w t (and_parts (can_begin w t) (not (fits_next w.past w.machine t)) can).0 in begins.ready
+    let begins : CanBegin w t =
+    can_begin-parts w t (and_parts (can_begin w t) (not (fits_next w.past w.machine t)) can).0 in
+    begins.ready
 
 -- as many steps of the history are passed at least
 pub front-lay :

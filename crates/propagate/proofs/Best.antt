@@ -18,7 +18,8 @@ filter-more p (x ∷ xs) t = by (p x) (filter-more p xs t)
   where
     by :
         (b : Bool) → filter p (xs ++ t ∷ []) ≡ filter p xs ++ cond (p t) (t ∷ []) []
-        → cond b (x ∷ filter p (xs ++ t ∷ [])) (filter p (xs ++ t ∷ [])) ≡ cond b (x ∷ filter p xs) (filter p xs) ++ cond (p t) (t ∷ []) []
+        → cond b (x ∷ filter p (xs ++ t ∷ [])) (filter p (xs ++ t ∷ []))
+        ≡ cond b (x ∷ filter p xs) (filter p xs) ++ cond (p t) (t ∷ []) []
     by true rest = ap (λ (ys : List ℕ). x ∷ ys) rest
     by false rest = rest
 
@@ -32,11 +33,15 @@ append-nil-at (x ∷ xs) = ap (λ (ys : List ℕ). x ∷ ys) (append-nil-at xs)
 
 -- the least of a measure, and one more
 
-least-more : (f : ℕ → ℕ) (x : ℕ) (xs : List ℕ) (t : ℕ) → least (map f ((x ∷ xs) ++ t ∷ [])) ≡ min (least (map f (x ∷ xs))) (f t)
+least-more :
+    (f : ℕ → ℕ) (x : ℕ) (xs : List ℕ) (t : ℕ)
+    → least (map f ((x ∷ xs) ++ t ∷ [])) ≡ min (least (map f (x ∷ xs))) (f t)
 least-more f x [] t = refl
 least-more f x (y ∷ ys) t = let rest = least-more f y ys t in omega arith
 
-filter-above : (f : ℕ → ℕ) (n l : ℕ) (xs : List ℕ) → n < l → AllByRecursion (λ u. l ≤ f u) xs → filter (λ u. eqb (f u) n) xs ≡ []
+filter-above :
+    (f : ℕ → ℕ) (n l : ℕ) (xs : List ℕ) → n < l → AllByRecursion (λ u. l ≤ f u) xs
+    → filter (λ u. eqb (f u) n) xs ≡ []
 filter-above f n l [] below all = refl
 filter-above f n l (x ∷ xs) below all =
     let other : eqb (f x) n ≡ false = ne_eqb (f x) n (λ same. let low = all.0 in omega arith) in
@@ -50,7 +55,8 @@ unfolding least_by
 least_by-lower f x xs t below =
     let is : least (map f ((x ∷ xs) ++ t ∷ [])) ≡ f t = let more = least-more f x xs t in omega arith in
     let under = least-under f x xs (least (map f (x ∷ xs))) (omega arith) in
-    let none : filter (λ u. eqb (f u) (f t)) (x ∷ xs) ≡ [] = filter-above f (f t) (least (map f (x ∷ xs))) (x ∷ xs) below under in
+    let none : filter (λ u. eqb (f u) (f t)) (x ∷ xs) ≡ [] =
+    filter-above f (f t) (least (map f (x ∷ xs))) (x ∷ xs) below under in
     let same : eqb (f t) (f t) ≡ true = eq-eqb (f t) (f t) refl in
     ap (λ n. filter (λ u. eqb (f u) n) ((x ∷ xs) ++ t ∷ [])) is
     ∙ filter-more (λ u. eqb (f u) (f t)) (x ∷ xs) t
@@ -63,7 +69,8 @@ least_by-same :
     → f t ≡ least (map f (x ∷ xs)) → least_by f ((x ∷ xs) ++ t ∷ []) ≡ least_by f (x ∷ xs) ++ t ∷ []
 unfolding least_by
 least_by-same f x xs t at =
-    let is : least (map f ((x ∷ xs) ++ t ∷ [])) ≡ least (map f (x ∷ xs)) = let more = least-more f x xs t in omega arith in
+    let is : least (map f ((x ∷ xs) ++ t ∷ [])) ≡ least (map f (x ∷ xs)) = let more = least-more f x xs t in
+    omega arith in
     let same : eqb (f t) (least (map f (x ∷ xs))) ≡ true = eq-eqb (f t) (least (map f (x ∷ xs))) at in
     ap (λ n. filter (λ u. eqb (f u) n) ((x ∷ xs) ++ t ∷ [])) is
     ∙ filter-more (λ u. eqb (f u) (least (map f (x ∷ xs)))) (x ∷ xs) t
@@ -75,8 +82,10 @@ least_by-higher :
     → least (map f (x ∷ xs)) < f t → least_by f ((x ∷ xs) ++ t ∷ []) ≡ least_by f (x ∷ xs)
 unfolding least_by
 least_by-higher f x xs t above =
-    let is : least (map f ((x ∷ xs) ++ t ∷ [])) ≡ least (map f (x ∷ xs)) = let more = least-more f x xs t in omega arith in
-    let other : eqb (f t) (least (map f (x ∷ xs))) ≡ false = ne_eqb (f t) (least (map f (x ∷ xs))) (λ same. omega arith) in
+    let is : least (map f ((x ∷ xs) ++ t ∷ [])) ≡ least (map f (x ∷ xs)) = let more = least-more f x xs t in
+    omega arith in
+    let other : eqb (f t) (least (map f (x ∷ xs))) ≡ false =
+    ne_eqb (f t) (least (map f (x ∷ xs))) (λ same. omega arith) in
     ap (λ n. filter (λ u. eqb (f u) n) ((x ∷ xs) ++ t ∷ [])) is
     ∙ filter-more (λ u. eqb (f u) (least (map f (x ∷ xs)))) (x ∷ xs) t
     ∙ ap (λ b. filter (λ u. eqb (f u) (least (map f (x ∷ xs)))) (x ∷ xs) ++ cond b (t ∷ []) []) other
@@ -129,12 +138,14 @@ first_by-at f g xs u is = (
       (first-all (λ v. eqb (f v) (least (map f xs)) ≡ true) (least_by g (least_by f xs)) u
       (least_by-all (λ v. eqb (f v) (least (map f xs)) ≡ true) g (least_by f xs) (least_by-at f xs)) is),
   eqb-true (g u) (least (map g (least_by f xs)))
-      (first-all (λ v. eqb (g v) (least (map g (least_by f xs))) ≡ true) (least_by g (least_by f xs)) u (least_by-at g (least_by f xs)) is),
+      (first-all (λ v. eqb (g v) (least (map g (least_by f xs))) ≡ true) (least_by g (least_by f xs)) u
+      (least_by-at g (least_by f xs)) is),
 )
 
 -- whether a thread comes before another by two measures
 abbrev pub comes_before : ℕ → ℕ → ℕ → ℕ → Bool
-comes_before place number other_place other_number = ltb place other_place || (eqb place other_place && ltb number other_number)
+comes_before place number other_place other_number =
+    ltb place other_place || (eqb place other_place && ltb number other_number)
 
 single : (f : ℕ → ℕ) (t : ℕ) → least_by f (t ∷ []) ≡ t ∷ []
 unfolding least_by
@@ -199,8 +210,11 @@ best-single past m t =
     ap (λ (ys : List ℕ). first_of (least_by (λ v. (hart_of m v).number) ys)) (single (place_in past m) t)
     ∙ ap first_of (single (λ v. (hart_of m v).number) t)
 
-pub best-first : (past : Option History) (m : Machine) (xs : List ℕ) (t : ℕ) → best past m xs ≡ None → best past m (xs ++ t ∷ []) ≡ Some t
-best-first past m xs t is = ap (λ (ys : List ℕ). best past m (ys ++ t ∷ [])) (best-none past m xs is) ∙ best-single past m t
+pub best-first :
+    (past : Option History) (m : Machine) (xs : List ℕ) (t : ℕ) → best past m xs ≡ None
+    → best past m (xs ++ t ∷ []) ≡ Some t
+best-first past m xs t is =
+    ap (λ (ys : List ℕ). best past m (ys ++ t ∷ [])) (best-none past m xs is) ∙ best-single past m t
 
 -- who is best is one of those
 pub best-all :

@@ -24,7 +24,9 @@ leads-first :
     → best past m threads ≡ o → None ≡ option_map (candidate_of past m) o
     → next ≡ candidate_of past m next.thread
     → Some next ≡ option_map (candidate_of past m) (best past m (threads ++ next.thread ∷ []))
-leads-first past m threads next None is none same = ap (λ (c : Candidate). Some c) same ∙ ap (option_map (candidate_of past m)) (sym (best-first past m threads next.thread is))
+leads-first past m threads next None is none same =
+    ap (λ (c : Candidate). Some c) same
+    ∙ ap (option_map (candidate_of past m)) (sym (best-first past m threads next.thread is))
 leads-first past m threads next (Some u) is none same = cc
 
 leads-chosen :
@@ -37,12 +39,14 @@ leads-more :
     (past : Option History) (m : Machine) (threads : List ℕ) (leader next : Candidate) (o : Option ℕ)
     → best past m threads ≡ o → Some leader ≡ option_map (candidate_of past m) o
     → next ≡ candidate_of past m next.thread
-    → Some (cond (comes_before next leader) next leader) ≡ option_map (candidate_of past m) (best past m (threads ++ next.thread ∷ []))
+    → Some (cond (comes_before next leader) next leader)
+    ≡ option_map (candidate_of past m) (best past m (threads ++ next.thread ∷ []))
 leads-more past m threads leader next None is some same = cc
 leads-more past m threads leader next (Some u) is some same =
     let leads : leader ≡ candidate_of past m u = cc in
     ap (λ (c : Candidate). Some (cond (comes_before c leader) c leader)) same
-    ∙ ap (λ (c : Candidate). Some (cond (comes_before (candidate_of past m next.thread) c) (candidate_of past m next.thread) c)) leads
+    ∙ ap (λ (c : Candidate). Some
+    (cond (comes_before (candidate_of past m next.thread) c) (candidate_of past m next.thread) c)) leads
     ∙ ap (λ (c : Candidate). Some c)
     (leads-chosen past m next.thread u (comes_before (candidate_of past m next.thread) (candidate_of past m u)))
     ∙ ap (option_map (candidate_of past m)) (sym (best-more past m threads next.thread u is))
@@ -53,11 +57,14 @@ pub leader-more :
     → next ≡ candidate_of past m next.thread
     → Some (better leader next) ≡ option_map (candidate_of past m) (best past m (threads ++ next.thread ∷ []))
 leader-more past m threads None next leads same = leads-first past m threads next (best past m threads) refl leads same
-leader-more past m threads (Some leader) next leads same = leads-more past m threads leader next (best past m threads) refl leads same
+leader-more past m threads (Some leader) next leads same =
+    leads-more past m threads leader next (best past m threads) refl leads same
 
 -- one thread more
 
-below-more : (w : RoundState) (t : ℕ) → free_below w (t + 1) ≡ free_below w t ++ cond (is_free_in w.machine w.out t) (t ∷ []) []
+below-more :
+    (w : RoundState) (t : ℕ)
+    → free_below w (t + 1) ≡ free_below w t ++ cond (is_free_in w.machine w.out t) (t ∷ []) []
 below-more w t =
     ap (λ n. filter (is_free_in w.machine w.out) (range_with_len 0 n)) (add-one t)
     ∙ ap (filter (is_free_in w.machine w.out)) (range-more 0 t t (omega arith))
@@ -66,12 +73,15 @@ below-more w t =
 free-skip : (w : RoundState) (t : ℕ) → is_free_in w.machine w.out t ≡ false → free_below w (t + 1) ≡ free_below w t
 free-skip w t is = below-more w t ∙ ap (λ b. free_below w t ++ cond b (t ∷ []) []) is ∙ append-nil (free_below w t)
 
-free-more : (w : RoundState) (t : ℕ) → is_free_in w.machine w.out t ≡ true → free_below w (t + 1) ≡ free_below w t ++ t ∷ []
+free-more :
+    (w : RoundState) (t : ℕ) → is_free_in w.machine w.out t ≡ true
+    → free_below w (t + 1) ≡ free_below w t ++ t ∷ []
 free-more w t is = below-more w t ∙ ap (λ b. free_below w t ++ cond b (t ∷ []) []) is
 
 due-both :
     (w : RoundState) (t : ℕ)
-    → is_free_in w.machine w.out t ≡ true → due_below w (t + 1) ≡ due_below w t ++ cond (is_due w.past w.machine t) (t ∷ []) []
+    → is_free_in w.machine w.out t ≡ true → due_below w (t + 1)
+    ≡ due_below w t ++ cond (is_due w.past w.machine t) (t ∷ []) []
 due-both w t is =
     ap (filter (is_due w.past w.machine)) (free-more w t is) ∙ filter-more (is_due w.past w.machine) (free_below w t) t
 
@@ -94,7 +104,8 @@ leads-below :
     → leader ≡ leader_of w threads → place ≡ place_in w.past w.machine t → number ≡ (hart_of w.machine t).number
     → Some (better leader (record { thread = t; place = place; number = number })) ≡ leader_of w (threads ++ t ∷ [])
 leads-below w threads leader t place number leads is_place is_number =
-    leader-more w.past w.machine threads leader (record { thread = t; place = place; number = number }) leads (rw (is_place, is_number) refl)
+    leader-more w.past w.machine threads leader (record { thread = t; place = place; number = number }) leads
+    (rw (is_place, is_number) refl)
 
 pub leaders-free :
     (w : RoundState) (t place number : ℕ) (found : Leaders)
@@ -102,14 +113,19 @@ pub leaders-free :
     → is_free_in w.machine w.out t ≡ true → is_due w.past w.machine t ≡ false
     → place ≡ place_in w.past w.machine t → number ≡ (hart_of w.machine t).number
     → AreLeadersBelow w (t + 1)
-    (record { due = found.due; free = Some (better found.free (record { thread = t; place = place; number = number })) })
+    (record {
+      due = found.due;
+      free = Some (better found.free (record { thread = t; place = place; number = number }));
+    })
 leaders-free w t place number found leads free due is_place is_number = record {
   due =
       leads.due
       ∙ ap (leader_of w) (sym (append-nil (due_below w t)))
       ∙ ap (λ b. leader_of w (due_below w t ++ cond b (t ∷ []) [])) (sym due)
       ∙ ap (leader_of w) (sym (due-both w t free));
-  free = leads-below w (free_below w t) found.free t place number leads.free is_place is_number ∙ ap (leader_of w) (sym (free-more w t free));
+  free =
+      leads-below w (free_below w t) found.free t place number leads.free is_place is_number
+      ∙ ap (leader_of w) (sym (free-more w t free));
 }
 
 pub leaders-due :
@@ -127,7 +143,9 @@ leaders-due w t place number found leads free due is_place is_number = record {
       leads-below w (due_below w t) found.due t place number leads.due is_place is_number
       ∙ ap (λ b. leader_of w (due_below w t ++ cond b (t ∷ []) [])) (sym due)
       ∙ ap (leader_of w) (sym (due-both w t free));
-  free = leads-below w (free_below w t) found.free t place number leads.free is_place is_number ∙ ap (leader_of w) (sym (free-more w t free));
+  free =
+      leads-below w (free_below w t) found.free t place number leads.free is_place is_number
+      ∙ ap (leader_of w) (sym (free-more w t free));
 }
 
 -- the choice, by the leaders
@@ -135,12 +153,15 @@ leaders-due w t place number found leads free due is_place is_number = record {
 choice-below :
     (w : RoundState)
     → choice_by w.past w.machine w.out
-    ≡ best w.past w.machine (eligible (due_below w (length w.machine.harts)) (free_below w (length w.machine.harts)) (is_any_out w.out))
+    ≡ best w.past w.machine (eligible (due_below w (length w.machine.harts)) (free_below w (length w.machine.harts))
+    (is_any_out w.out))
 unfolding choice_by free_threads
 choice-below w = refl
 
 -- the thread of a leader
-thread-of : (w : RoundState) (threads : List ℕ) → option_map (λ (c : Candidate). c.thread) (leader_of w threads) ≡ best w.past w.machine threads
+thread-of :
+    (w : RoundState) (threads : List ℕ)
+    → option_map (λ (c : Candidate). c.thread) (leader_of w threads) ≡ best w.past w.machine threads
 thread-of w threads = by (best w.past w.machine threads)
   where
     by : (o : Option ℕ) → option_map (λ (c : Candidate). c.thread) (option_map (candidate_of w.past w.machine) o) ≡ o
@@ -155,7 +176,8 @@ eligible-due w (u ∷ due) free any t is = is
 
 eligible-none :
     (w : RoundState) (due free : List ℕ) (any : Bool)
-    → best w.past w.machine due ≡ None → best w.past w.machine (eligible due free any) ≡ cond any None (best w.past w.machine free)
+    → best w.past w.machine due ≡ None → best w.past w.machine (eligible due free any)
+    ≡ cond any None (best w.past w.machine free)
 eligible-none w due free any is = rw (best-none w.past w.machine due is) (by any)
   where
     by : (b : Bool) → best w.past w.machine (eligible [] free b) ≡ cond b None (best w.past w.machine free)
@@ -168,8 +190,10 @@ pub choice-due :
     → choice_by w.past w.machine w.out ≡ Some leader.thread
 choice-due w found leader leads is =
     choice-below w
-    ∙ eligible-due w (due_below w (length w.machine.harts)) (free_below w (length w.machine.harts)) (is_any_out w.out) leader.thread
-    (sym (thread-of w (due_below w (length w.machine.harts))) ∙ ap (option_map (λ (c : Candidate). c.thread)) (sym leads.due ∙ is))
+    ∙ eligible-due w (due_below w (length w.machine.harts)) (free_below w (length w.machine.harts)) (is_any_out w.out)
+    leader.thread
+    (sym (thread-of w (due_below w (length w.machine.harts)))
+    ∙ ap (option_map (λ (c : Candidate). c.thread)) (sym leads.due ∙ is))
 
 pub choice-free :
     (w : RoundState) (found : Leaders) (any : Bool)
@@ -177,11 +201,14 @@ pub choice-free :
     → choice_by w.past w.machine w.out ≡ cond any None (option_map (λ (c : Candidate). c.thread) found.free)
 choice-free w found any leads is out =
     choice-below w
-    ∙ ap (λ b. best w.past w.machine (eligible (due_below w (length w.machine.harts)) (free_below w (length w.machine.harts)) b)) out
+    ∙ ap (λ b. best w.past w.machine
+    (eligible (due_below w (length w.machine.harts)) (free_below w (length w.machine.harts)) b)) out
     ∙ eligible-none w (due_below w (length w.machine.harts)) (free_below w (length w.machine.harts)) any
-    (sym (thread-of w (due_below w (length w.machine.harts))) ∙ ap (option_map (λ (c : Candidate). c.thread)) (sym leads.due ∙ is))
+    (sym (thread-of w (due_below w (length w.machine.harts)))
+    ∙ ap (option_map (λ (c : Candidate). c.thread)) (sym leads.due ∙ is))
     ∙ ap (cond any None)
-    (sym (thread-of w (free_below w (length w.machine.harts))) ∙ ap (option_map (λ (c : Candidate). c.thread)) (sym leads.free))
+    (sym (thread-of w (free_below w (length w.machine.harts)))
+    ∙ ap (option_map (λ (c : Candidate). c.thread)) (sym leads.free))
 
 -- the choice is the leader of those that are due, where there is one or anybody is out, and else the leader of all
 pub choice-of :
@@ -215,13 +242,17 @@ eligible-all P (t ∷ due) free any all_due all_free = all_due
 eligible-all P [] free true all_due all_free = tt
 eligible-all P [] free false all_due all_free = all_free
 
-choice-is_free : (w : RoundState) (t : ℕ) → choice_by w.past w.machine w.out ≡ Some t → is_free_in w.machine w.out t ≡ true
+choice-is_free :
+    (w : RoundState) (t : ℕ) → choice_by w.past w.machine w.out ≡ Some t
+    → is_free_in w.machine w.out t ≡ true
 choice-is_free w t is =
     let all = all-pass (is_free_in w.machine w.out) (range_with_len 0 (length w.machine.harts)) in
     best-all (λ u. is_free_in w.machine w.out u ≡ true) w.past w.machine
     (eligible (due_below w (length w.machine.harts)) (free_below w (length w.machine.harts)) (is_any_out w.out)) t
-    (eligible-all (λ u. is_free_in w.machine w.out u ≡ true) (due_below w (length w.machine.harts)) (free_below w (length w.machine.harts)) (is_any_out w.out)
-    (all-filter (λ u. is_free_in w.machine w.out u ≡ true) (is_due w.past w.machine) (free_below w (length w.machine.harts)) all)
+    (eligible-all (λ u. is_free_in w.machine w.out u ≡ true) (due_below w (length w.machine.harts))
+    (free_below w (length w.machine.harts)) (is_any_out w.out)
+    (all-filter (λ u. is_free_in w.machine w.out u ≡ true) (is_due w.past w.machine)
+    (free_below w (length w.machine.harts)) all)
     all)
     (sym (choice-below w) ∙ is)
 
@@ -234,7 +265,9 @@ pick-over w over = rw over refl
 pub pick-stopped : (w : RoundState) → w.stopped ≡ true → pick_of w ≡ pick.Over
 pick-stopped w stopped = pick-over w (or_right (is_some w.machine.ending) w.stopped stopped)
 
-pick-going : (w : RoundState) → is_over w ≡ false → pick_of w ≡ with_choice w.past w.machine (choice_by w.past w.machine w.out)
+pick-going :
+    (w : RoundState) → is_over w ≡ false
+    → pick_of w ≡ with_choice w.past w.machine (choice_by w.past w.machine w.out)
 unfolding pick_of
 pick-going w going = rw going refl
 
@@ -268,8 +301,11 @@ picked-by w false (Some u) p over chosen is = by (fits_next w.past w.machine u) 
         (fit : Bool) → fits_next w.past w.machine u ≡ fit
         → ((t : ℕ) → p ≡ pick.Reuse t → can_reuse w t ≡ true) × ((t : ℕ) → p ≡ pick.Run t → can_take w t ≡ true)
     by true fit =
-        let reuses : pick_of w ≡ pick.Reuse u = pick-chosen w u true over chosen (chosen-fits w u over chosen ∙ fit) in
-        (λ t same. let is_t : u ≡ t = cc in ap (can_reuse w) (sym is_t) ∙ chosen-fits w u over chosen ∙ fit, λ t same. cc)
+        let reuses : pick_of w ≡ pick.Reuse u = pick-chosen w u true over chosen (chosen-fits w u over chosen ∙ fit) in (
+          λ t same. let is_t : u ≡ t = cc in ap (can_reuse w) (sym is_t) ∙ chosen-fits w u over chosen
+              ∙ fit,
+          λ t same. cc,
+        )
     by false fit =
         let runs : pick_of w ≡ pick.Run u = pick-chosen w u false over chosen (chosen-fits w u over chosen ∙ fit) in
         let can : can_take w u ≡ true = rw (over, choice-is_free w u chosen, fit) refl in

@@ -51,7 +51,8 @@ own-record m t r thread number start kept =
 
 -- what running a job gave is that record
 pub run-record :
-    (m : Machine) (t : ℕ) (job : Job) (run : Run) → IsJobOf m t job → IsRunOf job run → arc_value run.rec ≡ record_of m t
+    (m : Machine) (t : ℕ) (job : Job) (run : Run) → IsJobOf m t job → IsRunOf job run → arc_value run.rec
+    ≡ record_of m t
 run-record m t job run own ran =
     own-record m t (arc_value run.rec) (ran.thread ∙ own.thread) (ran.number ∙ own.number) (ran.start ∙ own.regs)
     (ran.kept ∙ rw (own.frame, own.view, own.regs) refl)
@@ -63,7 +64,8 @@ over-false false c h = refl
 take-going : (w : RoundState) (t : ℕ) → can_take w t ≡ true → is_over w ≡ false
 take-going w t can =
     let parts = and_parts (can_begin w t) (not (fits_next w.past w.machine t)) can in
-    not-true (is_over w) (and_parts (not (is_over w)) (is_ready (hart_of w.machine t).status && not (is_out w t)) parts.0).0
+    not-true (is_over w) (and_parts (not (is_over w)) (is_ready (hart_of w.machine t).status && not (is_out w t))
+    parts.0).0
 
 -- the step of a thread that is out can be committed, while the round isn't over
 pub out-commits :
@@ -90,7 +92,8 @@ taken-commits w t r kept can is =
       same_frame = refl;
       taken =
           ap (λ (x : Record). is_out (taken w t) x.thread) is
-          ∙ get_or-set_same w.out t true false (let few = below-32 w.machine t kept.whole ready in let flags = kept.flags in omega arith);
+          ∙ get_or-set_same w.out t true false
+          (let few = below-32 w.machine t kept.whole ready in let flags = kept.flags in omega arith);
       fit = ap (fits w.machine) is ∙ record-fits w.machine t ready;
     }
 
@@ -100,7 +103,8 @@ pub own-commits :
     → IsInOrder w → can_take w t ≡ true → v ≡ happens w (Take t) → r ≡ record_of w.machine t
     → CanCommit v w.machine.frame r
 own-commits w v t r kept can is own =
-    subst (λ (x : RoundState). CanCommit x w.machine.frame r) (sym (is ∙ happens-take w t can)) (taken-commits w t r kept can own)
+    subst (λ (x : RoundState). CanCommit x w.machine.frame r) (sym (is ∙ happens-take w t can))
+    (taken-commits w t r kept can own)
 
 -- what was executed and committed is counted
 pub commit-counts :
@@ -136,18 +140,21 @@ ExecutesNothing (GiveBack t) = Unit {0}
 ExecutesNothing Stop = Unit {0}
 
 either-executed :
-    (c : Bool) (w a b : RoundState) → executed_by a ≡ executed_by w → executed_by b ≡ executed_by w → executed_by (cond c a b) ≡ executed_by w
+    (c : Bool) (w a b : RoundState) → executed_by a ≡ executed_by w → executed_by b ≡ executed_by w
+    → executed_by (cond c a b) ≡ executed_by w
 either-executed true w a b first second = first
 either-executed false w a b first second = second
 
 reused-executed :
-    (w : RoundState) (t : ℕ) (o : Option Record) → length w.records ≡ length w.schedule → executed_by (reused_by w t o) ≡ executed_by w
+    (w : RoundState) (t : ℕ) (o : Option Record) → length w.records ≡ length w.schedule → executed_by (reused_by w t o)
+    ≡ executed_by w
 reused-executed w t None same = refl
 reused-executed w t (Some r) same =
     let more = executed-more w.schedule w.records (record { thread = t; reused = true }) r same in more ∙ omega arith
 
 aside-executed :
-    (w : RoundState) (e : Event) → length w.records ≡ length w.schedule → ExecutesNothing e → executed_by (happens w e) ≡ executed_by w
+    (w : RoundState) (e : Event) → length w.records ≡ length w.schedule → ExecutesNothing e → executed_by (happens w e)
+    ≡ executed_by w
 unfolding happens
 aside-executed w (Take t) same nothing = either-executed (can_take w t) w (taken w t) w refl refl
 aside-executed w (Reuse t) same nothing =
@@ -218,7 +225,8 @@ partway-end setup past n w start now way none = ap (λ k. after_picks k w) (sym 
 pub alone-threads :
     (setup : Setup) (past : Option History) (w : RoundState)
     → IsSetup setup → w ≡ lone_round setup past → IsSound past setup → threads_of w.schedule ≡ one_worker setup past
-alone-threads setup past w valid is sound = ap (λ (x : RoundState). threads_of x.schedule) is ∙ lone-threads setup past valid sound
+alone-threads setup past w valid is sound =
+    ap (λ (x : RoundState). threads_of x.schedule) is ∙ lone-threads setup past valid sound
 
 pub alone-permitted :
     (setup : Setup) (past : Option History) (w : RoundState)

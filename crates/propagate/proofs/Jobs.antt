@@ -43,7 +43,8 @@ cleared (b ∷ out) (suc t) = cleared out t
 still_out : (out : List Bool) (t u : ℕ) → is_out_of (set out t false) u ≡ true → (u ≢ t) × (is_out_of out u ≡ true)
 still_out out t u is =
     elim (cases_eq u t) [
-      | inl same ↦ absurd (let none : is_out_of (set out t false) u ≡ false = ap (is_out_of (set out t false)) same ∙ cleared out t in cc)
+      | inl same ↦ absurd (let none : is_out_of (set out t false) u ≡ false = ap (is_out_of (set out t false)) same
+          ∙ cleared out t in cc)
       | inr other ↦ (other, sym (get_or-set_other out t u false false other) ∙ is)
     ]
 
@@ -70,15 +71,24 @@ none-of : (e : Option End) (stopped : Bool) → (is_some e || stopped) ≡ false
 none-of (Some e) stopped h = cc
 none-of None stopped h = refl
 
-committed-stay : (w : RoundState) (t : ℕ) → IsInOrder w → is_out w t ≡ true → is_over w ≡ false → AllStay w (committed w t)
+committed-stay :
+    (w : RoundState) (t : ℕ) → IsInOrder w → is_out w t ≡ true → is_over w ≡ false
+    → AllStay w (committed w t)
 committed-stay w t kept out going = λ u out_u.
     let still = still_out w.out t u out_u in
     let held : IsHeld w t = kept.held t out in
     let before : IsHeld w u = kept.held u still.1 in
     let can : can_step w.machine t ≡ true = rw (none-of w.machine.ending w.stopped going, held.ready) refl in
-    record { out = still.1; hart = step-stays w.machine t u kept.whole can still.0 before.ready; frame = step-frame w.machine t }
+    record {
+      out = still.1;
+      hart = step-stays w.machine t u kept.whole can still.0 before.ready;
+      frame = step-frame
+          w.machine t;
+    }
 
-commit-stay : (w : RoundState) (t : ℕ) (out over : Bool) → IsInOrder w → is_out w t ≡ out → is_over w ≡ over → AllStay w (cond out (cond over (given_back w t) (committed w t)) w)
+commit-stay :
+    (w : RoundState) (t : ℕ) (out over : Bool) → IsInOrder w → is_out w t ≡ out → is_over w ≡ over
+    → AllStay w (cond out (cond over (given_back w t) (committed w t)) w)
 commit-stay w t false over kept is_out is_over = all-same w
 commit-stay w t true true kept is_out is_over = given_back-stay w t
 commit-stay w t true false kept is_out is_over = committed-stay w t kept is_out is_over
@@ -90,18 +100,26 @@ reused-stay w t None kept there begins = all-same w
 reused-stay w t (Some r) kept there begins = λ u out.
     let of = past-of w.past t (hart_of w.machine t).number r there in
     let thread : r.thread ≡ t = of.0 in
-    let ready : is_ready (hart_of w.machine r.thread).status ≡ true = ap (λ v. is_ready (hart_of w.machine v).status) thread ∙ begins.ready in
+    let ready : is_ready (hart_of w.machine r.thread).status ≡ true =
+    ap (λ v. is_ready (hart_of w.machine v).status) thread ∙ begins.ready in
     let can : can_step w.machine r.thread ≡ true = rw (begins.none, ready) refl in
     let before : IsHeld w u = kept.held u out in
-    let other : u ≢ r.thread = λ same. let inside : is_out w u ≡ false = ap (is_out w) (same ∙ thread) ∙ begins.inside in cc in
-    record { out = out; hart = lay-stays w.machine r u kept.whole can other before.ready; frame = lay-frame w.machine r }
+    let other : u ≢ r.thread =
+    λ same. let inside : is_out w u ≡ false = ap (is_out w) (same ∙ thread) ∙ begins.inside in
+    cc in
+    record {
+      out = out;
+      hart = lay-stays w.machine r u kept.whole can other before.ready;
+      frame = lay-frame w.machine r;
+    }
 
 reuse-stay :
     (w : RoundState) (t : ℕ) (b : Bool)
     → IsInOrder w → can_reuse w t ≡ b → AllStay w (cond b (reused_by w t (record_for w.past w.machine t)) w)
 reuse-stay w t false kept is = all-same w
 reuse-stay w t true kept is =
-    reused-stay w t (record_for w.past w.machine t) kept refl (can_begin-parts w t (and_parts (can_begin w t) (fits_next w.past w.machine t) is).0)
+    reused-stay w t (record_for w.past w.machine t) kept refl
+    (can_begin-parts w t (and_parts (can_begin w t) (fits_next w.past w.machine t) is).0)
 
 -- whether an event takes nobody
 abbrev pub TakesNobody : Event → Type 0
@@ -119,7 +137,9 @@ happens-stay w (Commit t) nobody kept = commit-stay w t (is_out w t) (is_over w)
 happens-stay w (GiveBack t) nobody kept = all-cond w (given_back w t) w (is_out w t) (given_back-stay w t) (all-same w)
 happens-stay w Stop nobody kept = λ u out. record { out = out; hart = refl; frame = refl }
 
-job-stays : (m n : Machine) (t : ℕ) (job : Job) → hart_of n t ≡ hart_of m t → n.frame ≡ m.frame → IsJobOf m t job → IsJobOf n t job
+job-stays :
+    (m n : Machine) (t : ℕ) (job : Job) → hart_of n t ≡ hart_of m t → n.frame ≡ m.frame → IsJobOf m t job
+    → IsJobOf n t job
 job-stays m n t job hart frame is =
     record {
       frame = is.frame ∙ sym frame;
@@ -129,8 +149,11 @@ job-stays m n t job hart frame is =
       view = is.view ∙ ap (λ (h : Hart). h.view) (sym hart);
     }
 
-held-stays : (m n : Machine) (t : ℕ) (held : Option Job) → hart_of n t ≡ hart_of m t → n.frame ≡ m.frame → IsHeldFor m t held → IsHeldFor n t held
-held-stays m n t held hart frame is = record { there = is.there; own = λ job same. job-stays m n t job hart frame (is.own job same) }
+held-stays :
+    (m n : Machine) (t : ℕ) (held : Option Job) → hart_of n t ≡ hart_of m t → n.frame ≡ m.frame → IsHeldFor m t held
+    → IsHeldFor n t held
+held-stays m n t held hart frame is =
+    record { there = is.there; own = λ job same. job-stays m n t job hart frame (is.own job same) }
 
 stays-held : (w v : RoundState) (jobs : List (Option Job)) → AllStay w v → HaveJobs w jobs → HaveJobs v jobs
 stays-held w v jobs stay have = record {
@@ -141,9 +164,13 @@ stays-held w v jobs stay have = record {
 }
 
 -- the jobs stay those of who is out
-pub jobs-stay : (w v : RoundState) (e : Event) (jobs : List (Option Job)) → TakesNobody e → IsInOrder w → v ≡ happens w e → HaveJobs w jobs → HaveJobs v jobs
+pub jobs-stay :
+    (w v : RoundState) (e : Event) (jobs : List (Option Job)) → TakesNobody e → IsInOrder w → v ≡ happens w e
+    → HaveJobs w jobs
+    → HaveJobs v jobs
 jobs-stay w v e jobs nobody kept is have =
-    subst (λ (x : RoundState). HaveJobs x jobs) (sym is) (stays-held w (happens w e) jobs (happens-stay w e nobody kept) have)
+    subst (λ (x : RoundState). HaveJobs x jobs) (sym is)
+    (stays-held w (happens w e) jobs (happens-stay w e nobody kept) have)
 
 -- and with the job of one that is taken
 pub jobs-take :
@@ -160,7 +187,11 @@ jobs-take w v t jobs job can kept is own have =
             let here : get_or (set jobs t (Some job)) u None ≡ Some job =
             ap (λ k. get_or (set jobs t (Some job)) k None) same ∙ get_or-set_same jobs t (Some job) None below in
             subst (IsHeldFor w.machine u) (sym here)
-            (record { there = refl; own = λ other is_it. let it : job ≡ other = cc in subst (IsJobOf w.machine u) it (subst (λ k. IsJobOf w.machine k job) (sym same) own) })
+            (record {
+              there = refl;
+              own = λ other is_it. let it : job ≡ other = cc in
+                  subst (IsJobOf w.machine u) it (subst (λ k. IsJobOf w.machine k job) (sym same) own);
+            })
         | inr other ↦
             subst (IsHeldFor w.machine u) (sym (get_or-set_other jobs t u (Some job) None other))
             (have.held u (sym (get_or-set_other w.out t u true false other) ∙ out))
@@ -177,8 +208,10 @@ jobs-reuse w v t jobs (Err e) kept ok err have = subst (λ (x : RoundState). Hav
 pub jobs-commit :
     (w v : RoundState) (run : Run) (jobs : List (Option Job)) (result : Committed)
     → IsInOrder w → Commits w run result v → HaveJobs w jobs → HaveJobs v jobs
-jobs-commit w v run jobs Done kept does have = jobs-stay w v (Commit (arc_value run.rec).thread) jobs tt kept does.1 have
-jobs-commit w v run jobs (Stale back) kept does have = jobs-stay w v (GiveBack (arc_value run.rec).thread) jobs tt kept does.2 have
+jobs-commit w v run jobs Done kept does have =
+    jobs-stay w v (Commit (arc_value run.rec).thread) jobs tt kept does.1 have
+jobs-commit w v run jobs (Stale back) kept does have =
+    jobs-stay w v (GiveBack (arc_value run.rec).thread) jobs tt kept does.2 have
 jobs-commit w v run jobs (Memory back) kept does have = subst (λ (x : RoundState). HaveJobs x jobs) (sym does.1) have
 
 -- at the start nobody is out
@@ -186,27 +219,33 @@ pub jobs-none : (w : RoundState) (jobs : List (Option Job)) → length jobs ≡ 
 jobs-none w jobs count nobody = record {
   count = count;
   held = λ t out.
-      absurd (let none : is_out w t ≡ false = ap (λ (flags : List Bool). is_out_of flags t) nobody ∙ nobody_out-none t in cc);
+      absurd (let none : is_out w t ≡ false = ap (λ (flags : List Bool). is_out_of flags t) nobody
+      ∙ nobody_out-none t in cc);
 }
 
 -- a job that was looked up
-held-at : (jobs : List (Option Job)) (k : ℕ) (o : Option Job) → k < length jobs → o ≡ get_or jobs k o → get_or jobs k None ≡ o
+held-at :
+    (jobs : List (Option Job)) (k : ℕ) (o : Option Job) → k < length jobs → o ≡ get_or jobs k o
+    → get_or jobs k None ≡ o
 held-at [] k o below is = absurd (omega arith)
 held-at (x ∷ jobs) zero o below is = sym is
 held-at (x ∷ jobs) (suc k) o below is = held-at jobs k o (omega arith) is
 
 pub job-held :
     (w : RoundState) (jobs : List (Option Job)) (t k : ℕ) (o : Option Job) (job : Job)
-    → IsInOrder w → HaveJobs w jobs → is_out w t ≡ true → k ≡ t → o ≡ get_or jobs k o → o ≡ Some job → IsJobOf w.machine t job
+    → IsInOrder w → HaveJobs w jobs → is_out w t ≡ true → k ≡ t → o ≡ get_or jobs k o → o ≡ Some job
+    → IsJobOf w.machine t job
 job-held w jobs t k o job kept have out same at is =
-    let below : k < length jobs = let b = out-below w.out t out in let flags = kept.flags in let count = have.count in omega arith in
+    let below : k < length jobs = let b = out-below w.out t out in
+    let flags = kept.flags in let count = have.count in omega arith in
     (have.held t out).own job (ap (λ i. get_or jobs i None) (sym same) ∙ held-at jobs k o below at ∙ is)
 
 pub job-there :
     (w : RoundState) (jobs : List (Option Job)) (t k : ℕ) (o : Option Job)
     → IsInOrder w → HaveJobs w jobs → is_out w t ≡ true → k ≡ t → o ≡ get_or jobs k o → o ≡ None → ⊥
 job-there w jobs t k o kept have out same at is =
-    let below : k < length jobs = let b = out-below w.out t out in let flags = kept.flags in let count = have.count in omega arith in
+    let below : k < length jobs = let b = out-below w.out t out in
+    let flags = kept.flags in let count = have.count in omega arith in
     let none : get_or jobs t None ≡ None = ap (λ i. get_or jobs i None) (sym same) ∙ held-at jobs k o below at ∙ is in
     let some : is_some (get_or jobs t None) ≡ true = (have.held t out).there in
     let no : is_some (get_or jobs t None) ≡ false = ap (λ (x : Option Job). is_some x) none in
@@ -229,10 +268,13 @@ pub run-counts :
     → executed_by v ≡ executed_by w + (arc_value run.rec).kept.count
 run-counts w v t job run kept counted out going own ran is =
     let same : arc_value run.rec ≡ record_of w.machine t = run-record w.machine t job run own ran in
-    commit-counts w v t (arc_value run.rec) (record_count w counted) (out-commits w t (arc_value run.rec) kept out going same) is same
+    commit-counts w v t (arc_value run.rec) (record_count w counted)
+    (out-commits w t (arc_value run.rec) kept out going same) is same
 
 -- after the round is over, to commit is to discard
-pub over-discards : (w : RoundState) (t : ℕ) → is_out w t ≡ true → is_over w ≡ true → happens w (GiveBack t) ≡ happens w (Commit t)
+pub over-discards :
+    (w : RoundState) (t : ℕ) → is_out w t ≡ true → is_over w ≡ true
+    → happens w (GiveBack t) ≡ happens w (Commit t)
 over-discards w t out over = happens-give_back w t out ∙ sym (happens-commit_over w t out over)
 
 -- one event after the other

@@ -51,12 +51,15 @@ kept-count : (f : Frame) (view : Memory) (r : Registers) → (kept_thunk f view 
 unfolding kept_thunk
 kept-count f view r = refl
 
-executed-records : (m : Machine) (es : List Entry) → executed_instructions es (records_from m (threads_of es)) ≡ instructions_from m es
+executed-records :
+    (m : Machine) (es : List Entry)
+    → executed_instructions es (records_from m (threads_of es)) ≡ instructions_from m es
 executed-records m [] = refl
 executed-records m (e ∷ es) =
     ap (λ n. cond e.reused 0 n + executed_instructions es (records_from (step m e.thread) (threads_of es)))
     (kept-count m.frame (hart_of m e.thread).view (hart_of m e.thread).regs)
-    ∙ ap (λ n. cond e.reused 0 (thunk m.frame (hart_of m e.thread).view (hart_of m e.thread).regs).count + n) (executed-records (step m e.thread) es)
+    ∙ ap (λ n. cond e.reused 0 (thunk m.frame (hart_of m e.thread).view (hart_of m e.thread).regs).count + n)
+    (executed-records (step m e.thread) es)
 
 -- by a sound history the sum is the one that the report tells
 pub reported :
@@ -86,7 +89,8 @@ kept_opening setup past valid =
 pub kept-happens :
     (w v : RoundState) (e : Event) (i f j g : ℕ)
     → IsKept w i f → happens w e ≡ v → v.setup ≡ w.setup
-    → j ≡ executed_instructions v.schedule v.records → j ≤ 4294967295 * length v.schedule → g ≡ front_in v.past v.machine
+    → j ≡ executed_instructions v.schedule v.records → j ≤ 4294967295 * length v.schedule → g
+    ≡ front_in v.past v.machine
     → IsKept v j g
 kept-happens w v e i f j g kept is setup executed few front =
     record {
@@ -132,5 +136,6 @@ kept-more w v e i f j g entry r kept is setup schedule records sum few front =
 -- what is left
 
 pub left_honest :
-    (w : RoundState) → IsSetup w.setup → IsInOrder w → IsSound w.past w.setup → is_some w.machine.ending ≡ true → IsHonest (history_of w)
+    (w : RoundState) → IsSetup w.setup → IsInOrder w → IsSound w.past w.setup → is_some w.machine.ending ≡ true
+    → IsHonest (history_of w)
 left_honest w valid kept sound ended = leaves-honest w valid (kept.scratch sound) ended

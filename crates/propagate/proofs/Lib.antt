@@ -1,3 +1,4 @@
+-- The files of lemmas of this crate.
 pub mod Passing
 pub mod Best
 pub mod Mapped

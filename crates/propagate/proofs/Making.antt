@@ -25,7 +25,9 @@ appended w r reused out =
 
 -- an executed step that can be committed
 
-pub commit-append : (w : RoundState) (i f : ℕ) (frame : Frame) (r : Record) → IsKept w i f → CanCommit w frame r → CanAppend w r
+pub commit-append :
+    (w : RoundState) (i f : ℕ) (frame : Frame) (r : Record) → IsKept w i f → CanCommit w frame r
+    → CanAppend w r
 commit-append w i f frame r kept can = fitting-append w r kept.in_order kept.counted can.going can.fit
 
 pub commit-front :
@@ -42,7 +44,8 @@ pub commit-happens :
     → IsKept w i f → CanCommit w frame r → IsTrue frame r.start r.kept
     → happens w (Commit r.thread) ≡ appended w r false (set w.out r.thread false)
 commit-happens w i f frame r kept can honest =
-    commit-lays w r kept.in_order.whole (subst (λ (x : Frame). IsTrue x r.start r.kept) can.same_frame honest) can.taken can.going can.fit
+    commit-lays w r kept.in_order.whole (subst (λ (x : Frame). IsTrue x r.start r.kept) can.same_frame honest)
+    can.taken can.going can.fit
 
 pub commit-kept :
     (w v : RoundState) (i f j g : ℕ) (frame : Frame) (r : Record)
@@ -53,7 +56,8 @@ pub commit-kept :
 commit-kept w v i f j g frame r kept can honest is sum few front =
     kept-more w v (Commit r.thread) i f j g (record { thread = r.thread; reused = false }) r kept
     (commit-happens w i f frame r kept can honest ∙ sym is)
-    (ap (λ (x : RoundState). x.setup) is) (ap (λ (x : RoundState). x.schedule) is) (ap (λ (x : RoundState). x.records) is)
+    (ap (λ (x : RoundState). x.setup) is) (ap (λ (x : RoundState). x.schedule) is)
+    (ap (λ (x : RoundState). x.records) is)
     sum few front
 
 -- a record that is reused
@@ -65,7 +69,8 @@ reuse-append w i f t r kept can there = reusable w t r kept.in_order kept.counte
 
 pub reuse-front :
     (w : RoundState) (i f t : ℕ) (r : Record) (m : Machine)
-    → IsKept w i f → can_reuse w t ≡ true → record_for w.past w.machine t ≡ Some r → m ≡ lay w.machine r → f ≤ front_in w.past m
+    → IsKept w i f → can_reuse w t ≡ true → record_for w.past w.machine t ≡ Some r → m ≡ lay w.machine r
+    → f ≤ front_in w.past m
 reuse-front w i f t r m kept can there is =
     let append : Reusable w t r = reuse-append w i f t r kept can there in
     let before = kept.front_is in
@@ -80,7 +85,12 @@ pub reuse-happens :
 reuse-happens w v i f t r kept can there is =
     let append : Reusable w t r = reuse-append w i f t r kept can there in
     is
-    ∙ ap (λ u. record w { machine = lay w.machine r; schedule = w.schedule ++ record { thread = u; reused = true } ∷ []; records = w.records ++ r ∷ [] }) append.thread
+    ∙ ap (λ u. record w {
+      machine = lay w.machine r;
+      schedule = w.schedule
+          ++ record { thread = u; reused = true } ∷ [];
+      records = w.records ++ r ∷ [];
+    }) append.thread
     ∙ sym (happens-reuse w t r can there)
 
 pub reuse-kept :
@@ -92,5 +102,6 @@ pub reuse-kept :
 reuse-kept w v i f g t r kept can there is front =
     kept-more w v (Reuse t) i f i g (record { thread = r.thread; reused = true }) r kept
     (sym (reuse-happens w v i f t r kept can there is))
-    (ap (λ (x : RoundState). x.setup) is) (ap (λ (x : RoundState). x.schedule) is) (ap (λ (x : RoundState). x.records) is)
+    (ap (λ (x : RoundState). x.setup) is) (ap (λ (x : RoundState). x.schedule) is)
+    (ap (λ (x : RoundState). x.records) is)
     (omega arith) (omega arith) front

@@ -30,9 +30,11 @@ happens-on_map w e on =
       mapped = λ there.
           let here : All (IsMappedIn (length (map_of w.setup))) (past_records w.past) =
           subst (λ (past : Option History). All (IsMappedIn (length (map_of w.setup))) (past_records past)) same.past
-          (subst (λ (s : Setup). All (IsMappedIn (length (map_of s))) (past_records (happens w e).past)) same.setup there) in
+          (subst (λ (s : Setup). All (IsMappedIn (length (map_of s))) (past_records (happens w e).past)) same.setup
+          there) in
           subst (λ (s : Setup). All (IsMappedIn (length (map_of s))) (happens w e).records) (sym same.setup)
-          (event-mapped (length (map_of w.setup)) w e here (ap (λ (m : List Mapped). length m) on.frame) (on.mapped here));
+          (event-mapped (length (map_of w.setup)) w e here (ap (λ (m : List Mapped). length m) on.frame)
+          (on.mapped here));
     }
 
 -- two setups have the same page map where their images have
@@ -56,7 +58,8 @@ none_mapped w on none =
     (All-from_recursion (IsMappedIn (length (map_of w.setup))) (past_records None) tt))
 
 pub all_mapped :
-    (w : RoundState) (h : History) → IsOnMap w → w.past ≡ Some h → IsMapped h → map_of h.setup ≡ map_of w.setup → IsMapped (history_of w)
+    (w : RoundState) (h : History) → IsOnMap w → w.past ≡ Some h → IsMapped h → map_of h.setup ≡ map_of w.setup
+    → IsMapped (history_of w)
 all_mapped w h on there mapped same =
     on.mapped
     (subst (λ (past : Option History). All (IsMappedIn (length (map_of w.setup))) (past_records past)) (sym there)

@@ -44,7 +44,8 @@ length-called :
     → IsTied o hs → is_ready (hart_in hs t).status ≡ true
     → length hs ≤ length (settled (act readable o t call).0 memory t hs)
 length-called readable o hs t call memory tied ready =
-    let after : IsTied (act readable o t call).1 (settled (act readable o t call).0 memory t hs) = tied-called readable o hs t call memory tied ready in
+    let after : IsTied (act readable o t call).1 (settled (act readable o t call).0 memory t hs) =
+    tied-called readable o hs t call memory tied ready in
     omega (arith, after.threads, tied.threads, act_creates readable o t call)
 
 -- a call leaves ended who has ended
@@ -54,10 +55,13 @@ ended-called :
     → u < length hs → is_ended (hart_in hs u).status ≡ true
     → is_ended (hart_in (settled (act readable o t call).0 memory t hs) u).status ≡ true
 ended-called readable o hs t call memory u tied ready below ended =
-    let after : IsTied (act readable o t call).1 (settled (act readable o t call).0 memory t hs) = tied-called readable o hs t call memory tied ready in
+    let after : IsTied (act readable o t call).1 (settled (act readable o t call).0 memory t hs) =
+    tied-called readable o hs t call memory tied ready in
     let there : t < length o.threads = omega (arith, tied.threads, ready-below hs t ready) in
-    let longer : u < length (settled (act readable o t call).0 memory t hs) = omega (arith, length-called readable o hs t call memory tied ready) in
-    let other : u ≢ t = λ same. not-both (hart_in hs t).status ready (ap (λ v. is_ended (hart_in hs v).status) (sym same) ∙ ended) in
+    let longer : u < length (settled (act readable o t call).0 memory t hs) =
+    omega (arith, length-called readable o hs t call memory tied ready) in
+    let other : u ≢ t =
+    λ same. not-both (hart_in hs t).status ready (ap (λ v. is_ended (hart_in hs v).status) (sym same) ∙ ended) in
     ended-is (hart_in (settled (act readable o t call).0 memory t hs) u).status
     ∙ ap (λ (v : Option ℕ). is_some v)
     (sym (after.ended u longer)
@@ -89,8 +93,14 @@ gone-lay :
 unfolding lay finished
 gone-lay m r u whole ready gone =
     let h : Hart =
-    record { view = (hart_of m r.thread).view; regs = r.kept.finish; number = suc (hart_of m r.thread).number; status = (hart_of m r.thread).status } in
-    gone-done (written m r.thread (masked m.memory r.kept.delta) r.kept.finish (put_of m.frame.map (hart_of m r.thread).view r.kept)) r.thread u
+    record {
+      view = (hart_of m r.thread).view;
+      regs = r.kept.finish;
+      number = suc (hart_of m r.thread).number;
+      status = (hart_of m r.thread).status;
+    } in
+    gone-done (written m r.thread (masked m.memory r.kept.delta) r.kept.finish
+    (put_of m.frame.map (hart_of m r.thread).view r.kept)) r.thread u
     (asked r.thread r.kept.end r.kept.finish)
     (tied-written m.objects m.harts r.thread h refl whole.tied)
     (ap is_ready (status-set m.harts r.thread r.thread h refl) ∙ ready)
@@ -126,7 +136,8 @@ passed-prefix m r (q ∷ qs) whole ready = by (is_passed m q) refl (passed-prefi
     by :
         (b : Bool) → is_passed m q ≡ b
         → prefix_len (is_passed m) qs ≤ prefix_len (is_passed (lay m r)) qs
-        → cond b (1 + prefix_len (is_passed m) qs) 0 ≤ cond (is_passed (lay m r) q) (1 + prefix_len (is_passed (lay m r)) qs) 0
+        → cond b (1 + prefix_len (is_passed m) qs) 0 ≤ cond (is_passed (lay m r) q)
+        (1 + prefix_len (is_passed (lay m r)) qs) 0
     by true is rest = rw (passed-lay m r q whole ready is) (omega arith)
     by false is rest = omega arith
 
@@ -137,7 +148,9 @@ passed-first s q = by q.number q.thread
   where
     by : (number t : ℕ) → (ltb number (hart_of (first s) t).number || is_gone (first s) t) ≡ false
     by number zero = or_from (ltb number 0) false (le-ltb number 0 (omega arith)) refl
-    by number (suc t) = or_from (ltb number 0) (ltb (suc t) 1 && true) (le-ltb number 0 (omega arith)) (and_left (ltb (suc t) 1) true (le-ltb (suc t) 1 (omega arith)))
+    by number (suc t) =
+        or_from (ltb number 0) (ltb (suc t) 1 && true) (le-ltb number 0 (omega arith))
+        (and_left (ltb (suc t) 1) true (le-ltb (suc t) 1 (omega arith)))
 
 pub front-first : (s : Setup) (past : Option History) → front_in past (first s) ≡ 0
 front-first s past = by (past_records past)
@@ -156,9 +169,14 @@ find-none p (q ∷ qs) = by (p q) (find-none p qs)
         (b : Bool) → is_none (find p qs) ≡ eqb (position_or_len p qs) (length qs)
         → is_none (cond b (Some q) (find p qs)) ≡ eqb (cond (not b) (1 + position_or_len p qs) 0) (suc (length qs))
     by true rest = sym (ne_eqb 0 (suc (length qs)) (λ no. omega arith))
-    by false rest = let same : eqb (1 + position_or_len p qs) (suc (length qs)) ≡ eqb (position_or_len p qs) (length qs) = grind (arith, nat_tests) in rest ∙ sym same
+    by false rest =
+        let same : eqb (1 + position_or_len p qs) (suc (length qs)) ≡ eqb (position_or_len p qs) (length qs) =
+        grind (arith, nat_tests) in
+        rest ∙ sym same
 
-all-take : (p : Record → Bool) (qs : List Record) (n : ℕ) → n ≤ length qs → list_all p (take n qs) ≡ leb n (prefix_len p qs)
+all-take :
+    (p : Record → Bool) (qs : List Record) (n : ℕ) → n ≤ length qs
+    → list_all p (take n qs) ≡ leb n (prefix_len p qs)
 all-take p qs zero within = sym (le-leb 0 (prefix_len p qs) (omega arith))
 all-take p [] (suc n) within = absurd (omega arith)
 all-take p (q ∷ qs) (suc n) within = by (p q) (all-take p qs n (omega arith))
@@ -166,7 +184,9 @@ all-take p (q ∷ qs) (suc n) within = by (p q) (all-take p qs n (omega arith))
     by :
         (b : Bool) → list_all p (take n qs) ≡ leb n (prefix_len p qs)
         → (b && list_all p (take n qs)) ≡ leb (suc n) (cond b (1 + prefix_len p qs) 0)
-    by true rest = let same : leb (suc n) (1 + prefix_len p qs) ≡ leb n (prefix_len p qs) = grind (arith, nat_tests) in rest ∙ sym same
+    by true rest =
+        let same : leb (suc n) (1 + prefix_len p qs) ≡ leb n (prefix_len p qs) = grind (arith, nat_tests) in
+        rest ∙ sym same
     by false rest = sym (lt-leb (suc n) 0 (omega arith))
 
 position-within : (p : Record → Bool) (qs : List Record) → position_or_len p qs ≤ length qs
@@ -180,12 +200,15 @@ position-within p (q ∷ qs) = by (p q) (position-within p qs)
 -- whether a thread is due, by the place of its next step and how many steps are passed
 pub due_is :
     (past : Option History) (m : Machine) (t : ℕ)
-    → is_due past m t ≡ (eqb (place_in past m t) (length (past_records past)) || leb (place_in past m t) (front_in past m))
+    → is_due past m t
+    ≡ (eqb (place_in past m t) (length (past_records past)) || leb (place_in past m t) (front_in past m))
 unfolding is_due
 due_is past m t =
-    ap (λ b. b || list_all (is_passed m) (take (place_in past m t) (past_records past))) (find-none (is_of t (hart_of m t).number) (past_records past))
+    ap (λ b. b || list_all (is_passed m) (take (place_in past m t) (past_records past)))
+    (find-none (is_of t (hart_of m t).number) (past_records past))
     ∙ ap (λ b. eqb (place_in past m t) (length (past_records past)) || b)
-    (all-take (is_passed m) (past_records past) (place_in past m t) (position-within (is_of t (hart_of m t).number) (past_records past)))
+    (all-take (is_passed m) (past_records past) (place_in past m t)
+    (position-within (is_of t (hart_of m t).number) (past_records past)))
 
 -- how far a look at one record after the other has come
 

@@ -9,32 +9,32 @@ use Rattle.round_spec.specs.Choice.{best}
 use Rattle.propagate.specs.declared.picking.Candidate.{Candidate}
 use Rattle.propagate.specs.declared.picking.Leaders.{Leaders}
 
--- What the choice looks at of a thread. (this project's own)
+-- What the choice looks at of a thread.
 abbrev pub candidate_of : Option History → Machine → ℕ → Candidate
 candidate_of past m t = record { thread = t; place = place_in past m t; number = (hart_of m t).number }
 
--- The free threads of a round that are below a number, and those of them that are due. (this project's own)
+-- The free threads of a round that are below a number, and those of them that are due.
 abbrev pub free_below : RoundState → ℕ → List ℕ
 free_below w t = filter (is_free_in w.machine w.out) (range_with_len 0 t)
 
 abbrev pub due_below : RoundState → ℕ → List ℕ
 due_below w t = filter (is_due w.past w.machine) (free_below w t)
 
--- The best of some threads of a round, with what the choice looks at. (this project's own)
+-- The best of some threads of a round, with what the choice looks at.
 abbrev pub leader_of : RoundState → List ℕ → Option Candidate
 leader_of w threads = option_map (candidate_of w.past w.machine) (best w.past w.machine threads)
 
--- The best of the free threads below a number, and the best of those of them that are due. (this project's own)
+-- The best of the free threads below a number, and the best of those of them that are due.
 pub record AreLeadersBelow (w : RoundState) (t : ℕ) (found : Leaders) : Type 0 where
   pub due : found.due ≡ leader_of w (due_below w t)
   pub free : found.free ≡ leader_of w (free_below w t)
 
--- Whether a thread comes before one of a lower number: it has an earlier place, or the same place and fewer steps made. (this project's own)
+-- Whether a thread comes before one of a lower number: it has an earlier place, or the same place and fewer steps made.
 abbrev pub comes_before : Candidate → Candidate → Bool
 comes_before next leader =
     nat_lt next.place leader.place || ((next.place == leader.place) && nat_lt next.number leader.number)
 
--- The better of a leader, if there is one, and of a thread of a higher number. (this project's own)
+-- The better of a leader, if there is one, and of a thread of a higher number.
 abbrev pub better : Option Candidate → Candidate → Candidate
 better None next = next
 better (Some leader) next = if comes_before next leader then next else leader

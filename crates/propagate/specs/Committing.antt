@@ -10,30 +10,31 @@ use Rattle.round_spec.specs.Rounds.{RoundState, is_over, is_out, happens}
 use Rattle.propagate.specs.declared.events.Committed.{Committed}
 use Rattle.propagate.specs.declared.events.Committed.TheVariants.{Done, Stale, Memory}
 
--- An executed step can be committed: the round isn't over, the step ran on the round's page map with its fuel, its thread is out, and its
--- record fits. (this project's own)
+-- An executed step can be committed: the round isn't over, the step ran on the round's page map with its fuel, its
+-- thread is out, and its record fits.
 pub record CanCommit (w : RoundState) (frame : Frame) (r : Record) : Type 0 where
   pub going : is_over w ≡ false
   pub same_frame : frame ≡ w.machine.frame
   pub taken : is_out w r.thread ≡ true
   pub fit : fits w.machine r ≡ true
 
--- What comes of committing a run: it is done exactly where it can be; where it can't, the run is handed back and its thread is no longer
--- out; and where memory ran out, the run is handed back and the round is as before. (this project's own)
+-- What comes of committing a run: it is done exactly where it can be; where it can't, the run is handed back and its
+-- thread is no longer out; and where memory ran out, the run is handed back and the round is as before.
 abbrev pub Commits : RoundState → Run → Committed → RoundState → Type 0
 Commits old run Done new =
     CanCommit old (arc_value run.frame) (arc_value run.rec) × (new ≡ happens old (Commit (arc_value run.rec).thread))
 Commits old run (Stale back) new =
-    (CanCommit old (arc_value run.frame) (arc_value run.rec) → ⊥) × (back ≡ run) × (new ≡ happens old (GiveBack (arc_value run.rec).thread))
+    (CanCommit old (arc_value run.frame) (arc_value run.rec) → ⊥) × (back ≡ run)
+    × (new ≡ happens old (GiveBack (arc_value run.rec).thread))
 Commits old run (Memory back) new = (back ≡ run) × (new ≡ old)
 
--- How many entries a commit appends. (this project's own)
+-- How many entries a commit appends.
 abbrev pub entries_of : Committed → ℕ
 entries_of Done = 1
 entries_of (Stale back) = 0
 entries_of (Memory back) = 0
 
--- A round of the same setup that goes by the same history, with so many entries more. (this project's own)
+-- A round of the same setup that goes by the same history, with so many entries more.
 pub record GoesOn (n : ℕ) (old new : RoundState) : Type 0 where
   pub setup : new.setup ≡ old.setup
   pub past : new.past ≡ old.past

@@ -9,7 +9,7 @@ use Rattle.round_spec.specs.Due.{is_passed}
 use Rattle.round_spec.specs.Keeping.{IsInOrder, IsCounted}
 use Rattle.round_spec.specs.Instructions.{executed_instructions}
 
--- How many steps of a history, from the first on, needn't be waited for any more. (this project's own)
+-- How many steps of a history, from the first on, needn't be waited for any more.
 abbrev pub front_in : Option History → Machine → ℕ
 front_in past m = prefix_len (is_passed m) (past_records past)
 
@@ -18,13 +18,14 @@ abbrev pub IsOfMap : Option History → Setup → Type 0
 IsOfMap None setup = ⊤
 IsOfMap (Some h) setup = map_of h.setup ≡ map_of setup
 
--- A round on the page map of its setup: where the records that it goes by have their slots in that map, so have its own.
+-- A round on the page map of its setup: where the records that it goes by have their slots in that map, so have its
+-- own.
 pub record IsOnMap (w : RoundState) : Type 0 where
   pub frame : w.machine.frame.map ≡ map_of w.setup
   pub mapped : All (IsMappedIn (length (map_of w.setup))) (past_records w.past) → IsMapped (history_of w)
 
--- A round that is in order and counts right, on the page map of its setup; with the sum of the counts of its executed entries, and with how
--- many steps of the history, from the first on, are passed.
+-- A round that is in order and counts right, on the page map of its setup; with the sum of the counts of its executed
+-- entries, and with how many steps of the history, from the first on, are passed.
 pub record IsKept (w : RoundState) (instructions front : ℕ) : Type 0 where
   pub valid : IsSetup w.setup
   pub in_order : IsInOrder w

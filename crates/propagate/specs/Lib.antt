@@ -1,4 +1,6 @@
+-- The files of definitions of this crate.
 pub mod Kept
+pub mod Appending
 pub mod Committing
 pub mod Choosing
 pub mod Executing

@@ -122,8 +122,10 @@ pub fn run_alone<L: Ledger>(
     ensures scratch { IfOk result (λ round. IsSound (option_map arc_value past) setup → IsFromScratch round) }
     ensures ends { IfOk result (λ round. is_some round.machine.ending ≡ true) }
     ensures discarded { IfOk result (λ round. round.discarded ≡ 0) }
-    ensures unedited { IfOk result (λ round. (h : Kept) → option_map arc_value past ≡ Some h → IsUnedited h setup → OnlyReuses h round) }
-    ensures executes_nothing { IfOk result (λ _. (h : Kept) → option_map arc_value past ≡ Some h → IsUnedited h setup → turns.new ≡ turns.old) }
+    ensures unedited { IfOk result (λ round.
+        (h : Kept) → option_map arc_value past ≡ Some h → IsUnedited h setup → OnlyReuses h round) }
+    ensures executes_nothing { IfOk result (λ _.
+        (h : Kept) → option_map arc_value past ≡ Some h → IsUnedited h setup → turns.new ≡ turns.old) }
 {
     setup.sound();
     let round = follow_picks(alloc, setup, past, turns)?;

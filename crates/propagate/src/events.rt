@@ -1,17 +1,20 @@
 //! What happens to a round.
 
-ghost use Rattle.std.specs.Prelude.{◌≡◌, ◌<◌, ◌++◌, true, false, [], ◌∷◌, length, count_by, ◌==◌, is_ok, if◌then◌else◌, IfOk, OnOk, OnErr};
+ghost use Rattle.std.specs.Prelude.{◌≡◌, ◌<◌, true, length, count_by, ◌==◌, is_ok, if◌then◌else◌, IfOk, OnOk, OnErr};
 ghost use Rattle.std.specs.Bool.{OnTrue, OnFalse};
 ghost use Rattle.std.specs.Arc.{arc_value};
 ghost use Rattle.history_spec.specs.History.{threads_of_records};
-ghost use Rattle.machine_spec.specs.Step.{lay, can_step};
+ghost use Rattle.machine_spec.specs.Step.{can_step};
 ghost use Rattle.release_core.specs.Jobs.{IsJobOf};
 ghost use Rattle.round_spec.specs.declared.events.Event.TheVariants as event;
 ghost use Rattle.round_spec.specs.Rounds.{is_out, can_take, can_reuse, happens};
+ghost use Rattle.propagate.specs.Appending.{trail, Appends};
 ghost use Rattle.propagate.specs.Committing.{CanCommit, Commits, GoesOn, entries_of};
 
 use super::picking::passed_from;
 use super::round::Round;
+use guest_call::THREADS;
+use machine_spec::MOST_STEPS;
 use release_core::{Core, Records};
 use report_spec::Entry;
 use std::alloc::AllocError;
@@ -41,15 +44,14 @@ fn append(
     reused: bool,
 ) -> Result<(), AllocError>
     requires can { can_step core.old (arc_value rec.now).thread ≡ true }
-    requires few { length records.old < 65536 }
-    requires thread { (arc_value rec.now).thread < 32 }
-    requires number { (arc_value rec.now).number ≡ count_by (λ t. t == (arc_value rec.now).thread) (threads_of_records records.old) }
-    ensures core { OnOk result (core.new ≡ lay core.old (arc_value rec.now)) }
-    ensures schedule { OnOk result (schedule.new.items ≡ schedule.old.items ++ record { thread = (arc_value rec.now).thread; reused = reused } ∷ []) }
-    ensures records { OnOk result (records.new ≡ records.old ++ arc_value rec.now ∷ []) }
-    ensures same_core { OnErr result (core.new ≡ core.old) }
-    ensures same_schedule { OnErr result (schedule.new.items ≡ schedule.old.items) }
-    ensures same_records { OnErr result (records.new ≡ records.old) }
+    requires few { length records.old < MOST_STEPS }
+    requires thread { (arc_value rec.now).thread < THREADS }
+    requires number { (arc_value rec.now).number
+        ≡ count_by (λ t. t == (arc_value rec.now).thread) (threads_of_records records.old) }
+    ensures ok { OnOk result (Appends (arc_value rec.now) reused
+        (trail core.old schedule.old.items records.old) (trail core.new schedule.new.items records.new)) }
+    ensures err { OnErr result (trail core.new schedule.new.items records.new
+        ≡ trail core.old schedule.old.items records.old) }
 {
     let shared = Arc::try_clone(rec)?;
     let entry = Entry {

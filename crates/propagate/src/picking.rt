@@ -142,7 +142,8 @@ impl Round {
     /// Whether a thread whose next step has this place in the history is due.
     #[tactic(auto, using(crate::proofs::Passing::due_is))]
     fn is_due_at(&self, place: usize) -> bool
-        ensures { (t : ℕ) → place ≡ place_in self.now.past self.now.machine t → result ≡ is_due self.now.past self.now.machine t }
+        ensures { (t : ℕ) → place ≡ place_in self.now.past self.now.machine t
+            → result ≡ is_due self.now.past self.now.machine t }
     {
         place == self.past_len() || place <= self.front
     }

@@ -144,7 +144,8 @@ impl Round {
     #[tactic(auto, using(crate::proofs::Keeping::reported))]
     pub fn instructions(&self) -> u64
         ensures executed { result ≡ executed_instructions self.now.schedule self.now.records }
-        ensures reported { IsSound self.now.past self.now.setup → result ≡ instructions_from (first self.now.setup) self.now.schedule }
+        ensures reported { IsSound self.now.past self.now.setup
+            → result ≡ instructions_from (first self.now.setup) self.now.schedule }
     {
         self.instructions
     }
@@ -220,7 +221,8 @@ impl Round {
         ensures same { IsOfMap self.past self.setup → result ≡ Some (history_of self) }
         ensures other { (IsOfMap self.past self.setup → ⊥) → result ≡ None }
         ensures sound { IsSound self.past self.setup → result ≡ Some (history_of self) }
-        ensures honest { IsSound self.past self.setup → is_some self.machine.ending ≡ true → IsHonest (history_of self) }
+        ensures honest { IsSound self.past self.setup → is_some self.machine.ending ≡ true
+            → IsHonest (history_of self) }
     {
         if !self.has_same_map() {
             return None;

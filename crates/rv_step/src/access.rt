@@ -75,7 +75,9 @@ fn load_kind<M: Mem>(
     address: u32,
 ) -> Result<Outcome, AllocError>
     requires { rd < 32 }
-    ensures ok { IfOk result (λ outcome. Makes (load_turn (M.workspace mem.old).map (M.workspace mem.old).memory regs.old kind rd address) (M.workspace mem.old) outcome regs.new (M.workspace mem.new)) }
+    ensures ok { IfOk result (λ outcome.
+        Makes (load_turn (M.workspace mem.old).map (M.workspace mem.old).memory regs.old kind rd address)
+        (M.workspace mem.old) outcome regs.new (M.workspace mem.new)) }
     ensures err { OnErr result ((regs.new ≡ regs.old) × OnlyTook (M.workspace mem.old) (M.workspace mem.new)) }
 {
     let size = size_loaded(kind);
@@ -105,7 +107,10 @@ pub(super) fn execute_load<M: Mem>(
 ) -> Result<Outcome, AllocError>
     requires rd { rd < 32 }
     requires rs1 { rs1 < 32 }
-    ensures ok { IfOk result (λ outcome. Makes (load_turn (M.workspace mem.old).map (M.workspace mem.old).memory regs.old kind rd (sum_of (register regs.old rs1) offset)) (M.workspace mem.old) outcome regs.new (M.workspace mem.new)) }
+    ensures ok { IfOk result (λ outcome.
+        Makes (load_turn (M.workspace mem.old).map (M.workspace mem.old).memory regs.old kind rd
+        (sum_of (register regs.old rs1) offset))
+        (M.workspace mem.old) outcome regs.new (M.workspace mem.new)) }
     ensures err { OnErr result ((regs.new ≡ regs.old) × OnlyTook (M.workspace mem.old) (M.workspace mem.new)) }
 {
     let address = regs.get(rs1).wrapping_add(offset);
@@ -127,7 +132,9 @@ fn store_kind<M: Mem>(
     address: u32,
     value: u32,
 ) -> Result<Outcome, AllocError>
-    ensures ok { IfOk result (λ outcome. Makes (store_turn (M.workspace mem.old).map regs.old kind address value) (M.workspace mem.old) outcome regs.new (M.workspace mem.new)) }
+    ensures ok { IfOk result (λ outcome.
+        Makes (store_turn (M.workspace mem.old).map regs.old kind address value)
+        (M.workspace mem.old) outcome regs.new (M.workspace mem.new)) }
     ensures err { OnErr result ((regs.new ≡ regs.old) × OnlyTook (M.workspace mem.old) (M.workspace mem.new)) }
 {
     let size = size_stored(kind);
@@ -156,7 +163,10 @@ pub(super) fn execute_store<M: Mem>(
 ) -> Result<Outcome, AllocError>
     requires rs1 { rs1 < 32 }
     requires rs2 { rs2 < 32 }
-    ensures ok { IfOk result (λ outcome. Makes (store_turn (M.workspace mem.old).map regs.old kind (sum_of (register regs.old rs1) offset) (register regs.old rs2)) (M.workspace mem.old) outcome regs.new (M.workspace mem.new)) }
+    ensures ok { IfOk result (λ outcome.
+        Makes (store_turn (M.workspace mem.old).map regs.old kind
+        (sum_of (register regs.old rs1) offset) (register regs.old rs2))
+        (M.workspace mem.old) outcome regs.new (M.workspace mem.new)) }
     ensures err { OnErr result ((regs.new ≡ regs.old) × OnlyTook (M.workspace mem.old) (M.workspace mem.new)) }
 {
     let address = regs.get(rs1).wrapping_add(offset);

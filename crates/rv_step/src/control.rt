@@ -67,7 +67,8 @@ pub(super) fn operate_immediate(
     requires rd { rd < 32 }
     requires rs1 { rs1 < 32 }
     ensures next { result ≡ Outcome.Next }
-    ensures registers { regs.new ≡ advanced (with_register regs.old rd (immediate_result operation (register regs.old rs1) imm)) }
+    ensures registers { regs.new
+        ≡ advanced (with_register regs.old rd (immediate_result operation (register regs.old rs1) imm)) }
 {
     let value = immediate(operation, regs.get(rs1), imm);
     compute(regs, rd, value)
@@ -85,7 +86,8 @@ pub(super) fn operate_shift(
     requires rd { rd < 32 }
     requires rs1 { rs1 < 32 }
     ensures next { result ≡ Outcome.Next }
-    ensures registers { regs.new ≡ advanced (with_register regs.old rd (shift_result kind (register regs.old rs1) amount)) }
+    ensures registers { regs.new
+        ≡ advanced (with_register regs.old rd (shift_result kind (register regs.old rs1) amount)) }
 {
     let value = shift(kind, regs.get(rs1), amount);
     compute(regs, rd, value)
@@ -104,7 +106,9 @@ pub(super) fn operate_register(
     requires rs1 { rs1 < 32 }
     requires rs2 { rs2 < 32 }
     ensures next { result ≡ Outcome.Next }
-    ensures registers { regs.new ≡ advanced (with_register regs.old rd (register_result operation (register regs.old rs1) (register regs.old rs2))) }
+    ensures registers { regs.new
+        ≡ advanced (with_register regs.old rd
+        (register_result operation (register regs.old rs1) (register regs.old rs2))) }
 {
     let value = register(operation, regs.get(rs1), regs.get(rs2));
     compute(regs, rd, value)
@@ -127,7 +131,8 @@ pub(super) fn jump(regs: &mut Regs, rd: u8, target: u32) -> Outcome
     }
 }
 
-/// Jumps to a target. One that isn't a multiple of 4 traps (RISC-V unprivileged ISA 20191213, 2.5, Conditional Branches).
+/// Jumps to a target. One that isn't a multiple of 4 traps
+/// (RISC-V unprivileged ISA 20191213, 2.5, Conditional Branches).
 #[inline(always)]
 fn jump_alone(regs: &mut Regs, target: u32) -> Outcome
     ensures { untouched result regs.new ≡ jumped regs.old regs.old target }
@@ -156,7 +161,8 @@ pub(super) fn jump_by(regs: &mut Regs, rd: u8, offset: u32) -> Outcome
 pub(super) fn jump_to(regs: &mut Regs, rd: u8, rs1: u8, offset: u32) -> Outcome
     requires rd { rd < 32 }
     requires rs1 { rs1 < 32 }
-    ensures { untouched result regs.new ≡ jumped regs.old (linked regs.old rd) (sum_of (register regs.old rs1) offset / 2 * 2) }
+    ensures { untouched result regs.new
+        ≡ jumped regs.old (linked regs.old rd) (sum_of (register regs.old rs1) offset / 2 * 2) }
 {
     let target = regs.get(rs1).wrapping_add(offset) & 0xffff_fffe;
     jump(regs, rd, target)
@@ -168,7 +174,8 @@ pub(super) fn jump_to(regs: &mut Regs, rd: u8, rs1: u8, offset: u32) -> Outcome
 pub(super) fn branch(regs: &mut Regs, test: BranchTest, rs1: u8, rs2: u8, offset: u32) -> Outcome
     requires rs1 { rs1 < 32 }
     requires rs2 { rs2 < 32 }
-    ensures { untouched result regs.new ≡ branched regs.old test (register regs.old rs1) (register regs.old rs2) offset }
+    ensures { untouched result regs.new
+        ≡ branched regs.old test (register regs.old rs1) (register regs.old rs2) offset }
 {
     if is_taken(test, regs.get(rs1), regs.get(rs2)) {
         let target = regs.pc().wrapping_add(offset);

@@ -25,7 +25,9 @@ use turn_count::Turns;
 #[inline(always)]
 fn execute<M: Mem>(regs: &mut Regs, mem: &mut M, instr: Instr) -> Result<Outcome, AllocError>
     requires { InRange instr }
-    ensures ok { IfOk result (λ outcome. Makes (executed (M.workspace mem.old).map (M.workspace mem.old).memory regs.old instr) (M.workspace mem.old) outcome regs.new (M.workspace mem.new)) }
+    ensures ok { IfOk result (λ outcome.
+        Makes (executed (M.workspace mem.old).map (M.workspace mem.old).memory regs.old instr)
+        (M.workspace mem.old) outcome regs.new (M.workspace mem.new)) }
     ensures err { OnErr result ((regs.new ≡ regs.old) × OnlyTook (M.workspace mem.old) (M.workspace mem.new)) }
 {
     match instr {
@@ -89,7 +91,9 @@ pub fn step<M: Mem, L: Ledger>(
     turns: &mut Turns<L>,
 ) -> Result<Outcome, AllocError>
     ensures count { turns.new ≡ turns.old + 1 }
-    ensures ok { IfOk result (λ outcome. Makes (turn (M.workspace mem.old).map (M.workspace mem.old).memory regs.old) (M.workspace mem.old) outcome regs.new (M.workspace mem.new)) }
+    ensures ok { IfOk result (λ outcome.
+        Makes (turn (M.workspace mem.old).map (M.workspace mem.old).memory regs.old)
+        (M.workspace mem.old) outcome regs.new (M.workspace mem.new)) }
     ensures err { OnErr result ((regs.new ≡ regs.old) × OnlyTook (M.workspace mem.old) (M.workspace mem.new)) }
 {
     turns.count(1);

@@ -66,10 +66,12 @@ module _ (map : List Mapped) (p last : ℕ) (near : last < p + 4096) where
   taken_ends (suc n) a flags low high =
       elim (either p last a low (omega arith) near) [
         | inl same ↦
-            ap (λ (noted : List Bool). taken_at map noted (range_with_len (a + 1) (suc n))) (noted_again map flags a p same)
+            ap (λ (noted : List Bool). taken_at map noted (range_with_len (a + 1) (suc n)))
+            (noted_again map flags a p same)
             ∙ taken_ends n (a + 1) flags (omega arith) (omega arith)
         | inr same ↦
-            ap (λ (slot : ℕ). taken_at map (set (set flags (slot_of map p) true) slot true) (range_with_len (a + 1) (suc n)))
+            ap (λ (slot : ℕ). taken_at map (set (set flags (slot_of map p) true) slot true)
+            (range_with_len (a + 1) (suc n)))
             (same_slot map a last same)
             ∙ taken_last (suc n) (a + 1) (set flags (slot_of map p) true) (omega arith) (omega arith)
       ]
@@ -89,7 +91,8 @@ last_in f (suc m) a all =
     rw here (last_in f m (a + 1) (and-second (f a) (list_all f (range_with_len (a + 1) (suc m))) all))
 
 both_ends :
-    (all first last : Bool) → (all ≡ true → first ≡ true) → (all ≡ true → last ≡ true) → (first ≡ true → last ≡ true → all ≡ true)
+    (all first last : Bool) → (all ≡ true → first ≡ true) → (all ≡ true → last ≡ true)
+    → (first ≡ true → last ≡ true → all ≡ true)
     → all ≡ (first && last)
 both_ends true first last p q r = rw (p refl, q refl) refl
 both_ends false false last p q r = refl
@@ -117,7 +120,8 @@ taking_ends w p zero last some few count = absurd (omega arith)
 taking_ends w p (suc m) last some few count =
     ap (λ (flags : List Bool). record w { taken = flags })
     (sym
-    (ap (λ (flags : List Bool). taken_at w.map flags (range_with_len (p + 1) m)) (sym (set-set w.taken (slot_of w.map p) true true))
+    (ap (λ (flags : List Bool). taken_at w.map flags (range_with_len (p + 1) m))
+    (sym (set-set w.taken (slot_of w.map p) true true))
     ∙ taken_ends w.map p last (omega arith) m p w.taken (omega arith) (omega arith)))
 
 pub readable_first :

@@ -19,7 +19,8 @@ pub kept-left :
     → record {
       reads = reads_from 0 (with_put_taken (left_after f.fuel (fresh f.map view) r)).workspace.taken view;
       delta =
-          delta_from 0 (left_after f.fuel (fresh f.map view) r).workspace.stored (left_after f.fuel (fresh f.map view) r).workspace.memory;
+          delta_from 0 (left_after f.fuel (fresh f.map view) r).workspace.stored
+          (left_after f.fuel (fresh f.map view) r).workspace.memory;
       finish = (left_after f.fuel (fresh f.map view) r).regs;
       end = (left_after f.fuel (fresh f.map view) r).end;
       count = (left_after f.fuel (fresh f.map view) r).count;
@@ -46,7 +47,8 @@ kept-made f view r l reads delta whole made are stored = rw (are, stored, made) 
 
 -- the same where the frame was reached through its holder
 pub kept-run :
-    (f g : Frame) (view : Memory) (map : List Mapped) (r : Registers) (w : Workspace) (l : Left) (reads : List ReadPage) (delta : List PageDelta)
+    (f g : Frame) (view : Memory) (map : List Mapped) (r : Registers) (w : Workspace) (l : Left)
+    (reads : List ReadPage) (delta : List PageDelta)
     → IsMemory f.map view
     → g ≡ f → map ≡ f.map
     → w ≡ fresh map view

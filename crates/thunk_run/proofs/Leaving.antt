@@ -37,7 +37,12 @@ pub left_by-after_turn :
     (w : Workspace) (t : Turn) (rest : Thunk)
     → left_by w (after_turn t rest) ≡ counted 1 (left_by (after_storing (after_taking w t.taken) t.stores) rest)
 left_by-after_turn w t rest =
-    rw (laid-append w.map w.memory t.stores rest.stores, marked-append w.map w.stored t.stores rest.stores, taken_at-append w.map w.taken t.taken rest.taken)
+    rw (
+      laid-append w.map w.memory t.stores rest.stores,
+      marked-append w.map w.stored t.stores
+          rest.stores,
+      taken_at-append w.map w.taken t.taken rest.taken,
+    )
     (ap (λ (n : ℕ). record {
       regs = rest.regs;
       end = rest.end;
@@ -73,18 +78,23 @@ counted-twice a b l = ap (λ (n : ℕ). record l { count = n }) (sym (add_assoc 
 pub turns-next :
     (fuel count : ℕ) (w after : Workspace) (r registers : Registers) (o : Outcome)
     → count < fuel → Makes (turn w.map w.memory r) w o registers after → o ≡ outcome.Next
-    → counted (count + 1) (left_after (fuel - (count + 1)) after registers) ≡ counted count (left_after (fuel - count) w r)
+    → counted (count + 1) (left_after (fuel - (count + 1)) after registers)
+    ≡ counted count (left_after (fuel - count) w r)
 turns-next fuel count w after r registers o lt made next =
     let left : fuel - count ≡ suc (fuel - (count + 1)) = omega arith in
     rw (left, made.workspace_is, made.regs_are)
     (sym
     (ap (λ (t : Thunk). counted count (left_by w t))
-    (followed-next (turn w.map w.memory r).outcome w.map w.memory (turn w.map w.memory r) (turns w.map (fuel - (count + 1))) (sym made.outcome_is ∙ next))
+    (followed-next (turn w.map w.memory r).outcome w.map w.memory (turn w.map w.memory r)
+    (turns w.map (fuel - (count + 1))) (sym made.outcome_is ∙ next))
     ∙ ap (counted count)
     (left_by-after_turn w (turn w.map w.memory r)
-    (turns w.map (fuel - (count + 1)) (laid w.map w.memory (turn w.map w.memory r).stores) (turn w.map w.memory r).regs))
+    (turns w.map (fuel - (count + 1)) (laid w.map w.memory (turn w.map w.memory r).stores)
+    (turn w.map w.memory r).regs))
     ∙ counted-twice count 1
-    (left_after (fuel - (count + 1)) (after_storing (after_taking w (turn w.map w.memory r).taken) (turn w.map w.memory r).stores) (turn w.map w.memory r).regs)))
+    (left_after (fuel - (count + 1))
+    (after_storing (after_taking w (turn w.map w.memory r).taken) (turn w.map w.memory r).stores)
+    (turn w.map w.memory r).regs)))
 
 last-turn :
     (fuel count : ℕ) (w after : Workspace) (r registers : Registers) (o : Outcome) (end : ThunkEnd)
@@ -105,7 +115,8 @@ pub turns-call :
     ≡ record { regs = registers; end = thunk_end.Call; count = count + 1; workspace = after }
 turns-call fuel count w after r registers o lt made call =
     last-turn fuel count w after r registers o thunk_end.Call lt made
-    (followed-call (turn w.map w.memory r).outcome w.map w.memory (turn w.map w.memory r) (turns w.map (fuel - (count + 1))) (sym made.outcome_is ∙ call))
+    (followed-call (turn w.map w.memory r).outcome w.map w.memory (turn w.map w.memory r)
+    (turns w.map (fuel - (count + 1))) (sym made.outcome_is ∙ call))
 
 -- the last turn trapped
 pub turns-trap :
@@ -115,4 +126,5 @@ pub turns-trap :
     ≡ record { regs = registers; end = thunk_end.Trap cause; count = count + 1; workspace = after }
 turns-trap fuel count w after r registers o cause lt made trap =
     last-turn fuel count w after r registers o (thunk_end.Trap cause) lt made
-    (followed-trap (turn w.map w.memory r).outcome cause w.map w.memory (turn w.map w.memory r) (turns w.map (fuel - (count + 1))) (sym made.outcome_is ∙ trap))
+    (followed-trap (turn w.map w.memory r).outcome cause w.map w.memory (turn w.map w.memory r)
+    (turns w.map (fuel - (count + 1))) (sym made.outcome_is ∙ trap))

@@ -1,3 +1,4 @@
+-- The files of lemmas of this crate.
 pub mod Leaving
 pub mod Keeping
 pub mod Counting

@@ -46,7 +46,8 @@ impl Job {
 fn run_thunk<L: Ledger>(alloc: Global, job: &Job, turns: &mut Turns<L>) -> Result<Kept, AllocError>
     ensures cost { IfOk result (λ kept. turns.new ≡ turns.old + kept.count) }
     ensures never_lower { turns.old ≤ turns.new }
-    ensures kept { IfOk result (λ kept. kept ≡ kept_thunk (arc_value job.now.frame) (arc_value job.now.view) job.now.regs) }
+    ensures kept { IfOk result (λ kept.
+        kept ≡ kept_thunk (arc_value job.now.frame) (arc_value job.now.view) job.now.regs) }
 {
     let mut space = Space::new(alloc, &job.view, job.frame.shared_map())?;
     let mut regs = job.regs;
@@ -70,11 +71,7 @@ fn run_thunk<L: Ledger>(alloc: Global, job: &Job, turns: &mut Turns<L>) -> Resul
 ///
 /// An error where the host's memory ran out; the counter may have risen, and is never lower.
 #[tactic(auto, using(crate::proofs::Counting::kept_within))]
-pub fn execute<L: Ledger>(
-    alloc: Global,
-    job: &Job,
-    turns: &mut Turns<L>,
-) -> Result<Run, AllocError>
+pub fn execute<L: Ledger>(alloc: Global, job: &Job, turns: &mut Turns<L>) -> Result<Run, AllocError>
     ensures run { IfOk result (λ run. IsRunOf job.now run) }
     ensures within { IfOk result (λ run. IsWithinFuel (arc_value job.now.frame).fuel (arc_value run.rec).kept.count) }
     ensures cost { IfOk result (λ run. turns.new ≡ turns.old + (arc_value run.rec).kept.count) }

@@ -10,8 +10,8 @@ use std::alloc::{AllocError, Global};
 use std::marker::Brand;
 use std::sync::Arc;
 use std::sync::ledger::{Blank, Ledger};
-use thunk_record::{Frame, fits};
 use std::thread::Threads;
+use thunk_record::{Frame, fits};
 use thunk_spec::ThunkEnd;
 use turn_count::Turns;
 

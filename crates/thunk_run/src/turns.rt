@@ -36,7 +36,9 @@ pub(super) fn make_turns<M: Mem, L: Ledger>(
 ) -> Result<Turned, AllocError>
     ensures cost { IfOk result (λ turned. turns.new ≡ turns.old + turned.count) }
     ensures never_lower { turns.old ≤ turns.new }
-    ensures left { IfOk result (λ turned. record { regs = regs.new; end = turned.end; count = turned.count; workspace = M.workspace mem.new } ≡ left_after fuel (M.workspace mem.old) regs.old) }
+    ensures left { IfOk result (λ turned.
+        record { regs = regs.new; end = turned.end; count = turned.count; workspace = M.workspace mem.new }
+        ≡ left_after fuel (M.workspace mem.old) regs.old) }
 {
     let mut count = 0;
     while count < fuel {
@@ -77,7 +79,9 @@ pub(super) fn make_thunk<M: Mem, L: Ledger>(
     requires { (M.workspace mem.old).map ≡ frame.now.map }
     ensures cost { IfOk result (λ turned. turns.new ≡ turns.old + turned.count) }
     ensures never_lower { turns.old ≤ turns.new }
-    ensures left { IfOk result (λ turned. record { regs = regs.new; end = turned.end; count = turned.count; workspace = M.workspace mem.new } ≡ with_put_taken (left_after frame.now.fuel (M.workspace mem.old) regs.old)) }
+    ensures left { IfOk result (λ turned.
+        record { regs = regs.new; end = turned.end; count = turned.count; workspace = M.workspace mem.new }
+        ≡ with_put_taken (left_after frame.now.fuel (M.workspace mem.old) regs.old)) }
 {
     let turned = make_turns(regs, mem, frame.fuel(), turns)?;
     let range = put_range(frame.map(), turned.end, regs);

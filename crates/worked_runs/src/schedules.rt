@@ -25,9 +25,7 @@ fn setup_of(alloc: Global, guest: Guest, input: &[u8]) -> Result<Option<Setup>, 
         return Ok(None);
     }
     match Limits::new(1_000_000, 4096) {
-        Some(limits) => {
-            Ok(Setup::new(alloc, file, Vec::from_slice(alloc, input)?, limits).ok())
-        }
+        Some(limits) => { Ok(Setup::new(alloc, file, Vec::from_slice(alloc, input)?, limits).ok()) }
         None => Ok(None),
     }
 }

@@ -1,3 +1,4 @@
+-- What is left to prove of `follow_pick`.
 use Rattle.round_spec.specs.declared.events.Event.TheVariants.{Reuse}
 use Rattle.propagate.proofs.Executing.{costs-nothing}
 use Rattle.propagate.proofs.alone.follow_pick.Goals as goal

@@ -1,3 +1,4 @@
+-- What is left to prove of `run_alone`.
 use Rattle.std.proofs.Common.{option_map, arith}
 use Rattle.std.specs.Arc.{arc_value}
 use Rattle.round_spec.specs.Unedited.{OnlyReuses}
@@ -5,28 +6,36 @@ use Rattle.propagate.proofs.Executing.{alone-threads, alone-permitted, alone-com
 use Rattle.propagate.proofs.alone.run_alone.Goals as goal
 
 pub returns-clause-threads : goal.returns-clause-threads
-returns-clause-threads g c = alone-threads c.args.setup (option_map arc_value c.args.past) _ c.sound.ensures c.in_ok-round.ensures.alone
+returns-clause-threads g c =
+    alone-threads c.args.setup (option_map arc_value c.args.past) _ c.sound.ensures c.in_ok-round.ensures.alone
 
 pub returns-clause-permitted : goal.returns-clause-permitted
-returns-clause-permitted g c = alone-permitted c.args.setup (option_map arc_value c.args.past) _ c.sound.ensures c.in_ok-round.ensures.alone
+returns-clause-permitted g c =
+    alone-permitted c.args.setup (option_map arc_value c.args.past) _ c.sound.ensures c.in_ok-round.ensures.alone
 
 pub returns-clause-complete : goal.returns-clause-complete
-returns-clause-complete g c = alone-complete c.args.setup (option_map arc_value c.args.past) _ c.sound.ensures c.in_ok-round.ensures.alone
+returns-clause-complete g c =
+    alone-complete c.args.setup (option_map arc_value c.args.past) _ c.sound.ensures c.in_ok-round.ensures.alone
 
 pub returns-clause-scratch : goal.returns-clause-scratch
-returns-clause-scratch g c = alone-scratch c.args.setup (option_map arc_value c.args.past) _ c.sound.ensures c.in_ok-round.ensures.alone
+returns-clause-scratch g c =
+    alone-scratch c.args.setup (option_map arc_value c.args.past) _ c.sound.ensures c.in_ok-round.ensures.alone
 
 pub returns-clause-ends : goal.returns-clause-ends
-returns-clause-ends g c = alone-ends c.args.setup (option_map arc_value c.args.past) _ c.sound.ensures c.in_ok-round.ensures.alone
+returns-clause-ends g c =
+    alone-ends c.args.setup (option_map arc_value c.args.past) _ c.sound.ensures c.in_ok-round.ensures.alone
 
 pub returns-clause-discarded : goal.returns-clause-discarded
-returns-clause-discarded g c = alone-discarded c.args.setup (option_map arc_value c.args.past) _ c.sound.ensures c.in_ok-round.ensures.alone
+returns-clause-discarded g c =
+    alone-discarded c.args.setup (option_map arc_value c.args.past) _ c.sound.ensures c.in_ok-round.ensures.alone
 
 pub returns-clause-unedited : goal.returns-clause-unedited
-returns-clause-unedited g c = λ h. alone-reuses c.args.setup (option_map arc_value c.args.past) c.in_ok-round.round h c.in_ok-round.ensures.alone
+returns-clause-unedited g c =
+    λ h. alone-reuses c.args.setup (option_map arc_value c.args.past) c.in_ok-round.round h c.in_ok-round.ensures.alone
 
 pub returns-clause-executes_nothing : goal.returns-clause-executes_nothing
 returns-clause-executes_nothing g c = λ h there unedited.
     let reuses : OnlyReuses h c.in_ok-round.round =
-    alone-reuses c.args.setup (option_map arc_value c.args.past) c.in_ok-round.round h c.in_ok-round.ensures.alone there unedited in
+    alone-reuses c.args.setup (option_map arc_value c.args.past) c.in_ok-round.round h c.in_ok-round.ensures.alone
+    there unedited in
     omega (arith, c.in_ok-round.ensures.cost, reuses.executed)

@@ -1,3 +1,4 @@
+-- What is left to prove of `drive`.
 use Rattle.std.proofs.Common.{option_map, ap, sym, subst, ◌∙◌}
 use Rattle.std.proofs.lemmas.List.{drop_all}
 use Rattle.std.specs.Arc.{arc_value}
@@ -9,5 +10,6 @@ use Rattle.propagate.proofs.driving.drive.Goals as goal
 pub returns-clause-scratch : goal.returns-clause-scratch
 returns-clause-scratch g c = λ sound.
     subst IsFromScratch
-    (sym c.loop-event.invariant.0 ∙ ap (all_happen c.loop-event.driven.round) (drop_all c.loop-event.event-index c.args.events.now c.loop-event-test.false))
+    (sym c.loop-event.invariant.0 ∙ ap (all_happen c.loop-event.driven.round)
+    (drop_all c.loop-event.event-index c.args.events.now c.loop-event-test.false))
     (round-scratch c.args.setup (option_map arc_value c.args.past) c.args.events.now c.sound.ensures sound)

@@ -1,3 +1,4 @@
+-- What holds at the loop of `drive`.
 use Rattle.std.proofs.Common.{◌≡◌, ◌+◌, drop, option_map}
 use Rattle.std.specs.Arc.{arc_value}
 use Rattle.round_spec.specs.Rounds.{all_happen, round_after}
@@ -7,5 +8,6 @@ use Rattle.propagate.proofs.driving.drive.Given as goal
 -- what the events so far did, followed by what the rest does, is all; and the counter has risen by what was executed
 abbrev pub invariant-loop-event : goal.invariant-loop-event
 invariant-loop-event g l =
-    (all_happen l.driven.round (drop l.event-index l.events) ≡ round_after l.fn.setup (option_map arc_value l.fn.past) l.events)
+    (all_happen l.driven.round (drop l.event-index l.events)
+    ≡ round_after l.fn.setup (option_map arc_value l.fn.past) l.events)
     × (l.turns ≡ l.fn.turns + executed_by l.driven.round)

@@ -1,3 +1,4 @@
+-- What holds at the loop of `passed_in`.
 use Rattle.std.proofs.Common.{◌≤◌}
 use Rattle.std.specs.List.{prefix_len}
 use Rattle.round_spec.specs.Due.{is_passed}

@@ -1,3 +1,4 @@
+-- The ledger of the counter of `made`.
 use Rattle.propagate.proofs.tests.made.Given as goal
 
 abbrev pub ghosts-counted : goal.ghosts-counted

@@ -1,3 +1,4 @@
+-- What is left to prove of `all_readable`.
 use Rattle.std.proofs.Common.{arith}
 use Rattle.thunk_run.proofs.Ends.{readable_ends}
 use Rattle.thunk_run.proofs.put.all_readable.Goals as goal
@@ -6,7 +7,8 @@ pub returns-then-first_is_readable : goal.returns-then-first_is_readable
 returns-then-first_is_readable c =
     grind (
       arith,
-      readable_ends c.args.map.now c.args.range.start c.args.range.len c.last_of-last.result c.requires.some c.requires.few
+      readable_ends c.args.map.now c.args.range.start c.args.range.len c.last_of-last.result c.requires.some
+          c.requires.few
           c.last_of-last.ensures,
     )
 
@@ -14,6 +16,7 @@ pub returns-else-first_is_readable : goal.returns-else-first_is_readable
 returns-else-first_is_readable c =
     grind (
       arith,
-      readable_ends c.args.map.now c.args.range.start c.args.range.len c.last_of-last.result c.requires.some c.requires.few
+      readable_ends c.args.map.now c.args.range.start c.args.range.len c.last_of-last.result c.requires.some
+          c.requires.few
           c.last_of-last.ensures,
     )

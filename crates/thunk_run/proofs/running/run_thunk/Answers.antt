@@ -1,3 +1,4 @@
+-- What is left to prove of `run_thunk`.
 use Rattle.std.proofs.Common.{◌∙◌, ap}
 use Rattle.std.specs.Arc.{arc_value}
 use Rattle.thunk_spec.specs.Thunk.{Frame}
@@ -15,5 +16,6 @@ returns-clause-kept g c =
       workspace = c.make_thunk.new.mem;
     })
     c.in_ok-reads.reads c.in_ok-delta.delta c.args.job.now.whole c.deref-2.ensures
-    (c.shared_map.ensures ∙ ap (λ (f : Frame). f.map) c.deref.ensures) c.in_ok-space.ensures c.in_ok-turned.ensures.left c.in_ok-reads.ensures
+    (c.shared_map.ensures ∙ ap (λ (f : Frame). f.map) c.deref.ensures) c.in_ok-space.ensures
+    c.in_ok-turned.ensures.left c.in_ok-reads.ensures
     c.in_ok-delta.ensures

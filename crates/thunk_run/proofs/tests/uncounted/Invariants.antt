@@ -1,3 +1,4 @@
+-- The ledger of the counter of `uncounted`.
 use Rattle.thunk_run.proofs.tests.uncounted.Given as goal
 
 abbrev pub ghosts-counted : goal.ghosts-counted

@@ -1,3 +1,4 @@
+-- What is left to prove of `make_turns`.
 use Rattle.std.proofs.Common.{◌∙◌, sym, arith}
 use Rattle.thunk_run.proofs.Leaving.{turns-next, turns-call, turns-trap}
 use Rattle.thunk_run.proofs.turns.make_turns.Goals as goal

@@ -1,3 +1,4 @@
+-- What holds at the loop of `make_turns`.
 use Rattle.std.proofs.Common.{◌-◌, ◌+◌, ◌≡◌}
 use Rattle.thunk_run.specs.Left.{left_after, counted}
 use Rattle.thunk_run.proofs.turns.make_turns.Given as goal

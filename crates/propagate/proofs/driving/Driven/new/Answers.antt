@@ -1,3 +1,4 @@
+-- What is left to prove of `Driven::new`.
 use Rattle.std.proofs.Common.{ap}
 use Rattle.round_spec.specs.Rounds.{RoundState}
 use Rattle.propagate.proofs.Jobs.{jobs-none}
@@ -5,4 +6,7 @@ use Rattle.propagate.proofs.driving.Driven.new.Goals as goal
 
 pub invariant_of-result : goal.invariant_of-result
 invariant_of-result c =
-    record { held = jobs-none c.in_ok-round.round c.from_fn.result c.from_fn.ensures.items.long (ap (λ (w : RoundState). w.out) c.in_ok-round.ensures) }
+    record {
+      held = jobs-none c.in_ok-round.round c.from_fn.result c.from_fn.ensures.items.long
+          (ap (λ (w : RoundState). w.out) c.in_ok-round.ensures);
+    }

@@ -1,3 +1,4 @@
+-- What is left to prove of `Driven::on_commit`.
 use Rattle.std.proofs.Common.{◌≡◌, true, sym, ◌∙◌, arith}
 use Rattle.round_spec.specs.declared.events.Event.TheVariants.{GiveBack}
 use Rattle.round_spec.proofs.Conditions.{happens-commit_not}
@@ -7,20 +8,28 @@ use Rattle.propagate.proofs.Executing.{costs-nothing}
 use Rattle.propagate.proofs.driving.Driven.on_commit.Goals as goal
 
 pub returns-then-not-is_out-clause-round : goal.returns-then-not-is_out-clause-round
-returns-then-not-is_out-clause-round g c = sym (happens-commit_not c.args.self.now.round c.args.t (sym c.is_out.ensures ∙ c.if-not-is_out.true))
+returns-then-not-is_out-clause-round g c =
+    sym (happens-commit_not c.args.self.now.round c.args.t (sym c.is_out.ensures ∙ c.if-not-is_out.true))
 
 pub invariant_of-self : goal.invariant_of-self
 invariant_of-self g c =
-    record { held = jobs-stay c.args.self.now.round c.give_back.new.self (GiveBack c.args.t) c.args.self.now.jobs tt c.keeps.ensures.in_order c.give_back.ensures.event c.args.self.now.held }
+    record {
+      held = jobs-stay c.args.self.now.round c.give_back.new.self (GiveBack c.args.t) c.args.self.now.jobs tt
+          c.keeps.ensures.in_order c.give_back.ensures.event c.args.self.now.held;
+    }
 
 pub returns-then-is_over-clause-round : goal.returns-then-is_over-clause-round
 returns-then-is_over-clause-round g c =
     c.give_back.ensures.event
-    ∙ over-discards c.args.self.now.round c.args.t (sym c.is_out.ensures ∙ c.if-not-is_out.false) (sym c.is_over.ensures ∙ c.if-is_over.true)
+    ∙ over-discards c.args.self.now.round c.args.t (sym c.is_out.ensures ∙ c.if-not-is_out.false)
+    (sym c.is_over.ensures ∙ c.if-is_over.true)
 
 pub invariant_of-self-2 : goal.invariant_of-self-2
 invariant_of-self-2 g c =
-    record { held = jobs-commit c.args.self.now.round c.commit.new.self c.in_ok-run-in-Some.run' c.args.self.now.jobs c.commit.result c.keeps.ensures.in_order c.commit.ensures.does c.args.self.now.held }
+    record {
+      held = jobs-commit c.args.self.now.round c.commit.new.self c.in_ok-run-in-Some.run' c.args.self.now.jobs
+          c.commit.result c.keeps.ensures.in_order c.commit.ensures.does c.args.self.now.held;
+    }
 
 pub unreachable-requires-in-Stale : goal.unreachable-requires-in-Stale
 unreachable-requires-in-Stale g c =
@@ -28,22 +37,26 @@ unreachable-requires-in-Stale g c =
     c.in-Stale.ensures.does.0
     (run-commits c.args.self.now.round c.args.t c.in-Some.job c.in_ok-run-in-Some.run' c.keeps.ensures.in_order out
     (sym c.is_over.ensures ∙ c.if-is_over.false)
-    (job-held c.args.self.now.round c.args.self.now.jobs c.args.t c.from.result c.index-self-from.result c.in-Some.job c.keeps.ensures.in_order c.args.self.now.held out
+    (job-held c.args.self.now.round c.args.self.now.jobs c.args.t c.from.result c.index-self-from.result c.in-Some.job
+    c.keeps.ensures.in_order c.args.self.now.held out
     c.from.ensures c.index-self-from.is (c.index-self-from.is ∙ c.in-Some.is))
     c.in_ok-run-in-Some.ensures.run')
 
 pub returns-then-is_over-clause-cost : goal.returns-then-is_over-clause-cost
 returns-then-is_over-clause-cost g c =
-    costs-nothing c.args.turns.now c.args.self.now.round c.give_back.new.self (GiveBack c.args.t) c.keeps.ensures.counted tt
+    costs-nothing c.args.turns.now c.args.self.now.round c.give_back.new.self (GiveBack c.args.t)
+    c.keeps.ensures.counted tt
     c.give_back.ensures.event
 
 pub returns-in-Done-clause-cost : goal.returns-in-Done-clause-cost
 returns-in-Done-clause-cost g c =
     let out : is_out c.args.self.now.round c.args.t ≡ true = sym c.is_out.ensures ∙ c.if-not-is_out.false in
     let counts =
-    run-counts c.args.self.now.round c.commit.new.self c.args.t c.in-Some.job c.in_ok-run-in-Some.run' c.keeps.ensures.in_order c.keeps.ensures.counted out
+    run-counts c.args.self.now.round c.commit.new.self c.args.t c.in-Some.job c.in_ok-run-in-Some.run'
+    c.keeps.ensures.in_order c.keeps.ensures.counted out
     (sym c.is_over.ensures ∙ c.if-is_over.false)
-    (job-held c.args.self.now.round c.args.self.now.jobs c.args.t c.from.result c.index-self-from.result c.in-Some.job c.keeps.ensures.in_order c.args.self.now.held out
+    (job-held c.args.self.now.round c.args.self.now.jobs c.args.t c.from.result c.index-self-from.result c.in-Some.job
+    c.keeps.ensures.in_order c.args.self.now.held out
     c.from.ensures c.index-self-from.is (c.index-self-from.is ∙ c.in-Some.is))
     c.in_ok-run-in-Some.ensures.run' c.in-Done.ensures.does.1 in
     omega (arith, counts, c.in_ok-run-in-Some.ensures.cost)

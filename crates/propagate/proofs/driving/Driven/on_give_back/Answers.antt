@@ -1,3 +1,4 @@
+-- What is left to prove of `Driven::on_give_back`.
 use Rattle.std.proofs.Common.{sym, ◌∙◌}
 use Rattle.round_spec.specs.declared.events.Event.TheVariants.{GiveBack}
 use Rattle.round_spec.proofs.Conditions.{happens-give_back_not}
@@ -6,7 +7,11 @@ use Rattle.propagate.proofs.driving.Driven.on_give_back.Goals as goal
 
 pub invariant_of-self : goal.invariant_of-self
 invariant_of-self c =
-    record { held = jobs-stay c.args.self.now.round c.give_back.new.self (GiveBack c.args.t) c.args.self.now.jobs tt c.keeps.ensures.in_order c.give_back.ensures.event c.args.self.now.held }
+    record {
+      held = jobs-stay c.args.self.now.round c.give_back.new.self (GiveBack c.args.t) c.args.self.now.jobs tt
+          c.keeps.ensures.in_order c.give_back.ensures.event c.args.self.now.held;
+    }
 
 pub returns-else-is_out : goal.returns-else-is_out
-returns-else-is_out c = sym (happens-give_back_not c.args.self.now.round c.args.t (sym c.is_out.ensures ∙ c.if-is_out.false))
+returns-else-is_out c =
+    sym (happens-give_back_not c.args.self.now.round c.args.t (sym c.is_out.ensures ∙ c.if-is_out.false))

@@ -1,7 +1,11 @@
+-- What is left to prove of `Driven::on_stop`.
 use Rattle.round_spec.specs.declared.events.Event.TheVariants.{Stop}
 use Rattle.propagate.proofs.Jobs.{jobs-stay}
 use Rattle.propagate.proofs.driving.Driven.on_stop.Goals as goal
 
 pub invariant_of-self : goal.invariant_of-self
 invariant_of-self c =
-    record { held = jobs-stay c.args.self.now.round c.stop.new.self Stop c.args.self.now.jobs tt c.keeps.ensures.in_order c.stop.ensures.event c.args.self.now.held }
+    record {
+      held = jobs-stay c.args.self.now.round c.stop.new.self Stop c.args.self.now.jobs tt
+          c.keeps.ensures.in_order c.stop.ensures.event c.args.self.now.held;
+    }

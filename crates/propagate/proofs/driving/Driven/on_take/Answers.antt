@@ -1,3 +1,4 @@
+-- What is left to prove of `Driven::on_take`.
 use Rattle.std.proofs.Common.{Some, set, sym, subst, ◌∙◌}
 use Rattle.round_spec.proofs.Conditions.{happens-take_not}
 use Rattle.propagate.specs.Jobs.{HaveJobs}
@@ -5,7 +6,8 @@ use Rattle.propagate.proofs.Jobs.{jobs-take}
 use Rattle.propagate.proofs.driving.Driven.on_take.Goals as goal
 
 pub returns-then-not-can_take : goal.returns-then-not-can_take
-returns-then-not-can_take c = sym (happens-take_not c.args.self.now.round c.args.t (sym c.can_take.ensures ∙ c.if-not-can_take.true))
+returns-then-not-can_take c =
+    sym (happens-take_not c.args.self.now.round c.args.t (sym c.can_take.ensures ∙ c.if-not-can_take.true))
 
 pub invariant_of-self-2 : goal.invariant_of-self-2
 invariant_of-self-2 c =
@@ -13,5 +15,6 @@ invariant_of-self-2 c =
       held =
           subst (λ k. HaveJobs c.take.new.self (set c.args.self.now.jobs k (Some c.in_ok-job.job))) (sym c.from.ensures)
           (jobs-take c.args.self.now.round c.take.new.self c.args.t c.args.self.now.jobs c.in_ok-job.job
-          (sym c.can_take.ensures ∙ c.if-not-can_take.false) c.keeps.ensures.in_order c.in_ok-job.ensures.ok c.in_ok-job.ensures.job c.args.self.now.held);
+          (sym c.can_take.ensures ∙ c.if-not-can_take.false) c.keeps.ensures.in_order c.in_ok-job.ensures.ok
+          c.in_ok-job.ensures.job c.args.self.now.held);
     }

@@ -1,3 +1,4 @@
+-- What is left to prove of `Round::leaders`.
 use Rattle.propagate.proofs.Choosing.{leaders-none}
 use Rattle.propagate.proofs.round.Round.leaders.Goals as goal
 

@@ -1,3 +1,4 @@
+-- What holds at the loop of `Round::leaders`.
 use Rattle.propagate.specs.Choosing.{AreLeadersBelow}
 use Rattle.propagate.proofs.round.Round.leaders.Given as goal
 

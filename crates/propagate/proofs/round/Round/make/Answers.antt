@@ -1,3 +1,4 @@
+-- What is left to prove of `Round::make`.
 use Rattle.std.proofs.Common.{◌≡◌, ◌≤◌, ◌+◌, false, set, option_map, refl, ap, sym, subst, ◌∙◌, arith}
 use Rattle.std.specs.Arc.{arc_value}
 use Rattle.round_spec.specs.declared.events.Event.TheVariants.{Commit}
@@ -8,13 +9,16 @@ use Rattle.propagate.proofs.round.Round.make.Goals as goal
 
 pub append-requires-clause-number : goal.append-requires-clause-number
 append-requires-clause-number c =
-    (commit-append _ _ _ _ _ c.self.invariant (subst (λ (w : RoundState). CanCommit w (arc_value c.args.run.now.frame) (arc_value c.args.run.now.rec)) (sym c.self.view_is) c.requires)).number
+    (commit-append _ _ _ _ _ c.self.invariant
+    (subst (λ (w : RoundState). CanCommit w (arc_value c.args.run.now.frame) (arc_value c.args.run.now.rec))
+    (sym c.self.view_is) c.requires)).number
 
 pub passed_from-self-inside-requires : goal.passed_from-self-inside-requires
 passed_from-self-inside-requires c =
     commit-front _ _ _ _ (arc_value c.args.run.now.rec) c.append.new.core c.self.invariant
-    (subst (λ (w : RoundState). CanCommit w (arc_value c.args.run.now.frame) (arc_value c.args.run.now.rec)) (sym c.self.view_is) c.requires)
-    c.in_ok-append.ensures.core
+    (subst (λ (w : RoundState). CanCommit w (arc_value c.args.run.now.frame) (arc_value c.args.run.now.rec))
+    (sym c.self.view_is) c.requires)
+    c.in_ok-append.ensures.ok.machine
 
 -- the round before and after, by its parts
 abbrev before : goal.After-self-2-1 → RoundState
@@ -40,24 +44,34 @@ after c =
     }
 
 can : (c : goal.After-self-2-1) → CanCommit (before c) (arc_value c.args.run.now.frame) (arc_value c.args.run.now.rec)
-can c = subst (λ (w : RoundState). CanCommit w (arc_value c.args.run.now.frame) (arc_value c.args.run.now.rec)) (sym c.self.view_is) c.requires
+can c =
+    subst (λ (w : RoundState). CanCommit w (arc_value c.args.run.now.frame) (arc_value c.args.run.now.rec))
+    (sym c.self.view_is) c.requires
 
-made : (c : goal.After-self-2-1) → after c ≡ appended (before c) (arc_value c.args.run.now.rec) false (set (before c).out (arc_value c.args.run.now.rec).thread false)
+made :
+    (c : goal.After-self-2-1)
+    → after c ≡ appended (before c) (arc_value c.args.run.now.rec) false
+    (set (before c).out (arc_value c.args.run.now.rec).thread false)
 made c =
-    let from_is : c.from.result ≡ (arc_value c.args.run.now.rec).thread = grind (arith, c.from.ensures, c.thread.ensures, c.deref.ensures) in
-    rw (c.in_ok-append.ensures.core, c.in_ok-append.ensures.schedule, c.in_ok-append.ensures.records, from_is) refl
+    let from_is : c.from.result ≡ (arc_value c.args.run.now.rec).thread =
+    grind (arith, c.from.ensures, c.thread.ensures, c.deref.ensures) in
+    rw (c.in_ok-append.ensures.ok.machine, c.in_ok-append.ensures.ok.schedule, c.in_ok-append.ensures.ok.records, from_is) refl
 
 pub invariant_of-self-2 : goal.invariant_of-self-2
 invariant_of-self-2 c =
-    let count_is : c.from-2.result ≡ (arc_value c.args.run.now.rec).kept.count = grind (arith, c.from-2.ensures, c.count.ensures, c.deref-2.ensures) in
+    let count_is : c.from-2.result ≡ (arc_value c.args.run.now.rec).kept.count =
+    grind (arith, c.from-2.ensures, c.count.ensures, c.deref-2.ensures) in
     let few : (arc_value c.args.run.now.rec).kept.count ≤ 4294967295 = omega (arith, count_is) in
-    commit-kept (before c) (after c) c.self.inside.instructions c.self.inside.front (c.self.inside.instructions + c.from-2.result) c.passed_from-self-inside.result
-    (arc_value c.args.run.now.frame) (arc_value c.args.run.now.rec) c.self.invariant (can c) c.args.run.now.honest (made c)
+    commit-kept (before c) (after c) c.self.inside.instructions c.self.inside.front
+    (c.self.inside.instructions + c.from-2.result) c.passed_from-self-inside.result
+    (arc_value c.args.run.now.frame) (arc_value c.args.run.now.rec) c.self.invariant (can c) c.args.run.now.honest
+    (made c)
     (ap (λ n. c.self.inside.instructions + n) count_is) few c.passed_from-self-inside.ensures
 
 pub returns-clause-ok : goal.returns-clause-ok
 returns-clause-ok c =
     made c
-    ∙ sym (commit-happens (before c) c.self.inside.instructions c.self.inside.front (arc_value c.args.run.now.frame) (arc_value c.args.run.now.rec)
+    ∙ sym (commit-happens (before c) c.self.inside.instructions c.self.inside.front (arc_value c.args.run.now.frame)
+    (arc_value c.args.run.now.rec)
     c.self.invariant (can c) c.args.run.now.honest)
     ∙ ap (λ (w : RoundState). happens w (Commit (arc_value c.args.run.now.rec).thread)) c.self.view_is

@@ -1,3 +1,4 @@
+-- What is left to prove of `Round::new`.
 use Rattle.std.proofs.Common.{option_map}
 use Rattle.std.specs.Arc.{arc_value}
 use Rattle.propagate.proofs.Keeping.{kept_opening}

@@ -1,3 +1,4 @@
+-- What is left to prove of `Round::pick`.
 use Rattle.std.proofs.Common.{true, false, sym, ◌∙◌}
 use Rattle.propagate.proofs.Choosing.{pick-over, pick-stopped, pick-hold, pick-chosen, picked-run}
 use Rattle.propagate.proofs.round.Round.pick.Goals as goal
@@ -7,12 +8,14 @@ returns-then-is_over-clause-pick c = sym (pick-over c.args.self.now (sym c.is_ov
 
 pub returns-in-Some-clause-pick : goal.returns-in-Some-clause-pick
 returns-in-Some-clause-pick c =
-    sym (pick-chosen c.args.self.now c.in-Some.t true (sym c.is_over.ensures ∙ c.if-is_over.false) (sym c.choice.ensures ∙ c.in-Some.is)
+    sym (pick-chosen c.args.self.now c.in-Some.t true (sym c.is_over.ensures ∙ c.if-is_over.false)
+    (sym c.choice.ensures ∙ c.in-Some.is)
     (sym c.can_reuse.ensures ∙ c.if-can_reuse.true))
 
 pub returns-in-Some-2-clause-pick : goal.returns-in-Some-2-clause-pick
 returns-in-Some-2-clause-pick c =
-    sym (pick-chosen c.args.self.now c.in-Some.t false (sym c.is_over.ensures ∙ c.if-is_over.false) (sym c.choice.ensures ∙ c.in-Some.is)
+    sym (pick-chosen c.args.self.now c.in-Some.t false (sym c.is_over.ensures ∙ c.if-is_over.false)
+    (sym c.choice.ensures ∙ c.in-Some.is)
     (sym c.can_reuse.ensures ∙ c.if-can_reuse.false))
 
 pub returns-in-Some-2-clause-run : goal.returns-in-Some-2-clause-run

@@ -1,3 +1,4 @@
+-- What is left to prove of `Round::reuse`.
 use Rattle.std.proofs.Common.{◌≡◌, true, Some, option_map, refl, ap, sym, subst, ◌∙◌}
 use Rattle.std.specs.Arc.{arc_value}
 use Rattle.record_spec.specs.Record.{Record}
@@ -25,7 +26,9 @@ before c =
 can : (c : goal.After-rec-2-1) → can_reuse (before c) c.args.t ≡ true
 can c = subst (λ (w : RoundState). can_reuse w c.args.t ≡ true) (sym c.self.view_is) c.requires
 
-there : (c : goal.After-rec-2-1) → record_for (before c).past (before c).machine c.args.t ≡ Some (arc_value c.in_ok-rec-in-Some.rec)
+there :
+    (c : goal.After-rec-2-1)
+    → record_for (before c).past (before c).machine c.args.t ≡ Some (arc_value c.in_ok-rec-in-Some.rec)
 there c =
     ap (λ (w : RoundState). record_for w.past w.machine c.args.t) c.self.view_is
     ∙ sym c.next_record.ensures
@@ -34,7 +37,8 @@ there c =
 
 reusable : (c : goal.After-rec-2-1) → Reusable (before c) c.args.t (arc_value c.in_ok-rec-in-Some.rec)
 reusable c =
-    reuse-append (before c) c.self.inside.instructions c.self.inside.front c.args.t (arc_value c.in_ok-rec-in-Some.rec) c.self.invariant (can c) (there c)
+    reuse-append (before c) c.self.inside.instructions c.self.inside.front c.args.t (arc_value c.in_ok-rec-in-Some.rec)
+    c.self.invariant (can c) (there c)
 
 pub append-requires-clause-can : goal.append-requires-clause-can
 append-requires-clause-can c = (reusable c).append.can
@@ -47,13 +51,14 @@ append-requires-clause-number c = (reusable c).append.number
 
 pub passed_from-self-inside-requires : goal.passed_from-self-inside-requires
 passed_from-self-inside-requires c =
-    reuse-front _ c.self.inside.instructions c.self.inside.front c.args.t (arc_value c.in_ok-rec-in-Some.rec) c.append.new.core c.self.invariant
+    reuse-front _ c.self.inside.instructions c.self.inside.front c.args.t (arc_value c.in_ok-rec-in-Some.rec)
+    c.append.new.core c.self.invariant
     (subst (λ (w : RoundState). can_reuse w c.args.t ≡ true) (sym c.self.view_is) c.requires)
     (ap (λ (w : RoundState). record_for w.past w.machine c.args.t) c.self.view_is
     ∙ sym c.next_record.ensures
     ∙ ap (option_map (λ r. arc_value r.now)) c.in-Some.is
     ∙ ap (λ (r : Record). Some r) (sym c.in_ok-rec-in-Some.ensures))
-    c.in_ok-append.ensures.core
+    c.in_ok-append.ensures.ok.machine
 
 -- the same after it was appended
 abbrev start : goal.After-drop-rec-2 → RoundState
@@ -70,12 +75,19 @@ start c =
     }
 
 abbrev after : goal.After-drop-rec-2 → RoundState
-after c = record (start c) { machine = c.append.new.core; schedule = c.append.new.schedule.items; records = c.append.new.records }
+after c =
+    record (start c) {
+      machine = c.append.new.core;
+      schedule = c.append.new.schedule.items;
+      records = c.append.new.records;
+    }
 
 can-2 : (c : goal.After-drop-rec-2) → can_reuse (start c) c.args.t ≡ true
 can-2 c = subst (λ (w : RoundState). can_reuse w c.args.t ≡ true) (sym c.self.view_is) c.requires
 
-there-2 : (c : goal.After-drop-rec-2) → record_for (start c).past (start c).machine c.args.t ≡ Some (arc_value c.in_ok-rec-in-Some.rec)
+there-2 :
+    (c : goal.After-drop-rec-2)
+    → record_for (start c).past (start c).machine c.args.t ≡ Some (arc_value c.in_ok-rec-in-Some.rec)
 there-2 c =
     ap (λ (w : RoundState). record_for w.past w.machine c.args.t) c.self.view_is
     ∙ sym c.next_record.ensures
@@ -83,15 +95,17 @@ there-2 c =
     ∙ ap (λ (r : Record). Some r) (sym c.in_ok-rec-in-Some.ensures)
 
 made : (c : goal.After-drop-rec-2) → after c ≡ appended (start c) (arc_value c.in_ok-rec-in-Some.rec) true (start c).out
-made c = rw (c.in_ok-append.ensures.core, c.in_ok-append.ensures.schedule, c.in_ok-append.ensures.records) refl
+made c = rw (c.in_ok-append.ensures.ok.machine, c.in_ok-append.ensures.ok.schedule, c.in_ok-append.ensures.ok.records) refl
 
 pub invariant_of-self-2 : goal.invariant_of-self-2
 invariant_of-self-2 c =
-    reuse-kept (start c) (after c) c.self.inside.instructions c.self.inside.front c.passed_from-self-inside.result c.args.t (arc_value c.in_ok-rec-in-Some.rec)
+    reuse-kept (start c) (after c) c.self.inside.instructions c.self.inside.front c.passed_from-self-inside.result
+    c.args.t (arc_value c.in_ok-rec-in-Some.rec)
     c.self.invariant (can-2 c) (there-2 c) (made c) c.passed_from-self-inside.ensures
 
 pub returns-clause-ok : goal.returns-clause-ok
 returns-clause-ok c =
-    reuse-happens (start c) (after c) c.self.inside.instructions c.self.inside.front c.args.t (arc_value c.in_ok-rec-in-Some.rec)
+    reuse-happens (start c) (after c) c.self.inside.instructions c.self.inside.front c.args.t
+    (arc_value c.in_ok-rec-in-Some.rec)
     c.self.invariant (can-2 c) (there-2 c) (made c)
     ∙ ap (λ (w : RoundState). happens w (Reuse c.args.t)) c.self.view_is

@@ -1,3 +1,4 @@
+-- What is left to prove of `Round::take`.
 use Rattle.std.proofs.Common.{arith}
 use Rattle.std.proofs.lemmas.Grind.{common_steps}
 use Rattle.round_spec.proofs.Conditions.{happens-take}

@@ -1,3 +1,4 @@
+-- What is left to prove of `Round::with_thread`.
 use Rattle.std.proofs.Common.{◌+◌, Some, ap, sym, subst, ◌∙◌}
 use Rattle.machine_spec.specs.Machine.{hart_of}
 use Rattle.round_spec.specs.Rounds.{RoundState}
@@ -13,7 +14,8 @@ returns-then-not-is_free c =
 
 pub returns-then-not-is_due_at : goal.returns-then-not-is_due_at
 returns-then-not-is_due_at c =
-    subst (λ (x : Candidate). AreLeadersBelow c.args.self.now (c.args.t + 1) (record { due = c.args.found.due; free = Some x })) (sym c.better.ensures)
+    subst (λ (x : Candidate). AreLeadersBelow c.args.self.now (c.args.t + 1)
+    (record { due = c.args.found.due; free = Some x })) (sym c.better.ensures)
     (leaders-free c.args.self.now c.args.t c.place.result c.number.result c.args.found c.requires.below
     (sym c.is_free.ensures ∙ c.if-not-is_free.false)
     (sym (c.is_due_at.ensures c.args.t c.place.ensures) ∙ c.if-not-is_due_at.true)
@@ -22,10 +24,15 @@ returns-then-not-is_due_at c =
 
 pub returns : goal.returns
 returns c =
-    subst (λ (x : Candidate). AreLeadersBelow c.args.self.now (c.args.t + 1) (record { due = Some x; free = Some c.better.result })) (sym c.better-2.ensures)
+    subst (λ (x : Candidate). AreLeadersBelow c.args.self.now (c.args.t + 1)
+    (record { due = Some x; free = Some c.better.result })) (sym c.better-2.ensures)
     (subst
     (λ (x : Candidate). AreLeadersBelow c.args.self.now (c.args.t + 1)
-    (record { due = Some (choosing.better c.args.found.due (record { thread = c.args.t; place = c.place.result; number = c.number.result })); free = Some x }))
+    (record {
+      due = Some (choosing.better c.args.found.due
+          (record { thread = c.args.t; place = c.place.result; number = c.number.result }));
+      free = Some x;
+    }))
     (sym c.better.ensures)
     (leaders-due c.args.self.now c.args.t c.place.result c.number.result c.args.found c.requires.below
     (sym c.is_free.ensures ∙ c.if-not-is_free.false)
