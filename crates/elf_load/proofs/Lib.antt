@@ -1,3 +1,4 @@
+-- The files of lemmas of this crate.
 pub mod Words
 pub mod Searches
 pub mod Along

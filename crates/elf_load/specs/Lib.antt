@@ -1,3 +1,4 @@
+-- The files of definitions of this crate.
 pub mod Header
 pub mod Questions
 pub mod Rows

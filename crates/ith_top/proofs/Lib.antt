@@ -1,3 +1,4 @@
+-- The files of lemmas of this crate.
 pub mod Complete
 pub mod Worlds
 pub mod Asking

@@ -1,3 +1,4 @@
+-- The files of definitions of this crate.
 pub mod Words
 pub mod Statuses
 pub mod Rounds

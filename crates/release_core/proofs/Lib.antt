@@ -1,3 +1,4 @@
+-- The files of lemmas of this crate.
 pub mod DataPages
 pub mod Asking
 pub mod Laying

@@ -1,3 +1,4 @@
+-- The files of definitions of this crate.
 pub mod Views
 pub mod Setups
 pub mod Jobs

@@ -1,2 +1,3 @@
+-- The files of lemmas of this crate.
 pub mod Marks
 pub mod Picking

@@ -1,1 +1,2 @@
+-- The files of lemmas of this crate.
 pub mod Past

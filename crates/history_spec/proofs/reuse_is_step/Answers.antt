@@ -1,3 +1,4 @@
+-- Answers to the goals that the check leaves of `reuse_is_step`.
 use Rattle.machine_spec.specs.Setup.{first, scratch}
 use Rattle.machine_spec.proofs.Beginning.{IsWhole-first}
 use Rattle.history_spec.proofs.Scratch.{scratch-frame, scratch-whole}

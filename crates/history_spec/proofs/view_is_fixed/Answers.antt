@@ -1,3 +1,4 @@
+-- Answers to the goals that the check leaves of `view_is_fixed`.
 use Rattle.machine_spec.specs.Schedule.{scratch_from}
 use Rattle.history_spec.proofs.Scratch.{scratch-stays}
 use Rattle.history_spec.proofs.Truth.{fits-hart}

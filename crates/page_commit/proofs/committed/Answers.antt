@@ -1,3 +1,4 @@
+-- Answers to the goals that the check leaves of `committed`.
 use Rattle.std.proofs.Common.{length, ◌≤◌, ap, sym, ◌∙◌, arith}
 use Rattle.std.proofs.lemmas.List.{drop_all}
 use Rattle.record_spec.specs.Delta.{masked}

@@ -1,3 +1,4 @@
+-- Answers to the goals that the check leaves of `each_round_is_from_scratch`.
 use Rattle.std.specs.Prelude.{◌≡◌, true, is_some, length}
 use Rattle.machine_spec.specs.Setup.{first, scratch, is_permitted, is_complete, records}
 use Rattle.report_spec.specs.Report.{threads_of, instructions_from, report}

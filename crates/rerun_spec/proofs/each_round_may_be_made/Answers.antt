@@ -1,3 +1,4 @@
+-- Answers to the goals that the check leaves of `each_round_may_be_made`.
 use Rattle.std.proofs.Common.{◌≡◌}
 use Rattle.history_spec.specs.History.{IsHonest, schedule_of}
 use Rattle.rerun_spec.specs.Rounds.{left_by, schedule_in}

@@ -1,3 +1,4 @@
+-- Answers to the goals that the check leaves of `inputs_fit_their_lists`.
 use Rattle.std.proofs.Common.{◌≤◌, refl, length}
 use Rattle.std.proofs.lemmas.List.Elements.{All-from_recursion}
 use Rattle.edit_spec.specs.Editing.{longest_input}

@@ -1,3 +1,4 @@
+-- Answers to the goals that the check leaves of `inputs_go_on`.
 use Rattle.rerun_spec.proofs.Inputs.{inputs-more, inputs-refused}
 use Rattle.rerun_spec.proofs.inputs_go_on.Goals as goal
 

@@ -1,3 +1,4 @@
+-- Answers to the goals that the check leaves of `no_edit_list_is_one_round`.
 use Rattle.machine_spec.specs.Setup.{first}
 use Rattle.rerun_spec.proofs.Reports.{marks-nothing, only-report, only-exits}
 use Rattle.rerun_spec.proofs.no_edit_list_is_one_round.Goals as goal

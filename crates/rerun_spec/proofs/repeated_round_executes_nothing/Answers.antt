@@ -1,3 +1,4 @@
+-- Answers to the goals that the check leaves of `repeated_round_executes_nothing`.
 use Rattle.rerun_spec.proofs.Repeating.{repeated-again, again-reuses, again-schedule, again-instructions, again-never_runs, again-executed, again-machine}
 use Rattle.rerun_spec.proofs.repeated_round_executes_nothing.Goals as goal
 

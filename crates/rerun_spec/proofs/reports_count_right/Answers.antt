@@ -1,3 +1,4 @@
+-- Answers to the goals that the check leaves of `reports_count_right`.
 use Rattle.rerun_spec.proofs.Reports.{reports-count, shares-count, shares-sum}
 use Rattle.rerun_spec.proofs.reports_count_right.Goals as goal
 

@@ -1,3 +1,4 @@
+-- Answers to the goals that the check leaves of `rounds_follow_each_other`.
 use Rattle.std.proofs.Common.{◌≡◌, ◌+◌, None, arith}
 use Rattle.rerun_spec.proofs.Rounds.{numbers-from, setups-from, at-from, first-past, first-setup, next-from}
 use Rattle.rerun_spec.proofs.rounds_follow_each_other.Goals as goal

@@ -1,3 +1,4 @@
+-- Answers to the goals that the check leaves of `rounds_are_from_scratch`.
 use Rattle.std.proofs.Common.{Option, ap, sym, ◌∙◌}
 use Rattle.machine_spec.specs.Setup.{Setup, scratch, is_permitted, records}
 use Rattle.history_spec.specs.History.{History}

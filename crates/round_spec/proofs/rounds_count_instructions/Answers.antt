@@ -1,3 +1,4 @@
+-- Answers to the goals that the check leaves of `rounds_count_instructions`.
 use Rattle.round_spec.proofs.Executed.{round-executed}
 use Rattle.round_spec.proofs.rounds_count_instructions.Goals as goal
 

@@ -1,3 +1,4 @@
+-- Answers to the goals that the check leaves of `rounds_stay_mapped`.
 use Rattle.round_spec.proofs.Mapping.{event-mapped, round-mapped}
 use Rattle.round_spec.proofs.rounds_stay_mapped.Goals as goal
 

@@ -1,3 +1,4 @@
+-- Answers to the goals that the check leaves of `rounds_stay_of_their_setup`.
 use Rattle.round_spec.proofs.Leaving.{round-setup, round-past}
 use Rattle.round_spec.proofs.rounds_stay_of_their_setup.Goals as goal
 

@@ -1,3 +1,4 @@
+-- Answers to the goals that the check leaves of `no_edit_reuses_all`.
 use Rattle.std.proofs.Common.{◌≡◌, ◌≢◌, Some, subst}
 use Rattle.machine_spec.specs.Setup.{Setup, first}
 use Rattle.history_spec.specs.History.{schedule_of}

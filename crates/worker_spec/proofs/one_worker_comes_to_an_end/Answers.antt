@@ -1,3 +1,4 @@
+-- Answers to the goals that the check leaves of `one_worker_comes_to_an_end`.
 use Rattle.worker_spec.proofs.Lone.{one_worker-permitted, one_worker-complete}
 use Rattle.worker_spec.proofs.Ending.{lone-ends, lone-discarded}
 use Rattle.worker_spec.proofs.one_worker_comes_to_an_end.Goals as goal

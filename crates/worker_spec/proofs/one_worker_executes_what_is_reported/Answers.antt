@@ -1,3 +1,4 @@
+-- Answers to the goals that the check leaves of `one_worker_executes_what_is_reported`.
 use Rattle.worker_spec.proofs.Cost.{rounds-cost}
 use Rattle.worker_spec.proofs.one_worker_executes_what_is_reported.Goals as goal
 

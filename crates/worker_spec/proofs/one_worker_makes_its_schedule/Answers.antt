@@ -1,3 +1,4 @@
+-- Answers to the goals that the check leaves of `one_worker_makes_its_schedule`.
 use Rattle.worker_spec.proofs.Lone.{rounds-made, lone-threads, lone-scratch}
 use Rattle.worker_spec.proofs.one_worker_makes_its_schedule.Goals as goal
 

@@ -1,3 +1,4 @@
+-- Answers to the goals that the check leaves of `one_worker_picks_rightly`.
 use Rattle.worker_spec.proofs.Picked.{lone-picked}
 use Rattle.worker_spec.proofs.one_worker_picks_rightly.Goals as goal
 

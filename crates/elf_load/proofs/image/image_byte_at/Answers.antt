@@ -1,3 +1,4 @@
+-- Answers to the goals that the check leaves of `image_byte_at`.
 use Rattle.std.proofs.Common.{◌≡◌, ◌≤◌, ◌<◌, ◌+◌, ◌-◌, ◌/◌, ℕ, Bool, true, List, Option, Some, None, option_map, map, find, filter, sym, ap, ◌∙◌, arith}
 use Rattle.std.proofs.lemmas.Bool.{le-leb, leb-true, ltb-true, and_from, and_parts}
 use Rattle.elf_spec.specs.Header.{ProgramHeader, segments}

@@ -1,3 +1,4 @@
+-- Answers to the goals that the check leaves of `page_bytes`.
 use Rattle.std.proofs.Common.{set, subst, length-set, ◌≡◌, ◌<◌, ◌+◌, ◌*◌, ℕ, zero, suc, ◌∷◌, length, get_or, map, refl, sym, ap, ◌∙◌, arith, add-zero}
 use Rattle.std.specs.List.{range_with_len}
 use Rattle.std.proofs.lemmas.List.FromFn.{fill_by_all}

@@ -1,3 +1,4 @@
+-- What holds at the loops of `page_bytes`.
 use Rattle.std.proofs.Common.{◌≡◌, ◌<◌, ◌+◌, ◌*◌, ℕ, length, get_or}
 use Rattle.elf_spec.specs.Image.{image_byte}
 use Rattle.elf_load.proofs.image.page_bytes.Given as goal

@@ -1,3 +1,4 @@
+-- Answers to the goals that the check leaves of `segments_of`.
 use Rattle.std.proofs.Common.{◌≡◌, Bool, true, false, cond, List, [], ◌∷◌, ◌++◌, map, sym, ap, ap₂, ◌∙◌, append-nil}
 use Rattle.std.proofs.lemmas.List.{map-append}
 use Rattle.elf_spec.specs.Header.{ProgramHeader, is_segment}

@@ -1,3 +1,4 @@
+-- Answers to the goals that the check leaves of `load`.
 use Rattle.std.proofs.Common.{is_none, sym, ap, ◌∙◌}
 use Rattle.elf_spec.specs.Image.{is_image}
 use Rattle.elf_load.proofs.loader.load.Goals as goal

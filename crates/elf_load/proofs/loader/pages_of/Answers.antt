@@ -1,3 +1,4 @@
+-- Answers to the goals that the check leaves of `pages_of`.
 use Rattle.std.proofs.Common.{◌≡◌, ◌+◌, ◌<◌, length, ℕ, Bool, true, false, cond, List, [], ◌∷◌, ◌++◌, map, filter, refl, sym, ap, ◌∙◌, arith, zero-add, append-nil}
 use Rattle.std.specs.List.{range_with_len, list_any}
 use Rattle.std.proofs.lemmas.List.{map-append, get_or_default}

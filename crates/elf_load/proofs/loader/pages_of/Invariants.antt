@@ -1,3 +1,4 @@
+-- What holds at the loops of `pages_of`.
 use Rattle.std.proofs.Common.{◌≡◌, map}
 use Rattle.elf_spec.specs.Header.{segments}
 use Rattle.elf_spec.specs.Image.{image_page}

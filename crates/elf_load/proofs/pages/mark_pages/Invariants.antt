@@ -1,3 +1,4 @@
+-- What holds at the loops of `mark_pages`.
 use Rattle.std.proofs.Common.{◌≡◌, ◌<◌, ◌≤◌, ◌⊎◌, ℕ, ◌&&◌, ◌||◌, false, nat_le, nat_lt, length, get_or}
 use Rattle.elf_load.proofs.pages.mark_pages.Given as goal
 

@@ -1,3 +1,4 @@
+-- Answers to the goals that the check leaves of `rights_of`.
 use Rattle.std.proofs.Common.{◌≡◌, ℕ, List, [], ◌∷◌, fold, take, map, bit_or, refl, ap, ◌∙◌, arith}
 use Rattle.std.proofs.lemmas.List.{take_all}
 use Rattle.elf_spec.specs.Segments.{segment_permission}

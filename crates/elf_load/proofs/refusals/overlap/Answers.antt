@@ -1,3 +1,4 @@
+-- Answers to the goals that the check leaves of `overlap`.
 use Rattle.std.proofs.Common.{◌≡◌, ◌+◌, ◌-◌, ℕ, Bool, List, Some, None, find, map, option_map, sym, ap, ◌∙◌, arith}
 use Rattle.std.specs.List.{range_with_len}
 use Rattle.elf_spec.specs.declared.Refusal.TheVariants.{Overlap}

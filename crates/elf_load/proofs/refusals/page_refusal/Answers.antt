@@ -1,3 +1,4 @@
+-- Answers to the goals that the check leaves of `page_refusal`.
 use Rattle.std.proofs.Common.{◌≡◌, ℕ, List, map, filter, ap, ◌∙◌}
 use Rattle.elf_spec.specs.Header.{segments}
 use Rattle.elf_spec.specs.Segments.{touches}

@@ -1,3 +1,4 @@
+-- Answers to the goals that the check leaves of `refusal`.
 use Rattle.std.proofs.Common.{◌≡◌, ℕ, List, ◌++◌, Option, None, sym, ◌∙◌, subst}
 use Rattle.std.specs.Prelude.{IfOk}
 use Rattle.elf_spec.specs.declared.Refusal.{Refusal}

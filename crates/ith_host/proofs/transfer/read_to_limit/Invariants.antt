@@ -1,3 +1,4 @@
+-- What holds at the loops of `read_to_limit`.
 use Rattle.std.proofs.Common.{length, ◌-◌, ◌≤◌, ◌≡◌}
 use Rattle.std.specs.Io.KnownBytes.{Consumes}
 use Rattle.ith_host.proofs.transfer.read_to_limit.Given as goal

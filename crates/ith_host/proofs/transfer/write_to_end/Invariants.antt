@@ -1,3 +1,4 @@
+-- What holds at the loops of `write_to_end`.
 use Rattle.std.proofs.Common.{length, take, ◌-◌, ◌≤◌, ◌≡◌}
 use Rattle.std.specs.Io.KnownBytes.{Appends}
 use Rattle.ith_host.proofs.transfer.write_to_end.Given as goal

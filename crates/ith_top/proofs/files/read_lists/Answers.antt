@@ -1,3 +1,4 @@
+-- Answers to the goals that the check leaves of `read_lists`.
 use Rattle.std.proofs.Common.{refl}
 use Rattle.ith_top.proofs.Worlds.{stays_trans, none_fell_trans}
 use Rattle.ith_top.proofs.Reading.{all_asked, one_dropped, none_read, one_read, all_read, one_unread, stays_same, none_fell_same}

@@ -1,3 +1,4 @@
+-- What holds at the loops of `read_lists`.
 use Rattle.ith_top.proofs.Reading.{IsReading}
 use Rattle.ith_top.proofs.files.read_lists.Given as goal
 

@@ -1,3 +1,4 @@
+-- Answers to the goals that the check leaves of `run`.
 use Rattle.std.proofs.Common.{sym, ◌∙◌}
 use Rattle.ith_top.specs.Said.{run_said}
 use Rattle.ith_top.proofs.Done.{finished, unfinished, cut_short}

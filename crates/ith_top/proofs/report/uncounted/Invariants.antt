@@ -1,3 +1,4 @@
+-- What holds at the loops of `uncounted`.
 use Rattle.ith_top.proofs.report.uncounted.Given as goal
 
 abbrev pub ghosts-counted : goal.ghosts-counted

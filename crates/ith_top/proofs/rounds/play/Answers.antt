@@ -1,3 +1,4 @@
+-- Answers to the goals that the check leaves of `play`.
 use Rattle.std.proofs.Common.{◌≡◌, ◌+◌, ◌∷◌, length, refl, ap, arith}
 use Rattle.std.specs.Prelude.{option_map}
 use Rattle.std.specs.Arc.{arc_value}

@@ -1,3 +1,4 @@
+-- Answers to the goals that the check leaves of `number_of`.
 use Rattle.std.proofs.Common.{◌∙◌, arith}
 use Rattle.clap.specs.Words.{found_of}
 use Rattle.ith_top.proofs.Given.{number_read, number_unread, kept_within, kept_below, kept_above}

@@ -1,3 +1,4 @@
+-- Answers to the goals that the check leaves of `find_near`.
 use Rattle.std.proofs.Common.{arith, sym}
 use Rattle.page_map.proofs.Slots.{slot_of-at}
 use Rattle.page_map.proofs.lookup.find_near.Goals as goal

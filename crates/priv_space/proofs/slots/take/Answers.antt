@@ -1,3 +1,4 @@
+-- Answers to the goals that the check leaves of `take`.
 use Rattle.std.proofs.Common.{map, set, ap, sym, ◌∙◌, arith, ◌<◌, length}
 use Rattle.std.proofs.lemmas.List.{map-set}
 use Rattle.std.proofs.Math.Seq.{map-set_same}

@@ -1,3 +1,4 @@
+-- Answers to the goals that the check leaves of `eq`.
 use Rattle.page_map.proofs.Comparing.{maps_decide}
 use Rattle.page_map.proofs.pages.PageMapPartialEq.eq.Goals as goal
 

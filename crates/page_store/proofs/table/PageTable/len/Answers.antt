@@ -1,3 +1,4 @@
+-- Answers to the goals that the check leaves of `len`.
 use Rattle.std.specs.Arc.{arc_value}
 use Rattle.page_store.proofs.Places.{count_is}
 use Rattle.page_store.proofs.table.PageTable.len.Goals as goal

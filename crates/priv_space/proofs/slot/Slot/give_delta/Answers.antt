@@ -1,3 +1,4 @@
+-- Answers to the goals that the check leaves of `give_delta`.
 use Rattle.std.proofs.Common.{◌≡◌, false, ap, sym, ◌∙◌}
 use Rattle.record_spec.specs.Delta.{is_stored}
 use Rattle.priv_space.specs.Slots.{slot_bytes, slot_marks, marks_in}

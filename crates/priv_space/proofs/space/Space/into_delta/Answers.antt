@@ -1,3 +1,4 @@
+-- Answers to the goals that the check leaves of `into_delta`.
 use Rattle.std.proofs.Common.{◌≡◌, ◌+◌, ◌++◌, length, map, set, arith, sym, ap, ◌∙◌, drop, ◌<◌, ◌≤◌, []}
 use Rattle.std.proofs.lemmas.List.{length-map, length-set, get_or-map}
 use Rattle.std.specs.Arc.{arc_value}

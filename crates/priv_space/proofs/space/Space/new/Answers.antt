@@ -1,3 +1,4 @@
+-- Answers to the goals that the check leaves of `new`.
 use Rattle.std.proofs.Common.{◌≡◌, ap, ◌∙◌, arith, length, replicate, ◌++◌, ◌∷◌, []}
 use Rattle.std.proofs.lemmas.List.{length-replicate, replicate_more}
 use Rattle.std.specs.Arc.{arc_value}

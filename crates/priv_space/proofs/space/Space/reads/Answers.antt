@@ -1,3 +1,4 @@
+-- Answers to the goals that the check leaves of `reads`.
 use Rattle.std.proofs.Common.{length, map, arith, sym, ap, ◌∙◌, false, ◌<◌, ◌≤◌, refl}
 use Rattle.std.proofs.lemmas.List.{length-map, get_or-map}
 use Rattle.std.specs.Arc.{arc_value}

@@ -1,3 +1,4 @@
+-- Answers to the goals that the check leaves of `store`.
 use Rattle.std.proofs.Common.{◌≡◌, ◌<◌, ◌%◌, map, length, arith, ap, sym, ◌∙◌, refl}
 use Rattle.std.proofs.lemmas.List.{with_items_is, length-map}
 use Rattle.std.specs.Arc.{arc_value}

@@ -1,3 +1,4 @@
+-- Answers to the goals that the check leaves of `get`.
 use Rattle.store_mask.proofs.Marks.{tested_at}
 use Rattle.store_mask.proofs.mask.Mask.get.Goals as goal
 

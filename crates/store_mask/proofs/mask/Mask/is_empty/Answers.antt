@@ -1,3 +1,4 @@
+-- Answers to the goals that the check leaves of `is_empty`.
 use Rattle.std.proofs.Common.{ap, sym, not, arith}
 use Rattle.store_mask.proofs.Marks.{is_stored-zeros, is_stored-word}
 use Rattle.store_mask.proofs.mask.Mask.is_empty.Goals as goal

@@ -1,3 +1,4 @@
+-- Answers to the goals that the check leaves of `set`.
 use Rattle.store_mask.proofs.Marks.{flags_of-set}
 use Rattle.store_mask.proofs.mask.Mask.set.Goals as goal
 

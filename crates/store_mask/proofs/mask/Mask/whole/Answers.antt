@@ -1,3 +1,4 @@
+-- Answers to the goals that the check leaves of `whole`.
 use Rattle.store_mask.proofs.Marks.{length-flags_of}
 use Rattle.store_mask.proofs.mask.Mask.whole.Goals as goal
 
