@@ -1,8 +1,9 @@
 -- The picks of one worker, and what a round executes.
-use Rattle.std.proofs.Common.{◌≡◌, ◌+◌, ℕ, zero, suc, Bool, true, false, not, ◌&&◌, cond, List, [], ◌∷◌, length, Option, Some, None, is_some, refl, ap, sym, ◌∙◌, subst, arith}
+use Rattle.std.proofs.Common.{◌≡◌, ◌+◌, ℕ, zero, suc, Bool, true, false, not, ◌&&◌, cond, List, [], ◌∷◌, length, Option, Some, None, is_some, Result, Ok, Err, OnOk, refl, ap, sym, ◌∙◌, subst, arith}
 use Rattle.std.proofs.lemmas.Bool.{and_parts, not-true}
 use Rattle.std.proofs.lemmas.List.{get_or-set_same}
 use Rattle.std.specs.Arc.{arc_value}
+use Rattle.std.specs.declared.alloc.AllocError.{AllocError}
 use Rattle.isa_spec.specs.Registers.{Registers}
 use Rattle.record_spec.specs.Record.{Record, Kept, kept_thunk}
 use Rattle.machine_spec.specs.Machine.{Machine, hart_of, is_ready}
@@ -169,6 +170,12 @@ pub costs-nothing :
     (n : ℕ) (w v : RoundState) (e : Event) → IsCounted w → ExecutesNothing e → v ≡ happens w e → Costs n w n v
 costs-nothing n w v e counted nothing is =
     ap (λ k. n + k) (sym (ap executed_by is ∙ aside-executed w e (record_count w counted) nothing))
+
+pub ok-costs :
+    (r : Result (Unit {0}) AllocError) (n : ℕ) (w v : RoundState) (e : Event)
+    → IsCounted w → ExecutesNothing e → OnOk r (v ≡ happens w e) → OnOk r (Costs n w n v)
+ok-costs (Ok done) n w v e counted nothing is = costs-nothing n w v e counted nothing is
+ok-costs (Err error) n w v e counted nothing is = tt
 
 -- one pick
 

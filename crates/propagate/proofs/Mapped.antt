@@ -1,7 +1,8 @@
 -- A round stays on the page map of its setup.
-use Rattle.std.proofs.Common.{◌≡◌, List, ◌++◌, All, length, Option, Some, None, ap, sym, ◌∙◌, subst, refl}
+use Rattle.std.proofs.Common.{◌≡◌, Bool, true, false, List, ◌++◌, All, length, Option, Some, None, ap, sym, ◌∙◌, subst, refl}
 use Rattle.std.proofs.lemmas.List.{append_cancel_right}
 use Rattle.std.proofs.lemmas.List.Elements.{All-from_recursion}
+use Rattle.std.specs.Bool.{OnTrue}
 use Rattle.memory_spec.specs.Pages.{Mapped}
 use Rattle.thunk_spec.specs.Thunk.{Frame}
 use Rattle.elf_spec.specs.Image.{image_pages}
@@ -46,8 +47,28 @@ same_image a b same =
 pub same_map : (a b : Setup) → map_of a ≡ map_of b → image_pages a.elf ≡ image_pages b.elf
 unfolding map_of
 same_map a b same =
-    append_cancel_right (image_pages a.elf) (image_pages b.elf)
-    (data_pages 0xC0000 1 ++ data_pages 0xC0001 256 ++ data_pages 0xD0000 512) same
+    append_cancel_right (image_pages a.elf) (image_pages b.elf) (data_pages 0xC0000 1)
+    (append_cancel_right (image_pages a.elf ++ data_pages 0xC0000 1) (image_pages b.elf ++ data_pages 0xC0000 1)
+    (data_pages 0xC0001 256)
+    (append_cancel_right (image_pages a.elf ++ data_pages 0xC0000 1 ++ data_pages 0xC0001 256)
+    (image_pages b.elf ++ data_pages 0xC0000 1 ++ data_pages 0xC0001 256) (data_pages 0xD0000 512) same))
+
+-- so to compare the images is to compare the page maps
+pub of_map :
+    (w : RoundState) (h : History) (b : Bool) (m n : List Mapped)
+    → w.past ≡ Some h → m ≡ image_pages h.setup.elf → n ≡ image_pages w.setup.elf
+    → (b ≡ true → m ≡ n) × (m ≡ n → b ≡ true)
+    → (b ≡ true → IsOfMap w.past w.setup) × (IsOfMap w.past w.setup → b ≡ true)
+of_map w h b m n there first second equal = (
+  λ yes.
+      subst (λ (past : Option History). IsOfMap past w.setup) (sym there)
+      (same_image h.setup w.setup (sym first ∙ equal.0 yes ∙ second)),
+  λ of.
+      equal.1
+      (first
+      ∙ same_map h.setup w.setup (subst (λ (past : Option History). IsOfMap past w.setup) there of)
+      ∙ sym second),
+)
 
 -- what is left is mapped
 
@@ -64,6 +85,14 @@ all_mapped w h on there mapped same =
     on.mapped
     (subst (λ (past : Option History). All (IsMappedIn (length (map_of w.setup))) (past_records past)) (sym there)
     (subst (λ (map : List Mapped). All (IsMappedIn (length map)) h.records) same mapped))
+
+pub of_map-mapped :
+    (w : RoundState) (h : History) (b : Bool) (m n : List Mapped)
+    → IsOnMap w → w.past ≡ Some h → IsMapped h → m ≡ image_pages h.setup.elf → n ≡ image_pages w.setup.elf
+    → (b ≡ true → m ≡ n) → OnTrue b (IsMapped (history_of w))
+of_map-mapped w h true m n on there mapped first second equal =
+    all_mapped w h on there mapped (same_image h.setup w.setup (sym first ∙ equal refl ∙ second))
+of_map-mapped w h false m n on there mapped first second equal = tt
 
 -- a sound history has the setup's page map
 pub sound_map : (past : Option History) (s : Setup) → IsSound past s → IsOfMap past s

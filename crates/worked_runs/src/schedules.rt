@@ -154,7 +154,7 @@ fn compare_reads<R: Abort>(rt: &R, round: &Round, entry: usize, slots: &[usize])
         return;
     }
     let reads = round.entry(entry).reads();
-    assert_eq!(rt; reads.len(), slots.len(), "at entry {entry}");
+    assert_eq!(rt; reads.pages().len(), slots.len(), "at entry {entry}");
     for (read, slot) in reads.pages().iter().zip(slots.iter()) {
         assert_eq!(rt; read.slot(), *slot, "at entry {entry}");
     }

@@ -11,10 +11,10 @@ pub unreachable-requires : goal.unreachable-requires
 unreachable-requires g c =
     let own : arc_value c.in_ok-run.run'.rec ≡ record_of c.args.round.now.machine c.args.t =
     run-record c.args.round.now.machine c.args.t c.in_ok-job.job c.in_ok-run.run' c.in_ok-job.ensures.job
-    c.in_ok-run.ensures.run' in
+    c.in_ok-run.ensures.run in
     c.in-Stale.ensures.does.0
     (subst (λ (f : Frame). CanCommit c.take.new.self f (arc_value c.in_ok-run.run'.rec))
-    (sym (c.in_ok-run.ensures.run'.frame ∙ c.in_ok-job.ensures.job.frame))
+    (sym (c.in_ok-run.ensures.run.frame ∙ c.in_ok-job.ensures.job.frame))
     (own-commits c.args.round.now c.take.new.self c.args.t (arc_value c.in_ok-run.run'.rec) c.keeps.ensures.in_order
     c.requires c.in_ok-job.ensures.ok own))
 
@@ -25,5 +25,5 @@ returns-in-Done-clause-cost g c =
     c.keeps.ensures.in_order c.keeps.ensures.counted
     c.requires c.in_ok-job.ensures.ok c.in-Done.ensures.does.1
     (run-record c.args.round.now.machine c.args.t c.in_ok-job.job c.in_ok-run.run' c.in_ok-job.ensures.job
-    c.in_ok-run.ensures.run') in
+    c.in_ok-run.ensures.run) in
     omega (arith, counts, c.in_ok-run.ensures.cost)

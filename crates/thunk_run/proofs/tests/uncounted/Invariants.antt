@@ -2,4 +2,4 @@
 use Rattle.thunk_run.proofs.tests.uncounted.Given as goal
 
 abbrev pub ghosts-counted : goal.ghosts-counted
-ghosts-counted a = record { name = a.blank.name; parts = a.blank.parts }
+ghosts-counted g a = record { name = a.blank.name; parts = a.blank.parts }

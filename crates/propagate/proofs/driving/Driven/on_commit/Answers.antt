@@ -1,11 +1,14 @@
 -- What is left to prove of `Driven::on_commit`.
-use Rattle.std.proofs.Common.{◌≡◌, true, sym, ◌∙◌, arith}
+use Rattle.std.proofs.Common.{◌≡◌, ◌+◌, true, Result, OnOk, sym, ◌∙◌, subst, arith}
+use Rattle.std.specs.declared.alloc.AllocError.{AllocError}
 use Rattle.round_spec.specs.declared.events.Event.TheVariants.{GiveBack}
 use Rattle.round_spec.proofs.Conditions.{happens-commit_not}
 use Rattle.round_spec.specs.Rounds.{is_out}
+use Rattle.propagate.specs.Executing.{Costs}
 use Rattle.propagate.proofs.Jobs.{jobs-stay, jobs-commit, job-held, run-commits, run-counts, over-discards}
 use Rattle.propagate.proofs.Executing.{costs-nothing}
 use Rattle.propagate.proofs.driving.Driven.on_commit.Goals as goal
+use Rattle.propagate.proofs.driving.Driven.on_commit.Goals.{in-Done, in-Memory}
 
 pub returns-then-not-is_out-clause-round : goal.returns-then-not-is_out-clause-round
 returns-then-not-is_out-clause-round g c =
@@ -40,7 +43,7 @@ unreachable-requires-in-Stale g c =
     (job-held c.args.self.now.round c.args.self.now.jobs c.args.t c.from.result c.index-self-from.result c.in-Some.job
     c.keeps.ensures.in_order c.args.self.now.held out
     c.from.ensures c.index-self-from.is (c.index-self-from.is ∙ c.in-Some.is))
-    c.in_ok-run-in-Some.ensures.run')
+    c.in_ok-run-in-Some.ensures.run)
 
 pub returns-then-is_over-clause-cost : goal.returns-then-is_over-clause-cost
 returns-then-is_over-clause-cost g c =
@@ -48,15 +51,28 @@ returns-then-is_over-clause-cost g c =
     c.keeps.ensures.counted tt
     c.give_back.ensures.event
 
-pub returns-in-Done-clause-cost : goal.returns-in-Done-clause-cost
-returns-in-Done-clause-cost g c =
-    let out : is_out c.args.self.now.round c.args.t ≡ true = sym c.is_out.ensures ∙ c.if-not-is_out.false in
-    let counts =
-    run-counts c.args.self.now.round c.commit.new.self c.args.t c.in-Some.job c.in_ok-run-in-Some.run'
-    c.keeps.ensures.in_order c.keeps.ensures.counted out
-    (sym c.is_over.ensures ∙ c.if-is_over.false)
-    (job-held c.args.self.now.round c.args.self.now.jobs c.args.t c.from.result c.index-self-from.result c.in-Some.job
-    c.keeps.ensures.in_order c.args.self.now.held out
-    c.from.ensures c.index-self-from.is (c.index-self-from.is ∙ c.in-Some.is))
-    c.in_ok-run-in-Some.ensures.run' c.in-Done.ensures.does.1 in
-    omega (arith, counts, c.in_ok-run-in-Some.ensures.cost)
+pub returns-clause-cost : goal.returns-clause-cost
+returns-clause-cost g c =
+    elim c.match-commit.branch [
+      | in-Done w ↦
+          (let out : is_out c.args.self.now.round c.args.t ≡ true = sym c.is_out.ensures ∙ c.if-not-is_out.false in
+          let counts =
+          run-counts c.args.self.now.round c.commit.new.self c.args.t c.in-Some.job c.in_ok-run-in-Some.run'
+          c.keeps.ensures.in_order c.keeps.ensures.counted out
+          (sym c.is_over.ensures ∙ c.if-is_over.false)
+          (job-held c.args.self.now.round c.args.self.now.jobs c.args.t c.from.result c.index-self-from.result
+          c.in-Some.job c.keeps.ensures.in_order c.args.self.now.held out
+          c.from.ensures c.index-self-from.is (c.index-self-from.is ∙ c.in-Some.is))
+          c.in_ok-run-in-Some.ensures.run w.in-Done.ensures.does.1 in
+          let cost : Costs c.args.turns.now c.args.self.now.round c.execute.new.turns c.commit.new.self =
+          omega (arith, counts, c.in_ok-run-in-Some.ensures.cost) in
+          subst
+          (λ (r : Result (Unit {0}) AllocError).
+          OnOk r (Costs c.args.turns.now c.args.self.now.round c.execute.new.turns c.commit.new.self))
+          (sym w.result-is) cost)
+      | in-Memory w ↦
+          subst
+          (λ (r : Result (Unit {0}) AllocError).
+          OnOk r (Costs c.args.turns.now c.args.self.now.round c.execute.new.turns c.commit.new.self))
+          (sym w.result-is) tt
+    ]
