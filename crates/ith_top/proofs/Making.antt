@@ -1,5 +1,5 @@
 -- What is told of a round as it was made is what its definitions say.
-use Rattle.std.proofs.Common.{◌≡◌, ℕ, length, ap, sym, ◌∙◌}
+use Rattle.std.proofs.Common.{◌≡◌, ℕ, length, Some, ap, sym, ◌∙◌}
 use Rattle.history_spec.specs.History.{IsSound}
 use Rattle.report_spec.specs.Report.{Told, instructions_from, report, report_text, told_of}
 use Rattle.machine_spec.specs.Setup.{Setup, first}
@@ -48,3 +48,7 @@ made_report workers r is =
 
 pub made_exit : (r : Round) → CanBeMade r → is_exit (made r).machine.ending ≡ exits r
 made_exit r is = sym (exit-made r is)
+
+-- what is there is one thing
+pub some_is : {A : Type 0} (x y : A) → Some x ≡ Some y → x ≡ y
+some_is x y e = cc

@@ -1,8 +1,8 @@
 //! What a command line asks for.
 
 ghost use Rattle.std.specs.Prelude.{◌≤◌};
+ghost use Rattle.ith_top.specs.declared.command.TheConstants.{MOST_WORKERS};
 
-use super::command::MOST_WORKERS;
 use machine_spec::Limits;
 
 /// A line that runs a guest.
