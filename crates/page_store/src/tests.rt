@@ -75,8 +75,10 @@ fn tables_are_equal_where_their_pages_are(rt: HostRuntime) -> Result<(), AllocEr
     let table = numbered(rt.alloc())?;
     let mut other = numbered(rt.alloc())?;
     assert!(rt; table == other);
+    assert!(rt; other.len() > 99);
     other.replace(99, Page::new([7; PAGE_SIZE]))?;
     assert!(rt; table != other);
+    assert!(rt; other.len() > 99);
     other.replace(99, Page::new([99; PAGE_SIZE]))?;
     assert!(rt; table == other);
     other.push(Page::zero())?;
