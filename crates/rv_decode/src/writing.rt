@@ -223,14 +223,11 @@ fn r_type(codes: (u32, u32), rs2: u8, rs1: u8, rd: u8, opcode: u32) -> u32
     })
 }
 
-/// The word of an instruction whose operands are in range. FENCE is written with all of its
-/// predecessor and successor bits set, as assemblers write it.
-pub fn encode(instr: Instr) -> u32
+/// The word of an instruction, by its form.
+fn written(instr: Instr) -> u32
     requires { InRange instr }
-    ensures word { result ≡ encoding instr }
-    ensures again { decoded result ≡ Some instr }
+    ensures { result ≡ encoding instr }
 {
-    isa_spec::decoding_inverts_encoding();
     match instr {
         Instr::Lui { rd, imm } => u_type(imm, rd, 0b0110111),
         Instr::Auipc { rd, imm } => u_type(imm, rd, 0b0010111),
@@ -271,4 +268,15 @@ pub fn encode(instr: Instr) -> u32
         Instr::Ecall => 0x0000_0073,
         Instr::Ebreak => 0x0010_0073,
     }
+}
+
+/// The word of an instruction whose operands are in range. FENCE is written with all of its
+/// predecessor and successor bits set, as assemblers write it.
+pub fn encode(instr: Instr) -> u32
+    requires { InRange instr }
+    ensures word { result ≡ encoding instr }
+    ensures again { decoded result ≡ Some instr }
+{
+    isa_spec::decoding_inverts_encoding();
+    written(instr)
 }
