@@ -37,8 +37,15 @@ impl<'a> Cursor<'a> {
         Cursor { bytes, at: 0 }
     }
 
+    /// How many bytes were taken: the place of the next one in the file.
+    pub fn position(&self) -> usize
+        ensures { result ≡ self.now.taken }
+    {
+        self.at
+    }
+
     /// How many bytes are left.
-    fn remaining(&self) -> usize
+    pub fn remaining(&self) -> usize
         ensures { result ≡ length self.now.left }
     {
         self.bytes.len() - self.at

@@ -20,11 +20,14 @@ fn fields_are_read_as_they_were_written(rt: HostRuntime) -> Result<(), Fail> {
     let bytes = out.into_vec();
     let mut cursor = Cursor::new(bytes.as_slice());
     assert!(rt; cursor.bytes(18).is_err());
+    assert_eq!(rt; (cursor.position(), cursor.remaining()), (0, 17));
     assert!(rt; cursor.bytes(2) == Ok(b"ab".as_slice()));
     assert_eq!(rt; cursor.u8(), Ok(1));
+    assert_eq!(rt; (cursor.position(), cursor.remaining()), (3, 14));
     assert_eq!(rt; cursor.u16(), Ok(0x0302));
     assert_eq!(rt; cursor.u32(), Ok(0x07060504));
     assert_eq!(rt; cursor.u64(), Ok(0x0f0e0d0c0b0a0908));
     assert_eq!(rt; cursor.u8(), Err(Short));
+    assert_eq!(rt; (cursor.position(), cursor.remaining()), (17, 0));
     Ok(())
 }

@@ -45,6 +45,15 @@ impl PageDelta {
         self.slot
     }
 
+    /// The places that were stored to, and a page with the stored bytes at them.
+    #[inline(always)]
+    pub fn stored(&self) -> &StoredPage
+        ensures delta { self.now ≡ delta_in self.now.slot result.now }
+        ensures some { is_stored result.now.mask ≡ true }
+    {
+        &self.stored
+    }
+
     /// A page after the stored bytes were written into it.
     pub fn written(&self, page: &Page) -> Page
         ensures { result ≡ spread self.now.mask self.now.bytes page.now }

@@ -58,9 +58,9 @@ impl Mask {
         Mask { words: [0; WORDS] }
     }
 
-    /// There are 4,096 places.
+    /// There are 4,096 places: what a caller learns of any mask.
     #[inline(always)]
-    fn whole(&self)
+    pub fn whole(&self)
         ensures { length self.now ≡ PAGE_SIZE }
     {
         let _words = &self.words;
@@ -116,7 +116,7 @@ impl Mask {
     /// Whether a place is the first of a word, and none of the word's places is marked.
     #[inline(always)]
     #[tactic(auto, using(crate::proofs::Marks::blank_at))]
-    fn begins_blank_word(&self, place: usize) -> bool
+    pub fn begins_blank_word(&self, place: usize) -> bool
         requires { place < PAGE_SIZE }
         ensures first { result ≡ true → place % 64 ≡ 0 }
         ensures blank { result ≡ true → (k : ℕ) → place ≤ k → k < place + 64 → slice_index_or self.now k false ≡ false }

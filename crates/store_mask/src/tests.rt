@@ -1,4 +1,5 @@
-//! Merging with no mark, with all, and with one alone at the edges of words and of the page.
+//! Merging with no mark, with all, and with one alone at the edges of words and of the page, and where words
+//! without a mark are found, so that they are passed over.
 
 use super::Mask;
 use std::process::Abort;
@@ -35,4 +36,17 @@ fn no_mark_and_all_marks(rt: HostRuntime) {
         mask.set(place);
     }
     compare(&rt, &mask, &[true; 4096]);
+}
+
+#[test]
+fn blank_words_are_found(rt: HostRuntime) {
+    let mut mask = Mask::new();
+    mask.set(63);
+    mask.set(128);
+    assert!(rt; !mask.begins_blank_word(0));
+    assert!(rt; mask.begins_blank_word(64));
+    assert!(rt; !mask.begins_blank_word(65));
+    assert!(rt; !mask.begins_blank_word(128));
+    assert!(rt; !mask.begins_blank_word(191));
+    assert!(rt; mask.begins_blank_word(4032));
 }

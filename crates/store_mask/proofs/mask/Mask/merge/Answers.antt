@@ -1,5 +1,5 @@
 -- Answers to the goals that the check leaves of `merge`.
-use Rattle.std.proofs.Common.{◌≡◌, ◌≤◌, ◌<◌, ◌+◌, ◌%◌, ℕ, true, take, length, arith, sym, ap, ◌∙◌}
+use Rattle.std.proofs.Common.{◌≡◌, ◌≤◌, ◌+◌, ◌%◌, take, arith, sym, ap, ◌∙◌}
 use Rattle.record_spec.proofs.Merging.{merged}
 use Rattle.store_mask.proofs.Picking.{merged-nil, merged-step, merged-all, merged-blank}
 use Rattle.store_mask.proofs.mask.Mask.merge.Goals as goal
