@@ -8,7 +8,7 @@ use Rattle.edit_spec.specs.Edit.{Edit, Set, Size, LineEdit}
 use Rattle.edit_spec.specs.Editing.{is_out_of_range, edited_once, edited}
 
 -- which way a choice of answers went
-chosen :
+pub chosen :
     {A : Type 0} (b : Bool) (x y z : A) → (if b then x else y) ≡ z → ((b ≡ true) × (x ≡ z)) ⊎ ((b ≡ false) × (y ≡ z))
 chosen true x y z e = inl (refl, e)
 chosen false x y z e = inr (refl, e)

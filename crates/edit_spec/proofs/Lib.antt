@@ -4,3 +4,4 @@ pub mod Saying
 pub mod Lengths
 pub mod Examples
 pub mod Deciding
+pub mod Bytes

@@ -5,7 +5,8 @@
 //! statement, and its body does nothing.
 #![tactic(auto)]
 
-ghost use Rattle.std.specs.Prelude.{ℕ, ◌≡◌, ◌≤◌, List, [], ◌∷◌, ◌++◌, length, map, Contains, Result};
+ghost use Rattle.std.specs.Prelude.{ℕ, ◌≡◌, ◌<◌, ◌≤◌, List, [], ◌∷◌, ◌++◌, length, map, Contains, Result};
+ghost use Rattle.std.specs.List.{AllByRecursion};
 ghost use Rattle.edit_spec.specs.Edit.{Edit, LineEdit};
 ghost use Rattle.edit_spec.specs.Grammar.{Spells, Says};
 ghost use Rattle.edit_spec.specs.Editing.{edited};
@@ -55,4 +56,13 @@ pub fn refused_line_is_there()
     ensures { (edits : List LineEdit) (input : List ℕ) (number : ℕ)
         → edited edits input ≡ Err number
         → Contains (map (λ e. e.line) edits) number }
+{}
+
+/// What the edits of a list make of bytes is bytes.
+pub fn edits_make_bytes_of_bytes()
+    ensures { (list input next : List ℕ) (edits : List LineEdit)
+        → Says list (Ok edits)
+        → edited edits input ≡ Ok next
+        → AllByRecursion (λ b. b < 256) input
+        → AllByRecursion (λ b. b < 256) next }
 {}
