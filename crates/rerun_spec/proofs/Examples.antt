@@ -4,12 +4,13 @@ use Rattle.std.specs.Prelude.{codes, decimal}
 use Rattle.std.specs.Fmt.{digits}
 use Rattle.machine_spec.specs.declared.states.End.TheVariants.{Exit, Deadlock, Spent}
 use Rattle.machine_spec.specs.Setup.{Setup}
+use Rattle.history_spec.specs.History.{History}
 use Rattle.edit_spec.specs.Edit.{Edit, Set, Size}
 use Rattle.edit_spec.specs.Grammar.{Spells, IsEdit, Says, SpellBytes, lines}
 use Rattle.edit_spec.proofs.Spelling.{digits-decimal, same_around_space, other_word}
 use Rattle.edit_spec.proofs.Examples.{five, zero_is_spelled}
-use Rattle.rerun_spec.specs.Inputs.{Makes, AreInputs, BadLine, OutOfRange, IsFirstRefused}
-use Rattle.rerun_spec.specs.Rounds.{with_input, left_by, round_on, rounds_of, IsRepeated}
+use Rattle.rerun_spec.specs.Inputs.{Makes, AreInputs, AreRerunInputs, BadLine, OutOfRange, IsFirstRefused}
+use Rattle.rerun_spec.specs.Rounds.{with_input, left_by, from_scratch, after_memo, round_on, after_round, rounds_after, after_rounds, last_left, IsRepeated}
 use Rattle.rerun_spec.specs.Reports.{shares_of_first, is_exit}
 use Rattle.edit_spec.proofs.Deciding.{no-byte-odd}
 
@@ -86,19 +87,61 @@ refused-first = inl (half_byte_is_bad, refl)
 -- Round 0 goes by nothing, and round 1 by what round 0 leaves.
 pub rounds-two :
     (s : Setup) (a b : List ℕ)
-    → rounds_of s (a ∷ b ∷ [])
+    → rounds_after (from_scratch s) (a ∷ b ∷ [])
     ≡ record { number = 0; setup = with_input s a; past = None }
-    ∷ record { number = 1; setup = with_input s b; past = Some (left_by (round_on 0 None s a)) }
+    ∷ record {
+      number = 1;
+      setup = with_input s b;
+      past = Some (left_by (record { number = 0; setup = with_input s a; past = None }));
+    }
     ∷ []
 rounds-two s a b = refl
+
+-- After a memo, round 1 goes by its history, and round 2 by what round 1 leaves.
+pub reruns-two :
+    (h : History) (a b : List ℕ)
+    → rounds_after (after_memo h) (a ∷ b ∷ [])
+    ≡ record { number = 1; setup = with_input h.setup a; past = Some h }
+    ∷ record {
+      number = 2;
+      setup = with_input h.setup b;
+      past = Some (left_by (record { number = 1; setup = with_input h.setup a; past = Some h }));
+    }
+    ∷ []
+reruns-two h a b = refl
+
+-- The last of them leaves what round 2 does; and with no round the memo's history is left.
+pub left-two :
+    (h : History) (a b : List ℕ)
+    → last_left (after_memo h) (a ∷ b ∷ [])
+    ≡ left_by (record {
+      number = 2;
+      setup = with_input h.setup b;
+      past = Some (left_by (record { number = 1; setup = with_input h.setup a; past = Some h }));
+    })
+left-two h a b = refl
+
+pub left-none : (h : History) → last_left (after_memo h) [] ≡ h
+left-none h = refl
+
+-- From scratch and with no round a history of no steps is left.
+pub left-scratch : (s : Setup) → last_left (from_scratch s) [] ≡ record { setup = s; records = [] }
+left-scratch s = refl
 
 -- The third round is without an edit, though the second isn't.
 pub repeated-third :
     (s : Setup) (a b : List ℕ)
-    → IsRepeated (rounds_of s (a ∷ b ∷ b ∷ []))
-    (round_on 1 (Some (left_by (round_on 0 None s a))) s b)
-    (round_on 2 (Some (left_by (round_on 1 (Some (left_by (round_on 0 None s a))) s b))) s b)
+    → IsRepeated (rounds_after (from_scratch s) (a ∷ b ∷ b ∷ []))
+    (round_on (after_round (from_scratch s) a) b)
+    (round_on (after_rounds (from_scratch s) (a ∷ b ∷ [])) b)
 repeated-third s a b = record { place = 1; one = refl; next = refl; same = refl }
+
+-- A rerun with a list is on what the list makes alone, and one without is on the input itself.
+pub rerun-emptied : AreRerunInputs five (codes "size 0" ∷ []) ([] ∷ [])
+rerun-emptied = (record { edits = record { line = 1; edit = Size 0 } ∷ []; said = empty_is_said; done = refl }, tt)
+
+pub rerun-unedited : AreRerunInputs five [] (five ∷ [])
+rerun-unedited = refl
 
 -- One worker of three makes all twelve steps.
 pub shares-three : shares_of_first 3 12 ≡ 12 ∷ 0 ∷ 0 ∷ []

@@ -1,13 +1,15 @@
--- The inputs are there, or a list is the first that is refused, and not both; each is as short as an input may be.
-use Rattle.std.proofs.Common.{◌≡◌, ◌≤◌, ◌<◌, ℕ, zero, suc, List, [], ◌∷◌, ◌++◌, slice_get, Some, length, Result, Ok, Err, ◌⊎◌, inl, inr, refl, ap, sym, ◌∙◌, subst, arith}
+-- The inputs are there, or a list is the first that is refused, and not both; each is as short as an input may be. So
+-- it is for the inputs of a rerun.
+use Rattle.std.proofs.Common.{◌≡◌, ◌≢◌, ◌≤◌, ◌<◌, ℕ, zero, suc, max, List, [], ◌∷◌, ◌++◌, slice_get, Some, length, Result, Ok, Err, ◌⊎◌, inl, inr, refl, ap, sym, ◌∙◌, subst, arith}
 use Rattle.std.proofs.lemmas.Option.{same_Some}
+use Rattle.std.proofs.lemmas.List.Elements.{All-from_recursion}
 use Rattle.std.specs.List.{AllByRecursion}
 use Rattle.edit_spec.specs.Edit.{LineEdit}
 use Rattle.edit_spec.specs.Grammar.{lines, Says}
 use Rattle.edit_spec.specs.Editing.{edited, longest_input}
 use Rattle.edit_spec.proofs.Saying.{one_thing}
 use Rattle.edit_spec.proofs.Lengths.{stays_short}
-use Rattle.rerun_spec.specs.Inputs.{Makes, AreMade, AreInputs, Refusal, BadLine, OutOfRange, Refuses, IsFirstRefused}
+use Rattle.rerun_spec.specs.Inputs.{Makes, AreMade, AreInputs, AreRerunInputs, AreShort, Refusal, BadLine, OutOfRange, Refuses, IsFirstRefused}
 use Rattle.edit_spec.proofs.Deciding.{lines-say}
 
 -- two answers of one list
@@ -198,6 +200,13 @@ inputs-short input lists [] short p = tt
 inputs-short input lists (x ∷ inputs) short p =
     (subst (λ (i : List ℕ). length i ≤ longest_input) (sym p.0) short, made-short lists input inputs short p.1)
 
+-- the same, as the laws of rounds ask for it
+pub inputs-are-short :
+    (input : List ℕ) (lists inputs : List (List ℕ))
+    → length input ≤ longest_input → AreInputs input lists inputs → AreShort inputs
+inputs-are-short input lists inputs short are =
+    All-from_recursion (λ i. length i ≤ longest_input) inputs (inputs-short input lists inputs short are)
+
 -- one list more
 made-more :
     (lists : List (List ℕ)) (input : List ℕ) (inputs : List (List ℕ)) (current list next : List ℕ)
@@ -240,3 +249,58 @@ inputs-refused input lists [] current list why later are last refuses = absurd a
 inputs-refused input lists (x ∷ inputs) current list why later are last refuses =
     refused-more lists input inputs current list why later are.1
     (subst (λ (i : List ℕ). slice_get (i ∷ inputs) (length lists) ≡ Some current) are.0 last) refuses
+
+-- without lists the first input is all
+pub only-input : (input : List ℕ) (inputs : List (List ℕ)) → AreInputs input [] inputs → inputs ≡ input ∷ []
+only-input input [] are = absurd are
+only-input input (x ∷ []) are = ap (λ (i : List ℕ). i ∷ []) are.0
+only-input input (x ∷ y ∷ inputs) are = absurd are.1
+
+-- the inputs of a rerun
+pub rerun-one :
+    (input : List ℕ) (lists a b : List (List ℕ)) → AreRerunInputs input lists a → AreRerunInputs input lists b → a ≡ b
+rerun-one input [] a b p q = p ∙ sym q
+rerun-one input (list ∷ lists) a b p q = made-one (list ∷ lists) input a b p q
+
+pub rerun-unrefused :
+    (input : List ℕ) (lists inputs : List (List ℕ)) (place : ℕ) (why : Refusal)
+    → AreRerunInputs input lists inputs → IsFirstRefused input lists place why → ⊥
+rerun-unrefused input [] inputs place why p q = q
+rerun-unrefused input (list ∷ lists) inputs place why p q = made-unrefused (list ∷ lists) input inputs place why p q
+
+pub rerun-or-refused :
+    (input : List ℕ) (lists : List (List ℕ))
+    → ((inputs : List (List ℕ)) × AreRerunInputs input lists inputs)
+    ⊎ ((place : ℕ) × (why : Refusal) × IsFirstRefused input lists place why)
+rerun-or-refused input [] = inl (input ∷ [], refl)
+rerun-or-refused input (list ∷ lists) = made-or-refused (list ∷ lists) input
+
+pub rerun-count :
+    (input : List ℕ) (lists inputs : List (List ℕ)) → AreRerunInputs input lists inputs
+    → length inputs ≡ max 1 (length lists)
+rerun-count input [] inputs p = ap (λ (is : List (List ℕ)). length is) p
+rerun-count input (list ∷ lists) inputs p = let count = made-count (list ∷ lists) input inputs p in omega arith
+
+pub rerun-short :
+    (input : List ℕ) (lists inputs : List (List ℕ))
+    → length input ≤ longest_input → AreRerunInputs input lists inputs
+    → AllByRecursion (λ i. length i ≤ longest_input) inputs
+rerun-short input [] inputs short p =
+    subst (λ (is : List (List ℕ)). AllByRecursion (λ i. length i ≤ longest_input) is) (sym p) (short, tt)
+rerun-short input (list ∷ lists) inputs short p = made-short (list ∷ lists) input inputs short p
+
+pub rerun-are-short :
+    (input : List ℕ) (lists inputs : List (List ℕ))
+    → length input ≤ longest_input → AreRerunInputs input lists inputs → AreShort inputs
+rerun-are-short input lists inputs short are =
+    All-from_recursion (λ i. length i ≤ longest_input) inputs (rerun-short input lists inputs short are)
+
+pub rerun-later :
+    (input start : List ℕ) (lists inputs : List (List ℕ))
+    → lists ≢ [] → AreInputs input lists (start ∷ inputs) → AreRerunInputs input lists inputs
+rerun-later input start [] inputs some are = absurd (some refl)
+rerun-later input start (list ∷ lists) inputs some are = are.1
+
+pub rerun-alone :
+    (input : List ℕ) (inputs : List (List ℕ)) → AreInputs input [] inputs → AreRerunInputs input [] inputs
+rerun-alone input inputs are = only-input input inputs are

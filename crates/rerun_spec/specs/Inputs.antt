@@ -1,8 +1,8 @@
 -- The inputs of the rounds that lists of edits ask for, or the first list that is refused.
-use Rattle.std.specs.Prelude.{ℕ, zero, suc, ◌≡◌, List, [], ◌∷◌, Ok, Err, ⊤}
+use Rattle.std.specs.Prelude.{ℕ, zero, suc, ◌≡◌, List, [], ◌∷◌, ◌≤◌, All, length, Ok, Err, ⊤}
 use Rattle.edit_spec.specs.Edit.{LineEdit}
 use Rattle.edit_spec.specs.Grammar.{Says}
-use Rattle.edit_spec.specs.Editing.{edited}
+use Rattle.edit_spec.specs.Editing.{edited, longest_input}
 
 -- The bytes of a list of edits make this of an input: they say edits, and these are done to it, all of them.
 pub record Makes (list input next : List ℕ) : Type 0 where
@@ -21,6 +21,16 @@ AreMade input (list ∷ lists) (next ∷ inputs) = Makes list input next × AreM
 abbrev pub AreInputs : List ℕ → List (List ℕ) → List (List ℕ) → Type 0
 AreInputs first lists [] = ⊥
 AreInputs first lists (input ∷ inputs) = (input ≡ first) × AreMade first lists inputs
+
+-- The inputs of the rounds of a rerun: what each list makes of the input before, or, where there is no list, the first
+-- input itself.
+abbrev pub AreRerunInputs : List ℕ → List (List ℕ) → List (List ℕ) → Type 0
+AreRerunInputs first [] inputs = inputs ≡ first ∷ []
+AreRerunInputs first (list ∷ lists) inputs = AreMade first (list ∷ lists) inputs
+
+-- Inputs of which each is as short as an input may be.
+abbrev pub AreShort : List (List ℕ) → Type 0
+AreShort inputs = All (λ i. length i ≤ longest_input) inputs
 
 -- Why a list of edits is refused, with the line's number: it spells no edit, or its edit passes its bound.
 pub data Refusal : Type 0 where

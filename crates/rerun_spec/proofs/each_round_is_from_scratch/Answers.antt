@@ -1,5 +1,5 @@
 -- Answers to the goals that the check leaves of `each_round_is_from_scratch`.
-use Rattle.std.specs.Prelude.{◌≡◌, true, is_some, length}
+use Rattle.std.proofs.Common.{◌≡◌, true, is_some, length, sym}
 use Rattle.machine_spec.specs.Setup.{first, scratch, is_permitted, is_complete, records}
 use Rattle.report_spec.specs.Report.{threads_of, instructions_from, report}
 use Rattle.round_spec.specs.Marks.{marked}
@@ -8,7 +8,7 @@ use Rattle.worker_spec.specs.OneWorker.{executed_in}
 use Rattle.rerun_spec.specs.Rounds.{Round, made, entries_of, machine_of}
 use Rattle.rerun_spec.proofs.Rounds.{each-holds, round-threads, round-permitted, round-complete, round-entries, round-marks, round-machine, round-records, round-ends, round-cost}
 use Rattle.rerun_spec.specs.Reports.{shares_of_first, report_of, is_exit, exits}
-use Rattle.rerun_spec.proofs.Reports.{report-made, exit-made}
+use Rattle.rerun_spec.proofs.Reports.{report-entries, exit-made}
 use Rattle.rerun_spec.proofs.each_round_is_from_scratch.Goals as goal
 
 pub returns-clause-permitted : goal.returns-clause-permitted
@@ -46,10 +46,10 @@ pub returns-clause-threads : goal.returns-clause-threads
 returns-clause-threads c = round-threads
 
 pub returns-clause-report : goal.returns-clause-report
-returns-clause-report c = λ setup lists inputs workers.
+returns-clause-report c = λ b inputs workers.
     each-holds (λ r. report_of workers r
     ≡ report r.number r.setup (made r).schedule (shares_of_first workers (length (made r).schedule)))
-    (report-made workers) setup lists inputs
+    (report-entries workers) b inputs
 
 pub returns-clause-exit : goal.returns-clause-exit
-returns-clause-exit c = each-holds (λ r. exits r ≡ is_exit (made r).machine.ending) exit-made
+returns-clause-exit c = each-holds (λ r. exits r ≡ is_exit (made r).machine.ending) (λ r is. sym (exit-made r is))

@@ -1,6 +1,6 @@
 -- Answers to the goals that the check leaves of `no_edit_list_is_one_round`.
 use Rattle.machine_spec.specs.Setup.{first}
-use Rattle.rerun_spec.proofs.Reports.{marks-nothing, only-report, only-exits}
+use Rattle.rerun_spec.proofs.Reports.{marks-nothing, only-report, only-exits, only-rerun, only-unedited}
 use Rattle.rerun_spec.proofs.no_edit_list_is_one_round.Goals as goal
 
 pub returns-clause-marks : goal.returns-clause-marks
@@ -11,3 +11,9 @@ returns-clause-reports c = only-report
 
 pub returns-clause-exits : goal.returns-clause-exits
 returns-clause-exits c = only-exits
+
+pub returns-clause-rerun : goal.returns-clause-rerun
+returns-clause-rerun c = only-rerun
+
+pub returns-clause-unedited : goal.returns-clause-unedited
+returns-clause-unedited c = only-unedited

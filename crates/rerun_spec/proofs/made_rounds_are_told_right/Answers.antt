@@ -1,0 +1,15 @@
+-- Answers to the goals that the check leaves of `made_rounds_are_told_right`.
+use Rattle.rerun_spec.proofs.Reports.{report-made, exit-made, reports-made, exits-made}
+use Rattle.rerun_spec.proofs.made_rounds_are_told_right.Goals as goal
+
+pub returns-clause-report : goal.returns-clause-report
+returns-clause-report c = λ r workers. report-made workers r
+
+pub returns-clause-exit : goal.returns-clause-exit
+returns-clause-exit c = exit-made
+
+pub returns-clause-reports : goal.returns-clause-reports
+returns-clause-reports c = reports-made
+
+pub returns-clause-exits : goal.returns-clause-exits
+returns-clause-exits c = exits-made
