@@ -1,0 +1,66 @@
+-- The smallest rounds that can be had, by which the definitions are tried: their starts are of bytes, and what they
+-- leave can be spelled.
+use Rattle.std.proofs.Common.{◌≡◌, ℕ, true, ltb, List, [], ◌∷◌, Some, None, refl, arith, ltb-true}
+use Rattle.std.proofs.lemmas.Bool.{and_parts}
+use Rattle.std.specs.List.{list_all}
+use Rattle.elf_spec.proofs.Examples.{hi_elf}
+use Rattle.machine_spec.specs.Setup.{Setup}
+use Rattle.history_spec.specs.History.{History}
+use Rattle.history_spec.proofs.Examples.{shortest, shortest-setup}
+use Rattle.round_spec.specs.Rounds.{history_of}
+use Rattle.round_spec.specs.Alone.{lone_round}
+use Rattle.memo_spec.specs.Spelling.{AreBytes, IsSpellable}
+use Rattle.round_memo_spec.specs.Spelled.{IsSpelledStart}
+use Rattle.round_memo_spec.proofs.Events.{lone-spelled, lone-next}
+
+tested-bytes : (bytes : List ℕ) → list_all (λ (b : ℕ). ltb b 256) bytes ≡ true → AreBytes bytes
+tested-bytes [] h = tt
+tested-bytes (b ∷ bytes) h =
+    let parts = and_parts (ltb b 256) (list_all (λ (x : ℕ). ltb x 256) bytes) h in
+    (ltb-true b 256 parts.0, tested-bytes bytes parts.1)
+
+hi-bytes : AreBytes hi_elf
+hi-bytes = tested-bytes hi_elf refl
+
+-- a round with no history to go by
+pub first-start : IsSpelledStart None shortest
+first-start =
+    record {
+      valid = shortest-setup;
+      elf_bytes = hi-bytes;
+      input_bytes = tt;
+      past = tt;
+    }
+
+-- what it leaves
+abbrev pub first-left : History
+first-left = history_of (lone_round shortest None)
+
+pub first-spelled : IsSpellable first-left
+first-spelled = lone-spelled shortest None first-start
+
+-- the same program on another input, by what the first round left
+abbrev pub longer : Setup
+longer = record { elf = hi_elf; input = 255 ∷ []; fuel = 1; limit = 1 }
+
+pub second-start : IsSpelledStart (Some first-left) longer
+second-start =
+    record {
+      valid =
+          record {
+            elf_size = shortest-setup.elf_size;
+            elf_accepted = shortest-setup.elf_accepted;
+            input_size = omega arith;
+            limits = shortest-setup.limits;
+          };
+      elf_bytes = hi-bytes;
+      input_bytes = (omega arith, tt);
+      past = lone-next shortest longer None first-start (record { elf = refl; fuel = refl; limit = refl });
+    }
+
+pub second-spelled : IsSpellable (history_of (lone_round longer (Some first-left)))
+second-spelled = lone-spelled longer (Some first-left) second-start
+
+-- a byte of 256 is no byte, so this input has no spelling
+pub no-bytes : AreBytes (256 ∷ []) → ⊥
+no-bytes all = let small = all.0 in omega arith
