@@ -1,0 +1,94 @@
+-- What is told behind the records.
+use Rattle.std.proofs.Common.{◌≡◌, ◌≢◌, ◌+◌, ◌<◌, ℕ, List, ◌++◌, length, drop, get_or, Result, Ok, Err, refl, sym, ap, ◌∙◌, arith, eq-eqb}
+use Rattle.std.proofs.lemmas.Bool.{ne_eqb}
+use Rattle.std.proofs.lemmas.List.{get_or-drop, drop_at}
+use Rattle.memory_spec.specs.Pages.{Mapped}
+use Rattle.record_spec.specs.Record.{Record}
+use Rattle.machine_spec.specs.Setup.{Setup, first, map_of}
+use Rattle.machine_spec.specs.Machine.{Machine}
+use Rattle.history_spec.specs.History.{History}
+use Rattle.ith_fields.specs.Place.{Place, Takes}
+use Rattle.memo_spec.specs.declared.Refusal.{Refusal}
+use Rattle.memo_spec.specs.declared.Refusal.TheVariants.{Field, Limit}
+use Rattle.memo_spec.specs.declared.Limit.TheVariants as limit
+use Rattle.std.specs.Int.{w32}
+use Rattle.memo_file.specs.Wholes.{uses_all}
+use Rattle.memo_spec.specs.Reader.{onward, done, number_at, ruled, limited}
+use Rattle.memo_spec.specs.Reading.{RecordState, is_within, setup_at, pool_and_records_at, incoherent_from, coherent_or, ended, history_at, taken_as}
+use Rattle.memo_spec.proofs.Formats.{ok_is}
+use Rattle.memo_file.specs.declared.error.ReadError.{ReadError}
+use Rattle.memo_file.specs.declared.error.ReadError.TheVariants as errors
+use Rattle.memo_file.specs.Gives.{Fails}
+
+abbrev Many : Type 0
+Many = List (List ℕ) × List Record × RecordState
+
+abbrev pub history : Setup → List Record → History
+history s rs = record { setup = s; records = rs }
+
+abbrev whole : Setup → List Record × Place → Result (History × Place) Refusal
+whole s y = Ok (history s y.0, y.1)
+
+-- The records that were read make a history of the setup.
+pub made_of : (s : Setup) (r : Result (Many × Place) Refusal) (rs : List Record) (q : Place)
+    → onward r (λ x. done x.1) ≡ Ok (rs, q) → onward r (λ x. done (history s x.1)) ≡ Ok (history s rs, q)
+made_of s (Ok x) rs q e = ap (whole s) (ok_is (x.0.1, x.1) (rs, q) e)
+made_of s (Err f) rs q e = absurd cc
+
+abbrev pub entries_at : ℕ → Place → Result (ℕ × Place) Refusal
+entries_at high p = limited (number_at w32) (is_within 1 high) (Limit limit.Entries) p
+
+pub history_taken : (p a b q : Place) (s : Setup) (high entries : ℕ) (rs : List Record) → setup_at p ≡ Ok (s, a)
+    → high ≡ s.limit → entries_at high a ≡ Ok (entries, b)
+    → onward (ruled (pool_and_records_at s entries) uses_all b) (λ x. done x.1) ≡ Ok (rs, q)
+    → history_at p ≡ Ok (history s rs, q)
+unfolding history_at
+history_taken p a b q s high entries rs setup steps count read =
+    let within : entries_at s.limit a ≡ Ok (entries, b) = ap (λ (n : ℕ). entries_at n a) (sym steps) ∙ count in
+    rw (setup, within) (made_of s (ruled (pool_and_records_at s entries) uses_all b) rs q read)
+
+abbrev pub starts : List ℕ → Place
+starts text = record { taken = 8; left = drop 8 text }
+
+ended_fails : (e : ReadError) (r : Result (History × Place) Refusal) → Fails e r → Fails e (ended r)
+ended_fails errors.NoMemory r h = tt
+ended_fails (errors.Refused why) r h = ap ended h
+
+pub history_fails : (e : ReadError) (text : List ℕ) → Fails e (history_at (starts text)) → Fails e (taken_as text)
+unfolding taken_as
+history_fails e text h = ended_fails e (history_at (starts text)) h
+
+pub bytes_left : (text : List ℕ) (h : History) (q : Place) → history_at (starts text) ≡ Ok (h, q) → length q.left ≢ 0
+    → taken_as text ≡ Err (Field q.taken)
+unfolding taken_as
+bytes_left text h q e ne = rw (e, ne_eqb _ _ ne) refl
+
+pub none_left : (text : List ℕ) (h : History) (q : Place) (m : Machine) → history_at (starts text) ≡ Ok (h, q)
+    → length q.left ≡ 0 → m ≡ first h.setup → taken_as text ≡ coherent_or (incoherent_from 0 m h.records) h
+unfolding taken_as
+none_left text h q m e none is = rw (e, eq-eqb _ _ none, is) refl
+
+pub coherence_fails : (e : ReadError) (text : List ℕ) (r : Result History Refusal) → taken_as text ≡ r → Fails e r
+    → Fails e (taken_as text)
+coherence_fails errors.NoMemory text r same h = tt
+coherence_fails (errors.Refused why) text r same h = same ∙ h
+
+pub are_bytes : (text : List ℕ) → ((i : ℕ) → get_or text i 0 < 256) → (i : ℕ) → get_or (drop 8 text) i 0 < 256
+are_bytes text h i = rw get_or-drop (h (8 + i))
+
+-- The page map of the machine that a setup starts as.
+pub map_is : (s : Setup) (m : Machine) (pages : List Mapped) → m ≡ first s → pages ≡ m.frame.map → pages ≡ map_of s
+unfolding first
+map_is s m pages e p = p ∙ ap (λ (n : Machine). n.frame.map) e
+
+abbrev place : ℕ → List ℕ → Place
+place n l = record { taken = n; left = l }
+
+-- A reader that took eight bytes.
+pub opened : (text piece : List ℕ) (old new : Place) → old ≡ record { taken = 0; left = text } → Takes piece old new
+    → length piece ≡ 8 → new ≡ record { taken = 8; left = drop 8 text }
+opened text piece old new e t len =
+    let front : text ≡ piece ++ new.left = sym (ap (λ (p : Place). p.left) e) ∙ t.front in
+    let left : new.left ≡ drop 8 text = sym (ap (drop 8) front ∙ drop_at piece new.left 8 len) in
+    let at : new.taken ≡ 8 = omega (arith, t.count, len, ap (λ (p : Place). p.taken) e) in
+    ap (λ (n : ℕ). place n new.left) at ∙ ap (place 8) left

@@ -1,0 +1,51 @@
+-- A record more.
+use Rattle.std.proofs.Common.{◌≡◌, ◌++◌, List, Some, sym, ap, subst, ◌∙◌}
+use Rattle.std.specs.Prelude.{slice_get}
+use Rattle.std.specs.Arc.{arc_value}
+use Rattle.record_spec.specs.Record.{Record}
+use Rattle.memo_spec.specs.Spelling.{record_bytes, pool_of}
+use Rattle.memo_file.specs.WritingPool.{pages_lent}
+use Rattle.memo_file.specs.WritingSizes.{HasFewPages}
+use Rattle.memo_file.proofs.WritingRecords.{one_written, placed_at, places_left}
+use Rattle.memo_file.proofs.WritingSizes.{few_in_record}
+use Rattle.memo_file.proofs.writing.body.write_records.Goals as goal
+
+pub write_record-requires-clause-few : goal.write_record-requires-clause-few
+write_record-requires-clause-few c =
+    let at : slice_get c.args.history.now.records c.loop-place.place ≡ Some (arc_value c.at-rec.result.now) =
+    ap (λ (rs : List Record). slice_get rs c.loop-place.place) (sym c.records-records.ensures) ∙ c.at-rec.ensures in
+    subst HasFewPages (sym c.deref.ensures)
+    (few_in_record c.args.history.now c.loop-place.place (arc_value c.at-rec.result.now) c.requires.spellable at)
+
+pub write_record-requires-clause-placed : goal.write_record-requires-clause-placed
+write_record-requires-clause-placed c =
+    let at : slice_get c.args.history.now.records c.loop-place.place ≡ Some (arc_value c.at-rec.result.now) =
+    ap (λ (rs : List Record). slice_get rs c.loop-place.place) (sym c.records-records.ensures) ∙ c.at-rec.ensures in
+    placed_at (pool_of c.args.history.now) (pages_lent c.args.pool.now.pages.items) c.args.pool.now.places.items
+    c.loop-place.start
+    c.args.history.now.records c.loop-place.place (arc_value c.at-rec.result.now) _ at
+    (ap (λ (r : Record). r.kept.reads) c.deref.ensures) c.requires.pool.pages c.loop-place.invariant.within
+    c.loop-place.invariant.places
+
+pub loop-place-preserved : goal.loop-place-preserved
+loop-place-preserved c =
+    let at : slice_get c.args.history.now.records c.loop-place.place ≡ Some (arc_value c.at-rec.result.now) =
+    ap (λ (rs : List Record). slice_get rs c.loop-place.place) (sym c.records-records.ensures) ∙ c.at-rec.ensures in
+    let same = c.pages.ensures.pages ∙ c.reads.ensures
+    ∙ ap (λ (r : Record). r.kept.reads) c.deref-in-loop-place.ensures in
+    let wrote = c.in_ok-write_record.ensures
+    ∙ ap (λ (r : Record). c.loop-place.out.items ++ record_bytes c.args.slots.now
+    (pages_lent c.args.pool.now.pages.items) r) c.deref.ensures in
+    let left = places_left (pool_of c.args.history.now) c.args.pool.now.places.items c.loop-place.start
+    c.args.history.now.records c.loop-place.place
+    (arc_value c.at-rec.result.now) c.pages.result.now at same c.loop-place.invariant.within
+    c.loop-place.invariant.places in
+    record {
+      so_far =
+          one_written (record_bytes c.args.slots.now (pages_lent c.args.pool.now.pages.items))
+          c.args.history.now.records c.loop-place.place
+          (arc_value c.at-rec.result.now) c.loop-place.out.items c.write_record.new.out.items _ at wrote
+          c.loop-place.invariant.so_far;
+      places = left.0;
+      within = left.1;
+    }

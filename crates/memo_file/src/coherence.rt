@@ -1,0 +1,33 @@
+//! Whether the records of a history hold together.
+
+ghost use Rattle.std.specs.Prelude.{◌≡◌, ◌≤◌, length};
+ghost use Rattle.memo_spec.specs.Reading.{incoherent_from, coherent_or};
+ghost use Rattle.memo_file.specs.Gives.{Gives};
+
+use crate::error::ReadError;
+use memo_spec::Refusal;
+use release_core::{ApplyError, Core, History};
+
+/// Lays the records of a history one after the other, from a machine on: each has to fit what those before it leave,
+/// and the last one alone has to bring the end.
+pub fn hold_together(mut core: Core, history: &History) -> Result<(), ReadError>
+    ensures { Gives (λ _. history.now) result
+        (coherent_or (incoherent_from 0 core history.now.records) history.now) }
+{
+    let records = history.records();
+    records.keeps();
+    for i in 0..records.len() {
+        match core.apply(records.at(i)) {
+            Ok(()) => {}
+            Err(ApplyError::Stale) => {
+                return Err(ReadError::Refused(Refusal::Incoherent(i as u32)));
+            }
+            Err(ApplyError::NoMemory) => return Err(ReadError::NoMemory),
+        }
+    }
+    if core.ended().is_some() {
+        Ok(())
+    } else {
+        Err(ReadError::Refused(Refusal::Incoherent(records.len() as u32)))
+    }
+}

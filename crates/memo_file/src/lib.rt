@@ -1,0 +1,21 @@
+//! Memo files: a history that bytes spell is read from them, and its bytes are written.
+#![tactic(auto)]
+
+mod coherence;
+mod error;
+mod fields;
+mod growth;
+mod pages;
+mod pool;
+mod reading;
+mod records;
+mod setup;
+mod stored;
+mod writing;
+
+pub use error::ReadError;
+pub use reading::read;
+pub use writing::{WriteError, write};
+
+#[cfg(test)]
+mod tests;

@@ -1,0 +1,99 @@
+//! The read pages of a record.
+
+ghost use Rattle.std.specs.Prelude.{◌≡◌, ◌<◌, ◌^◌, true, suc, length, map, All, IfSome, IfNone, IfOk};
+ghost use Rattle.std.specs.Arc.{arc_value};
+ghost use Rattle.record_spec.specs.Ascending.{reads_ascend};
+ghost use Rattle.memo_spec.specs.Reader.{chain};
+ghost use Rattle.memo_spec.specs.Reading.{slot_of_number, slot_at, read_page_at};
+ghost use Rattle.memo_file.specs.Gives.{Gives};
+
+use crate::error::ReadError;
+use crate::fields::word;
+use crate::growth::Sources;
+use ith_fields::Cursor;
+use memo_spec::Refusal;
+use page_map::{PageMap, Slot};
+use std::alloc::Global;
+use std::sync::Arc;
+use store_mask::ReadPage;
+
+/// The slot of the page of a number.
+#[tactic(auto, using(crate::proofs::Slots::slot_of_is, crate::proofs::Slots::far))]
+fn slot_of_page(slots: &PageMap, number: u32) -> Option<Slot>
+    requires small { All (λ m. m.number < 2 ^ 20) slots.now }
+    ensures found { IfSome result (λ slot. (slot ≡ slot_of_number slots.now number) × (slot < length slots.now)) }
+    ensures missing { IfNone result (slot_of_number slots.now number ≡ length slots.now) }
+{
+    if number < 1 << 20 {
+        slots.slot_of(number * 4096)
+    } else {
+        None
+    }
+}
+
+/// A page number, from a slot on.
+#[tactic(auto, unfolding(memo_spec::specs::Reading::slot_at))]
+pub fn slot(cursor: &mut Cursor, slots: &PageMap, low: usize) -> Result<Slot, ReadError>
+    requires small { All (λ m. m.number < 2 ^ 20) slots.now }
+    ensures mapped { IfOk result (λ s. s < length slots.now) }
+    ensures given { Gives (λ s. (s, cursor.new)) result (slot_at slots.now low cursor.old) }
+{
+    let at = cursor.position();
+    let number = word(cursor)?;
+    match slot_of_page(slots, number) {
+        Some(slot) if low <= slot => Ok(slot),
+        _ => Err(ReadError::Refused(Refusal::Field(at))),
+    }
+}
+
+/// A read page, and how many pages of the pool are used after it.
+#[tactic(auto, unfolding(memo_spec::specs::Reading::read_page_at))]
+fn read_page(
+    cursor: &mut Cursor,
+    sources: &Sources,
+    low: usize,
+    used: usize,
+) -> Result<(ReadPage, usize), ReadError>
+    requires small { All (λ m. m.number < 2 ^ 20) sources.now.slots.now }
+    ensures mapped { IfOk result (λ x. x.0.slot < length sources.now.slots.now) }
+    ensures given { Gives (λ x. ((x.0, record { low = suc x.0.slot; used = x.1 }), cursor.new)) result
+        (read_page_at sources.now.slots.now (map arc_value sources.now.pool.now)
+        (record { low = low; used = used }) cursor.old) }
+{
+    let slot = slot(cursor, sources.slots, low)?;
+    let at = cursor.position();
+    let index = word(cursor)? as usize;
+    if used < index || sources.pool.len() <= index {
+        return Err(ReadError::Refused(Refusal::Field(at)));
+    }
+    let page = Arc::try_clone(&sources.pool[index])?;
+    let used = if index == used { used + 1 } else { used };
+    Ok((ReadPage::new(slot, page), used))
+}
+
+/// So many read pages; the least slot of a next one, and how many pages of the pool are used after them.
+pub fn read_pages(
+    alloc: Global,
+    cursor: &mut Cursor,
+    sources: &Sources,
+    count: u16,
+    used: usize,
+) -> Result<(Vec<ReadPage>, usize, usize), ReadError>
+    requires small { All (λ m. m.number < 2 ^ 20) sources.now.slots.now }
+    ensures ascend { IfOk result (λ x. reads_ascend 0 x.0.items ≡ true) }
+    ensures given { Gives (λ x. ((x.0.items, record { low = x.1; used = x.2 }), cursor.new)) result
+        (chain (read_page_at sources.now.slots.now (map arc_value sources.now.pool.now)) count
+        (record { low = 0; used = used }) cursor.old) }
+{
+    let _size = sources.slots.len();
+    let mut pages = Vec::new(alloc);
+    let mut low = 0;
+    let mut used = used;
+    for _ in 0..count {
+        let (page, now) = read_page(cursor, sources, low, used)?;
+        low = page.slot() + 1;
+        used = now;
+        pages.push(page)?;
+    }
+    Ok((pages, low, used))
+}

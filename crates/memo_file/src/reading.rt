@@ -1,0 +1,147 @@
+//! A memo is read.
+
+ghost use Rattle.std.specs.Prelude.{◌≡◌, ◌<◌, ◌≤◌, ◌^◌, ℕ, true, length, drop, slice_index, All, IfOk, IfErr};
+ghost use Rattle.history_spec.specs.History.{History as Kept, is_coherent};
+ghost use Rattle.machine_spec.specs.Setup.{first, map_of};
+ghost use Rattle.memo_spec.specs.Spelling.{Spells};
+ghost use Rattle.memo_spec.specs.Reader.{onward, done, ruled};
+ghost use Rattle.memo_spec.specs.Reading.{history_at, pool_and_records_at, taken_as, reading};
+ghost use Rattle.memo_file.specs.Gives.{Fails, Gives, IsReadAs};
+ghost use Rattle.memo_file.specs.Wholes.{uses_all};
+
+use crate::coherence::hold_together;
+use crate::error::ReadError;
+use crate::fields::{limited, word};
+use crate::growth::Sources;
+use crate::pool::read_pool;
+use crate::records::read_records;
+use crate::setup::read_setup;
+use byteorder::{ByteOrder, LittleEndian};
+use ith_fields::Cursor;
+use machine_spec::MOST_STEPS;
+use memo_spec::{Limit, Refusal};
+use page_map::PageMap;
+use release_core::{Core, History, Records, Setup};
+use sha2::{Digest, Sha256};
+use std::alloc::Global;
+
+/// The records of a memo of this setup, so many, behind their pool, of which they use each page.
+#[tactic(auto, unfolding(memo_spec::specs::Reading::pool_and_records_at))]
+fn pool_and_records(
+    alloc: Global,
+    cursor: &mut Cursor,
+    setup: &Setup,
+    slots: &PageMap,
+    entries: u32,
+) -> Result<Records, ReadError>
+    requires slots { slots.now ≡ map_of setup.now }
+    requires small { All (λ m. m.number < 2 ^ 20) slots.now }
+    requires few { entries ≤ MOST_STEPS }
+    ensures { Gives (λ rs. (rs, cursor.new)) result
+        (onward (ruled (pool_and_records_at setup.now entries) uses_all cursor.old) (λ x. done x.1)) }
+{
+    let at = cursor.position();
+    let count = word(cursor)?;
+    let pool = read_pool(alloc, cursor, count)?;
+    let sources = Sources {
+        slots,
+        fuel: setup.limits().fuel(),
+        pool: pool.as_slice(),
+    };
+    let read = read_records(alloc, cursor, &sources, entries)?;
+    if read.used() == pool.len() {
+        Ok(read.into_records())
+    } else {
+        Err(ReadError::Refused(Refusal::Field(at)))
+    }
+}
+
+/// A history from a place on, and the machine that it starts as.
+#[tactic(auto, unfolding(memo_spec::specs::Reading::history_at))]
+fn read_history(alloc: Global, cursor: &mut Cursor) -> Result<(History, Core), ReadError>
+    requires bytes { (i : ℕ) → slice_index cursor.old.left i < 256 }
+    ensures core { IfOk result (λ x. x.1 ≡ first x.0.setup) }
+    ensures given { Gives (λ x. (x.0, cursor.new)) result (history_at cursor.old) }
+{
+    let setup = read_setup(alloc, cursor)?;
+    setup.sound();
+    let entries = limited(cursor, 1, setup.limits().steps(), Limit::Entries)?;
+    let core = Core::new(alloc, &setup)?;
+    let records = pool_and_records(alloc, cursor, &setup, core.frame().map(), entries)?;
+    Ok((History::new(setup, records), core))
+}
+
+/// A reader behind the magic number and the version.
+fn behind_opening<'a>(text: &'a [u8]) -> Cursor<'a>
+    requires { 8 ≤ length text.now }
+    ensures { result ≡ record { taken = 8; left = drop 8 text.now } }
+{
+    let mut cursor = Cursor::new(text);
+    match cursor.bytes(8) {
+        Ok(_) => cursor,
+        Err(_) => unreachable!(),
+    }
+}
+
+/// What all bytes but the digest are taken as.
+#[tactic(auto, unfolding(memo_spec::specs::Reading::taken_as))]
+fn read_text(alloc: Global, text: &[u8]) -> Result<History, ReadError>
+    requires { 8 ≤ length text.now }
+    ensures { Gives (λ h. h) result (taken_as text.now) }
+{
+    let mut cursor = behind_opening(text);
+    let (history, core) = read_history(alloc, &mut cursor)?;
+    if cursor.remaining() != 0 {
+        return Err(ReadError::Refused(Refusal::Field(cursor.position())));
+    }
+    hold_together(core, &history)?;
+    Ok(history)
+}
+
+/// All bytes but the digest, where the digest is theirs, behind the magic number and the version.
+#[tactic(auto, unfolding(memo_spec::specs::Reading::reading))]
+fn open(bytes: &[u8]) -> Result<&[u8], ReadError>
+    ensures size { IfOk result (λ text. 8 ≤ length text.now) }
+    ensures taken { IfOk result (λ text. reading bytes.now ≡ taken_as text.now) }
+    ensures refused { IfErr result (λ e. Fails e (reading bytes.now)) }
+{
+    if bytes.len() < 40 {
+        return Err(ReadError::Refused(Refusal::Short));
+    }
+    if &bytes[..4] != b"ITHM".as_slice() {
+        return Err(ReadError::Refused(Refusal::Magic));
+    }
+    let version = LittleEndian::read_u32(&bytes[4..]);
+    if version != 1 {
+        return Err(ReadError::Refused(Refusal::Version(version)));
+    }
+    let (text, digest) = bytes.split_at(bytes.len() - 32);
+    if digest != Sha256::digest(text).as_slice() {
+        return Err(ReadError::Refused(Refusal::Digest));
+    }
+    Ok(text)
+}
+
+/// What bytes are taken as.
+fn all(alloc: Global, bytes: &[u8]) -> Result<History, ReadError>
+    ensures { Gives (λ h. h) result (reading bytes.now) }
+{
+    let text = open(bytes)?;
+    read_text(alloc, text)
+}
+
+/// The history that the bytes of a memo spell, which holds together.
+///
+/// # Errors
+///
+/// `Refused` with the first reason not to take the bytes, exactly where there is one, or `NoMemory` where the
+/// host's memory ran out.
+pub fn read(alloc: Global, bytes: &[u8]) -> Result<History, ReadError>
+    ensures spelled { IfOk result (λ h. Spells bytes.now h × (is_coherent h ≡ true)) }
+    ensures refused { IfErr result (λ e. Fails e (reading bytes.now)) }
+    ensures accepts { (h : Kept) → Spells bytes.now h → is_coherent h ≡ true → IsReadAs h result }
+{
+    memo_spec::taken_is_spelled(bytes);
+    memo_spec::spelled_is_taken();
+    all(alloc, bytes)
+}

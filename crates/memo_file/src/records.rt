@@ -1,0 +1,108 @@
+//! The records of a memo.
+
+ghost use Rattle.std.specs.Prelude.{◌≡◌, ◌<◌, ◌≤◌, ◌^◌, ◌==◌, ◌++◌, ◌∷◌, [], map, All, IfOk};
+ghost use Rattle.std.specs.List.{count_by};
+ghost use Rattle.std.specs.Arc.{arc_value};
+ghost use Rattle.history_spec.specs.History.{threads_of_records};
+ghost use Rattle.memo_spec.specs.Reader.{chain};
+ghost use Rattle.memo_spec.specs.Reading.{end_of, record_at};
+ghost use Rattle.memo_file.specs.Gives.{Gives};
+ghost use Rattle.memo_file.specs.Growth.{state_of};
+
+use crate::error::ReadError;
+use crate::fields::{byte_below, half, registers, word_within};
+use crate::growth::{Growing, Sources};
+use crate::pages::read_pages;
+use crate::stored::stored_pages;
+use guest_call::THREADS;
+use isa_spec::Cause;
+use ith_fields::Cursor;
+use machine_spec::MOST_STEPS;
+use std::alloc::Global;
+use store_mask::{Delta, Reads};
+use thunk_record::{Kept, Record};
+use thunk_spec::ThunkEnd;
+
+/// The end of a number.
+fn end(number: u8) -> ThunkEnd
+    requires { number < 10 }
+    ensures { result ≡ end_of number }
+{
+    match number {
+        0 => ThunkEnd::Trap(Cause::InstructionMisaligned),
+        1 => ThunkEnd::Trap(Cause::InstructionAccess),
+        2 => ThunkEnd::Trap(Cause::IllegalInstruction),
+        3 => ThunkEnd::Trap(Cause::Breakpoint),
+        4 => ThunkEnd::Trap(Cause::LoadMisaligned),
+        5 => ThunkEnd::Trap(Cause::LoadAccess),
+        6 => ThunkEnd::Trap(Cause::StoreMisaligned),
+        7 => ThunkEnd::Trap(Cause::StoreAccess),
+        8 => ThunkEnd::Call,
+        _ => ThunkEnd::Fuel,
+    }
+}
+
+/// The record behind others, and how many pages of the pool are used after it.
+#[tactic(auto, unfolding(memo_spec::specs::Reading::record_at))]
+fn record(
+    alloc: Global,
+    cursor: &mut Cursor,
+    sources: &Sources,
+    before: &Growing,
+) -> Result<(Record, usize), ReadError>
+    requires small { All (λ m. m.number < 2 ^ 20) sources.now.slots.now }
+    ensures thread { IfOk result (λ x. x.0.thread < THREADS) }
+    ensures number { IfOk result (λ x. x.0.number
+        ≡ count_by (λ t. t == x.0.thread) (threads_of_records before.now.records)) }
+    ensures given { Gives
+        (λ x. (
+          (
+            x.0,
+            record { earlier = threads_of_records before.now.records ++ x.0.thread ∷ []; used = x.1 },
+          ),
+          cursor.new,
+        ))
+        result
+        (record_at sources.now.slots.now sources.now.fuel (map arc_value sources.now.pool.now)
+        (state_of before.now) cursor.old) }
+{
+    let thread = byte_below(cursor, THREADS as u8)?;
+    let number = byte_below(cursor, 10)?;
+    let count = word_within(cursor, 1, sources.fuel)?;
+    let start = registers(cursor)?;
+    let finish = registers(cursor)?;
+    let read_count = half(cursor)?;
+    let (reads, _low, used) = read_pages(alloc, cursor, sources, read_count, before.used())?;
+    let delta_count = half(cursor)?;
+    let (delta, _low) = stored_pages(alloc, cursor, sources.slots, delta_count)?;
+    let kept = Kept {
+        reads: Reads::new(reads),
+        delta: Delta::new(delta),
+        finish,
+        end: end(number),
+        count,
+    };
+    let made = Record::new(thread, before.next_number(thread), start, kept);
+    Ok((made, used))
+}
+
+/// So many records, in order.
+pub fn read_records(
+    alloc: Global,
+    cursor: &mut Cursor,
+    sources: &Sources,
+    entries: u32,
+) -> Result<Growing, ReadError>
+    requires small { All (λ m. m.number < 2 ^ 20) sources.now.slots.now }
+    requires few { entries ≤ MOST_STEPS }
+    ensures { Gives (λ g. ((g.records, state_of g), cursor.new)) result
+        (chain (record_at sources.now.slots.now sources.now.fuel (map arc_value sources.now.pool.now)) entries
+        (record { earlier = []; used = 0 }) cursor.old) }
+{
+    let mut growing = Growing::new(alloc);
+    for _ in 0..entries {
+        let (made, used) = record(alloc, cursor, sources, &growing)?;
+        growing.push(alloc, made, used)?;
+    }
+    Ok(growing)
+}

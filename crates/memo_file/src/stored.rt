@@ -1,0 +1,155 @@
+//! The stored pages of a record.
+
+ghost use Rattle.std.specs.Prelude.{◌≡◌, ◌==◌, ◌+◌, ◌*◌, ◌<◌, ◌≤◌, ◌^◌, true, not, suc, length, All, IfOk};
+ghost use Rattle.std.specs.List.{count_by, list_any};
+ghost use Rattle.memory_spec.specs.Workspace.{no_marks};
+ghost use Rattle.record_spec.specs.Delta.{chosen, is_stored};
+ghost use Rattle.record_spec.specs.Ascending.{deltas_ascend};
+ghost use Rattle.memo_spec.specs.Reader.{chain};
+ghost use Rattle.memo_spec.specs.Reading.{marks_of, mask_at, stored_page_at};
+ghost use Rattle.memo_file.specs.Filling.{Filled};
+ghost use Rattle.memo_file.specs.Gives.{Gives};
+
+use crate::error::ReadError;
+use crate::fields::run;
+use crate::pages::slot;
+use ith_fields::Cursor;
+use memo_spec::Refusal;
+use memory_spec::PAGE_SIZE;
+use page_map::PageMap;
+use page_store::Page;
+use std::alloc::Global;
+use store_mask::{Mask, PageDelta, StoredPage};
+
+/// How many bytes hold the marks of a page.
+const MARK_BYTES: usize = PAGE_SIZE / 8;
+
+/// How many places are marked.
+fn count_marks(marks: &[u8]) -> usize
+    requires { length marks.now ≡ MARK_BYTES }
+    ensures { result ≡ count_by (λ mark. mark) (marks_of marks.now) }
+{
+    let mut count = 0;
+    for byte in marks {
+        count += byte.count_ones() as usize;
+    }
+    count
+}
+
+/// Writes bytes, in order, at the marked ones of the eight places of a byte of marks, and marks these. The first byte
+/// that wasn't written follows.
+fn fill_eight(
+    stored: &mut StoredPage,
+    marks: &[u8],
+    group: usize,
+    bytes: &[u8],
+    first: usize,
+) -> usize
+    requires size { length marks.now ≡ MARK_BYTES }
+    requires group { group < MARK_BYTES }
+    requires count { length bytes.now ≡ count_by (λ mark. mark) (marks_of marks.now) }
+    requires filled { Filled (marks_of marks.now) bytes.now (8 * group) stored.old.mask stored.old.page first }
+    ensures { Filled (marks_of marks.now) bytes.now (8 * group + 8) stored.new.mask stored.new.page result }
+{
+    let byte = marks[group];
+    let mut next = first;
+    for bit in 0..8 {
+        if (byte >> bit) & 1 == 1 {
+            let place = 8 * group + bit;
+            stored.mask.set(place);
+            stored.page.set(place, bytes[next]);
+            next += 1;
+        }
+    }
+    next
+}
+
+/// Writes bytes, in order, at the places that are marked, and marks these. Eight places without a mark, as most are,
+/// are passed over at once.
+fn fill(stored: &mut StoredPage, marks: &[u8], bytes: &[u8])
+    requires blank { stored.old.mask ≡ no_marks }
+    requires size { length marks.now ≡ MARK_BYTES }
+    requires some { list_any (λ byte. not (byte == 0)) marks.now ≡ true }
+    requires count { length bytes.now ≡ count_by (λ mark. mark) (marks_of marks.now) }
+    ensures some { is_stored stored.new.mask ≡ true }
+    ensures mask { stored.new.mask ≡ marks_of marks.now }
+    ensures bytes { chosen (marks_of marks.now) stored.new.page ≡ bytes.now }
+{
+    let _page = stored.page.bytes();
+    let mut next = 0;
+    for group in 0..MARK_BYTES {
+        if marks[group] != 0 {
+            next = fill_eight(stored, marks, group, bytes, next);
+        }
+    }
+}
+
+/// Whether any place is marked.
+fn has_mark(marks: &[u8]) -> bool
+    ensures { result ≡ list_any (λ byte. not (byte == 0)) marks.now }
+{
+    marks.iter().any(|byte| *byte != 0)
+}
+
+/// The marks of a stored page. None at all is against the rule.
+#[tactic(auto, unfolding(memo_spec::specs::Reading::mask_at))]
+fn marks<'a>(cursor: &mut Cursor<'a>) -> Result<&'a [u8], ReadError>
+    ensures size { IfOk result (λ marks. length marks.now ≡ MARK_BYTES) }
+    ensures some { IfOk result (λ marks. list_any (λ byte. not (byte == 0)) marks.now ≡ true) }
+    ensures given { Gives (λ marks. (marks_of marks.now, cursor.new)) result (mask_at cursor.old) }
+{
+    let at = cursor.position();
+    let marks = run(cursor, MARK_BYTES)?;
+    if has_mark(marks) {
+        Ok(marks)
+    } else {
+        Err(ReadError::Refused(Refusal::Field(at)))
+    }
+}
+
+/// A stored page, from a slot on.
+#[tactic(auto, unfolding(memo_spec::specs::Reading::stored_page_at))]
+fn stored_page(
+    alloc: Global,
+    cursor: &mut Cursor,
+    slots: &PageMap,
+    low: usize,
+) -> Result<PageDelta, ReadError>
+    requires small { All (λ m. m.number < 2 ^ 20) slots.now }
+    ensures mapped { IfOk result (λ d. d.slot < length slots.now) }
+    ensures given { Gives (λ d. ((d, suc d.slot), cursor.new)) result (stored_page_at slots.now low cursor.old) }
+{
+    let slot = slot(cursor, slots, low)?;
+    let marks = marks(cursor)?;
+    let bytes = run(cursor, count_marks(marks))?;
+    let blank = StoredPage {
+        page: Page::zero(),
+        mask: Mask::new(),
+    };
+    let mut stored = Box::new(alloc, blank)?;
+    fill(&mut stored, marks, bytes);
+    Ok(PageDelta::new(slot, stored))
+}
+
+/// So many stored pages, whose slots ascend, and the least slot of a next one.
+pub fn stored_pages(
+    alloc: Global,
+    cursor: &mut Cursor,
+    slots: &PageMap,
+    count: u16,
+) -> Result<(Vec<PageDelta>, usize), ReadError>
+    requires small { All (λ m. m.number < 2 ^ 20) slots.now }
+    ensures ascend { IfOk result (λ x. deltas_ascend 0 x.0.items ≡ true) }
+    ensures given { Gives (λ x. ((x.0.items, x.1), cursor.new)) result
+        (chain (stored_page_at slots.now) count 0 cursor.old) }
+{
+    let _size = slots.len();
+    let mut pages = Vec::new(alloc);
+    let mut low = 0;
+    for _ in 0..count {
+        let page = stored_page(alloc, cursor, slots, low)?;
+        low = page.slot() + 1;
+        pages.push(page)?;
+    }
+    Ok((pages, low))
+}

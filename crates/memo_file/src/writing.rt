@@ -1,0 +1,94 @@
+//! Writing a memo: its length first, then its bytes.
+
+ghost use Rattle.std.specs.Prelude.{◌≡◌, ◌≤◌, length, IfOk, IfErr};
+ghost use Rattle.machine_spec.specs.Setup.{map_of};
+ghost use Rattle.memo_spec.specs.Spelling.{IsSpellable, memo};
+ghost use Rattle.memo_file.specs.declared.writing.WriteError.TheVariants.{NoMemory};
+ghost use Rattle.memo_file.specs.WritingErrors.{IsTooLongFor};
+ghost use Rattle.memo_file.specs.WritingPool.{pages_lent, IsPoolOf};
+
+mod body;
+mod numbers;
+mod pool;
+mod record;
+mod sizes;
+mod slots;
+mod stored;
+
+use body::write_body;
+use memo_spec::MOST_MEMO_BYTES;
+use page_map::PageMap;
+use pool::{Pool, pool_of_history};
+use release_core::History;
+use sha2::{Digest, Sha256};
+use sizes::size_of_memo;
+use slots::slots_of;
+use std::alloc::{AllocError, AllocFailed, Global};
+
+/// Why a memo was not written.
+#[derive(Clone, Copy, Debug, PartialEq, Eq)]
+pub enum WriteError {
+    /// The memo would have this many bytes, more than a memo may have.
+    TooLong(u64),
+    /// The host's memory ran out.
+    NoMemory,
+}
+
+impl From<AllocError> for WriteError {
+    ghost from_gives = { λ _ e. e ≡ NoMemory };
+
+    fn from(_e: AllocError) -> WriteError {
+        WriteError::NoMemory
+    }
+}
+
+impl<T: Drop> From<AllocFailed<T>> for WriteError {
+    ghost from_gives = { λ _ e. e ≡ NoMemory };
+
+    fn from(_e: AllocFailed<T>) -> WriteError {
+        WriteError::NoMemory
+    }
+}
+
+/// The memo of a history with this pool: the digest stands behind the rest.
+fn write_all(
+    alloc: Global,
+    slots: &PageMap,
+    pool: &Pool,
+    history: &History,
+    size: usize,
+) -> Result<Vec<u8>, AllocError>
+    requires spellable { IsSpellable history.now }
+    requires slots { slots.now ≡ map_of history.now.setup }
+    requires pool { IsPoolOf history.now (pages_lent pool.now.pages.items) pool.now.places.items }
+    ensures { IfOk result (λ bytes. bytes.items ≡ memo history.now) }
+{
+    let mut out = Vec::with_capacity(alloc, size)?;
+    write_body(&mut out, slots, pool, history)?;
+    let digest = Sha256::digest(out.as_slice());
+    out.extend_from_slice(&digest)?;
+    Ok(out)
+}
+
+/// The memo of a history. Its length is found before anything is written.
+///
+/// # Errors
+///
+/// `TooLong` with the memo's length exactly where that is more than a memo may have and memory is ample, else
+/// `NoMemory` where the host's memory ran out.
+pub fn write(alloc: Global, history: &History) -> Result<Vec<u8>, WriteError>
+    requires { IsSpellable history.now }
+    ensures written { IfOk result (λ bytes. bytes.items ≡ memo history.now) }
+    ensures within { IfOk result (λ bytes. length bytes.items ≤ MOST_MEMO_BYTES) }
+    ensures too_long { IfErr result (λ e. IsTooLongFor (length (memo history.now)) e) }
+    ensures fits { length (memo history.now) ≤ MOST_MEMO_BYTES → IfErr result (λ e. e ≡ NoMemory) }
+{
+    let slots = slots_of(alloc, history.setup())?;
+    let pool = pool_of_history(alloc, history, slots.len())?;
+    let size = size_of_memo(history, pool.pages.len());
+    if size > MOST_MEMO_BYTES as u64 {
+        return Err(WriteError::TooLong(size));
+    }
+    let bytes = write_all(alloc, &slots, &pool, history, size as usize)?;
+    Ok(bytes)
+}

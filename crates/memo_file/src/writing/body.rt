@@ -1,0 +1,102 @@
+//! The bytes of a memo from the first one on, without the digest.
+
+ghost use Rattle.std.specs.Prelude.{◌≡◌, ◌<◌, ◌≤◌, ◌+◌, ◌++◌, [], ◌^◌, length, OnOk};
+ghost use Rattle.std.specs.List.{flat_map, concat};
+ghost use Rattle.machine_spec.specs.Setup.{map_of};
+ghost use Rattle.memo_spec.specs.Spelling.{IsSpellable, word, magic, version, record_bytes, body};
+ghost use Rattle.memo_file.specs.WritingPool.{pages_lent, IsPoolOf};
+
+use super::numbers::put_word;
+use super::pool::Pool;
+use super::record::write_record;
+use page_map::PageMap;
+use release_core::{History, Setup};
+use std::alloc::AllocError;
+
+/// The first four bytes of a memo: ITHM.
+const MAGIC: [u8; 4] = [0x49, 0x54, 0x48, 0x4d];
+
+/// The version of the format.
+const VERSION: u32 = 1;
+
+/// Appends bytes behind their number.
+fn write_sized(out: &mut Vec<u8>, bytes: &[u8]) -> Result<(), AllocError>
+    requires { length bytes.now < 2 ^ 32 }
+    ensures { OnOk result (out.new.items ≡ out.old.items ++ word (length bytes.now) ++ bytes.now) }
+{
+    put_word(out, bytes.len() as u32)?;
+    out.extend_from_slice(bytes)
+}
+
+/// Appends all before the number of records.
+fn write_setup(out: &mut Vec<u8>, setup: &Setup) -> Result<(), AllocError>
+    ensures { OnOk result (out.new.items ≡ out.old.items ++ magic ++ word version
+        ++ word (length setup.now.elf) ++ setup.now.elf ++ word (length setup.now.input) ++ setup.now.input
+        ++ word setup.now.fuel ++ word setup.now.limit) }
+{
+    setup.sound();
+    out.extend_from_slice(&MAGIC)?;
+    put_word(out, VERSION)?;
+    write_sized(out, setup.elf())?;
+    write_sized(out, setup.input())?;
+    let limits = setup.limits();
+    put_word(out, limits.fuel())?;
+    put_word(out, limits.steps())
+}
+
+/// Appends the pages of a pool behind their number.
+fn write_pool(out: &mut Vec<u8>, pages: &[&[u8]]) -> Result<(), AllocError>
+    requires { length pages.now < 2 ^ 32 }
+    ensures { OnOk result (out.new.items
+        ≡ out.old.items ++ word (length (pages_lent pages.now)) ++ concat (pages_lent pages.now)) }
+{
+    put_word(out, pages.len() as u32)?;
+    for page in pages {
+        out.extend_from_slice(*page)?;
+    }
+    Ok(())
+}
+
+/// Appends the records of a history, whose pool is this.
+fn write_records(
+    out: &mut Vec<u8>,
+    slots: &PageMap,
+    pool: &Pool,
+    history: &History,
+) -> Result<(), AllocError>
+    requires spellable { IsSpellable history.now }
+    requires slots { slots.now ≡ map_of history.now.setup }
+    requires pool { IsPoolOf history.now (pages_lent pool.now.pages.items) pool.now.places.items }
+    ensures { OnOk result (out.new.items ≡ out.old.items
+        ++ flat_map (record_bytes slots.now (pages_lent pool.now.pages.items)) history.now.records) }
+{
+    history.keeps();
+    let records = history.records();
+    let mut start = 0;
+    for place in 0..records.len() {
+        let rec = records.at(place);
+        write_record(out, slots, pool, start, rec)?;
+        start += rec.reads().pages().len();
+    }
+    Ok(())
+}
+
+/// Appends the memo of a history without its digest.
+pub fn write_body(
+    out: &mut Vec<u8>,
+    slots: &PageMap,
+    pool: &Pool,
+    history: &History,
+) -> Result<(), AllocError>
+    requires spellable { IsSpellable history.now }
+    requires slots { slots.now ≡ map_of history.now.setup }
+    requires pool { IsPoolOf history.now (pages_lent pool.now.pages.items) pool.now.places.items }
+    requires empty { out.old.items ≡ [] }
+    ensures { OnOk result (out.new.items ≡ body history.now) }
+{
+    write_setup(out, history.setup())?;
+    history.keeps();
+    put_word(out, history.records().len() as u32)?;
+    write_pool(out, &pool.pages)?;
+    write_records(out, slots, pool, history)
+}

@@ -1,0 +1,86 @@
+//! How many bytes a memo has, before any is written.
+
+ghost use Rattle.std.specs.Prelude.{◌≡◌, ◌<◌, ◌≤◌, ◌+◌, ◌*◌, ◌^◌, length, drop, sum_by};
+ghost use Rattle.memo_spec.specs.Spelling.{IsSpellable};
+ghost use Rattle.memo_file.specs.WritingMasks.{marks_in};
+ghost use Rattle.memo_file.specs.WritingSizes.{stored_size, record_size, memo_size, HasFewPages};
+
+use super::stored::mark_bit;
+use page_store::PAGE_SIZE;
+use release_core::History;
+use store_mask::{Mask, PageDelta};
+use thunk_record::Record;
+
+/// How many of eight places are marked.
+#[inline(always)]
+fn eight_count(mask: &Mask, place: usize) -> usize
+    requires { place + 8 ≤ PAGE_SIZE }
+    ensures count { result + marks_in (drop (place + 8) mask.now) ≡ marks_in (drop place mask.now) }
+    ensures most { result ≤ 8 }
+{
+    mask.whole();
+    let first = mark_bit(mask, place) + mark_bit(mask, place + 1);
+    let second = mark_bit(mask, place + 2) + mark_bit(mask, place + 3);
+    let third = mark_bit(mask, place + 4) + mark_bit(mask, place + 5);
+    let fourth = mark_bit(mask, place + 6) + mark_bit(mask, place + 7);
+    usize::from(first + second + third + fourth)
+}
+
+/// How many places are marked.
+fn marked_count(mask: &Mask) -> usize
+    ensures count { result ≡ marks_in mask.now }
+    ensures most { result ≤ PAGE_SIZE }
+{
+    mask.whole();
+    let mut count = 0;
+    let mut place = 0;
+    while place < PAGE_SIZE {
+        if mask.begins_blank_word(place) {
+            place += 64;
+        } else {
+            count += eight_count(mask, place);
+            place += 8;
+        }
+    }
+    count
+}
+
+/// How many bytes spell a stored page.
+fn size_of_stored(delta: &PageDelta) -> u64
+    ensures size { result ≡ stored_size delta.now }
+    ensures most { result ≤ 4612 }
+{
+    let kept = delta.stored();
+    kept.mask.whole();
+    kept.page.bytes();
+    516 + marked_count(&kept.mask) as u64
+}
+
+/// How many bytes spell a record.
+fn size_of_record(rec: &Record) -> u64
+    requires { HasFewPages rec.now }
+    ensures size { result ≡ record_size rec.now }
+    ensures most { result < 2 ^ 29 }
+{
+    let mut size = 266 + 8 * rec.reads().pages().len() as u64;
+    for stored in rec.delta().pages() {
+        size += size_of_stored(stored);
+    }
+    size
+}
+
+/// How many bytes spell a history whose pool has this many pages.
+pub fn size_of_memo(history: &History, pool: usize) -> u64
+    requires spellable { IsSpellable history.now }
+    requires few { pool < 2 ^ 32 }
+    ensures { result ≡ memo_size history.now pool }
+{
+    let setup = history.setup();
+    setup.sound();
+    let records = history.records();
+    let mut size = 64 + setup.elf().len() as u64 + setup.input().len() as u64 + 4096 * pool as u64;
+    for place in 0..records.len() {
+        size += size_of_record(records.at(place));
+    }
+    size
+}
