@@ -1,0 +1,4 @@
+-- The files of lemmas of this crate.
+pub mod Addresses
+pub mod Entries
+pub mod Mapped

@@ -1,0 +1,12 @@
+//! The listing of what is kept of a run: its setup in numbers, and a line for each of its records.
+#![tactic(auto)]
+
+mod entry;
+mod pages;
+mod setup;
+mod whole;
+
+pub use whole::listing;
+
+#[cfg(test)]
+mod tests;
