@@ -1,0 +1,97 @@
+-- What the readers of the parser's findings give, by the rows that the definitions speak of.
+use Rattle.std.proofs.Common.{◌≡◌, ◌<◌, ◌≤◌, ◌^◌, ◌&&◌, ℕ, Bool, cond, true, false, List, Option, Some, None, refl, ap, ◌∙◌, arith, nat_lt, true≢false}
+use Rattle.std.specs.Prelude.{nat_le, is_some, option_map}
+use Rattle.std.specs.Str.Parse.{IsNumeral, digits_value, without_leading_plus}
+use Rattle.std.proofs.lemmas.Bool.{le-leb, lt-leb, lt-ltb}
+use Rattle.clap.specs.Words.{Text, all_of, first_of, first_value, matched_of, one_of, one_text, raw_values, rows_of}
+use Rattle.clap.specs.ValueTests.{is_numeral, is_unsigned_in}
+use Rattle.clap.specs.declared.builder.value_parser.ValueParser.TheVariants as parser
+use Rattle.clap.specs.declared.parser.matches.Found.{Found}
+use Rattle.clap.proofs.ValueTestLemmas.{accepts-Accepts, Accepts-accepts}
+use Rattle.clap.proofs.WalkLemmas.{both, first_value-rows, one_text-rows, raw_values-rows}
+use Rattle.ith_words.specs.Words.{number_or}
+
+-- the first text of an operand or option
+pub first_value_of_rows : (f : Found) (id : Text) → first_value f id ≡ first_of id (rows_of f)
+first_value_of_rows = first_value-rows
+
+-- all its texts
+pub values_of_rows : (f : Found) (id : Text) → option_map raw_values (matched_of f id) ≡ all_of id (rows_of f)
+values_of_rows = raw_values-rows
+
+-- the number that a text writes
+abbrev value : Text → ℕ
+value text = digits_value 10 (without_leading_plus text)
+
+-- a text is a number of 32 bits
+abbrev pub IsNumber : Text → Type 0
+IsNumber text = IsNumeral 10 (without_leading_plus text) × (value text < 2 ^ 32)
+
+-- the parser's test of a numeral takes such a text
+numeral : (text : Text) → IsNumber text → is_numeral (without_leading_plus text) ≡ true
+numeral text number =
+    let small : value text < 2 ^ 64 = let h = number.1 in omega arith in
+    let most : value text ≤ 18446744073709551615 = let h = number.1 in omega arith in
+    let least : 0 ≤ value text = omega arith in
+    (both _ _ (Accepts-accepts false (parser.Unsigned 0 18446744073709551615) text (number.0, small, least, most))).0
+
+-- the number that is taken: this one where it lies from 1 to the most, and else the default
+abbrev pub taken : ℕ → ℕ → ℕ → ℕ
+taken most default n = cond (nat_le 1 n && nat_le n most) n default
+
+-- of a text that is a number
+taken_text :
+    (most default : ℕ) (text : Text) (n : ℕ)
+    → IsNumber text → n ≡ value text → taken most default n ≡ number_or most default (Some text)
+taken_text most default text n number is =
+    let small : nat_lt (value text) (2 ^ 64) ≡ true = let h = number.1 in lt-ltb _ _ (omega arith) in
+    rw (is, numeral text number, small) refl
+
+-- of a text that is none
+left_text :
+    (most default : ℕ) (text : Text)
+    → most < 2 ^ 32 → (IsNumber text → ⊥) → default ≡ number_or most default (Some text)
+left_text most default text fits none = go (is_unsigned_in 1 most text) refl
+  where
+    go : (b : Bool) → is_unsigned_in 1 most text ≡ b → default ≡ cond b (value text) default
+    go false is = refl
+    go true is =
+        let accepted = accepts-Accepts false (parser.Unsigned 1 most) text is in
+        let within = accepted.3 in
+        absurd (none (accepted.0, omega arith))
+
+-- the number of an option, where the parser's reader gave one
+pub number_read :
+    (most default : ℕ) (f : Found) (id : Text) (n : ℕ)
+    → (one_text f id ≡ None → Some n ≡ None) → ((t : List ℕ) → one_text f id ≡ Some t → IsNumber t × (n ≡ value t))
+    → taken most default n ≡ number_or most default (one_of id (rows_of f))
+number_read most default f id n none some =
+    go (one_text f id) none some ∙ ap (number_or most default) (one_text-rows f id)
+  where
+    go : (o : Option Text) → (o ≡ None → Some n ≡ None) → ((t : List ℕ) → o ≡ Some t → IsNumber t × (n ≡ value t))
+        → taken most default n ≡ number_or most default o
+    go None absent number = absurd (true≢false (ap is_some (absent refl)))
+    go (Some text) absent number =
+        let is = number text refl in
+        taken_text most default text n is.0 is.1
+
+-- and where it gave none
+pub number_unread :
+    (most default : ℕ) (f : Found) (id : Text)
+    → most < 2 ^ 32 → ((t : List ℕ) → one_text f id ≡ Some t → IsNumber t → ⊥)
+    → default ≡ number_or most default (one_of id (rows_of f))
+number_unread most default f id fits some = go (one_text f id) some ∙ ap (number_or most default) (one_text-rows f id)
+  where
+    go : (o : Option Text) → ((t : List ℕ) → o ≡ Some t → IsNumber t → ⊥) → default ≡ number_or most default o
+    go None none = refl
+    go (Some text) none = left_text most default text fits (none text refl)
+
+-- which number is taken, by where it lies
+pub taken_within : (most default n : ℕ) → 1 ≤ n → n ≤ most → n ≡ taken most default n
+taken_within most default n some within = rw (le-leb 1 n some, le-leb n most within) refl
+
+pub taken_below : (most default n : ℕ) → n < 1 → default ≡ taken most default n
+taken_below most default n none = rw (lt-leb 1 n none) refl
+
+pub taken_above : (most default n : ℕ) → 1 ≤ n → most < n → default ≡ taken most default n
+taken_above most default n some above = rw (le-leb 1 n some, lt-leb n most above) refl

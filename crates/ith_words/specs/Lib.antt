@@ -1,0 +1,4 @@
+-- The files of definitions of this crate.
+pub mod Words
+pub mod Said
+pub mod Refusals

@@ -1,0 +1,18 @@
+-- Why words give no line.
+use Rattle.std.specs.Prelude.{◌≡◌, ◌≢◌, List, None, ⊤}
+use Rattle.clap.specs.Words.{kind_of}
+use Rattle.clap.specs.declared.error.Error.{Error}
+use Rattle.clap.specs.declared.error.kind.ErrorKind.TheVariants.{OutOfMemory}
+use Rattle.ith_words.specs.declared.words.LineFault.{LineFault}
+use Rattle.ith_words.specs.declared.words.LineFault.TheVariants as fault
+use Rattle.ith_words.specs.Words.{Text, line_of}
+
+-- What an error of the parser says: the words are refused, unless the host's memory ran out.
+abbrev pub WhyFault : Error → LineFault → Type 0
+WhyFault error (fault.Refused text) = kind_of error ≢ OutOfMemory
+WhyFault error fault.Memory = kind_of error ≡ OutOfMemory
+
+-- Why words give no line.
+abbrev pub WhyNoLine : List Text → LineFault → Type 0
+WhyNoLine words (fault.Refused text) = line_of words ≡ None
+WhyNoLine words fault.Memory = ⊤

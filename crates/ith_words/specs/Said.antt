@@ -1,0 +1,38 @@
+-- What a line in code says.
+use Rattle.std.specs.Prelude.{map, option_map}
+use Rattle.ith_words.specs.declared.line.Line.{Line as line}
+use Rattle.ith_words.specs.declared.line.RunLine.{RunLine as run_line}
+use Rattle.ith_words.specs.declared.line.RerunLine.{RerunLine as rerun_line}
+use Rattle.ith_words.specs.declared.line.ShowLine.{ShowLine as show_line}
+use Rattle.ith_words.specs.Words.{Line, Runs, Reruns, Shows, RunLine, RerunLine, ShowLine}
+
+-- The line that runs a guest, in code, as a line of the definitions.
+abbrev pub run_said : run_line → RunLine
+run_said l = record {
+  elf = l.elf.now;
+  input = l.input.now;
+  edits = map (λ name. name.now) l.edits.items;
+  workers = l.workers;
+  fuel = l.limits.fuel;
+  limit = l.limits.steps;
+  kept = option_map (λ name. name.now) l.kept;
+}
+
+-- The line that goes on from a memo, in the same way.
+abbrev pub rerun_said : rerun_line → RerunLine
+rerun_said l = record {
+  memo = l.memo.now;
+  edits = map (λ name. name.now) l.edits.items;
+  workers = l.workers;
+  kept = option_map (λ name. name.now) l.kept;
+}
+
+-- The line that lists a memo, in the same way.
+abbrev pub show_said : show_line → ShowLine
+show_said l = record { memo = l.memo.now }
+
+-- A line of any kind, in the same way.
+abbrev pub line_said : line → Line
+line_said (line.Run l) = Runs (run_said l)
+line_said (line.Rerun l) = Reruns (rerun_said l)
+line_said (line.Show l) = Shows (show_said l)

@@ -1,0 +1,86 @@
+//! What the parser found in the words, for one of the operands or options of a command.
+
+ghost use Rattle.std.specs.Prelude.{◌≡◌, ◌≤◌, map, codes, unwrap_or, option_map, [], IfOk};
+ghost use Rattle.clap.specs.Words.{all_of, first_of, found_of, one_of, rows_of};
+ghost use Rattle.ith_words.specs.Words as line;
+
+use super::line::MOST_WORKERS;
+use clap::ArgMatches;
+use machine_spec::{Limits, MOST_FUEL, MOST_STEPS};
+use std::alloc::{AllocError, Global};
+
+/// How many workers there are where the line doesn't say.
+const DEFAULT_WORKERS: u32 = 4;
+
+/// The most turns of a thunk where the line doesn't say.
+const DEFAULT_FUEL: u32 = 1_000_000;
+
+/// The most steps of a run where the line doesn't say.
+const DEFAULT_STEPS: u32 = 4096;
+
+/// The text of an operand, or the empty text where there is no such operand.
+#[tactic(auto, using(crate::proofs::Rows::first_value_of_rows))]
+pub fn operand_of<'a>(given: &ArgMatches<'a>, id: &str) -> &'a str
+    ensures { result.now ≡ line.operand id.now (rows_of (found_of given.now)) }
+{
+    match given.get_str(id) {
+        Some(text) => text,
+        None => "",
+    }
+}
+
+/// The names of the edit lists, in the order of the line.
+#[tactic(auto, using(crate::proofs::Rows::values_of_rows))]
+pub fn edits_of<'a>(alloc: Global, given: &ArgMatches<'a>) -> Result<Vec<&'a str>, AllocError>
+    ensures { IfOk result (λ names. map (λ name. name.now) names.items ≡ line.edits_named (rows_of
+        (found_of given.now))) }
+{
+    match given.get_raw("EDITS") {
+        Some(names) => Vec::from_slice(alloc, names),
+        None => Ok(Vec::new(alloc)),
+    }
+}
+
+/// The number of an option, or the default where the line has no such option.
+fn number_of(given: &ArgMatches<'_>, id: &str, most: u32, default: u32) -> u32
+    requires some { 1 ≤ default }
+    requires within { default ≤ most }
+    ensures value { result ≡ line.number_or most default (one_of id.now (rows_of (found_of given.now))) }
+    ensures least { 1 ≤ result }
+    ensures most { result ≤ most }
+{
+    match given.get_one::<u32>(id) {
+        Some(number) if 1 <= number && number <= most => number,
+        _ => default,
+    }
+}
+
+/// How many workers there are.
+pub fn workers_of(given: &ArgMatches<'_>) -> u32
+    ensures value { result ≡ line.workers_named (rows_of (found_of given.now)) }
+    ensures least { 1 ≤ result }
+    ensures most { result ≤ MOST_WORKERS }
+{
+    number_of(given, "workers", MOST_WORKERS, DEFAULT_WORKERS)
+}
+
+/// The limits of the run.
+pub fn limits_of(given: &ArgMatches<'_>) -> Limits
+    ensures fuel { result.fuel ≡ line.fuel_named (rows_of (found_of given.now)) }
+    ensures steps { result.steps ≡ line.limit_named (rows_of (found_of given.now)) }
+{
+    let fuel = number_of(given, "fuel", MOST_FUEL, DEFAULT_FUEL);
+    let steps = number_of(given, "steps", MOST_STEPS, DEFAULT_STEPS);
+    match Limits::new(fuel, steps) {
+        Some(limits) => limits,
+        None => unreachable!(),
+    }
+}
+
+/// The name of the memo to write, if the line has one.
+#[tactic(auto, using(crate::proofs::Rows::first_value_of_rows))]
+pub fn memo_of<'a>(given: &ArgMatches<'a>) -> Option<&'a str>
+    ensures { option_map (λ name. name.now) result ≡ line.memo_named (rows_of (found_of given.now)) }
+{
+    given.get_str("memo")
+}

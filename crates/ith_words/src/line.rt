@@ -1,0 +1,61 @@
+//! What a command line asks for.
+
+ghost use Rattle.std.specs.Prelude.{◌≤◌};
+ghost use Rattle.ith_words.specs.declared.line.TheConstants.{MOST_WORKERS};
+
+use machine_spec::Limits;
+
+/// The most workers that a line may ask for.
+pub const MOST_WORKERS: u32 = 16;
+
+/// What a line asks for.
+#[derive(Debug, Drop)]
+pub enum Line<'a> {
+    /// A guest is run from scratch.
+    Run(RunLine<'a>),
+    /// A guest is run on from a memo.
+    Rerun(RerunLine<'a>),
+    /// A memo is listed.
+    Show(ShowLine<'a>),
+}
+
+/// A line that runs a guest.
+#[derive(Debug, Drop)]
+pub struct RunLine<'a> {
+    /// The name of the executable.
+    pub elf: &'a str,
+    /// The name of the input.
+    pub input: &'a str,
+    /// The names of the edit lists, in order.
+    pub edits: Vec<&'a str>,
+    /// How many workers there are.
+    pub workers: u32,
+    /// The most turns of a thunk, and the most steps of a run.
+    pub limits: Limits,
+    /// The name of the memo to write, if there is to be one.
+    pub kept: Option<&'a str>,
+    ghost some_worker: { 1 ≤ workers },
+    ghost most_workers: { workers ≤ MOST_WORKERS },
+}
+
+/// A line that goes on from a memo.
+#[derive(Debug, Drop)]
+pub struct RerunLine<'a> {
+    /// The name of the memo to read.
+    pub memo: &'a str,
+    /// The names of the edit lists, in order.
+    pub edits: Vec<&'a str>,
+    /// How many workers there are.
+    pub workers: u32,
+    /// The name of the memo to write, if there is to be one.
+    pub kept: Option<&'a str>,
+    ghost some_worker: { 1 ≤ workers },
+    ghost most_workers: { workers ≤ MOST_WORKERS },
+}
+
+/// A line that lists a memo.
+#[derive(Debug, Drop)]
+pub struct ShowLine<'a> {
+    /// The name of the memo to read.
+    pub memo: &'a str,
+}

@@ -1,0 +1,250 @@
+//! Lines that are accepted, with what they say, and lines that aren't.
+use super::{Line, LineFault, RerunLine, RunLine, line_of};
+use std::alloc::{AllocError, Global};
+use std::test::Fail;
+
+/// What a line has to say beside the files `a` and `b` that it runs, or the memo `m` that it goes on from.
+#[derive(Clone, Copy)]
+struct Wanted<'a> {
+    edits: &'a [&'a str],
+    workers: u32,
+    fuel: u32,
+    limit: u32,
+    kept: Option<&'a str>,
+}
+
+/// What a line says that has none of the operands and options that may be left out.
+const PLAIN: Wanted<'static> = Wanted {
+    edits: &[],
+    workers: 4,
+    fuel: 1_000_000,
+    limit: 4096,
+    kept: None,
+};
+
+/// The words of a line: the program's name, and then those between spaces; `''` stands for an empty word.
+fn words_of(alloc: Global, line: &str) -> Result<Vec<String>, AllocError> {
+    let mut words = Vec::new(alloc);
+    words.push(String::from_str(alloc, "ithreads")?)?;
+    for word in line.split_whitespace() {
+        let text = if word == "''" { "" } else { word };
+        words.push(String::from_str(alloc, text)?)?;
+    }
+    Ok(words)
+}
+
+/// Whether a line runs `a` on `b`, as is wanted.
+fn runs(run: &RunLine<'_>, wanted: &Wanted<'_>) -> bool {
+    let is_kept = run.kept == wanted.kept;
+    run.elf == "a"
+        && run.input == "b"
+        && run.edits.as_slice() == wanted.edits
+        && run.workers == wanted.workers
+        && run.limits.fuel() == wanted.fuel
+        && run.limits.steps() == wanted.limit
+        && is_kept
+}
+
+/// Whether a line goes on from `m`, as is wanted.
+fn reruns(rerun: &RerunLine<'_>, wanted: &Wanted<'_>) -> bool {
+    let is_kept = rerun.kept == wanted.kept;
+    rerun.memo == "m"
+        && rerun.edits.as_slice() == wanted.edits
+        && rerun.workers == wanted.workers
+        && is_kept
+}
+
+/// Whether a line says what is wanted.
+fn says(said: &Line<'_>, wanted: &Wanted<'_>) -> bool {
+    match said {
+        Line::Run(run) => runs(run, wanted),
+        Line::Rerun(rerun) => reruns(rerun, wanted),
+        Line::Show(_show) => false,
+    }
+}
+
+/// Whether the words of a line are accepted, and say what is wanted.
+fn is_accepted(alloc: Global, line: &str, wanted: &Wanted<'_>) -> Result<bool, AllocError> {
+    let words = words_of(alloc, line)?;
+    Ok(match line_of(alloc, &words) {
+        Ok(said) => says(&said, wanted),
+        Err(_) => false,
+    })
+}
+
+/// Whether words were refused, with a text that says so.
+fn is_refusal(fault: &LineFault) -> bool {
+    match fault {
+        LineFault::Refused(text) => text.starts_with(b"words: "),
+        LineFault::Memory => false,
+    }
+}
+
+/// Whether the words of a line are refused.
+fn is_refused(alloc: Global, line: &str) -> Result<bool, AllocError> {
+    let words = words_of(alloc, line)?;
+    Ok(match line_of(alloc, &words) {
+        Ok(_said) => false,
+        Err(fault) => is_refusal(&fault),
+    })
+}
+
+#[test]
+fn runs_are_accepted(rt: HostRuntime) -> Result<(), Fail> {
+    let rows: [(&str, &[&str], u32, u32, u32); 10] = [
+        ("run a b", &[], 4, 1_000_000, 4096),
+        ("run a b --workers 1", &[], 1, 1_000_000, 4096),
+        ("run --workers=3 a b", &[], 3, 1_000_000, 4096),
+        ("run a --workers 16 b", &[], 16, 1_000_000, 4096),
+        (
+            "run --steps 65536 a --fuel 16777216 b",
+            &[],
+            4,
+            16_777_216,
+            65_536,
+        ),
+        ("run --fuel 1 --steps 1 -- a b", &[], 4, 1, 1),
+        ("run a b c", &["c"], 4, 1_000_000, 4096),
+        (
+            "run a b c --workers 2 d c",
+            &["c", "d", "c"],
+            2,
+            1_000_000,
+            4096,
+        ),
+        ("run a b '' c", &["", "c"], 4, 1_000_000, 4096),
+        ("run a b -- -c --d", &["-c", "--d"], 4, 1_000_000, 4096),
+    ];
+    for (line, edits, workers, fuel, limit) in rows {
+        let wanted = Wanted {
+            edits,
+            workers,
+            fuel,
+            limit,
+            kept: None,
+        };
+        assert!(rt; is_accepted(rt.alloc(), line, &wanted)?, "at {line}");
+    }
+    Ok(())
+}
+
+#[test]
+fn memos_are_named(rt: HostRuntime) -> Result<(), Fail> {
+    let rows: [(&str, &[&str], u32, Option<&str>); 12] = [
+        ("run a b --memo k", &[], 4, Some("k")),
+        ("run --memo=k a b c", &["c"], 4, Some("k")),
+        ("run a --memo k b c", &["c"], 4, Some("k")),
+        ("run a b --memo k c", &["c"], 4, Some("k")),
+        ("run a b --memo 4 --workers 2", &[], 2, Some("4")),
+        ("rerun m", &[], 4, None),
+        ("rerun m c d", &["c", "d"], 4, None),
+        ("rerun --workers 16 m c", &["c"], 16, None),
+        ("rerun m --memo k", &[], 4, Some("k")),
+        (
+            "rerun --memo=k m c --workers=1 d",
+            &["c", "d"],
+            1,
+            Some("k"),
+        ),
+        ("rerun m --memo m", &[], 4, Some("m")),
+        ("rerun --memo k -- m -c", &["-c"], 4, Some("k")),
+    ];
+    for (line, edits, workers, kept) in rows {
+        let wanted = Wanted {
+            edits,
+            workers,
+            kept,
+            ..PLAIN
+        };
+        assert!(rt; is_accepted(rt.alloc(), line, &wanted)?, "at {line}");
+    }
+    Ok(())
+}
+
+#[test]
+fn a_memo_is_listed(rt: HostRuntime) -> Result<(), Fail> {
+    let alloc = rt.alloc();
+    for (line, name) in [("show m", "m"), ("show ''", ""), ("show -- -m", "-m")] {
+        let words = words_of(alloc, line)?;
+        let accepted = match line_of(alloc, &words) {
+            Ok(Line::Show(show)) => show.memo == name,
+            _ => false,
+        };
+        assert!(rt; accepted, "at {line}");
+    }
+    Ok(())
+}
+
+#[test]
+fn lines_of_no_command_are_refused(rt: HostRuntime) -> Result<(), Fail> {
+    let alloc = rt.alloc();
+    let nothing = match line_of(alloc, &[]) {
+        Ok(_said) => false,
+        Err(fault) => is_refusal(&fault),
+    };
+    assert!(rt; nothing, "no words");
+    for line in [
+        "",
+        "walk a b",
+        "--workers 1 run a b",
+        "--memo k rerun m",
+        "--help",
+        "help",
+        "help show",
+    ] {
+        assert!(rt; is_refused(alloc, line)?, "at {line}");
+    }
+    Ok(())
+}
+
+#[test]
+fn runs_are_refused(rt: HostRuntime) -> Result<(), Fail> {
+    for line in [
+        "run",
+        "run a",
+        "run a b -c",
+        "run a b --workers 0",
+        "run a b --workers 17",
+        "run a b --workers one",
+        "run a b --workers",
+        "run a b --fuel 0",
+        "run a b --fuel 16777217",
+        "run a b --steps 0",
+        "run a b --steps 65537",
+        "run a b --workers 1 --workers 1",
+        "run a b --memo",
+        "run a b --memo k --memo k",
+        "run a --memo b",
+        "run a b --colour",
+        "run -a b",
+        "run --help",
+    ] {
+        assert!(rt; is_refused(rt.alloc(), line)?, "at {line}");
+    }
+    Ok(())
+}
+
+#[test]
+fn lines_about_a_memo_are_refused(rt: HostRuntime) -> Result<(), Fail> {
+    for line in [
+        "rerun",
+        "rerun --memo m",
+        "rerun m --memo",
+        "rerun m --memo=k --memo=l",
+        "rerun m --fuel 4",
+        "rerun m --steps 4",
+        "rerun m --workers 0",
+        "rerun m --workers 17",
+        "rerun m -c",
+        "rerun --help",
+        "show",
+        "show m e",
+        "show m --memo n",
+        "show m --workers 1",
+        "show m --fuel 4",
+        "show --help",
+    ] {
+        assert!(rt; is_refused(rt.alloc(), line)?, "at {line}");
+    }
+    Ok(())
+}

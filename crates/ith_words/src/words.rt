@@ -1,0 +1,134 @@
+//! The words of the command line.
+
+ghost use Rattle.std.specs.Prelude.{◌≡◌, map, string_bytes, [], IfOk, IfErr};
+ghost use Rattle.clap.specs.Words.{fault_of, found_of, rows_of, subcommand_of, subcommand_rows_of};
+ghost use Rattle.ith_words.specs.Words as line;
+ghost use Rattle.ith_words.specs.Said.{run_said, rerun_said, show_said, line_said};
+ghost use Rattle.ith_words.specs.Refusals.{WhyNoLine, WhyFault};
+
+use super::command::command_line;
+use super::given::{edits_of, limits_of, memo_of, operand_of, workers_of};
+use super::line::{Line, RerunLine, RunLine, ShowLine};
+use clap::error::ErrorKind;
+use clap::{ArgMatches, Error};
+use std::alloc::{AllocError, Global};
+
+/// Why words give no line.
+#[derive(Debug, Drop)]
+pub enum LineFault {
+    /// They aren't accepted, or ask for help: the text to show.
+    Refused(Vec<u8>),
+    /// The host's memory ran out.
+    Memory,
+}
+
+/// The text to show where words are refused: `words: ` and why. It is cut short where the host's memory runs out.
+fn refusal(alloc: Global, why: &str) -> Vec<u8> {
+    let mut text = Vec::new(alloc);
+    let _ = text.extend_from_slice(b"words: ");
+    let _ = text.extend_from_slice(why.as_bytes());
+    text
+}
+
+/// What an error of the parser says of the words, with the usage, or the help that they ask for.
+fn fault_by(alloc: Global, error: Error) -> LineFault
+    ensures { WhyFault error result }
+{
+    if error.kind() == ErrorKind::OutOfMemory {
+        return LineFault::Memory;
+    }
+    LineFault::Refused(match error.to_string(alloc) {
+        Ok(why) => refusal(alloc, why.as_str().trim_end()),
+        Err(_) => refusal(alloc, ""),
+    })
+}
+
+/// What the parser finds in the words.
+#[tactic(auto, using(crate::proofs::NoLine::no_line))]
+fn matches_given<'a>(alloc: Global, words: &'a [String]) -> Result<ArgMatches<'a>, LineFault>
+    ensures faultless { IfOk result (λ given. fault_of line.command_line (map string_bytes words.entry.now) ≡ []) }
+    ensures rows { IfOk result (λ given. subcommand_rows_of given ≡ subcommand_of line.command_line
+        (map string_bytes words.entry.now)) }
+    ensures refused { IfErr result (WhyNoLine (map string_bytes words.entry.now)) }
+{
+    let command = match command_line(alloc) {
+        Ok(command) => command,
+        Err(_) => return Err(LineFault::Memory),
+    };
+    match command.try_get_matches_from(words) {
+        Ok(given) => Ok(given),
+        Err(error) => Err(fault_by(alloc, error)),
+    }
+}
+
+/// The line of what was found for the command that runs a guest.
+fn run_line<'a>(alloc: Global, given: &ArgMatches<'a>) -> Result<RunLine<'a>, AllocError>
+    ensures { IfOk result (λ said. run_said said ≡ line.run_line (rows_of (found_of given.now))) }
+{
+    let edits = match edits_of(alloc, given) {
+        Ok(edits) => edits,
+        Err(error) => return Err(error),
+    };
+    Ok(RunLine {
+        elf: operand_of(given, "ELF"),
+        input: operand_of(given, "INPUT"),
+        edits,
+        workers: workers_of(given),
+        limits: limits_of(given),
+        kept: memo_of(given),
+    })
+}
+
+/// The line of what was found for the command that goes on from a memo.
+fn rerun_line<'a>(alloc: Global, given: &ArgMatches<'a>) -> Result<RerunLine<'a>, AllocError>
+    ensures { IfOk result (λ said. rerun_said said ≡ line.rerun_line (rows_of (found_of given.now))) }
+{
+    let edits = match edits_of(alloc, given) {
+        Ok(edits) => edits,
+        Err(error) => return Err(error),
+    };
+    Ok(RerunLine {
+        memo: operand_of(given, "MEMO"),
+        edits,
+        workers: workers_of(given),
+        kept: memo_of(given),
+    })
+}
+
+/// The line of what was found for the command that lists a memo.
+fn show_line<'a>(given: &ArgMatches<'a>) -> ShowLine<'a>
+    ensures { show_said result ≡ line.show_line (rows_of (found_of given.now)) }
+{
+    ShowLine {
+        memo: operand_of(given, "MEMO"),
+    }
+}
+
+/// What the words ask for. The first of them is the program's name.
+///
+/// # Errors
+///
+/// `Refused` where the words aren't accepted, and `Memory` where the host's memory ran out.
+#[tactic(auto, unfolding(crate::specs::Words::line_of))]
+pub fn line_of<'a>(alloc: Global, words: &'a [String]) -> Result<Line<'a>, LineFault>
+    ensures accepted { IfOk result (λ said. line.line_of (map string_bytes words.entry.now) ≡ Some (line_said said)) }
+    ensures refused { IfErr result (WhyNoLine (map string_bytes words.entry.now)) }
+{
+    let given = match matches_given(alloc, words) {
+        Ok(given) => given,
+        Err(fault) => return Err(fault),
+    };
+    match given.subcommand() {
+        Some((name, below)) if name == "run" => match run_line(alloc, below) {
+            Ok(line) => Ok(Line::Run(line)),
+            Err(_) => Err(LineFault::Memory),
+        },
+        Some((name, below)) if name == "rerun" => match rerun_line(alloc, below) {
+            Ok(line) => Ok(Line::Rerun(line)),
+            Err(_) => Err(LineFault::Memory),
+        },
+        Some((name, below)) if name == "show" => Ok(Line::Show(show_line(below))),
+        // the parser takes no other command
+        _ => Err(LineFault::Refused(refusal(alloc, "no command"))),
+    }
+}
