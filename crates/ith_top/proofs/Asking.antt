@@ -1,15 +1,15 @@
 -- Files that are asked for one after the other, and where that stops.
-use Rattle.std.proofs.Common.{◌≡◌, ◌<◌, ◌≤◌, ◌+◌, ℕ, zero, suc, List, [], ◌∷◌, ◌++◌, length, take, map, get_or, Option, Some, None, refl, ap, sym, subst, ◌∙◌, append_assoc, arith}
+use Rattle.std.proofs.Common.{◌≡◌, ◌<◌, ◌≤◌, ℕ, zero, suc, List, [], ◌∷◌, ◌++◌, length, take, map, get_or, Option, Some, None, refl, ap, sym, subst, ◌∙◌, append_assoc, arith}
 use Rattle.std.specs.Prelude.{All, IfSome}
-use Rattle.std.proofs.lemmas.List.{map-append, append-nil}
+use Rattle.std.proofs.lemmas.List.{map-append}
 use Rattle.std.proofs.lemmas.List.Elements.{All-append, All-cons, All-nil}
 use Rattle.edit_spec.specs.declared.TheConstants.{MOST_LIST_BYTES}
-use Rattle.ith_host.specs.World.{World, Rose, NoneFell, Stays, AsksFor, AsksNothing, IsContent}
+use Rattle.ith_host.specs.World.{World, NoneFell, Stays, AsksFor, AsksNothing}
 use Rattle.ith_top.specs.declared.status.Status.{Status}
 use Rattle.ith_top.specs.declared.status.Status.TheVariants as status
-use Rattle.ith_top.specs.Words.{Text}
-use Rattle.ith_top.specs.Files.{Named, lists_named, AsksForFiles, AsksForSome, StopsAt, FailedToRead, IsLong, IsWithin}
-use Rattle.ith_top.specs.Ends.{AreLists}
+use Rattle.ith_words.specs.Words.{Text}
+use Rattle.ith_top.specs.Files.{Named, lists_named, AsksForFiles, StopsAt, FailedToRead, IsLong, IsWithin}
+use Rattle.ith_top.specs.Contents.{AreLists}
 use Rattle.ith_top.specs.Refusals.{WhyUnread}
 use Rattle.ith_top.proofs.Worlds.{rose_before, rose_then, long_before, within_before}
 
@@ -99,6 +99,7 @@ unread_front files more a b status.Finished why = why
 unread_front files more a b status.Unfinished why = why
 unread_front files more a b status.Words why = why
 unread_front files more a b status.Image why = why
+unread_front files more a b status.Memo why = why
 unread_front files more a b status.EditList why = why
 unread_front files more a b status.ReadFault why = stops_front (FailedToRead a b) files more a b why
 unread_front files more a b status.WriteFault why = why
@@ -137,6 +138,7 @@ unread_more done files a b c status.Finished stays fell asked within why = why
 unread_more done files a b c status.Unfinished stays fell asked within why = why
 unread_more done files a b c status.Words stays fell asked within why = why
 unread_more done files a b c status.Image stays fell asked within why = why
+unread_more done files a b c status.Memo stays fell asked within why = why
 unread_more done files a b c status.EditList stays fell asked within why = why
 unread_more done files a b c status.ReadFault stays fell asked within why =
     stops_more (FailedToRead b c) (FailedToRead a c) done files a b c (λ f it. rose_before _ _ _ (fell.reads f.name) it) stays asked within why

@@ -1,125 +1,197 @@
 -- How a line ends, from how its rounds did.
-use Rattle.std.proofs.Common.{◌≡◌, Bool, ℕ, true, false, List, ◌++◌, take, slice_get, sym, ap, ◌∙◌, inr, subst}
+use Rattle.std.proofs.Common.{◌≡◌, Bool, ℕ, true, false, List, ◌++◌, Option, Some, None, length, take, arith, sym, ap, ◌∙◌, inl, inr, subst}
 use Rattle.std.specs.List.{concat}
-use Rattle.machine_spec.specs.Setup.{Setup, IsSetup}
-use Rattle.rerun_spec.specs.Inputs.{AreInputs}
-use Rattle.rerun_spec.specs.Rounds.{Round, rounds_of}
-use Rattle.rerun_spec.specs.Reports.{reports_of, all_exit}
-use Rattle.rerun_spec.proofs.Rounds.{CanBeMade, each-holds, round-entries, round-permitted, round-complete, round-marks, round-honest, round-records}
-use Rattle.rerun_spec.proofs.Repeating.{repeated-again, again-reuses, again-schedule, again-instructions, again-machine}
+use Rattle.std.specs.Io.KnownBytes.{Appends}
+use Rattle.std.proofs.lemmas.List.{take_all}
+use Rattle.memo_spec.specs.Spelling.{memo}
+use Rattle.rerun_spec.specs.Reports.{all_made_exit}
 use Rattle.ith_host.specs.World.{World, NoneFell, Stays, AsksNothing}
+use Rattle.ith_words.specs.Words.{Text, Line}
 use Rattle.ith_top.specs.declared.status.Status.{Status}
 use Rattle.ith_top.specs.declared.status.Status.TheVariants as status
-use Rattle.ith_top.specs.Words.{RunLine}
-use Rattle.ith_top.specs.Rounds.{IsPromised, ArePromised}
+use Rattle.ith_top.specs.Rounds.{rounds_of}
 use Rattle.ith_top.specs.Files.{files_named, AsksForFiles}
-use Rattle.ith_top.specs.Playing.{contents_of, IsPlan}
-use Rattle.ith_top.specs.Ends.{HasRounds, reports, setup_of, Prints, IsDone, RunEnds}
-use Rattle.ith_top.specs.Refusals.{WhyCutShort}
+use Rattle.ith_top.specs.Contents.{Plan, IsPlan}
+use Rattle.ith_top.specs.Ends.{HasRounds, texts_of, left_of, kept_by, Prints, PrintsAndKeeps, IsKeptWithin, IsDone, RoundsEnd}
+use Rattle.ith_top.specs.Refusals.{Keeps, WhyCutShort, WhyUnkept, WhyUndone}
+use Rattle.ith_top.specs.Playing.{CanBePlayed, CanBeSpelled}
 use Rattle.ith_top.proofs.Worlds.{rose_before}
-use Rattle.ith_top.proofs.Going.{prints_after}
+use Rattle.ith_top.proofs.Going.{prints_after, prints_then}
+use Rattle.ith_top.proofs.Promises.{promised_of, any_of}
 
--- what is promised of a round holds of each that may be made
-promised : (r : Round) → CanBeMade r → IsPromised r
-promised r is =
+-- the rounds of a line's plan
+pub rounds_in : (line : Line) (a : World) (p : Plan) → IsPlan line a p → CanBePlayed p → CanBeSpelled p → HasRounds line a
+rounds_in line a p is playable spelled =
     record {
-      entries = round-entries r is;
-      permitted = round-permitted r is;
-      complete = round-complete r is;
-      marks = round-marks r is;
-      honest = round-honest r is;
-      records = round-records r is;
+      plan = p;
+      is_plan = is;
+      promised = promised_of line a p is playable spelled;
+      of_any = any_of p playable spelled;
     }
 
--- what is promised of rounds holds of those of a setup that may be run
-promised_of : (s : Setup) (lists inputs : List (List ℕ)) → IsSetup s → AreInputs s.input lists inputs → ArePromised (rounds_of s inputs)
-promised_of s lists inputs valid are =
+-- a file was kept after all was printed
+pub printed_and_kept :
+    (name : Text) (content : List ℕ) (a b c : World) (bytes : List ℕ)
+    → Prints a b bytes → Keeps name content b c → PrintsAndKeeps (Some name) content a c bytes
+printed_and_kept name content a b c bytes prints keeps =
     record {
-      each = each-holds IsPromised promised s lists inputs valid are;
-      repeated = λ before after repeated.
-          let again = repeated-again s lists inputs before after valid are repeated in
-          record {
-            reuses = again-reuses before after again;
-            instructions = again-instructions before after again;
-            schedule = again-schedule before after again;
-            machine = again-machine before after again;
-          };
+      tells = keeps.tells ∙ prints.tells;
+      printed = subst (λ (told : Option (List ℕ)). Appends a.printed told bytes) (sym keeps.printed) prints.printed;
+      written = keeps.written;
+      others = λ other away. keeps.others other away ∙ ap (λ (files : Text → Option (List ℕ)). files other) prints.files;
     }
 
-rounds_in : (line : RunLine) (a : World) (s : Setup) (inputs : List (List ℕ)) → IsPlan line a s inputs → HasRounds line a
-rounds_in line a s inputs plan =
+-- and where nothing is to be kept
+pub printed_alone : (content : List ℕ) (a b : World) (bytes : List ℕ) → Prints a b bytes → PrintsAndKeeps None content a b bytes
+printed_alone content a b bytes prints =
     record {
-      contents = contents_of s plan.lists;
-      read = plan.ready.read;
-      inputs = inputs;
-      edited = plan.edited;
-      promised = subst (λ (x : Setup). ArePromised (rounds_of x inputs)) plan.ready.same (promised_of s plan.lists inputs plan.ready.sound plan.edited);
+      tells = prints.tells;
+      printed = prints.printed;
+      written = tt;
+      others = λ other away. ap (λ (files : Text → Option (List ℕ)). files other) prints.files;
     }
 
-reports_in :
-    (line : RunLine) (a : World) (s : Setup) (inputs : List (List ℕ)) (plan : IsPlan line a s inputs)
-    → reports_of line.workers s inputs ≡ reports line a (rounds_in line a s inputs plan)
-unfolding rounds_in
-reports_in line a s inputs plan = ap (λ (x : Setup). reports_of line.workers x inputs) plan.ready.same
+-- printing and keeping after a change that leaves files and printed bytes
+kept_after : (name : Option Text) (content : List ℕ) (a b c : World) (bytes : List ℕ) → Stays a b → PrintsAndKeeps name content b c bytes → PrintsAndKeeps name content a c bytes
+kept_after name content a b c bytes stays keeps =
+    record {
+      tells = keeps.tells ∙ stays.tells;
+      printed = subst (λ (told : Option (List ℕ)). Appends told c.printed bytes) stays.printed keeps.printed;
+      written = keeps.written;
+      others = λ other away. keeps.others other away ∙ ap (λ (files : Text → Option (List ℕ)). files other) stays.files;
+    }
 
 done_by :
-    (line : RunLine) (a b c : World) (s : Setup) (inputs : List (List ℕ)) (exits : Bool)
-    → IsPlan line a s inputs → AsksForFiles (files_named line) a b → AsksNothing b c → Stays a b → Prints b c (concat (reports_of line.workers s inputs)) → exits ≡ all_exit s inputs → IsDone line exits a c
+    (line : Line) (a b c : World) (p : Plan) (exits : Bool)
+    → IsPlan line a p → CanBePlayed p → CanBeSpelled p → AsksForFiles (files_named line) a b → AsksNothing b c → Stays a b
+    → PrintsAndKeeps (kept_by line) (memo (left_of p)) b c (concat (texts_of line p)) → IsKeptWithin (kept_by line) (memo (left_of p))
+    → all_made_exit (rounds_of p) ≡ exits → IsDone line exits a c
 unfolding rounds_in
-done_by line a b c s inputs exits plan asked none stays prints is =
+done_by line a b c p exits is playable spelled asked none stays keeps within ends =
     record {
       asked = none ∙ asked;
-      has = rounds_in line a s inputs plan;
-      prints = subst (λ (texts : List (List ℕ)). Prints a c (concat texts)) (reports_in line a s inputs plan)
-          (prints_after a b c (concat (reports_of line.workers s inputs)) stays prints);
-      ends = ap (λ (x : Setup). all_exit x inputs) (sym plan.ready.same) ∙ sym is;
+      has = rounds_in line a p is playable spelled;
+      keeps = kept_after (kept_by line) (memo (left_of p)) a b c (concat (texts_of line p)) stays keeps;
+      within = within;
+      ends = ends;
     }
 
--- the reports were printed, and each round ended by exit
+-- all was done, and each round ended by exit
 pub finished :
-    (line : RunLine) (a b c : World) (s : Setup) (inputs : List (List ℕ))
-    → IsPlan line a s inputs → AsksForFiles (files_named line) a b → AsksNothing b c → Stays a b → Prints b c (concat (reports_of line.workers s inputs)) → true ≡ all_exit s inputs → RunEnds line a c status.Finished
-finished line a b c s inputs plan asked none stays prints is = done_by line a b c s inputs true plan asked none stays prints is
+    (line : Line) (a b c : World) (p : Plan)
+    → IsPlan line a p → CanBePlayed p → CanBeSpelled p → AsksForFiles (files_named line) a b → AsksNothing b c → Stays a b
+    → PrintsAndKeeps (kept_by line) (memo (left_of p)) b c (concat (texts_of line p)) → IsKeptWithin (kept_by line) (memo (left_of p))
+    → all_made_exit (rounds_of p) ≡ true → RoundsEnd line a c status.Finished
+finished line a b c p is playable spelled asked none stays keeps within ends =
+    done_by line a b c p true is playable spelled asked none stays keeps within ends
 
--- the reports were printed, and some round ended otherwise
+-- all was done, and some round ended otherwise
 pub unfinished :
-    (line : RunLine) (a b c : World) (s : Setup) (inputs : List (List ℕ))
-    → IsPlan line a s inputs → AsksForFiles (files_named line) a b → AsksNothing b c → Stays a b → Prints b c (concat (reports_of line.workers s inputs)) → false ≡ all_exit s inputs → RunEnds line a c status.Unfinished
-unfinished line a b c s inputs plan asked none stays prints is = done_by line a b c s inputs false plan asked none stays prints is
+    (line : Line) (a b c : World) (p : Plan)
+    → IsPlan line a p → CanBePlayed p → CanBeSpelled p → AsksForFiles (files_named line) a b → AsksNothing b c → Stays a b
+    → PrintsAndKeeps (kept_by line) (memo (left_of p)) b c (concat (texts_of line p)) → IsKeptWithin (kept_by line) (memo (left_of p))
+    → all_made_exit (rounds_of p) ≡ false → RoundsEnd line a c status.Unfinished
+unfinished line a b c p is playable spelled asked none stays keeps within ends =
+    done_by line a b c p false is playable spelled asked none stays keeps within ends
 
--- not all reports were printed
-pub cut_short :
-    (line : RunLine) (a b c : World) (s : Setup) (inputs : List (List ℕ)) (why : Status)
-    → IsPlan line a s inputs → AsksForFiles (files_named line) a b → AsksNothing b c → Stays a b → NoneFell a b → WhyCutShort (reports_of line.workers s inputs) b c why → RunEnds line a c why
-cut_short line a b c s inputs status.Finished plan asked none stays fell cause = absurd cause
-cut_short line a b c s inputs status.Unfinished plan asked none stays fell cause = absurd cause
-cut_short line a b c s inputs status.Words plan asked none stays fell cause = absurd cause
-cut_short line a b c s inputs status.Image plan asked none stays fell cause = absurd cause
-cut_short line a b c s inputs status.EditList plan asked none stays fell cause = absurd cause
-cut_short line a b c s inputs status.ReadFault plan asked none stays fell cause = absurd cause
-cut_short line a b c s inputs status.WriteFault plan asked none stays fell cause =
-    let texts = reports_in line a s inputs plan in
-    record {
+-- not all texts were printed
+cut_short :
+    (line : Line) (a b c : World) (p : Plan) (why : Status)
+    → IsPlan line a p → CanBePlayed p → CanBeSpelled p → AsksForFiles (files_named line) a b → AsksNothing b c → Stays a b → NoneFell a b
+    → WhyCutShort (texts_of line p) b c why → RoundsEnd line a c why
+unfolding rounds_in
+cut_short line a b c p status.Finished is playable spelled asked none stays fell cause = absurd cause
+cut_short line a b c p status.Unfinished is playable spelled asked none stays fell cause = absurd cause
+cut_short line a b c p status.Words is playable spelled asked none stays fell cause = absurd cause
+cut_short line a b c p status.Image is playable spelled asked none stays fell cause = absurd cause
+cut_short line a b c p status.Memo is playable spelled asked none stays fell cause = absurd cause
+cut_short line a b c p status.EditList is playable spelled asked none stays fell cause = absurd cause
+cut_short line a b c p status.ReadFault is playable spelled asked none stays fell cause = absurd cause
+cut_short line a b c p status.WriteFault is playable spelled asked none stays fell cause =
+    inl
+    (record {
       asked = none ∙ asked;
-      has = rounds_in line a s inputs plan;
+      has = rounds_in line a p is playable spelled;
       part = record {
         cause = rose_before _ _ _ fell.prints cause.cause;
         whole = cause.whole;
         next = cause.next;
-        is_next = ap (λ (ts : List (List ℕ)). slice_get ts cause.whole) (sym texts) ∙ cause.is_next;
+        is_next = cause.is_next;
         count = cause.count;
-        prints = subst (λ (ts : List (List ℕ)). Prints a c (concat (take cause.whole ts) ++ take cause.count cause.next)) texts
-            (prints_after a b c (concat (take cause.whole (reports_of line.workers s inputs)) ++ take cause.count cause.next) stays cause.prints);
+        prints = prints_after a b c (concat (take cause.whole (texts_of line p)) ++ take cause.count cause.next) stays cause.prints;
       };
-    }
-cut_short line a b c s inputs status.Memory plan asked none stays fell cause =
-    let texts = reports_in line a s inputs plan in
+    })
+cut_short line a b c p status.Memory is playable spelled asked none stays fell cause =
     inr
     (record {
       asked = none ∙ asked;
-      has = rounds_in line a s inputs plan;
+      has = rounds_in line a p is playable spelled;
       rounds = cause.0;
-      prints = subst (λ (ts : List (List ℕ)). Prints a c (concat (take cause.0 ts))) texts
-          (prints_after a b c (concat (take cause.0 (reports_of line.workers s inputs))) stays cause.1);
+      prints = prints_after a b c (concat (take cause.0 (texts_of line p))) stays cause.1;
     })
-cut_short line a b c s inputs status.TooLarge plan asked none stays fell cause = absurd cause
+cut_short line a b c p status.TooLarge is playable spelled asked none stays fell cause = absurd cause
+
+-- how many texts there are
+abbrev all_texts : Line → Plan → ℕ
+all_texts line p = length (texts_of line p)
+
+all_texts-are : (line : Line) (p : Plan) → take (all_texts line p) (texts_of line p) ≡ texts_of line p
+all_texts-are line p = take_all (all_texts line p) (texts_of line p) (omega arith)
+
+-- all texts were printed, and the memo wasn't written
+unkept :
+    (line : Line) (a b m c : World) (p : Plan) (name : Text) (why : Status)
+    → IsPlan line a p → CanBePlayed p → CanBeSpelled p → AsksForFiles (files_named line) a b → AsksNothing b c → Stays a b → NoneFell a b → NoneFell b m
+    → kept_by line ≡ Some name → Prints b m (concat (texts_of line p)) → WhyUnkept name (memo (left_of p)) m c why → RoundsEnd line a c why
+unfolding rounds_in
+unkept line a b m c p name status.Finished is playable spelled asked none stays fell later named prints cause = absurd cause
+unkept line a b m c p name status.Unfinished is playable spelled asked none stays fell later named prints cause = absurd cause
+unkept line a b m c p name status.Words is playable spelled asked none stays fell later named prints cause = absurd cause
+unkept line a b m c p name status.Image is playable spelled asked none stays fell later named prints cause = absurd cause
+unkept line a b m c p name status.Memo is playable spelled asked none stays fell later named prints cause = absurd cause
+unkept line a b m c p name status.EditList is playable spelled asked none stays fell later named prints cause = absurd cause
+unkept line a b m c p name status.ReadFault is playable spelled asked none stays fell later named prints cause = absurd cause
+unkept line a b m c p name status.WriteFault is playable spelled asked none stays fell later named prints cause =
+    let all : Prints a m (concat (texts_of line p)) = prints_after a b m (concat (texts_of line p)) stays prints in
+    inr
+    (record {
+      asked = none ∙ asked;
+      has = rounds_in line a p is playable spelled;
+      name = name;
+      is_named = named;
+      cause = rose_before _ _ _ (fell.writes name) (rose_before _ _ _ (later.writes name) cause.cause);
+      tells = cause.tells ∙ all.tells;
+      printed = subst (λ (told : Option (List ℕ)). Appends a.printed told (concat (texts_of line p))) (sym cause.printed) all.printed;
+      untold = cause.untold;
+      others = λ other away. cause.others other away ∙ ap (λ (files : Text → Option (List ℕ)). files other) all.files;
+    })
+unkept line a b m c p name status.Memory is playable spelled asked none stays fell later named prints cause =
+    inr
+    (record {
+      asked = none ∙ asked;
+      has = rounds_in line a p is playable spelled;
+      rounds = all_texts line p;
+      prints = subst (λ (ts : List (List ℕ)). Prints a c (concat ts)) (sym (all_texts-are line p))
+          (prints_then a m c (concat (texts_of line p)) (prints_after a b m (concat (texts_of line p)) stays prints) cause);
+    })
+unkept line a b m c p name status.TooLarge is playable spelled asked none stays fell later named prints cause =
+    inr
+    (record {
+      asked = none ∙ asked;
+      has = rounds_in line a p is playable spelled;
+      name = name;
+      is_named = named;
+      long = cause.long;
+      prints = prints_then a m c (concat (texts_of line p)) (prints_after a b m (concat (texts_of line p)) stays prints) cause.stays;
+    })
+
+-- not all was done
+pub undone :
+    (line : Line) (a b c : World) (p : Plan) (why : Status)
+    → IsPlan line a p → CanBePlayed p → CanBeSpelled p → AsksForFiles (files_named line) a b → AsksNothing b c → Stays a b → NoneFell a b
+    → WhyUndone (kept_by line) (texts_of line p) (memo (left_of p)) b c why → RoundsEnd line a c why
+undone line a b c p why is playable spelled asked none stays fell cause =
+    elim cause [
+      | inl short ↦ cut_short line a b c p why is playable spelled asked none stays fell short
+      | inr after ↦ unkept line a b after.between c p after.kept why is playable spelled asked none stays fell after.counts after.is_named after.prints after.why
+    ]

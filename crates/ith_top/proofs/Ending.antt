@@ -4,16 +4,19 @@ use Rattle.std.proofs.lemmas.List.{append-nil}
 use Rattle.std.proofs.lemmas.List.Elements.{All-cons, All-nil}
 use Rattle.elf_spec.specs.declared.TheConstants.{MOST_ELF_BYTES}
 use Rattle.machine_spec.specs.declared.TheConstants.{MOST_INPUT_BYTES}
+use Rattle.memo_spec.specs.declared.TheConstants.{MOST_MEMO_BYTES}
 use Rattle.ith_host.specs.World.{World, NoneFell, Stays, AsksNothing, IsContent}
 use Rattle.elf_spec.specs.declared.Refusal.{Refusal}
 use Rattle.elf_spec.specs.Refusals.{refusal_of}
 use Rattle.elf_spec.specs.Image.{is_image}
+use Rattle.history_spec.specs.History.{History}
+use Rattle.ith_words.specs.Words.{Text, Line, Runs, Reruns, Shows, RunLine, RerunLine, ShowLine}
 use Rattle.ith_top.specs.declared.status.Status.{Status}
 use Rattle.ith_top.specs.declared.status.Status.TheVariants as status
-use Rattle.ith_top.specs.Words.{Text, RunLine}
-use Rattle.ith_top.specs.Files.{Named, lists_named, files_named, AsksForFiles, IsWithin}
-use Rattle.ith_top.specs.Ends.{Contents, AreLists, AreContents, WasRead, RunEnds}
-use Rattle.ith_top.specs.Refusals.{WhyUnread, WhyNoSetup, WhyUnedited}
+use Rattle.ith_top.specs.Files.{elf_named, input_named, memo_named, lists_named, files_named, AsksForFiles, IsWithin}
+use Rattle.ith_top.specs.Contents.{Contents, AreLists, AreContents, WasRead, IsMemoContent, IsMemoOf}
+use Rattle.ith_top.specs.Ends.{RoundsEnd, ShowEnds, IsUnbegun}
+use Rattle.ith_top.specs.Refusals.{WhyUnread, WhyNoSetup, WhyNoHistory, WhyUnedited}
 use Rattle.ith_top.proofs.Worlds.{content_before, stays_trans, none_fell_trans, within_before}
 use Rattle.ith_top.proofs.Asking.{files_both, within_told, unread_front, unread_more}
 
@@ -23,7 +26,7 @@ unfolding is_image
 refused_image bytes refusal is = rw is refl
 
 -- what edit lists are said to hold later, they held before
-lists_before : (a b : World) (names : List Text) (lists : List (List ℕ)) → Stays a b → AreLists b names lists → AreLists a names lists
+pub lists_before : (a b : World) (names : List Text) (lists : List (List ℕ)) → Stays a b → AreLists b names lists → AreLists a names lists
 lists_before a b [] [] stays are = tt
 lists_before a b [] (list ∷ lists) stays are = absurd are
 lists_before a b (name ∷ names) [] stays are = absurd are
@@ -47,88 +50,182 @@ files_read line a b c elf input lists stays then first first_within second secon
       lists = lists_before a c line.edits lists (stays_trans a b c stays then) third;
     }
 
-abbrev elf_of : RunLine → Named
-elf_of line = record { name = line.elf; most = MOST_ELF_BYTES }
-
-abbrev input_of : RunLine → Named
-input_of line = record { name = line.input; most = MOST_INPUT_BYTES }
-
 -- the executable wasn't read
-pub elf_unread : (line : RunLine) (a b : World) (s : Status) → WhyUnread (elf_of line ∷ []) a b s → WhyUnread (files_named line) a b s
-elf_unread line a b s why = unread_front (elf_of line ∷ []) (input_of line ∷ lists_named line.edits) a b s why
+pub elf_unread : (line : RunLine) (a b : World) (s : Status) → WhyUnread (elf_named line.elf ∷ []) a b s → WhyUnread (files_named (Runs line)) a b s
+elf_unread line a b s why = unread_front (elf_named line.elf ∷ []) (input_named line.input ∷ lists_named line.edits) a b s why
 
 -- the input wasn't, after the executable was
 pub input_unread :
     (line : RunLine) (a b c : World) (s : Status) (elf : List ℕ)
-    → Stays a b → NoneFell a b → AsksForFiles (elf_of line ∷ []) a b
+    → Stays a b → NoneFell a b → AsksForFiles (elf_named line.elf ∷ []) a b
     → IsContent a line.elf elf → length elf ≤ MOST_ELF_BYTES
-    → WhyUnread (input_of line ∷ []) b c s → WhyUnread (files_named line) a c s
+    → WhyUnread (input_named line.input ∷ []) b c s → WhyUnread (files_named (Runs line)) a c s
 input_unread line a b c s elf stays fell asked first within why =
-    unread_more (elf_of line ∷ []) (input_of line ∷ lists_named line.edits) a b c s stays fell asked
-    (All-cons (IsWithin a) (elf_of line) [] (within_told (a.files line.elf) elf MOST_ELF_BYTES first within) (All-nil (IsWithin a)))
-    (unread_front (input_of line ∷ []) (lists_named line.edits) b c s why)
+    unread_more (elf_named line.elf ∷ []) (input_named line.input ∷ lists_named line.edits) a b c s stays fell asked
+    (All-cons (IsWithin a) (elf_named line.elf) [] (within_told (a.files line.elf) elf MOST_ELF_BYTES first within) (All-nil (IsWithin a)))
+    (unread_front (input_named line.input ∷ []) (lists_named line.edits) b c s why)
 
 -- an edit list wasn't, after the executable and the input were
 pub list_unread :
     (line : RunLine) (a b c d : World) (s : Status) (elf input : List ℕ)
     → Stays a b → NoneFell a b → Stays b c → NoneFell b c
-    → AsksForFiles (elf_of line ∷ []) a b → AsksForFiles (input_of line ∷ []) b c
+    → AsksForFiles (elf_named line.elf ∷ []) a b → AsksForFiles (input_named line.input ∷ []) b c
     → IsContent a line.elf elf → length elf ≤ MOST_ELF_BYTES
     → IsContent b line.input input → length input ≤ MOST_INPUT_BYTES
-    → WhyUnread (lists_named line.edits) c d s → WhyUnread (files_named line) a d s
+    → WhyUnread (lists_named line.edits) c d s → WhyUnread (files_named (Runs line)) a d s
 list_unread line a b c d s elf input stays fell then later asked more first within second shorter why =
-    let here : IsWithin a (input_of line) = within_before a b (input_of line) stays (within_told (b.files line.input) input MOST_INPUT_BYTES second shorter) in
-    unread_more (elf_of line ∷ input_of line ∷ []) (lists_named line.edits) a c d s (stays_trans a b c stays then) (none_fell_trans a b c fell later)
-    (files_both (elf_of line ∷ []) (input_of line ∷ []) a b c asked more)
-    (All-cons (IsWithin a) (elf_of line) (input_of line ∷ []) (within_told (a.files line.elf) elf MOST_ELF_BYTES first within)
-    (All-cons (IsWithin a) (input_of line) [] here (All-nil (IsWithin a))))
+    let here : IsWithin a (input_named line.input) = within_before a b (input_named line.input) stays (within_told (b.files line.input) input MOST_INPUT_BYTES second shorter) in
+    unread_more (elf_named line.elf ∷ input_named line.input ∷ []) (lists_named line.edits) a c d s (stays_trans a b c stays then) (none_fell_trans a b c fell later)
+    (files_both (elf_named line.elf ∷ []) (input_named line.input ∷ []) a b c asked more)
+    (All-cons (IsWithin a) (elf_named line.elf) (input_named line.input ∷ []) (within_told (a.files line.elf) elf MOST_ELF_BYTES first within)
+    (All-cons (IsWithin a) (input_named line.input) [] here (All-nil (IsWithin a))))
     why
 
--- files weren't all read
-pub unread_ends : (line : RunLine) (a b : World) (s : Status) → Stays a b → WhyUnread (files_named line) a b s → RunEnds line a b s
+-- the memo of a rerun wasn't read
+pub memo_unread : (line : RerunLine) (a b : World) (s : Status) → WhyUnread (memo_named line.memo ∷ []) a b s → WhyUnread (files_named (Reruns line)) a b s
+memo_unread line a b s why = unread_front (memo_named line.memo ∷ []) (lists_named line.edits) a b s why
+
+-- an edit list wasn't, after the memo was
+pub rerun_list_unread :
+    (line : RerunLine) (a b c : World) (s : Status) (memo : List ℕ)
+    → Stays a b → NoneFell a b → AsksForFiles (memo_named line.memo ∷ []) a b → IsMemoContent a line.memo memo
+    → WhyUnread (lists_named line.edits) b c s → WhyUnread (files_named (Reruns line)) a c s
+rerun_list_unread line a b c s memo stays fell asked read why =
+    unread_more (memo_named line.memo ∷ []) (lists_named line.edits) a b c s stays fell asked
+    (All-cons (IsWithin a) (memo_named line.memo) [] (within_told (a.files line.memo) memo MOST_MEMO_BYTES read.content read.within) (All-nil (IsWithin a)))
+    why
+
+-- files of a line that asks for rounds weren't all read
+pub unread_ends : (line : Line) (a b : World) (s : Status) → Stays a b → WhyUnread (files_named line) a b s → RoundsEnd line a b s
 unread_ends line a b status.Finished stays why = absurd why
 unread_ends line a b status.Unfinished stays why = absurd why
 unread_ends line a b status.Words stays why = absurd why
 unread_ends line a b status.Image stays why = absurd why
+unread_ends line a b status.Memo stays why = absurd why
 unread_ends line a b status.EditList stays why = absurd why
 unread_ends line a b status.ReadFault stays why = record { stops = why; stays = stays }
 unread_ends line a b status.WriteFault stays why = absurd why
 unread_ends line a b status.Memory stays why = inl (record { asked = why; stays = stays })
-unread_ends line a b status.TooLarge stays why = record { stops = why; stays = stays }
+unread_ends line a b status.TooLarge stays why = inl (record { stops = why; stays = stays })
+
+unbegun : (line : Line) (a b : World) → AsksForFiles (files_named line) a b → Stays a b → IsUnbegun line a b
+unbegun line a b asked stays =
+    record { asked = record { first = files_named line; later = []; are = sym (append-nil (files_named line)); asked = asked }; stays = stays }
 
 -- all files were asked for, and then the host's memory ran out
-cut_ends : (line : RunLine) (a b : World) → AsksForFiles (files_named line) a b → Stays a b → RunEnds line a b status.Memory
-cut_ends line a b asked stays =
-    inl (record { asked = record { first = files_named line; later = []; are = sym (append-nil (files_named line)); asked = asked }; stays = stays })
+pub cut_ends : (line : Line) (a b c : World) → AsksForFiles (files_named line) a b → AsksNothing b c → Stays a b → Stays b c → RoundsEnd line a c status.Memory
+cut_ends line a b c asked none stays then = inl (unbegun line a c (none ∙ asked) (stays_trans a b c stays then))
 
 -- all files were read, and no setup was made of the executable
 pub refused_ends :
     (line : RunLine) (a b c : World) (contents : Contents) (s : Status)
-    → AsksForFiles (files_named line) a b → AsksNothing b c → Stays a b → Stays b c
-    → AreContents a line contents → WhyNoSetup contents.elf s → RunEnds line a c s
+    → AsksForFiles (files_named (Runs line)) a b → AsksNothing b c → Stays a b → Stays b c
+    → AreContents a line contents → WhyNoSetup contents.elf s → RoundsEnd (Runs line) a c s
 refused_ends line a b c contents status.Finished asked none stays then are why = absurd why
 refused_ends line a b c contents status.Unfinished asked none stays then are why = absurd why
 refused_ends line a b c contents status.Words asked none stays then are why = absurd why
 refused_ends line a b c contents status.Image asked none stays then are why =
     record { asked = none ∙ asked; contents = contents; read = are; refused = why; stays = stays_trans a b c stays then }
+refused_ends line a b c contents status.Memo asked none stays then are why = absurd why
 refused_ends line a b c contents status.EditList asked none stays then are why = absurd why
 refused_ends line a b c contents status.ReadFault asked none stays then are why = absurd why
 refused_ends line a b c contents status.WriteFault asked none stays then are why = absurd why
-refused_ends line a b c contents status.Memory asked none stays then are why = cut_ends line a c (none ∙ asked) (stays_trans a b c stays then)
+refused_ends line a b c contents status.Memory asked none stays then are why = cut_ends (Runs line) a b c asked none stays then
 refused_ends line a b c contents status.TooLarge asked none stays then are why = absurd why
+
+-- all files were read, and no history was had from the memo
+pub forgotten_ends :
+    (line : RerunLine) (a b c : World) (memo : List ℕ) (s : Status)
+    → AsksForFiles (files_named (Reruns line)) a b → AsksNothing b c → Stays a b → Stays b c
+    → IsMemoContent a line.memo memo → WhyNoHistory memo s → RoundsEnd (Reruns line) a c s
+forgotten_ends line a b c memo status.Finished asked none stays then read why = absurd why
+forgotten_ends line a b c memo status.Unfinished asked none stays then read why = absurd why
+forgotten_ends line a b c memo status.Words asked none stays then read why = absurd why
+forgotten_ends line a b c memo status.Image asked none stays then read why = absurd why
+forgotten_ends line a b c memo status.Memo asked none stays then read why =
+    record { asked = none ∙ asked; memo = memo; read = read; why = why.0; refused = why.1; stays = stays_trans a b c stays then }
+forgotten_ends line a b c memo status.EditList asked none stays then read why = absurd why
+forgotten_ends line a b c memo status.ReadFault asked none stays then read why = absurd why
+forgotten_ends line a b c memo status.WriteFault asked none stays then read why = absurd why
+forgotten_ends line a b c memo status.Memory asked none stays then read why = cut_ends (Reruns line) a b c asked none stays then
+forgotten_ends line a b c memo status.TooLarge asked none stays then read why = absurd why
 
 -- the executable was accepted, and the edit lists made no inputs
 pub unedited_ends :
     (line : RunLine) (a b c : World) (contents : Contents) (s : Status)
-    → AsksForFiles (files_named line) a b → AsksNothing b c → Stays a b → Stays b c
-    → WasRead line a contents → WhyUnedited contents.input contents.lists s → RunEnds line a c s
+    → AsksForFiles (files_named (Runs line)) a b → AsksNothing b c → Stays a b → Stays b c
+    → WasRead line a contents → WhyUnedited contents.input contents.lists s → RoundsEnd (Runs line) a c s
 unedited_ends line a b c contents status.Finished asked none stays then read why = absurd why
 unedited_ends line a b c contents status.Unfinished asked none stays then read why = absurd why
 unedited_ends line a b c contents status.Words asked none stays then read why = absurd why
 unedited_ends line a b c contents status.Image asked none stays then read why = absurd why
+unedited_ends line a b c contents status.Memo asked none stays then read why = absurd why
 unedited_ends line a b c contents status.EditList asked none stays then read why =
     record { asked = none ∙ asked; contents = contents; read = read; place = why.0; why = why.1; refused = why.2; stays = stays_trans a b c stays then }
 unedited_ends line a b c contents status.ReadFault asked none stays then read why = absurd why
 unedited_ends line a b c contents status.WriteFault asked none stays then read why = absurd why
-unedited_ends line a b c contents status.Memory asked none stays then read why = cut_ends line a c (none ∙ asked) (stays_trans a b c stays then)
+unedited_ends line a b c contents status.Memory asked none stays then read why = cut_ends (Runs line) a b c asked none stays then
 unedited_ends line a b c contents status.TooLarge asked none stays then read why = absurd why
+
+-- the memo was accepted, and the edit lists made no inputs
+pub rerun_unedited_ends :
+    (line : RerunLine) (a b c : World) (memo : List ℕ) (lists : List (List ℕ)) (h : History) (s : Status)
+    → AsksForFiles (files_named (Reruns line)) a b → AsksNothing b c → Stays a b → Stays b c
+    → IsMemoContent a line.memo memo → AreLists a line.edits lists → IsMemoOf memo h → WhyUnedited h.setup.input lists s → RoundsEnd (Reruns line) a c s
+rerun_unedited_ends line a b c memo lists h status.Finished asked none stays then read told is why = absurd why
+rerun_unedited_ends line a b c memo lists h status.Unfinished asked none stays then read told is why = absurd why
+rerun_unedited_ends line a b c memo lists h status.Words asked none stays then read told is why = absurd why
+rerun_unedited_ends line a b c memo lists h status.Image asked none stays then read told is why = absurd why
+rerun_unedited_ends line a b c memo lists h status.Memo asked none stays then read told is why = absurd why
+rerun_unedited_ends line a b c memo lists h status.EditList asked none stays then read told is why =
+    record {
+      asked = none ∙ asked;
+      memo = memo;
+      read = read;
+      lists = lists;
+      lists_read = told;
+      history = h;
+      accepted = is;
+      place = why.0;
+      why = why.1;
+      refused = why.2;
+      stays = stays_trans a b c stays then;
+    }
+rerun_unedited_ends line a b c memo lists h status.ReadFault asked none stays then read told is why = absurd why
+rerun_unedited_ends line a b c memo lists h status.WriteFault asked none stays then read told is why = absurd why
+rerun_unedited_ends line a b c memo lists h status.Memory asked none stays then read told is why = cut_ends (Reruns line) a b c asked none stays then
+rerun_unedited_ends line a b c memo lists h status.TooLarge asked none stays then read told is why = absurd why
+
+-- the memo to show wasn't read
+pub show_unread : (line : ShowLine) (a b : World) (s : Status) → Stays a b → WhyUnread (files_named (Shows line)) a b s → ShowEnds line a b s
+show_unread line a b status.Finished stays why = absurd why
+show_unread line a b status.Unfinished stays why = absurd why
+show_unread line a b status.Words stays why = absurd why
+show_unread line a b status.Image stays why = absurd why
+show_unread line a b status.Memo stays why = absurd why
+show_unread line a b status.EditList stays why = absurd why
+show_unread line a b status.ReadFault stays why = record { stops = why; stays = stays }
+show_unread line a b status.WriteFault stays why = absurd why
+show_unread line a b status.Memory stays why = record { asked = why; stays = stays }
+show_unread line a b status.TooLarge stays why = record { stops = why; stays = stays }
+
+-- the memo to show was read, and then the host's memory ran out
+pub show_cut : (line : ShowLine) (a b c : World) → AsksForFiles (files_named (Shows line)) a b → AsksNothing b c → Stays a b → Stays b c → ShowEnds line a c status.Memory
+show_cut line a b c asked none stays then = unbegun (Shows line) a c (none ∙ asked) (stays_trans a b c stays then)
+
+-- the memo to show was read, and no history was had from it
+pub show_forgotten :
+    (line : ShowLine) (a b c : World) (memo : List ℕ) (s : Status)
+    → AsksForFiles (files_named (Shows line)) a b → AsksNothing b c → Stays a b → Stays b c
+    → IsMemoContent a line.memo memo → WhyNoHistory memo s → ShowEnds line a c s
+show_forgotten line a b c memo status.Finished asked none stays then read why = absurd why
+show_forgotten line a b c memo status.Unfinished asked none stays then read why = absurd why
+show_forgotten line a b c memo status.Words asked none stays then read why = absurd why
+show_forgotten line a b c memo status.Image asked none stays then read why = absurd why
+show_forgotten line a b c memo status.Memo asked none stays then read why =
+    record { asked = none ∙ asked; memo = memo; read = read; why = why.0; refused = why.1; stays = stays_trans a b c stays then }
+show_forgotten line a b c memo status.EditList asked none stays then read why = absurd why
+show_forgotten line a b c memo status.ReadFault asked none stays then read why = absurd why
+show_forgotten line a b c memo status.WriteFault asked none stays then read why = absurd why
+show_forgotten line a b c memo status.Memory asked none stays then read why = show_cut line a b c asked none stays then
+show_forgotten line a b c memo status.TooLarge asked none stays then read why = absurd why

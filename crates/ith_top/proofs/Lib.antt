@@ -4,8 +4,9 @@ pub mod Worlds
 pub mod Asking
 pub mod Reading
 pub mod Ending
+pub mod Planning
 pub mod Making
 pub mod Going
+pub mod Promises
 pub mod Done
-pub mod NoLine
-pub mod Given
+pub mod Listed

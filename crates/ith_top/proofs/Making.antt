@@ -1,53 +1,37 @@
--- What is told of a round as it was made is what its definitions say.
-use Rattle.std.proofs.Common.{◌≡◌, ℕ, length, Some, ap, sym, ◌∙◌}
-use Rattle.history_spec.specs.History.{IsSound}
-use Rattle.report_spec.specs.Report.{Told, instructions_from, report, report_text, told_of}
-use Rattle.machine_spec.specs.Setup.{Setup, first}
+-- A round as it was made, and the page map of what it goes by and leaves.
+use Rattle.std.proofs.Common.{◌≡◌, ℕ, List, Option, Some, None, ap, sym, ◌∙◌, subst}
+use Rattle.elf_spec.specs.Image.{image_pages}
+use Rattle.machine_spec.specs.Setup.{Setup}
+use Rattle.history_spec.specs.History.{History}
 use Rattle.round_spec.specs.Rounds.{RoundState}
-use Rattle.round_spec.specs.Keeping.{IsInOrder, IsFromScratch}
-use Rattle.rerun_spec.specs.Rounds.{Round, made}
-use Rattle.rerun_spec.specs.Reports.{shares_of_first, report_of, is_exit, exits}
-use Rattle.rerun_spec.proofs.Rounds.{CanBeMade, round-made}
-use Rattle.rerun_spec.proofs.Reports.{report-made, exit-made}
+use Rattle.round_spec.proofs.Leaving.{round-past}
+use Rattle.worker_spec.proofs.Events.{picks-events}
+use Rattle.propagate.specs.Kept.{IsOfMap}
+use Rattle.propagate.proofs.Mapped.{same_image}
+use Rattle.rerun_spec.specs.Rounds.{Round, Beginning, made, left_by, round_on}
+use Rattle.rerun_spec.proofs.Ending.{left-own}
 
--- a round in order, by a sound history, is told as its report tells
-pub told_text :
-    (number workers : ℕ) (w : RoundState)
-    → IsInOrder w → IsSound w.past w.setup
-    → report_text number (record {
-      ending = w.machine.ending;
-      schedule = w.schedule;
-      instructions = instructions_from (first w.setup) w.schedule;
-      shares = shares_of_first workers (length w.schedule);
-      memory = w.machine.memory;
-      output = w.machine.output;
-    })
-    ≡ report number w.setup w.schedule (shares_of_first workers (length w.schedule))
-unfolding report
-told_text number workers w in_order sound =
-    let scratch : IsFromScratch w = in_order.scratch sound in
-    ap (λ m. report_text number (record {
-      ending = m.ending;
-      schedule = w.schedule;
-      instructions = instructions_from (first w.setup) w.schedule;
-      shares = shares_of_first workers (length w.schedule);
-      memory = m.memory;
-      output = m.output;
-    })) scratch.machine
+made_past : (r : Round) → (made r).past ≡ r.past
+made_past r =
+    let events = picks-events r.setup r.past r.setup.limit in
+    ap (λ (w : RoundState). w.past) events.1 ∙ round-past r.setup r.past events.0
 
-pub made_sound : (r : Round) → CanBeMade r → IsSound (made r).past (made r).setup
-made_sound r is = rw (round-made r is) is.sound
+-- a setup of the same executable has the same page map
+of_same_elf : (past : Option History) (s t : Setup) → s.elf ≡ t.elf → IsOfMap past s → IsOfMap past t
+of_same_elf None s t same is = tt
+of_same_elf (Some h) s t same is = is ∙ same_image s t (ap image_pages same)
 
-pub made_report :
-    (workers : ℕ) (r : Round)
-    → CanBeMade r
-    → report r.number (made r).setup (made r).schedule (shares_of_first workers (length (made r).schedule)) ≡ report_of workers r
-made_report workers r is =
-    ap (λ s. report r.number s (made r).schedule (shares_of_first workers (length (made r).schedule))) (ap (λ (w : RoundState). w.setup) (round-made r is))
-    ∙ sym (report-made workers r is)
+-- a round that goes by a history of its page map stays on it
+pub round_map : (b : Beginning) (input : List ℕ) → IsOfMap b.past b.setup → IsOfMap (made (round_on b input)).past (made (round_on b input)).setup
+round_map b input is =
+    let r = round_on b input in
+    subst (λ (past : Option History). IsOfMap past (made r).setup) (sym (made_past r))
+    (of_same_elf b.past b.setup (made r).setup (sym (ap (λ (s : Setup). s.elf) (left-own r))) is)
 
-pub made_exit : (r : Round) → CanBeMade r → is_exit (made r).machine.ending ≡ exits r
-made_exit r is = sym (exit-made r is)
+-- and leaves a history of it
+pub left_map : (b : Beginning) (input : List ℕ) (left : History) → left ≡ left_by (round_on b input) → IsOfMap (Some left) b.setup
+left_map b input left is =
+    same_image left.setup b.setup (ap image_pages (ap (λ (h : History). h.setup.elf) is ∙ ap (λ (s : Setup). s.elf) (left-own (round_on b input))))
 
 -- what is there is one thing
 pub some_is : {A : Type 0} (x y : A) → Some x ≡ Some y → x ≡ y

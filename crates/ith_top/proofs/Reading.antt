@@ -1,8 +1,6 @@
 -- Edit lists that are read one after the other.
-use Rattle.std.proofs.Common.{◌≡◌, ◌<◌, ◌≤◌, ◌+◌, ℕ, Option, zero, suc, List, [], ◌∷◌, ◌++◌, length, take, map, get_or, Bor, Vec, inl, inr, refl, ap, sym, subst, ◌∙◌, arith}
+use Rattle.std.proofs.Common.{◌≡◌, ◌<◌, ◌≤◌, ◌+◌, ℕ, List, [], ◌∷◌, ◌++◌, length, take, map, get_or, Bor, Vec, refl, ap, sym, subst, ◌∙◌, arith}
 use Rattle.std.specs.Global.{Global}
-use Rattle.std.specs.Option.{IfSome}
-use Rattle.std.specs.List.{AllZip}
 use Rattle.std.proofs.lemmas.List.{append-nil, map_push, map-append, length-map, take_all, take_more, get_or-map}
 use Rattle.std.proofs.lemmas.List.Elements.{all_zip_more}
 use Rattle.edit_spec.specs.declared.TheConstants.{MOST_LIST_BYTES}
@@ -10,9 +8,9 @@ use Rattle.round_inputs.specs.Lists.{bytes_of_each}
 use Rattle.ith_host.specs.World.{World, NoneFell, Stays, AsksFor, AsksNothing, IsContent}
 use Rattle.ith_top.specs.declared.status.Status.{Status}
 use Rattle.ith_top.specs.declared.status.Status.TheVariants as status
-use Rattle.ith_top.specs.Words.{Text}
+use Rattle.ith_words.specs.Words.{Text}
 use Rattle.ith_top.specs.Files.{Named, AsksForFiles, lists_named}
-use Rattle.ith_top.specs.Ends.{AreLists}
+use Rattle.ith_top.specs.Contents.{AreLists}
 use Rattle.ith_top.specs.Refusals.{WhyUnread}
 use Rattle.ith_top.proofs.Worlds.{stays_trans, none_fell_trans, content_before}
 use Rattle.ith_top.proofs.Asking.{one_cut, asked_both, lists_asked, lists_within, split_at, unread_front, unread_more}

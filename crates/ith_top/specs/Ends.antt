@@ -1,64 +1,48 @@
 -- How a call of the program may end: for each status what was read, what was printed, what stays, and what caused it.
-use Rattle.std.specs.Prelude.{◌≡◌, ℕ, ◌≤◌, Bool, true, false, ◌⊎◌, List, [], ◌∷◌, ◌++◌, length, take, slice_get, Option, Some, None}
-use Rattle.std.specs.List.{AllZip, concat}
+use Rattle.std.specs.Prelude.{◌≡◌, ◌≢◌, ℕ, ◌<◌, ◌≤◌, Bool, true, false, ◌⊎◌, List, [], ◌∷◌, ◌++◌, All, IfSome, length, take, slice_get, Option, Some, None, Err}
+use Rattle.std.specs.List.{concat}
 use Rattle.std.specs.Io.KnownBytes.{Appends}
-use Rattle.elf_spec.specs.declared.TheConstants.{MOST_ELF_BYTES}
-use Rattle.edit_spec.specs.declared.TheConstants.{MOST_LIST_BYTES}
-use Rattle.machine_spec.specs.declared.TheConstants.{MOST_INPUT_BYTES}
-use Rattle.ith_host.specs.World.{World, Rose, Stays, AsksNothing, IsContent}
+use Rattle.ith_host.specs.World.{World, Rose, Stays, AsksNothing, Holds}
 use Rattle.elf_spec.specs.Image.{is_image}
-use Rattle.machine_spec.specs.Setup.{Setup}
-use Rattle.rerun_spec.specs.Inputs.{AreInputs, Refusal, IsFirstRefused}
-use Rattle.rerun_spec.specs.Rounds.{rounds_of}
-use Rattle.rerun_spec.specs.Reports.{reports_of, all_exit}
+use Rattle.history_spec.specs.History.{History}
+use Rattle.memo_spec.specs.declared.Refusal.{Refusal as MemoRefusal}
+use Rattle.memo_spec.specs.declared.TheConstants.{MOST_MEMO_BYTES}
+use Rattle.memo_spec.specs.Spelling.{memo}
+use Rattle.memo_spec.specs.Reading.{reading}
+use Rattle.memo_listing.specs.Listing.{listing}
+use Rattle.rerun_spec.specs.Inputs.{Refusal, IsFirstRefused}
+use Rattle.rerun_spec.specs.Rounds.{last_left}
+use Rattle.rerun_spec.specs.Reports.{made_reports, all_made_exit}
+use Rattle.ith_words.specs.Words.{Text, Line, Runs, Reruns, Shows, RunLine, RerunLine, ShowLine}
 use Rattle.ith_top.specs.declared.status.Status.{Status}
 use Rattle.ith_top.specs.declared.status.Status.TheVariants as status
-use Rattle.ith_top.specs.Words.{Text, Line, Runs, RunLine}
 use Rattle.ith_top.specs.Files.{Named, files_named, AsksForFiles, AsksForSome, StopsAt, FailedToRead, IsLong}
+use Rattle.ith_top.specs.Contents.{AreLists, Contents, AreContents, WasRead, IsMemoContent, IsMemoOf, Plan, IsPlan, workers_of}
+use Rattle.ith_top.specs.Rounds.{rounds_of, BeginsHonestly, ArePromised, IsOfAny}
 use Rattle.ith_top.specs.Statuses.{code_of}
-use Rattle.ith_top.specs.Rounds.{ArePromised}
 
--- What the named files hold.
-pub record Contents : Type 0 where
-  pub elf : List ℕ
-  pub input : List ℕ
-  pub lists : List (List ℕ)
+-- What a line's rounds come from, and what is promised of them: they are from scratch where they begin with no history or
+-- with an honest one; and whatever they begin with, each has an end, and what it leaves can be spelled.
+pub record HasRounds (line : Line) (before : World) : Type 0 where
+  pub plan : Plan
+  pub is_plan : IsPlan line before plan
+  pub promised : BeginsHonestly plan.beginning → ArePromised (workers_of line) (rounds_of plan)
+  pub of_any : All IsOfAny (rounds_of plan)
 
--- The contents of edit lists, which agree with each that is told, and are within their limit.
-abbrev pub AreLists : World → List Text → List (List ℕ) → Type 0
-AreLists before names lists =
-    AllZip (λ name list. IsContent before name list × (length list ≤ MOST_LIST_BYTES)) names lists
+-- The texts that tell of a plan's rounds as they were made, in order: where it is promised that these are from scratch,
+-- they are the rounds' reports.
+abbrev pub texts_of : Line → Plan → List (List ℕ)
+texts_of line p = made_reports (workers_of line) (rounds_of p)
 
--- Contents that agree with each file that is told, and are within their limits.
-pub record AreContents (before : World) (line : RunLine) (c : Contents) : Type 0 where
-  pub elf : IsContent before line.elf c.elf
-  pub elf_within : length c.elf ≤ MOST_ELF_BYTES
-  pub input : IsContent before line.input c.input
-  pub input_within : length c.input ≤ MOST_INPUT_BYTES
-  pub lists : AreLists before line.edits c.lists
+-- What the last round of a plan leaves.
+abbrev pub left_of : Plan → History
+left_of p = last_left p.beginning p.inputs
 
--- The setup of a line and of what its files hold.
-abbrev pub setup_of : RunLine → Contents → Setup
-setup_of line c = record { elf = c.elf; input = c.input; fuel = line.fuel; limit = line.limit }
-
--- What was read, and of which the executable is accepted.
-pub record WasRead (line : RunLine) (before : World) (c : Contents) : Type 0 where
-  pub contents : AreContents before line c
-  pub accepted : is_image c.elf ≡ true
-
--- What a line's rounds come from: what was read and accepted, and the input of each round, which the edit lists make in
--- order; and what is promised of these rounds.
-pub record HasRounds (line : RunLine) (before : World) : Type 0 where
-  pub contents : Contents
-  pub read : WasRead line before contents
-  pub inputs : List (List ℕ)
-  pub edited : AreInputs contents.input contents.lists inputs
-  pub promised : ArePromised (rounds_of (setup_of line contents) inputs)
-
--- The reports of a line's rounds, in order: round 0 is the run from scratch on the input, and each other is on the
--- input of the round before it after the next edit list.
-abbrev pub reports : (line : RunLine) → (before : World) → HasRounds line before → List (List ℕ)
-reports line before has = reports_of line.workers (setup_of line has.contents) has.inputs
+-- The name of the memo that a line asks to write, if it does.
+abbrev pub kept_by : Line → Option Text
+kept_by (Runs line) = line.kept
+kept_by (Reruns line) = line.kept
+kept_by (Shows line) = None
 
 -- Of the files nothing changed, and these bytes were printed.
 pub record Prints (before after : World) (bytes : List ℕ) : Type 0 where
@@ -66,12 +50,26 @@ pub record Prints (before after : World) (bytes : List ℕ) : Type 0 where
   pub files : after.files ≡ before.files
   pub printed : Appends before.printed after.printed bytes
 
--- All is done: exactly the reports of all rounds were printed; and whether each round ended by exit.
-pub record IsDone (line : RunLine) (exits : Bool) (before after : World) : Type 0 where
+-- These bytes were printed; the file of a name, if there is one, was made to hold this content, and of the other files
+-- nothing changed.
+pub record PrintsAndKeeps (name : Option Text) (content : List ℕ) (before after : World) (bytes : List ℕ) : Type 0 where
+  pub tells : after.tells ≡ before.tells
+  pub printed : Appends before.printed after.printed bytes
+  pub written : IfSome name (λ n. Holds after n content)
+  pub others : (other : Text) → IfSome name (λ n. other ≢ n) → after.files other ≡ before.files other
+
+-- A memo of this content, where it has a name, is no longer than a memo may be.
+abbrev pub IsKeptWithin : Option Text → List ℕ → Type 0
+IsKeptWithin name content = IfSome name (λ n. length content ≤ MOST_MEMO_BYTES)
+
+-- All is done: exactly the texts of all rounds were printed; the memo of what the last one leaves was written where the
+-- line asks for it; and whether each round ended by exit.
+pub record IsDone (line : Line) (exits : Bool) (before after : World) : Type 0 where
   pub asked : AsksForFiles (files_named line) before after
   pub has : HasRounds line before
-  pub prints : Prints before after (concat (reports line before has))
-  pub ends : all_exit (setup_of line has.contents) has.inputs ≡ exits
+  pub keeps : PrintsAndKeeps (kept_by line) (memo (left_of has.plan)) before after (concat (texts_of line has.plan))
+  pub within : IsKeptWithin (kept_by line) (memo (left_of has.plan))
+  pub ends : all_made_exit (rounds_of has.plan) ≡ exits
 
 -- A fact holds of none of these files.
 abbrev pub OfNone : (Named → Type 0) → List Named → Type 0
@@ -79,17 +77,26 @@ OfNone fact [] = Unit {0}
 OfNone fact (file ∷ files) = (fact file → ⊥) × OfNone fact files
 
 -- The executable is refused, and nothing was printed.
-pub record IsRefused (line : RunLine) (before after : World) : Type 0 where
-  pub asked : AsksForFiles (files_named line) before after
+pub record IsImageRefused (line : RunLine) (before after : World) : Type 0 where
+  pub asked : AsksForFiles (files_named (Runs line)) before after
   pub contents : Contents
   pub read : AreContents before line contents
   pub refused : is_image contents.elf ≡ false
   pub stays : Stays before after
 
+-- The memo of a line is refused, by this refusal, and nothing was printed.
+pub record IsMemoRefused (line : Line) (name : Text) (before after : World) : Type 0 where
+  pub asked : AsksForFiles (files_named line) before after
+  pub memo : List ℕ
+  pub read : IsMemoContent before name memo
+  pub why : MemoRefusal
+  pub refused : reading memo ≡ Err why
+  pub stays : Stays before after
+
 -- The executable is accepted, and an edit list is the first that is refused, by its place among the lists, its line and
 -- why; and nothing was printed.
 pub record IsListRefused (line : RunLine) (before after : World) : Type 0 where
-  pub asked : AsksForFiles (files_named line) before after
+  pub asked : AsksForFiles (files_named (Runs line)) before after
   pub contents : Contents
   pub read : WasRead line before contents
   pub place : ℕ
@@ -97,15 +104,39 @@ pub record IsListRefused (line : RunLine) (before after : World) : Type 0 where
   pub refused : IsFirstRefused contents.input contents.lists place why
   pub stays : Stays before after
 
+-- The memo is accepted, and an edit list is the first that is refused, by its place among the lists, its line and why;
+-- and nothing was printed.
+pub record IsRerunListRefused (line : RerunLine) (before after : World) : Type 0 where
+  pub asked : AsksForFiles (files_named (Reruns line)) before after
+  pub memo : List ℕ
+  pub read : IsMemoContent before line.memo memo
+  pub lists : List (List ℕ)
+  pub lists_read : AreLists before line.edits lists
+  pub history : History
+  pub accepted : IsMemoOf memo history
+  pub place : ℕ
+  pub why : Refusal
+  pub refused : IsFirstRefused history.setup.input lists place why
+  pub stays : Stays before after
+
 -- Reading a file that the line names failed, after those before it were read, and nothing was printed.
-pub record IsUnread (line : RunLine) (before after : World) : Type 0 where
+pub record IsUnread (line : Line) (before after : World) : Type 0 where
   pub stops : StopsAt (FailedToRead before after) (files_named line) before after
   pub stays : Stays before after
 
 -- A file that the line names is longer than its limit, after those before it were read, and nothing was printed.
-pub record IsTooLarge (line : RunLine) (before after : World) : Type 0 where
+pub record IsTooLarge (line : Line) (before after : World) : Type 0 where
   pub stops : StopsAt (IsLong before) (files_named line) before after
   pub stays : Stays before after
+
+-- All reports were printed, and the memo that the line asks for is longer than a memo may be: no file was written.
+pub record IsTooLargeToKeep (line : Line) (before after : World) : Type 0 where
+  pub asked : AsksForFiles (files_named line) before after
+  pub has : HasRounds line before
+  pub name : Text
+  pub is_named : kept_by line ≡ Some name
+  pub long : MOST_MEMO_BYTES < length (memo (left_of has.plan))
+  pub prints : Prints before after (concat (texts_of line has.plan))
 
 -- Printing failed: of some texts the first so many were printed, and the first bytes of the next, any number of them.
 pub record IsPrintedInPart (texts : List (List ℕ)) (before after : World) : Type 0 where
@@ -116,35 +147,96 @@ pub record IsPrintedInPart (texts : List (List ℕ)) (before after : World) : Ty
   pub count : ℕ
   pub prints : Prints before after (concat (take whole texts) ++ take count next)
 
--- Printing failed, and the reports of the first rounds were printed, and of the next one's a part.
-pub record IsUnprinted (line : RunLine) (before after : World) : Type 0 where
+-- Printing failed, and the texts of the first rounds were printed, and of the next one's a part.
+pub record IsUnprinted (line : Line) (before after : World) : Type 0 where
   pub asked : AsksForFiles (files_named line) before after
   pub has : HasRounds line before
-  pub part : IsPrintedInPart (reports line before has) before after
+  pub part : IsPrintedInPart (texts_of line has.plan) before after
+
+-- All reports were printed, and writing the memo failed: that file isn't told, and of the others nothing changed.
+pub record IsUnkept (line : Line) (before after : World) : Type 0 where
+  pub asked : AsksForFiles (files_named line) before after
+  pub has : HasRounds line before
+  pub name : Text
+  pub is_named : kept_by line ≡ Some name
+  pub cause : Rose (before.write_faults name) (after.write_faults name)
+  pub tells : after.tells ≡ before.tells
+  pub printed : Appends before.printed after.printed (concat (texts_of line has.plan))
+  pub untold : after.files name ≡ None
+  pub others : (other : Text) → other ≢ name → after.files other ≡ before.files other
 
 -- The host's memory ran out before a round was made, and nothing was printed.
-pub record IsUnbegun (line : RunLine) (before after : World) : Type 0 where
+pub record IsUnbegun (line : Line) (before after : World) : Type 0 where
   pub asked : AsksForSome (files_named line) before after
   pub stays : Stays before after
 
--- The host's memory ran out, and the first rounds' reports were printed, none to all of them.
-pub record IsCutShort (line : RunLine) (before after : World) : Type 0 where
+-- The host's memory ran out, and the first rounds' texts were printed, none to all of them; no file was written.
+pub record IsCutShort (line : Line) (before after : World) : Type 0 where
   pub asked : AsksForFiles (files_named line) before after
   pub has : HasRounds line before
   pub rounds : ℕ
-  pub prints : Prints before after (concat (take rounds (reports line before has)))
+  pub prints : Prints before after (concat (take rounds (texts_of line has.plan)))
 
--- How a line that runs a guest may end, status by status.
-abbrev pub RunEnds : RunLine → World → World → Status → Type 0
-RunEnds line before after status.Finished = IsDone line true before after
-RunEnds line before after status.Unfinished = IsDone line false before after
-RunEnds line before after status.Words = ⊥
-RunEnds line before after status.Image = IsRefused line before after
-RunEnds line before after status.EditList = IsListRefused line before after
-RunEnds line before after status.ReadFault = IsUnread line before after
-RunEnds line before after status.WriteFault = IsUnprinted line before after
-RunEnds line before after status.Memory = IsUnbegun line before after ⊎ IsCutShort line before after
-RunEnds line before after status.TooLarge = IsTooLarge line before after
+-- The memo that a line shows was accepted, and is of this history.
+pub record HasHistory (line : ShowLine) (before : World) : Type 0 where
+  pub memo : List ℕ
+  pub read : IsMemoContent before line.memo memo
+  pub history : History
+  pub accepted : IsMemoOf memo history
+
+-- The memo is listed: exactly the lines that list its history were printed.
+pub record IsShown (line : ShowLine) (before after : World) : Type 0 where
+  pub asked : AsksForFiles (files_named (Shows line)) before after
+  pub has : HasHistory line before
+  pub prints : Prints before after (listing has.history)
+
+-- Printing failed, and the first bytes of the lines that list the memo were printed, any number of them.
+pub record IsUnshown (line : ShowLine) (before after : World) : Type 0 where
+  pub asked : AsksForFiles (files_named (Shows line)) before after
+  pub has : HasHistory line before
+  pub part : IsPrintedInPart (listing has.history ∷ []) before after
+
+-- What a line refuses of its executable, of its memo, and of its edit lists.
+abbrev pub RefusesImage : Line → World → World → Type 0
+RefusesImage (Runs line) before after = IsImageRefused line before after
+RefusesImage (Reruns line) before after = ⊥
+RefusesImage (Shows line) before after = ⊥
+
+abbrev pub RefusesMemo : Line → World → World → Type 0
+RefusesMemo (Runs line) before after = ⊥
+RefusesMemo (Reruns line) before after = IsMemoRefused (Reruns line) line.memo before after
+RefusesMemo (Shows line) before after = IsMemoRefused (Shows line) line.memo before after
+
+abbrev pub RefusesList : Line → World → World → Type 0
+RefusesList (Runs line) before after = IsListRefused line before after
+RefusesList (Reruns line) before after = IsRerunListRefused line before after
+RefusesList (Shows line) before after = ⊥
+
+-- How a line that asks for rounds may end, status by status.
+abbrev pub RoundsEnd : Line → World → World → Status → Type 0
+RoundsEnd line before after status.Finished = IsDone line true before after
+RoundsEnd line before after status.Unfinished = IsDone line false before after
+RoundsEnd line before after status.Words = ⊥
+RoundsEnd line before after status.Image = RefusesImage line before after
+RoundsEnd line before after status.Memo = RefusesMemo line before after
+RoundsEnd line before after status.EditList = RefusesList line before after
+RoundsEnd line before after status.ReadFault = IsUnread line before after
+RoundsEnd line before after status.WriteFault = IsUnprinted line before after ⊎ IsUnkept line before after
+RoundsEnd line before after status.Memory = IsUnbegun line before after ⊎ IsCutShort line before after
+RoundsEnd line before after status.TooLarge = IsTooLarge line before after ⊎ IsTooLargeToKeep line before after
+
+-- How a line that shows a memo may end, status by status.
+abbrev pub ShowEnds : ShowLine → World → World → Status → Type 0
+ShowEnds line before after status.Finished = IsShown line before after
+ShowEnds line before after status.Unfinished = ⊥
+ShowEnds line before after status.Words = ⊥
+ShowEnds line before after status.Image = ⊥
+ShowEnds line before after status.Memo = RefusesMemo (Shows line) before after
+ShowEnds line before after status.EditList = ⊥
+ShowEnds line before after status.ReadFault = IsUnread (Shows line) before after
+ShowEnds line before after status.WriteFault = IsUnshown line before after
+ShowEnds line before after status.Memory = IsUnbegun (Shows line) before after
+ShowEnds line before after status.TooLarge = IsTooLarge (Shows line) before after
 
 -- Nothing was printed, and no file was asked for.
 pub record DoesNothing (before after : World) : Type 0 where
@@ -154,28 +246,10 @@ pub record DoesNothing (before after : World) : Type 0 where
 -- How a call may end: words that aren't accepted do nothing.
 abbrev pub Ends : Option Line → World → World → Status → Type 0
 Ends None before after s = ((s ≡ status.Words) ⊎ (s ≡ status.Memory)) × DoesNothing before after
-Ends (Some (Runs line)) before after s = RunEnds line before after s
+Ends (Some (Runs line)) before after s = RoundsEnd (Runs line) before after s
+Ends (Some (Reruns line)) before after s = RoundsEnd (Reruns line) before after s
+Ends (Some (Shows line)) before after s = ShowEnds line before after s
 
 -- An answer is the number of a status by which the call may end.
 abbrev pub Answers : Option Line → World → World → ℕ → Type 0
 Answers line before after answer = (s : Status) × (answer ≡ code_of s) × Ends line before after s
-
--- Nothing stands in a line's way: its files are told and within their limits, the executable and the edit lists are
--- accepted, and no count of faults rose.
-pub record IsSmooth (line : RunLine) (before after : World) : Type 0 where
-  pub contents : Contents
-  pub elf : before.files line.elf ≡ Some contents.elf
-  pub input : before.files line.input ≡ Some contents.input
-  pub lists : AllZip (λ name list. before.files name ≡ Some list) line.edits contents.lists
-  pub read : WasRead line before contents
-  pub inputs : List (List ℕ)
-  pub edited : AreInputs contents.input contents.lists inputs
-  pub no_read_fault : OfNone (FailedToRead before after) (files_named line)
-  pub no_print_fault : Rose before.print_faults after.print_faults → ⊥
-
--- Where nothing stands in its way, a line is done, or the host's memory ran out.
-abbrev pub Completes : Option Line → World → World → ℕ → Type 0
-Completes None before after answer = Unit {0}
-Completes (Some (Runs line)) before after answer =
-    IsSmooth line before after
-    → (answer ≡ code_of status.Finished) ⊎ ((answer ≡ code_of status.Unfinished) ⊎ (answer ≡ code_of status.Memory))

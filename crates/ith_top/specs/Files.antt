@@ -3,24 +3,34 @@ use Rattle.std.specs.Prelude.{◌≡◌, ℕ, ◌<◌, ◌≤◌, List, [], ◌�
 use Rattle.elf_spec.specs.declared.TheConstants.{MOST_ELF_BYTES}
 use Rattle.edit_spec.specs.declared.TheConstants.{MOST_LIST_BYTES}
 use Rattle.machine_spec.specs.declared.TheConstants.{MOST_INPUT_BYTES}
+use Rattle.memo_spec.specs.declared.TheConstants.{MOST_MEMO_BYTES}
 use Rattle.ith_host.specs.World.{World, Rose, AsksFor}
-use Rattle.ith_top.specs.Words.{Text, RunLine}
+use Rattle.ith_words.specs.Words.{Text, Line, Runs, Reruns, Shows}
 
 -- A file that a line names to read: its name, and the most bytes that it may have.
 pub record Named : Type 0 where
   pub name : Text
   pub most : ℕ
 
+-- The executable, the input, and the memo of these names.
+abbrev pub elf_named : Text → Named
+elf_named name = record { name = name; most = MOST_ELF_BYTES }
+
+abbrev pub input_named : Text → Named
+input_named name = record { name = name; most = MOST_INPUT_BYTES }
+
+abbrev pub memo_named : Text → Named
+memo_named name = record { name = name; most = MOST_MEMO_BYTES }
+
 -- The edit lists of these names.
 abbrev pub lists_named : List Text → List Named
 lists_named names = map (λ name. record { name = name; most = MOST_LIST_BYTES }) names
 
 -- The files that a line names to read, in the order in which they are read.
-abbrev pub files_named : RunLine → List Named
-files_named line =
-    record { name = line.elf; most = MOST_ELF_BYTES }
-    ∷ record { name = line.input; most = MOST_INPUT_BYTES }
-    ∷ lists_named line.edits
+abbrev pub files_named : Line → List Named
+files_named (Runs line) = elf_named line.elf ∷ input_named line.input ∷ lists_named line.edits
+files_named (Reruns line) = memo_named line.memo ∷ lists_named line.edits
+files_named (Shows line) = memo_named line.memo ∷ []
 
 -- These files were asked for, in order, and no other.
 abbrev pub AsksForFiles : List Named → World → World → Type 0

@@ -1,9 +1,9 @@
 -- The files of definitions of this crate.
-pub mod Words
 pub mod Statuses
-pub mod Rounds
 pub mod Files
+pub mod Contents
+pub mod Rounds
 pub mod Ends
-pub mod Said
+pub mod Completing
 pub mod Refusals
 pub mod Playing

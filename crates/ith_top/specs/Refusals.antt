@@ -1,17 +1,15 @@
 -- Why a part of a call refused, by the status that it gives.
-use Rattle.std.specs.Prelude.{◌≡◌, ◌≢◌, ℕ, false, List, take, None, ⊤}
-use Rattle.ith_host.specs.World.{World, Rose, Stays}
+use Rattle.std.specs.Prelude.{◌≡◌, ◌≢◌, ℕ, ◌<◌, false, ◌⊎◌, List, length, take, Option, Some, None, Err, ⊤}
+use Rattle.std.specs.List.{concat}
+use Rattle.ith_host.specs.World.{World, Rose, NoneFell, Stays, Holds}
 use Rattle.elf_spec.specs.Image.{is_image}
+use Rattle.memo_spec.specs.declared.Refusal.{Refusal as MemoRefusal}
+use Rattle.memo_spec.specs.declared.TheConstants.{MOST_MEMO_BYTES}
+use Rattle.memo_spec.specs.Reading.{reading}
+use Rattle.rerun_spec.specs.Inputs.{Refusal, IsFirstRefused}
+use Rattle.ith_words.specs.Words.{Text}
 use Rattle.ith_top.specs.declared.status.Status.{Status}
 use Rattle.ith_top.specs.declared.status.Status.TheVariants as status
-use Rattle.clap.specs.Words.{kind_of}
-use Rattle.clap.specs.declared.error.Error.{Error}
-use Rattle.clap.specs.declared.error.kind.ErrorKind.TheVariants.{OutOfMemory}
-use Rattle.ith_top.specs.declared.words.LineFault.{LineFault}
-use Rattle.ith_top.specs.declared.words.LineFault.TheVariants as fault
-use Rattle.ith_top.specs.Words.{Text, line_of}
-use Rattle.rerun_spec.specs.Inputs.{Refusal, IsFirstRefused}
-use Rattle.std.specs.List.{concat}
 use Rattle.ith_top.specs.Files.{Named, AsksForSome, StopsAt, FailedToRead, IsLong}
 use Rattle.ith_top.specs.Ends.{Prints, IsPrintedInPart}
 
@@ -27,6 +25,12 @@ abbrev pub WhyNoSetup : List ℕ → Status → Type 0
 WhyNoSetup elf status.Image = is_image elf ≡ false
 WhyNoSetup elf status.Memory = ⊤
 WhyNoSetup elf _ = ⊥
+
+-- Why no history was had from a memo.
+abbrev pub WhyNoHistory : List ℕ → Status → Type 0
+WhyNoHistory memo status.Memo = (why : MemoRefusal) × (reading memo ≡ Err why)
+WhyNoHistory memo status.Memory = ⊤
+WhyNoHistory memo _ = ⊥
 
 -- Why edit lists made no inputs of a first one: a list is the first that is refused.
 abbrev pub WhyUnedited : List ℕ → List (List ℕ) → Status → Type 0
@@ -47,12 +51,44 @@ WhyUnprinted text before after status.WriteFault =
 WhyUnprinted text before after status.Memory = Stays before after
 WhyUnprinted text before after _ = ⊥
 
--- What an error of the parser says: the words are refused, unless the host's memory ran out.
-abbrev pub WhyFault : Error → LineFault → Type 0
-WhyFault error (fault.Refused text) = kind_of error ≢ OutOfMemory
-WhyFault error fault.Memory = kind_of error ≡ OutOfMemory
+-- The file of a name was made to hold a content, and nothing else changed.
+pub record Keeps (name : Text) (content : List ℕ) (before after : World) : Type 0 where
+  pub tells : after.tells ≡ before.tells
+  pub printed : after.printed ≡ before.printed
+  pub written : Holds after name content
+  pub others : (other : Text) → other ≢ name → after.files other ≡ before.files other
 
--- Why words give no line.
-abbrev pub WhyNoLine : List Text → LineFault → Type 0
-WhyNoLine words (fault.Refused text) = line_of words ≡ None
-WhyNoLine words fault.Memory = ⊤
+-- Writing a file failed: it isn't told, and nothing else changed.
+pub record FailsToKeep (name : Text) (before after : World) : Type 0 where
+  pub cause : Rose (before.write_faults name) (after.write_faults name)
+  pub tells : after.tells ≡ before.tells
+  pub printed : after.printed ≡ before.printed
+  pub untold : after.files name ≡ None
+  pub others : (other : Text) → other ≢ name → after.files other ≡ before.files other
+
+-- A memo is longer than it may be, and nothing changed.
+pub record IsTooLong (content : List ℕ) (before after : World) : Type 0 where
+  pub long : MOST_MEMO_BYTES < length content
+  pub stays : Stays before after
+
+-- Why a memo of this content wasn't written.
+abbrev pub WhyUnkept : Text → List ℕ → World → World → Status → Type 0
+WhyUnkept name content before after status.WriteFault = FailsToKeep name before after
+WhyUnkept name content before after status.Memory = Stays before after
+WhyUnkept name content before after status.TooLarge = IsTooLong content before after
+WhyUnkept name content before after _ = ⊥
+
+-- Why of some texts not all were printed, or, after all were, why the memo of a name, if there is one, wasn't written:
+-- what came before, and why.
+pub record IsUnkeptAfter (name : Option Text) (texts : List (List ℕ)) (content : List ℕ) (before after : World)
+    (s : Status) : Type 0 where
+  pub between : World
+  pub counts : NoneFell before between
+  pub prints : Prints before between (concat texts)
+  pub kept : Text
+  pub is_named : name ≡ Some kept
+  pub why : WhyUnkept kept content between after s
+
+abbrev pub WhyUndone : Option Text → List (List ℕ) → List ℕ → World → World → Status → Type 0
+WhyUndone name texts content before after s =
+    WhyCutShort texts before after s ⊎ IsUnkeptAfter name texts content before after s

@@ -1,18 +1,25 @@
 -- What is promised of the rounds of a line.
-use Rattle.std.specs.Prelude.{◌≡◌, true, List, All}
+use Rattle.std.specs.Prelude.{◌≡◌, ℕ, true, List, All, IfSome, Some, slice_get, is_some}
 use Rattle.machine_spec.specs.Setup.{first, is_permitted, is_complete, records}
-use Rattle.history_spec.specs.History.{IsHonest}
+use Rattle.history_spec.specs.History.{History, IsHonest}
+use Rattle.memo_spec.specs.Spelling.{IsSpellable}
 use Rattle.report_spec.specs.Report.{threads_of, instructions_from}
 use Rattle.round_spec.specs.Marks.{marked}
 use Rattle.round_spec.specs.Unedited.{OnlyReuses}
-use Rattle.rerun_spec.specs.Rounds.{Round, made, left_by, schedule_in, entries_of, machine_of, IsRepeated}
+use Rattle.rerun_spec.specs.Rounds.{Round, Beginning, made, left_by, schedule_in, entries_of, machine_of, rounds_after, IsRepeated}
+use Rattle.rerun_spec.specs.Reports.{reports_of, made_reports, all_exit, all_made_exit}
+use Rattle.ith_top.specs.Contents.{Plan}
 
--- A round does what the round before it did, and executes nothing: it is all reuse of what that one left, so that no
--- thunk is begun and no instruction executed; its schedule and its machine, and with it end, output and final memory,
--- are those of the round before.
+-- A round is all reuse of a history: no thunk is begun and no instruction executed, and its schedule and its machine are
+-- those that the history left.
+pub record OnlyRepeats (h : History) (r : Round) : Type 0 where
+  pub reuses : OnlyReuses h (made r)
+  pub instructions : instructions_from (first r.setup) (entries_of r) ≡ 0
+
+-- A round does what the round before it did, and executes nothing: it is all reuse of what that one left; its schedule
+-- and its machine, and with it end, output and final memory, are those of the round before.
 pub record Repeats (before after : Round) : Type 0 where
-  pub reuses : OnlyReuses (left_by before) (made after)
-  pub instructions : instructions_from (first after.setup) (entries_of after) ≡ 0
+  pub repeats : OnlyRepeats (left_by before) after
   pub schedule : schedule_in after ≡ schedule_in before
   pub machine : machine_of after ≡ machine_of before
 
@@ -27,8 +34,28 @@ pub record IsPromised (r : Round) : Type 0 where
   pub honest : IsHonest (left_by r)
   pub records : (left_by r).records ≡ records r.setup (threads_of (entries_of r))
 
--- What is promised of rounds, each going by what the one before it leaves: each keeps what is promised of it, and one
--- without an edit repeats the round before it.
-pub record ArePromised (rounds : List Round) : Type 0 where
+-- The rounds of a plan.
+abbrev pub rounds_of : Plan → List Round
+rounds_of p = rounds_after p.beginning p.inputs
+
+-- What is promised of rounds, each going by what the one before it leaves: each keeps what is promised of it; the texts
+-- that tell of them as they were made are their reports, which are of the machine from scratch, and so is whether each
+-- ended by exit; one without an edit repeats the round before it; and so does the first, where it goes by a history of
+-- its very setup.
+pub record ArePromised (workers : ℕ) (rounds : List Round) : Type 0 where
   pub each : All IsPromised rounds
+  pub reports : made_reports workers rounds ≡ reports_of workers rounds
+  pub exits : all_made_exit rounds ≡ all_exit rounds
   pub repeated : (before after : Round) → IsRepeated rounds before after → Repeats before after
+  pub unedited : (r : Round) (h : History)
+      → slice_get rounds 0 ≡ Some r → r.past ≡ Some h → r.setup ≡ h.setup → OnlyRepeats h r
+
+-- The rounds begin with no history, or with an honest one.
+abbrev pub BeginsHonestly : Beginning → Type 0
+BeginsHonestly b = IfSome b.past IsHonest
+
+-- What holds of each round, also where it goes by a history that isn't honest: it has an end, and what it leaves can be
+-- spelled.
+pub record IsOfAny (r : Round) : Type 0 where
+  pub ended : is_some (made r).machine.ending ≡ true
+  pub spelled : IsSpellable (left_by r)

@@ -9,6 +9,7 @@ code_of status.Finished = 0
 code_of status.Unfinished = 1
 code_of status.Words = 2
 code_of status.Image = 3
+code_of status.Memo = 4
 code_of status.EditList = 5
 code_of status.ReadFault = 6
 code_of status.WriteFault = 7

@@ -1,21 +1,13 @@
 //! The lines that go to the standard error. Nothing rests on them, so a line that finds no memory is cut short.
 
-use clap::Error;
 use elf_spec::Refusal;
 use ith_text::decimal;
+use memo_spec::{Limit, Refusal as MemoRefusal};
 use round_inputs::Why;
 use std::alloc::{AllocError, Global};
 
 /// What there is to say where the host's memory ran out.
 pub const NO_MEMORY: &[u8] = b"no memory";
-
-/// Why words are refused, with the usage, or the help that they ask for.
-pub fn words_line(alloc: Global, error: &Error) -> Vec<u8> {
-    match error.to_string(alloc) {
-        Ok(text) => name_line(alloc, "words: ", text.as_str().trim_end()),
-        Err(_) => name_line(alloc, "words: ", ""),
-    }
-}
 
 /// A text and a name after it.
 pub fn name_line(alloc: Global, text: &str, name: &str) -> Vec<u8> {
@@ -28,9 +20,29 @@ pub fn name_line(alloc: Global, text: &str, name: &str) -> Vec<u8> {
 /// Why an executable is refused, with its numbers.
 pub fn image_line(alloc: Global, refusal: Refusal) -> Vec<u8> {
     let mut line = name_line(alloc, "image: ", kind(refusal));
-    let (first, second) = numbers(refusal);
-    let _ = append_number(alloc, first, &mut line);
-    let _ = append_number(alloc, second, &mut line);
+    let _ = append_numbers(alloc, refusal, &mut line);
+    line
+}
+
+/// Why a memo is refused, with its number or name, or with the executable's refusal.
+pub fn memo_line(alloc: Global, refusal: MemoRefusal) -> Vec<u8> {
+    let mut line = name_line(alloc, "memo: ", memo_kind(refusal));
+    let _ = match refusal {
+        MemoRefusal::Version(number) | MemoRefusal::Incoherent(number) => {
+            append_number(alloc, Some(u64::from(number)), &mut line)
+        }
+        MemoRefusal::Field(offset) => append_number(alloc, Some(offset as u64), &mut line),
+        MemoRefusal::Limit(limit) => line.extend_from_slice(limit_name(limit)),
+        MemoRefusal::Image(refusal) => append_image(alloc, refusal, &mut line),
+        _ => Ok(()),
+    };
+    line
+}
+
+/// How long a memo would be that is longer than it may be.
+pub fn long_memo_line(alloc: Global, length: u64) -> Vec<u8> {
+    let mut line = name_line(alloc, "too large ", "memo");
+    let _ = append_number(alloc, Some(length), &mut line);
     line
 }
 
@@ -55,13 +67,52 @@ fn cause(why: Why) -> &'static [u8] {
 }
 
 /// Appends a space and a number, if there is one.
-fn append_number(alloc: Global, number: Option<u32>, line: &mut Vec<u8>) -> Result<(), AllocError> {
+fn append_number(alloc: Global, number: Option<u64>, line: &mut Vec<u8>) -> Result<(), AllocError> {
     match number {
         Some(number) => {
             line.push(b' ')?;
-            decimal(alloc, u64::from(number), line)
+            decimal(alloc, number, line)
         }
         None => Ok(()),
+    }
+}
+
+/// Appends the numbers of an executable's refusal.
+fn append_numbers(alloc: Global, refusal: Refusal, line: &mut Vec<u8>) -> Result<(), AllocError> {
+    let (first, second) = numbers(refusal);
+    append_number(alloc, first, line)?;
+    append_number(alloc, second, line)
+}
+
+/// Appends a space and an executable's refusal.
+fn append_image(alloc: Global, refusal: Refusal, line: &mut Vec<u8>) -> Result<(), AllocError> {
+    line.push(b' ')?;
+    line.extend_from_slice(kind(refusal).as_bytes())?;
+    append_numbers(alloc, refusal, line)
+}
+
+/// The name of a memo's refusal.
+fn memo_kind(refusal: MemoRefusal) -> &'static str {
+    match refusal {
+        MemoRefusal::Short => "Short",
+        MemoRefusal::Magic => "Magic",
+        MemoRefusal::Version(_) => "Version",
+        MemoRefusal::Digest => "Digest",
+        MemoRefusal::Limit(_) => "Limit",
+        MemoRefusal::Image(_) => "Image",
+        MemoRefusal::Field(_) => "Field",
+        MemoRefusal::Incoherent(_) => "Incoherent",
+    }
+}
+
+/// A space and the name of a number that has a limit.
+fn limit_name(limit: Limit) -> &'static [u8] {
+    match limit {
+        Limit::Elf => b" elf",
+        Limit::Input => b" input",
+        Limit::Fuel => b" fuel",
+        Limit::Steps => b" steps",
+        Limit::Entries => b" entries",
     }
 }
 
@@ -85,14 +136,14 @@ fn kind(refusal: Refusal) -> &'static str {
 }
 
 /// The numbers of a refusal.
-fn numbers(refusal: Refusal) -> (Option<u32>, Option<u32>) {
+fn numbers(refusal: Refusal) -> (Option<u64>, Option<u64>) {
     match refusal {
         Refusal::ShortTable(i)
         | Refusal::Dynamic(i)
         | Refusal::ShortSegment(i)
         | Refusal::Outside(i)
-        | Refusal::TooManyPages(i) => (Some(i), None),
-        Refusal::Overlap(i, j) => (Some(i), Some(j)),
+        | Refusal::TooManyPages(i) => (Some(u64::from(i)), None),
+        Refusal::Overlap(i, j) => (Some(u64::from(i)), Some(u64::from(j))),
         _ => (None, None),
     }
 }

@@ -1,30 +1,41 @@
 //! The files that a line names to read.
 
-ghost use Rattle.std.specs.Prelude.{◌≡◌, map, IfOk, IfErr};
+ghost use Rattle.std.specs.Prelude.{◌≡◌, ◌∷◌, [], map, IfOk, IfErr};
 ghost use Rattle.ith_host.specs.World.{Stays, NoneFell};
 ghost use Rattle.round_inputs.specs.Lists.{bytes_of_each};
-ghost use Rattle.ith_top.specs.Said.{run_said};
-ghost use Rattle.ith_top.specs.Files.{lists_named, files_named, AsksForFiles};
-ghost use Rattle.ith_top.specs.Ends.{AreLists, AreContents};
+ghost use Rattle.ith_words.specs.Words.{Runs, Reruns};
+ghost use Rattle.ith_words.specs.Said.{run_said, rerun_said};
+ghost use Rattle.ith_top.specs.Files.{lists_named, files_named, memo_named, AsksForFiles};
+ghost use Rattle.ith_top.specs.Contents.{AreLists, AreContents, IsMemoContent};
 ghost use Rattle.ith_top.specs.Refusals.{WhyUnread};
 
 use super::complaints::NO_MEMORY;
-use super::line::RunLine;
 use super::outside::read_file;
 use super::status::Status;
 use edit_spec::MOST_LIST_BYTES;
 use elf_spec::MOST_ELF_BYTES;
 use ith_host::Host;
+use ith_words::{RerunLine, RunLine};
 use machine_spec::MOST_INPUT_BYTES;
+use memo_spec::MOST_MEMO_BYTES;
 use std::alloc::Global;
 
-/// What the files of a line hold.
+/// What the files of a line that runs a guest hold.
 #[derive(Drop)]
 pub struct Files {
     /// The executable.
     pub elf: Vec<u8>,
     /// The input.
     pub input: Vec<u8>,
+    /// The edit lists, in order.
+    pub lists: Vec<Vec<u8>>,
+}
+
+/// What the files of a line that reruns a memo hold.
+#[derive(Drop)]
+pub struct RerunFiles {
+    /// The memo.
+    pub memo: Vec<u8>,
     /// The edit lists, in order.
     pub lists: Vec<Vec<u8>>,
 }
@@ -57,13 +68,13 @@ fn read_lists<H: Host>(alloc: Global, host: &mut H, names: &[&str]) -> Result<Ve
     Ok(lists)
 }
 
-/// Reads the files of a line, in the order in which it names them.
+/// Reads the files of a line that runs a guest, in the order in which it names them.
 pub fn read_files<H: Host>(alloc: Global, host: &mut H, line: &RunLine<'_>) -> Result<Files, Status>
     ensures contents { IfOk result (λ files. AreContents (H.world host.old) (run_said line.now)
         (record { elf = files.elf.items; input = files.input.items; lists = bytes_of_each files.lists.items })) }
-    ensures asked { IfOk result (λ _. AsksForFiles (files_named (run_said line.now))
+    ensures asked { IfOk result (λ _. AsksForFiles (files_named (Runs (run_said line.now)))
         (H.world host.old) (H.world host.new)) }
-    ensures refused { IfErr result (λ status. WhyUnread (files_named (run_said line.now))
+    ensures refused { IfErr result (λ status. WhyUnread (files_named (Runs (run_said line.now)))
         (H.world host.old) (H.world host.new) status) }
     ensures stays { Stays (H.world host.old) (H.world host.new) }
     ensures counts { NoneFell (H.world host.old) (H.world host.new) }
@@ -78,6 +89,47 @@ pub fn read_files<H: Host>(alloc: Global, host: &mut H, line: &RunLine<'_>) -> R
     };
     match read_lists(alloc, host, line.edits.as_slice()) {
         Ok(lists) => Ok(Files { elf, input, lists }),
+        Err(status) => Err(status),
+    }
+}
+
+/// Reads a memo.
+pub fn read_memo<H: Host>(alloc: Global, host: &mut H, name: &str) -> Result<Vec<u8>, Status>
+    ensures content { IfOk result (λ bytes. IsMemoContent (H.world host.old) name.now bytes.items) }
+    ensures asked { AsksForFiles (memo_named name.now ∷ []) (H.world host.old) (H.world host.new) }
+    ensures refused { IfErr result (λ status. WhyUnread (memo_named name.now ∷ [])
+        (H.world host.old) (H.world host.new) status) }
+    ensures stays { Stays (H.world host.old) (H.world host.new) }
+    ensures counts { NoneFell (H.world host.old) (H.world host.new) }
+{
+    match read_file(alloc, host, name, MOST_MEMO_BYTES as u64) {
+        Ok(bytes) => Ok(bytes),
+        Err(status) => Err(status),
+    }
+}
+
+/// Reads the files of a line that reruns a memo, in the order in which it names them.
+pub fn read_rerun_files<H: Host>(
+    alloc: Global,
+    host: &mut H,
+    line: &RerunLine<'_>,
+) -> Result<RerunFiles, Status>
+    ensures memo { IfOk result (λ files. IsMemoContent (H.world host.old) line.now.memo.now files.memo.items) }
+    ensures lists { IfOk result (λ files. AreLists (H.world host.old) (rerun_said line.now).edits
+        (bytes_of_each files.lists.items)) }
+    ensures asked { IfOk result (λ _. AsksForFiles (files_named (Reruns (rerun_said line.now)))
+        (H.world host.old) (H.world host.new)) }
+    ensures refused { IfErr result (λ status. WhyUnread (files_named (Reruns (rerun_said line.now)))
+        (H.world host.old) (H.world host.new) status) }
+    ensures stays { Stays (H.world host.old) (H.world host.new) }
+    ensures counts { NoneFell (H.world host.old) (H.world host.new) }
+{
+    let memo = match read_memo(alloc, host, line.memo) {
+        Ok(bytes) => bytes,
+        Err(status) => return Err(status),
+    };
+    match read_lists(alloc, host, line.edits.as_slice()) {
+        Ok(lists) => Ok(RerunFiles { memo, lists }),
         Err(status) => Err(status),
     }
 }

@@ -2,37 +2,42 @@
 #![tactic(auto)]
 
 ghost use Rattle.std.specs.Prelude.{map, string_bytes};
-ghost use Rattle.ith_top.specs.Words.{line_of};
-ghost use Rattle.ith_top.specs.Ends.{Answers, Completes};
+ghost use Rattle.ith_words.specs.Words.{line_of};
+ghost use Rattle.ith_top.specs.Ends.{Answers};
+ghost use Rattle.ith_top.specs.Completing.{Completes};
 
 use ith_host::{Gate, Host};
 use std::alloc::Global;
 use std::thread::Threads;
 
-mod command;
 mod complaints;
 mod files;
-mod line;
+mod keeping;
 mod outside;
 mod plan;
 mod program;
 mod report;
 mod rounds;
+mod showing;
 mod status;
 #[cfg(test)]
 mod tests;
-mod words;
-#[cfg(test)]
-mod words_tests;
 
 pub use status::Status;
 
 /// Does what the words ask for, and gives the exit status. The words begin with the program's name.
 ///
-/// `run ELF INPUT [EDITS].. --workers W --fuel F --steps S` runs the executable on the input from scratch, and then
-/// once for each edit list, on the input of the round before after the list's edits. Each of these rounds takes from
-/// the round before it the steps whose records fit, and executes the others. The report of each round is printed before
-/// the next round begins. The options may be left out.
+/// `run ELF INPUT [EDITS].. --workers W --fuel F --steps S --memo FILE` runs the executable on the input from scratch,
+/// and then once for each edit list, on the input of the round before after the list's edits.
+///
+/// `rerun MEMO [EDITS].. --workers W --memo FILE` goes on from the round that a memo holds: once for each edit list, or
+/// once without an edit.
+///
+/// Each round takes from the round before it the steps whose records fit, and executes the others. The report of each
+/// round is printed before the next round begins; after the last one the memo of what it leaves is written, where the
+/// line names one. The options may be left out.
+///
+/// `show MEMO` lists a memo.
 ///
 /// The files are read in the line's order, each once, and no other is. The runtime is lent for the counter of turns,
 /// which nothing below this call can make of its own.

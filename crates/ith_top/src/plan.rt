@@ -1,34 +1,52 @@
-//! What a line runs: its files are read, then the executable is looked at, and then the edit lists are.
+//! What rounds a line asks for: its files are read, then the executable or the memo is looked at, and then the edit lists
+//! are.
 
-ghost use Rattle.std.specs.Prelude.{◌≡◌, ◌≤◌, All, length, IfOk, IfErr};
+ghost use Rattle.std.specs.Prelude.{◌≡◌, ◌≤◌, ◌<◌, ◌+◌, ◌^◌, length, IfOk, IfErr};
 ghost use Rattle.ith_host.specs.World.{Stays, NoneFell, AsksNothing};
 ghost use Rattle.machine_spec.specs.Setup.{IsSetup};
-ghost use Rattle.rerun_spec.specs.Inputs.{AreInputs};
+ghost use Rattle.memo_spec.specs.Spelling.{AreBytes};
+ghost use Rattle.rerun_spec.specs.Inputs.{AreInputs, AreRerunInputs};
+ghost use Rattle.rerun_spec.specs.Rounds as begin;
 ghost use Rattle.round_inputs.specs.Lists.{bytes_of_each};
-ghost use Rattle.ith_top.specs.Said.{run_said};
+ghost use Rattle.ith_words.specs.Words.{Runs, Reruns};
+ghost use Rattle.ith_words.specs.Said.{run_said, rerun_said};
 ghost use Rattle.ith_top.specs.Files.{files_named, AsksForFiles};
-ghost use Rattle.ith_top.specs.Ends.{RunEnds};
-ghost use Rattle.ith_top.specs.Refusals.{WhyNoSetup, WhyUnedited};
-ghost use Rattle.ith_top.specs.Playing.{IsPlan};
+ghost use Rattle.ith_top.specs.Contents.{IsMemoOf, IsRunPlan, IsRerunPlan};
+ghost use Rattle.ith_top.specs.Ends.{RoundsEnd};
+ghost use Rattle.ith_top.specs.Refusals.{WhyNoSetup, WhyNoHistory, WhyUnedited};
+ghost use Rattle.ith_top.specs.Playing.{beginning_said, plan_said, CanBePlayed, CanBeSpelled};
 
-use super::complaints::{NO_MEMORY, edits_line, image_line};
-use super::files::{Files, read_files};
-use super::line::RunLine;
+use super::complaints::{NO_MEMORY, edits_line, image_line, memo_line};
+use super::files::{Files, RerunFiles, read_files, read_rerun_files};
 use super::status::Status;
 use elf_load::LoadError;
 use elf_spec::MOST_ELF_BYTES;
 use ith_host::Host;
+use ith_words::{RerunLine, RunLine};
 use machine_spec::{Limits, MOST_INPUT_BYTES};
-use release_core::Setup;
+use memo_file::{ReadError, read};
+use release_core::{History, Setup};
 use round_inputs::{Inputs, InputsError, inputs_of};
-use std::alloc::Global;
+use std::alloc::{AllocError, Global};
+use std::sync::Arc;
 
-/// What a line runs.
+/// What rounds begin with.
+#[derive(Drop)]
+pub struct Start {
+    /// The number of the first.
+    pub number: usize,
+    /// The history that the first goes by, if there is one.
+    pub past: Option<Arc<History>>,
+    /// The program and the limits of all of them, with some input.
+    pub setup: Setup,
+}
+
+/// What rounds a line asks for.
 #[derive(Drop)]
 pub struct Plan {
-    /// The setup of its first round.
-    pub setup: Setup,
-    /// The inputs of its rounds, in order, each made when the one before it is taken out.
+    /// What they begin with.
+    pub start: Start,
+    /// Their inputs, in order, each made when the one before it is taken out.
     pub inputs: Inputs,
 }
 
@@ -46,6 +64,7 @@ fn set_up<H: Host>(
     ensures setup { IfOk result (λ s. s
         ≡ record { elf = elf.items; input = input.items; fuel = limits.fuel; limit = limits.steps }) }
     ensures sound { IfOk result (λ s. IsSetup s) }
+    ensures bytes { IfOk result (λ s. AreBytes s.elf × AreBytes s.input) }
     ensures refused { IfErr result (λ status. WhyNoSetup elf.items status) }
     ensures asked { AsksNothing (H.world host.old) (H.world host.new) }
     ensures stays { Stays (H.world host.old) (H.world host.new) }
@@ -58,6 +77,27 @@ fn set_up<H: Host>(
             Err(Status::Image)
         }
         Err(LoadError::NoMemory) => {
+            host.complain(NO_MEMORY);
+            Err(Status::Memory)
+        }
+    }
+}
+
+/// The history that a memo spells.
+pub fn recall<H: Host>(alloc: Global, host: &mut H, memo: &[u8]) -> Result<History, Status>
+    ensures history { IfOk result (λ h. IsMemoOf memo.now h) }
+    ensures refused { IfErr result (λ status. WhyNoHistory memo.now status) }
+    ensures asked { AsksNothing (H.world host.old) (H.world host.new) }
+    ensures stays { Stays (H.world host.old) (H.world host.new) }
+    ensures counts { NoneFell (H.world host.old) (H.world host.new) }
+{
+    match read(alloc, memo) {
+        Ok(history) => Ok(history),
+        Err(ReadError::Refused(refusal)) => {
+            host.complain(&memo_line(alloc, refusal));
+            Err(Status::Memo)
+        }
+        Err(ReadError::NoMemory) => {
             host.complain(NO_MEMORY);
             Err(Status::Memory)
         }
@@ -98,13 +138,78 @@ fn edit<H: Host>(
     }
 }
 
-/// What a line runs: its files are read, the executable is looked at, and then the edit lists are, all of them in
-/// order.
+/// The inputs of a rerun: what edit lists make of the first one, or the first itself where there are no lists.
+fn edit_again<H: Host>(
+    alloc: Global,
+    host: &mut H,
+    first: &[u8],
+    lists: &[Vec<u8>],
+    names: &[&str],
+) -> Result<Inputs, Status>
+    ensures inputs { IfOk result (λ inputs. AreRerunInputs first.now (bytes_of_each lists.now) inputs) }
+    ensures few { IfOk result (λ inputs. 1 + length inputs < 2 ^ 64) }
+    ensures refused { IfErr result (λ status. WhyUnedited first.now (bytes_of_each lists.now) status) }
+    ensures asked { AsksNothing (H.world host.old) (H.world host.new) }
+    ensures stays { Stays (H.world host.old) (H.world host.new) }
+    ensures counts { NoneFell (H.world host.old) (H.world host.new) }
+{
+    let mut inputs = match edit(alloc, host, first, lists, names) {
+        Ok(inputs) => inputs,
+        Err(status) => return Err(status),
+    };
+    let _count = inputs.len();
+    if lists.is_empty() {
+        return Ok(inputs);
+    }
+    match inputs.next() {
+        Ok(_) => Ok(inputs),
+        Err(_) => {
+            host.complain(NO_MEMORY);
+            Err(Status::Memory)
+        }
+    }
+}
+
+/// What the rounds begin with that go by a memo.
+fn start_after(alloc: Global, history: History) -> Result<Start, AllocError>
+    ensures { IfOk result (λ start. beginning_said start ≡ begin.after_memo history) }
+{
+    history.setup().sound();
+    let limits = history.setup().limits();
+    let input = Vec::from_slice(alloc, history.setup().input())?;
+    let setup = history.setup().with(input, limits)?;
+    let past = Arc::new(alloc, history)?;
+    Ok(Start {
+        number: 1,
+        past: Some(past),
+        setup,
+    })
+}
+
+/// The plan of rounds from scratch on these inputs.
+fn from_scratch(setup: Setup, inputs: Inputs) -> Plan
+    ensures beginning { beginning_said result.start ≡ begin.from_scratch setup }
+    ensures inputs { result.inputs ≡ inputs }
+    ensures few { length inputs < 2 ^ 64 }
+{
+    let _count = inputs.len();
+    let start = Start {
+        number: 0,
+        past: None,
+        setup,
+    };
+    Plan { start, inputs }
+}
+
+/// What rounds a line asks for that runs a guest: its files are read, the executable is looked at, and then the edit lists
+/// are, all of them in order.
 pub fn prepare<H: Host>(alloc: Global, host: &mut H, line: &RunLine<'_>) -> Result<Plan, Status>
-    ensures plan { IfOk result (λ plan. IsPlan (run_said line.now) (H.world host.old) plan.setup plan.inputs) }
-    ensures asked { IfOk result (λ _. AsksForFiles (files_named (run_said line.now))
+    ensures plan { IfOk result (λ plan. IsRunPlan (run_said line.now) (H.world host.old) (plan_said plan)) }
+    ensures playable { IfOk result (λ plan. CanBePlayed (plan_said plan)) }
+    ensures spelled { IfOk result (λ plan. CanBeSpelled (plan_said plan)) }
+    ensures asked { IfOk result (λ _. AsksForFiles (files_named (Runs (run_said line.now)))
         (H.world host.old) (H.world host.new)) }
-    ensures refused { IfErr result (λ status. RunEnds (run_said line.now)
+    ensures refused { IfErr result (λ status. RoundsEnd (Runs (run_said line.now))
         (H.world host.old) (H.world host.new) status) }
     ensures stays { Stays (H.world host.old) (H.world host.new) }
     ensures counts { NoneFell (H.world host.old) (H.world host.new) }
@@ -124,7 +229,51 @@ pub fn prepare<H: Host>(alloc: Global, host: &mut H, line: &RunLine<'_>) -> Resu
         lists.as_slice(),
         line.edits.as_slice(),
     ) {
-        Ok(inputs) => Ok(Plan { setup, inputs }),
+        Ok(inputs) => Ok(from_scratch(setup, inputs)),
         Err(status) => Err(status),
+    }
+}
+
+/// What rounds a line asks for that reruns a memo: its files are read, the memo is looked at, and then the edit lists are,
+/// all of them in order.
+pub fn prepare_rerun<H: Host>(
+    alloc: Global,
+    host: &mut H,
+    line: &RerunLine<'_>,
+) -> Result<Plan, Status>
+    ensures plan { IfOk result (λ plan. IsRerunPlan (rerun_said line.now) (H.world host.old) (plan_said plan)) }
+    ensures playable { IfOk result (λ plan. CanBePlayed (plan_said plan)) }
+    ensures spelled { IfOk result (λ plan. CanBeSpelled (plan_said plan)) }
+    ensures asked { IfOk result (λ _. AsksForFiles (files_named (Reruns (rerun_said line.now)))
+        (H.world host.old) (H.world host.new)) }
+    ensures refused { IfErr result (λ status. RoundsEnd (Reruns (rerun_said line.now))
+        (H.world host.old) (H.world host.new) status) }
+    ensures stays { Stays (H.world host.old) (H.world host.new) }
+    ensures counts { NoneFell (H.world host.old) (H.world host.new) }
+{
+    let RerunFiles { memo, lists } = match read_rerun_files(alloc, host, line) {
+        Ok(files) => files,
+        Err(status) => return Err(status),
+    };
+    let history = match recall(alloc, host, memo.as_slice()) {
+        Ok(history) => history,
+        Err(status) => return Err(status),
+    };
+    let inputs = match edit_again(
+        alloc,
+        host,
+        history.setup().input(),
+        lists.as_slice(),
+        line.edits.as_slice(),
+    ) {
+        Ok(inputs) => inputs,
+        Err(status) => return Err(status),
+    };
+    match start_after(alloc, history) {
+        Ok(start) => Ok(Plan { start, inputs }),
+        Err(_) => {
+            host.complain(NO_MEMORY);
+            Err(Status::Memory)
+        }
     }
 }

@@ -1,29 +1,91 @@
-//! What the program does of a line, from the first read to the last print.
+//! What the program does of a line, from the first read to the last write.
 
-ghost use Rattle.std.specs.Prelude.{◌≡◌, map, string_bytes};
-ghost use Rattle.ith_top.specs.Words as line;
-ghost use Rattle.ith_top.specs.Said.{run_said};
-ghost use Rattle.ith_top.specs.Ends.{RunEnds, Ends};
+ghost use Rattle.std.specs.Prelude.{◌≡◌, ◌≤◌, ⊤, map, option_map, string_bytes, All, IfOk, IfErr};
+ghost use Rattle.std.specs.List.{concat};
+ghost use Rattle.ith_host.specs.World.{NoneFell, AsksNothing};
+ghost use Rattle.memo_spec.specs.Spelling.{memo};
+ghost use Rattle.rerun_spec.specs.Reports.{made_reports, all_made_exit};
+ghost use Rattle.ith_words.specs.Words as said;
+ghost use Rattle.ith_words.specs.Words.{Runs, Reruns};
+ghost use Rattle.ith_words.specs.Said.{run_said, rerun_said};
+ghost use Rattle.ith_top.specs.Rounds.{rounds_of, IsOfAny};
+ghost use Rattle.ith_top.specs.Ends.{left_of, IsKeptWithin, PrintsAndKeeps, RoundsEnd, Ends};
+ghost use Rattle.ith_top.specs.Refusals.{WhyUndone};
+ghost use Rattle.ith_top.specs.Playing.{plan_said, CanBePlayed};
 
 use super::complaints::NO_MEMORY;
-use super::line::RunLine;
-use super::plan::{Plan, prepare};
-use super::rounds::play;
+use super::keeping::keep;
+use super::plan::{Plan, prepare, prepare_rerun};
+use super::rounds::{Outcome, play};
+use super::showing::show;
 use super::status::Status;
-use super::words::{LineFault, line_of};
 use ith_host::Host;
+use ith_words::{Line, LineFault, RerunLine, RunLine, line_of};
 use std::alloc::Global;
 use std::thread::Threads;
 
+/// Makes the rounds of a plan, prints their texts, and writes the memo of what the last one leaves, if it has a name.
+/// The answer is whether each round ended by exit.
+fn carry_out<R: Threads, H: Host>(
+    rt: &R,
+    alloc: Global,
+    host: &mut H,
+    plan: Plan,
+    workers: u32,
+    kept: Option<&str>,
+) -> Result<bool, Status>
+    requires some { 1 ≤ workers }
+    requires playable { CanBePlayed (plan_said plan) }
+    requires spelled { All IsOfAny (rounds_of (plan_said plan)) }
+    ensures done { IfOk result (λ _. PrintsAndKeeps (option_map (λ name. name.now) kept.entry)
+        (memo (left_of (plan_said plan))) (H.world host.old) (H.world host.new)
+        (concat (made_reports workers (rounds_of (plan_said plan))))) }
+    ensures within { IfOk result (λ _. IsKeptWithin (option_map (λ name. name.now) kept.entry)
+        (memo (left_of (plan_said plan)))) }
+    ensures exits { IfOk result (λ exits. all_made_exit (rounds_of (plan_said plan)) ≡ exits) }
+    ensures refused { IfErr result (λ status. WhyUndone (option_map (λ name. name.now) kept.entry)
+        (made_reports workers (rounds_of (plan_said plan))) (memo (left_of (plan_said plan)))
+        (H.world host.old) (H.world host.new) status) }
+    ensures asked { AsksNothing (H.world host.old) (H.world host.new) }
+    ensures counts { NoneFell (H.world host.old) (H.world host.new) }
+{
+    let Outcome { exits, left } = match play(rt, alloc, host, plan, workers) {
+        Ok(outcome) => outcome,
+        Err(status) => return Err(status),
+    };
+    match kept {
+        Some(name) => match keep(alloc, host, name, &left) {
+            Ok(()) => Ok(exits),
+            Err(status) => Err(status),
+        },
+        None => Ok(exits),
+    }
+}
+
 /// All that a line that runs a guest asks for.
 fn run<R: Threads, H: Host>(rt: &R, alloc: Global, host: &mut H, line: &RunLine<'_>) -> Status
-    ensures { RunEnds (run_said line.now) (H.world host.old) (H.world host.new) result }
+    ensures { RoundsEnd (Runs (run_said line.now)) (H.world host.old) (H.world host.new) result }
 {
-    let Plan { setup, inputs } = match prepare(alloc, host, line) {
+    let plan = match prepare(alloc, host, line) {
         Ok(plan) => plan,
         Err(status) => return status,
     };
-    match play(rt, alloc, host, &setup, inputs, line.workers) {
+    match carry_out(rt, alloc, host, plan, line.workers, line.kept) {
+        Ok(true) => Status::Finished,
+        Ok(false) => Status::Unfinished,
+        Err(status) => status,
+    }
+}
+
+/// All that a line that reruns a memo asks for.
+fn rerun<R: Threads, H: Host>(rt: &R, alloc: Global, host: &mut H, line: &RerunLine<'_>) -> Status
+    ensures { RoundsEnd (Reruns (rerun_said line.now)) (H.world host.old) (H.world host.new) result }
+{
+    let plan = match prepare_rerun(alloc, host, line) {
+        Ok(plan) => plan,
+        Err(status) => return status,
+    };
+    match carry_out(rt, alloc, host, plan, line.workers, line.kept) {
         Ok(true) => Status::Finished,
         Ok(false) => Status::Unfinished,
         Err(status) => status,
@@ -37,10 +99,12 @@ pub fn status_of<R: Threads, H: Host>(
     words: &[String],
     host: &mut H,
 ) -> Status
-    ensures { Ends (line.line_of (map string_bytes words.now)) (H.world host.old) (H.world host.new) result }
+    ensures { Ends (said.line_of (map string_bytes words.now)) (H.world host.old) (H.world host.new) result }
 {
     match line_of(alloc, words) {
-        Ok(line) => run(rt, alloc, host, &line),
+        Ok(Line::Run(line)) => run(rt, alloc, host, &line),
+        Ok(Line::Rerun(line)) => rerun(rt, alloc, host, &line),
+        Ok(Line::Show(line)) => show(alloc, host, &line),
         Err(LineFault::Refused(text)) => {
             host.complain(text.as_slice());
             Status::Words

@@ -2,10 +2,11 @@
 
 ghost use Rattle.std.specs.Prelude.{◌≡◌, ◌<◌, ◌≤◌, length, option_map, IfOk};
 ghost use Rattle.std.specs.Arc.{arc_value};
-ghost use Rattle.history_spec.specs.History.{CanGoBy, IsSound};
-ghost use Rattle.report_spec.specs.Report.{report};
+ghost use Rattle.machine_spec.specs.declared.TheConstants.{MOST_INPUT_BYTES};
+ghost use Rattle.report_spec.specs.Report.{report_text};
+ghost use Rattle.propagate.specs.Kept.{IsOfMap};
 ghost use Rattle.round_spec.specs.Alone.{lone_round};
-ghost use Rattle.rerun_spec.specs.Rounds.{with_input, left_by};
+ghost use Rattle.rerun_spec.specs.Rounds.{left_by};
 ghost use Rattle.rerun_spec.specs.Reports as reports;
 ghost use Rattle.ith_top.specs.Playing.{round_ahead};
 
@@ -23,10 +24,10 @@ use turn_count::Turns;
 /// What there is of a round that was made.
 #[derive(Drop)]
 pub struct Played {
-    /// The text of its report.
+    /// The text that tells of it.
     pub text: Vec<u8>,
     /// Whether it ended by exit.
-    pub exits: bool,
+    pub exited: bool,
     /// What it leaves to the next round.
     pub left: Arc<History>,
 }
@@ -82,9 +83,7 @@ fn shares_of_first(alloc: Global, workers: u32, steps: usize) -> Result<Vec<u64>
     Ok(shares)
 }
 
-/// The text of the report of a round that one worker made, by a sound history if by any. The digest
-/// of its memory is kept.
-#[tactic(auto, using(crate::proofs::Making::told_text))]
+/// The text that tells of a round that one worker made. The digest of its memory is kept.
 fn round_text(
     alloc: Global,
     number: u64,
@@ -92,13 +91,9 @@ fn round_text(
     round: &Round,
     last: &mut Option<Digested>,
 ) -> Result<Vec<u8>, AllocError>
-    requires some { 1 ≤ workers }
-    requires sound { IsSound round.now.past round.now.setup }
-    ensures { IfOk result (λ text. text.items
-        ≡ report number round.now.setup round.now.schedule
-        (reports.shares_of_first workers (length round.now.schedule))) }
+    requires { 1 ≤ workers }
+    ensures { IfOk result (λ text. text.items ≡ report_text number (reports.told_as_made workers round.now)) }
 {
-    round.keeps();
     let shares = shares_of_first(alloc, workers, round.schedule().len())?;
     let told = Told {
         ending: round.end(),
@@ -118,8 +113,8 @@ fn is_exit(ending: Option<End>) -> bool
     matches!(ending, Some(End::Exit(_)))
 }
 
-/// The next round of the program of a line's first setup, with its report. The digest of the last memory that was
-/// reported is taken where memory is the same.
+/// The next round of the program of a line's first setup, with its text. The digest of the last memory that was
+/// told is taken where memory is the same.
 ///
 /// # Errors
 ///
@@ -133,9 +128,10 @@ pub fn make_round<R: Threads>(
     last: &mut Option<Digested>,
 ) -> Result<Played, AllocError>
     requires some { 1 ≤ workers }
-    requires sound { CanGoBy (option_map arc_value next.past) (with_input setup.now next.input.items) }
-    ensures text { IfOk result (λ played. played.text.items ≡ reports.report_of workers (round_ahead setup.now next)) }
-    ensures exits { IfOk result (λ played. played.exits ≡ reports.exits (round_ahead setup.now next)) }
+    requires short { length next.input.items ≤ MOST_INPUT_BYTES }
+    requires same { IsOfMap (option_map arc_value next.past) setup.now }
+    ensures text { IfOk result (λ played. played.text.items ≡ reports.made_report workers (round_ahead setup.now next)) }
+    ensures exits { IfOk result (λ played. played.exited ≡ reports.made_exits (round_ahead setup.now next)) }
     ensures left { IfOk result (λ played. arc_value played.left ≡ left_by (round_ahead setup.now next)) }
 {
     let Next {
@@ -146,10 +142,10 @@ pub fn make_round<R: Threads>(
     let start = setup.with(input, setup.limits())?;
     let round = uncounted(rt, alloc, start, past)?;
     let text = round_text(alloc, number as u64, workers, &round, last)?;
-    let exits = is_exit(round.end());
+    let exited = is_exit(round.end());
     let Some(left) = round.into_history() else {
         unreachable!()
     };
     let left = Arc::new(alloc, left)?;
-    Ok(Played { text, exits, left })
+    Ok(Played { text, exited, left })
 }

@@ -6,23 +6,26 @@ ghost use Rattle.ith_top.specs.Statuses.{code_of};
 /// How a call of the program ends. Its number is the program's exit status.
 #[derive(Clone, Copy, Debug, PartialEq, Eq)]
 pub enum Status {
-    /// 0: every report was printed, and each round ended by exit.
+    /// 0: every report was printed, each round ended by exit, and the memo that was asked for was written; or a memo was
+    /// listed.
     Finished,
-    /// 1: every report was printed, and some round ended otherwise.
+    /// 1: the same, but some round ended otherwise.
     Unfinished,
     /// 2: the words of the command line aren't accepted.
     Words,
     /// 3: the executable is refused.
     Image,
+    /// 4: the memo is refused.
+    Memo,
     /// 5: an edit list is refused.
     EditList,
     /// 6: a file that the line names couldn't be read.
     ReadFault,
-    /// 7: printing failed.
+    /// 7: printing failed, or writing the memo.
     WriteFault,
     /// 8: the host's memory ran out.
     Memory,
-    /// 9: a file that the line names is longer than its limit.
+    /// 9: a file that the line names is longer than its limit, or the memo to write would be.
     TooLarge,
 }
 
@@ -36,6 +39,7 @@ impl Status {
             Status::Unfinished => 1,
             Status::Words => 2,
             Status::Image => 3,
+            Status::Memo => 4,
             Status::EditList => 5,
             Status::ReadFault => 6,
             Status::WriteFault => 7,

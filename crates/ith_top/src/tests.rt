@@ -124,7 +124,14 @@ fn bad_words_and_files_are_refused(rt: HostRuntime) -> Result<(), Fail> {
         ("ithreads run hi.elf empty --workers 0", 2, "words: "),
         ("ithreads run hi.elf empty --workers 17", 2, "words: "),
         ("ithreads run -x empty --workers 1", 2, "words: "),
+        ("ithreads rerun", 2, "words: "),
+        ("ithreads rerun five --fuel 4", 2, "words: "),
+        ("ithreads show five five", 2, "words: "),
         ("ithreads run empty empty --workers 1", 3, "image: NotElf\n"),
+        ("ithreads rerun five --workers 1", 4, "memo: Short\n"),
+        ("ithreads show five", 4, "memo: Short\n"),
+        ("ithreads show absent", 6, "read absent\n"),
+        ("ithreads rerun five absent", 6, "read absent\n"),
         (
             "ithreads run cut.elf empty --workers 1",
             3,
@@ -200,5 +207,18 @@ fn a_report_that_fails_in_part_leaves_those_before_it(rt: HostRuntime) -> Result
     let printed = host.printed().len() as u64;
     assert_eq!(rt; printed, part.wrapping_add(REPORT.len() as u64));
     assert_eq!(rt; host.complained(), b"write output\n".as_slice());
+    Ok(())
+}
+
+#[test]
+fn a_memo_that_is_not_written_is_told(rt: HostRuntime) -> Result<(), Fail> {
+    let alloc = rt.alloc();
+    let mut host = host_with(alloc, &[3], 0)?;
+    let line = "ithreads run hi.elf empty --workers 1 --memo m";
+    let got = status_of(&rt, alloc, &mut host, line)?;
+    assert_eq!(rt; got, 7);
+    assert!(rt; host.printed() == REPORT);
+    assert!(rt; host.file("m").is_none());
+    assert_eq!(rt; host.complained(), b"write m\n".as_slice());
     Ok(())
 }

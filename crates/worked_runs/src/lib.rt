@@ -3,6 +3,8 @@
 #![tactic(auto)]
 
 #[cfg(test)]
+mod memos;
+#[cfg(test)]
 mod schedules;
 #[cfg(test)]
 mod tests;

@@ -112,7 +112,7 @@ const ROWS: [Row; 8] = [
 ];
 
 /// The status of a line, whose words stand between spaces.
-fn status_of<R: Threads + Sync>(
+pub(super) fn status_of<R: Threads + Sync>(
     rt: &R,
     alloc: Global,
     host: &mut MemHost,

@@ -1,6 +1,6 @@
 -- Answers to the goals that the check leaves of `read_files`.
 use Rattle.round_inputs.specs.Lists.{bytes_of_each}
-use Rattle.ith_top.specs.Said.{run_said}
+use Rattle.ith_words.specs.Said.{run_said}
 use Rattle.ith_top.proofs.Ending.{files_read, elf_unread, input_unread, list_unread}
 use Rattle.ith_top.proofs.files.read_files.Goals as goal
 

@@ -1,0 +1,21 @@
+-- What holds at the loops of `make_rounds`.
+use Rattle.std.proofs.Common.{◌≡◌, ◌+◌, None, length}
+use Rattle.std.specs.Prelude.{option_map}
+use Rattle.std.specs.Arc.{arc_value}
+use Rattle.propagate.specs.Kept.{IsOfMap}
+use Rattle.rerun_spec.specs.Inputs.{AreShort}
+use Rattle.ith_top.specs.Playing.{coming_said}
+use Rattle.ith_top.proofs.Going.{IsGoing}
+use Rattle.ith_top.proofs.rounds.make_rounds.Given as goal
+
+-- the rounds so far were made and printed; each input that is left is that of a round to come, which can be made; and
+-- once there was a round, it left a history
+abbrev pub invariant-loop-place : goal.invariant-loop-place
+invariant-loop-place g l = record {
+  going : IsGoing (coming_said l.setup l.fn.coming).beginning l.workers l.fn.coming.inputs (g.H.Host.world l.fn.host) (g.H.Host.world l.host)
+      (record { number = l.first + l.place; past = option_map arc_value l.past; setup = l.setup }) l.inputs l.exits;
+  left : l.place + length l.inputs ≡ l.place-end;
+  short : AreShort l.inputs;
+  map : IsOfMap (option_map arc_value l.past) l.setup;
+  some : option_map arc_value l.past ≡ None → l.place ≡ 0;
+}

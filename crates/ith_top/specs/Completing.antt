@@ -1,0 +1,70 @@
+-- When nothing stands in a line's way, and that the line is then done.
+use Rattle.std.specs.Prelude.{◌≡◌, ℕ, ◌⊎◌, List, IfSome, Option, Some, None}
+use Rattle.std.specs.List.{AllZip}
+use Rattle.history_spec.specs.History.{History}
+use Rattle.rerun_spec.specs.Inputs.{AreInputs, AreRerunInputs}
+use Rattle.ith_host.specs.World.{World, Rose}
+use Rattle.ith_words.specs.Words.{Text, Line, Runs, Reruns, Shows, RunLine, RerunLine}
+use Rattle.ith_top.specs.declared.status.Status.TheVariants as status
+use Rattle.ith_top.specs.Files.{FailedToRead, files_named}
+use Rattle.ith_top.specs.Contents.{AreLists, Contents, WasRead, IsMemoContent, IsMemoOf}
+use Rattle.ith_top.specs.Ends.{OfNone, kept_by, IsTooLargeToKeep}
+use Rattle.ith_top.specs.Statuses.{code_of}
+
+-- The host failed at nothing that the line asks of it: no count of faults rose.
+pub record HasNoFault (line : Line) (before after : World) : Type 0 where
+  pub reads : OfNone (FailedToRead before after) (files_named line)
+  pub prints : Rose before.print_faults after.print_faults → ⊥
+  pub writes : IfSome (kept_by line) (λ name. Rose (before.write_faults name) (after.write_faults name) → ⊥)
+
+-- Edit lists are told.
+abbrev pub AreTold : World → List Text → List (List ℕ) → Type 0
+AreTold before names lists = AllZip (λ name list. before.files name ≡ Some list) names lists
+
+-- The files of a line that runs a guest are told and within their limits, and the executable and the edit lists are
+-- accepted.
+pub record AreAccepted (line : RunLine) (before : World) : Type 0 where
+  pub contents : Contents
+  pub elf : before.files line.elf ≡ Some contents.elf
+  pub input : before.files line.input ≡ Some contents.input
+  pub lists : AreTold before line.edits contents.lists
+  pub read : WasRead line before contents
+  pub inputs : List (List ℕ)
+  pub edited : AreInputs contents.input contents.lists inputs
+
+-- A memo is told, within its limit, and accepted.
+pub record IsAcceptedMemo (name : Text) (before : World) : Type 0 where
+  pub memo : List ℕ
+  pub told : before.files name ≡ Some memo
+  pub read : IsMemoContent before name memo
+  pub history : History
+  pub accepted : IsMemoOf memo history
+
+-- The memo of a line that reruns it is accepted, and its edit lists are told, within their limit, and accepted.
+pub record AreRerunAccepted (line : RerunLine) (before : World) : Type 0 where
+  pub memo : IsAcceptedMemo line.memo before
+  pub lists : List (List ℕ)
+  pub lists_told : AreTold before line.edits lists
+  pub lists_read : AreLists before line.edits lists
+  pub inputs : List (List ℕ)
+  pub edited : AreRerunInputs memo.history.setup.input lists inputs
+
+-- A line's rounds were all printed, and the memo that it asks for was written, unless that would be too long; or the
+-- host's memory ran out.
+abbrev pub IsCompleted : Line → World → World → ℕ → Type 0
+IsCompleted line before after answer =
+    (answer ≡ code_of status.Finished)
+    ⊎ ((answer ≡ code_of status.Unfinished)
+    ⊎ ((answer ≡ code_of status.Memory)
+    ⊎ ((answer ≡ code_of status.TooLarge) × IsTooLargeToKeep line before after)))
+
+-- Where nothing stands in its way, a line is done, or the host's memory ran out.
+abbrev pub Completes : Option Line → World → World → ℕ → Type 0
+Completes None before after answer = Unit {0}
+Completes (Some (Runs line)) before after answer =
+    AreAccepted line before → HasNoFault (Runs line) before after → IsCompleted (Runs line) before after answer
+Completes (Some (Reruns line)) before after answer =
+    AreRerunAccepted line before → HasNoFault (Reruns line) before after → IsCompleted (Reruns line) before after answer
+Completes (Some (Shows line)) before after answer =
+    IsAcceptedMemo line.memo before → HasNoFault (Shows line) before after
+    → (answer ≡ code_of status.Finished) ⊎ (answer ≡ code_of status.Memory)

@@ -1,0 +1,90 @@
+-- What the files of a line hold, and the rounds that it asks for with them.
+use Rattle.std.specs.Prelude.{◌≡◌, ℕ, ◌≤◌, true, List, length}
+use Rattle.std.specs.List.{AllZip}
+use Rattle.elf_spec.specs.declared.TheConstants.{MOST_ELF_BYTES}
+use Rattle.elf_spec.specs.Image.{is_image}
+use Rattle.edit_spec.specs.declared.TheConstants.{MOST_LIST_BYTES}
+use Rattle.machine_spec.specs.declared.TheConstants.{MOST_INPUT_BYTES}
+use Rattle.machine_spec.specs.Setup.{Setup}
+use Rattle.history_spec.specs.History.{History, is_coherent}
+use Rattle.memo_spec.specs.declared.TheConstants.{MOST_MEMO_BYTES}
+use Rattle.memo_spec.specs.Spelling.{Spells}
+use Rattle.rerun_spec.specs.Inputs.{AreInputs, AreRerunInputs}
+use Rattle.rerun_spec.specs.Rounds.{Beginning, from_scratch, after_memo}
+use Rattle.ith_host.specs.World.{World, IsContent}
+use Rattle.ith_words.specs.Words.{Text, Line, Runs, Reruns, Shows, RunLine, RerunLine}
+
+-- Contents of edit lists, which agree with each that is told, and are within their limit.
+abbrev pub AreLists : World → List Text → List (List ℕ) → Type 0
+AreLists before names lists =
+    AllZip (λ name list. IsContent before name list × (length list ≤ MOST_LIST_BYTES)) names lists
+
+-- What the files hold that a line names which runs a guest.
+pub record Contents : Type 0 where
+  pub elf : List ℕ
+  pub input : List ℕ
+  pub lists : List (List ℕ)
+
+-- Contents that agree with each file that is told, and are within their limits.
+pub record AreContents (before : World) (line : RunLine) (c : Contents) : Type 0 where
+  pub elf : IsContent before line.elf c.elf
+  pub elf_within : length c.elf ≤ MOST_ELF_BYTES
+  pub input : IsContent before line.input c.input
+  pub input_within : length c.input ≤ MOST_INPUT_BYTES
+  pub lists : AreLists before line.edits c.lists
+
+-- What was read, and of which the executable is accepted.
+pub record WasRead (line : RunLine) (before : World) (c : Contents) : Type 0 where
+  pub contents : AreContents before line c
+  pub accepted : is_image c.elf ≡ true
+
+-- The setup of a line and of what its files hold.
+abbrev pub setup_of : RunLine → Contents → Setup
+setup_of line c = record { elf = c.elf; input = c.input; fuel = line.fuel; limit = line.limit }
+
+-- The content of a memo, which agrees with it where it is told, and is within its limit.
+pub record IsMemoContent (before : World) (name : Text) (bytes : List ℕ) : Type 0 where
+  pub content : IsContent before name bytes
+  pub within : length bytes ≤ MOST_MEMO_BYTES
+
+-- Bytes that are accepted as a memo of a history: they spell it, and it holds together.
+pub record IsMemoOf (bytes : List ℕ) (h : History) : Type 0 where
+  pub spells : Spells bytes h
+  pub coherent : is_coherent h ≡ true
+
+-- The rounds that a line asks for: how the first begins, and the input of each.
+pub record Plan : Type 0 where
+  pub beginning : Beginning
+  pub inputs : List (List ℕ)
+
+-- The plan of a line that runs a guest: its files were read, and the executable is accepted; round 0 is from scratch, on
+-- the input, and each edit list makes the input of a round more.
+pub record IsRunPlan (line : RunLine) (before : World) (p : Plan) : Type 0 where
+  pub contents : Contents
+  pub read : WasRead line before contents
+  pub beginning : p.beginning ≡ from_scratch (setup_of line contents)
+  pub edited : AreInputs contents.input contents.lists p.inputs
+
+-- The plan of a line that reruns a memo: its files were read, and the memo is accepted; round 1 goes by the history that
+-- the memo spells; and each edit list makes the input of a round, or there is one round on the memo's input.
+pub record IsRerunPlan (line : RerunLine) (before : World) (p : Plan) : Type 0 where
+  pub memo : List ℕ
+  pub read : IsMemoContent before line.memo memo
+  pub lists : List (List ℕ)
+  pub lists_read : AreLists before line.edits lists
+  pub history : History
+  pub accepted : IsMemoOf memo history
+  pub beginning : p.beginning ≡ after_memo history
+  pub edited : AreRerunInputs history.setup.input lists p.inputs
+
+-- A plan of a line; a line that shows a memo asks for no rounds.
+abbrev pub IsPlan : Line → World → Plan → Type 0
+IsPlan (Runs line) before p = IsRunPlan line before p
+IsPlan (Reruns line) before p = IsRerunPlan line before p
+IsPlan (Shows line) before p = ⊥
+
+-- How many workers a line that asks for rounds has.
+abbrev pub workers_of : Line → ℕ
+workers_of (Runs line) = line.workers
+workers_of (Reruns line) = line.workers
+workers_of (Shows line) = 0
