@@ -1,0 +1,114 @@
+"""Memos made field by field, for .ci/bad-memos: the fields of docs/FORMATS.md, whether or not they keep its rules."""
+import hashlib
+
+PAGE = 4096
+IMAGE_PAGE = 0x10
+SYSTEM_PAGES = [0xC0000, *range(0xC0001, 0xC0101), *range(0xD0000, 0xD0200)]
+MOST_BYTES = 268435456
+
+
+def word(number):
+    return number.to_bytes(4, "little")
+
+
+def half(number):
+    return number.to_bytes(2, "little")
+
+
+def registers(pc, **named):
+    """pc, then x1 to x31, as thread 0 begins with them but for those that are named"""
+    values = [0] * 32
+    values[0], values[2] = pc, 0xD0010000
+    for name, value in named.items():
+        values[int(name[1:])] = value
+    return b"".join(word(value) for value in values)
+
+
+def stored(number, places, data):
+    """a stored page"""
+    return word(number) + sum(1 << place for place in places).to_bytes(512, "little") + data
+
+
+def record(start, finish, reads=((IMAGE_PAGE, 0),), stores=(), thread=0, end=8, count=5):
+    return (bytes([thread, end]) + word(count) + start + finish
+            + half(len(reads)) + b"".join(word(number) + word(index) for number, index in reads)
+            + half(len(stores)) + b"".join(stores))
+
+
+def body(elf, pool, records, given=b"", fuel=1000000, steps=4096, entries=None, pool_count=None):
+    """all but the digest"""
+    return (b"ITHM" + word(1) + word(len(elf)) + elf + word(len(given)) + given + word(fuel) + word(steps)
+            + word(len(records) if entries is None else entries)
+            + word(len(pool) if pool_count is None else pool_count) + b"".join(pool) + b"".join(records))
+
+
+def sealed(data):
+    """with the digest"""
+    return data + hashlib.sha256(data).digest()
+
+
+# the registers of the two steps of examples/hi.elf, which puts out three bytes and exits
+FIRST = registers(0x10000, x10=0xC0000000)
+AT_PUT = registers(0x10010, x10=0x10020, x11=3, x17=1)
+AFTER_PUT = registers(0x10014, x10=3, x11=3, x17=1)
+AT_EXIT = registers(0x1001C, x11=3)
+
+
+def worked(elf):
+    """the page and the records of the memo of hi.elf"""
+    return elf[84:].ljust(PAGE, b"\0"), [record(FIRST, AT_PUT), record(AFTER_PUT, AT_EXIT, count=3)]
+
+
+def rich(elf):
+    """pool and records of a memo with several read and stored pages, which no run made, but which holds together"""
+    page, _ = worked(elf)
+    changed = page[:100] + b"\x55" + page[101:]
+    put = record(FIRST, AT_PUT, reads=((IMAGE_PAGE, 0), (0xC0000, 1), (0xC0001, 1)),
+                 stores=(stored(IMAGE_PAGE, [100], b"\x55"), stored(0xD01FF, [0, 8, 4095], b"abc")))
+    leave = record(AFTER_PUT, AT_EXIT, count=3, reads=((IMAGE_PAGE, 2), (0xC0100, 1)),
+                   stores=(stored(0xC0000, range(PAGE), bytes(PAGE)),))
+    return [page, bytes(PAGE), changed], [put, leave]
+
+
+def yields(elf):
+    """hi.elf with other instructions: it yields for ever"""
+    code = bytes.fromhex("93085000 73000000 6ff09fff")
+    return elf[:84] + code + elf[84 + len(code):]
+
+
+def full_pages(elf, pages, spare):
+    """a memo that stores to so many whole pages, by steps of a guest that yields, on an input of so many bytes"""
+    guest = yields(elf)
+    page = guest[84:].ljust(PAGE, b"\0")
+    whole = [stored(number, range(PAGE), bytes(PAGE)) for number in SYSTEM_PAGES]
+    records = []
+    while pages >= 0:
+        if records:
+            start, finish = registers(0x10008, x17=5), registers(0x10004, x17=5)
+        else:
+            start, finish = FIRST, registers(0x10004, x10=0xC0000000, x17=5)
+        records.append(record(start, finish, stores=whole[:pages], count=3))
+        pages -= len(whole)
+    return sealed(body(guest, [page], records, given=b"\1" * spare, steps=len(records)))
+
+
+def fields(data, pool_at, pool_count):
+    """place, size and kind of each number of a memo but those in the executable: a register, or another"""
+    at = 8
+    for has_bytes in (True, True, False, False, False, False):
+        yield at, 4, "number"
+        at += 4 + (int.from_bytes(data[at:at + 4], "little") if has_bytes else 0)
+    at = pool_at + 4 + pool_count * PAGE
+    while at < len(data):
+        yield from ((at, 1, "number"), (at + 1, 1, "number"), (at + 2, 4, "number"), (at + 262, 2, "number"))
+        yield from ((at + 6 + 4 * k, 4, "register") for k in range(64))
+        reads = int.from_bytes(data[at + 262:at + 264], "little")
+        at += 264
+        yield from ((at + 4 * k, 4, "number") for k in range(2 * reads))
+        at += 8 * reads
+        yield at, 2, "number"
+        stores = int.from_bytes(data[at:at + 2], "little")
+        at += 2
+        for _ in range(stores):
+            yield at, 4, "number"
+            at += 516 + bin(int.from_bytes(data[at + 4:at + 516], "little")).count("1")
