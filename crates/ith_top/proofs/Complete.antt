@@ -19,8 +19,8 @@ use Rattle.ith_top.specs.declared.status.Status.{Status}
 use Rattle.ith_top.specs.declared.status.Status.TheVariants as status
 use Rattle.ith_top.specs.Statuses.{code_of}
 use Rattle.ith_top.specs.Files.{Named, StopsAt, FailedToRead, IsLong, files_named, lists_named, memo_named}
-use Rattle.ith_top.specs.Contents.{AreLists, IsMemoOf}
-use Rattle.ith_top.specs.Ends.{OfNone, IsMemoRefused, IsUnkept, IsUnprinted, RoundsEnd, ShowEnds, Answers}
+use Rattle.ith_top.specs.Contents.{AreLists, IsMemoContent, IsMemoOf}
+use Rattle.ith_top.specs.Ends.{OfNone, IsUnkept, IsUnprinted, RoundsEnd, ShowEnds, Answers}
 use Rattle.ith_top.specs.Completing.{AreTold, HasNoFault, AreAccepted, IsAcceptedMemo, AreRerunAccepted, IsCompleted, Completes}
 
 none_there : (fact : Named → Type 0) (earlier : List Named) (file : Named) (later : List Named) → OfNone fact (earlier ++ file ∷ later) → fact file → ⊥
@@ -93,10 +93,11 @@ accepted-taken memo h why is refused =
     absurd (let no : Ok h ≡ Err why = sym taken ∙ refused in cc)
 
 unrefused :
-    (line : Line) (name : Text) (before after : World) → IsAcceptedMemo name before → IsMemoRefused line name before after → ⊥
-unrefused line name before after is refused =
-    let same : is.memo ≡ refused.memo = content-told (before.files name) is.memo refused.memo is.told refused.read.content in
-    accepted-taken is.memo is.history refused.why is.accepted (ap reading same ∙ refused.refused)
+    (name : Text) (before : World) (memo : List ℕ) (why : MemoRefusal)
+    → IsAcceptedMemo name before → IsMemoContent before name memo → reading memo ≡ Err why → ⊥
+unrefused name before memo why is read refused =
+    let same : is.memo ≡ memo = content-told (before.files name) is.memo memo is.told read.content in
+    accepted-taken is.memo is.history why is.accepted (ap reading same ∙ refused)
 
 run_by :
     (line : RunLine) (before after : World) (answer : ℕ) (s : Status)
@@ -143,7 +144,7 @@ rerun_by line before after answer status.Finished is ends are none = inl is
 rerun_by line before after answer status.Unfinished is ends are none = inr (inl is)
 rerun_by line before after answer status.Words is ends are none = absurd ends
 rerun_by line before after answer status.Image is ends are none = absurd ends
-rerun_by line before after answer status.Memo is ends are none = absurd (unrefused (Reruns line) line.memo before after are.memo ends)
+rerun_by line before after answer status.Memo is ends are none = absurd (unrefused line.memo before ends.memo ends.why are.memo ends.read ends.refused)
 rerun_by line before after answer status.EditList is ends are none =
     let same : are.memo.memo ≡ ends.memo =
     content-told (before.files line.memo) are.memo.memo ends.memo are.memo.told ends.read.content in
@@ -174,7 +175,7 @@ show_by line before after answer status.Finished is ends memo none = inl is
 show_by line before after answer status.Unfinished is ends memo none = absurd ends
 show_by line before after answer status.Words is ends memo none = absurd ends
 show_by line before after answer status.Image is ends memo none = absurd ends
-show_by line before after answer status.Memo is ends memo none = absurd (unrefused (Shows line) line.memo before after memo ends)
+show_by line before after answer status.Memo is ends memo none = absurd (unrefused line.memo before ends.memo ends.why memo ends.read ends.refused)
 show_by line before after answer status.EditList is ends memo none = absurd ends
 show_by line before after answer status.ReadFault is ends memo none =
     absurd (none_stops (FailedToRead before after) (files_named (Shows line)) before after none.reads ends.stops)

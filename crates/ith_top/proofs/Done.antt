@@ -159,6 +159,7 @@ unkept line a b m c p name status.WriteFault is playable spelled asked none stay
       has = rounds_in line a p is playable spelled;
       name = name;
       is_named = named;
+      within = cause.within;
       cause = rose_before _ _ _ (fell.writes name) (rose_before _ _ _ (later.writes name) cause.cause);
       tells = cause.tells ∙ all.tells;
       printed = subst (λ (told : Option (List ℕ)). Appends a.printed told (concat (texts_of line p))) (sym cause.printed) all.printed;

@@ -135,20 +135,20 @@ refused_ends line a b c contents status.TooLarge asked none stays then are why =
 
 -- all files were read, and no history was had from the memo
 pub forgotten_ends :
-    (line : RerunLine) (a b c : World) (memo : List ℕ) (s : Status)
+    (line : RerunLine) (a b c : World) (memo : List ℕ) (lists : List (List ℕ)) (s : Status)
     → AsksForFiles (files_named (Reruns line)) a b → AsksNothing b c → Stays a b → Stays b c
-    → IsMemoContent a line.memo memo → WhyNoHistory memo s → RoundsEnd (Reruns line) a c s
-forgotten_ends line a b c memo status.Finished asked none stays then read why = absurd why
-forgotten_ends line a b c memo status.Unfinished asked none stays then read why = absurd why
-forgotten_ends line a b c memo status.Words asked none stays then read why = absurd why
-forgotten_ends line a b c memo status.Image asked none stays then read why = absurd why
-forgotten_ends line a b c memo status.Memo asked none stays then read why =
-    record { asked = none ∙ asked; memo = memo; read = read; why = why.0; refused = why.1; stays = stays_trans a b c stays then }
-forgotten_ends line a b c memo status.EditList asked none stays then read why = absurd why
-forgotten_ends line a b c memo status.ReadFault asked none stays then read why = absurd why
-forgotten_ends line a b c memo status.WriteFault asked none stays then read why = absurd why
-forgotten_ends line a b c memo status.Memory asked none stays then read why = cut_ends (Reruns line) a b c asked none stays then
-forgotten_ends line a b c memo status.TooLarge asked none stays then read why = absurd why
+    → IsMemoContent a line.memo memo → AreLists a line.edits lists → WhyNoHistory memo s → RoundsEnd (Reruns line) a c s
+forgotten_ends line a b c memo lists status.Finished asked none stays then read told why = absurd why
+forgotten_ends line a b c memo lists status.Unfinished asked none stays then read told why = absurd why
+forgotten_ends line a b c memo lists status.Words asked none stays then read told why = absurd why
+forgotten_ends line a b c memo lists status.Image asked none stays then read told why = absurd why
+forgotten_ends line a b c memo lists status.Memo asked none stays then read told why =
+    record { asked = none ∙ asked; memo = memo; read = read; lists = lists; lists_read = told; why = why.0; refused = why.1; stays = stays_trans a b c stays then }
+forgotten_ends line a b c memo lists status.EditList asked none stays then read told why = absurd why
+forgotten_ends line a b c memo lists status.ReadFault asked none stays then read told why = absurd why
+forgotten_ends line a b c memo lists status.WriteFault asked none stays then read told why = absurd why
+forgotten_ends line a b c memo lists status.Memory asked none stays then read told why = cut_ends (Reruns line) a b c asked none stays then
+forgotten_ends line a b c memo lists status.TooLarge asked none stays then read told why = absurd why
 
 -- the executable was accepted, and the edit lists made no inputs
 pub unedited_ends :

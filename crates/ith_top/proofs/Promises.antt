@@ -29,6 +29,7 @@ promised r is =
       permitted = round-permitted r is;
       complete = round-complete r is;
       marks = round-marks r is;
+      setup = left-own r;
       honest = round-honest r is;
       records = round-records r is;
     }

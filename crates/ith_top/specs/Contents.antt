@@ -57,16 +57,16 @@ pub record Plan : Type 0 where
   pub beginning : Beginning
   pub inputs : List (List ℕ)
 
--- The plan of a line that runs a guest: its files were read, and the executable is accepted; round 0 is from scratch, on
--- the input, and each edit list makes the input of a round more.
+-- The plan of a line that runs a guest: its files were read, and the executable is accepted; round 0 is from scratch,
+-- on the input, and each edit list makes the input of a round more.
 pub record IsRunPlan (line : RunLine) (before : World) (p : Plan) : Type 0 where
   pub contents : Contents
   pub read : WasRead line before contents
   pub beginning : p.beginning ≡ from_scratch (setup_of line contents)
   pub edited : AreInputs contents.input contents.lists p.inputs
 
--- The plan of a line that reruns a memo: its files were read, and the memo is accepted; round 1 goes by the history that
--- the memo spells; and each edit list makes the input of a round, or there is one round on the memo's input.
+-- The plan of a line that reruns a memo: its files were read, and the memo is accepted; round 1 goes by the history
+-- that the memo spells; and each edit list makes the input of a round, or there is one round on the memo's input.
 pub record IsRerunPlan (line : RerunLine) (before : World) (p : Plan) : Type 0 where
   pub memo : List ℕ
   pub read : IsMemoContent before line.memo memo

@@ -21,8 +21,8 @@ use Rattle.ith_top.specs.Contents.{AreLists, Contents, AreContents, WasRead, IsM
 use Rattle.ith_top.specs.Rounds.{rounds_of, BeginsHonestly, ArePromised, IsOfAny}
 use Rattle.ith_top.specs.Statuses.{code_of}
 
--- What a line's rounds come from, and what is promised of them: they are from scratch where they begin with no history or
--- with an honest one; and whatever they begin with, each has an end, and what it leaves can be spelled.
+-- What a line's rounds come from, and what is promised of them: they are from scratch where they begin with no history
+-- or with an honest one; and whatever they begin with, each has an end, and what it leaves can be spelled.
 pub record HasRounds (line : Line) (before : World) : Type 0 where
   pub plan : Plan
   pub is_plan : IsPlan line before plan
@@ -84,11 +84,22 @@ pub record IsImageRefused (line : RunLine) (before after : World) : Type 0 where
   pub refused : is_image contents.elf ≡ false
   pub stays : Stays before after
 
--- The memo of a line is refused, by this refusal, and nothing was printed.
-pub record IsMemoRefused (line : Line) (name : Text) (before after : World) : Type 0 where
-  pub asked : AsksForFiles (files_named line) before after
+-- The memo to show is refused, by this refusal, and nothing was printed.
+pub record IsMemoRefused (line : ShowLine) (before after : World) : Type 0 where
+  pub asked : AsksForFiles (files_named (Shows line)) before after
   pub memo : List ℕ
-  pub read : IsMemoContent before name memo
+  pub read : IsMemoContent before line.memo memo
+  pub why : MemoRefusal
+  pub refused : reading memo ≡ Err why
+  pub stays : Stays before after
+
+-- The memo to rerun is refused, by this refusal, after all files were read, and nothing was printed.
+pub record IsRerunMemoRefused (line : RerunLine) (before after : World) : Type 0 where
+  pub asked : AsksForFiles (files_named (Reruns line)) before after
+  pub memo : List ℕ
+  pub read : IsMemoContent before line.memo memo
+  pub lists : List (List ℕ)
+  pub lists_read : AreLists before line.edits lists
   pub why : MemoRefusal
   pub refused : reading memo ≡ Err why
   pub stays : Stays before after
@@ -153,12 +164,14 @@ pub record IsUnprinted (line : Line) (before after : World) : Type 0 where
   pub has : HasRounds line before
   pub part : IsPrintedInPart (texts_of line has.plan) before after
 
--- All reports were printed, and writing the memo failed: that file isn't told, and of the others nothing changed.
+-- All reports were printed, and writing the memo, which isn't too long, failed: that file isn't told, and of the others
+-- nothing changed.
 pub record IsUnkept (line : Line) (before after : World) : Type 0 where
   pub asked : AsksForFiles (files_named line) before after
   pub has : HasRounds line before
   pub name : Text
   pub is_named : kept_by line ≡ Some name
+  pub within : length (memo (left_of has.plan)) ≤ MOST_MEMO_BYTES
   pub cause : Rose (before.write_faults name) (after.write_faults name)
   pub tells : after.tells ≡ before.tells
   pub printed : Appends before.printed after.printed (concat (texts_of line has.plan))
@@ -196,17 +209,19 @@ pub record IsUnshown (line : ShowLine) (before after : World) : Type 0 where
   pub has : HasHistory line before
   pub part : IsPrintedInPart (listing has.history ∷ []) before after
 
--- What a line refuses of its executable, of its memo, and of its edit lists.
+-- A line's executable is refused.
 abbrev pub RefusesImage : Line → World → World → Type 0
 RefusesImage (Runs line) before after = IsImageRefused line before after
 RefusesImage (Reruns line) before after = ⊥
 RefusesImage (Shows line) before after = ⊥
 
+-- A line's memo is refused.
 abbrev pub RefusesMemo : Line → World → World → Type 0
 RefusesMemo (Runs line) before after = ⊥
-RefusesMemo (Reruns line) before after = IsMemoRefused (Reruns line) line.memo before after
-RefusesMemo (Shows line) before after = IsMemoRefused (Shows line) line.memo before after
+RefusesMemo (Reruns line) before after = IsRerunMemoRefused line before after
+RefusesMemo (Shows line) before after = IsMemoRefused line before after
 
+-- An edit list of a line is refused.
 abbrev pub RefusesList : Line → World → World → Type 0
 RefusesList (Runs line) before after = IsListRefused line before after
 RefusesList (Reruns line) before after = IsRerunListRefused line before after

@@ -12,13 +12,15 @@ pub record Named : Type 0 where
   pub name : Text
   pub most : ℕ
 
--- The executable, the input, and the memo of these names.
+-- The executable of this name.
 abbrev pub elf_named : Text → Named
 elf_named name = record { name = name; most = MOST_ELF_BYTES }
 
+-- The input of this name.
 abbrev pub input_named : Text → Named
 input_named name = record { name = name; most = MOST_INPUT_BYTES }
 
+-- The memo of this name.
 abbrev pub memo_named : Text → Named
 memo_named name = record { name = name; most = MOST_MEMO_BYTES }
 

@@ -24,7 +24,10 @@ plan_said p = record { beginning = beginning_said p.start; inputs = p.inputs }
 -- The rounds of a program that are to come, in code, as a plan.
 abbrev pub coming_said : Setup → Coming → Plan
 coming_said s c =
-    record { beginning = record { number = c.number; past = option_map arc_value c.past; setup = s }; inputs = c.inputs }
+    record {
+      beginning = record { number = c.number; past = option_map arc_value c.past; setup = s };
+      inputs = c.inputs;
+    }
 
 -- A plan whose rounds can be made: there is an input; each is as short as an input may be; the rounds can be numbered;
 -- and a history that the first goes by is of the same page map.

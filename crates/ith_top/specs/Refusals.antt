@@ -1,5 +1,5 @@
 -- Why a part of a call refused, by the status that it gives.
-use Rattle.std.specs.Prelude.{◌≡◌, ◌≢◌, ℕ, ◌<◌, false, ◌⊎◌, List, length, take, Option, Some, None, Err, ⊤}
+use Rattle.std.specs.Prelude.{◌≡◌, ◌≢◌, ℕ, ◌<◌, ◌≤◌, false, ◌⊎◌, List, length, take, Option, Some, None, Err, ⊤}
 use Rattle.std.specs.List.{concat}
 use Rattle.ith_host.specs.World.{World, Rose, NoneFell, Stays, Holds}
 use Rattle.elf_spec.specs.Image.{is_image}
@@ -58,8 +58,9 @@ pub record Keeps (name : Text) (content : List ℕ) (before after : World) : Typ
   pub written : Holds after name content
   pub others : (other : Text) → other ≢ name → after.files other ≡ before.files other
 
--- Writing a file failed: it isn't told, and nothing else changed.
-pub record FailsToKeep (name : Text) (before after : World) : Type 0 where
+-- Writing a memo of this content, which isn't too long, failed: its file isn't told, and nothing else changed.
+pub record FailsToKeep (name : Text) (content : List ℕ) (before after : World) : Type 0 where
+  pub within : length content ≤ MOST_MEMO_BYTES
   pub cause : Rose (before.write_faults name) (after.write_faults name)
   pub tells : after.tells ≡ before.tells
   pub printed : after.printed ≡ before.printed
@@ -73,7 +74,7 @@ pub record IsTooLong (content : List ℕ) (before after : World) : Type 0 where
 
 -- Why a memo of this content wasn't written.
 abbrev pub WhyUnkept : Text → List ℕ → World → World → Status → Type 0
-WhyUnkept name content before after status.WriteFault = FailsToKeep name before after
+WhyUnkept name content before after status.WriteFault = FailsToKeep name content before after
 WhyUnkept name content before after status.Memory = Stays before after
 WhyUnkept name content before after status.TooLarge = IsTooLong content before after
 WhyUnkept name content before after _ = ⊥
@@ -89,6 +90,7 @@ pub record IsUnkeptAfter (name : Option Text) (texts : List (List ℕ)) (content
   pub is_named : name ≡ Some kept
   pub why : WhyUnkept kept content between after s
 
+-- Why not all was done of some texts and of the memo of a name, if there is one.
 abbrev pub WhyUndone : Option Text → List (List ℕ) → List ℕ → World → World → Status → Type 0
 WhyUndone name texts content before after s =
     WhyCutShort texts before after s ⊎ IsUnkeptAfter name texts content before after s

@@ -10,8 +10,8 @@ use Rattle.rerun_spec.specs.Rounds.{Round, Beginning, made, left_by, schedule_in
 use Rattle.rerun_spec.specs.Reports.{reports_of, made_reports, all_exit, all_made_exit}
 use Rattle.ith_top.specs.Contents.{Plan}
 
--- A round is all reuse of a history: no thunk is begun and no instruction executed, and its schedule and its machine are
--- those that the history left.
+-- A round is all reuse of a history: no thunk is begun and no instruction executed, and its schedule and its machine
+-- are those that the history left.
 pub record OnlyRepeats (h : History) (r : Round) : Type 0 where
   pub reuses : OnlyReuses h (made r)
   pub instructions : instructions_from (first r.setup) (entries_of r) ≡ 0
@@ -24,13 +24,14 @@ pub record Repeats (before after : Round) : Type 0 where
   pub machine : machine_of after ≡ machine_of before
 
 -- What is promised of a round: the schedule that it prints is the one that was made, permitted and complete; a step is
--- reused exactly where the record of it fits; and what it leaves is honest, its records those of the machine from
--- scratch, entry by entry.
+-- reused exactly where the record of it fits; and what it leaves is of its own setup and honest, its records those of
+-- the machine from scratch, entry by entry.
 pub record IsPromised (r : Round) : Type 0 where
   pub entries : (made r).schedule ≡ entries_of r
   pub permitted : is_permitted r.setup (threads_of (entries_of r)) ≡ true
   pub complete : is_complete r.setup (threads_of (entries_of r)) ≡ true
   pub marks : entries_of r ≡ marked r.past r.setup (threads_of (entries_of r))
+  pub setup : (left_by r).setup ≡ r.setup
   pub honest : IsHonest (left_by r)
   pub records : (left_by r).records ≡ records r.setup (threads_of (entries_of r))
 

@@ -13,8 +13,9 @@ use memo_file::{WriteError, write};
 use release_core::History;
 use std::alloc::Global;
 
-/// Writes the bytes of a memo to the file of a name.
+/// Writes the bytes of a memo, which isn't too long, to the file of a name.
 fn put_memo<H: Host>(alloc: Global, host: &mut H, name: &str, bytes: &[u8]) -> Result<(), Status>
+    requires { length bytes.now ≤ MOST_MEMO_BYTES }
     ensures kept { OnOk result (Keeps name.now bytes.now (H.world host.old) (H.world host.new)) }
     ensures refused { IfErr result (λ status. WhyUnkept name.now bytes.now
         (H.world host.old) (H.world host.new) status) }

@@ -1,5 +1,5 @@
-//! What rounds a line asks for: its files are read, then the executable or the memo is looked at, and then the edit lists
-//! are.
+//! What rounds a line asks for: its files are read, then the executable or the memo is looked at, and then the edit
+//! lists are.
 
 ghost use Rattle.std.specs.Prelude.{◌≡◌, ◌≤◌, ◌<◌, ◌+◌, ◌^◌, length, IfOk, IfErr};
 ghost use Rattle.ith_host.specs.World.{Stays, NoneFell, AsksNothing};
@@ -201,8 +201,8 @@ fn from_scratch(setup: Setup, inputs: Inputs) -> Plan
     Plan { start, inputs }
 }
 
-/// What rounds a line asks for that runs a guest: its files are read, the executable is looked at, and then the edit lists
-/// are, all of them in order.
+/// What rounds a line asks for that runs a guest: its files are read, the executable is looked at, and then the edit
+/// lists are, all of them in order.
 pub fn prepare<H: Host>(alloc: Global, host: &mut H, line: &RunLine<'_>) -> Result<Plan, Status>
     ensures plan { IfOk result (λ plan. IsRunPlan (run_said line.now) (H.world host.old) (plan_said plan)) }
     ensures playable { IfOk result (λ plan. CanBePlayed (plan_said plan)) }
@@ -234,8 +234,8 @@ pub fn prepare<H: Host>(alloc: Global, host: &mut H, line: &RunLine<'_>) -> Resu
     }
 }
 
-/// What rounds a line asks for that reruns a memo: its files are read, the memo is looked at, and then the edit lists are,
-/// all of them in order.
+/// What rounds a line asks for that reruns a memo: its files are read, the memo is looked at, and then the edit lists
+/// are, all of them in order.
 pub fn prepare_rerun<H: Host>(
     alloc: Global,
     host: &mut H,

@@ -130,7 +130,8 @@ pub fn make_round<R: Threads>(
     requires some { 1 ≤ workers }
     requires short { length next.input.items ≤ MOST_INPUT_BYTES }
     requires same { IsOfMap (option_map arc_value next.past) setup.now }
-    ensures text { IfOk result (λ played. played.text.items ≡ reports.made_report workers (round_ahead setup.now next)) }
+    ensures text { IfOk result (λ played. played.text.items
+        ≡ reports.made_report workers (round_ahead setup.now next)) }
     ensures exits { IfOk result (λ played. played.exited ≡ reports.made_exits (round_ahead setup.now next)) }
     ensures left { IfOk result (λ played. arc_value played.left ≡ left_by (round_ahead setup.now next)) }
 {

@@ -6,8 +6,8 @@ ghost use Rattle.ith_top.specs.Statuses.{code_of};
 /// How a call of the program ends. Its number is the program's exit status.
 #[derive(Clone, Copy, Debug, PartialEq, Eq)]
 pub enum Status {
-    /// 0: every report was printed, each round ended by exit, and the memo that was asked for was written; or a memo was
-    /// listed.
+    /// 0: every report was printed, each round ended by exit, and the memo that was asked for was written; or a memo
+    /// was listed.
     Finished,
     /// 1: the same, but some round ended otherwise.
     Unfinished,

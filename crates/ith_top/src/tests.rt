@@ -132,6 +132,7 @@ fn bad_words_and_files_are_refused(rt: HostRuntime) -> Result<(), Fail> {
         ("ithreads show five", 4, "memo: Short\n"),
         ("ithreads show absent", 6, "read absent\n"),
         ("ithreads rerun five absent", 6, "read absent\n"),
+        ("ithreads rerun five long", 9, "too large long\n"),
         (
             "ithreads run cut.elf empty --workers 1",
             3,

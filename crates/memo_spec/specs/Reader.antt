@@ -15,6 +15,7 @@ onward (Ok x) next = next x.0 x.1
 onward (Err e) next = Err e
 
 infixl 10 ◌>>=◌
+-- One reader and then another, which is given what the first one read.
 abbrev pub ◌>>=◌ : {A B : Type 0} → Reader A → (A → Reader B) → Reader B
 ◌>>=◌ first next = λ p. onward (first p) next
 
@@ -32,7 +33,9 @@ bytes_at n = λ p. if nat_lt (length p.left) n then Err (Field p.taken) else Ok 
 
 -- A field that is a number, the lowest byte first.
 abbrev pub number_at : Width → Reader ℕ
-number_at w = λ p. if nat_lt (length p.left) (byte_len w) then Err (Field p.taken) else Ok (from_le_bytes w p.left, past (byte_len w) p)
+number_at w = λ p.
+    if nat_lt (length p.left) (byte_len w) then Err (Field p.taken)
+    else Ok (from_le_bytes w p.left, past (byte_len w) p)
 
 -- A refusal at a place where a test fails.
 abbrev pub tested : {A : Type 0} → Bool → Refusal → A → Place → Result (A × Place) Refusal

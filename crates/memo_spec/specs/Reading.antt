@@ -40,6 +40,7 @@ all_ends =
     ∷ ends.Trap cause.Breakpoint ∷ ends.Trap cause.LoadMisaligned ∷ ends.Trap cause.LoadAccess
     ∷ ends.Trap cause.StoreMisaligned ∷ ends.Trap cause.StoreAccess ∷ ends.Call ∷ ends.Fuel ∷ []
 
+-- The end of a number.
 abbrev pub end_of : ℕ → ThunkEnd
 end_of n = slice_index_or all_ends n ends.Fuel
 
@@ -57,14 +58,17 @@ slot_of_number pages number = position_or_len (λ (m : Mapped). m.number == numb
 -- A page number, mapped, and from a slot on.
 unfoldable pub slot_at : List Mapped → ℕ → Reader ℕ
 slot_at pages low = do
-  number ← ruled (number_at w32) (λ n. nat_le low (slot_of_number pages n) && nat_lt (slot_of_number pages n) (length pages))
+  number ←
+      ruled (number_at w32)
+      (λ n. nat_le low (slot_of_number pages n) && nat_lt (slot_of_number pages n) (length pages))
   done (slot_of_number pages number)
 
 -- How many pages of the pool are used, after that of an index was.
 abbrev pub used_after : ℕ → ℕ → ℕ
 used_after used index = if index == used then used + 1 else used
 
--- Where the read pages of a record are read: the slot that the next may have at the least, and how many pages of the pool are used.
+-- Where the read pages of a record are read: the slot that the next may have at the least, and how many pages of the
+-- pool are used.
 pub record ReadState : Type 0 where
   pub low : ℕ
   pub used : ℕ
@@ -74,12 +78,15 @@ unfoldable pub read_page_at : List Mapped → List (List ℕ) → ReadState → 
 read_page_at pages pool s = do
   slot ← slot_at pages s.low
   index ← ruled (number_at w32) (λ i. nat_le i s.used && nat_lt i (length pool))
-  done (record { slot = slot; bytes = slice_index_or pool index [] }, record { low = suc slot; used = used_after s.used index })
+  let page : ReadPage = record { slot = slot; bytes = slice_index_or pool index [] }
+  done (page, record { low = suc slot; used = used_after s.used index })
 
 -- The bits of bytes, the lowest of a byte first.
 abbrev pub marks_of : List ℕ → List Bool
 marks_of [] = []
-marks_of (b ∷ bytes) = (bit_at b 0 == 1) ∷ (bit_at b 1 == 1) ∷ (bit_at b 2 == 1) ∷ (bit_at b 3 == 1) ∷ (bit_at b 4 == 1) ∷ (bit_at b 5 == 1) ∷ (bit_at b 6 == 1) ∷ (bit_at b 7 == 1) ∷ marks_of bytes
+marks_of (b ∷ bytes) =
+    (bit_at b 0 == 1) ∷ (bit_at b 1 == 1) ∷ (bit_at b 2 == 1) ∷ (bit_at b 3 == 1)
+    ∷ (bit_at b 4 == 1) ∷ (bit_at b 5 == 1) ∷ (bit_at b 6 == 1) ∷ (bit_at b 7 == 1) ∷ marks_of bytes
 
 -- A mask that isn't zero.
 unfoldable pub mask_at : Reader (List Bool)
@@ -113,7 +120,8 @@ record_at pages fuel pool s = do
   delta_count ← number_at w16
   delta ← chain (stored_page_at pages) delta_count 0
   let kept : Kept = record { reads = reads.0; delta = delta.0; finish = finish; end = end_of end; count = count }
-  let r : Record = record { thread = thread; number = count_by (λ t. t == thread) s.earlier; start = start; kept = kept }
+  let number = count_by (λ t. t == thread) s.earlier
+  let r : Record = record { thread = thread; number = number; start = start; kept = kept }
   done (r, record { earlier = s.earlier ++ thread ∷ []; used = reads.1.used })
 
 -- A page of the pool, which none of these is equal to.
@@ -151,7 +159,9 @@ unfoldable pub history_at : Reader History
 history_at = do
   setup ← setup_at
   entries ← limited (number_at w32) (is_within 1 setup.limit) (Limit limit.Entries)
-  x ← ruled (pool_and_records_at setup entries) (λ (x : List (List ℕ) × List Record × RecordState). x.2.used == length x.0)
+  x ←
+      ruled (pool_and_records_at setup entries)
+      (λ (x : List (List ℕ) × List Record × RecordState). x.2.used == length x.0)
   done (record { setup = setup; records = x.1 })
 
 -- The first record, counted from a number on, that doesn't fit, or the number past the last where no end comes.
@@ -166,7 +176,9 @@ coherent_or (Some i) h = Err (Incoherent i)
 
 -- A history that was read to the last byte, where it holds together.
 abbrev pub ended : Result (History × Place) Refusal → Result History Refusal
-ended (Ok x) = if length x.1.left == 0 then coherent_or (incoherent_from 0 (first x.0.setup) x.0.records) x.0 else Err (Field x.1.taken)
+ended (Ok x) =
+    if length x.1.left == 0 then coherent_or (incoherent_from 0 (first x.0.setup) x.0.records) x.0
+    else Err (Field x.1.taken)
 ended (Err refusal) = Err refusal
 
 -- What all bytes but the digest are taken as.

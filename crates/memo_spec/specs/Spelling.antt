@@ -17,20 +17,23 @@ use Rattle.guest_call.specs.declared.thread_number.TheConstants.{THREADS}
 use Rattle.machine_spec.specs.Setup.{Setup, IsSetup, map_of}
 use Rattle.history_spec.specs.History.{History, is_numbered}
 
--- A number as one, two or four bytes, the lowest first.
+-- A number as one byte.
 abbrev pub byte : ℕ → List ℕ
 byte n = to_le_bytes w8 n
 
+-- A number as two bytes, the lower first.
 abbrev pub half : ℕ → List ℕ
 half n = to_le_bytes w16 n
 
+-- A number as four bytes, the lowest first.
 abbrev pub word : ℕ → List ℕ
 word n = to_le_bytes w32 n
 
--- ITHM, and the version.
+-- ITHM: the first bytes of a memo.
 abbrev pub magic : List ℕ
 magic = 0x49 ∷ 0x54 ∷ 0x48 ∷ 0x4d ∷ []
 
+-- The version of the format.
 abbrev pub version : ℕ
 version = 1
 
@@ -76,10 +79,11 @@ index_in pool page = position_or_len (bytes_eq page) pool
 abbrev pub read_page : List Mapped → List (List ℕ) → ReadPage → List ℕ
 read_page map pool p = word (page_number map p.slot) ++ word (index_in pool p.bytes)
 
--- Eight marks as the bits of a byte, the first one lowest.
+-- A mark as a bit.
 abbrev pub bit : Bool → ℕ
 bit mark = if mark then 1 else 0
 
+-- Marks as bytes, eight in each, the first one lowest.
 abbrev pub mask : List Bool → List ℕ
 mask (a ∷ b ∷ c ∷ d ∷ e ∷ f ∷ g ∷ h ∷ marks) =
     (bit a + 2 * bit b + 4 * bit c + 8 * bit d + 16 * bit e + 32 * bit f + 64 * bit g + 128 * bit h) ∷ mask marks
@@ -155,7 +159,8 @@ pub record IsRecord (map : List Mapped) (fuel : ℕ) (r : Record) : Type 0 where
   pub delta_ascends : deltas_ascend 0 r.kept.delta ≡ true
   pub delta : AllByRecursion (IsStoredPage map) r.kept.delta
 
--- A history that has a spelling: its setup may be run, it has records but no more than the limit, and these are numbered.
+-- A history that has a spelling: its setup may be run, it has records but no more than the limit, and these are
+-- numbered.
 pub record IsSpellable (h : History) : Type 0 where
   pub setup : IsSetup h.setup
   pub elf_bytes : AreBytes h.setup.elf

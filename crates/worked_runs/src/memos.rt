@@ -11,13 +11,37 @@ use std::thread::Threads;
 use worked_guests::Guest;
 use worked_guests::guests::{HI, PAIR, SELF, TRAP};
 
-/// A line of the program: its words, its status, and how what it prints begins.
+/// A line of the program.
 #[derive(Clone, Copy)]
 struct Call {
+    /// Its words, between spaces.
     line: &'static str,
+    /// The exit status.
     status: u8,
+    /// How what it prints begins.
     begins: &'static str,
+    /// How what it prints ends.
+    ends: &'static str,
 }
+
+/// The first lines of the report of round 0 of the guest that puts out `hi`.
+const HI_BEGINS: &str =
+    "round 0\nend exit 0\nsteps 2\nreused 0\nexecuted 2\ninstructions 8\nby 2\nschedule 0+ 0+\n";
+
+/// The first lines of the report of a further round without an edit.
+const HI_AGAIN: &str =
+    "round 1\nend exit 0\nsteps 2\nreused 2\nexecuted 0\ninstructions 0\nby 2\nschedule 0= 0=\n";
+
+/// The rest of either. The digest was computed by Python's hashlib, over the pages written out by hand.
+const HI_ENDS: &str =
+    "memory e067f7df6c32cd794e71b125b718964257c850acbbafd68793e5e4808bcb3984\noutput 3\nhi\n\n";
+
+/// The listing of its memo.
+const HI_LISTED: &str = "elf 119\ninput 0\nfuel 1000000\nlimit 4096\nentries 2\n";
+
+/// The lines of its entries.
+const HI_ENTRIES: &str =
+    "entry 0 thread 0 number 0 end call 1 count 5 reads 00010000 writes -\nentry 1 thread 0 number 1 end call 0 count 3 reads 00010000 writes -\n";
 
 /// A host that has these files.
 fn host_with(alloc: Global, files: &[(&str, &[u8])]) -> Result<MemHost, AllocError> {
@@ -29,6 +53,13 @@ fn host_with(alloc: Global, files: &[(&str, &[u8])]) -> Result<MemHost, AllocErr
         )?;
     }
     Ok(MemHost::new(alloc, held, Vec::new(alloc), 0))
+}
+
+/// Whether what was printed is its beginning and its end, with nothing between them. Between those of a report whose end
+/// is told from its output on stands the digest of the memory, which isn't compared.
+fn is_whole(printed: &[u8], call: &Call) -> bool {
+    let told = call.begins.len().wrapping_add(call.ends.len());
+    call.ends.starts_with("output ") || printed.len() == told
 }
 
 /// Does some lines one after the other, and compares.
@@ -69,22 +100,26 @@ fn a_memo_is_kept_and_gone_on_from(rt: HostRuntime) -> Result<(), Fail> {
             Call {
                 line: "ithreads run guest input --workers 1 --memo m",
                 status: 0,
-                begins: "round 0\nend exit 0\nsteps 2\nreused 0\nexecuted 2\ninstructions 8\nby 2\nschedule 0+ 0+\n",
+                begins: HI_BEGINS,
+                ends: HI_ENDS,
             },
             Call {
                 line: "ithreads rerun m --workers 1 --memo n",
                 status: 0,
-                begins: "round 1\nend exit 0\nsteps 2\nreused 2\nexecuted 0\ninstructions 0\nby 2\nschedule 0= 0=\n",
+                begins: HI_AGAIN,
+                ends: HI_ENDS,
             },
             Call {
                 line: "ithreads rerun n --workers 1",
                 status: 0,
-                begins: "round 1\nend exit 0\nsteps 2\nreused 2\nexecuted 0\ninstructions 0\nby 2\nschedule 0= 0=\n",
+                begins: HI_AGAIN,
+                ends: HI_ENDS,
             },
             Call {
                 line: "ithreads show m",
                 status: 0,
-                begins: "elf 119\ninput 0\nfuel 1000000\nlimit 4096\nentries 2\nentry 0 thread 0 number 0 end call 1 count 5 reads 00010000 writes -\nentry 1 thread 0 number 1 end call 0 count 3 reads 00010000 writes -\n",
+                begins: HI_LISTED,
+                ends: HI_ENTRIES,
             },
         ],
     )?;
@@ -111,11 +146,13 @@ fn a_memo_keeps_traps_and_stored_pages(rt: HostRuntime) -> Result<(), Fail> {
                 line: "ithreads run guest input --workers 1 --memo m",
                 status: 1,
                 begins: "round 0\nend trap 0 0001000c 4\nsteps 1\nreused 0\nexecuted 1\ninstructions 4\nby 1\nschedule 0+\n",
+                ends: "output 0\n\n",
             },
             Call {
                 line: "ithreads rerun m --workers 1",
                 status: 1,
                 begins: "round 1\nend trap 0 0001000c 4\nsteps 1\nreused 1\nexecuted 0\ninstructions 0\nby 1\nschedule 0=\n",
+                ends: "output 0\n\n",
             },
         ],
     )?;
@@ -129,11 +166,13 @@ fn a_memo_keeps_traps_and_stored_pages(rt: HostRuntime) -> Result<(), Fail> {
                 line: "ithreads run guest input --workers 1 --memo m",
                 status: 0,
                 begins: "round 0\nend exit 9\nsteps 1\nreused 0\nexecuted 1\ninstructions 6\n",
+                ends: "output 0\n\n",
             },
             Call {
                 line: "ithreads show m",
                 status: 0,
-                begins: "elf 112\ninput 0\nfuel 1000000\nlimit 4096\nentries 1\nentry 0 thread 0 number 0 end call 0 count 6 reads 00010000 writes 00010000\n",
+                begins: "elf 112\ninput 0\nfuel 1000000\nlimit 4096\nentries 1\n",
+                ends: "entry 0 thread 0 number 0 end call 0 count 6 reads 00010000 writes 00010000\n",
             },
         ],
     )
@@ -165,31 +204,37 @@ fn a_memo_is_gone_on_from_after_edits(rt: HostRuntime) -> Result<(), Fail> {
                 line: "ithreads run guest input --workers 1 --memo m",
                 status: 0,
                 begins: "round 0\nend exit 0\nsteps 12\n",
+                ends: "output 4\n\x0c\x00\x00\x00\n",
             },
             Call {
                 line: "ithreads rerun m eight --workers 1 --memo m",
                 status: 0,
                 begins: "round 1\nend exit 0\nsteps 12\nreused 8\nexecuted 4\ninstructions 18\nby 12\nschedule 0= 1= 0= 2+ 1= 2+ 0= 1= 2+ 0= 0+ 0=\n",
+                ends: "output 4\n\x0d\x00\x00\x00\n",
             },
             Call {
                 line: "ithreads rerun m eight --workers 1",
                 status: 0,
                 begins: "round 1\nend exit 0\nsteps 12\nreused 12\nexecuted 0\ninstructions 0\n",
+                ends: "output 4\n\x0d\x00\x00\x00\n",
             },
             Call {
                 line: "ithreads rerun m bad --workers 1",
                 status: 5,
                 begins: "",
+                ends: "",
             },
             Call {
                 line: "ithreads rerun guest absent --workers 1",
                 status: 6,
                 begins: "",
+                ends: "",
             },
             Call {
                 line: "ithreads show input",
                 status: 4,
                 begins: "",
+                ends: "",
             },
         ],
     )

@@ -16,8 +16,8 @@ pub returns-in-Err-recall-clause-refused : goal.returns-in-Err-recall-clause-ref
 returns-in-Err-recall-clause-refused g c =
     let w = g.H.Host.world in let files = c.in-Ok.files in
     let why : WhyNoHistory files.memo.items c.in-Err-recall.status = rw (← c.as_slice.ensures.value) c.in-Err-recall.ensures.refused in
-    forgotten_ends (rerun_said c.args.line.now) (w c.args.host.now) (w c.read_rerun_files.new.host) (w c.recall.new.host) files.memo.items c.in-Err-recall.status
-    c.in-Ok.ensures.asked c.in-Err-recall.ensures.asked c.in-Ok.ensures.stays c.in-Err-recall.ensures.stays c.in-Ok.ensures.memo why
+    forgotten_ends (rerun_said c.args.line.now) (w c.args.host.now) (w c.read_rerun_files.new.host) (w c.recall.new.host) files.memo.items (bytes_of_each files.lists.items) c.in-Err-recall.status
+    c.in-Ok.ensures.asked c.in-Err-recall.ensures.asked c.in-Ok.ensures.stays c.in-Err-recall.ensures.stays c.in-Ok.ensures.memo c.in-Ok.ensures.lists why
 
 pub returns-in-Err-edit_again-clause-refused : goal.returns-in-Err-edit_again-clause-refused
 returns-in-Err-edit_again-clause-refused g c =
