@@ -62,23 +62,38 @@ fn is_whole(printed: &[u8], call: &Call) -> bool {
     call.ends.starts_with("output ") || printed.len() == told
 }
 
-/// Does some lines one after the other, and compares.
+/// The bytes from a place on.
+fn bytes_from(bytes: &[u8], place: usize) -> &[u8] {
+    if place <= bytes.len() {
+        &bytes[place..]
+    } else {
+        bytes
+    }
+}
+
+/// The bytes before a place.
+fn bytes_before(bytes: &[u8], place: usize) -> &[u8] {
+    if place <= bytes.len() {
+        &bytes[..place]
+    } else {
+        bytes
+    }
+}
+
+/// Does a line, and compares.
 fn compare<R: Threads + Sync + Abort>(
     rt: &R,
     alloc: Global,
     host: &mut MemHost,
-    calls: &[Call],
+    call: &Call,
 ) -> Result<(), Fail> {
-    for call in calls.iter().copied() {
-        let before = host.printed().len();
-        let status = status_of(rt, alloc, host, call.line)?;
-        assert_eq!(rt; status, call.status, "at {}", call.line);
-        assert!(rt;
-            host.printed()[before..].starts_with(call.begins.as_bytes()),
-            "at {}",
-            call.line
-        );
-    }
+    let before = host.printed().len();
+    let status = status_of(rt, alloc, host, call.line)?;
+    assert_eq!(rt; status, call.status);
+    let printed = bytes_from(host.printed(), before);
+    assert!(rt; printed.starts_with(call.begins.as_bytes()));
+    assert!(rt; printed.ends_with(call.ends.as_bytes()));
+    assert!(rt; is_whole(printed, call));
     Ok(())
 }
 
@@ -92,37 +107,34 @@ fn host_of(alloc: Global, guest: Guest) -> Result<MemHost, AllocError> {
 fn a_memo_is_kept_and_gone_on_from(rt: HostRuntime) -> Result<(), Fail> {
     let alloc = rt.alloc();
     let mut host = host_of(alloc, HI)?;
-    compare(
-        &rt,
-        alloc,
-        &mut host,
-        &[
-            Call {
-                line: "ithreads run guest input --workers 1 --memo m",
-                status: 0,
-                begins: HI_BEGINS,
-                ends: HI_ENDS,
-            },
-            Call {
-                line: "ithreads rerun m --workers 1 --memo n",
-                status: 0,
-                begins: HI_AGAIN,
-                ends: HI_ENDS,
-            },
-            Call {
-                line: "ithreads rerun n --workers 1",
-                status: 0,
-                begins: HI_AGAIN,
-                ends: HI_ENDS,
-            },
-            Call {
-                line: "ithreads show m",
-                status: 0,
-                begins: HI_LISTED,
-                ends: HI_ENTRIES,
-            },
-        ],
-    )?;
+    for call in [
+        Call {
+            line: "ithreads run guest input --workers 1 --memo m",
+            status: 0,
+            begins: HI_BEGINS,
+            ends: HI_ENDS,
+        },
+        Call {
+            line: "ithreads rerun m --workers 1 --memo n",
+            status: 0,
+            begins: HI_AGAIN,
+            ends: HI_ENDS,
+        },
+        Call {
+            line: "ithreads rerun n --workers 1",
+            status: 0,
+            begins: HI_AGAIN,
+            ends: HI_ENDS,
+        },
+        Call {
+            line: "ithreads show m",
+            status: 0,
+            begins: HI_LISTED,
+            ends: HI_ENTRIES,
+        },
+    ] {
+        compare(&rt, alloc, &mut host, &call)?;
+    }
     match (host.file("m"), host.file("n")) {
         (Some(memo), Some(again)) => {
             assert_eq!(rt; memo.len(), 4827);
@@ -137,45 +149,40 @@ fn a_memo_is_kept_and_gone_on_from(rt: HostRuntime) -> Result<(), Fail> {
 fn a_memo_keeps_traps_and_stored_pages(rt: HostRuntime) -> Result<(), Fail> {
     let alloc = rt.alloc();
     let mut host = host_of(alloc, TRAP)?;
-    compare(
-        &rt,
-        alloc,
-        &mut host,
-        &[
-            Call {
-                line: "ithreads run guest input --workers 1 --memo m",
-                status: 1,
-                begins: "round 0\nend trap 0 0001000c 4\nsteps 1\nreused 0\nexecuted 1\ninstructions 4\nby 1\nschedule 0+\n",
-                ends: "output 0\n\n",
-            },
-            Call {
-                line: "ithreads rerun m --workers 1",
-                status: 1,
-                begins: "round 1\nend trap 0 0001000c 4\nsteps 1\nreused 1\nexecuted 0\ninstructions 0\nby 1\nschedule 0=\n",
-                ends: "output 0\n\n",
-            },
-        ],
-    )?;
+    for call in [
+        Call {
+            line: "ithreads run guest input --workers 1 --memo m",
+            status: 1,
+            begins: "round 0\nend trap 0 0001000c 4\nsteps 1\nreused 0\nexecuted 1\ninstructions 4\nby 1\nschedule 0+\n",
+            ends: "output 0\n\n",
+        },
+        Call {
+            line: "ithreads rerun m --workers 1",
+            status: 1,
+            begins: "round 1\nend trap 0 0001000c 4\nsteps 1\nreused 1\nexecuted 0\ninstructions 0\nby 1\nschedule 0=\n",
+            ends: "output 0\n\n",
+        },
+    ] {
+        compare(&rt, alloc, &mut host, &call)?;
+    }
     let mut host = host_of(alloc, SELF)?;
-    compare(
-        &rt,
-        alloc,
-        &mut host,
-        &[
-            Call {
-                line: "ithreads run guest input --workers 1 --memo m",
-                status: 0,
-                begins: "round 0\nend exit 9\nsteps 1\nreused 0\nexecuted 1\ninstructions 6\n",
-                ends: "output 0\n\n",
-            },
-            Call {
-                line: "ithreads show m",
-                status: 0,
-                begins: "elf 112\ninput 0\nfuel 1000000\nlimit 4096\nentries 1\n",
-                ends: "entry 0 thread 0 number 0 end call 0 count 6 reads 00010000 writes 00010000\n",
-            },
-        ],
-    )
+    for call in [
+        Call {
+            line: "ithreads run guest input --workers 1 --memo m",
+            status: 0,
+            begins: "round 0\nend exit 9\nsteps 1\nreused 0\nexecuted 1\ninstructions 6\n",
+            ends: "output 0\n\n",
+        },
+        Call {
+            line: "ithreads show m",
+            status: 0,
+            begins: "elf 112\ninput 0\nfuel 1000000\nlimit 4096\nentries 1\n",
+            ends: "entry 0 thread 0 number 0 end call 0 count 6 reads 00010000 writes 00010000\n",
+        },
+    ] {
+        compare(&rt, alloc, &mut host, &call)?;
+    }
+    Ok(())
 }
 
 #[test]
@@ -195,49 +202,47 @@ fn a_memo_is_gone_on_from_after_edits(rt: HostRuntime) -> Result<(), Fail> {
             ("bad", b"set 0"),
         ],
     )?;
-    compare(
-        &rt,
-        alloc,
-        &mut host,
-        &[
-            Call {
-                line: "ithreads run guest input --workers 1 --memo m",
-                status: 0,
-                begins: "round 0\nend exit 0\nsteps 12\n",
-                ends: "output 4\n\x0c\x00\x00\x00\n",
-            },
-            Call {
-                line: "ithreads rerun m eight --workers 1 --memo m",
-                status: 0,
-                begins: "round 1\nend exit 0\nsteps 12\nreused 8\nexecuted 4\ninstructions 18\nby 12\nschedule 0= 1= 0= 2+ 1= 2+ 0= 1= 2+ 0= 0+ 0=\n",
-                ends: "output 4\n\x0d\x00\x00\x00\n",
-            },
-            Call {
-                line: "ithreads rerun m eight --workers 1",
-                status: 0,
-                begins: "round 1\nend exit 0\nsteps 12\nreused 12\nexecuted 0\ninstructions 0\n",
-                ends: "output 4\n\x0d\x00\x00\x00\n",
-            },
-            Call {
-                line: "ithreads rerun m bad --workers 1",
-                status: 5,
-                begins: "",
-                ends: "",
-            },
-            Call {
-                line: "ithreads rerun guest absent --workers 1",
-                status: 6,
-                begins: "",
-                ends: "",
-            },
-            Call {
-                line: "ithreads show input",
-                status: 4,
-                begins: "",
-                ends: "",
-            },
-        ],
-    )
+    for call in [
+        Call {
+            line: "ithreads run guest input --workers 1 --memo m",
+            status: 0,
+            begins: "round 0\nend exit 0\nsteps 12\n",
+            ends: "output 4\n\x0c\x00\x00\x00\n",
+        },
+        Call {
+            line: "ithreads rerun m eight --workers 1 --memo m",
+            status: 0,
+            begins: "round 1\nend exit 0\nsteps 12\nreused 8\nexecuted 4\ninstructions 18\nby 12\nschedule 0= 1= 0= 2+ 1= 2+ 0= 1= 2+ 0= 0+ 0=\n",
+            ends: "output 4\n\x0d\x00\x00\x00\n",
+        },
+        Call {
+            line: "ithreads rerun m eight --workers 1",
+            status: 0,
+            begins: "round 1\nend exit 0\nsteps 12\nreused 12\nexecuted 0\ninstructions 0\n",
+            ends: "output 4\n\x0d\x00\x00\x00\n",
+        },
+        Call {
+            line: "ithreads rerun m bad --workers 1",
+            status: 5,
+            begins: "",
+            ends: "",
+        },
+        Call {
+            line: "ithreads rerun guest absent --workers 1",
+            status: 6,
+            begins: "",
+            ends: "",
+        },
+        Call {
+            line: "ithreads show input",
+            status: 4,
+            begins: "",
+            ends: "",
+        },
+    ] {
+        compare(&rt, alloc, &mut host, &call)?;
+    }
+    Ok(())
 }
 
 /// The memo of the guest that puts out `hi`.
@@ -252,13 +257,27 @@ fn memo_of_hi<R: Threads + Sync + Abort>(rt: &R, alloc: Global) -> Result<Vec<u8
     }
 }
 
-/// A memo with other bytes in place of some, from an offset on, and another digest.
-fn changed(alloc: Global, memo: &[u8], at: usize, bytes: &[u8]) -> Result<Vec<u8>, AllocError> {
-    let end = memo.len().wrapping_sub(32);
-    let mut text = Vec::from_slice(alloc, &memo[..end])?;
-    for (k, byte) in bytes.iter().enumerate() {
-        text[at.wrapping_add(k)] = *byte;
+/// Bytes with others in place of some, from an offset on.
+fn with_bytes(
+    alloc: Global,
+    bytes: &[u8],
+    at: usize,
+    others: &[u8],
+) -> Result<Vec<u8>, AllocError> {
+    let mut changed = Vec::from_slice(alloc, bytes)?;
+    for (k, other) in others.iter().enumerate() {
+        let place = at.wrapping_add(k);
+        if place < changed.len() {
+            changed[place] = *other;
+        }
     }
+    Ok(changed)
+}
+
+/// A memo with other bytes in place of some, from an offset on, and another digest.
+fn changed(alloc: Global, memo: &[u8], at: usize, others: &[u8]) -> Result<Vec<u8>, AllocError> {
+    let text = bytes_before(memo, memo.len().wrapping_sub(32));
+    let mut text = with_bytes(alloc, text, at, others)?;
     let digest = Sha256::digest(text.as_slice());
     text.extend_from_slice(digest.as_slice())?;
     Ok(text)
@@ -288,12 +307,11 @@ fn a_damaged_memo_is_refused(rt: HostRuntime) -> Result<(), Fail> {
         (4, 2, "memo: Version 2\n"),
         (8, 0, "memo: Digest\n"),
     ] {
-        let mut damaged = Vec::from_slice(alloc, &memo)?;
-        damaged[at] = byte;
+        let damaged = with_bytes(alloc, &memo, at, &[byte])?;
         compare_refused(&rt, alloc, damaged.as_slice(), complaint)?;
     }
-    compare_refused(&rt, alloc, &memo[..4826], "memo: Digest\n")?;
-    compare_refused(&rt, alloc, &memo[..39], "memo: Short\n")?;
+    compare_refused(&rt, alloc, bytes_before(&memo, 4826), "memo: Digest\n")?;
+    compare_refused(&rt, alloc, bytes_before(&memo, 39), "memo: Short\n")?;
     for (at, bytes, complaint) in [
         (8usize, &[1u8, 0, 0, 1], "memo: Limit elf\n"),
         (135, &[0, 0, 0, 0], "memo: Limit fuel\n"),
