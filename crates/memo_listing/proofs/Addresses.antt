@@ -1,11 +1,11 @@
 -- The addresses of a setup's pages are words.
-use Rattle.std.proofs.Common.{◌≡◌, ℕ, zero, suc, ◌+◌, ◌*◌, ◌^◌, ◌<◌, ◌≤◌, List, ◌++◌, length, map, All, slice_index_or, Fits, w32, refl, sym, subst, arith}
+use Rattle.std.proofs.Common.{◌≡◌, ℕ, zero, suc, ◌+◌, ◌*◌, ◌^◌, ◌<◌, ◌≤◌, List, ◌++◌, length, map, All, slice_index_or, Fits, w32, sym, subst, arith}
 use Rattle.std.specs.List.{AllByRecursion, range_with_len}
 use Rattle.std.proofs.lemmas.List.Elements.{All-append, All-from_recursion}
 use Rattle.memory_spec.specs.Pages.{Mapped, unmapped}
 use Rattle.elf_spec.specs.Image.{image_pages}
 use Rattle.elf_spec.proofs.Touched.{pages_inside}
-use Rattle.machine_spec.specs.Setup.{Setup, IsSetup, map_of, data_pages, first}
+use Rattle.machine_spec.specs.Setup.{Setup, IsSetup, map_of, data_pages}
 
 abbrev IsLow : Mapped → Type 0
 IsLow page = page.number < 2 ^ 20
@@ -31,11 +31,6 @@ low_pages s sound =
     (All-append IsLow (image_pages s.elf) (data_pages 0xC0000 1) (low_image s sound) (low_data 0xC0000 1 (omega arith)))
     (low_data 0xC0001 256 (omega arith)))
     (low_data 0xD0000 512 (omega arith))
-
--- the map of the machine that a setup starts as
-pub first_map : (s : Setup) → (first s).frame.map ≡ map_of s
-unfolding first
-first_map s = refl
 
 -- the address of the page in a slot is a word
 pub word_address :

@@ -70,25 +70,8 @@ fn append_end(alloc: Global, end: ThunkEnd, a7: u32, into: &mut Vec<u8>) -> Resu
 {
     match end {
         ThunkEnd::Call => append_number(alloc, "call ", u64::from(a7), into),
-        ThunkEnd::Trap(cause) => append_number(alloc, "trap ", cause_number(cause), into),
+        ThunkEnd::Trap(cause) => append_number(alloc, "trap ", u64::from(cause.number()), into),
         ThunkEnd::Fuel => into.extend_from_slice(b"fuel"),
-    }
-}
-
-/// The number of a cause (RISC-V privileged ISA 20211203, 3.1.15); 8 is a call that has no row.
-fn cause_number(cause: Cause) -> u64
-    ensures { result ≡ number_of cause }
-{
-    match cause {
-        Cause::InstructionMisaligned => 0,
-        Cause::InstructionAccess => 1,
-        Cause::IllegalInstruction => 2,
-        Cause::Breakpoint => 3,
-        Cause::LoadMisaligned => 4,
-        Cause::LoadAccess => 5,
-        Cause::StoreMisaligned => 6,
-        Cause::StoreAccess => 7,
-        Cause::BadCall => 8,
     }
 }
 

@@ -4,7 +4,7 @@ ghost use Rattle.std.specs.Prelude.{◌≡◌, ◌<◌, ◌++◌, All, length, I
 ghost use Rattle.memo_listing.specs.Listing.{address_text, addresses_of, reads_text, writes_text};
 
 use ith_text::hex8;
-use release_core::{Core, Setup};
+use release_core::Setup;
 use std::alloc::{AllocError, Global};
 use store_mask::{PageDelta, ReadPage};
 
@@ -13,8 +13,7 @@ pub(super) fn addresses_of(alloc: Global, setup: &Setup) -> Result<Vec<u32>, All
     ensures { IfOk result (λ addresses. addresses.items ≡ addresses_of setup.now) }
 {
     setup.sound();
-    let core = Core::new(alloc, setup)?;
-    let map = core.frame().map();
+    let map = setup.page_map(alloc)?;
     let mut addresses = Vec::new(alloc);
     for slot in 0..map.len() {
         addresses.push(map.address(slot) as u32)?;

@@ -12,7 +12,8 @@ use std::sync::Arc;
 /// How many pages a full group has: a power of two, so that a slot's group is a shift and its place a mask.
 pub const GROUP_SIZE: usize = 32;
 
-/// Some pages that follow one another. It never changes: another group is made in its place. A clause sees the list of their bytes.
+/// Some pages that follow one another. It never changes: another group is made in its place. A clause sees the list of
+/// their bytes.
 #[derive(Drop)]
 pub struct Group {
     pages: Vec<Arc<Page>>,

@@ -14,11 +14,13 @@ use Rattle.machine_spec.proofs.Steps.{hart-at}
 pub below : (hs : List Hart) (t : ℕ) → is_ready (hart_in hs t).status ≡ true → t < length hs
 below hs t ready = ready-below hs t ready
 
-pub exists : (o : Objects) (hs : List Hart) (t : ℕ) → IsTied o hs → is_ready (hart_in hs t).status ≡ true → t < length o.threads
+pub exists : (o : Objects) (hs : List Hart) (t : ℕ) → IsTied o hs → is_ready (hart_in hs t).status ≡ true
+    → t < length o.threads
 exists o hs t tied ready = let inside = ready-below hs t ready in omega (arith, tied.threads)
 
 -- it waits nowhere
-pub free : (o : Objects) (hs : List Hart) (t : ℕ) → IsTied o hs → is_ready (hart_in hs t).status ≡ true → waits_at o t ≡ 0
+pub free : (o : Objects) (hs : List Hart) (t : ℕ) → IsTied o hs → is_ready (hart_in hs t).status ≡ true
+    → waits_at o t ≡ 0
 free o hs t tied ready = tied.blocked t ∙ blocked_count-ready (hart_in hs t).status ready
 
 -- there is room for a thread that it creates
@@ -33,12 +35,14 @@ few readable o hs t call tied ready =
 
 -- its view has as many pages as the map
 pub view_count :
-    (m : Machine) (t : ℕ) → IsWhole m → is_ready (hart_in m.harts t).status ≡ true → length (hart_in m.harts t).view ≡ length m.frame.map
+    (m : Machine) (t : ℕ) → IsWhole m → is_ready (hart_in m.harts t).status ≡ true
+    → length (hart_in m.harts t).view ≡ length m.frame.map
 view_count m t whole ready =
     (hart-at m.frame.map m.steps m.harts t (ready-below m.harts t ready) whole.harts).view.count
 
 -- it has made few steps
-pub few_numbers : (m : Machine) (t : ℕ) → IsWhole m → is_ready (hart_in m.harts t).status ≡ true → (hart_in m.harts t).number ≤ MOST_STEPS
+pub few_numbers : (m : Machine) (t : ℕ) → IsWhole m → is_ready (hart_in m.harts t).status ≡ true
+    → (hart_in m.harts t).number ≤ MOST_STEPS
 few_numbers m t whole ready =
     let number = (hart-at m.frame.map m.steps m.harts t (ready-below m.harts t ready) whole.harts).number in
     omega (arith, whole.few_steps, whole.limits.most_steps)

@@ -4,7 +4,8 @@ use Rattle.std.proofs.lemmas.List.{append-nil}
 use Rattle.memory_spec.specs.Pages.{Mapped}
 use Rattle.machine_spec.specs.Setup.{data_pages}
 
-data_pages-suc : (number count : ℕ) → data_pages number (suc count) ≡ (record { number = number; permission = 6 }) ∷ data_pages (number + 1) count
+data_pages-suc : (number count : ℕ)
+    → data_pages number (suc count) ≡ (record { number = number; permission = 6 }) ∷ data_pages (number + 1) count
 unfolding data_pages
 data_pages-suc number count = refl
 
@@ -16,7 +17,8 @@ data_pages-none number count none = rw none refl
 pub data_pages-next :
     (pages : List Mapped) (page : Mapped) (number i count : ℕ)
     → i < count → page ≡ record { number = number + i; permission = 6 }
-    → (pages ++ page ∷ []) ++ data_pages (number + (i + 1)) (count - (i + 1)) ≡ pages ++ data_pages (number + i) (count - i)
+    → (pages ++ page ∷ []) ++ data_pages (number + (i + 1)) (count - (i + 1)) ≡ pages ++ data_pages (number + i)
+    (count - i)
 data_pages-next pages page number i count below is =
     let rest : count - i ≡ suc (count - (i + 1)) = omega arith in
     let later : number + (i + 1) ≡ number + i + 1 = omega arith in

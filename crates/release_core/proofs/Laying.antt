@@ -21,16 +21,25 @@ pub done-parts :
     ≡ record m {
       harts = harts_after m.frame.map m.objects m.memory t m.harts a;
       objects = objects_after m.frame.map m.objects t a;
-      ending = end_after (own_end m.frame.map m.objects t a) (harts_after m.frame.map m.objects m.memory t m.harts a) m.limit m.steps;
+      ending = end_after (own_end m.frame.map m.objects t a)
+          (harts_after m.frame.map m.objects m.memory t m.harts a) m.limit m.steps;
     }
 done-parts m t (Asks call) = refl
 done-parts m t (Stops e) = refl
 
 -- the machine's parts, each as the code makes it, are the machine after a record was laid
 pub laid-parts :
-    (m : Machine) (r : Record) (memory : Memory) (written done : List Hart) (objects : Objects) (put output : List ℕ) (steps : ℕ) (ending : Option End) (a : Asked)
+    (m : Machine) (r : Record) (memory : Memory) (written done : List Hart) (objects : Objects) (put output : List ℕ)
+    (steps : ℕ) (ending : Option End) (a : Asked)
     → memory ≡ masked m.memory r.kept.delta
-    → written ≡ set m.harts r.thread (record { view = (hart_of m r.thread).view; regs = r.kept.finish; number = suc (hart_of m r.thread).number; status = (hart_of m r.thread).status })
+    → written ≡ set m.harts r.thread
+    (record {
+      view = (hart_of m r.thread).view;
+      regs = r.kept.finish;
+      number =
+          suc (hart_of m r.thread).number;
+      status = (hart_of m r.thread).status;
+    })
     → a ≡ asked r.thread r.kept.end r.kept.finish
     → put ≡ put_of m.frame.map (hart_of m r.thread).view r.kept
     → output ≡ m.output ++ put
@@ -38,11 +47,23 @@ pub laid-parts :
     → done ≡ harts_after m.frame.map m.objects memory r.thread written a
     → objects ≡ objects_after m.frame.map m.objects r.thread a
     → ending ≡ end_after (own_end m.frame.map m.objects r.thread a) done m.limit steps
-    → record { frame = m.frame; limit = m.limit; memory = memory; harts = done; objects = objects; output = output; steps = steps; ending = ending } ≡ lay m r
+    → record {
+      frame = m.frame;
+      limit = m.limit;
+      memory = memory;
+      harts = done;
+      objects = objects;
+      output =
+          output;
+      steps = steps;
+      ending = ending;
+    } ≡ lay m r
 unfolding lay finished
-laid-parts m r memory written_harts done objects put output steps ending a is_memory is_written is_asked is_put is_output is_steps is_done is_objects is_ending =
+laid-parts m r memory written_harts done objects put output steps ending a is_memory is_written is_asked is_put
+    is_output is_steps is_done is_objects is_ending =
     rw (is_objects, is_ending, is_done, is_output, is_put, is_steps, is_written, is_asked, is_memory)
-    (sym (done-parts (written m r.thread (masked m.memory r.kept.delta) r.kept.finish (put_of m.frame.map (hart_of m r.thread).view r.kept)) r.thread
+    (sym (done-parts (written m r.thread (masked m.memory r.kept.delta) r.kept.finish
+    (put_of m.frame.map (hart_of m r.thread).view r.kept)) r.thread
     (asked r.thread r.kept.end r.kept.finish)))
 
 -- as many pages as before

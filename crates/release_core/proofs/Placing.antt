@@ -52,7 +52,8 @@ placed-step :
     (k t count : ℕ) (r : Record) (rs : List Record) (b : Bool)
     → eqb r.thread t ≡ b
     → (r.thread ≡ t → r.number ≡ count)
-    → ((m : ℕ) → get_or (places_from (suc k) t rs) m (suc k + length rs) ≡ suc k + position_or_len (is_of t (count + cond b 1 0 + m)) rs)
+    → ((m : ℕ) → get_or (places_from (suc k) t rs) m (suc k + length rs) ≡ suc k + position_or_len
+    (is_of t (count + cond b 1 0 + m)) rs)
     → (m : ℕ)
     → get_or (cond b (k ∷ places_from (suc k) t rs) (places_from (suc k) t rs)) m (k + suc (length rs))
     ≡ k + position_or_len (is_of t (count + m)) (r ∷ rs)
@@ -66,18 +67,22 @@ placed-step k t count r rs true own number rest (suc m) =
     let here : is_of t (count + suc m) r ≡ false = grind (arith, nat_tests) in
     let sum : count + 1 + m ≡ count + suc m = omega arith in
     let over : k + suc (length rs) ≡ suc k + length rs = omega arith in
-    let next : get_or (places_from (suc k) t rs) m (suc k + length rs) ≡ suc k + position_or_len (is_of t (count + suc m)) rs =
+    let next : get_or (places_from (suc k) t rs) m (suc k + length rs) ≡ suc k + position_or_len
+    (is_of t (count + suc m)) rs =
     rest m ∙ ap (λ x. suc k + position_or_len (is_of t x) rs) sum in
-    let last : get_or (places_from (suc k) t rs) m (k + suc (length rs)) ≡ suc k + position_or_len (is_of t (count + suc m)) rs =
+    let last : get_or (places_from (suc k) t rs) m (k + suc (length rs)) ≡ suc k + position_or_len
+    (is_of t (count + suc m)) rs =
     ap (λ x. get_or (places_from (suc k) t rs) m x) over ∙ next in
     rw here (last ∙ omega arith)
 placed-step k t count r rs false other number rest m =
     let here : is_of t (count + m) r ≡ false = ap (λ b. b && eqb r.number (count + m)) other in
     let sum : count + 0 + m ≡ count + m = omega arith in
     let over : k + suc (length rs) ≡ suc k + length rs = omega arith in
-    let next : get_or (places_from (suc k) t rs) m (suc k + length rs) ≡ suc k + position_or_len (is_of t (count + m)) rs =
+    let next : get_or (places_from (suc k) t rs) m (suc k + length rs) ≡ suc k + position_or_len
+    (is_of t (count + m)) rs =
     rest m ∙ ap (λ x. suc k + position_or_len (is_of t x) rs) sum in
-    let last : get_or (places_from (suc k) t rs) m (k + suc (length rs)) ≡ suc k + position_or_len (is_of t (count + m)) rs =
+    let last : get_or (places_from (suc k) t rs) m (k + suc (length rs)) ≡ suc k + position_or_len
+    (is_of t (count + m)) rs =
     ap (λ x. get_or (places_from (suc k) t rs) m x) over ∙ next in
     rw here (last ∙ omega arith)
 
@@ -85,7 +90,8 @@ placed-step k t count r rs false other number rest m =
 placed :
     (k t n : ℕ) (earlier : List ℕ) (rs : List Record)
     → is_numbered_after earlier rs ≡ true
-    → get_or (places_from k t rs) n (k + length rs) ≡ k + position_or_len (is_of t (count_by (λ u. eqb u t) earlier + n)) rs
+    → get_or (places_from k t rs) n (k + length rs) ≡ k + position_or_len
+    (is_of t (count_by (λ u. eqb u t) earlier + n)) rs
 placed k t n earlier [] numbered = refl
 placed k t n earlier (r ∷ rs) numbered =
     placed-step k t (count_by (λ u. eqb u t) earlier) r rs (eqb r.thread t) refl
@@ -170,12 +176,16 @@ indexed-more places rs r kept rows few below number =
           λ t inside.
           elim (cases_eq r.thread t) [
             | inl same ↦
-                let here : get_or (set places r.thread (get_or places r.thread [] ++ length rs ∷ [])) t [] ≡ get_or places t [] ++ length rs ∷ [] =
-                subst (λ u. get_or (set places u (get_or places u [] ++ length rs ∷ [])) t [] ≡ get_or places t [] ++ length rs ∷ []) (sym same)
+                let here : get_or (set places r.thread (get_or places r.thread [] ++ length rs ∷ [])) t []
+                ≡ get_or places t [] ++ length rs ∷ [] =
+                subst (λ u. get_or (set places u (get_or places u [] ++ length rs ∷ [])) t [] ≡ get_or places t []
+                ++ length rs ∷ []) (sym same)
                 (get_or-set_same places t _ [] (omega arith)) in
-                here ∙ ap (λ xs. xs ++ length rs ∷ []) (kept.index t inside) ∙ sym (places-first t rs r (eq-eqb _ _ same))
+                here ∙ ap (λ xs. xs ++ length rs ∷ []) (kept.index t inside)
+                ∙ sym (places-first t rs r (eq-eqb _ _ same))
             | inr other ↦
-                get_or-set_other places r.thread t _ [] (λ e. other (sym e)) ∙ kept.index t inside ∙ sym (places-other 0 t rs r (ne_eqb _ _ other))
+                get_or-set_other places r.thread t _ [] (λ e. other (sym e)) ∙ kept.index t inside
+                ∙ sym (places-other 0 t rs r (ne_eqb _ _ other))
           ];
       of_run =
           record {
@@ -196,7 +206,8 @@ without-last xs x =
     ap (λ n. take n (xs ++ x ∷ [])) count ∙ front xs x
 
 -- a list without its last element is what stood before that one came
-pub undone : (before after rs : List Record) (r : Record) → after ≡ take (length before - 1) before → before ≡ rs ++ r ∷ [] → after ≡ rs
+pub undone : (before after rs : List Record) (r : Record) → after ≡ take (length before - 1) before
+    → before ≡ rs ++ r ∷ [] → after ≡ rs
 undone before after rs r is pushed = is ∙ ap (λ xs. take (length xs - 1) xs) pushed ∙ without-last rs r
 
 -- one record fewer
@@ -212,13 +223,18 @@ indexed-less places rs r kept rows =
           λ t inside.
           elim (cases_eq r.thread t) [
             | inl same ↦
-                let here : get_or (set places r.thread (take (length (get_or places r.thread []) - 1) (get_or places r.thread []))) t [] ≡ take (length (get_or places t []) - 1) (get_or places t []) =
-                subst (λ u. get_or (set places u (take (length (get_or places u []) - 1) (get_or places u []))) t [] ≡ take (length (get_or places t []) - 1) (get_or places t [])) (sym same)
+                let here : get_or (set places r.thread
+                (take (length (get_or places r.thread []) - 1) (get_or places r.thread []))) t [] ≡ take
+                (length (get_or places t []) - 1) (get_or places t []) =
+                subst (λ u. get_or (set places u (take (length (get_or places u []) - 1) (get_or places u []))) t []
+                ≡ take (length (get_or places t []) - 1) (get_or places t [])) (sym same)
                 (get_or-set_same places t _ [] (omega arith)) in
-                let row : get_or places t [] ≡ places_from 0 t rs ++ length rs ∷ [] = kept.index t inside ∙ places-first t rs r (eq-eqb _ _ same) in
+                let row : get_or places t [] ≡ places_from 0 t rs ++ length rs ∷ [] = kept.index t inside
+                ∙ places-first t rs r (eq-eqb _ _ same) in
                 here ∙ ap (λ xs. take (length xs - 1) xs) row ∙ without-last (places_from 0 t rs) (length rs)
             | inr other ↦
-                get_or-set_other places r.thread t _ [] (λ e. other (sym e)) ∙ kept.index t inside ∙ places-other 0 t rs r (ne_eqb _ _ other)
+                get_or-set_other places r.thread t _ [] (λ e. other (sym e)) ∙ kept.index t inside
+                ∙ places-other 0 t rs r (ne_eqb _ _ other)
           ];
       of_run =
           record {
@@ -232,10 +248,12 @@ indexed-less places rs r kept rows =
     }
 
 -- what stands at the place of the first that passes is what is found
-pub found_at : (p : Record → Bool) (rs : List Record) (k : ℕ) (r : Record) → k ≡ position_or_len p rs → slice_get rs k ≡ Some r → find p rs ≡ Some r
+pub found_at : (p : Record → Bool) (rs : List Record) (k : ℕ) (r : Record) → k ≡ position_or_len p rs
+    → slice_get rs k ≡ Some r → find p rs ≡ Some r
 found_at p rs k r first here = find_at p rs ∙ ap (slice_get rs) (sym first) ∙ here
 
-pub found_none : (p : Record → Bool) (rs : List Record) (k : ℕ) → k ≡ position_or_len p rs → length rs ≤ k → find p rs ≡ None
+pub found_none : (p : Record → Bool) (rs : List Record) (k : ℕ) → k ≡ position_or_len p rs → length rs ≤ k
+    → find p rs ≡ None
 found_none p rs k first past = find_at p rs ∙ ap (slice_get rs) (sym first) ∙ past_end rs k past
   where
     past_end : (xs : List Record) (n : ℕ) → length xs ≤ n → slice_get xs n ≡ None

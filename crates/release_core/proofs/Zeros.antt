@@ -5,7 +5,8 @@ use Rattle.std.proofs.lemmas.List.{get_or_past}
 use Rattle.memory_spec.specs.Pages.{zero_page}
 use Rattle.machine_spec.specs.Setup.{input_page}
 
-zeros-from : (input : List ℕ) (start n : ℕ) → length input ≤ start → map (λ i. get_or input i 0) (range_with_len start n) ≡ replicate n 0
+zeros-from : (input : List ℕ) (start n : ℕ) → length input ≤ start
+    → map (λ i. get_or input i 0) (range_with_len start n) ≡ replicate n 0
 zeros-from input start zero past = refl
 zeros-from input start (suc n) past =
     rw (get_or_past input start 0 past, zeros-from input (start + 1) n (omega (arith, past))) refl

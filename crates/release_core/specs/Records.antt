@@ -15,8 +15,8 @@ places_from k t (r ∷ rs) = if r.thread == t then k ∷ places_from (suc k) t r
 abbrev pub HaveThreads : List Record → Type 0
 HaveThreads rs = list_all (λ (r : Record). nat_lt r.thread THREADS) rs ≡ true
 
--- Records as a run makes them: the number of each is how many records of its thread come before it, there is a thread of
--- each one's number, and they are at most as many as a run can have steps.
+-- Records as a run makes them: the number of each is how many records of its thread come before it, there is a thread
+-- of each one's number, and they are at most as many as a run can have steps.
 pub record AreOfRun (rs : List Record) : Type 0 where
   pub numbered : is_numbered rs ≡ true
   pub threads : HaveThreads rs

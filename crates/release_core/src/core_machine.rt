@@ -18,7 +18,7 @@ use super::hart::Hart;
 use super::performing::{MOST_VIEWS, view_at, views_of, write_back};
 use super::put::put_bytes;
 use super::setup::Setup;
-use super::start::{memory_of, pages_of};
+use super::start::memory_of;
 use machine_spec::{End, Status};
 use page_commit::committed;
 use page_map::PageMap;
@@ -188,15 +188,11 @@ impl Core {
 }
 
 /// The frame of a setup: all its pages, and its fuel.
-#[tactic(auto, unfolding(machine_spec::specs::Setup::map_of))]
 fn frame_of(alloc: Global, setup: &Setup) -> Result<Arc<Frame>, AllocError>
     ensures { IfOk result (λ frame. arc_value frame ≡ record { map = map_of setup.now; fuel = setup.now.fuel }) }
 {
     setup.sound();
-    machine_spec::map_ascends();
-    let image = setup.image();
-    let pages = pages_of(alloc, &image.map)?;
-    let map = Arc::new(alloc, PageMap::new(pages))?;
+    let map = Arc::new(alloc, setup.page_map(alloc)?)?;
     let frame = Arc::new(alloc, Frame::new(map, setup.limits().fuel()))?;
     Ok(frame)
 }

@@ -182,7 +182,8 @@ pub fn do_as_asked(
         ≡ harts_after written.now.map.now objects.old (arc_value written.now.memory.now) t harts.old.items asked }
     ensures objects { objects.new ≡ objects_after written.now.map.now objects.old t asked }
     ensures ending { result
-        ≡ step.end_after (own_end written.now.map.now objects.old t asked) harts.new.items written.now.limit written.now.steps }
+        ≡ step.end_after (own_end written.now.map.now objects.old t asked) harts.new.items
+        written.now.limit written.now.steps }
 {
     match asked {
         Asked::Asks(call) => {

@@ -4,9 +4,11 @@ ghost use Rattle.std.specs.Prelude.{◌≡◌, ◌≤◌, length, IfOk, IfErr};
 ghost use Rattle.elf_load.specs.Load.{IsImageOf, Refuses};
 ghost use Rattle.machine_spec.specs.Setup as setup;
 
+use super::start::pages_of;
 use elf_load::{Image, LoadError, load};
 use elf_spec::MOST_ELF_BYTES;
 use machine_spec::{Limits, MOST_INPUT_BYTES};
+use page_map::PageMap;
 use std::alloc::{AllocError, Global};
 use std::marker::Model;
 use std::sync::Arc;
@@ -127,5 +129,20 @@ impl Setup {
         ensures { IsImageOf self.now.elf result.now }
     {
         &self.program.image
+    }
+
+    /// Its page map: the image's pages, the input's header and pages, and the stacks.
+    ///
+    /// # Errors
+    ///
+    /// An error where the host's memory ran out.
+    #[tactic(auto, unfolding(machine_spec::specs::Setup::map_of))]
+    pub fn page_map(&self, alloc: Global) -> Result<PageMap, AllocError>
+        ensures { IfOk result (λ slots. slots ≡ setup.map_of self.now) }
+    {
+        self.sound();
+        machine_spec::map_ascends();
+        let pages = pages_of(alloc, &self.program.image.map)?;
+        Ok(PageMap::new(pages))
     }
 }

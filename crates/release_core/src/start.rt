@@ -79,21 +79,11 @@ pub fn pages_of(alloc: Global, image: &PageMap) -> Result<Vec<MappedPage>, Alloc
     ensures { IfOk result (λ pages. pages.items
         ≡ image.now ++ setup.data_pages 0xC0000 1 ++ setup.data_pages 0xC0001 256 ++ setup.data_pages 0xD0000 512) }
 {
-    let mut pages = image_pages(alloc, image)?;
+    let mut pages = Vec::new(alloc);
+    pages.extend_from_slice(image.pages())?;
     push_data(&mut pages, HEADER_PAGE, 1)?;
     push_data(&mut pages, INPUT_PAGE, INPUT_PAGES)?;
     push_data(&mut pages, STACK_PAGE, STACK_PAGES)?;
-    Ok(pages)
-}
-
-/// The pages of an image.
-fn image_pages(alloc: Global, image: &PageMap) -> Result<Vec<MappedPage>, AllocError>
-    ensures { IfOk result (λ pages. pages.items ≡ image.now) }
-{
-    let mut pages = Vec::new(alloc);
-    for slot in 0..image.len() {
-        pages.push(image.page(slot))?;
-    }
     Ok(pages)
 }
 

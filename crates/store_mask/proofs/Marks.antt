@@ -1,12 +1,14 @@
 -- The marks of words, at one place and as a whole.
-use Rattle.std.proofs.Common.{◌≡◌, ◌≢◌, ℕ, ◌+◌, ◌*◌, ◌/◌, ◌%◌, ◌^◌, ◌<◌, ◌≤◌, zero, suc, Bool, true, false, ◌==◌, inl, inr, List, [], ◌∷◌, length, get_or, set, replicate, refl, ap, sym, ◌∙◌, arith, w64}
+use Rattle.std.proofs.Common.{◌≡◌, ◌≢◌, ℕ, ◌+◌, ◌*◌, ◌/◌, ◌%◌, ◌^◌, ◌<◌, zero, suc, Bool, true, false, cond, ◌==◌, inl, inr, List, [], ◌∷◌, length, get_or, set, take, drop, replicate, refl, ap, sym, subst, ◌∙◌, arith, w64}
 use Rattle.std.specs.Int.{bit_at, trailing_zeros}
 use Rattle.std.specs.Int.RustNames.{bit_or, bit_and}
+use Rattle.std.specs.Simd.Lanes.{mask_l}
 use Rattle.std.proofs.lemmas.Bool.{cases_eq}
 use Rattle.std.proofs.lemmas.List.{same_lists, length-set, length-replicate, get_or-replicate, get_or-set_same, get_or-set_other}
 use Rattle.std.proofs.lemmas.List.Folds.{list_any_none, list_any_at}
 use Rattle.std.proofs.lemmas.List.FromFn.{get_or-map-range_with_len, length-map-range_with_len}
-use Rattle.std.proofs.lemmas.Nat.Bits.{bit_at_set_same, bit_at_set_other, bit_at-trailing_zeros, bit_at-zero, shr_and_one}
+use Rattle.std.proofs.lemmas.Nat.Bits.{bit_at_set_same, bit_at_set_other, bit_at-trailing_zeros, bit_at-zero, bit_at-lt, shr_and_one, same_from_bits_below}
+use Rattle.std.proofs.lemmas.Simd.{length-chunk, get_or-chunk, mask_l-lt, bit_mask_l}
 use Rattle.memory_spec.specs.Workspace.{no_marks}
 use Rattle.record_spec.specs.Delta.{is_stored}
 use Rattle.store_mask.specs.Flags.{flag_in, flags_in, flags_of}
@@ -130,14 +132,28 @@ is_stored-word words k lt some small =
     ∙ ap (λ i. bit_at (get_or words k 0) i == 1) rest
     ∙ ap (λ b. b == 1) found.1)
 
--- a word that is zero marks none of its places
-pub blank_at :
-    (words : List ℕ) (place k : ℕ)
-    → k < 4096 → place % 64 ≡ 0 → get_or words (place / 64) 0 ≡ 0 → place ≤ k → k < place + 64
-    → get_or (flags_of words) k false ≡ false
-blank_at words place k within first zeros from below =
-    let same : k / 64 ≡ place / 64 = omega (arith, first, from, below) in
-    flags_of-at words k false within
-    ∙ ap (λ j. bit_at (get_or words j 0) (k % 64) == 1) same
-    ∙ ap (λ w. bit_at w (k % 64) == 1) zeros
-    ∙ ap (λ b. b == 1) (bit_at-zero (k % 64))
+bit_is : (n : ℕ) → n < 2 → cond (n == 1) 1 0 ≡ n
+bit_is zero lt = refl
+bit_is (suc zero) lt = refl
+bit_is (suc (suc n)) lt = absurd (omega arith)
+
+-- a word is the number whose bits are the marks of its places
+pub word_is :
+    (words : List ℕ) (k : ℕ)
+    → length words ≡ 64 → k < 64 → get_or words k 0 < 2 ^ 64
+    → get_or words k 0 ≡ mask_l (take 64 (drop (64 * k) (flags_of words)))
+word_is words k count lt small =
+    let marks = take 64 (drop (64 * k) (flags_of words)) in
+    let long : length marks ≡ 64 = length-chunk (64 * k) 64 (flags_of words) (omega (arith, length-flags_of words)) in
+    let below : mask_l marks < 2 ^ 64 = subst (λ n. mask_l marks < 2 ^ n) long (mask_l-lt marks) in
+    same_from_bits_below 64 (get_or words k 0) (mask_l marks) small below
+    (λ i within.
+    let whole : (64 * k + i) / 64 ≡ k = omega (arith, within) in
+    let rest : (64 * k + i) % 64 ≡ i = omega (arith, within) in
+    sym (bit_is (bit_at (get_or words k 0) i) (bit_at-lt (get_or words k 0) i))
+    ∙ sym (bit_mask_l marks i
+    ∙ ap (λ b. cond b 1 0)
+    (get_or-chunk (64 * k) 64 (flags_of words) i false within
+    ∙ flags_of-at words (64 * k + i) false (omega (arith, lt, within))
+    ∙ ap (λ j. bit_at (get_or words j 0) ((64 * k + i) % 64) == 1) whole
+    ∙ ap (λ j. bit_at (get_or words k 0) j == 1) rest)))

@@ -1,5 +1,5 @@
 -- Merging pages byte by byte.
-use Rattle.std.proofs.Common.{◌≡◌, ℕ, ◌<◌, ◌≤◌, ◌+◌, zero, suc, Bool, false, cond, List, [], ◌∷◌, length, get_or, set, take, refl, ap, sym, ◌∙◌, arith}
+use Rattle.std.proofs.Common.{◌≡◌, ℕ, ◌<◌, ◌≤◌, ◌+◌, zero, suc, Bool, true, false, cond, List, [], ◌∷◌, length, get_or, set, take, refl, ap, sym, ◌∙◌, arith}
 use Rattle.std.proofs.lemmas.List.{take_all}
 use Rattle.record_spec.specs.Delta.{chosen, spread}
 use Rattle.record_spec.proofs.Merging.{merged, spread-chosen}
@@ -29,22 +29,6 @@ pub merged-all :
     → merged o n (take 4096 m) ≡ spread m (chosen m n) o
 merged-all o n m p q count = ap (merged o n) (take_all 4096 m (omega arith)) ∙ sym (spread-chosen m n o p q)
 
--- one step of the loop
-pub merged-step :
-    (o n page : List ℕ) (m : List Bool) (i picked : ℕ) (marked : Bool)
-    → page ≡ merged o n (take i m) → marked ≡ get_or m i false → picked ≡ cond marked (get_or n i 0) (get_or page i 0)
-    → length n ≡ length o → length m ≡ length o → i < length o
-    → set page i picked ≡ merged o n (take (i + 1) m)
-merged-step o n page m i picked marked is marks picks p q lt =
-    let next : suc i ≡ i + 1 = omega arith in
-    ap (λ start. set start i picked) is
-    ∙ ap (set (merged o n (take i m)) i)
-    (picks
-    ∙ ap (λ b. cond b (get_or n i 0) (get_or page i 0)) marks
-    ∙ ap (λ start. cond (get_or m i false) (get_or n i 0) (get_or start i 0)) is)
-    ∙ merged-more o n m i p q lt
-    ∙ ap (λ k. merged o n (take k m)) next
-
 -- a place that isn't marked changes nothing
 merged-unmarked :
     (o n : List ℕ) (m : List Bool) (i : ℕ)
@@ -71,3 +55,18 @@ merged-blank (suc count) o n m i p q within blank =
     ap (λ k. merged o n (take k m)) next
     ∙ merged-unmarked o n m (i + count) p q (omega (arith, within)) (blank (i + count) (omega arith) (omega arith))
     ∙ merged-blank count o n m i p q (omega (arith, within)) (λ k from below. blank k from (omega (arith, below)))
+
+-- One mark more, with no mark between.
+pub merged-mark :
+    (o n page : List ℕ) (m : List Bool) (i t : ℕ)
+    → page ≡ merged o n (take i m)
+    → length n ≡ length o → length m ≡ length o → i + t < length o
+    → get_or m (i + t) false ≡ true → ((j : ℕ) → i ≤ j → j < i + t → get_or m j false ≡ false)
+    → set page (i + t) (get_or n (i + t) 0) ≡ merged o n (take (i + t + 1) m)
+merged-mark o n page m i t is p q lt marked blank =
+    let next : suc (i + t) ≡ i + t + 1 = omega arith in
+    ap (λ start. set start (i + t) (get_or n (i + t) 0)) (is ∙ sym (merged-blank t o n m i p q (omega arith) blank))
+    ∙ ap (λ b. set (merged o n (take (i + t) m)) (i + t)
+    (cond b (get_or n (i + t) 0) (get_or (merged o n (take (i + t) m)) (i + t) 0))) (sym marked)
+    ∙ merged-more o n m (i + t) p q lt
+    ∙ ap (λ k. merged o n (take k m)) next

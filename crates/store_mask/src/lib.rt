@@ -8,7 +8,7 @@ mod reads;
 mod stored;
 
 pub use delta::{Delta, PageDelta};
-pub use mask::Mask;
+pub use mask::{MASK_WORDS, Mask};
 pub use reads::{ReadPage, Reads};
 pub use stored::StoredPage;
 

@@ -1,6 +1,7 @@
 //! Marks of the places of a page.
 
-ghost use Rattle.std.specs.Prelude.{◌≡◌, ◌<◌, ◌≤◌, ◌+◌, ◌%◌, ◌^◌, ℕ, false, true, not, length, slice_index, slice_index_or, slice_set, IfSome, IfNone, if◌then◌else◌};
+ghost use Rattle.std.specs.Prelude.{◌≡◌, ◌<◌, ◌≤◌, ◌+◌, ◌*◌, ◌^◌, ℕ, false, true, not, length, take, drop, slice_index, slice_index_or, slice_set, IfSome, IfNone};
+ghost use Rattle.std.specs.Simd.Lanes.{mask_l};
 ghost use Rattle.memory_spec.specs.Workspace.{no_marks};
 ghost use Rattle.record_spec.specs.Delta.{is_stored, chosen, spread};
 ghost use Rattle.store_mask.specs.Flags.{flags_of};
@@ -9,12 +10,12 @@ use page_store::PAGE_SIZE;
 use std::marker::Model;
 
 /// How many words hold the marks of a page.
-const WORDS: usize = PAGE_SIZE / 64;
+pub const MASK_WORDS: usize = PAGE_SIZE / 64;
 
 /// For each of the 4,096 places of a page: is it marked? A clause sees the list of these.
 #[derive(Drop)]
 pub struct Mask {
-    words: [u64; WORDS],
+    words: [u64; MASK_WORDS],
 }
 
 impl Model for Mask {
@@ -42,20 +43,14 @@ fn first_marked(words: &[u64]) -> Option<usize>
     None
 }
 
-/// One byte, or the other.
-#[inline(always)]
-fn pick(marked: bool, new: u8, old: u8) -> u8
-    ensures { result ≡ (if marked then new else old) }
-{
-    if marked { new } else { old }
-}
-
 impl Mask {
     /// No place is marked.
     pub fn new() -> Mask
         ensures { result ≡ no_marks }
     {
-        Mask { words: [0; WORDS] }
+        Mask {
+            words: [0; MASK_WORDS],
+        }
     }
 
     /// There are 4,096 places: what a caller learns of any mask.
@@ -73,6 +68,15 @@ impl Mask {
         ensures { result ≡ slice_index_or self.now place false }
     {
         (self.words[place / 64] >> (place % 64)) & 1 == 1
+    }
+
+    /// The marks of the 64 places of a word as a number, the first one lowest.
+    #[inline(always)]
+    pub fn word(&self, number: usize) -> u64
+        requires { number < 64 }
+        ensures { result ≡ mask_l (take 64 (drop (64 * number) self.now)) }
+    {
+        self.words[number]
     }
 
     /// Marks a place.
@@ -94,33 +98,24 @@ impl Mask {
         }
     }
 
-    /// Writes the bytes of another page at the marked places of a page. Words without a mark, which are most,
-    /// are passed over whole.
+    /// Writes the bytes of another page at the marked places of a page. It goes from mark to mark, since most places
+    /// have none.
     pub fn merge(&self, page: &mut [u8], written: &[u8])
         requires page_is_whole { length page.old ≡ PAGE_SIZE }
         requires written_is_whole { length written.now ≡ PAGE_SIZE }
         ensures { page.new ≡ spread self.now (chosen self.now written.now) page.old }
     {
         self.whole();
-        let mut place = 0;
-        while place < PAGE_SIZE {
-            if self.begins_blank_word(place) {
-                place += 64;
-            } else {
-                page[place] = pick(self.get(place), written[place], page[place]);
+        for number in 0..MASK_WORDS {
+            let mut place = 64 * number;
+            let mut left = self.word(number);
+            while left != 0 {
+                let skipped = left.trailing_zeros();
+                place += skipped as usize;
+                page[place] = written[place];
                 place += 1;
+                left = left >> skipped >> 1;
             }
         }
-    }
-
-    /// Whether a place is the first of a word, and none of the word's places is marked.
-    #[inline(always)]
-    #[tactic(auto, using(crate::proofs::Marks::blank_at))]
-    pub fn begins_blank_word(&self, place: usize) -> bool
-        requires { place < PAGE_SIZE }
-        ensures first { result ≡ true → place % 64 ≡ 0 }
-        ensures blank { result ≡ true → (k : ℕ) → place ≤ k → k < place + 64 → slice_index_or self.now k false ≡ false }
-    {
-        place % 64 == 0 && self.words[place / 64] == 0
     }
 }

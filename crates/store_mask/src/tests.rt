@@ -1,5 +1,5 @@
-//! Merging with no mark, with all, and with one alone at the edges of words and of the page, and where words
-//! without a mark are found, so that they are passed over.
+//! Merging with no mark, with all, and with one alone at the edges of words and of the page, and which bits of its
+//! words a mask has.
 
 use super::Mask;
 use std::process::Abort;
@@ -39,14 +39,14 @@ fn no_mark_and_all_marks(rt: HostRuntime) {
 }
 
 #[test]
-fn blank_words_are_found(rt: HostRuntime) {
+fn words_have_the_first_place_lowest(rt: HostRuntime) {
     let mut mask = Mask::new();
+    mask.set(0);
     mask.set(63);
-    mask.set(128);
-    assert!(rt; !mask.begins_blank_word(0));
-    assert!(rt; mask.begins_blank_word(64));
-    assert!(rt; !mask.begins_blank_word(65));
-    assert!(rt; !mask.begins_blank_word(128));
-    assert!(rt; !mask.begins_blank_word(191));
-    assert!(rt; mask.begins_blank_word(4032));
+    mask.set(130);
+    mask.set(4095);
+    assert_eq!(rt; mask.word(0), 0x8000_0000_0000_0001);
+    assert_eq!(rt; mask.word(1), 0);
+    assert_eq!(rt; mask.word(2), 4);
+    assert_eq!(rt; mask.word(63), 0x8000_0000_0000_0000);
 }

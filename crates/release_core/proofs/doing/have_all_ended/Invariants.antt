@@ -7,4 +7,5 @@ use Rattle.release_core.proofs.doing.have_all_ended.Given as goal
 -- whether the rest has ended is whether all have
 abbrev pub invariant-loop-hart : goal.invariant-loop-hart
 invariant-loop-hart l =
-    list_all (λ (h : Hart). is_ended h.status) (drop l.hart-index l.harts) ≡ list_all (λ (h : Hart). is_ended h.status) l.harts
+    list_all (λ (h : Hart). is_ended h.status) (drop l.hart-index l.harts) ≡ list_all
+    (λ (h : Hart). is_ended h.status) l.harts

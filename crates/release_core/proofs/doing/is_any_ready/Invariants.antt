@@ -7,4 +7,5 @@ use Rattle.release_core.proofs.doing.is_any_ready.Given as goal
 -- whether any of the rest is ready is whether any is
 abbrev pub invariant-loop-hart : goal.invariant-loop-hart
 invariant-loop-hart l =
-    list_any (λ (h : Hart). is_ready h.status) (drop l.hart-index l.harts) ≡ list_any (λ (h : Hart). is_ready h.status) l.harts
+    list_any (λ (h : Hart). is_ready h.status) (drop l.hart-index l.harts) ≡ list_any
+    (λ (h : Hart). is_ready h.status) l.harts

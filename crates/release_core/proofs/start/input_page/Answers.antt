@@ -19,14 +19,18 @@ loop-offset-preserved c =
     let f : ℕ → ℕ = λ k. get_or c.args.input.now (4096 * c.args.k + k) 0 in
     let byte : c.byte_at.result ≡ f offset = c.byte_at.ensures in
     let inside : offset < length c.loop-offset.page = omega arith in
-    let more = fill_by_more f c.loop-offset.page offset 0 inside c.loop-offset.invariant.1 in
-    (length-set c.loop-offset.page offset c.byte_at.result ∙ c.loop-offset.invariant.0, λ k below. let P : ℕ → Type 0 = λ v. get_or (set c.loop-offset.page offset v) k 0 ≡ f k in subst P (sym byte) (more k below))
+    let more = fill_by_more f c.loop-offset.page offset 0 inside c.loop-offset.invariant.1 in (
+      length-set c.loop-offset.page offset c.byte_at.result ∙ c.loop-offset.invariant.0,
+      λ k below. let P : ℕ → Type 0 =
+          λ v. get_or (set c.loop-offset.page offset v) k 0 ≡ f k in subst P (sym byte) (more k below),
+    )
 
 pub returns : goal.returns
 unfolding input_page
 returns c =
     let start = 4096 * c.args.k in
-    let all : (k : ℕ) → k < 4096 → get_or c.loop-offset.page k 0 ≡ get_or c.args.input.now (start + k) 0 = λ k below. c.loop-offset.invariant.1 k (omega arith) in
+    let all : (k : ℕ) → k < 4096 → get_or c.loop-offset.page k 0 ≡ get_or c.args.input.now (start + k) 0 =
+    λ k below. c.loop-offset.invariant.1 k (omega arith) in
     let e : start + 0 ≡ start = add-zero start in
     fill_by_all (λ k. get_or c.args.input.now (start + k) 0) c.loop-offset.page 4096 0 c.loop-offset.invariant.0 all
     ∙ map-shifted (λ i. get_or c.args.input.now i 0) start 0 4096

@@ -4,4 +4,5 @@ use Rattle.release_core.proofs.start.input_page.Given as goal
 
 -- the bytes so far are the input's
 abbrev pub invariant-loop-offset : goal.invariant-loop-offset
-invariant-loop-offset l = (length l.page ≡ 4096) × ((k : ℕ) → k < l.offset → get_or l.page k 0 ≡ get_or l.input (4096 * l.k + k) 0)
+invariant-loop-offset l = (length l.page ≡ 4096)
+    × ((k : ℕ) → k < l.offset → get_or l.page k 0 ≡ get_or l.input (4096 * l.k + k) 0)

@@ -17,4 +17,5 @@ loop-i-preserved c =
     ∙ c.loop-i.invariant)
 
 pub returns : goal.returns
-returns c = data_pages-done c.loop-i.pages.items _ (c.args.number + c.loop-i.i) (c.args.count - c.loop-i.i) (omega arith) c.loop-i.invariant
+returns c = data_pages-done c.loop-i.pages.items _ (c.args.number + c.loop-i.i) (c.args.count - c.loop-i.i)
+    (omega arith) c.loop-i.invariant

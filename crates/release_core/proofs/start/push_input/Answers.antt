@@ -9,6 +9,7 @@ use Rattle.release_core.proofs.start.push_input.Goals as goal
 pub loop-k-preserved : goal.loop-k-preserved
 loop-k-preserved c =
     let f : ℕ → List ℕ = input_page c.args.input.now in
-    let more : map (input_page c.args.input.now) (range_with_len 0 (c.loop-k.k + 1)) ≡ map (input_page c.args.input.now) (range_with_len 0 c.loop-k.k) ++ input_page c.args.input.now c.loop-k.k ∷ [] =
+    let more : map (input_page c.args.input.now) (range_with_len 0 (c.loop-k.k + 1)) ≡ map (input_page c.args.input.now)
+    (range_with_len 0 c.loop-k.k) ++ input_page c.args.input.now c.loop-k.k ∷ [] =
     map-range_with_len_more (input_page c.args.input.now) 0 c.loop-k.k c.loop-k.k (omega arith) in
     rw more (grind (arith, common_steps, append_assoc, c.in_ok-push_input_page.ensures, c.loop-k.invariant))

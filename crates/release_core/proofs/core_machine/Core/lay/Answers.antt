@@ -44,26 +44,95 @@ laid :
 laid c =
     let r : Record = c.args.rec.now in
     let m : Machine = before c in
-    let is_memory : arc_value c.in_ok-memory.field-0.memory ≡ masked (arc_value c.self.inside.memory) c.args.rec.now.kept.delta = grind (arith, common_steps, c.in_ok-memory.ensures.memory, c.in_ok-memory.memory-is, c.deref-2.ensures, c.deref.ensures) in
+    let is_memory : arc_value c.in_ok-memory.field-0.memory ≡ masked
+    (arc_value c.self.inside.memory) c.args.rec.now.kept.delta =
+    grind (
+      arith,
+      common_steps,
+      c.in_ok-memory.ensures.memory,
+      c.in_ok-memory.memory-is,
+      c.deref-2.ensures,
+      c.deref.ensures,
+    ) in
     let is_written :
     c.write_back.new.harts.items
     ≡ slice_set c.self.inside.harts.items c.args.rec.now.thread
-    (record { view = (hart_of (before c) c.args.rec.now.thread).view; regs = c.args.rec.now.kept.finish; number = suc (hart_of (before c) c.args.rec.now.thread).number; status = (hart_of (before c) c.args.rec.now.thread).status }) = grind (arith, common_steps, c.write_back.ensures.harts, c.in_ok-reserve.ensures.items, c.thread-t.ensures, c.finish.ensures) in
-    let is_asked : c.asked.result ≡ step.asked c.args.rec.now.thread c.args.rec.now.kept.end c.args.rec.now.kept.finish = grind (arith, common_steps, c.asked.ensures, c.thread-t.ensures, c.end.ensures, c.finish-2.ensures) in
-    let map_is : c.map.result.now ≡ (arc_value c.self.inside.frame).map = grind (arith, c.map.ensures, c.deref.ensures) in
+    (record {
+      view = (hart_of (before c) c.args.rec.now.thread).view;
+      regs = c.args.rec.now.kept.finish;
+      number =
+          suc (hart_of (before c) c.args.rec.now.thread).number;
+      status =
+          (hart_of (before c) c.args.rec.now.thread).status;
+    }) =
+    grind (
+      arith,
+      common_steps,
+      c.write_back.ensures.harts,
+      c.in_ok-reserve.ensures.items,
+      c.thread-t.ensures,
+      c.finish.ensures,
+    ) in
+    let is_asked : c.asked.result
+    ≡ step.asked c.args.rec.now.thread c.args.rec.now.kept.end c.args.rec.now.kept.finish =
+    grind (arith, common_steps, c.asked.ensures, c.thread-t.ensures, c.end.ensures, c.finish-2.ensures) in
+    let map_is : c.map.result.now ≡ (arc_value c.self.inside.frame).map =
+    grind (arith, c.map.ensures, c.deref.ensures) in
     let view_is : c.view_at-view.result.now ≡ (hart_of (before c) c.args.rec.now.thread).view =
     grind (arith, c.view_at-view.ensures, c.as_slice.ensures.value, c.thread-t.ensures) in
-    let is_put : c.in_ok-memory.field-0.put.items ≡ put_of (arc_value c.self.inside.frame).map (hart_of (before c) c.args.rec.now.thread).view c.args.rec.now.kept =
+    let is_put : c.in_ok-memory.field-0.put.items ≡ put_of (arc_value c.self.inside.frame).map
+    (hart_of (before c) c.args.rec.now.thread).view c.args.rec.now.kept =
     c.in_ok-memory.ensures.put
     ∙ ap (λ pages. put_of pages c.view_at-view.result.now c.args.rec.now.kept) map_is
     ∙ ap (λ view. put_of (arc_value c.self.inside.frame).map view c.args.rec.now.kept) view_is in
-    let is_output : c.extend_from_slice.new.self.items ≡ c.self.inside.output.items ++ c.in_ok-memory.field-0.put.items = grind (arith, common_steps, c.in_ok-extend_from_slice.ensures.items, c.as_slice-2.ensures.value, c.in_ok-memory.put-is) in
+    let is_output : c.extend_from_slice.new.self.items ≡ c.self.inside.output.items
+    ++ c.in_ok-memory.field-0.put.items =
+    grind (
+      arith,
+      common_steps,
+      c.in_ok-extend_from_slice.ensures.items,
+      c.as_slice-2.ensures.value,
+      c.in_ok-memory.put-is,
+    ) in
     let is_steps : c.self.inside.steps + 1 ≡ suc c.self.inside.steps = omega arith in
-    let is_done : c.do_as_asked-self-inside.new.harts.items ≡ harts_after (arc_value c.self.inside.frame).map c.self.inside.objects (arc_value c.in_ok-memory.field-0.memory) c.args.rec.now.thread c.write_back.new.harts.items c.asked.result = grind (arith, common_steps, c.do_as_asked-self-inside.ensures.harts, c.deref-3.ensures, c.map-2.ensures, c.in_ok-memory.memory-is, c.thread-t.ensures) in
-    let is_objects : c.do_as_asked-self-inside.new.objects ≡ objects_after (arc_value c.self.inside.frame).map c.self.inside.objects c.args.rec.now.thread c.asked.result = grind (arith, common_steps, c.do_as_asked-self-inside.ensures.objects, c.deref-3.ensures, c.map-2.ensures, c.thread-t.ensures) in
-    let is_ending : c.do_as_asked-self-inside.result ≡ step.end_after (own_end (arc_value c.self.inside.frame).map c.self.inside.objects c.args.rec.now.thread c.asked.result) c.do_as_asked-self-inside.new.harts.items c.self.inside.limit (c.self.inside.steps + 1) = grind (arith, common_steps, c.do_as_asked-self-inside.ensures.ending, c.deref-3.ensures, c.map-2.ensures, c.in_ok-memory.memory-is, c.thread-t.ensures) in
-    laid-parts (before c) c.args.rec.now (arc_value c.in_ok-memory.field-0.memory) c.write_back.new.harts.items c.do_as_asked-self-inside.new.harts.items
-    c.do_as_asked-self-inside.new.objects c.in_ok-memory.field-0.put.items c.extend_from_slice.new.self.items (c.self.inside.steps + 1)
+    let is_done : c.do_as_asked-self-inside.new.harts.items ≡ harts_after
+    (arc_value c.self.inside.frame).map c.self.inside.objects
+    (arc_value c.in_ok-memory.field-0.memory) c.args.rec.now.thread c.write_back.new.harts.items c.asked.result =
+    grind (
+      arith,
+      common_steps,
+      c.do_as_asked-self-inside.ensures.harts,
+      c.deref-3.ensures,
+      c.map-2.ensures,
+      c.in_ok-memory.memory-is,
+      c.thread-t.ensures,
+    ) in
+    let is_objects : c.do_as_asked-self-inside.new.objects ≡ objects_after
+    (arc_value c.self.inside.frame).map c.self.inside.objects c.args.rec.now.thread c.asked.result =
+    grind (
+      arith,
+      common_steps,
+      c.do_as_asked-self-inside.ensures.objects,
+      c.deref-3.ensures,
+      c.map-2.ensures,
+      c.thread-t.ensures,
+    ) in
+    let is_ending : c.do_as_asked-self-inside.result ≡ step.end_after
+    (own_end (arc_value c.self.inside.frame).map c.self.inside.objects c.args.rec.now.thread c.asked.result)
+    c.do_as_asked-self-inside.new.harts.items c.self.inside.limit (c.self.inside.steps + 1) =
+    grind (
+      arith,
+      common_steps,
+      c.do_as_asked-self-inside.ensures.ending,
+      c.deref-3.ensures,
+      c.map-2.ensures,
+      c.in_ok-memory.memory-is,
+      c.thread-t.ensures,
+    ) in
+    laid-parts (before c) c.args.rec.now
+    (arc_value c.in_ok-memory.field-0.memory) c.write_back.new.harts.items c.do_as_asked-self-inside.new.harts.items
+    c.do_as_asked-self-inside.new.objects c.in_ok-memory.field-0.put.items c.extend_from_slice.new.self.items
+    (c.self.inside.steps + 1)
     c.do_as_asked-self-inside.result c.asked.result
     is_memory is_written is_asked is_put is_output is_steps is_done is_objects is_ending
 

@@ -12,12 +12,14 @@ pub returns-then-from-ge-THREADS : goal.returns-then-from-ge-THREADS
 returns-then-from-ge-THREADS c =
     let rs : List Record = map arc_value c.self.inside.list.items in
     let count : c.len.result ≡ length rs = grind (arith, common_steps) in
-    count ∙ place_past c.self.inside.rows rs c.args.t c.args.number c.self.invariant (omega (arith, c.from.ensures, c.if-from-ge-THREADS.true))
+    count ∙ place_past c.self.inside.rows rs c.args.t c.args.number c.self.invariant
+    (omega (arith, c.from.ensures, c.if-from-ge-THREADS.true))
     ∙ ap (position_or_len (is_of c.args.t c.args.number)) c.self.view_is
 
 pub returns : goal.returns
 returns c =
     let rs : List Record = map arc_value c.self.inside.list.items in
-    let place = place_in_row c.self.inside.rows rs c.args.t c.args.number c.self.invariant (omega (arith, c.from.ensures, c.if-from-ge-THREADS.false)) in
+    let place = place_in_row c.self.inside.rows rs c.args.t c.args.number c.self.invariant
+    (omega (arith, c.from.ensures, c.if-from-ge-THREADS.false)) in
     let here : c.at.result ≡ position_or_len (is_of c.args.t c.args.number) rs = grind (arith, common_steps) in
     here ∙ ap (position_or_len (is_of c.args.t c.args.number)) c.self.view_is

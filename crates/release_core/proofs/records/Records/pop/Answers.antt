@@ -13,6 +13,10 @@ invariant_of-self c =
     let r : Record = arc_value c.in-Some.rec in
     let records : map arc_value c.self.inside.list.items ≡ rs ++ r ∷ [] = grind (arith, common_steps) in
     let rows : c.drop_place.new.rows
-    ≡ slice_set c.self.inside.rows r.thread (take (length (slice_index_or c.self.inside.rows r.thread []) - 1) (slice_index_or c.self.inside.rows r.thread [])) = grind (arith, common_steps) in
+    ≡ slice_set c.self.inside.rows r.thread
+    (take (length (slice_index_or c.self.inside.rows r.thread []) - 1)
+    (slice_index_or c.self.inside.rows r.thread [])) = grind (arith, common_steps) in
     rw rows
-    (indexed-less c.self.inside.rows rs r (subst (λ (xs : List Record). IsIndexed c.self.inside.rows xs) records c.self.invariant) c.drop_place.ensures.count)
+    (indexed-less c.self.inside.rows rs r
+    (subst (λ (xs : List Record). IsIndexed c.self.inside.rows xs) records c.self.invariant)
+    c.drop_place.ensures.count)
