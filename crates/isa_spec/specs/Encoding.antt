@@ -99,11 +99,27 @@ register_code register.ShiftRightLogical = 0b101
 register_code register.ShiftRightArithmetic = 0b101
 register_code register.Or = 0b110
 register_code register.And = 0b111
+register_code register.Multiply = 0b000
+register_code register.MultiplyHigh = 0b001
+register_code register.MultiplyHighSignedUnsigned = 0b010
+register_code register.MultiplyHighUnsigned = 0b011
+register_code register.Divide = 0b100
+register_code register.DivideUnsigned = 0b101
+register_code register.Remainder = 0b110
+register_code register.RemainderUnsigned = 0b111
 
 -- funct7 of an operation on two registers (RISC-V unprivileged ISA 20191213, chapter 24)
 abbrev pub register_top : RegisterOperation → ℕ
 register_top register.Subtract = 0b0100000
 register_top register.ShiftRightArithmetic = 0b0100000
+register_top register.Multiply = 0b0000001
+register_top register.MultiplyHigh = 0b0000001
+register_top register.MultiplyHighSignedUnsigned = 0b0000001
+register_top register.MultiplyHighUnsigned = 0b0000001
+register_top register.Divide = 0b0000001
+register_top register.DivideUnsigned = 0b0000001
+register_top register.Remainder = 0b0000001
+register_top register.RemainderUnsigned = 0b0000001
 register_top _ = 0b0000000
 
 -- the word of an instruction (RISC-V unprivileged ISA 20191213, chapter 24). FENCE has free fields: it

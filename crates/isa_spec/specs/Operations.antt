@@ -8,7 +8,7 @@ use Rattle.isa_spec.specs.declared.ShiftOperation.{ShiftOperation}
 use Rattle.isa_spec.specs.declared.ShiftOperation.TheVariants as shift
 use Rattle.isa_spec.specs.declared.RegisterOperation.{RegisterOperation}
 use Rattle.isa_spec.specs.declared.RegisterOperation.TheVariants as register
-use Rattle.isa_spec.specs.Words.{sum_of, difference_of, is_less, is_less_unsigned, word_of_test, shifted_left, shifted_right, shifted_right_signed}
+use Rattle.isa_spec.specs.Words.{sum_of, difference_of, is_less, is_less_unsigned, word_of_test, shifted_left, shifted_right, shifted_right_signed, product_of, high_product, high_product_signed_unsigned, high_product_unsigned, quotient_of, quotient_unsigned, remainder_of, remainder_unsigned}
 
 -- whether a branch on these operands is taken (RISC-V unprivileged ISA 20191213, 2.5)
 unfoldable pub branch_taken : BranchTest → ℕ → ℕ → Bool
@@ -35,7 +35,8 @@ shift_result shift.LeftLogical a amount = shifted_left a amount
 shift_result shift.RightLogical a amount = shifted_right a amount
 shift_result shift.RightArithmetic a amount = shifted_right_signed a amount
 
--- the result on two registers (RISC-V unprivileged ISA 20191213, 2.4, Integer Register-Register Operations)
+-- the result on two registers (RISC-V unprivileged ISA 20191213, 2.4, Integer Register-Register Operations, and 7.1 and
+-- 7.2)
 unfoldable pub register_result : RegisterOperation → ℕ → ℕ → ℕ
 register_result register.Add a b = sum_of a b
 register_result register.Subtract a b = difference_of a b
@@ -47,3 +48,11 @@ register_result register.ShiftRightLogical a b = shifted_right a b
 register_result register.ShiftRightArithmetic a b = shifted_right_signed a b
 register_result register.Or a b = bit_or a b
 register_result register.And a b = bit_and a b
+register_result register.Multiply a b = product_of a b
+register_result register.MultiplyHigh a b = high_product a b
+register_result register.MultiplyHighSignedUnsigned a b = high_product_signed_unsigned a b
+register_result register.MultiplyHighUnsigned a b = high_product_unsigned a b
+register_result register.Divide a b = quotient_of a b
+register_result register.DivideUnsigned a b = quotient_unsigned a b
+register_result register.Remainder a b = remainder_of a b
+register_result register.RemainderUnsigned a b = remainder_unsigned a b

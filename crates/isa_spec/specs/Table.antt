@@ -1,4 +1,4 @@
--- The instructions of RV32I, a row each.
+-- The instructions of RV32I and of the standard extension M, a row each.
 use Rattle.std.specs.Prelude.{ℕ, Bool, true, ◌&&◌, ◌==◌, if◌then◌else◌, List, [], ◌∷◌, Option, Some, None, option_map}
 use Rattle.isa_spec.specs.declared.Instr.{Instr}
 use Rattle.isa_spec.specs.declared.Instr.TheVariants as instr
@@ -69,7 +69,8 @@ shift_row f7 f3 s = row 0b0010011 (fixed f3) (fixed f7) (λ w. instr.Shift s (rd
 abbrev pub register_row : ℕ → ℕ → RegisterOperation → Row
 register_row f7 f3 o = row 0b0110011 (fixed f3) (fixed f7) (λ w. instr.Register o (rd_of w) (rs1_of w) (rs2_of w))
 
--- the forty instructions (RISC-V unprivileged ISA 20191213, chapter 24, RV32I Base Instruction Set)
+-- the forty-eight instructions (RISC-V unprivileged ISA 20191213, chapter 24, RV32I Base Instruction Set and RV32M
+-- Standard Extension)
 abbrev pub rows : List Row
 rows =
     row 0b0110111 free free (λ w. instr.Lui (rd_of w) (u_immediate w))
@@ -109,6 +110,14 @@ rows =
     ∷ register_row 0b0100000 0b101 register.ShiftRightArithmetic
     ∷ register_row 0b0000000 0b110 register.Or
     ∷ register_row 0b0000000 0b111 register.And
+    ∷ register_row 0b0000001 0b000 register.Multiply
+    ∷ register_row 0b0000001 0b001 register.MultiplyHigh
+    ∷ register_row 0b0000001 0b010 register.MultiplyHighSignedUnsigned
+    ∷ register_row 0b0000001 0b011 register.MultiplyHighUnsigned
+    ∷ register_row 0b0000001 0b100 register.Divide
+    ∷ register_row 0b0000001 0b101 register.DivideUnsigned
+    ∷ register_row 0b0000001 0b110 register.Remainder
+    ∷ register_row 0b0000001 0b111 register.RemainderUnsigned
     ∷ row 0b0001111 (fixed 0b000) free (λ _. instr.Fence)
     ∷ one_word 0b1110011 0x00000073 instr.Ecall
     ∷ one_word 0b1110011 0x00100073 instr.Ebreak
@@ -122,7 +131,7 @@ reading_in (r ∷ rs) opcode f3 f7 w =
     then Some r.read
     else reading_in rs opcode f3 f7 w
 
--- how a word with these fields is read in RV32I
+-- how a word with these fields is read
 unfoldable pub reading_of : ℕ → ℕ → ℕ → ℕ → Option (ℕ → Instr)
 reading_of = reading_in rows
 

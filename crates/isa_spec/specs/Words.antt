@@ -1,6 +1,6 @@
 -- Words, and what the integer instructions compute on them. A word is a number below 2 ^ 32.
-use Rattle.std.specs.Prelude.{ℕ, ◌+◌, ◌-◌, ◌*◌, ◌/◌, ◌%◌, ◌^◌, Bool, ℤ, int_lt, nat_lt, if◌then◌else◌}
-use Rattle.std.specs.Int.{w32, cast_signed, cast_unsigned, int_shr}
+use Rattle.std.specs.Prelude.{ℕ, ◌+◌, ◌-◌, ◌*◌, ◌/◌, ◌%◌, ◌^◌, ◌==◌, Bool, ℤ, pos, ◌*ℤ◌, int_div, int_rem, int_lt, nat_lt, if◌then◌else◌}
+use Rattle.std.specs.Int.{w32, w64, cast_signed, cast_unsigned, int_shr}
 
 -- the sum, overflow ignored (RISC-V unprivileged ISA 20191213, 2.4, Integer Register-Register Operations)
 abbrev pub sum_of : ℕ → ℕ → ℕ
@@ -49,3 +49,37 @@ shifted_right_signed a amount = cast_unsigned w32 (int_shr (signed a) (amount % 
 -- (RISC-V unprivileged ISA 20191213, 2.2)
 abbrev pub sign_extended : ℕ → ℕ → ℕ
 sign_extended bits n = if nat_lt n (2 ^ (bits - 1)) then n else n + (2 ^ 32 - 2 ^ bits)
+
+-- the low word of the product (RISC-V unprivileged ISA 20191213, 7.1)
+abbrev pub product_of : ℕ → ℕ → ℕ
+product_of a b = a * b % 2 ^ 32
+
+-- the high word of the product of 64 bits, both read as signed numbers (RISC-V unprivileged ISA 20191213, 7.1)
+abbrev pub high_product : ℕ → ℕ → ℕ
+high_product a b = cast_unsigned w64 (signed a *ℤ signed b) / 2 ^ 32
+
+-- the same, the first read as a signed number and the second as an unsigned one (RISC-V unprivileged ISA 20191213, 7.1)
+abbrev pub high_product_signed_unsigned : ℕ → ℕ → ℕ
+high_product_signed_unsigned a b = cast_unsigned w64 (signed a *ℤ pos b) / 2 ^ 32
+
+-- the same, both read as unsigned numbers (RISC-V unprivileged ISA 20191213, 7.1)
+abbrev pub high_product_unsigned : ℕ → ℕ → ℕ
+high_product_unsigned a b = a * b / 2 ^ 32
+
+-- the quotient, rounded toward zero, both read as signed numbers: by zero all bits are one, and that of -2 ^ 31 by -1,
+-- the only one that doesn't fit, is -2 ^ 31 (RISC-V unprivileged ISA 20191213, 7.2)
+abbrev pub quotient_of : ℕ → ℕ → ℕ
+quotient_of a b = if b == 0 then 2 ^ 32 - 1 else cast_unsigned w32 (int_div (signed a) (signed b))
+
+-- the quotient, both read as unsigned numbers: by zero all bits are one (RISC-V unprivileged ISA 20191213, 7.2)
+abbrev pub quotient_unsigned : ℕ → ℕ → ℕ
+quotient_unsigned a b = if b == 0 then 2 ^ 32 - 1 else a / b
+
+-- the remainder, with the sign of the first, both read as signed numbers: by zero it is the first, and that of -2 ^ 31 by
+-- -1 is 0 (RISC-V unprivileged ISA 20191213, 7.2)
+abbrev pub remainder_of : ℕ → ℕ → ℕ
+remainder_of a b = if b == 0 then a else cast_unsigned w32 (int_rem (signed a) (signed b))
+
+-- the remainder, both read as unsigned numbers: by zero it is the first (RISC-V unprivileged ISA 20191213, 7.2)
+abbrev pub remainder_unsigned : ℕ → ℕ → ℕ
+remainder_unsigned a b = if b == 0 then a else a % b

@@ -1,7 +1,7 @@
-//! What the instructions of RV32I mean: their types, words and registers, the table of their
+//! What the instructions of RV32IM mean: their types, words and registers, the table of their
 //! encodings, the two laws that tie the table to the encoding, and that registers compare as equal where they are.
 //!
-//! The definitions stand in `specs/`. This crate has no code beside the types.
+//! The definitions stand in `specs/`. This crate has no code beside the types and the numbers of causes.
 #![tactic(auto)]
 
 ghost use Rattle.std.specs.Prelude.{◌≡◌, ℕ, ◌<◌, ◌^◌, Some};
@@ -82,7 +82,8 @@ pub enum ShiftOperation {
     RightArithmetic,
 }
 
-/// An operation on two registers (RISC-V unprivileged ISA 20191213, 2.4, Integer Register-Register Operations).
+/// An operation on two registers (RISC-V unprivileged ISA 20191213, 2.4, Integer Register-Register Operations; the last
+/// eight 7.1 and 7.2, the standard extension M).
 #[derive(Clone, Copy, Debug, PartialEq, Eq)]
 pub enum RegisterOperation {
     /// ADD.
@@ -105,9 +106,25 @@ pub enum RegisterOperation {
     Or,
     /// AND.
     And,
+    /// MUL: the low word of the product.
+    Multiply,
+    /// MULH: the high word of the product of signed numbers.
+    MultiplyHigh,
+    /// MULHSU: the high word of the product of a signed number and an unsigned one.
+    MultiplyHighSignedUnsigned,
+    /// MULHU: the high word of the product of unsigned numbers.
+    MultiplyHighUnsigned,
+    /// DIV: the quotient of signed numbers, rounded toward zero.
+    Divide,
+    /// DIVU: the quotient of unsigned numbers.
+    DivideUnsigned,
+    /// REM: the remainder of signed numbers, with the sign of the first.
+    Remainder,
+    /// REMU: the remainder of unsigned numbers.
+    RemainderUnsigned,
 }
 
-/// An instruction of RV32I, grouped by its form (RISC-V unprivileged ISA 20191213, chapter 2).
+/// An instruction of RV32IM, grouped by its form (RISC-V unprivileged ISA 20191213, chapters 2 and 7).
 ///
 /// Registers are numbers below 32. `imm` is the immediate as the word that the hart adds or
 /// compares: sign-extended to 32 bits, and with its twelve zeros for LUI and AUIPC.
@@ -208,6 +225,27 @@ pub enum Cause {
     StoreAccess,
     /// 8: an ECALL with a number that is no call.
     BadCall,
+}
+
+impl Cause {
+    ghost use Rattle.isa_spec.specs.Causes.{number_of};
+
+    /// Its number: the exception code (RISC-V privileged ISA 20211203, 3.1.15), and 8 for a call that doesn't exist.
+    pub fn number(self) -> u8
+        ensures { result ≡ number_of self }
+    {
+        match self {
+            Cause::InstructionMisaligned => 0,
+            Cause::InstructionAccess => 1,
+            Cause::IllegalInstruction => 2,
+            Cause::Breakpoint => 3,
+            Cause::LoadMisaligned => 4,
+            Cause::LoadAccess => 5,
+            Cause::StoreMisaligned => 6,
+            Cause::StoreAccess => 7,
+            Cause::BadCall => 8,
+        }
+    }
 }
 
 /// Decoding gives back the instruction whose encoding it reads, for operands in range.

@@ -1,7 +1,8 @@
-//! The registers of a hart of RV32I, and the operations of its instructions on words.
+//! The registers of a hart of RV32IM, and the operations of its instructions on words.
 #![tactic(auto)]
 
 mod operations;
+mod products;
 mod registers;
 
 pub use isa_spec::{BranchTest, ImmediateOperation, RegisterOperation, ShiftOperation};

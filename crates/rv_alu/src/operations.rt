@@ -1,8 +1,12 @@
-//! What the instructions that compute give (RISC-V unprivileged ISA 20191213, 2.4 and 2.5).
+//! What the instructions that compute give (RISC-V unprivileged ISA 20191213, 2.4, 2.5, 7.1 and 7.2).
 
 ghost use Rattle.std.specs.Prelude.{◌≡◌};
 ghost use Rattle.isa_spec.specs.Operations.{branch_taken, immediate_result, shift_result, register_result};
 
+use crate::products::{
+    high_of_mixed, high_of_signed, high_of_unsigned, quotient, quotient_of_unsigned, remainder,
+    remainder_of_unsigned,
+};
 use isa_spec::{BranchTest, ImmediateOperation, RegisterOperation, ShiftOperation};
 
 /// Whether a branch on these operands is taken.
@@ -68,5 +72,13 @@ pub fn register(operation: RegisterOperation, a: u32, b: u32) -> u32
         RegisterOperation::ShiftRightArithmetic => (a.cast_signed() >> (b % 32)).cast_unsigned(),
         RegisterOperation::Or => a | b,
         RegisterOperation::And => a & b,
+        RegisterOperation::Multiply => a.wrapping_mul(b),
+        RegisterOperation::MultiplyHigh => high_of_signed(a, b),
+        RegisterOperation::MultiplyHighSignedUnsigned => high_of_mixed(a, b),
+        RegisterOperation::MultiplyHighUnsigned => high_of_unsigned(a, b),
+        RegisterOperation::Divide => quotient(a, b),
+        RegisterOperation::DivideUnsigned => quotient_of_unsigned(a, b),
+        RegisterOperation::Remainder => remainder(a, b),
+        RegisterOperation::RemainderUnsigned => remainder_of_unsigned(a, b),
     }
 }

@@ -5,7 +5,7 @@ use Rattle.isa_spec.specs.Operations.{branch_taken, immediate_result, shift_resu
 use Rattle.rv_calculate.specs.declared.operation.Operation.{Operation}
 use Rattle.rv_calculate.specs.declared.operation.Operation.TheVariants.{Branch, Immediate, Shift, Register}
 
--- the result; of a shift's amount the low byte is looked at (RISC-V unprivileged ISA 20191213, 2.4 and 2.5)
+-- the result; of a shift's amount the low byte is looked at (RISC-V unprivileged ISA 20191213, 2.4, 2.5, 7.1 and 7.2)
 abbrev pub result_of : Operation → ℕ → ℕ → ℕ
 result_of (Branch test) a b = word_of_test (branch_taken test a b)
 result_of (Immediate operation) a b = immediate_result operation a b

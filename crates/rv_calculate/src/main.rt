@@ -1,4 +1,4 @@
-//! Computes what instructions of RV32I give.
+//! Computes what instructions of RV32IM give.
 //!
 //! It reads lines of standard input. A line is a mnemonic and two words, with single spaces: the first
 //! operand, then the second one, the extended immediate or the amount of a shift. A word is eight

@@ -62,6 +62,14 @@ fn register_named(name: &str) -> Option<Operation> {
         "sra" => RegisterOperation::ShiftRightArithmetic,
         "or" => RegisterOperation::Or,
         "and" => RegisterOperation::And,
+        "mul" => RegisterOperation::Multiply,
+        "mulh" => RegisterOperation::MultiplyHigh,
+        "mulhsu" => RegisterOperation::MultiplyHighSignedUnsigned,
+        "mulhu" => RegisterOperation::MultiplyHighUnsigned,
+        "div" => RegisterOperation::Divide,
+        "divu" => RegisterOperation::DivideUnsigned,
+        "rem" => RegisterOperation::Remainder,
+        "remu" => RegisterOperation::RemainderUnsigned,
         _ => return None,
     };
     Some(Operation::Register(operation))

@@ -1,4 +1,4 @@
-//! Decoding and encoding of the instructions of RV32I.
+//! Decoding and encoding of the instructions of RV32IM.
 //!
 //! `decode` reads a word by the table of `isa_spec`, and `encode` writes one; each undoes the other.
 #![tactic(auto)]

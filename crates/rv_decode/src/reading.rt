@@ -139,7 +139,7 @@ fn store(w: u32) -> Option<Instr>
 }
 
 /// A shift by a constant, whose amount is the rs2 field. A word with any other bit of funct7 than
-/// bit 30 is no instruction of RV32I.
+/// bit 30 is no instruction.
 #[inline(always)]
 #[tactic(auto, unfolding(isa_spec::specs::Table::decoded, isa_spec::specs::Table::reading_of))]
 fn shift(w: u32) -> Option<Instr>
@@ -185,7 +185,7 @@ fn immediate(w: u32) -> Option<Instr>
     })
 }
 
-/// An operation on two registers.
+/// An operation on two registers, by funct7 and funct3; those of the standard extension M have bit 25 alone in funct7.
 #[inline(always)]
 #[tactic(auto, unfolding(isa_spec::specs::Table::decoded, isa_spec::specs::Table::reading_of))]
 fn register(w: u32) -> Option<Instr>
@@ -203,6 +203,14 @@ fn register(w: u32) -> Option<Instr>
         (0b0100000, 0b101) => RegisterOperation::ShiftRightArithmetic,
         (0b0000000, 0b110) => RegisterOperation::Or,
         (0b0000000, 0b111) => RegisterOperation::And,
+        (0b0000001, 0b000) => RegisterOperation::Multiply,
+        (0b0000001, 0b001) => RegisterOperation::MultiplyHigh,
+        (0b0000001, 0b010) => RegisterOperation::MultiplyHighSignedUnsigned,
+        (0b0000001, 0b011) => RegisterOperation::MultiplyHighUnsigned,
+        (0b0000001, 0b100) => RegisterOperation::Divide,
+        (0b0000001, 0b101) => RegisterOperation::DivideUnsigned,
+        (0b0000001, 0b110) => RegisterOperation::Remainder,
+        (0b0000001, 0b111) => RegisterOperation::RemainderUnsigned,
         _ => return None,
     };
     Some(Instr::Register {
@@ -213,7 +221,7 @@ fn register(w: u32) -> Option<Instr>
     })
 }
 
-/// FENCE, whose other fields are free. FENCE.I, of another funct3, is no instruction of RV32I.
+/// FENCE, whose other fields are free. FENCE.I, of another funct3, is no instruction of RV32IM.
 #[inline(always)]
 #[tactic(auto, unfolding(isa_spec::specs::Table::decoded, isa_spec::specs::Table::reading_of))]
 fn fence(w: u32) -> Option<Instr>
@@ -241,11 +249,11 @@ fn system(w: u32) -> Option<Instr>
     }
 }
 
-/// The instruction that a word is, or `None` where RV32I has none
-/// (RISC-V unprivileged ISA 20191213, chapter 24, RV32I Base Instruction Set).
+/// The instruction that a word is, or `None` where RV32IM has none
+/// (RISC-V unprivileged ISA 20191213, chapter 24, RV32I Base Instruction Set and RV32M Standard Extension).
 ///
-/// Words of extensions are `None`: FENCE.I, the CSR instructions, the products of M, a shift whose
-/// word has bit 25, and words of 16 bits.
+/// Words of other extensions are `None`: FENCE.I, the CSR instructions, a shift whose word has bit 25, and words of
+/// 16 bits.
 #[inline(always)]
 #[tactic(auto, unfolding(isa_spec::specs::Table::decoded, isa_spec::specs::Table::reading_of), using(isa_spec::proofs::Spelling::decoded_in_range))]
 pub fn decode(w: u32) -> Option<Instr>

@@ -2,6 +2,7 @@
 
 ghost use Rattle.std.specs.Prelude.{◌≡◌, ◌<◌, ◌^◌, Some};
 ghost use Rattle.isa_spec.specs.Table.{decoded};
+ghost use Rattle.rv_decode.specs.Forms.{IsOperation};
 ghost use Rattle.isa_spec.specs.Encoding.{word_of, i_word, s_word, b_word, u_word, j_word, branch_code, load_code, store_code, immediate_code, shift_code, shift_top, register_code, register_top, IsUpper, encoding, InRange};
 
 use isa_spec::{
@@ -200,6 +201,14 @@ fn register_codes(operation: RegisterOperation) -> (u32, u32)
         RegisterOperation::ShiftRightArithmetic => (0b0100000, 0b101),
         RegisterOperation::Or => (0b0000000, 0b110),
         RegisterOperation::And => (0b0000000, 0b111),
+        RegisterOperation::Multiply => (0b0000001, 0b000),
+        RegisterOperation::MultiplyHigh => (0b0000001, 0b001),
+        RegisterOperation::MultiplyHighSignedUnsigned => (0b0000001, 0b010),
+        RegisterOperation::MultiplyHighUnsigned => (0b0000001, 0b011),
+        RegisterOperation::Divide => (0b0000001, 0b100),
+        RegisterOperation::DivideUnsigned => (0b0000001, 0b101),
+        RegisterOperation::Remainder => (0b0000001, 0b110),
+        RegisterOperation::RemainderUnsigned => (0b0000001, 0b111),
     }
 }
 
@@ -221,6 +230,35 @@ fn r_type(codes: (u32, u32), rs2: u8, rs1: u8, rd: u8, opcode: u32) -> u32
         rd: u32::from(rd),
         opcode,
     })
+}
+
+/// The word of an operation, by its form.
+fn operation(instr: Instr) -> u32
+    requires in_range { InRange instr }
+    requires operation { IsOperation instr }
+    ensures { result ≡ encoding instr }
+{
+    match instr {
+        Instr::Immediate {
+            operation,
+            rd,
+            rs1,
+            imm,
+        } => { i_type(imm, rs1, immediate_funct3(operation), rd, 0b0010011) }
+        Instr::Shift {
+            shift,
+            rd,
+            rs1,
+            amount,
+        } => r_type(shift_codes(shift), amount, rs1, rd, 0b0010011),
+        Instr::Register {
+            operation,
+            rd,
+            rs1,
+            rs2,
+        } => { r_type(register_codes(operation), rs2, rs1, rd, 0b0110011) }
+        _ => unreachable!(),
+    }
 }
 
 /// The word of an instruction, by its form.
@@ -246,24 +284,7 @@ fn written(instr: Instr) -> u32
             rs2,
             imm,
         } => s_type(imm, rs2, rs1, store_funct3(store), 0b0100011),
-        Instr::Immediate {
-            operation,
-            rd,
-            rs1,
-            imm,
-        } => { i_type(imm, rs1, immediate_funct3(operation), rd, 0b0010011) }
-        Instr::Shift {
-            shift,
-            rd,
-            rs1,
-            amount,
-        } => r_type(shift_codes(shift), amount, rs1, rd, 0b0010011),
-        Instr::Register {
-            operation,
-            rd,
-            rs1,
-            rs2,
-        } => { r_type(register_codes(operation), rs2, rs1, rd, 0b0110011) }
+        Instr::Immediate { .. } | Instr::Shift { .. } | Instr::Register { .. } => operation(instr),
         Instr::Fence => 0x0ff0_000f,
         Instr::Ecall => 0x0000_0073,
         Instr::Ebreak => 0x0010_0073,

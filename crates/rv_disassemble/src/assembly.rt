@@ -71,6 +71,56 @@ fn register_name(operation: RegisterOperation) -> &'static str {
         RegisterOperation::ShiftRightArithmetic => "sra",
         RegisterOperation::Or => "or",
         RegisterOperation::And => "and",
+        RegisterOperation::Multiply => "mul",
+        RegisterOperation::MultiplyHigh => "mulh",
+        RegisterOperation::MultiplyHighSignedUnsigned => "mulhsu",
+        RegisterOperation::MultiplyHighUnsigned => "mulhu",
+        RegisterOperation::Divide => "div",
+        RegisterOperation::DivideUnsigned => "divu",
+        RegisterOperation::Remainder => "rem",
+        RegisterOperation::RemainderUnsigned => "remu",
+    }
+}
+
+/// The mnemonic of an instruction.
+fn mnemonic(instr: Instr) -> &'static str {
+    match instr {
+        Instr::Lui { .. } => "lui",
+        Instr::Auipc { .. } => "auipc",
+        Instr::Jal { .. } => "jal",
+        Instr::Jalr { .. } => "jalr",
+        Instr::Branch { test, .. } => branch_name(test),
+        Instr::Load { load, .. } => load_name(load),
+        Instr::Store { store, .. } => store_name(store),
+        Instr::Immediate { operation, .. } => immediate_name(operation),
+        Instr::Shift { shift, .. } => shift_name(shift),
+        Instr::Register { operation, .. } => register_name(operation),
+        Instr::Fence => "fence",
+        Instr::Ecall => "ecall",
+        Instr::Ebreak => "ebreak",
+    }
+}
+
+/// Writes the operands of an instruction, each after a space.
+fn write_operands<W: fmt::Write>(f: &mut fmt::Formatter<W>, instr: Instr) -> fmt::Result {
+    match instr {
+        Instr::Lui { rd, imm } | Instr::Auipc { rd, imm } | Instr::Jal { rd, imm } => {
+            write!(f, " rd={rd} imm={imm:08x}")
+        }
+        Instr::Jalr { rd, rs1, imm }
+        | Instr::Load { rd, rs1, imm, .. }
+        | Instr::Immediate { rd, rs1, imm, .. } => write!(f, " rd={rd} rs1={rs1} imm={imm:08x}"),
+        Instr::Branch { rs1, rs2, imm, .. } | Instr::Store { rs1, rs2, imm, .. } => {
+            write!(f, " rs1={rs1} rs2={rs2} imm={imm:08x}")
+        }
+        Instr::Shift {
+            rd,
+            rs1,
+            amount,
+            ..
+        } => write!(f, " rd={rd} rs1={rs1} shamt={amount}"),
+        Instr::Register { rd, rs1, rs2, .. } => write!(f, " rd={rd} rs1={rs1} rs2={rs2}"),
+        Instr::Fence | Instr::Ecall | Instr::Ebreak => Ok(()),
     }
 }
 
@@ -80,63 +130,8 @@ pub struct Assembly(pub Instr);
 
 impl fmt::Display for Assembly {
     fn fmt<W: fmt::Write>(&self, f: &mut fmt::Formatter<W>) -> fmt::Result {
-        match self.0 {
-            Instr::Lui { rd, imm } => write!(f, "lui rd={rd} imm={imm:08x}"),
-            Instr::Auipc { rd, imm } => write!(f, "auipc rd={rd} imm={imm:08x}"),
-            Instr::Jal { rd, imm } => write!(f, "jal rd={rd} imm={imm:08x}"),
-            Instr::Jalr { rd, rs1, imm } => write!(f, "jalr rd={rd} rs1={rs1} imm={imm:08x}"),
-            Instr::Branch {
-                test,
-                rs1,
-                rs2,
-                imm,
-            } => {
-                let name = branch_name(test);
-                write!(f, "{name} rs1={rs1} rs2={rs2} imm={imm:08x}")
-            }
-            Instr::Load { load, rd, rs1, imm } => {
-                let name = load_name(load);
-                write!(f, "{name} rd={rd} rs1={rs1} imm={imm:08x}")
-            }
-            Instr::Store {
-                store,
-                rs1,
-                rs2,
-                imm,
-            } => {
-                let name = store_name(store);
-                write!(f, "{name} rs1={rs1} rs2={rs2} imm={imm:08x}")
-            }
-            Instr::Immediate {
-                operation,
-                rd,
-                rs1,
-                imm,
-            } => {
-                let name = immediate_name(operation);
-                write!(f, "{name} rd={rd} rs1={rs1} imm={imm:08x}")
-            }
-            Instr::Shift {
-                shift,
-                rd,
-                rs1,
-                amount,
-            } => {
-                let name = shift_name(shift);
-                write!(f, "{name} rd={rd} rs1={rs1} shamt={amount}")
-            }
-            Instr::Register {
-                operation,
-                rd,
-                rs1,
-                rs2,
-            } => {
-                let name = register_name(operation);
-                write!(f, "{name} rd={rd} rs1={rs1} rs2={rs2}")
-            }
-            Instr::Fence => write!(f, "fence"),
-            Instr::Ecall => write!(f, "ecall"),
-            Instr::Ebreak => write!(f, "ebreak"),
-        }
+        let name = mnemonic(self.0);
+        write!(f, "{name}")?;
+        write_operands(f, self.0)
     }
 }

@@ -1,4 +1,4 @@
-//! Says what instruction of RV32I each word of a list is.
+//! Says what instruction of RV32IM each word of a list is.
 //!
 //! It reads lines of standard input. A line is a word, in eight hexadecimal digits with `a` to `f` in
 //! lower case; the answer to it is a line on standard output: the word as it stood, then the

@@ -93,7 +93,7 @@ pub(super) fn operate_shift(
     compute(regs, rd, value)
 }
 
-/// An operation on two registers (RISC-V unprivileged ISA 20191213, 2.4).
+/// An operation on two registers (RISC-V unprivileged ISA 20191213, 2.4, 7.1 and 7.2).
 #[inline(always)]
 pub(super) fn operate_register(
     regs: &mut Regs,

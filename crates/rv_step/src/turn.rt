@@ -21,7 +21,7 @@ use std::sync::ledger::Ledger;
 use thunk_spec::Outcome;
 use turn_count::Turns;
 
-/// Executes an instruction (RISC-V unprivileged ISA 20191213, chapter 2).
+/// Executes an instruction (RISC-V unprivileged ISA 20191213, chapters 2 and 7).
 #[inline(always)]
 fn execute<M: Mem>(regs: &mut Regs, mem: &mut M, instr: Instr) -> Result<Outcome, AllocError>
     requires { InRange instr }

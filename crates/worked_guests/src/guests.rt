@@ -1,7 +1,9 @@
 //! The guests. Each starts at 0x10000; the page at 0x11000 is mapped where zeros follow.
 
 use crate::file::Guest;
-use crate::line::Line::{Add, Addi, Beq, Bytes, Call, Ecall, Lbu, Lui, Lw, Sb, Slli, Sw, Word};
+use crate::line::Line::{
+    Add, Addi, Beq, Bytes, Call, Divu, Ecall, Lbu, Lui, Lw, Mul, Rem, Sb, Slli, Sw, Word,
+};
 use crate::line::Register::{A0, A1, A7, S0, S1, T0, T1, Zero};
 
 /// Puts out `hi` and a newline, and exits with 0.
@@ -218,6 +220,30 @@ pub const CREATES: Guest = Guest {
         b"\x37\x14\x01\x00\x93\x04\x04\x02\x37\x05\x01\x00\x13\x05\xc5\x05\x93\x05\x00\x00\x93\x08\x20\x00\x73\x00\x00\x00\x23\x00\xa4\x00\x13\x04\x14\x00\xe3\x12\x94\xfe\x37\x05\x01\x00\x13\x05\x25\x00\x93\x05\x00\x00\x93\x08\x20\x00\x73\x00\x00\x00\x23\x00\xa4\x00\x37\x15\x01\x00\x93\x05\x10\x02\x93\x08\x10\x00\x73\x00\x00\x00\x13\x05\x00\x00\x93\x08\x00\x00\x73\x00\x00\x00\x13\x05\x00\x00\x93\x08\x30\x00\x73\x00\x00\x00",
     )],
     bss: 8088,
+};
+
+/// Squares 0x10001, and divides 0x80000000 by 10: unsigned for the quotient, signed for the remainder. Puts out the
+/// three words.
+pub const RESULTS: Guest = Guest {
+    lines: &[
+        Lui(S0, 0x11),
+        Lui(T0, 0x10),
+        Addi(T0, T0, 1),
+        Mul(T1, T0, T0),
+        Sw(T1, 0, S0),
+        Lui(T0, 0x80000),
+        Addi(S1, Zero, 10),
+        Divu(T1, T0, S1),
+        Sw(T1, 4, S0),
+        Rem(T1, T0, S1),
+        Sw(T1, 8, S0),
+        Addi(A0, S0, 0),
+        Addi(A1, Zero, 12),
+        Call(1),
+        Addi(A0, Zero, 0),
+        Call(0),
+    ],
+    bss: 8120,
 };
 
 /// Guests with the names of their executables in `examples/`.

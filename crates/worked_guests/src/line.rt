@@ -57,6 +57,12 @@ pub enum Line {
     Slli(Register, Register, u8),
     /// `add rd, rs1, rs2`.
     Add(Register, Register, Register),
+    /// `mul rd, rs1, rs2`.
+    Mul(Register, Register, Register),
+    /// `divu rd, rs1, rs2`.
+    Divu(Register, Register, Register),
+    /// `rem rd, rs1, rs2`.
+    Rem(Register, Register, Register),
     /// `lw rd, imm(rs1)`.
     Lw(Register, u8, Register),
     /// `lbu rd, imm(rs1)`.
@@ -144,16 +150,44 @@ fn shift_left(rd: Register, rs1: Register, amount: u8) -> Instr
     }
 }
 
-/// `add rd, rs1, rs2`.
-fn add(rd: Register, rs1: Register, rs2: Register) -> Instr
+/// An operation on two registers.
+fn operate(operation: RegisterOperation, rd: Register, rs1: Register, rs2: Register) -> Instr
     ensures { InRange result }
 {
     Instr::Register {
-        operation: RegisterOperation::Add,
+        operation,
         rd: number(rd),
         rs1: number(rs1),
         rs2: number(rs2),
     }
+}
+
+/// `add rd, rs1, rs2`.
+fn add(rd: Register, rs1: Register, rs2: Register) -> Instr
+    ensures { InRange result }
+{
+    operate(RegisterOperation::Add, rd, rs1, rs2)
+}
+
+/// `mul rd, rs1, rs2`.
+fn multiply(rd: Register, rs1: Register, rs2: Register) -> Instr
+    ensures { InRange result }
+{
+    operate(RegisterOperation::Multiply, rd, rs1, rs2)
+}
+
+/// `divu rd, rs1, rs2`.
+fn divide_unsigned(rd: Register, rs1: Register, rs2: Register) -> Instr
+    ensures { InRange result }
+{
+    operate(RegisterOperation::DivideUnsigned, rd, rs1, rs2)
+}
+
+/// `rem rd, rs1, rs2`.
+fn remainder(rd: Register, rs1: Register, rs2: Register) -> Instr
+    ensures { InRange result }
+{
+    operate(RegisterOperation::Remainder, rd, rs1, rs2)
 }
 
 /// Puts an instruction behind the items.
@@ -202,6 +236,9 @@ pub(crate) fn push_line(items: &mut Vec<Item>, line: Line) -> Result<(), AllocEr
         Line::Addi(rd, rs1, imm) => push_instruction(items, add_immediate(rd, rs1, imm)),
         Line::Slli(rd, rs1, amount) => push_instruction(items, shift_left(rd, rs1, amount)),
         Line::Add(rd, rs1, rs2) => push_instruction(items, add(rd, rs1, rs2)),
+        Line::Mul(rd, rs1, rs2) => push_instruction(items, multiply(rd, rs1, rs2)),
+        Line::Divu(rd, rs1, rs2) => push_instruction(items, divide_unsigned(rd, rs1, rs2)),
+        Line::Rem(rd, rs1, rs2) => push_instruction(items, remainder(rd, rs1, rs2)),
         Line::Lw(rd, imm, rs1) => push_instruction(items, load(Load::Word, rd, imm, rs1)),
         Line::Lbu(rd, imm, rs1) => push_instruction(items, load(Load::ByteUnsigned, rd, imm, rs1)),
         Line::Sw(rs2, imm, rs1) => push_instruction(items, store(Store::Word, rs2, imm, rs1)),

@@ -114,6 +114,81 @@ pub an_and : register_result register.And 0x12345678 0xdeadbeef ≡ 0x12241668
 unfolding register_result
 an_and = refl
 
+-- mul ffffffff ffffffff 00000001
+pub a_product : register_result register.Multiply 0xffffffff 0xffffffff ≡ 0x00000001
+unfolding register_result
+a_product = refl
+
+-- mulh ffffffff ffffffff 00000000
+pub a_high_product_of_negative_words : register_result register.MultiplyHigh 0xffffffff 0xffffffff ≡ 0x00000000
+unfolding register_result
+a_high_product_of_negative_words = refl
+
+-- mulh 00000001 80000000 ffffffff
+pub a_high_product_of_a_negative_word : register_result register.MultiplyHigh 0x00000001 0x80000000 ≡ 0xffffffff
+unfolding register_result
+a_high_product_of_a_negative_word = refl
+
+-- mulhsu ffffffff ffffffff ffffffff
+pub a_high_product_of_a_negative_and_an_unsigned_word : register_result register.MultiplyHighSignedUnsigned 0xffffffff 0xffffffff ≡ 0xffffffff
+unfolding register_result
+a_high_product_of_a_negative_and_an_unsigned_word = refl
+
+-- mulhu ffffffff ffffffff fffffffe
+pub a_high_product_of_unsigned_words : register_result register.MultiplyHighUnsigned 0xffffffff 0xffffffff ≡ 0xfffffffe
+unfolding register_result
+a_high_product_of_unsigned_words = refl
+
+-- div fffffff9 00000002 fffffffd
+pub a_quotient_is_rounded_toward_zero : register_result register.Divide 0xfffffff9 0x00000002 ≡ 0xfffffffd
+unfolding register_result
+a_quotient_is_rounded_toward_zero = refl
+
+-- div 80000000 ffffffff 80000000
+pub a_quotient_that_does_not_fit : register_result register.Divide 0x80000000 0xffffffff ≡ 0x80000000
+unfolding register_result
+a_quotient_that_does_not_fit = refl
+
+-- divu fffffff9 00000002 7ffffffc
+pub a_quotient_of_unsigned_words : register_result register.DivideUnsigned 0xfffffff9 0x00000002 ≡ 0x7ffffffc
+unfolding register_result
+a_quotient_of_unsigned_words = refl
+
+-- rem fffffff9 00000002 ffffffff
+pub a_remainder_has_the_sign_of_the_first : register_result register.Remainder 0xfffffff9 0x00000002 ≡ 0xffffffff
+unfolding register_result
+a_remainder_has_the_sign_of_the_first = refl
+
+-- rem 80000000 ffffffff 00000000
+pub a_remainder_where_the_quotient_does_not_fit : register_result register.Remainder 0x80000000 0xffffffff ≡ 0x00000000
+unfolding register_result
+a_remainder_where_the_quotient_does_not_fit = refl
+
+-- remu fffffff9 00000002 00000001
+pub a_remainder_of_unsigned_words : register_result register.RemainderUnsigned 0xfffffff9 0x00000002 ≡ 0x00000001
+unfolding register_result
+a_remainder_of_unsigned_words = refl
+
+-- div 7fffffff 00000000 ffffffff
+pub a_quotient_by_zero : register_result register.Divide 0x7fffffff 0x00000000 ≡ 0xffffffff
+unfolding register_result
+a_quotient_by_zero = refl
+
+-- divu 7fffffff 00000000 ffffffff
+pub a_quotient_of_an_unsigned_word_by_zero : register_result register.DivideUnsigned 0x7fffffff 0x00000000 ≡ 0xffffffff
+unfolding register_result
+a_quotient_of_an_unsigned_word_by_zero = refl
+
+-- rem 7fffffff 00000000 7fffffff
+pub a_remainder_by_zero : register_result register.Remainder 0x7fffffff 0x00000000 ≡ 0x7fffffff
+unfolding register_result
+a_remainder_by_zero = refl
+
+-- remu 7fffffff 00000000 7fffffff
+pub a_remainder_of_an_unsigned_word_by_zero : register_result register.RemainderUnsigned 0x7fffffff 0x00000000 ≡ 0x7fffffff
+unfolding register_result
+a_remainder_of_an_unsigned_word_by_zero = refl
+
 -- addi 00000001 ffffffff 00000000
 pub addi_of_a_negative_immediate : immediate_result immediate.Add 0x00000001 0xffffffff ≡ 0x00000000
 unfolding immediate_result

@@ -253,6 +253,46 @@ pub decodes_and : decoded 0x003170b3 ≡ Some (instr.Register register.And 1 2 3
 unfolding decoded reading_of
 decodes_and = refl
 
+-- 023100b3: mul rd=1 rs1=2 rs2=3
+pub decodes_mul : decoded 0x023100b3 ≡ Some (instr.Register register.Multiply 1 2 3)
+unfolding decoded reading_of
+decodes_mul = refl
+
+-- 023110b3: mulh rd=1 rs1=2 rs2=3
+pub decodes_mulh : decoded 0x023110b3 ≡ Some (instr.Register register.MultiplyHigh 1 2 3)
+unfolding decoded reading_of
+decodes_mulh = refl
+
+-- 023120b3: mulhsu rd=1 rs1=2 rs2=3
+pub decodes_mulhsu : decoded 0x023120b3 ≡ Some (instr.Register register.MultiplyHighSignedUnsigned 1 2 3)
+unfolding decoded reading_of
+decodes_mulhsu = refl
+
+-- 023130b3: mulhu rd=1 rs1=2 rs2=3
+pub decodes_mulhu : decoded 0x023130b3 ≡ Some (instr.Register register.MultiplyHighUnsigned 1 2 3)
+unfolding decoded reading_of
+decodes_mulhu = refl
+
+-- 023140b3: div rd=1 rs1=2 rs2=3
+pub decodes_div : decoded 0x023140b3 ≡ Some (instr.Register register.Divide 1 2 3)
+unfolding decoded reading_of
+decodes_div = refl
+
+-- 023150b3: divu rd=1 rs1=2 rs2=3
+pub decodes_divu : decoded 0x023150b3 ≡ Some (instr.Register register.DivideUnsigned 1 2 3)
+unfolding decoded reading_of
+decodes_divu = refl
+
+-- 023160b3: rem rd=1 rs1=2 rs2=3
+pub decodes_rem : decoded 0x023160b3 ≡ Some (instr.Register register.Remainder 1 2 3)
+unfolding decoded reading_of
+decodes_rem = refl
+
+-- 023170b3: remu rd=1 rs1=2 rs2=3
+pub decodes_remu : decoded 0x023170b3 ≡ Some (instr.Register register.RemainderUnsigned 1 2 3)
+unfolding decoded reading_of
+decodes_remu = refl
+
 -- ffff8f8f: fence
 pub decodes_fence_with_free_fields : decoded 0xffff8f8f ≡ Some instr.Fence
 unfolding decoded reading_of
@@ -333,10 +373,10 @@ pub a_right_shift_with_bit_25_is_illegal : decoded 0x037b5413 ≡ None
 unfolding decoded reading_of
 a_right_shift_with_bit_25_is_illegal = refl
 
--- 020b80b3: none
-pub a_product_is_illegal : decoded 0x020b80b3 ≡ None
+-- 06f10fb3: none
+pub a_product_with_another_bit_is_illegal : decoded 0x06f10fb3 ≡ None
 unfolding decoded reading_of
-a_product_is_illegal = refl
+a_product_with_another_bit_is_illegal = refl
 
 -- 41f796b3: none
 pub and_with_bit_30_is_illegal : decoded 0x41f796b3 ≡ None
