@@ -14,7 +14,7 @@ use Rattle.memo_spec.specs.declared.Limit.TheVariants as limit
 use Rattle.std.specs.Int.{w32}
 use Rattle.memo_file.specs.Wholes.{uses_all}
 use Rattle.memo_spec.specs.Reader.{onward, done, number_at, ruled, limited}
-use Rattle.memo_spec.specs.Reading.{RecordState, is_within, setup_at, pool_and_records_at, incoherent_from, coherent_or, ended, history_at, taken_as}
+use Rattle.memo_spec.specs.Reading.{RecordState, is_within, setup_at, pool_and_records_at, todays, ended, history_at, taken_as}
 use Rattle.memo_spec.proofs.Formats.{ok_is}
 use Rattle.memo_file.specs.declared.error.ReadError.{ReadError}
 use Rattle.memo_file.specs.declared.error.ReadError.TheVariants as errors
@@ -63,15 +63,15 @@ pub bytes_left : (text : List ℕ) (h : History) (q : Place) → history_at (sta
 unfolding taken_as
 bytes_left text h q e ne = rw (e, ne_eqb _ _ ne) refl
 
-pub none_left : (text : List ℕ) (h : History) (q : Place) (m : Machine) → history_at (starts text) ≡ Ok (h, q)
-    → length q.left ≡ 0 → m ≡ first h.setup → taken_as text ≡ coherent_or (incoherent_from 0 m h.records) h
+pub none_left : (text : List ℕ) (h : History) (q : Place) → history_at (starts text) ≡ Ok (h, q)
+    → length q.left ≡ 0 → taken_as text ≡ todays h
 unfolding taken_as
-none_left text h q m e none is = rw (e, eq-eqb _ _ none, is) refl
+none_left text h q e none = rw (e, eq-eqb _ _ none) refl
 
-pub coherence_fails : (e : ReadError) (text : List ℕ) (r : Result History Refusal) → taken_as text ≡ r → Fails e r
+pub judge_fails : (e : ReadError) (text : List ℕ) (r : Result History Refusal) → taken_as text ≡ r → Fails e r
     → Fails e (taken_as text)
-coherence_fails errors.NoMemory text r same h = tt
-coherence_fails (errors.Refused why) text r same h = same ∙ h
+judge_fails errors.NoMemory text r same h = tt
+judge_fails (errors.Refused why) text r same h = same ∙ h
 
 pub are_bytes : (text : List ℕ) → ((i : ℕ) → get_or text i 0 < 256) → (i : ℕ) → get_or (drop 8 text) i 0 < 256
 are_bytes text h i = rw get_or-drop (h (8 + i))

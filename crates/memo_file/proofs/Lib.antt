@@ -14,3 +14,4 @@ pub mod Sizes
 pub mod Counting
 pub mod Accepting
 pub mod Ending
+pub mod Aging

@@ -1,5 +1,5 @@
 -- A pool as it grows by one page, and the places of pages in it.
-use Rattle.std.proofs.Common.{◌≡◌, ◌⊎◌, ℕ, zero, suc, ◌+◌, ◌^◌, ◌<◌, ◌≤◌, Bool, true, false, cond, ltb, ◌||◌, List, [], ◌∷◌, ◌++◌, length, map, drop, Option, Some, None, refl, sym, ap, subst, ◌∙◌, append_assoc, arith, inl, inr}
+use Rattle.std.proofs.Common.{◌≡◌, ◌⊎◌, ℕ, zero, suc, ◌+◌, ◌^◌, ◌<◌, ◌≤◌, Bool, true, false, cond, ltb, List, [], ◌∷◌, ◌++◌, length, map, drop, Option, Some, None, refl, sym, ap, subst, ◌∙◌, append_assoc, arith, inl, inr}
 use Rattle.std.specs.Prelude.{bytes_eq, slice_get, slice_index_or}
 use Rattle.std.specs.List.{fold, concat}
 use Rattle.std.specs.BTreeMap.{BTreeMap}
@@ -15,6 +15,7 @@ use Rattle.memo_spec.specs.Spelling.{has_page, with_page, index_in, pages_read, 
 use Rattle.memo_spec.proofs.Order.{Pages, has_in_front, index_push, index_new, fold_front, fold_append, write_step}
 use Rattle.memo_spec.proofs.Pool.{bytes_tell}
 use Rattle.memo_file.specs.WritingPool.{pages_lent, bytes_read, places_from, StandsAt, IsIndexed, IsPoolOf}
+use Rattle.memo_file.proofs.Seeing.{has_push}
 
 -- What is left of a list from a place on begins with what stands there.
 pub drop_at : {A : Type 0} (xs : List A) (k : ℕ) (x : A) → slice_get xs k ≡ Some x → drop k xs ≡ x ∷ drop (k + 1) xs
@@ -26,34 +27,6 @@ drop_at (y ∷ ys) zero x e = first y ys x e
 drop_at (y ∷ ys) (suc k) x e =
     let next : suc k + 1 ≡ suc (k + 1) = omega arith in
     drop_at ys k x e ∙ ap (λ n. x ∷ drop n (y ∷ ys)) (sym next)
-
-same_either_way : (a b : List ℕ) → bytes_eq a b ≡ bytes_eq b a
-same_either_way a b = elim (bytes_tell a b) [
-  | inl h ↦ ap (λ (x : List ℕ). bytes_eq a x) (sym h.1) ∙ ap (λ (x : List ℕ). bytes_eq x a) h.1
-  | inr h ↦ other h.0 h.1 (bytes_tell b a)
-]
-  where
-    other : bytes_eq a b ≡ false → (a ≡ b → ⊥)
-        → ((bytes_eq b a ≡ true) × (b ≡ a)) ⊎ ((bytes_eq b a ≡ false) × (b ≡ a → ⊥)) → bytes_eq a b ≡ bytes_eq b a
-    other e ne (inl k) = absurd (ne (sym k.1))
-    other e ne (inr k) = e ∙ sym k.0
-
-or_last : (a b : Bool) → (a || (b || false)) ≡ cond b true a
-or_last true true = refl
-or_last true false = refl
-or_last false true = refl
-or_last false false = refl
-
-or_more : (c a b : Bool) → (c || cond b true a) ≡ cond b true (c || a)
-or_more true a true = refl
-or_more true a false = refl
-or_more false a b = refl
-
--- What a pool has once a page stands behind the others.
-has_push : (pool : Pages) (p q : List ℕ) → has_page (pool ++ p ∷ []) q ≡ cond (bytes_eq p q) true (has_page pool q)
-has_push [] p q = or_last false (bytes_eq q p) ∙ ap (λ (b : Bool). cond b true false) (same_either_way q p)
-has_push (x ∷ pool) p q = ap (λ (b : Bool). bytes_eq q x || b) (has_push pool p q)
-    ∙ or_more (bytes_eq q x) (has_page pool q) (bytes_eq p q)
 
 index_of_new :
     (pool : Pages) (p q : List ℕ) (new old : Option ℕ)

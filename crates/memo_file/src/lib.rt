@@ -1,10 +1,12 @@
 //! Memo files: a history that bytes spell is read from them, and its bytes are written.
 #![tactic(auto)]
 
+mod age;
 mod coherence;
 mod error;
 mod fields;
 mod growth;
+mod opening;
 mod pages;
 mod pool;
 mod reading;

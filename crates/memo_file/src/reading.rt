@@ -1,18 +1,21 @@
 //! A memo is read.
 
-ghost use Rattle.std.specs.Prelude.{◌≡◌, ◌<◌, ◌≤◌, ◌^◌, ℕ, true, length, drop, slice_index, All, IfOk, IfErr};
+ghost use Rattle.std.specs.Prelude.{◌≡◌, ◌<◌, ◌≤◌, ◌^◌, ℕ, true, false, length, drop, slice_index, All, IfOk, IfErr};
 ghost use Rattle.history_spec.specs.History.{History as Kept, is_coherent};
 ghost use Rattle.machine_spec.specs.Setup.{first, map_of};
 ghost use Rattle.memo_spec.specs.Spelling.{Spells};
+ghost use Rattle.memo_spec.specs.Old.{is_old};
 ghost use Rattle.memo_spec.specs.Reader.{onward, done, ruled};
-ghost use Rattle.memo_spec.specs.Reading.{history_at, pool_and_records_at, taken_as, reading};
+ghost use Rattle.memo_spec.specs.Reading.{history_at, pool_and_records_at, taken_as, todays, reading};
 ghost use Rattle.memo_file.specs.Gives.{Fails, Gives, IsReadAs};
 ghost use Rattle.memo_file.specs.Wholes.{uses_all};
 
+use crate::age::refuse_old;
 use crate::coherence::hold_together;
 use crate::error::ReadError;
 use crate::fields::{limited, word};
 use crate::growth::Sources;
+use crate::opening::{MAGIC, VERSION};
 use crate::pool::read_pool;
 use crate::records::read_records;
 use crate::setup::read_setup;
@@ -71,6 +74,17 @@ fn read_history(alloc: Global, cursor: &mut Cursor) -> Result<(History, Core), R
     Ok((History::new(setup, records), core))
 }
 
+/// Refuses a history that is from before the standard extension M, or else one that doesn't hold together. `core` is
+/// the machine that it starts as.
+#[tactic(auto, using(crate::proofs::Ending::map_is))]
+fn judge(core: Core, history: &History) -> Result<(), ReadError>
+    requires { core ≡ first history.now.setup }
+    ensures { Gives (λ _. history.now) result (todays history.now) }
+{
+    refuse_old(core.frame().map(), history)?;
+    hold_together(core, history)
+}
+
 /// A reader behind the magic number and the version.
 fn behind_opening<'a>(text: &'a [u8]) -> Cursor<'a>
     requires { 8 ≤ length text.now }
@@ -94,7 +108,7 @@ fn read_text(alloc: Global, text: &[u8]) -> Result<History, ReadError>
     if cursor.remaining() != 0 {
         return Err(ReadError::Refused(Refusal::Field(cursor.position())));
     }
-    hold_together(core, &history)?;
+    judge(core, &history)?;
     Ok(history)
 }
 
@@ -108,11 +122,11 @@ fn open(bytes: &[u8]) -> Result<&[u8], ReadError>
     if bytes.len() < 40 {
         return Err(ReadError::Refused(Refusal::Short));
     }
-    if &bytes[..4] != b"ITHM".as_slice() {
+    if &bytes[..4] != MAGIC.as_slice() {
         return Err(ReadError::Refused(Refusal::Magic));
     }
     let version = LittleEndian::read_u32(&bytes[4..]);
-    if version != 1 {
+    if version != VERSION {
         return Err(ReadError::Refused(Refusal::Version(version)));
     }
     let (text, digest) = bytes.split_at(bytes.len() - 32);
@@ -130,16 +144,16 @@ fn all(alloc: Global, bytes: &[u8]) -> Result<History, ReadError>
     read_text(alloc, text)
 }
 
-/// The history that the bytes of a memo spell, which holds together.
+/// The history that the bytes of a memo spell, which is of today and holds together.
 ///
 /// # Errors
 ///
 /// `Refused` with the first reason not to take the bytes, exactly where there is one, or `NoMemory` where the
 /// host's memory ran out.
 pub fn read(alloc: Global, bytes: &[u8]) -> Result<History, ReadError>
-    ensures spelled { IfOk result (λ h. Spells bytes.now h × (is_coherent h ≡ true)) }
+    ensures spelled { IfOk result (λ h. Spells bytes.now h × (is_old h ≡ false) × (is_coherent h ≡ true)) }
     ensures refused { IfErr result (λ e. Fails e (reading bytes.now)) }
-    ensures accepts { (h : Kept) → Spells bytes.now h → is_coherent h ≡ true → IsReadAs h result }
+    ensures accepts { (h : Kept) → Spells bytes.now h → is_old h ≡ false → is_coherent h ≡ true → IsReadAs h result }
 {
     memo_spec::taken_is_spelled(bytes);
     memo_spec::spelled_is_taken();

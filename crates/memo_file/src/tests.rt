@@ -140,6 +140,62 @@ fn damaged_memo_is_refused(rt: HostRuntime) -> Result<(), Fail> {
     Ok(())
 }
 
+/// The memo of the run with a last record that ended by an illegal instruction, at this address. The word of the last
+/// system call, at 0x1001c, is another, and the record has behind its read page what is given.
+fn text_of_illegal(
+    alloc: Global,
+    at: u32,
+    word: &[u8],
+    stored: &[u8],
+) -> Result<Vec<u8>, AllocError> {
+    let mut text = text_with(alloc, 0)?;
+    overwrite(&mut text, 4522, b"\x02");
+    overwrite(&mut text, 4655, &at.to_le_bytes());
+    overwrite(&mut text, 179, word);
+    text.truncate(4793);
+    text.extend_from_slice(stored)?;
+    Ok(text)
+}
+
+/// A stored page of number 16: at which of the places 0x1001c to 0x1001f something is stored, and what.
+fn stored_page(alloc: Global, places: u8, bytes: &[u8]) -> Result<Vec<u8>, AllocError> {
+    let mut marks = [0u8; 512];
+    marks[3] = places << 4;
+    let mut out = Out::new(alloc);
+    out.u16(1)?;
+    out.u32(16)?;
+    out.bytes(&marks)?;
+    out.bytes(bytes)?;
+    Ok(out.into_vec())
+}
+
+#[test]
+fn memo_from_before_multiplication_is_refused(rt: HostRuntime) -> Result<(), Fail> {
+    let old = Err(ReadError::Refused(Refusal::Old(1)));
+    let call = b"\x73\x00\x00\x00";
+    let multiply = b"\x33\x05\xb5\x02";
+    let none = b"\x00\x00";
+    let text = text_of_illegal(rt.alloc(), 0x1001c, multiply, none)?;
+    assert_eq!(rt; answer_of(rt.alloc(), &text), old);
+    let text = text_of_illegal(rt.alloc(), 0x1001c, call, none)?;
+    assert_eq!(rt; answer_of(rt.alloc(), &text), Ok(2));
+    let text = text_of_illegal(rt.alloc(), 0x1101c, call, none)?;
+    assert_eq!(rt; answer_of(rt.alloc(), &text), Ok(2));
+    let stored = stored_page(rt.alloc(), 0b1001, b"\x33\x02")?;
+    let text = text_of_illegal(rt.alloc(), 0x1001c, call, &stored)?;
+    assert_eq!(rt; answer_of(rt.alloc(), &text), old);
+    let stored = stored_page(rt.alloc(), 0b0001, b"\x33")?;
+    let text = text_of_illegal(rt.alloc(), 0x1001c, call, &stored)?;
+    assert_eq!(rt; answer_of(rt.alloc(), &text), Ok(2));
+    let stored = stored_page(rt.alloc(), 0b1000, b"\x00")?;
+    let text = text_of_illegal(rt.alloc(), 0x1001c, multiply, &stored)?;
+    assert_eq!(rt;
+        answer_of(rt.alloc(), &text),
+        Err(ReadError::Refused(Refusal::Incoherent(0)))
+    );
+    Ok(())
+}
+
 #[test]
 fn longer_memo_is_refused(rt: HostRuntime) -> Result<(), Fail> {
     let unused = text_with(rt.alloc(), 1)?;

@@ -12,7 +12,6 @@ mod numbers;
 mod pool;
 mod record;
 mod sizes;
-mod slots;
 mod stored;
 
 use body::write_body;
@@ -22,7 +21,6 @@ use pool::{Pool, pool_of_history};
 use release_core::History;
 use sha2::{Digest, Sha256};
 use sizes::size_of_memo;
-use slots::slots_of;
 use std::alloc::{AllocError, AllocFailed, Global};
 
 /// Why a memo was not written.
@@ -83,7 +81,7 @@ pub fn write(alloc: Global, history: &History) -> Result<Vec<u8>, WriteError>
     ensures too_long { IfErr result (λ e. IsTooLongFor (length (memo history.now)) e) }
     ensures fits { length (memo history.now) ≤ MOST_MEMO_BYTES → IfErr result (λ e. e ≡ NoMemory) }
 {
-    let slots = slots_of(alloc, history.setup())?;
+    let slots = history.setup().page_map(alloc)?;
     let pool = pool_of_history(alloc, history, slots.len())?;
     let size = size_of_memo(history, pool.pages.len());
     if size > MOST_MEMO_BYTES as u64 {

@@ -39,7 +39,8 @@ behind p text rest = record { taken = p.taken + length text; left = rest }
 
 pub record Agrees {A : Type 0} (read : Reader A) (spell : A → List ℕ) (Fit : A → Type 0) : Type 0 where
   pub takes : (p : Place) (a : A) (q : Place) → IsBytes p.left → read p ≡ Ok (a, q) → Took p (spell a) q × Fit a
-  pub again : (p : Place) (a : A) (rest : List ℕ) → Fit a → p.left ≡ spell a ++ rest → read p ≡ Ok (a, behind p (spell a) rest)
+  pub again : (p : Place) (a : A) (rest : List ℕ) → Fit a → p.left ≡ spell a ++ rest
+      → read p ≡ Ok (a, behind p (spell a) rest)
 
 abbrev fine : {A : Type 0} → A → Result A Refusal
 fine x = Ok x
@@ -47,11 +48,13 @@ fine x = Ok x
 pub ok_is : {A : Type 0} (x y : A) → fine x ≡ fine y → x ≡ y
 ok_is x y e = cc
 
-pub onward_ok : {A B : Type 0} (r : Result (A × Place) Refusal) (f : A → Reader B) (y : B × Place) → onward r f ≡ Ok y → (x : A × Place) × (r ≡ Ok x) × (f x.0 x.1 ≡ Ok y)
+pub onward_ok : {A B : Type 0} (r : Result (A × Place) Refusal) (f : A → Reader B) (y : B × Place) → onward r f ≡ Ok y
+    → (x : A × Place) × (r ≡ Ok x) × (f x.0 x.1 ≡ Ok y)
 onward_ok (Ok x) f y e = (x, refl, e)
 onward_ok (Err d) f y e = absurd cc
 
-pub tested_ok : {A : Type 0} (b : Bool) (d : Refusal) (a : A) (p : Place) (y : A × Place) → tested b d a p ≡ Ok y → (b ≡ true) × ((a, p) ≡ y)
+pub tested_ok : {A : Type 0} (b : Bool) (d : Refusal) (a : A) (p : Place) (y : A × Place) → tested b d a p ≡ Ok y
+    → (b ≡ true) × ((a, p) ≡ y)
 tested_ok true d a p y e = (refl, ok_is (a, p) y e)
 tested_ok false d a p y e = absurd cc
 
@@ -76,32 +79,43 @@ agrees_then {A = A} {B = B} read spell FitA next spell_next FitB whole Fit one t
       let x = onward_ok (read p) next (b, q) e in
       let s = one.takes p x.0.0 x.0.1 bytes x.1 in
       let t = (two x.0.0 s.1).takes x.0.1 b q s.0.rest x.2 in
-      let j = join x.0.0 b s.1 t.1 in
-      (subst (λ (text : List ℕ). Took p text q) j.1 (took-then p x.0.1 q (spell x.0.0) (spell_next x.0.0 b) s.0 t.0), j.0);
+      let j = join x.0.0 b s.1 t.1 in (
+        subst (λ (text : List ℕ). Took p text q) j.1 (took-then p x.0.1 q (spell x.0.0) (spell_next x.0.0 b) s.0 t.0),
+        j.0,
+      );
   again = λ p b rest fit e.
       let x = split b fit in
       let j = join x.0 b x.1 x.2 in
       let m = behind p (spell x.0) (spell_next x.0 b ++ rest) in
-      let left : p.left ≡ spell x.0 ++ (spell_next x.0 b ++ rest) = e ∙ ap (λ (l : List ℕ). l ++ rest) (sym j.1) ∙ append_assoc (spell x.0) (spell_next x.0 b) rest in
+      let left : p.left ≡ spell x.0 ++ (spell_next x.0 b ++ rest) = e ∙ ap (λ (l : List ℕ). l ++ rest) (sym j.1)
+      ∙ append_assoc (spell x.0) (spell_next x.0 b) rest in
       let r1 = one.again p x.0 (spell_next x.0 b ++ rest) x.1 left in
       let r2 = (two x.0 x.1).again m b rest x.2 refl in
-      let len : m.taken + length (spell_next x.0 b) ≡ p.taken + length (whole b) = rw (← j.1) (omega (arith, length-append (spell x.0) (spell_next x.0 b))) in
-      ap (λ (r : Result (A × Place) Refusal). onward r next) r1 ∙ r2 ∙ ap (λ (n : ℕ). fine (b, record { taken = n; left = rest })) len;
+      let len : m.taken + length (spell_next x.0 b) ≡ p.taken + length (whole b) =
+      rw (← j.1) (omega (arith, length-append (spell x.0) (spell_next x.0 b))) in
+      ap (λ (r : Result (A × Place) Refusal). onward r next) r1 ∙ r2
+      ∙ ap (λ (n : ℕ). fine (b, record { taken = n; left = rest })) len;
 }
 
 pub agrees_done : {B : Type 0} (b : B) → Agrees (done b) (λ _. []) (λ c. c ≡ b)
 agrees_done {B = B} b = record {
   takes = λ p c q bytes e.
       let same = ok_is (b, p) (c, q) e in
-      let at : p ≡ q = ap (λ (x : B × Place). x.1) same in
-      (subst (λ (m : Place). Took p [] m) at (record { takes = record { front = refl; count = omega arith }; rest = bytes }), sym (ap (λ (x : B × Place). x.0) same));
+      let at : p ≡ q = ap (λ (x : B × Place). x.1) same in (
+        subst (λ (m : Place). Took p [] m) at
+            (record { takes = record { front = refl; count = omega arith }; rest = bytes }),
+        sym
+            (ap (λ (x : B × Place). x.0) same),
+      );
   again = λ p c rest fit e.
-      let at : record { taken = p.taken + 0; left = rest } ≡ p = rw (← e) (ap (λ (n : ℕ). record { taken = n; left = p.left }) (omega arith)) in
+      let at : record { taken = p.taken + 0; left = rest } ≡ p =
+      rw (← e) (ap (λ (n : ℕ). record { taken = n; left = p.left }) (omega arith)) in
       rw (fit, at) refl;
 }
 
 -- The same format, said otherwise.
-pub agrees_said : {A : Type 0} (read : Reader A) (spell said : A → List ℕ) (Fit Fits : A → Type 0) → Agrees read spell Fit
+pub agrees_said : {A : Type 0} (read : Reader A) (spell said : A → List ℕ) (Fit Fits : A → Type 0)
+    → Agrees read spell Fit
     → ((a : A) → Fit a → Fits a × (spell a ≡ said a)) → ((a : A) → Fits a → Fit a) → Agrees read said Fits
 agrees_said read spell said Fit Fits one there back = record {
   takes = λ p a q bytes e.
@@ -120,12 +134,14 @@ pub agrees_part : {A B : Type 0} (read : Reader A) (spell : A → List ℕ) (Fit
     → (part : B → A) → ((a : A) (b : B) → FitA a → FitB a b → part b ≡ a)
     → Agrees (read >>= next) (λ b. spell (part b) ++ spell_next (part b) b) (λ b. FitA (part b) × FitB (part b) b)
 agrees_part {A = A} read spell FitA next spell_next FitB one two part tie =
-    agrees_then read spell FitA next spell_next FitB (λ b. spell (part b) ++ spell_next (part b) b) (λ b. FitA (part b) × FitB (part b) b) one two
+    agrees_then read spell FitA next spell_next FitB (λ b. spell (part b) ++ spell_next (part b) b)
+    (λ b. FitA (part b) × FitB (part b) b) one two
     (λ a b f g. let e = tie a b f g in (subst (λ (x : A). FitA x × FitB x b) (sym e) (f, g), rw e refl))
     (λ b f. (part b, f.0, f.1))
 
 -- A reader with a test: a rule or a limit.
-pub agrees_tested : {A : Type 0} (read : Reader A) (spell : A → List ℕ) (Fit : A → Type 0) (test : A → Bool) (refusal : Place → Refusal) → Agrees read spell Fit
+pub agrees_tested : {A : Type 0} (read : Reader A) (spell : A → List ℕ) (Fit : A → Type 0) (test : A → Bool)
+    (refusal : Place → Refusal) → Agrees read spell Fit
     → Agrees (λ p. onward (read p) (λ a. tested (test a) (refusal p) a)) spell (λ a. Fit a × (test a ≡ true))
 agrees_tested {A = A} read spell Fit test refusal one = record {
   takes = λ p a q bytes e.
@@ -140,7 +156,8 @@ agrees_tested {A = A} read spell Fit test refusal one = record {
 
 pub record IsWide (w : Width) (limit : ℕ) : Type 0 where
   pub len : (n : ℕ) → length (to_le_bytes w n) ≡ byte_len w
-  pub back : (bytes : List ℕ) → byte_len w ≤ length bytes → IsBytes bytes → to_le_bytes w (from_le_bytes w bytes) ≡ take (byte_len w) bytes
+  pub back : (bytes : List ℕ) → byte_len w ≤ length bytes → IsBytes bytes
+      → to_le_bytes w (from_le_bytes w bytes) ≡ take (byte_len w) bytes
   pub again : (n : ℕ) (rest : List ℕ) → n < limit → from_le_bytes w (to_le_bytes w n ++ rest) ≡ n
   pub below : (bytes : List ℕ) → IsBytes bytes → from_le_bytes w bytes < limit
 
@@ -160,12 +177,14 @@ back_one : (bytes : List ℕ) → 1 ≤ length bytes → IsBytes bytes → to_le
 back_one [] le h = absurd (omega arith)
 back_one (a ∷ bs) le h = ap (λ (x : ℕ). x ∷ []) (omega (arith, h 0))
 
-back_two : (bytes : List ℕ) → 2 ≤ length bytes → IsBytes bytes → to_le_bytes w16 (from_le_bytes w16 bytes) ≡ take 2 bytes
+back_two : (bytes : List ℕ) → 2 ≤ length bytes → IsBytes bytes
+    → to_le_bytes w16 (from_le_bytes w16 bytes) ≡ take 2 bytes
 back_two [] le h = absurd (omega arith)
 back_two (a ∷ []) le h = absurd (omega arith)
 back_two (a ∷ b ∷ bs) le h = le_bytes_2 (a ∷ b ∷ []) _ refl (fits_two a b bs h) refl
 
-back_four : (bytes : List ℕ) → 4 ≤ length bytes → IsBytes bytes → to_le_bytes w32 (from_le_bytes w32 bytes) ≡ take 4 bytes
+back_four : (bytes : List ℕ) → 4 ≤ length bytes → IsBytes bytes
+    → to_le_bytes w32 (from_le_bytes w32 bytes) ≡ take 4 bytes
 back_four [] le h = absurd (omega arith)
 back_four (a ∷ []) le h = absurd (omega arith)
 back_four (a ∷ b ∷ []) le h = absurd (omega arith)
@@ -208,8 +227,17 @@ agrees_bytes n = record {
       let g = guard_ok (ltb (length p.left) n) (Field p.taken) (take n p.left, past n p) (bs, q) e in
       let long : n ≤ length p.left = ltb-false _ _ g.0 in
       let len : length (take n p.left) ≡ n = omega (arith, length-take n p.left) in
-      let took : Took p (take n p.left) (past n p) = record { takes = record { front = sym (take-append-drop n p.left); count = ap (λ (k : ℕ). p.taken + k) (sym len) }; rest = IsBytes-drop n p.left bytes } in
-      subst (λ (z : List ℕ × Place). Took p z.0 z.1 × ((length z.0 ≡ n) × AreBytes z.0)) g.1 (took, (len, AreBytes-of (take n p.left) (IsBytes-take n p.left bytes)));
+      let took : Took p (take n p.left) (past n p) =
+      record {
+        takes = record {
+          front = sym (take-append-drop n p.left);
+          count =
+              ap (λ (k : ℕ). p.taken + k) (sym len);
+        };
+        rest = IsBytes-drop n p.left bytes;
+      } in
+      subst (λ (z : List ℕ × Place). Took p z.0 z.1 × ((length z.0 ≡ n) × AreBytes z.0)) g.1
+      (took, (len, AreBytes-of (take n p.left) (IsBytes-take n p.left bytes)));
   again = λ p bs rest fit e.
       let long : ltb (length (bs ++ rest)) n ≡ false = le-ltb _ _ (omega (arith, length-append bs rest, fit.0)) in
       rw (e, long, take_at bs rest n fit.0, drop_at bs rest n fit.0, fit.0) refl;
@@ -218,38 +246,60 @@ agrees_bytes n = record {
 pub agrees_number : (w : Width) (limit : ℕ) → IsWide w limit → Agrees (number_at w) (to_le_bytes w) (λ n. n < limit)
 agrees_number w limit wide = record {
   takes = λ p n q bytes e.
-      let g = guard_ok (ltb (length p.left) (byte_len w)) (Field p.taken) (from_le_bytes w p.left, past (byte_len w) p) (n, q) e in
+      let g = guard_ok (ltb (length p.left) (byte_len w)) (Field p.taken) (from_le_bytes w p.left, past (byte_len w) p)
+      (n, q) e in
       let long : byte_len w ≤ length p.left = ltb-false _ _ g.0 in
       let back = wide.back p.left long bytes in
-      let took : Took p (to_le_bytes w (from_le_bytes w p.left)) (past (byte_len w) p) = record { takes = record { front = rw back (sym (take-append-drop (byte_len w) p.left)); count = ap (λ (k : ℕ). p.taken + k) (sym (wide.len (from_le_bytes w p.left))) }; rest = IsBytes-drop (byte_len w) p.left bytes } in
+      let took : Took p (to_le_bytes w (from_le_bytes w p.left)) (past (byte_len w) p) =
+      record {
+        takes = record {
+          front = rw back (sym (take-append-drop (byte_len w) p.left));
+          count =
+              ap (λ (k : ℕ). p.taken + k) (sym (wide.len (from_le_bytes w p.left)));
+        };
+        rest =
+            IsBytes-drop (byte_len w) p.left bytes;
+      } in
       subst (λ (z : ℕ × Place). Took p (to_le_bytes w z.0) z.1 × (z.0 < limit)) g.1 (took, wide.below p.left bytes);
   again = λ p n rest fit e.
       let len = wide.len n in
-      let long : ltb (length (to_le_bytes w n ++ rest)) (byte_len w) ≡ false = le-ltb _ _ (omega (arith, length-append (to_le_bytes w n) rest, len)) in
+      let long : ltb (length (to_le_bytes w n ++ rest)) (byte_len w) ≡ false =
+      le-ltb _ _ (omega (arith, length-append (to_le_bytes w n) rest, len)) in
       rw (e, long, wide.again n rest fit, drop_at (to_le_bytes w n) rest (byte_len w) len, len) refl;
 }
 
 -- ---- so many of a kind
 
-pub agrees_each : {A : Type 0} (read : Reader A) (spell : A → List ℕ) (Fit : A → Type 0) → Agrees read spell Fit → (n : ℕ)
+pub agrees_each : {A : Type 0} (read : Reader A) (spell : A → List ℕ) (Fit : A → Type 0) → Agrees read spell Fit
+    → (n : ℕ)
     → Agrees (each n read) (flat_map spell) (λ xs. (length xs ≡ n) × AllByRecursion Fit xs)
 agrees_each {A = A} read spell Fit one zero =
-    agrees_said (done []) (λ _. []) (flat_map spell) (λ xs. xs ≡ []) (λ xs. (length xs ≡ 0) × AllByRecursion Fit xs) (agrees_done [])
-    (λ xs e. subst (λ (ys : List A). ((length ys ≡ 0) × AllByRecursion Fit ys) × ([] ≡ flat_map spell ys)) (sym e) ((refl, tt), refl))
+    agrees_said (done []) (λ _. []) (flat_map spell) (λ xs. xs ≡ []) (λ xs. (length xs ≡ 0) × AllByRecursion Fit xs)
+    (agrees_done [])
+    (λ xs e. subst (λ (ys : List A). ((length ys ≡ 0) × AllByRecursion Fit ys) × ([] ≡ flat_map spell ys)) (sym e)
+    ((refl, tt), refl))
     none_left
   where
     none_left : (xs : List A) → (length xs ≡ 0) × AllByRecursion Fit xs → xs ≡ []
     none_left [] h = refl
     none_left (x ∷ xs) h = absurd (omega (arith, h.0))
 agrees_each {A = A} read spell Fit one (suc n) =
-    agrees_then read spell Fit (λ first. each n read >>= λ others. done (first ∷ others)) (λ first xs. flat_map spell (drop 1 xs) ++ []) (λ first xs. ((length (drop 1 xs) ≡ n) × AllByRecursion Fit (drop 1 xs)) × (xs ≡ first ∷ drop 1 xs))
+    agrees_then read spell Fit (λ first. each n read >>= λ others. done (first ∷ others))
+    (λ first xs. flat_map spell (drop 1 xs) ++ [])
+    (λ first xs. ((length (drop 1 xs) ≡ n) × AllByRecursion Fit (drop 1 xs)) × (xs ≡ first ∷ drop 1 xs))
     (flat_map spell) (λ xs. (length xs ≡ suc n) × AllByRecursion Fit xs) one
-    (λ first fit. agrees_part (each n read) (flat_map spell) (λ xs. (length xs ≡ n) × AllByRecursion Fit xs) (λ others. done (first ∷ others)) (λ others xs. []) (λ others xs. xs ≡ first ∷ others)
-    (agrees_each read spell Fit one n) (λ others _. agrees_done (first ∷ others)) (drop 1) (λ others xs _ e. ap (drop 1) e))
-    (λ first xs fit g. subst (λ (ys : List A). ((length ys ≡ suc n) × AllByRecursion Fit ys) × (spell first ++ (flat_map spell (drop 1 xs) ++ []) ≡ flat_map spell ys)) (sym g.1) ((ap suc g.0.0, (fit, g.0.1)), ap (λ (l : List ℕ). spell first ++ l) (append-nil (flat_map spell (drop 1 xs)))))
+    (λ first fit. agrees_part (each n read) (flat_map spell) (λ xs. (length xs ≡ n) × AllByRecursion Fit xs)
+    (λ others. done (first ∷ others)) (λ others xs. []) (λ others xs. xs ≡ first ∷ others)
+    (agrees_each read spell Fit one n) (λ others _. agrees_done (first ∷ others)) (drop 1)
+    (λ others xs _ e. ap (drop 1) e))
+    (λ first xs fit g. subst
+    (λ (ys : List A). ((length ys ≡ suc n) × AllByRecursion Fit ys)
+    × (spell first ++ (flat_map spell (drop 1 xs) ++ []) ≡ flat_map spell ys)) (sym g.1)
+    ((ap suc g.0.0, (fit, g.0.1)), ap (λ (l : List ℕ). spell first ++ l) (append-nil (flat_map spell (drop 1 xs)))))
     first_left
   where
-    first_left : (xs : List A) → (length xs ≡ suc n) × AllByRecursion Fit xs → (x : A) × Fit x × (((length (drop 1 xs) ≡ n) × AllByRecursion Fit (drop 1 xs)) × (xs ≡ x ∷ drop 1 xs))
+    first_left : (xs : List A) → (length xs ≡ suc n) × AllByRecursion Fit xs → (x : A) × Fit x
+        × (((length (drop 1 xs) ≡ n) × AllByRecursion Fit (drop 1 xs)) × (xs ≡ x ∷ drop 1 xs))
     first_left [] h = absurd (omega (arith, h.0))
     first_left (x ∷ xs) h = (x, h.1.0, ((omega (arith, h.0), h.1.1), refl))
 
@@ -266,8 +316,10 @@ pub agrees_chain : {S A : Type 0} (step : S → Reader (A × S)) (spell : A → 
     → ((s : S) → Agrees (step s) (λ x. spell x.0) (Fit s)) → (n : ℕ) (s : S)
     → Agrees (chain step n s) (λ x. flat_map spell x.0) (λ x. (length x.0 ≡ n) × Chained Fit s x.0 x.1)
 agrees_chain {S = S} {A = A} step spell Fit one zero s =
-    agrees_said (done ([], s)) (λ _. []) (λ x. flat_map spell x.0) (λ x. x ≡ ([], s)) (λ x. (length x.0 ≡ 0) × Chained Fit s x.0 x.1) (agrees_done ([], s))
-    (λ x e. subst (λ (y : List A × S). ((length y.0 ≡ 0) × Chained Fit s y.0 y.1) × ([] ≡ flat_map spell y.0)) (sym e) ((refl, refl), refl))
+    agrees_said (done ([], s)) (λ _. []) (λ x. flat_map spell x.0) (λ x. x ≡ ([], s))
+    (λ x. (length x.0 ≡ 0) × Chained Fit s x.0 x.1) (agrees_done ([], s))
+    (λ x e. subst (λ (y : List A × S). ((length y.0 ≡ 0) × Chained Fit s y.0 y.1) × ([] ≡ flat_map spell y.0)) (sym e)
+    ((refl, refl), refl))
     (λ x. none_left x.0 x.1)
   where
     none_left : (xs : List A) (t : S) → (length xs ≡ 0) × Chained Fit s xs t → pair xs t ≡ pair [] s
@@ -278,11 +330,19 @@ agrees_chain {S = S} {A = A} step spell Fit one (suc n) s =
     (λ x y. flat_map spell (drop 1 y.0) ++ [])
     (λ x y. ((length (drop 1 y.0) ≡ n) × Chained Fit x.1 (drop 1 y.0) y.1) × (y ≡ (x.0 ∷ drop 1 y.0, y.1)))
     (λ y. flat_map spell y.0) (λ y. (length y.0 ≡ suc n) × Chained Fit s y.0 y.1) (one s)
-    (λ x fit. agrees_part (chain step n x.1) (λ y. flat_map spell y.0) (λ y. (length y.0 ≡ n) × Chained Fit x.1 y.0 y.1) (λ others. done (x.0 ∷ others.0, others.1)) (λ others y. []) (λ others y. y ≡ (x.0 ∷ others.0, others.1))
-    (agrees_chain step spell Fit one n x.1) (λ others _. agrees_done (x.0 ∷ others.0, others.1)) (λ y. (drop 1 y.0, y.1)) (λ others y _ e. ap (λ (z : List A × S). (drop 1 z.0, z.1)) e))
-    (λ x y fit g. subst (λ (z : List A × S). ((length z.0 ≡ suc n) × Chained Fit s z.0 z.1) × (spell x.0 ++ (flat_map spell (drop 1 y.0) ++ []) ≡ flat_map spell z.0)) (sym g.1) ((ap suc g.0.0, (x.1, fit, g.0.1)), ap (λ (l : List ℕ). spell x.0 ++ l) (append-nil (flat_map spell (drop 1 y.0)))))
+    (λ x fit. agrees_part (chain step n x.1) (λ y. flat_map spell y.0) (λ y. (length y.0 ≡ n) × Chained Fit x.1 y.0 y.1)
+    (λ others. done (x.0 ∷ others.0, others.1)) (λ others y. []) (λ others y. y ≡ (x.0 ∷ others.0, others.1))
+    (agrees_chain step spell Fit one n x.1) (λ others _. agrees_done (x.0 ∷ others.0, others.1))
+    (λ y. (drop 1 y.0, y.1)) (λ others y _ e. ap (λ (z : List A × S). (drop 1 z.0, z.1)) e))
+    (λ x y fit g. subst (λ (z : List A × S). ((length z.0 ≡ suc n) × Chained Fit s z.0 z.1)
+    × (spell x.0 ++ (flat_map spell (drop 1 y.0) ++ []) ≡ flat_map spell z.0)) (sym g.1) (
+      (ap suc g.0.0, (x.1, fit, g.0.1)),
+      ap (λ (l : List ℕ). spell x.0 ++ l)
+          (append-nil (flat_map spell (drop 1 y.0))),
+    ))
     (λ y. first_left y.0 y.1)
   where
-    first_left : (xs : List A) (t : S) → (length xs ≡ suc n) × Chained Fit s xs t → (x : A × S) × Fit s x × (((length (drop 1 xs) ≡ n) × Chained Fit x.1 (drop 1 xs) t) × (pair xs t ≡ pair (x.0 ∷ drop 1 xs) t))
+    first_left : (xs : List A) (t : S) → (length xs ≡ suc n) × Chained Fit s xs t → (x : A × S) × Fit s x
+        × (((length (drop 1 xs) ≡ n) × Chained Fit x.1 (drop 1 xs) t) × (pair xs t ≡ pair (x.0 ∷ drop 1 xs) t))
     first_left [] t h = absurd (omega (arith, h.0))
     first_left (x ∷ xs) t h = ((x, h.1.0), h.1.1, ((omega (arith, h.0), h.1.2), refl))

@@ -23,7 +23,11 @@ abbrev pub IsPage : List ℕ → Type 0
 IsPage page = (length page ≡ 4096) × AreBytes page
 
 step : (a b : ℕ) → ltb a b ≡ ltb (suc a) (suc b)
-step a b = elim (cases_lt a b) [ inl lt ↦ lt-ltb a b lt ∙ sym (lt-ltb (suc a) (suc b) (omega arith)) | inr le ↦ le-ltb a b le ∙ sym (le-ltb (suc a) (suc b) (omega arith)) ]
+step a b = elim (cases_lt a b) [
+  | inl lt ↦ lt-ltb a b lt
+      ∙ sym (lt-ltb (suc a) (suc b) (omega arith))
+  | inr le ↦ le-ltb a b le ∙ sym (le-ltb (suc a) (suc b) (omega arith))
+]
 
 -- A page is in the front of a pool exactly where its index is there.
 pub has_in_front : (s t : Pages) (page : List ℕ) → has_page s page ≡ ltb (index_in (s ++ t) page) (length s)
@@ -33,19 +37,22 @@ has_in_front (p ∷ s) t page = elim (bytes_tell page p) [ inl h ↦ here h.0 | 
     here : bytes_eq page p ≡ true → has_page (p ∷ s) page ≡ ltb (index_in (p ∷ s ++ t) page) (length (p ∷ s))
     here h = rw h (sym (lt-ltb 0 (suc (length s)) (omega arith)))
 
-    later : bytes_eq page p ≡ false → has_page s page ≡ ltb (index_in (s ++ t) page) (length s) → has_page (p ∷ s) page ≡ ltb (index_in (p ∷ s ++ t) page) (length (p ∷ s))
+    later : bytes_eq page p ≡ false → has_page s page ≡ ltb (index_in (s ++ t) page) (length s)
+        → has_page (p ∷ s) page ≡ ltb (index_in (p ∷ s ++ t) page) (length (p ∷ s))
     later h e =
         let k : index_in (p ∷ s ++ t) page ≡ suc (index_in (s ++ t) page) = rw h (omega arith) in
         rw (k, h) (e ∙ step (index_in (s ++ t) page) (length s))
 
-front_index : (s t : Pages) (page : List ℕ) → index_in (s ++ t) page < length s → index_in s page ≡ index_in (s ++ t) page
+front_index : (s t : Pages) (page : List ℕ) → index_in (s ++ t) page < length s
+    → index_in s page ≡ index_in (s ++ t) page
 front_index [] t page lt = absurd (omega arith)
 front_index (p ∷ s) t page lt = elim (bytes_tell page p) [ inl h ↦ here h.0 | inr h ↦ later h.0 (front_index s t page) ]
   where
     here : bytes_eq page p ≡ true → index_in (p ∷ s) page ≡ index_in (p ∷ s ++ t) page
     here h = rw h refl
 
-    later : bytes_eq page p ≡ false → (index_in (s ++ t) page < length s → index_in s page ≡ index_in (s ++ t) page) → index_in (p ∷ s) page ≡ index_in (p ∷ s ++ t) page
+    later : bytes_eq page p ≡ false → (index_in (s ++ t) page < length s → index_in s page ≡ index_in (s ++ t) page)
+        → index_in (p ∷ s) page ≡ index_in (p ∷ s ++ t) page
     later h e =
         let k : index_in (p ∷ s ++ t) page ≡ suc (index_in (s ++ t) page) = rw h (omega arith) in
         let j : index_in (p ∷ s) page ≡ suc (index_in s page) = rw h (omega arith) in
@@ -59,7 +66,8 @@ index_push (p ∷ s) t page lt = elim (bytes_tell page p) [ inl h ↦ here h.0 |
     here : bytes_eq page p ≡ true → index_in (p ∷ s ++ t) page ≡ index_in (p ∷ s) page
     here h = rw h refl
 
-    later : bytes_eq page p ≡ false → (index_in s page < length s → index_in (s ++ t) page ≡ index_in s page) → index_in (p ∷ s ++ t) page ≡ index_in (p ∷ s) page
+    later : bytes_eq page p ≡ false → (index_in s page < length s → index_in (s ++ t) page ≡ index_in s page)
+        → index_in (p ∷ s ++ t) page ≡ index_in (p ∷ s) page
     later h e =
         let k : index_in (p ∷ s ++ t) page ≡ suc (index_in (s ++ t) page) = rw h (omega arith) in
         let j : index_in (p ∷ s) page ≡ suc (index_in s page) = rw h (omega arith) in
@@ -71,12 +79,15 @@ index_new [] t page h = elim (bytes_tell page page) [ inl k ↦ here k.0 | inr k
   where
     here : bytes_eq page page ≡ true → index_in (page ∷ t) page ≡ 0
     here k = rw k refl
-index_new (p ∷ s) t page h = elim (bytes_tell page p) [ inl k ↦ absurd (there k.0 h) | inr k ↦ later k.0 h (index_new s t page) ]
+index_new (p ∷ s) t page h =
+    elim (bytes_tell page p) [ inl k ↦ absurd (there k.0 h) | inr k ↦ later k.0 h (index_new s t page) ]
   where
     there : bytes_eq page p ≡ true → has_page (p ∷ s) page ≡ false → ⊥
     there k e = let f : true ≡ false = sym (rw k refl) ∙ e in absurd cc
 
-    later : bytes_eq page p ≡ false → has_page (p ∷ s) page ≡ false → (has_page s page ≡ false → index_in (s ++ page ∷ t) page ≡ length s) → index_in (p ∷ s ++ page ∷ t) page ≡ length (p ∷ s)
+    later : bytes_eq page p ≡ false → has_page (p ∷ s) page ≡ false
+        → (has_page s page ≡ false → index_in (s ++ page ∷ t) page ≡ length s)
+        → index_in (p ∷ s ++ page ∷ t) page ≡ length (p ∷ s)
     later k e rest =
         let j : index_in (p ∷ s ++ page ∷ t) page ≡ suc (index_in (s ++ page ∷ t) page) = rw k (omega arith) in
         let f : has_page (p ∷ s) page ≡ has_page s page = rw k refl in
@@ -94,7 +105,8 @@ at_end (p ∷ s) t page = at_end s t page
 pub once_push : (s : Pages) (page : List ℕ) → IsOnce s → has_page s page ≡ false → IsOnce (s ++ page ∷ [])
 once_push s page once h i lt = elim (cases_lt i (length s)) [
   | inl less ↦ let e = once i less in
-      ap (index_in (s ++ page ∷ [])) (at_front s (page ∷ []) i less) ∙ index_push s (page ∷ []) (slice_index_or s i []) (omega (arith, e, less)) ∙ e
+      ap (index_in (s ++ page ∷ [])) (at_front s (page ∷ []) i less) ∙ index_push s (page ∷ []) (slice_index_or s i [])
+      (omega (arith, e, less)) ∙ e
   | inr le ↦ let is : i ≡ length s = omega (arith, length-append s (page ∷ []), lt, le) in
       rw is (ap (index_in (s ++ page ∷ [])) (at_end s [] page) ∙ index_new s [] page h)
 ]
@@ -122,31 +134,42 @@ fold_front (p ∷ ps) s =
 -- ---- one read page after others
 
 -- The pool that is used after a page was read, where the used one is in front.
-pub read_step : (used rest : Pages) (page : List ℕ) → index_in (used ++ rest) page ≤ length used → index_in (used ++ rest) page < length (used ++ rest)
-    → (more : Pages) × (with_page used page ++ more ≡ used ++ rest) × (length (with_page used page) ≡ used_after (length used) (index_in (used ++ rest) page))
+pub read_step : (used rest : Pages) (page : List ℕ) → index_in (used ++ rest) page ≤ length used
+    → index_in (used ++ rest) page < length (used ++ rest)
+    → (more : Pages) × (with_page used page ++ more ≡ used ++ rest)
+    × (length (with_page used page) ≡ used_after (length used) (index_in (used ++ rest) page))
 read_step used rest page le lt = elim (cases_lt (index_in (used ++ rest) page) (length used)) [
   | inl less ↦ old less
   | inr more ↦ new rest le lt (omega (arith, le, more))
 ]
   where
-    old : index_in (used ++ rest) page < length used → (more : Pages) × (with_page used page ++ more ≡ used ++ rest) × (length (with_page used page) ≡ used_after (length used) (index_in (used ++ rest) page))
+    old : index_in (used ++ rest) page < length used → (more : Pages) × (with_page used page ++ more ≡ used ++ rest)
+        × (length (with_page used page) ≡ used_after (length used) (index_in (used ++ rest) page))
     old less =
         let h : has_page used page ≡ true = has_in_front used rest page ∙ lt-ltb _ _ less in
         let n : eqb (index_in (used ++ rest) page) (length used) ≡ false = ne_eqb _ _ (λ e. omega (arith, e, less)) in
         (rest, rw h refl, rw (h, n) refl)
 
-    new : (rest : Pages) → index_in (used ++ rest) page ≤ length used → index_in (used ++ rest) page < length (used ++ rest) → index_in (used ++ rest) page ≡ length used
-        → (more : Pages) × (with_page used page ++ more ≡ used ++ rest) × (length (with_page used page) ≡ used_after (length used) (index_in (used ++ rest) page))
+    new : (rest : Pages) → index_in (used ++ rest) page ≤ length used
+        → index_in (used ++ rest) page < length (used ++ rest) → index_in (used ++ rest) page ≡ length used
+        → (more : Pages) × (with_page used page ++ more ≡ used ++ rest)
+        × (length (with_page used page) ≡ used_after (length used) (index_in (used ++ rest) page))
     new [] le lt is = absurd (omega (arith, length-append used [], lt, is))
     new (p ∷ rest) le lt is =
         let h : has_page used page ≡ false = has_in_front used (p ∷ rest) page ∙ le-ltb _ _ (omega (arith, is)) in
-        let same : p ≡ page = sym (at_end used rest p) ∙ ap (λ (i : ℕ). slice_index_or (used ++ p ∷ rest) i []) (sym is) ∙ index_back (used ++ p ∷ rest) page lt in
-        let n : eqb (index_in (used ++ p ∷ rest) page) (length used) ≡ true = rw is (eq-eqb _ _ refl) in
-        (rest, rw (h, same) (append_assoc used (page ∷ []) rest), rw (h, n) (omega (arith, length-append used (page ∷ []))))
+        let same : p ≡ page = sym (at_end used rest p) ∙ ap (λ (i : ℕ). slice_index_or (used ++ p ∷ rest) i []) (sym is)
+        ∙ index_back (used ++ p ∷ rest) page lt in
+        let n : eqb (index_in (used ++ p ∷ rest) page) (length used) ≡ true = rw is (eq-eqb _ _ refl) in (
+          rest,
+          rw (h, same) (append_assoc used (page ∷ []) rest),
+          rw (h, n)
+              (omega (arith, length-append used (page ∷ []))),
+        )
 
 -- The other way: a page that is in the pool after it, and what is used then.
 pub write_step : (used rest : Pages) (page : List ℕ) (b : Bool) → has_page used page ≡ b
-    → (index_in (with_page used page ++ rest) page ≤ length used) × (index_in (with_page used page ++ rest) page < length (with_page used page ++ rest))
+    → (index_in (with_page used page ++ rest) page ≤ length used)
+    × (index_in (with_page used page ++ rest) page < length (with_page used page ++ rest))
     × (length (with_page used page) ≡ used_after (length used) (index_in (with_page used page ++ rest) page))
 write_step used rest page true h =
     let e : with_page used page ≡ used = rw h refl in
@@ -155,9 +178,14 @@ write_step used rest page true h =
     rw e (omega (arith, less), omega (arith, less, length-append used rest), rw n refl)
 write_step used rest page false h =
     let e : with_page used page ≡ used ++ page ∷ [] = rw h refl in
-    let k : index_in (used ++ page ∷ [] ++ rest) page ≡ length used = ap (λ (l : Pages). index_in l page) (append_assoc used (page ∷ []) rest) ∙ index_new used rest page h in
+    let k : index_in (used ++ page ∷ [] ++ rest) page ≡ length used =
+    ap (λ (l : Pages). index_in l page) (append_assoc used (page ∷ []) rest) ∙ index_new used rest page h in
     let n : eqb (index_in (used ++ page ∷ [] ++ rest) page) (length used) ≡ true = rw k (eq-eqb _ _ refl) in
-    rw e (omega (arith, k), omega (arith, k, length-append (used ++ page ∷ []) rest, length-append used (page ∷ [])), rw n (omega (arith, length-append used (page ∷ []))))
+    rw e (
+      omega (arith, k),
+      omega (arith, k, length-append (used ++ page ∷ []) rest, length-append used (page ∷ [])),
+      rw n (omega (arith, length-append used (page ∷ []))),
+    )
 
 pub fold_append : (ps qs s : Pages) → fold with_page s (ps ++ qs) ≡ fold with_page (fold with_page s ps) qs
 fold_append [] qs s = refl

@@ -16,7 +16,8 @@ bytes_tell (x ∷ xs) (y ∷ ys) = elim (eqb_tells x y) [
 ]
   where
     rest : ((bytes_eq xs ys ≡ true) × (xs ≡ ys)) ⊎ ((bytes_eq xs ys ≡ false) × (xs ≡ ys → ⊥)) → eqb x y ≡ true → x ≡ y
-        → ((bytes_eq (x ∷ xs) (y ∷ ys) ≡ true) × (x ∷ xs ≡ y ∷ ys)) ⊎ ((bytes_eq (x ∷ xs) (y ∷ ys) ≡ false) × (x ∷ xs ≡ y ∷ ys → ⊥))
+        → ((bytes_eq (x ∷ xs) (y ∷ ys) ≡ true) × (x ∷ xs ≡ y ∷ ys))
+        ⊎ ((bytes_eq (x ∷ xs) (y ∷ ys) ≡ false) × (x ∷ xs ≡ y ∷ ys → ⊥))
     rest (inl k) t e = inl (rw (t, k.0) refl, cc)
     rest (inr k) t e = inr (rw (t, k.0) refl, λ p. k.1 (ap (drop 1) p))
 
@@ -26,7 +27,8 @@ pub record IsPool (pool : List (List ℕ)) : Type 0 where
   pub pages : AllByRecursion (λ (page : List ℕ). (length page ≡ 4096) × AreBytes page) pool
   pub few : length pool < 2 ^ 32
 
-pub index_back : (pool : List (List ℕ)) (page : List ℕ) → index_in pool page < length pool → slice_index_or pool (index_in pool page) [] ≡ page
+pub index_back : (pool : List (List ℕ)) (page : List ℕ) → index_in pool page < length pool
+    → slice_index_or pool (index_in pool page) [] ≡ page
 index_back [] page lt = absurd (omega arith)
 index_back (p ∷ pool) page lt = elim (bytes_tell page p) [
   | inl h ↦ at_first h.0 h.1
@@ -36,7 +38,9 @@ index_back (p ∷ pool) page lt = elim (bytes_tell page p) [
     at_first : bytes_eq page p ≡ true → page ≡ p → slice_index_or (p ∷ pool) (index_in (p ∷ pool) page) [] ≡ page
     at_first h e = rw h (sym e)
 
-    one_more : bytes_eq page p ≡ false → (index_in pool page < length pool → slice_index_or pool (index_in pool page) [] ≡ page) → slice_index_or (p ∷ pool) (index_in (p ∷ pool) page) [] ≡ page
+    one_more : bytes_eq page p ≡ false
+        → (index_in pool page < length pool → slice_index_or pool (index_in pool page) [] ≡ page)
+        → slice_index_or (p ∷ pool) (index_in (p ∷ pool) page) [] ≡ page
     one_more h rest =
         let k : index_in (p ∷ pool) page ≡ suc (index_in pool page) = rw h (omega arith) in
         ap (λ (i : ℕ). slice_index_or (p ∷ pool) i []) k ∙ rest (omega (arith, k, lt))

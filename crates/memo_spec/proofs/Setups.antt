@@ -21,18 +21,21 @@ use Rattle.memo_spec.proofs.Formats.{Agrees, agrees_then, agrees_done, agrees_sa
 fine : List ℕ → Place → Result (List ℕ × Place) Refusal
 fine bytes p = Ok (bytes, p)
 
-accepted_ok : (o : Option elf.Refusal) (bytes : List ℕ) (p : Place) (x : List ℕ × Place) → accepted o bytes p ≡ Ok x → (o ≡ None) × (accepted o bytes ≡ done bytes)
+accepted_ok : (o : Option elf.Refusal) (bytes : List ℕ) (p : Place) (x : List ℕ × Place) → accepted o bytes p ≡ Ok x
+    → (o ≡ None) × (accepted o bytes ≡ done bytes)
 accepted_ok None bytes p x e = (refl, refl)
 accepted_ok (Some r) bytes p x e = absurd cc
 
 -- An executable is taken exactly where it has no refusal.
-agrees_accepted : (bytes : List ℕ) → Agrees (accepted (refusal_of bytes) bytes) (λ _. []) (λ c. (c ≡ bytes) × (refusal_of bytes ≡ None))
+agrees_accepted : (bytes : List ℕ) → Agrees (accepted (refusal_of bytes) bytes) (λ _. [])
+    (λ c. (c ≡ bytes) × (refusal_of bytes ≡ None))
 agrees_accepted bytes = record {
   takes = λ p c q fits e.
       let k = accepted_ok (refusal_of bytes) bytes p (c, q) e in
       let t = (agrees_done bytes).takes p c q fits (sym (ap (λ (r : Reader (List ℕ)). r p) k.1) ∙ e) in
       (t.0, (t.1, k.0));
-  again = λ p c rest fit e. ap (λ (o : Option elf.Refusal). accepted o bytes p) fit.1 ∙ (agrees_done bytes).again p c rest fit.0 e;
+  again = λ p c rest fit e. ap (λ (o : Option elf.Refusal). accepted o bytes p) fit.1
+      ∙ (agrees_done bytes).again p c rest fit.0 e;
 }
 
 abbrev IsElf : ℕ → List ℕ → Type 0
@@ -40,7 +43,9 @@ IsElf n bytes = ((length bytes ≡ n) × AreBytes bytes) × (refusal_of bytes �
 
 agrees_elf : (n : ℕ) → Agrees (bytes_at n >>= λ bytes. accepted (refusal_of bytes) bytes) (λ bytes. bytes) (IsElf n)
 agrees_elf n =
-    agrees_then (bytes_at n) (λ bs. bs) (λ bs. (length bs ≡ n) × AreBytes bs) (λ bytes. accepted (refusal_of bytes) bytes) (λ bytes c. []) (λ bytes c. (c ≡ bytes) × (refusal_of bytes ≡ None)) (λ c. c) (IsElf n)
+    agrees_then (bytes_at n) (λ bs. bs) (λ bs. (length bs ≡ n) × AreBytes bs)
+    (λ bytes. accepted (refusal_of bytes) bytes) (λ bytes c. [])
+    (λ bytes c. (c ≡ bytes) × (refusal_of bytes ≡ None)) (λ c. c) (IsElf n)
     (agrees_bytes n) (λ bytes _. agrees_accepted bytes)
     (λ bytes c f g. (subst (IsElf n) (sym g.0) (f, g.1), append-nil bytes ∙ sym g.0))
     (λ c h. (c, h.0, (refl, h.1)))
@@ -48,8 +53,10 @@ agrees_elf n =
 abbrev Within : ℕ → ℕ → ℕ → Type 0
 Within low high n = (n < 2 ^ 32) × (is_within low high n ≡ true)
 
-agrees_within : (low high : ℕ) (r : Refusal) → Agrees (limited (number_at w32) (is_within low high) r) word (Within low high)
-agrees_within low high r = agrees_tested (number_at w32) word (λ n. n < 2 ^ 32) (is_within low high) (λ _. r) (agrees_number w32 (2 ^ 32) wide32)
+agrees_within : (low high : ℕ) (r : Refusal) → Agrees (limited (number_at w32) (is_within low high) r) word
+    (Within low high)
+agrees_within low high r = agrees_tested (number_at w32) word (λ n. n < 2 ^ 32) (is_within low high) (λ _. r)
+    (agrees_number w32 (2 ^ 32) wide32)
 
 abbrev made : List ℕ → List ℕ → ℕ → ℕ → Setup
 made elf input fuel steps = record { elf = elf; input = input; fuel = fuel; limit = steps }
@@ -61,7 +68,8 @@ abbrev IsInput : List ℕ → ℕ → Setup → Type 0
 IsInput elf n s = ((length s.input ≡ n) × AreBytes s.input) × IsRun elf s.input s
 
 abbrev IsRaw : Setup → Type 0
-IsRaw s = Within 0 16777216 (length s.elf) × (IsElf (length s.elf) s.elf × (Within 0 1048576 (length s.input) × IsInput s.elf (length s.input) s))
+IsRaw s = Within 0 16777216 (length s.elf)
+    × (IsElf (length s.elf) s.elf × (Within 0 1048576 (length s.input) × IsInput s.elf (length s.input) s))
 
 abbrev run_bytes : Setup → List ℕ
 run_bytes s = word s.fuel ++ (word s.limit ++ [])
@@ -81,18 +89,28 @@ setup_bytes s = word (length s.elf) ++ s.elf ++ word (length s.input) ++ s.input
 agrees_raw : Agrees setup_at raw_bytes IsRaw
 unfolding setup_at
 agrees_raw =
-    agrees_part (limited (number_at w32) (is_within 0 16777216) (Limit limit.Elf)) word (Within 0 16777216) elfs (λ n s. s.elf ++ (word (length s.input) ++ (s.input ++ run_bytes s))) (λ n s. IsElf n s.elf × (Within 0 1048576 (length s.input) × IsInput s.elf (length s.input) s))
+    agrees_part (limited (number_at w32) (is_within 0 16777216) (Limit limit.Elf)) word (Within 0 16777216) elfs
+    (λ n s. s.elf ++ (word (length s.input) ++ (s.input ++ run_bytes s)))
+    (λ n s. IsElf n s.elf × (Within 0 1048576 (length s.input) × IsInput s.elf (length s.input) s))
     (agrees_within 0 16777216 (Limit limit.Elf))
-    (λ n _. agrees_part (bytes_at n >>= λ bytes. accepted (refusal_of bytes) bytes) (λ bs. bs) (IsElf n) inputs (λ elf s. word (length s.input) ++ (s.input ++ run_bytes s)) (λ elf s. Within 0 1048576 (length s.input) × IsInput elf (length s.input) s)
+    (λ n _. agrees_part (bytes_at n >>= λ bytes. accepted (refusal_of bytes) bytes) (λ bs. bs) (IsElf n) inputs
+    (λ elf s. word (length s.input) ++ (s.input ++ run_bytes s))
+    (λ elf s. Within 0 1048576 (length s.input) × IsInput elf (length s.input) s)
     (agrees_elf n)
-    (λ elf _. agrees_part (limited (number_at w32) (is_within 0 1048576) (Limit limit.Input)) word (Within 0 1048576) (input_bytes elf) (λ m s. s.input ++ run_bytes s) (λ m s. IsInput elf m s)
+    (λ elf _. agrees_part (limited (number_at w32) (is_within 0 1048576) (Limit limit.Input)) word (Within 0 1048576)
+    (input_bytes elf) (λ m s. s.input ++ run_bytes s) (λ m s. IsInput elf m s)
     (agrees_within 0 1048576 (Limit limit.Input))
-    (λ m _. agrees_part (bytes_at m) (λ bs. bs) (λ bs. (length bs ≡ m) × AreBytes bs) (runs elf) (λ input s. run_bytes s) (λ input s. IsRun elf input s)
+    (λ m _. agrees_part (bytes_at m) (λ bs. bs) (λ bs. (length bs ≡ m) × AreBytes bs) (runs elf)
+    (λ input s. run_bytes s) (λ input s. IsRun elf input s)
     (agrees_bytes m)
-    (λ input _. agrees_part (limited (number_at w32) (is_within 1 16777216) (Limit limit.Fuel)) word (Within 1 16777216) (steps elf input) (λ fuel s. word s.limit ++ []) (λ fuel s. Within 1 65536 s.limit × (s ≡ made elf input fuel s.limit))
+    (λ input _. agrees_part (limited (number_at w32) (is_within 1 16777216) (Limit limit.Fuel)) word (Within 1 16777216)
+    (steps elf input) (λ fuel s. word s.limit ++ [])
+    (λ fuel s. Within 1 65536 s.limit × (s ≡ made elf input fuel s.limit))
     (agrees_within 1 16777216 (Limit limit.Fuel))
-    (λ fuel _. agrees_part (limited (number_at w32) (is_within 1 65536) (Limit limit.Steps)) word (Within 1 65536) (λ n. done (made elf input fuel n)) (λ n s. []) (λ n s. s ≡ made elf input fuel n)
-    (agrees_within 1 65536 (Limit limit.Steps)) (λ n _. agrees_done (made elf input fuel n)) (λ s. s.limit) (λ n s _ e. ap (λ (t : Setup). t.limit) e))
+    (λ fuel _. agrees_part (limited (number_at w32) (is_within 1 65536) (Limit limit.Steps)) word (Within 1 65536)
+    (λ n. done (made elf input fuel n)) (λ n s. []) (λ n s. s ≡ made elf input fuel n)
+    (agrees_within 1 65536 (Limit limit.Steps)) (λ n _. agrees_done (made elf input fuel n)) (λ s. s.limit)
+    (λ n s _ e. ap (λ (t : Setup). t.limit) e))
     (λ s. s.fuel) (λ n s _ h. ap (λ (t : Setup). t.fuel) h.1))
     (λ s. s.input) (λ n s _ h. ap (λ (t : Setup). t.input) h.1.1))
     (λ s. length s.input) (λ n s _ h. h.0.0))
@@ -100,7 +118,8 @@ agrees_raw =
     (λ s. length s.elf) (λ n s _ h. h.0.0.0)
   where
     steps : List ℕ → List ℕ → ℕ → Reader Setup
-    steps elf input fuel = limited (number_at w32) (is_within 1 65536) (Limit limit.Steps) >>= λ n. done (made elf input fuel n)
+    steps elf input fuel = limited (number_at w32) (is_within 1 65536) (Limit limit.Steps) >>= λ n. done
+        (made elf input fuel n)
 
     runs : List ℕ → List ℕ → Reader Setup
     runs elf input = limited (number_at w32) (is_within 1 16777216) (Limit limit.Fuel) >>= λ fuel. steps elf input fuel
@@ -132,14 +151,35 @@ none_of s e = is_none_is (refusal_of s.elf) e
 pub agrees_setup : Agrees setup_at setup_bytes FitsSetup
 agrees_setup =
     agrees_said setup_at raw_bytes setup_bytes IsRaw FitsSetup agrees_raw
-    (λ s h. (there s h, to_left (word (length s.elf)) s.elf (word (length s.input)) s.input (word s.fuel) (word s.limit)))
+    (λ s h. (
+      there s h,
+      to_left (word (length s.elf)) s.elf (word (length s.input)) s.input (word s.fuel)
+          (word s.limit),
+    ))
     (λ s h. (
       (omega (arith, h.valid.elf_size), both_true (le-leb 0 _ (omega arith)) (le-leb _ _ h.valid.elf_size)),
       (
         ((refl, h.elf_bytes), none_of s h.valid.elf_accepted),
         (
           (omega (arith, h.valid.input_size), both_true (le-leb 0 _ (omega arith)) (le-leb _ _ h.valid.input_size)),
-          ((refl, h.input_bytes), ((omega (arith, h.valid.limits.most_fuel), both_true (le-leb _ _ h.valid.limits.some_fuel) (le-leb _ _ h.valid.limits.most_fuel)), ((omega (arith, h.valid.limits.most_steps), both_true (le-leb _ _ h.valid.limits.some_steps) (le-leb _ _ h.valid.limits.most_steps)), refl))),
+          (
+            (refl, h.input_bytes),
+            (
+              (
+                omega (arith, h.valid.limits.most_fuel),
+                both_true (le-leb _ _ h.valid.limits.some_fuel)
+                    (le-leb _ _ h.valid.limits.most_fuel),
+              ),
+              (
+                (
+                  omega (arith, h.valid.limits.most_steps),
+                  both_true (le-leb _ _ h.valid.limits.some_steps)
+                      (le-leb _ _ h.valid.limits.most_steps),
+                ),
+                refl,
+              ),
+            ),
+          ),
         ),
       ),
     ))
@@ -152,7 +192,20 @@ agrees_setup =
         let fuel = and_parts (leb 1 s.fuel) (leb s.fuel 16777216) run.0.1 in
         let steps = and_parts (leb 1 s.limit) (leb s.limit 65536) run.1.0.1 in
         record {
-          valid = record { elf_size = leb-true _ _ elf.1; elf_accepted = accepted_elf s h.1.0.1; input_size = leb-true _ _ input.1; limits = record { some_fuel = leb-true _ _ fuel.0; most_fuel = leb-true _ _ fuel.1; some_steps = leb-true _ _ steps.0; most_steps = leb-true _ _ steps.1 } };
+          valid = record {
+            elf_size = leb-true _ _ elf.1;
+            elf_accepted = accepted_elf s h.1.0.1;
+            input_size =
+                leb-true _ _ input.1;
+            limits =
+                record {
+                  some_fuel = leb-true _ _ fuel.0;
+                  most_fuel = leb-true _ _ fuel.1;
+                  some_steps =
+                      leb-true _ _ steps.0;
+                  most_steps = leb-true _ _ steps.1;
+                };
+          };
           elf_bytes = h.1.0.0.1;
           input_bytes = h.1.1.1.0.1;
         }

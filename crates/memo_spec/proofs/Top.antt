@@ -39,7 +39,8 @@ abbrev shelf_bytes : Setup → Shelf → List ℕ
 shelf_bytes setup x = word (length x.0) ++ (pages_bytes x.0 ++ records_bytes setup x)
 
 abbrev pub tail_bytes : Setup → History → List ℕ
-tail_bytes setup h = word (length (pool_of h)) ++ (pages_bytes (pool_of h) ++ flat_map (record_bytes (map_of setup) (pool_of h)) h.records)
+tail_bytes setup h = word (length (pool_of h)) ++
+    (pages_bytes (pool_of h) ++ flat_map (record_bytes (map_of setup) (pool_of h)) h.records)
 
 -- The pool that was read is the pool of the history.
 pool_is : (setup : Setup) (n : ℕ) (x : Shelf) → IsShelf setup n x → x.0 ≡ distinct (pages_read x.1)
@@ -47,16 +48,38 @@ pool_is setup n x h =
     let pooled = h.0.1 in
     let recorded = pooled.2 in
     let pool : x.0 ≡ pooled.0.0 = ap (λ (z : Shelf). z.0) recorded.1 in
-    let are = records_are (map_of setup) setup.fuel pooled.0.0 (is_pool pooled.0 (length x.0) h.0.0 pooled.1) x.1 opening x.2 [] pooled.0.0 refl refl recorded.0.1 in
-    let nothing : are.more ≡ [] = nil_from_length are.more (omega (arith, are.last_is, eqb-true _ _ h.1, ap length pool, ap length are.pool_is, length-append (distinct (pages_read x.1)) are.more)) in
-    pool ∙ sym are.pool_is ∙ ap (λ (l : Pages). distinct (pages_read x.1) ++ l) nothing ∙ append-nil (distinct (pages_read x.1))
+    let are = records_are (map_of setup) setup.fuel pooled.0.0
+    (is_pool pooled.0 (length x.0) h.0.0 pooled.1) x.1 opening x.2 [] pooled.0.0 refl refl recorded.0.1 in
+    let nothing : are.more ≡ [] =
+    nil_from_length are.more
+    (omega (
+      arith,
+      are.last_is,
+      eqb-true _ _ h.1,
+      ap length pool,
+      ap length are.pool_is,
+      length-append
+          (distinct (pages_read x.1)) are.more,
+    )) in
+    pool ∙ sym are.pool_is ∙ ap (λ (l : Pages). distinct (pages_read x.1) ++ l) nothing
+    ∙ append-nil (distinct (pages_read x.1))
 
-agrees_shelved : (setup : Setup) (n : ℕ) → FitsSetup setup → Agrees (ruled (pool_and_records_at setup n) used_up >>= λ x. done (made setup x)) (tail_bytes setup) (Shelved setup n)
+agrees_shelved : (setup : Setup) (n : ℕ) → FitsSetup setup
+    → Agrees (ruled (pool_and_records_at setup n) used_up >>= λ x. done (made setup x)) (tail_bytes setup)
+    (Shelved setup n)
 agrees_shelved setup n fit =
-    agrees_then (ruled (pool_and_records_at setup n) used_up) (shelf_bytes setup) (IsShelf setup n) (λ x. done (made setup x)) (λ x h. []) (λ x h. h ≡ made setup x) (tail_bytes setup) (Shelved setup n)
-    (agrees_tested (pool_and_records_at setup n) (shelf_bytes setup) (RawShelf setup n) used_up _ (agrees_shelf setup n (is_page_map setup fit.valid)))
+    agrees_then (ruled (pool_and_records_at setup n) used_up) (shelf_bytes setup) (IsShelf setup n)
+    (λ x. done (made setup x)) (λ x h. []) (λ x h. h ≡ made setup x) (tail_bytes setup) (Shelved setup n)
+    (agrees_tested (pool_and_records_at setup n) (shelf_bytes setup) (RawShelf setup n) used_up _
+    (agrees_shelf setup n (is_page_map setup fit.valid)))
     (λ x _. agrees_done (made setup x))
-    (λ x h f g. ((x, f, g), append-nil (shelf_bytes setup x) ∙ ap (λ (pool : Pages). word (length pool) ++ (pages_bytes pool ++ flat_map (record_bytes (map_of setup) pool) x.1)) (pool_is setup n x f) ∙ ap (tail_bytes setup) (sym g)))
+    (λ x h f g. (
+      (x, f, g),
+      append-nil (shelf_bytes setup x)
+          ∙ ap (λ (pool : Pages). word (length pool) ++
+          (pages_bytes pool ++ flat_map (record_bytes (map_of setup) pool) x.1)) (pool_is setup n x f)
+          ∙ ap (tail_bytes setup) (sym g),
+    ))
     (λ h k. k)
 
 abbrev Within : ℕ → ℕ → Type 0
@@ -71,15 +94,22 @@ raw_bytes h = setup_bytes h.setup ++ (word (length h.records) ++ tail_bytes h.se
 agrees_raw : Agrees history_at raw_bytes Raw
 unfolding history_at
 agrees_raw =
-    agrees_part setup_at setup_bytes FitsSetup (λ setup. entries setup) (λ setup h. word (length h.records) ++ tail_bytes setup h) (λ setup h. Within setup.limit (length h.records) × Shelved setup (length h.records) h)
+    agrees_part setup_at setup_bytes FitsSetup (λ setup. entries setup)
+    (λ setup h. word (length h.records) ++ tail_bytes setup h)
+    (λ setup h. Within setup.limit (length h.records) × Shelved setup (length h.records) h)
     agrees_setup
-    (λ setup fit. agrees_part (limited (number_at w32) (is_within 1 setup.limit) (Limit limit.Entries)) word (Within setup.limit) (λ n. ruled (pool_and_records_at setup n) used_up >>= λ x. done (made setup x)) (λ n h. tail_bytes setup h) (λ n h. Shelved setup n h)
-    (agrees_tested (number_at w32) word (λ n. n < 2 ^ 32) (is_within 1 setup.limit) (λ _. Limit limit.Entries) (agrees_number w32 (2 ^ 32) wide32))
-    (λ n _. agrees_shelved setup n fit) (λ h. length h.records) (λ n h _ k. ap (λ (z : History). length z.records) k.2 ∙ k.1.0.1.2.0.0))
+    (λ setup fit. agrees_part (limited (number_at w32) (is_within 1 setup.limit) (Limit limit.Entries)) word
+    (Within setup.limit) (λ n. ruled (pool_and_records_at setup n) used_up >>= λ x. done (made setup x))
+    (λ n h. tail_bytes setup h) (λ n h. Shelved setup n h)
+    (agrees_tested (number_at w32) word (λ n. n < 2 ^ 32) (is_within 1 setup.limit) (λ _. Limit limit.Entries)
+    (agrees_number w32 (2 ^ 32) wide32))
+    (λ n _. agrees_shelved setup n fit) (λ h. length h.records)
+    (λ n h _ k. ap (λ (z : History). length z.records) k.2 ∙ k.1.0.1.2.0.0))
     (λ h. h.setup) (λ setup h _ k. ap (λ (z : History). z.setup) k.1.2)
   where
     entries : Setup → Reader History
-    entries setup = limited (number_at w32) (is_within 1 setup.limit) (Limit limit.Entries) >>= λ n. ruled (pool_and_records_at setup n) used_up >>= λ x. done (made setup x)
+    entries setup = limited (number_at w32) (is_within 1 setup.limit) (Limit limit.Entries) >>= λ n. ruled
+        (pool_and_records_at setup n) used_up >>= λ x. done (made setup x)
 
 -- ---- a history, as it is said
 
@@ -90,22 +120,51 @@ spellable h raw =
     let f = raw.1.1.1 in
     let same : h.records ≡ x.1 = ap (λ (z : History). z.records) raw.1.1.2 in
     let pooled = f.0.1 in
-    let are = records_are (map_of h.setup) h.setup.fuel pooled.0.0 (is_pool pooled.0 (length x.0) f.0.0 pooled.1) x.1 opening x.2 [] pooled.0.0 refl refl pooled.2.0.1 in
-    record { setup = raw.0.valid; elf_bytes = raw.0.elf_bytes; input_bytes = raw.0.input_bytes; some_records = leb-true _ _ k.0; most_records = leb-true _ _ k.1; numbered = rw same are.numbered; records = rw same are.each }
+    let are = records_are (map_of h.setup) h.setup.fuel pooled.0.0
+    (is_pool pooled.0 (length x.0) f.0.0 pooled.1) x.1 opening x.2 [] pooled.0.0 refl refl pooled.2.0.1 in
+    record {
+      setup = raw.0.valid;
+      elf_bytes = raw.0.elf_bytes;
+      input_bytes = raw.0.input_bytes;
+      some_records =
+          leb-true _ _ k.0;
+      most_records = leb-true _ _ k.1;
+      numbered = rw same are.numbered;
+      records = rw same are.each;
+    }
 
 raw_again : (h : History) → IsSpellable h → Raw h
 raw_again h fit =
     let few = few_pages h.setup fit.setup in
-    let again = records_again (map_of h.setup) h.setup.fuel few (omega (arith, fit.setup.limits.most_fuel)) h.records [] [] [] fit.numbered fit.records in
+    let again = records_again (map_of h.setup) h.setup.fuel few
+    (omega (arith, fit.setup.limits.most_fuel)) h.records [] [] [] fit.numbered fit.records in
     let pool = distinct (pages_read h.records) in
     let once : IsOnce pool = fold_once (pages_read h.records) [] nothing_once in
-    let pages = fold_pages (pages_read h.records) [] (read_pages (map_of h.setup) h.setup.fuel h.records fit.records) tt in
-    let size : length pool < 2 ^ 32 = omega (arith, fold_few (pages_read h.records) [], read_few (map_of h.setup) h.setup.fuel h.records few fit.records, fit.most_records, fit.setup.limits.most_steps) in
-    let chained = subst (λ (l : Pages). Chained (FitsRecord (map_of h.setup) h.setup.fuel l) opening h.records again.0) (ap distinct (append-nil (pages_read h.records))) again.1 in (
+    let pages = fold_pages (pages_read h.records) []
+    (read_pages (map_of h.setup) h.setup.fuel h.records fit.records) tt in
+    let size : length pool < 2 ^ 32 =
+    omega (
+      arith,
+      fold_few (pages_read h.records) [],
+      read_few
+          (map_of h.setup) h.setup.fuel h.records few fit.records,
+      fit.most_records,
+      fit.setup.limits.most_steps,
+    ) in
+    let chained = subst (λ (l : Pages). Chained (FitsRecord (map_of h.setup) h.setup.fuel l) opening h.records again.0)
+    (ap distinct (append-nil (pages_read h.records))) again.1 in (
       record { valid = fit.setup; elf_bytes = fit.elf_bytes; input_bytes = fit.input_bytes },
       (
-        (omega (arith, fit.most_records, fit.setup.limits.most_steps), both_true (le-leb _ _ fit.some_records) (le-leb _ _ fit.most_records)),
-        (pair pool h.records again.0, ((size, (both pool, (refl, pool_again pool [] once pages), ((refl, chained), refl))), eq-eqb _ _ again.2), refl),
+        (
+          omega (arith, fit.most_records, fit.setup.limits.most_steps),
+          both_true (le-leb _ _ fit.some_records)
+              (le-leb _ _ fit.most_records),
+        ),
+        (
+          pair pool h.records again.0,
+          ((size, (both pool, (refl, pool_again pool [] once pages), ((refl, chained), refl))), eq-eqb _ _ again.2),
+          refl,
+        ),
       ),
     )
   where
@@ -119,7 +178,8 @@ concat_is : (pool : Pages) → concat pool ≡ pages_bytes pool
 concat_is [] = refl
 concat_is (p ∷ pool) = ap (λ (l : List ℕ). p ++ l) (concat_is pool)
 
-pieces : (a b c d e f g i j k l m : List ℕ) → (a ++ b) ++ ((c ++ d ++ e ++ f ++ g ++ i) ++ (j ++ (k ++ (l ++ m)))) ≡ a ++ b ++ c ++ d ++ e ++ f ++ g ++ i ++ j ++ k ++ l ++ m
+pieces : (a b c d e f g i j k l m : List ℕ) → (a ++ b) ++ ((c ++ d ++ e ++ f ++ g ++ i) ++ (j ++ (k ++ (l ++ m)))) ≡ a
+    ++ b ++ c ++ d ++ e ++ f ++ g ++ i ++ j ++ k ++ l ++ m
 pieces a b c d e f g i j k l m = simp append_assoc refl
 
 abbrev pub head : List ℕ
@@ -127,9 +187,15 @@ head = magic ++ word version
 
 pub body_is : (h : History) → body h ≡ head ++ raw_bytes h
 body_is h =
-    ap (λ (x : List ℕ). magic ++ word version ++ word (length h.setup.elf) ++ h.setup.elf ++ word (length h.setup.input) ++ h.setup.input ++ word h.setup.fuel ++ word h.setup.limit ++ word (length h.records)
-    ++ word (length (pool_of h)) ++ x ++ flat_map (record_bytes (map_of h.setup) (pool_of h)) h.records) (concat_is (pool_of h))
-    ∙ sym (pieces magic (word version) (word (length h.setup.elf)) h.setup.elf (word (length h.setup.input)) h.setup.input (word h.setup.fuel) (word h.setup.limit) (word (length h.records)) (word (length (pool_of h))) (pages_bytes (pool_of h)) (flat_map (record_bytes (map_of h.setup) (pool_of h)) h.records))
+    ap (λ (x : List ℕ). magic ++ word version ++ word (length h.setup.elf) ++ h.setup.elf ++ word (length h.setup.input)
+    ++ h.setup.input ++ word h.setup.fuel ++ word h.setup.limit ++ word (length h.records)
+    ++ word (length (pool_of h)) ++ x ++ flat_map (record_bytes (map_of h.setup) (pool_of h)) h.records)
+    (concat_is (pool_of h))
+    ∙ sym (pieces magic (word version) (word (length h.setup.elf)) h.setup.elf
+    (word (length h.setup.input)) h.setup.input (word h.setup.fuel) (word h.setup.limit) (word (length h.records))
+    (word (length (pool_of h))) (pages_bytes (pool_of h))
+    (flat_map (record_bytes (map_of h.setup) (pool_of h)) h.records))
 
 pub agrees_history : Agrees history_at raw_bytes IsSpellable
-agrees_history = agrees_said history_at raw_bytes raw_bytes Raw IsSpellable agrees_raw (λ h raw. (spellable h raw, refl)) raw_again
+agrees_history = agrees_said history_at raw_bytes raw_bytes Raw IsSpellable agrees_raw
+    (λ h raw. (spellable h raw, refl)) raw_again

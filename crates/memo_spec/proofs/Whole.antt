@@ -20,11 +20,13 @@ use Rattle.memo_spec.proofs.Chains.{bytes_of, few_reads}
 abbrev IsWord : Mapped → Type 0
 IsWord m = m.number < 2 ^ 32
 
-all_append : {A : Type 0} (P : A → Type 0) (xs ys : List A) → AllByRecursion P xs → AllByRecursion P ys → AllByRecursion P (xs ++ ys)
+all_append : {A : Type 0} (P : A → Type 0) (xs ys : List A) → AllByRecursion P xs → AllByRecursion P ys
+    → AllByRecursion P (xs ++ ys)
 all_append P [] ys p q = q
 all_append P (x ∷ xs) ys p q = (p.0, all_append P xs ys p.1 q)
 
-range_words : (n number : ℕ) → number + n < 2 ^ 32 → AllByRecursion IsWord (map (λ k. record { number = k; permission = 6 }) (range_with_len number n))
+range_words : (n number : ℕ) → number + n < 2 ^ 32
+    → AllByRecursion IsWord (map (λ k. record { number = k; permission = 6 }) (range_with_len number n))
 range_words zero number lt = tt
 range_words (suc n) number lt = (omega arith, range_words n (number + 1) (omega arith))
 
@@ -32,7 +34,8 @@ data_words : (number count : ℕ) → number + count < 2 ^ 32 → AllByRecursion
 unfolding data_pages
 data_words number count lt = range_words count number lt
 
-image_words : (pages : List Mapped) → AllByRecursion (λ (p : Mapped). (1 ≤ p.number) × (p.number < 0xC0000)) pages → AllByRecursion IsWord pages
+image_words : (pages : List Mapped) → AllByRecursion (λ (p : Mapped). (1 ≤ p.number) × (p.number < 0xC0000)) pages
+    → AllByRecursion IsWord pages
 image_words [] h = tt
 image_words (p ∷ pages) h = (omega (arith, h.0.1), image_words pages h.1)
 
@@ -41,10 +44,13 @@ unfolding map_of
 is_page_map s h = record {
   ascends = ascends-map_of s h;
   words =
-      let image = image_words (image_pages s.elf) (recursion_from_All (λ (p : Mapped). (1 ≤ p.number) × (p.number < 0xC0000)) (image_pages s.elf) (pages_inside s.elf h.elf_accepted)) in
+      let image = image_words (image_pages s.elf)
+      (recursion_from_All (λ (p : Mapped). (1 ≤ p.number) × (p.number < 0xC0000)) (image_pages s.elf)
+      (pages_inside s.elf h.elf_accepted)) in
       all_append IsWord (image_pages s.elf ++ data_pages 0xC0000 1 ++ data_pages 0xC0001 256) (data_pages 0xD0000 512)
       (all_append IsWord (image_pages s.elf ++ data_pages 0xC0000 1) (data_pages 0xC0001 256)
-      (all_append IsWord (image_pages s.elf) (data_pages 0xC0000 1) image (data_words 0xC0000 1 (omega arith))) (data_words 0xC0001 256 (omega arith))) (data_words 0xD0000 512 (omega arith));
+      (all_append IsWord (image_pages s.elf) (data_pages 0xC0000 1) image (data_words 0xC0000 1 (omega arith)))
+      (data_words 0xC0001 256 (omega arith))) (data_words 0xD0000 512 (omega arith));
 }
 
 length_data : (number count : ℕ) → length (data_pages number count) ≡ count
@@ -79,25 +85,38 @@ pub fold_few : (ps s : Pages) → length (fold with_page s ps) ≤ length s + le
 fold_few [] s = omega arith
 fold_few (p ∷ ps) s = omega (arith, fold_few ps (with_page s p), with_few s p (has_page s p) refl)
 
-pub read_few : (pages : List Mapped) (fuel : ℕ) (rs : List Record) → length pages < 2 ^ 16 → AllByRecursion (IsRecord pages fuel) rs → length (pages_read rs) ≤ 65535 * length rs
+pub read_few : (pages : List Mapped) (fuel : ℕ) (rs : List Record) → length pages < 2 ^ 16
+    → AllByRecursion (IsRecord pages fuel) rs → length (pages_read rs) ≤ 65535 * length rs
 read_few pages fuel [] lt all = omega arith
 read_few pages fuel (r ∷ rs) lt all =
-    omega (arith, length-append (bytes_of r.kept.reads) (pages_read rs), length-map r.kept.reads (λ (p : ReadPage). p.bytes), few_reads pages r.kept.reads 0 (omega arith) all.0.reads_ascend all.0.reads, read_few pages fuel rs lt all.1)
+    omega (
+      arith,
+      length-append (bytes_of r.kept.reads) (pages_read rs),
+      length-map r.kept.reads
+          (λ (p : ReadPage). p.bytes),
+      few_reads pages r.kept.reads 0 (omega arith) all.0.reads_ascend all.0.reads,
+      read_few pages fuel rs lt all.1,
+    )
 
 -- ---- the pages of a pool are pages
 
-with_pages : (s : Pages) (page : List ℕ) (b : Bool) → has_page s page ≡ b → IsPage page → AllByRecursion IsPage s → AllByRecursion IsPage (with_page s page)
+with_pages : (s : Pages) (page : List ℕ) (b : Bool) → has_page s page ≡ b → IsPage page → AllByRecursion IsPage s
+    → AllByRecursion IsPage (with_page s page)
 with_pages s page true h p all = rw h all
 with_pages s page false h p all = rw h (all_append IsPage s (page ∷ []) all (p, tt))
 
-pub fold_pages : (ps s : Pages) → AllByRecursion IsPage ps → AllByRecursion IsPage s → AllByRecursion IsPage (fold with_page s ps)
+pub fold_pages : (ps s : Pages) → AllByRecursion IsPage ps → AllByRecursion IsPage s
+    → AllByRecursion IsPage (fold with_page s ps)
 fold_pages [] s h all = all
 fold_pages (p ∷ ps) s h all = fold_pages ps (with_page s p) h.1 (with_pages s p (has_page s p) refl h.0 all)
 
-reads_pages : (pages : List Mapped) (reads : List ReadPage) → AllByRecursion (IsReadPage pages) reads → AllByRecursion IsPage (bytes_of reads)
+reads_pages : (pages : List Mapped) (reads : List ReadPage) → AllByRecursion (IsReadPage pages) reads
+    → AllByRecursion IsPage (bytes_of reads)
 reads_pages pages [] all = tt
 reads_pages pages (p ∷ reads) all = ((all.0.size, all.0.bytes), reads_pages pages reads all.1)
 
-pub read_pages : (pages : List Mapped) (fuel : ℕ) (rs : List Record) → AllByRecursion (IsRecord pages fuel) rs → AllByRecursion IsPage (pages_read rs)
+pub read_pages : (pages : List Mapped) (fuel : ℕ) (rs : List Record) → AllByRecursion (IsRecord pages fuel) rs
+    → AllByRecursion IsPage (pages_read rs)
 read_pages pages fuel [] all = tt
-read_pages pages fuel (r ∷ rs) all = all_append IsPage (bytes_of r.kept.reads) (pages_read rs) (reads_pages pages r.kept.reads all.0.reads) (read_pages pages fuel rs all.1)
+read_pages pages fuel (r ∷ rs) all = all_append IsPage (bytes_of r.kept.reads) (pages_read rs)
+    (reads_pages pages r.kept.reads all.0.reads) (read_pages pages fuel rs all.1)

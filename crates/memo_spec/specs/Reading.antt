@@ -25,8 +25,9 @@ use Rattle.history_spec.specs.History.{History}
 use Rattle.ith_fields.specs.Place.{Place}
 use Rattle.memo_spec.specs.declared.Limit.TheVariants as limit
 use Rattle.memo_spec.specs.declared.Refusal.{Refusal}
-use Rattle.memo_spec.specs.declared.Refusal.TheVariants.{Short, Magic, Version, Digest, Limit, Image, Field, Incoherent}
+use Rattle.memo_spec.specs.declared.Refusal.TheVariants.{Short, Magic, Version, Digest, Limit, Image, Field, Old, Incoherent}
 use Rattle.memo_spec.specs.Spelling.{magic, version, has_page}
+use Rattle.memo_spec.specs.Old.{is_old, last_number}
 use Rattle.memo_spec.specs.Reader.{Reader, onward, ◌>>=◌, done, bytes_at, number_at, tested, ruled, limited, each, chain}
 
 -- Whether a number lies in a range.
@@ -174,11 +175,15 @@ abbrev pub coherent_or : Option ℕ → History → Result History Refusal
 coherent_or None h = Ok h
 coherent_or (Some i) h = Err (Incoherent i)
 
--- A history that was read to the last byte, where it holds together.
+-- A history that isn't from before the standard extension M, where it holds together.
+abbrev pub todays : History → Result History Refusal
+todays h =
+    if is_old h then Err (Old (last_number h))
+    else coherent_or (incoherent_from 0 (first h.setup) h.records) h
+
+-- A history that was read to the last byte, where it is of today and holds together.
 abbrev pub ended : Result (History × Place) Refusal → Result History Refusal
-ended (Ok x) =
-    if length x.1.left == 0 then coherent_or (incoherent_from 0 (first x.0.setup) x.0.records) x.0
-    else Err (Field x.1.taken)
+ended (Ok x) = if length x.1.left == 0 then todays x.0 else Err (Field x.1.taken)
 ended (Err refusal) = Err refusal
 
 -- What all bytes but the digest are taken as.

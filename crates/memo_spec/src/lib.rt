@@ -1,10 +1,11 @@
 //! The memo file: what its bytes spell, and which refusal bytes get that are taken for none.
 #![tactic(auto)]
 
-ghost use Rattle.std.specs.Prelude.{◌≡◌, ℕ, List, true, Ok};
+ghost use Rattle.std.specs.Prelude.{◌≡◌, ℕ, List, true, false, Ok};
 ghost use Rattle.history_spec.specs.History.{History, is_coherent};
 ghost use Rattle.memo_spec.specs.Spelling.{Spells};
 ghost use Rattle.memo_spec.specs.Reading.{reading};
+ghost use Rattle.memo_spec.specs.Old.{is_old};
 
 /// The most bytes of a memo.
 pub const MOST_MEMO_BYTES: usize = 268_435_456;
@@ -41,6 +42,9 @@ pub enum Refusal {
     Image(elf_spec::Refusal),
     /// The field at this offset is cut off or against its rule.
     Field(usize),
+    /// This record, the last, ended by an illegal instruction that is one of the standard extension M: the memo is from
+    /// before M.
+    Old(u32),
     /// This record doesn't fit what those before it leave, or no end comes.
     Incoherent(u32),
 }
@@ -55,12 +59,14 @@ pub fn history_has_one_spelling()
     ensures { (a b : List ℕ) (h : History) → Spells a h → Spells b h → a ≡ b }
 {}
 
-/// What spells a history that holds together is taken as it.
+/// What spells a history of today that holds together is taken as it.
 pub fn spelled_is_taken()
-    ensures { (bytes : List ℕ) (h : History) → Spells bytes h → is_coherent h ≡ true → reading bytes ≡ Ok h }
+    ensures { (bytes : List ℕ) (h : History) → Spells bytes h → is_old h ≡ false → is_coherent h ≡ true
+        → reading bytes ≡ Ok h }
 {}
 
-/// What bytes are taken as they spell, and it holds together.
+/// What bytes are taken as they spell, and it is of today and holds together.
 pub fn taken_is_spelled(bytes: &[u8])
-    ensures { (h : History) → reading bytes.now ≡ Ok h → Spells bytes.now h × (is_coherent h ≡ true) }
+    ensures { (h : History) → reading bytes.now ≡ Ok h
+        → Spells bytes.now h × (is_old h ≡ false) × (is_coherent h ≡ true) }
 {}

@@ -10,3 +10,6 @@ pub mod Machine
 pub mod Beginning
 pub mod Events
 pub mod Examples
+pub mod Illegal
+pub mod Telling
+pub mod Todays

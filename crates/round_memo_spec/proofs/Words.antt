@@ -1,20 +1,21 @@
 -- What instructions compute on words are words, and registers stay registers.
-use Rattle.std.proofs.Common.{◌≡◌, ◌≢◌, ℕ, ◌%◌, ◌^◌, ◌<◌, Bool, true, false, eqb, cond, set, refl, ◌∙◌, arith}
-use Rattle.std.specs.Prelude.{bit_and, bit_or, bit_xor}
-use Rattle.std.proofs.Math.Nat.{div-le_self}
+use Rattle.std.proofs.Common.{◌≡◌, ◌≢◌, ℕ, zero, suc, ◌-◌, ◌*◌, ◌/◌, ◌%◌, ◌^◌, ◌<◌, ◌≤◌, Bool, true, false, eqb, cond, set, refl, ◌∙◌, arith, ℤ, pos, negsuc, ◌*ℤ◌, neg_ℤ, unsigned_abs, int_div, int_rem, FitsSigned, ◌==◌}
+use Rattle.std.specs.Prelude.{bit_and, bit_or, bit_xor, if◌then◌else◌}
+use Rattle.std.proofs.Math.Nat.{div-le_self, mod-le, mul-le-mul}
+use Rattle.std.proofs.lemmas.Int.{fits_signed_mul, ints}
 use Rattle.std.proofs.lemmas.Bool.Decides.{nat_tests}
 use Rattle.std.proofs.lemmas.List.{get_or-set_other, length-set}
 use Rattle.std.proofs.lemmas.Nat.{or_lt, xor_lt, and_le_l}
 use lib.Signed.{mag_shr}
 use mir.ValLaws as laws
-use Rattle.std.specs.Int.{w32, int_shr}
+use Rattle.std.specs.Int.{w32, w64, cast_unsigned, int_shr}
 use Rattle.isa_spec.specs.declared.ImmediateOperation.{ImmediateOperation}
 use Rattle.isa_spec.specs.declared.ImmediateOperation.TheVariants as immediate
 use Rattle.isa_spec.specs.declared.ShiftOperation.{ShiftOperation}
 use Rattle.isa_spec.specs.declared.ShiftOperation.TheVariants as shift
 use Rattle.isa_spec.specs.declared.RegisterOperation.{RegisterOperation}
 use Rattle.isa_spec.specs.declared.RegisterOperation.TheVariants as operation
-use Rattle.isa_spec.specs.Words.{signed, is_less, is_less_unsigned, sum_of, difference_of, word_of_test, shifted_left, shifted_right, shifted_right_signed, sign_extended}
+use Rattle.isa_spec.specs.Words.{signed, is_less, is_less_unsigned, sum_of, difference_of, word_of_test, shifted_left, shifted_right, shifted_right_signed, sign_extended, product_of, high_product, high_product_signed_unsigned, high_product_unsigned, quotient_of, quotient_unsigned, remainder_of, remainder_unsigned}
 use Rattle.isa_spec.specs.Registers.{Registers, register, with_register, with_pc}
 use Rattle.isa_spec.specs.Operations.{immediate_result, shift_result, register_result}
 use Rattle.isa_spec.specs.Encoding.{IsSignExtended}
@@ -55,6 +56,75 @@ or-word a b word other = or_lt 32 a b word other
 and-word : (a b : ℕ) → IsWord a → IsWord (bit_and a b)
 and-word a b word = let less = and_le_l a b in omega arith
 
+product-word : (a b : ℕ) → IsWord (product_of a b)
+product-word a b = omega arith
+
+-- a word as a number in two's complement is at most 2 ^ 31 away from zero
+signed_size : (a : ℕ) → IsWord a → unsigned_abs (signed a) ≤ 2 ^ 31
+signed_size a word = omega (arith, ints)
+
+upper-word : (z : ℤ) → FitsSigned w64 z → IsWord (cast_unsigned w64 z / 2 ^ 32)
+upper-word z fits = let small = (laws.of_z_fits w64 z fits).fits in omega arith
+
+high-word : (a b : ℕ) → IsWord a → IsWord b → IsWord (high_product a b)
+high-word a b word other =
+    upper-word (signed a *ℤ signed b)
+    (fits_signed_mul w64 (signed a) (signed b) (2 ^ 31) (2 ^ 31) (signed_size a word) (signed_size b other)
+    (omega arith))
+
+high_mixed-word : (a b : ℕ) → IsWord a → IsWord b → IsWord (high_product_signed_unsigned a b)
+high_mixed-word a b word other =
+    upper-word (signed a *ℤ pos b)
+    (fits_signed_mul w64 (signed a) (pos b) (2 ^ 31) (2 ^ 32 - 1) (signed_size a word) (omega arith) (omega arith))
+
+below : (a : ℕ) → IsWord a → a ≤ 2 ^ 32 - 1
+below a word = omega arith
+
+high_unsigned-word : (a b : ℕ) → IsWord a → IsWord b → IsWord (high_product_unsigned a b)
+high_unsigned-word a b word other =
+    let most = mul-le-mul {n₂ = 2 ^ 32 - 1} {m₂ = 2 ^ 32 - 1} (below a word) (below b other) in omega arith
+
+near-word : (z : ℤ) → unsigned_abs z ≤ 2 ^ 31 → IsWord (cast_unsigned w32 z)
+near-word (pos n) near = omega arith
+near-word (negsuc n) near = omega arith
+
+size_of_opposite : (n : ℕ) → unsigned_abs (neg_ℤ (pos n)) ≡ n
+size_of_opposite zero = refl
+size_of_opposite (suc n) = refl
+
+quotient_size : (a b : ℤ) → unsigned_abs (int_div a b) ≤ unsigned_abs a
+quotient_size (pos a) (pos b) = div-le_self a b
+quotient_size (pos a) (negsuc b) = omega (arith, size_of_opposite (a / suc b), div-le_self a (suc b))
+quotient_size (negsuc a) (pos b) = omega (arith, size_of_opposite (suc a / b), div-le_self (suc a) b)
+quotient_size (negsuc a) (negsuc b) = div-le_self (suc a) (suc b)
+
+remainder_size : (a b : ℤ) → unsigned_abs (int_rem a b) ≤ unsigned_abs a
+remainder_size (pos a) b = mod-le a (unsigned_abs b)
+remainder_size (negsuc a) b = omega (arith, size_of_opposite (suc a % unsigned_abs b), mod-le (suc a) (unsigned_abs b))
+
+either-word : (test : Bool) (m n : ℕ) → IsWord m → IsWord n → IsWord (if test then m else n)
+either-word true m n one other = one
+either-word false m n one other = other
+
+quotient-word : (a b : ℕ) → IsWord a → IsWord (quotient_of a b)
+quotient-word a b word =
+    let z = int_div (signed a) (signed b) in
+    either-word (b == 0) (2 ^ 32 - 1) (cast_unsigned w32 z) (omega arith)
+    (near-word z (omega (arith, quotient_size (signed a) (signed b), signed_size a word)))
+
+quotient_unsigned-word : (a b : ℕ) → IsWord a → IsWord (quotient_unsigned a b)
+quotient_unsigned-word a b word =
+    either-word (b == 0) (2 ^ 32 - 1) (a / b) (omega arith) (omega (arith, div-le_self a b))
+
+remainder-word : (a b : ℕ) → IsWord a → IsWord (remainder_of a b)
+remainder-word a b word =
+    let z = int_rem (signed a) (signed b) in
+    either-word (b == 0) a (cast_unsigned w32 z) word
+    (near-word z (omega (arith, remainder_size (signed a) (signed b), signed_size a word)))
+
+remainder_unsigned-word : (a b : ℕ) → IsWord a → IsWord (remainder_unsigned a b)
+remainder_unsigned-word a b word = either-word (b == 0) a (a % b) word (omega (arith, mod-le a b))
+
 pub extended-word : (imm : ℕ) → IsSignExtended 12 imm → IsWord imm
 extended-word imm extended = grind (arith, nat_tests, extended)
 
@@ -91,6 +161,14 @@ operation-word operation.ShiftRightLogical a b word other = right-word a b word
 operation-word operation.ShiftRightArithmetic a b word other = signed_right-word a b word
 operation-word operation.Or a b word other = or-word a b word other
 operation-word operation.And a b word other = and-word a b word
+operation-word operation.Multiply a b word other = product-word a b
+operation-word operation.MultiplyHigh a b word other = high-word a b word other
+operation-word operation.MultiplyHighSignedUnsigned a b word other = high_mixed-word a b word other
+operation-word operation.MultiplyHighUnsigned a b word other = high_unsigned-word a b word other
+operation-word operation.Divide a b word other = quotient-word a b word
+operation-word operation.DivideUnsigned a b word other = quotient_unsigned-word a b word
+operation-word operation.Remainder a b word other = remainder-word a b word
+operation-word operation.RemainderUnsigned a b word other = remainder_unsigned-word a b word
 
 -- registers
 

@@ -1,14 +1,16 @@
-//! What a round leaves can be spelled as the bytes of a memo: a law over the definitions of rounds and of
-//! the spelling. No code.
+//! What a round leaves can be spelled as the bytes of a memo, and the memo of an honest history is read again:
+//! laws over the definitions of rounds, of histories and of the spelling. No code.
 #![tactic(auto)]
 
-ghost use Rattle.std.specs.Prelude.{◌≡◌, List, Option, Some, true, is_some};
+ghost use Rattle.std.specs.Prelude.{◌≡◌, List, Option, Some, true, false, is_some, Ok};
 ghost use Rattle.machine_spec.specs.Setup.{Setup};
-ghost use Rattle.history_spec.specs.History.{History, IsSameProgram};
+ghost use Rattle.history_spec.specs.History.{History, IsHonest, IsSameProgram};
 ghost use Rattle.round_spec.specs.declared.events.Event.{Event};
 ghost use Rattle.round_spec.specs.Rounds.{round_after, history_of};
 ghost use Rattle.round_spec.specs.Alone.{lone_round};
-ghost use Rattle.memo_spec.specs.Spelling.{IsSpellable};
+ghost use Rattle.memo_spec.specs.Spelling.{IsSpellable, memo};
+ghost use Rattle.memo_spec.specs.Reading.{reading};
+ghost use Rattle.memo_spec.specs.Old.{is_old};
 ghost use Rattle.round_memo_spec.specs.Spelled.{IsSpelledPast, IsSpelledStart};
 
 /// What a round leaves whose machine has an end can be spelled, whatever happened to it, where its setup may be
@@ -32,4 +34,12 @@ pub fn what_a_round_leaves_can_be_spelled()
         → IsSpelledStart past setup
         → IsSameProgram setup edited
         → IsSpelledPast (Some (history_of (lone_round setup past))) edited }
+{}
+
+/// An honest history doesn't come from before the standard extension M: where its last thunk ended by an
+/// illegal instruction, its record tells no word of M there. So its memo isn't refused as an old one, and
+/// is read as the history that it spells.
+pub fn honest_memo_is_of_today()
+    ensures todays { (h : History) → IsHonest h → is_old h ≡ false }
+    ensures read { (h : History) → IsHonest h → IsSpellable h → reading (memo h) ≡ Ok h }
 {}

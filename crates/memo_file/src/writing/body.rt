@@ -9,15 +9,10 @@ ghost use Rattle.memo_file.specs.WritingPool.{pages_lent, IsPoolOf};
 use super::numbers::put_word;
 use super::pool::Pool;
 use super::record::write_record;
+use crate::opening::{MAGIC, VERSION};
 use page_map::PageMap;
 use release_core::{History, Setup};
 use std::alloc::AllocError;
-
-/// The first four bytes of a memo: ITHM.
-const MAGIC: [u8; 4] = [0x49, 0x54, 0x48, 0x4d];
-
-/// The version of the format.
-const VERSION: u32 = 1;
 
 /// Appends bytes behind their number.
 fn write_sized(out: &mut Vec<u8>, bytes: &[u8]) -> Result<(), AllocError>

@@ -30,29 +30,12 @@ fn write_registers(out: &mut Vec<u8>, regs: &Regs) -> Result<(), AllocError>
     Ok(())
 }
 
-/// The number of a cause (RISC-V privileged ISA 20211203, 3.1.15; 8 is this project's own).
-fn cause_number(cause: Cause) -> u8
-    ensures { result ≡ number_of cause }
-{
-    match cause {
-        Cause::InstructionMisaligned => 0,
-        Cause::InstructionAccess => 1,
-        Cause::IllegalInstruction => 2,
-        Cause::Breakpoint => 3,
-        Cause::LoadMisaligned => 4,
-        Cause::LoadAccess => 5,
-        Cause::StoreMisaligned => 6,
-        Cause::StoreAccess => 7,
-        Cause::BadCall => 8,
-    }
-}
-
 /// The number of an end.
 fn end_byte(end: ThunkEnd) -> u8
     ensures { result ≡ end_number end }
 {
     match end {
-        ThunkEnd::Trap(cause) => cause_number(cause),
+        ThunkEnd::Trap(cause) => cause.number(),
         ThunkEnd::Call => 8,
         ThunkEnd::Fuel => 9,
     }

@@ -1,30 +1,14 @@
 //! How many bytes a memo has, before any is written.
 
-ghost use Rattle.std.specs.Prelude.{◌≡◌, ◌<◌, ◌≤◌, ◌+◌, ◌*◌, ◌^◌, length, drop, sum_by};
+ghost use Rattle.std.specs.Prelude.{◌≡◌, ◌<◌, ◌≤◌, ◌+◌, ◌*◌, ◌^◌, length, sum_by};
 ghost use Rattle.memo_spec.specs.Spelling.{IsSpellable};
 ghost use Rattle.memo_file.specs.WritingMasks.{marks_in};
 ghost use Rattle.memo_file.specs.WritingSizes.{stored_size, record_size, memo_size, HasFewPages};
 
-use super::stored::mark_bit;
 use page_store::PAGE_SIZE;
 use release_core::History;
-use store_mask::{Mask, PageDelta};
+use store_mask::{MASK_WORDS, Mask, PageDelta};
 use thunk_record::Record;
-
-/// How many of eight places are marked.
-#[inline(always)]
-fn eight_count(mask: &Mask, place: usize) -> usize
-    requires { place + 8 ≤ PAGE_SIZE }
-    ensures count { result + marks_in (drop (place + 8) mask.now) ≡ marks_in (drop place mask.now) }
-    ensures most { result ≤ 8 }
-{
-    mask.whole();
-    let first = mark_bit(mask, place) + mark_bit(mask, place + 1);
-    let second = mark_bit(mask, place + 2) + mark_bit(mask, place + 3);
-    let third = mark_bit(mask, place + 4) + mark_bit(mask, place + 5);
-    let fourth = mark_bit(mask, place + 6) + mark_bit(mask, place + 7);
-    usize::from(first + second + third + fourth)
-}
 
 /// How many places are marked.
 fn marked_count(mask: &Mask) -> usize
@@ -33,14 +17,8 @@ fn marked_count(mask: &Mask) -> usize
 {
     mask.whole();
     let mut count = 0;
-    let mut place = 0;
-    while place < PAGE_SIZE {
-        if mask.begins_blank_word(place) {
-            place += 64;
-        } else {
-            count += eight_count(mask, place);
-            place += 8;
-        }
+    for number in 0..MASK_WORDS {
+        count += mask.word(number).count_ones() as usize;
     }
     count
 }

@@ -1,93 +1,59 @@
 //! The stored pages of a record.
 
-ghost use Rattle.std.specs.Prelude.{◌≡◌, ◌<◌, ◌≤◌, ◌+◌, ◌++◌, false, length, drop, slice_index_or, OnOk};
-ghost use Rattle.std.specs.List.{flat_map};
+ghost use Rattle.std.specs.Prelude.{◌≡◌, ◌<◌, ◌+◌, ◌*◌, ◌++◌, length, drop, OnOk};
 ghost use Rattle.record_spec.specs.Delta.{chosen};
-ghost use Rattle.memo_spec.specs.Spelling.{bit, stored_page as stored_page_bytes, mask as mask_bytes};
-ghost use Rattle.memo_file.specs.WritingMasks.{mask_byte};
+ghost use Rattle.memo_spec.specs.Spelling.{stored_page as stored_page_bytes, mask as mask_bytes};
 
 use super::numbers::put_word;
 use page_map::PageMap;
 use page_store::PAGE_SIZE;
 use std::alloc::AllocError;
-use store_mask::{Mask, PageDelta};
+use store_mask::{MASK_WORDS, Mask, PageDelta};
 
-/// Whether a place is marked, as a number.
-#[inline(always)]
-pub fn mark_bit(mask: &Mask, place: usize) -> u8
-    requires { place < PAGE_SIZE }
-    ensures { result ≡ bit (slice_index_or mask.now place false) }
-{
-    if mask.get(place) { 1 } else { 0 }
-}
-
-/// The marks of eight places from one on, the first one lowest.
-#[inline(always)]
-fn eight_marks(mask: &Mask, place: usize) -> u8
-    requires { place + 8 ≤ PAGE_SIZE }
-    ensures { result ≡ mask_byte mask.now place }
-{
-    mark_bit(mask, place)
-        + 2 * mark_bit(mask, place + 1)
-        + 4 * mark_bit(mask, place + 2)
-        + 8 * mark_bit(mask, place + 3)
-        + 16 * mark_bit(mask, place + 4)
-        + 32 * mark_bit(mask, place + 5)
-        + 64 * mark_bit(mask, place + 6)
-        + 128 * mark_bit(mask, place + 7)
-}
-
-/// Appends the 512 bytes of a mask. Words without a mark, which are most, are zero.
+/// Appends the 512 bytes of a mask.
 fn write_mask(out: &mut Vec<u8>, mask: &Mask) -> Result<(), AllocError>
     ensures { OnOk result (out.new.items ≡ out.old.items ++ mask_bytes mask.now) }
 {
     mask.whole();
-    let mut place = 0;
-    while place < PAGE_SIZE {
-        if mask.begins_blank_word(place) {
-            out.extend_from_slice(&[0; 8])?;
-            place += 64;
-        } else {
-            out.push(eight_marks(mask, place))?;
-            place += 8;
-        }
+    for number in 0..MASK_WORDS {
+        out.extend_from_slice(&mask.word(number).to_le_bytes())?;
     }
     Ok(())
 }
 
-/// Appends the bytes of a page at the marked ones of eight places. Mostly none of these is marked.
-fn write_eight(out: &mut Vec<u8>, mask: &Mask, page: &[u8], start: usize) -> Result<(), AllocError>
+/// Appends the bytes of a page at the marked places of a word. A word of marks alone is as common as one of few.
+fn write_word(out: &mut Vec<u8>, mask: &Mask, page: &[u8], number: usize) -> Result<(), AllocError>
     requires whole { length page.now ≡ PAGE_SIZE }
-    requires within { start + 8 ≤ PAGE_SIZE }
-    ensures { OnOk result (out.new.items ++ chosen (drop (start + 8) mask.now) (drop (start + 8) page.now)
-        ≡ out.old.items ++ chosen (drop start mask.now) (drop start page.now)) }
+    requires within { number < 64 }
+    ensures { OnOk result
+        (out.new.items ++ chosen (drop (64 * (number + 1)) mask.now) (drop (64 * (number + 1)) page.now)
+        ≡ out.old.items ++ chosen (drop (64 * number) mask.now) (drop (64 * number) page.now)) }
 {
     mask.whole();
-    if eight_marks(mask, start) == 0 {
+    let mut place = 64 * number;
+    let mut left = mask.word(number);
+    if left == u64::MAX {
+        out.extend_from_slice(&page[place..place + 64])?;
         return Ok(());
     }
-    for place in start..start + 8 {
-        if mask.get(place) {
-            out.push(page[place])?;
-        }
+    while left != 0 {
+        let skipped = left.trailing_zeros();
+        place += skipped as usize;
+        out.push(page[place])?;
+        place += 1;
+        left = left >> skipped >> 1;
     }
     Ok(())
 }
 
-/// Appends the bytes of a page at the marked places. Words without a mark, which are most, are passed over whole.
+/// Appends the bytes of a page at the marked places.
 fn write_marked(out: &mut Vec<u8>, mask: &Mask, page: &[u8]) -> Result<(), AllocError>
     requires { length page.now ≡ PAGE_SIZE }
     ensures { OnOk result (out.new.items ≡ out.old.items ++ chosen mask.now page.now) }
 {
     mask.whole();
-    let mut place = 0;
-    while place < PAGE_SIZE {
-        if mask.begins_blank_word(place) {
-            place += 64;
-        } else {
-            write_eight(out, mask, page, place)?;
-            place += 8;
-        }
+    for number in 0..MASK_WORDS {
+        write_word(out, mask, page, number)?;
     }
     Ok(())
 }

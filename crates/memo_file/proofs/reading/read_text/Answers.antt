@@ -1,7 +1,7 @@
 -- Answers to the goals that the check leaves of `read_text`.
 use Rattle.std.proofs.Common.{◌≡◌, ◌≢◌, length, sym, ◌∙◌, arith}
 use Rattle.std.proofs.lemmas.Result.{err_from_is_err_and}
-use Rattle.memo_file.proofs.Ending.{history_fails, bytes_left, none_left, coherence_fails, are_bytes}
+use Rattle.memo_file.proofs.Ending.{history_fails, bytes_left, none_left, judge_fails, are_bytes}
 use Rattle.memo_file.proofs.reading.read_text.Goals as goal
 
 pub read_history-requires : goal.read_history-requires
@@ -23,19 +23,16 @@ returns-then-remaining-ne0 c =
     rw at (bytes_left c.args.text.now c.in_ok-history.history c.read_history.new.cursor
     (rw c.behind_opening-cursor.ensures at c.in_ok-history.ensures.given) ne)
 
-pub returns-in_err-hold_together : goal.returns-in_err-hold_together
-returns-in_err-hold_together c =
-    let p = err_from_is_err_and c.from_residual-in_err-hold_together.result
-    c.from_residual-in_err-hold_together.ensures.1 in
+pub returns-in_err-judge : goal.returns-in_err-judge
+returns-in_err-judge c =
+    let p = err_from_is_err_and c.from_residual-in_err-judge.result c.from_residual-in_err-judge.ensures.1 in
     let none : length c.read_history.new.cursor.left ≡ 0 = sym c.remaining.ensures ∙ c.if-remaining-ne0.false in
-    rw (p.1, p.2) (coherence_fails c.in_err-hold_together.field-0.0 c.args.text.now _
-    (none_left c.args.text.now c.in_ok-history.history c.read_history.new.cursor c.in_ok-history.core
-    (rw c.behind_opening-cursor.ensures at c.in_ok-history.ensures.given) none c.in_ok-history.ensures.core)
-    c.in_err-hold_together.ensures)
+    rw (p.1, p.2) (judge_fails c.in_err-judge.field-0.0 c.args.text.now _
+    (none_left c.args.text.now c.in_ok-history.history c.read_history.new.cursor
+    (rw c.behind_opening-cursor.ensures at c.in_ok-history.ensures.given) none) c.in_err-judge.ensures)
 
 pub returns : goal.returns
 returns c =
     let none : length c.read_history.new.cursor.left ≡ 0 = sym c.remaining.ensures ∙ c.if-remaining-ne0.false in
-    none_left c.args.text.now c.in_ok-history.history c.read_history.new.cursor c.in_ok-history.core
-    (rw c.behind_opening-cursor.ensures at c.in_ok-history.ensures.given) none c.in_ok-history.ensures.core
-    ∙ c.in_ok-hold_together.ensures
+    none_left c.args.text.now c.in_ok-history.history c.read_history.new.cursor
+    (rw c.behind_opening-cursor.ensures at c.in_ok-history.ensures.given) none ∙ c.in_ok-judge.ensures

@@ -1,0 +1,7 @@
+-- The pages that are left tell what all do.
+use Rattle.std.proofs.Common.{◌≡◌, drop}
+use Rattle.memo_spec.specs.Old.{stored_byte}
+use Rattle.memo_file.proofs.age.stored_byte.Given as goal
+
+abbrev pub invariant-loop-page : goal.invariant-loop-page
+invariant-loop-page l = stored_byte (drop l.page-index l.pages) l.slot l.offset ≡ stored_byte l.pages l.slot l.offset

@@ -1,0 +1,172 @@
+//! Whether a memo is from before the standard extension M.
+
+ghost use Rattle.std.specs.Prelude.{◌≡◌, ◌<◌, ◌+◌, ◌^◌, true, false, length, take, slice_get, slice_index_or, None, Some, All, IfOk, IfErr, if◌then◌else◌};
+ghost use Rattle.std.specs.List.{count_by};
+ghost use Rattle.memory_spec.specs.Pages.{slot_of};
+ghost use Rattle.machine_spec.specs.Setup.{map_of};
+ghost use Rattle.memo_spec.specs.Old.{is_of_m, stored_byte, read_byte, told_byte, whole_word, told_word, is_old_record, is_old, last_number};
+ghost use Rattle.memo_spec.specs.declared.Refusal.TheVariants.{Old};
+ghost use Rattle.memo_file.specs.declared.error.ReadError.TheVariants.{Refused};
+
+use crate::error::ReadError;
+use isa_spec::Cause;
+use memo_spec::Refusal;
+use memory_spec::PAGE_SIZE;
+use page_map::PageMap;
+use release_core::History;
+use store_mask::{PageDelta, ReadPage};
+use thunk_record::Record;
+use thunk_spec::ThunkEnd;
+
+/// Whether a word is an instruction of M (RISC-V unprivileged ISA 20191213, chapter 24, RV32M Standard Extension).
+fn is_of_m(word: u32) -> bool
+    ensures { result ≡ is_of_m word }
+{
+    word % 128 == 0b0110011 && word / 0x200_0000 == 0b0000001
+}
+
+/// The byte that was stored at a place of a page, if one was.
+fn stored_in(page: &PageDelta, offset: usize) -> Option<u8>
+    requires { offset < PAGE_SIZE }
+    ensures { result ≡ (if slice_index_or page.now.mask offset false
+        then slice_get page.now.bytes (count_by (λ mark. mark) (take offset page.now.mask)) else None) }
+{
+    let stored = page.stored();
+    stored.mask.whole();
+    let bytes = stored.page.bytes();
+    if stored.mask.get(offset) {
+        Some(bytes[offset])
+    } else {
+        None
+    }
+}
+
+/// The byte that was stored at a place of the page in a slot, if one was.
+fn stored_byte(pages: &[PageDelta], slot: usize, offset: usize) -> Option<u8>
+    requires { offset < PAGE_SIZE }
+    ensures { result ≡ stored_byte pages.now slot offset }
+{
+    for page in pages {
+        if page.slot() == slot {
+            return stored_in(page, offset);
+        }
+    }
+    None
+}
+
+/// The byte at a place of a page that was read.
+#[tactic(auto, using(std::proofs::lemmas::Option::gets))]
+fn read_in(page: &ReadPage, offset: usize) -> Option<u8>
+    requires { offset < PAGE_SIZE }
+    ensures { result ≡ slice_get page.now.bytes offset }
+{
+    let bytes = page.page().bytes();
+    Some(bytes[offset])
+}
+
+/// The byte at a place of the page in a slot, if that page was read.
+fn read_byte(pages: &[ReadPage], slot: usize, offset: usize) -> Option<u8>
+    requires { offset < PAGE_SIZE }
+    ensures { result ≡ read_byte pages.now slot offset }
+{
+    for page in pages {
+        if page.slot() == slot {
+            return read_in(page, offset);
+        }
+    }
+    None
+}
+
+/// The slot of an address, or how many pages there are where none has it, as behind the last address.
+fn slot_or_end(slots: &PageMap, address: u64) -> usize
+    requires { All (λ m. m.number < 2 ^ 20) slots.now }
+    ensures { result ≡ slot_of slots.now address }
+{
+    match u32::try_from(address) {
+        Ok(address) => match slots.slot_of(address) {
+            Some(slot) => slot,
+            None => slots.len(),
+        },
+        Err(_) => slots.len(),
+    }
+}
+
+/// The byte that a record tells of an address, as its thunk left it: one that was stored, or else one that was read.
+fn told_byte(slots: &PageMap, rec: &Record, address: u64) -> Option<u8>
+    requires { All (λ m. m.number < 2 ^ 20) slots.now }
+    ensures { result ≡ told_byte slots.now rec.now.kept address }
+{
+    let slot = slot_or_end(slots, address);
+    let offset = (address % PAGE_SIZE as u64) as usize;
+    match stored_byte(rec.delta().pages(), slot, offset) {
+        Some(byte) => Some(byte),
+        None => read_byte(rec.reads().pages(), slot, offset),
+    }
+}
+
+/// The word of four bytes, the lowest first, where all are there.
+fn whole_word(a: Option<u8>, b: Option<u8>, c: Option<u8>, d: Option<u8>) -> Option<u32>
+    ensures { result ≡ whole_word a b c d }
+{
+    match (a, b, c, d) {
+        (Some(a), Some(b), Some(c), Some(d)) => Some(
+            u32::from(a)
+                + u32::from(b) * 0x100
+                + u32::from(c) * 0x1_0000
+                + u32::from(d) * 0x100_0000,
+        ),
+        _ => None,
+    }
+}
+
+/// The word that a record tells of an address, where it tells each of its bytes.
+fn told_word(slots: &PageMap, rec: &Record, address: u32) -> Option<u32>
+    requires { All (λ m. m.number < 2 ^ 20) slots.now }
+    ensures { result ≡ told_word slots.now rec.now.kept address }
+{
+    let first = u64::from(address);
+    whole_word(
+        told_byte(slots, rec, first),
+        told_byte(slots, rec, first + 1),
+        told_byte(slots, rec, first + 2),
+        told_byte(slots, rec, first + 3),
+    )
+}
+
+/// Whether a record ended by an illegal instruction where it tells one of M.
+fn is_old_record(slots: &PageMap, rec: &Record) -> bool
+    requires { All (λ m. m.number < 2 ^ 20) slots.now }
+    ensures { result ≡ is_old_record slots.now rec.now }
+{
+    match rec.end() {
+        ThunkEnd::Trap(Cause::IllegalInstruction) => match told_word(
+            slots,
+            rec,
+            rec.finish().pc(),
+        ) {
+            Some(word) => is_of_m(word),
+            None => false,
+        },
+        _ => false,
+    }
+}
+
+/// Refuses a history whose last record ended by an illegal instruction that is one of M today. Takes no memory.
+pub fn refuse_old(slots: &PageMap, history: &History) -> Result<(), ReadError>
+    requires { slots.now ≡ map_of history.now.setup }
+    ensures today { IfOk result (λ _. is_old history.now ≡ false) }
+    ensures before { IfErr result (λ e. (is_old history.now ≡ true) × (e ≡ Refused (Old (last_number history.now)))) }
+{
+    history.setup().sound();
+    let records = history.records();
+    records.keeps();
+    let count = records.len();
+    if count == 0 {
+        return Ok(());
+    }
+    if is_old_record(slots, records.at(count - 1)) {
+        Err(ReadError::Refused(Refusal::Old((count - 1) as u32)))
+    } else {
+        Ok(())
+    }
+}

@@ -1,0 +1,86 @@
+-- Memos from before the standard extension M: their last record may have ended by an illegal instruction that is one of
+-- M now.
+use Rattle.std.specs.Prelude.{ℕ, ◌+◌, ◌*◌, ◌-◌, ◌%◌, ◌^◌, ◌==◌, Bool, true, false, ◌&&◌, if◌then◌else◌, List, [], ◌∷◌, length, take, slice_get, slice_index_or, Option, Some, None}
+use Rattle.std.specs.List.{count_by}
+use Rattle.isa_spec.specs.declared.Cause.TheVariants.{IllegalInstruction}
+use Rattle.isa_spec.specs.Fields.{opcode_of, funct7_of}
+use Rattle.memory_spec.specs.Pages.{Mapped, slot_of}
+use Rattle.memory_spec.specs.declared.TheConstants.{PAGE_SIZE}
+use Rattle.thunk_spec.specs.declared.ends.ThunkEnd.{ThunkEnd}
+use Rattle.thunk_spec.specs.declared.ends.ThunkEnd.TheVariants.{Trap}
+use Rattle.record_spec.specs.Delta.{PageDelta}
+use Rattle.record_spec.specs.Reads.{ReadPage}
+use Rattle.record_spec.specs.Record.{Kept, Record}
+use Rattle.machine_spec.specs.Setup.{map_of}
+use Rattle.history_spec.specs.History.{History}
+
+-- Whether a word is an instruction of M, which has all of its opcode and funct7 (RISC-V unprivileged ISA 20191213,
+-- chapter 24, RV32M Standard Extension).
+abbrev pub is_of_m : ℕ → Bool
+is_of_m w = opcode_of w == 0b0110011 && funct7_of w == 0b0000001
+
+-- The byte that was stored at a place of a page, if one was.
+abbrev pub stored_byte : List PageDelta → ℕ → ℕ → Option ℕ
+stored_byte [] slot offset = None
+stored_byte (d ∷ delta) slot offset =
+    if d.slot == slot
+    then (if slice_index_or d.mask offset false
+    then slice_get d.bytes (count_by (λ mark. mark) (take offset d.mask))
+    else None)
+    else stored_byte delta slot offset
+
+-- The byte at a place of a page that was read, if it was.
+abbrev pub read_byte : List ReadPage → ℕ → ℕ → Option ℕ
+read_byte [] slot offset = None
+read_byte (p ∷ reads) slot offset = if p.slot == slot then slice_get p.bytes offset else read_byte reads slot offset
+
+-- The first of two that is there.
+abbrev pub first_there : Option ℕ → Option ℕ → Option ℕ
+first_there (Some a) other = Some a
+first_there None other = other
+
+-- The byte that a record tells of an address, as its thunk left it: one that was stored, or else one that was read.
+abbrev pub told_byte : List Mapped → Kept → ℕ → Option ℕ
+told_byte map kept address =
+    first_there
+    (stored_byte kept.delta (slot_of map address) (address % PAGE_SIZE))
+    (read_byte kept.reads (slot_of map address) (address % PAGE_SIZE))
+
+-- The word of four bytes, the lowest first, where all are there.
+abbrev pub whole_word : Option ℕ → Option ℕ → Option ℕ → Option ℕ → Option ℕ
+whole_word (Some a) (Some b) (Some c) (Some d) = Some (a + b * 2 ^ 8 + c * 2 ^ 16 + d * 2 ^ 24)
+whole_word _ _ _ _ = None
+
+-- The word that a record tells of an address, where it tells each of its bytes.
+abbrev pub told_word : List Mapped → Kept → ℕ → Option ℕ
+told_word map kept address =
+    whole_word (told_byte map kept address) (told_byte map kept (address + 1)) (told_byte map kept (address + 2))
+    (told_byte map kept (address + 3))
+
+-- Whether an end is that by an illegal instruction.
+abbrev pub is_illegal : ThunkEnd → Bool
+is_illegal (Trap IllegalInstruction) = true
+is_illegal _ = false
+
+-- Whether a word is there, and is an instruction of M.
+abbrev pub tells_m : Option ℕ → Bool
+tells_m None = false
+tells_m (Some w) = is_of_m w
+
+-- Whether a record ended by an illegal instruction where it tells one of M.
+abbrev pub is_old_record : List Mapped → Record → Bool
+is_old_record map r = is_illegal r.kept.end && tells_m (told_word map r.kept r.kept.finish.pc)
+
+-- Whether the last of some records is such a one.
+abbrev pub ends_old : List Mapped → List Record → Bool
+ends_old map [] = false
+ends_old map (r ∷ []) = is_old_record map r
+ends_old map (r ∷ q ∷ rs) = ends_old map (q ∷ rs)
+
+-- Whether a history comes from before M: its last record ended by an illegal instruction that is one of M now.
+unfoldable pub is_old : History → Bool
+is_old h = ends_old (map_of h.setup) h.records
+
+-- The number of a history's last record.
+abbrev pub last_number : History → ℕ
+last_number h = length h.records - 1
