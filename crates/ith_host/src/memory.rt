@@ -38,7 +38,7 @@ impl MemHost {
         failing: Vec<u64>,
         part: u64,
     ) -> Self
-        ensures { memory_world result ≡ record {
+        ensures world { memory_world result ≡ record {
           tells = true;
           files = files_of files;
           printed = Some [];
@@ -47,6 +47,10 @@ impl MemHost {
           write_faults = λ _. 0;
           print_faults = 0;
         } }
+        ensures failing { result.failing ≡ failing }
+        ensures part { result.part ≡ part }
+        ensures calls { result.calls ≡ 0 }
+        ensures complained { result.complained.items ≡ [] }
     {
         MemHost {
             alloc,
@@ -81,7 +85,9 @@ impl MemHost {
     }
 
     /// The lines that were complained of, each with a newline.
-    pub fn complained(&self) -> &[u8] {
+    pub fn complained(&self) -> &[u8]
+        ensures { result.now ≡ self.now.complained.items }
+    {
         self.complained.as_slice()
     }
 
@@ -120,6 +126,12 @@ impl Host for MemHost {
         ensures unlisted { result ≡ Got.Failed
             → (fails_next self.old ≡ true) ⊎ ((memory_world self.old).files name.now ≡ None) }
         ensures numbered { IsNumbered self.old self.new }
+        ensures quiet { result ≢ Got.Failed → self.new.read_faults ≡ self.old.read_faults }
+        ensures rest { self.new ≡ record self.old {
+          calls = self.new.calls;
+          asked = self.new.asked;
+          read_faults = self.new.read_faults;
+        } }
         ensures content { result ≡ Got.Ok → IsContent (memory_world self.old) name.now into.new.items }
         ensures within { result ≡ Got.Ok → length into.new.items ≤ limit }
         ensures failed { result ≡ Got.Failed
@@ -146,6 +158,12 @@ impl Host for MemHost {
         ensures listed { fails_next self.old ≡ true → result ≡ Put.Failed }
         ensures unlisted { result ≡ Put.Failed → fails_next self.old ≡ true }
         ensures numbered { IsNumbered self.old self.new }
+        ensures quiet { result ≢ Put.Failed → self.new.write_faults ≡ self.old.write_faults }
+        ensures rest { self.new ≡ record self.old {
+          calls = self.new.calls;
+          files = self.new.files;
+          write_faults = self.new.write_faults;
+        } }
         ensures written { result ≡ Put.Ok → Holds (memory_world self.new) name.now bytes.now }
         ensures failed { result ≡ Put.Failed
             → Rose ((memory_world self.old).write_faults name.now) ((memory_world self.new).write_faults name.now) }
@@ -180,6 +198,12 @@ impl Host for MemHost {
         ensures went_out { result ≡ Printed.Failed
             → self.new.printed.items ≡ self.old.printed.items ++ take self.old.part bytes.now }
         ensures numbered { IsNumbered self.old self.new }
+        ensures quiet { result ≢ Printed.Failed → self.new.print_faults ≡ self.old.print_faults }
+        ensures rest { self.new ≡ record self.old {
+          calls = self.new.calls;
+          printed = self.new.printed;
+          print_faults = self.new.print_faults;
+        } }
         ensures printed { result ≡ Printed.Ok
             → Appends (memory_world self.old).printed (memory_world self.new).printed bytes.now }
         ensures failed { result ≡ Printed.Failed
@@ -208,7 +232,16 @@ impl Host for MemHost {
         Printed::Ok
     }
 
-    fn complain(&mut self, line: &[u8]) {
+    /// The line and a newline are kept, as far as there is memory for them.
+    fn complain(&mut self, line: &[u8])
+        ensures kept { (self.new.complained.items ≡ self.old.complained.items)
+            ⊎ ((self.new.complained.items ≡ self.old.complained.items ++ line.now)
+            ⊎ (self.new.complained.items ≡ self.old.complained.items ++ line.now ++ 10 ∷ [])) }
+        ensures rest { self.new ≡ record self.old { complained = self.new.complained } }
+        ensures stays { Stays (memory_world self.old) (memory_world self.new) }
+        ensures asked { AsksNothing (memory_world self.old) (memory_world self.new) }
+        ensures counts { NoneFell (memory_world self.old) (memory_world self.new) }
+    {
         if self.complained.extend_from_slice(line).is_ok() {
             let _ = self.complained.push(b'\n');
         }

@@ -91,39 +91,51 @@ fn a_host_in_memory_works(rt: HostRuntime) -> Result<(), Fail> {
     Ok(())
 }
 
+/// Whether of a read, a write and a print the one of this number fails, and the others do what they say.
+fn fails_alone(alloc: Global, number: u64) -> Result<bool, AllocError> {
+    let mut host = host_with(alloc, &[number], 2)?;
+    let mut bytes = Vec::new(alloc);
+    let mut absent = Vec::new(alloc);
+    let (reads, writes, prints) = (number != 0, number != 1, number != 2);
+    let read = host.read("a", 100, &mut bytes) == if reads { Got::Ok } else { Got::Failed };
+    let written = host.write("a", b"two") == if writes { Put::Ok } else { Put::Failed };
+    let there = host.file("a").is_some() == writes;
+    let printed = host.print(b"xyz") == if prints { Printed::Ok } else { Printed::Failed };
+    Ok(
+        read && bytes.len() == if reads { 3 } else { 0 }
+            && written
+            && there
+            && printed
+            && host.printed().len() == if prints { 3 } else { 2 }
+            && host.read("b", 100, &mut absent) == Got::Failed,
+    )
+}
+
 #[test]
 fn each_call_that_is_named_fails(rt: HostRuntime) -> Result<(), Fail> {
-    let alloc = rt.alloc();
     for number in 0..4u64 {
-        let mut host = host_with(alloc, &[number], 2)?;
-        let mut bytes = Vec::new(alloc);
-        let read = host.read("a", 100, &mut bytes);
-        assert_eq!(rt; read, if number == 0 { Got::Failed } else { Got::Ok });
-        assert_eq!(rt; bytes.len(), if number == 0 { 0 } else { 3 });
-        let written = host.write("a", b"two");
-        assert_eq!(rt; written, if number == 1 { Put::Failed } else { Put::Ok });
-        assert_eq!(rt; host.file("a").is_none(), number == 1);
-        let printed = host.print(b"xyz");
-        assert_eq!(rt;
-            printed,
-            if number == 2 {
-                Printed::Failed
-            } else {
-                Printed::Ok
-            }
-        );
-        assert_eq!(rt; host.printed().len(), if number == 2 { 2 } else { 3 });
-        let mut absent = Vec::new(alloc);
-        assert_eq!(rt; host.read("b", 100, &mut absent), Got::Failed);
+        assert!(rt; fails_alone(rt.alloc(), number)?, "at {number}");
     }
     Ok(())
 }
 
+/// The bytes of each transfer.
+const SEVEN: &[u8] = b"sevenby";
+
+/// Whether a source is read with this answer: all of it or nothing is kept, and a failure is counted.
+fn is_read(alloc: Global, inner: Source<'_>, limit: u64, want: Got) -> bool {
+    let mut source = Watched::new(inner, 5);
+    let mut bytes = Vec::new(alloc);
+    let got = read_to_limit(&mut source, limit, &mut bytes);
+    let kept = if want == Got::Ok { SEVEN } else { b"" };
+    let faults = if want == Got::Failed { 6 } else { 5 };
+    got == want && bytes.as_slice() == kept && source.faults() == faults
+}
+
 #[test]
-fn a_transfer_goes_on_to_the_end(rt: HostRuntime) -> Result<(), Fail> {
-    let alloc = rt.alloc();
+fn a_source_is_read_to_its_end(rt: HostRuntime) {
     let never = usize::MAX;
-    let rows = [
+    for (step, fails_at, limit, want) in [
         (1, never, 7, Got::Ok),
         (3, never, 7, Got::Ok),
         (100, never, 7, Got::Ok),
@@ -131,26 +143,30 @@ fn a_transfer_goes_on_to_the_end(rt: HostRuntime) -> Result<(), Fail> {
         (100, never, 0, Got::TooLong),
         (2, 3, 7, Got::Failed),
         (2, 7, 7, Got::Failed),
-    ];
-    for (step, fails_at, limit, want) in rows {
+    ] {
         let inner = Source {
-            left: b"sevenby",
+            left: SEVEN,
             step,
             fails_at,
         };
-        let mut source = Watched::new(inner, 5);
-        let mut bytes = Vec::new(alloc);
-        assert_eq!(rt; read_to_limit(&mut source, limit, &mut bytes), want);
-        assert_eq!(rt;
-            bytes.as_slice(),
-            if want == Got::Ok {
-                b"sevenby".as_slice()
-            } else {
-                b"".as_slice()
-            }
+        assert!(rt;
+            is_read(rt.alloc(), inner, limit, want),
+            "at {step} {fails_at} {limit}"
         );
-        assert_eq!(rt; source.faults(), if want == Got::Failed { 6 } else { 5 });
     }
+}
+
+/// Whether bytes are written into a sink with this answer: a failure is counted.
+fn is_written(inner: Sink, want: bool) -> bool {
+    let mut sink = Watched::new(inner, 5);
+    let written = write_to_end(&mut sink, SEVEN);
+    let faults = if want { 5 } else { 6 };
+    written == want && sink.faults() == faults
+}
+
+#[test]
+fn a_sink_takes_bytes_to_their_end(rt: HostRuntime) {
+    let never = usize::MAX;
     for (step, fails_at, want) in [
         (1, never, true),
         (3, never, true),
@@ -162,11 +178,8 @@ fn a_transfer_goes_on_to_the_end(rt: HostRuntime) -> Result<(), Fail> {
             step,
             fails_at,
         };
-        let mut sink = Watched::new(inner, 5);
-        assert_eq!(rt; write_to_end(&mut sink, b"sevenby"), want);
-        assert_eq!(rt; sink.faults(), if want { 5 } else { 6 });
+        assert!(rt; is_written(inner, want), "at {step} {fails_at}");
     }
-    Ok(())
 }
 
 #[test]

@@ -14,5 +14,9 @@ returns-then-is_err-clause-taken g c =
     let size : length c.read.new.piece ≤ c.room_for-room.result = search rules in
     let far : length before + c.room_for-room.result ≤ c.args.limit + 1 = search rules in
     let whole = length-append before piece in
-    let cut = length-take c.in-Ok.count c.read.new.piece in
-    (before ++ piece, Consumes-more (remaining c.args.source.now.inner) (remaining c.loop-count.source.inner) (remaining c.read.new.self.inner) before piece c.loop-count.invariant.1 gave, omega arith)
+    let cut = length-take c.in-Ok.count c.read.new.piece in (
+      before ++ piece,
+      Consumes-more (remaining c.args.source.now.inner) (remaining c.loop-count.source.inner)
+          (remaining c.read.new.self.inner) before piece c.loop-count.invariant.1 gave,
+      omega arith,
+    )

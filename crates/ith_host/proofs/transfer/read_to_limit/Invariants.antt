@@ -6,7 +6,8 @@ use Rattle.ith_host.proofs.transfer.read_to_limit.Given as goal
 -- what was taken so far is within the limit, and stands in the vector; there was no error
 abbrev pub invariant-loop-count : goal.invariant-loop-count
 invariant-loop-count g l =
-    (length l.into.items ≤ l.limit) × Consumes (g.S.Read.remaining l.fn.source.inner) (g.S.Read.remaining l.source.inner) l.into.items
+    (length l.into.items ≤ l.limit)
+    × Consumes (g.S.Read.remaining l.fn.source.inner) (g.S.Read.remaining l.source.inner) l.into.items
     × (l.source.faults ≡ l.fn.source.faults)
 
 abbrev pub decreases-loop-count : goal.decreases-loop-count

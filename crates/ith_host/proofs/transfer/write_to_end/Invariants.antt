@@ -6,7 +6,8 @@ use Rattle.ith_host.proofs.transfer.write_to_end.Given as goal
 -- the bytes that are done stand behind what the sink held; there was no error
 abbrev pub invariant-loop-done : goal.invariant-loop-done
 invariant-loop-done g l =
-    (l.done ≤ length l.bytes) × Appends (g.S.Write.contents l.fn.sink.inner) (g.S.Write.contents l.sink.inner) (take l.done l.bytes)
+    (l.done ≤ length l.bytes) × Appends (g.S.Write.contents l.fn.sink.inner) (g.S.Write.contents l.sink.inner)
+    (take l.done l.bytes)
     × (l.sink.faults ≡ l.fn.sink.faults)
 
 abbrev pub decreases-loop-done : goal.decreases-loop-done
