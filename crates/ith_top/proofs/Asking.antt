@@ -22,10 +22,12 @@ pub asked_both : (xs ys : List Text) (a b c : World) → AsksFor xs a b → Asks
 asked_both xs ys a b c one other = other ∙ ap (λ (l : List Text). l ++ ys) one ∙ append_assoc a.asked xs ys
 
 -- files were asked for, and then others
-pub files_both : (xs ys : List Named) (a b c : World) → AsksForFiles xs a b → AsksForFiles ys b c → AsksForFiles (xs ++ ys) a c
+pub files_both : (xs ys : List Named) (a b c : World) → AsksForFiles xs a b → AsksForFiles ys b c
+    → AsksForFiles (xs ++ ys) a c
 files_both xs ys a b c one other =
     let name = λ (f : Named). f.name in
-    subst (λ (names : List Text). AsksFor names a c) (sym (map-append name xs ys)) (asked_both (map name xs) (map name ys) a b c one other)
+    subst (λ (names : List Text). AsksFor names a c) (sym (map-append name xs ys))
+    (asked_both (map name xs) (map name ys) a b c one other)
 
 names-named : (names : List Text) → map (λ (f : Named). f.name) (lists_named names) ≡ names
 names-named [] = refl
@@ -36,11 +38,13 @@ pub lists_asked : (names : List Text) (a b : World) → AsksFor names a b → As
 lists_asked names a b asked = subst (λ (ns : List Text). AsksFor ns a b) (sym (names-named names)) asked
 
 -- a file is within a limit, where it holds what is
-pub within_told : (told : Option (List ℕ)) (bytes : List ℕ) (most : ℕ) → IfSome told (λ t. t ≡ bytes) → length bytes ≤ most → IfSome told (λ t. length t ≤ most)
+pub within_told : (told : Option (List ℕ)) (bytes : List ℕ) (most : ℕ) → IfSome told (λ t. t ≡ bytes)
+    → length bytes ≤ most → IfSome told (λ t. length t ≤ most)
 within_told None bytes most is within = tt
 within_told (Some t) bytes most is within = rw is within
 
-pub lists_within : (a : World) (names : List Text) (lists : List (List ℕ)) → AreLists a names lists → All (IsWithin a) (lists_named names)
+pub lists_within : (a : World) (names : List Text) (lists : List (List ℕ)) → AreLists a names lists
+    → All (IsWithin a) (lists_named names)
 lists_within a [] [] are = All-nil (IsWithin a)
 lists_within a [] (list ∷ lists) are = absurd are
 lists_within a (name ∷ names) [] are = absurd are
@@ -51,7 +55,8 @@ lists_within a (name ∷ names) (list ∷ lists) are =
 -- one file was asked for, and refused
 pub one_failed :
     (file : Named) (a b c : World)
-    → AsksForFiles (file ∷ []) a b → AsksNothing b c → NoneFell b c → FailedToRead a b file → WhyUnread (file ∷ []) a c status.ReadFault
+    → AsksForFiles (file ∷ []) a b → AsksNothing b c → NoneFell b c → FailedToRead a b file
+    → WhyUnread (file ∷ []) a c status.ReadFault
 one_failed file a b c asked none fell rose =
     record {
       earlier = [];
@@ -77,11 +82,13 @@ one_long file a b c asked none long =
       cause = long;
     }
 
-pub one_cut : (file : Named) (a b c : World) → AsksForFiles (file ∷ []) a b → AsksNothing b c → WhyUnread (file ∷ []) a c status.Memory
+pub one_cut : (file : Named) (a b c : World) → AsksForFiles (file ∷ []) a b → AsksNothing b c
+    → WhyUnread (file ∷ []) a c status.Memory
 one_cut file a b c asked none =
     record { first = file ∷ []; later = []; are = refl; asked = asked_then (file.name ∷ []) a b c asked none }
 
-stops_front : (cause : Named → Type 0) (files more : List Named) (a b : World) → StopsAt cause files a b → StopsAt cause (files ++ more) a b
+stops_front : (cause : Named → Type 0) (files more : List Named) (a b : World) → StopsAt cause files a b
+    → StopsAt cause (files ++ more) a b
 stops_front cause files more a b stops =
     record {
       earlier = stops.earlier;
@@ -94,7 +101,8 @@ stops_front cause files more a b stops =
     }
 
 -- what stopped among the first files stopped among all of them
-pub unread_front : (files more : List Named) (a b : World) (s : Status) → WhyUnread files a b s → WhyUnread (files ++ more) a b s
+pub unread_front : (files more : List Named) (a b : World) (s : Status) → WhyUnread files a b s
+    → WhyUnread (files ++ more) a b s
 unread_front files more a b status.Finished why = why
 unread_front files more a b status.Unfinished why = why
 unread_front files more a b status.Words why = why
@@ -122,7 +130,8 @@ stops_more cause other done files a b c gives stays asked within stops =
       earlier = done ++ stops.earlier;
       file = stops.file;
       later = stops.later;
-      are = ap (λ (l : List Named). done ++ l) stops.are ∙ sym (append_assoc done stops.earlier (stops.file ∷ stops.later));
+      are = ap (λ (l : List Named). done ++ l) stops.are
+          ∙ sym (append_assoc done stops.earlier (stops.file ∷ stops.later));
       asked = subst (λ (l : List Named). AsksForFiles l a c) (sym (append_assoc done stops.earlier (stops.file ∷ [])))
           (files_both done (stops.earlier ++ stops.file ∷ []) a b c asked stops.asked);
       within = All-append (IsWithin a) done stops.earlier within earlier;
@@ -141,7 +150,8 @@ unread_more done files a b c status.Image stays fell asked within why = why
 unread_more done files a b c status.Memo stays fell asked within why = why
 unread_more done files a b c status.EditList stays fell asked within why = why
 unread_more done files a b c status.ReadFault stays fell asked within why =
-    stops_more (FailedToRead b c) (FailedToRead a c) done files a b c (λ f it. rose_before _ _ _ (fell.reads f.name) it) stays asked within why
+    stops_more (FailedToRead b c) (FailedToRead a c) done files a b c
+    (λ f it. rose_before _ _ _ (fell.reads f.name) it) stays asked within why
 unread_more done files a b c status.WriteFault stays fell asked within why = why
 unread_more done files a b c status.Memory stays fell asked within why =
     record {

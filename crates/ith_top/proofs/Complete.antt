@@ -23,7 +23,8 @@ use Rattle.ith_top.specs.Contents.{AreLists, IsMemoContent, IsMemoOf}
 use Rattle.ith_top.specs.Ends.{OfNone, IsUnkept, IsUnprinted, RoundsEnd, ShowEnds, Answers}
 use Rattle.ith_top.specs.Completing.{AreTold, HasNoFault, AreAccepted, IsAcceptedMemo, AreRerunAccepted, IsCompleted, Completes}
 
-none_there : (fact : Named → Type 0) (earlier : List Named) (file : Named) (later : List Named) → OfNone fact (earlier ++ file ∷ later) → fact file → ⊥
+none_there : (fact : Named → Type 0) (earlier : List Named) (file : Named) (later : List Named)
+    → OfNone fact (earlier ++ file ∷ later) → fact file → ⊥
 none_there fact [] file later none there = none.0 there
 none_there fact (first ∷ earlier) file later none there = none_there fact earlier file later none.1 there
 
@@ -32,10 +33,13 @@ none_stops fact files a b none stops =
     none_there fact stops.earlier stops.file stops.later (subst (OfNone fact) stops.are none) stops.cause
 
 -- what a told file is said to hold, it holds
-content-told : (told : Option (List ℕ)) (bytes content : List ℕ) → told ≡ Some bytes → IfSome told (λ t. t ≡ content) → bytes ≡ content
-content-told told bytes content is says = let h = subst (λ (o : Option (List ℕ)). IfSome o (λ t. t ≡ content)) is says in h
+content-told : (told : Option (List ℕ)) (bytes content : List ℕ) → told ≡ Some bytes → IfSome told (λ t. t ≡ content)
+    → bytes ≡ content
+content-told told bytes content is says = let h =
+    subst (λ (o : Option (List ℕ)). IfSome o (λ t. t ≡ content)) is says in h
 
-short-told : (told : Option (List ℕ)) (bytes : List ℕ) (most : ℕ) → told ≡ Some bytes → length bytes ≤ most → IfSome told (λ t. most < length t) → ⊥
+short-told : (told : Option (List ℕ)) (bytes : List ℕ) (most : ℕ) → told ≡ Some bytes → length bytes ≤ most
+    → IfSome told (λ t. most < length t) → ⊥
 short-told told bytes most is within long =
     let h = subst (λ (o : Option (List ℕ)). IfSome o (λ t. most < length t)) is long in absurd (omega arith)
 
@@ -62,7 +66,8 @@ lists-short before (name ∷ names) (t ∷ told) is within =
     (short-told (before.files name) t MOST_LIST_BYTES is.0 within.0.1, lists-short before names told is.1 within.1)
 
 -- no file is too long that is told to be within its limit
-run-short : (line : RunLine) (before : World) → AreAccepted line before → OfNone (IsLong before) (files_named (Runs line))
+run-short : (line : RunLine) (before : World) → AreAccepted line before
+    → OfNone (IsLong before) (files_named (Runs line))
 run-short line before are = (
   short-told (before.files line.elf) are.contents.elf MOST_ELF_BYTES are.elf are.read.contents.elf_within,
   (
@@ -82,14 +87,15 @@ unfailing line before after none fails =
     elim fails [
       | inl unprinted ↦ none.prints unprinted.part.cause
       | inr unkept ↦
-          let never = subst (λ (name : Option Text). IfSome name (λ n. Rose (before.write_faults n) (after.write_faults n) → ⊥)) unkept.is_named none.writes in
+          let never = subst (λ (name : Option Text). IfSome name
+          (λ n. Rose (before.write_faults n) (after.write_faults n) → ⊥)) unkept.is_named none.writes in
           never unkept.cause
     ]
 
 -- what is accepted as a memo of a history isn't refused
 accepted-taken : (memo : List ℕ) (h : History) (why : MemoRefusal) → IsMemoOf memo h → reading memo ≡ Err why → ⊥
 accepted-taken memo h why is refused =
-    let taken : reading memo ≡ Ok h = spelled_is_read memo h is.spells is.coherent in
+    let taken : reading memo ≡ Ok h = spelled_is_read memo h is.spells is.of_today is.coherent in
     absurd (let no : Ok h ≡ Err why = sym taken ∙ refused in cc)
 
 unrefused :
@@ -101,7 +107,8 @@ unrefused name before memo why is read refused =
 
 run_by :
     (line : RunLine) (before after : World) (answer : ℕ) (s : Status)
-    → answer ≡ code_of s → RoundsEnd (Runs line) before after s → AreAccepted line before → HasNoFault (Runs line) before after
+    → answer ≡ code_of s → RoundsEnd (Runs line) before after s → AreAccepted line before
+    → HasNoFault (Runs line) before after
     → IsCompleted (Runs line) before after answer
 run_by line before after answer status.Finished is ends are none = inl is
 run_by line before after answer status.Unfinished is ends are none = inr (inl is)
@@ -124,68 +131,84 @@ run_by line before after answer status.EditList is ends are none =
     absurd (inputs-unrefused ends.contents.input ends.contents.lists are.inputs ends.place ends.why edited ends.refused)
 run_by line before after answer status.ReadFault is ends are none =
     absurd (none_stops (FailedToRead before after) (files_named (Runs line)) before after none.reads ends.stops)
-run_by line before after answer status.WriteFault is ends are none = absurd (unfailing (Runs line) before after none ends)
+run_by line before after answer status.WriteFault is ends are none =
+    absurd (unfailing (Runs line) before after none ends)
 run_by line before after answer status.Memory is ends are none = inr (inr (inl is))
 run_by line before after answer status.TooLarge is ends are none =
     elim ends [
-      | inl large ↦ absurd (none_stops (IsLong before) (files_named (Runs line)) before after (run-short line before are) large.stops)
+      | inl large ↦ absurd (none_stops (IsLong before) (files_named (Runs line)) before after
+          (run-short line before are) large.stops)
       | inr large ↦ inr (inr (inr (is, large)))
     ]
 
 -- one memo, told, is of one history
 one-memo : (memo other : List ℕ) (h k : History) → memo ≡ other → IsMemoOf memo h → IsMemoOf other k → h ≡ k
-one-memo memo other h k same is also = one_history memo h k is.spells (subst (λ (m : List ℕ). Spells m k) (sym same) also.spells)
+one-memo memo other h k same is also =
+    one_history memo h k is.spells (subst (λ (m : List ℕ). Spells m k) (sym same) also.spells)
 
 rerun_by :
     (line : RerunLine) (before after : World) (answer : ℕ) (s : Status)
-    → answer ≡ code_of s → RoundsEnd (Reruns line) before after s → AreRerunAccepted line before → HasNoFault (Reruns line) before after
+    → answer ≡ code_of s → RoundsEnd (Reruns line) before after s → AreRerunAccepted line before
+    → HasNoFault (Reruns line) before after
     → IsCompleted (Reruns line) before after answer
 rerun_by line before after answer status.Finished is ends are none = inl is
 rerun_by line before after answer status.Unfinished is ends are none = inr (inl is)
 rerun_by line before after answer status.Words is ends are none = absurd ends
 rerun_by line before after answer status.Image is ends are none = absurd ends
-rerun_by line before after answer status.Memo is ends are none = absurd (unrefused line.memo before ends.memo ends.why are.memo ends.read ends.refused)
+rerun_by line before after answer status.Memo is ends are none =
+    absurd (unrefused line.memo before ends.memo ends.why are.memo ends.read ends.refused)
 rerun_by line before after answer status.EditList is ends are none =
     let same : are.memo.memo ≡ ends.memo =
     content-told (before.files line.memo) are.memo.memo ends.memo are.memo.told ends.read.content in
-    let one : are.memo.history ≡ ends.history = one-memo are.memo.memo ends.memo are.memo.history ends.history same are.memo.accepted ends.accepted in
-    let lists : are.lists ≡ ends.lists = lists-told before line.edits are.lists ends.lists are.lists_told ends.lists_read in
+    let one : are.memo.history ≡ ends.history =
+    one-memo are.memo.memo ends.memo are.memo.history ends.history same are.memo.accepted ends.accepted in
+    let lists : are.lists ≡ ends.lists =
+    lists-told before line.edits are.lists ends.lists are.lists_told ends.lists_read in
     let edited : AreRerunInputs ends.history.setup.input ends.lists are.inputs =
     subst (λ (h : History). AreRerunInputs h.setup.input ends.lists are.inputs) one
     (subst (λ (ls : List (List ℕ)). AreRerunInputs are.memo.history.setup.input ls are.inputs) lists are.edited) in
     absurd (rerun-unrefused ends.history.setup.input ends.lists are.inputs ends.place ends.why edited ends.refused)
 rerun_by line before after answer status.ReadFault is ends are none =
     absurd (none_stops (FailedToRead before after) (files_named (Reruns line)) before after none.reads ends.stops)
-rerun_by line before after answer status.WriteFault is ends are none = absurd (unfailing (Reruns line) before after none ends)
+rerun_by line before after answer status.WriteFault is ends are none =
+    absurd (unfailing (Reruns line) before after none ends)
 rerun_by line before after answer status.Memory is ends are none = inr (inr (inl is))
 rerun_by line before after answer status.TooLarge is ends are none =
     elim ends [
       | inl large ↦
           absurd
           (none_stops (IsLong before) (files_named (Reruns line)) before after
-          (memo-short line.memo before are.memo, lists-short before line.edits are.lists are.lists_told are.lists_read) large.stops)
+          (memo-short line.memo before are.memo, lists-short before line.edits are.lists are.lists_told are.lists_read)
+          large.stops)
       | inr large ↦ inr (inr (inr (is, large)))
     ]
 
 show_by :
     (line : ShowLine) (before after : World) (answer : ℕ) (s : Status)
-    → answer ≡ code_of s → ShowEnds line before after s → IsAcceptedMemo line.memo before → HasNoFault (Shows line) before after
+    → answer ≡ code_of s → ShowEnds line before after s → IsAcceptedMemo line.memo before
+    → HasNoFault (Shows line) before after
     → (answer ≡ code_of status.Finished) ⊎ (answer ≡ code_of status.Memory)
 show_by line before after answer status.Finished is ends memo none = inl is
 show_by line before after answer status.Unfinished is ends memo none = absurd ends
 show_by line before after answer status.Words is ends memo none = absurd ends
 show_by line before after answer status.Image is ends memo none = absurd ends
-show_by line before after answer status.Memo is ends memo none = absurd (unrefused line.memo before ends.memo ends.why memo ends.read ends.refused)
+show_by line before after answer status.Memo is ends memo none =
+    absurd (unrefused line.memo before ends.memo ends.why memo ends.read ends.refused)
 show_by line before after answer status.EditList is ends memo none = absurd ends
 show_by line before after answer status.ReadFault is ends memo none =
     absurd (none_stops (FailedToRead before after) (files_named (Shows line)) before after none.reads ends.stops)
 show_by line before after answer status.WriteFault is ends memo none = absurd (none.prints ends.part.cause)
 show_by line before after answer status.Memory is ends memo none = inr is
 show_by line before after answer status.TooLarge is ends memo none =
-    absurd (none_stops (IsLong before) (files_named (Shows line)) before after (memo-short line.memo before memo, tt) ends.stops)
+    absurd (none_stops (IsLong before) (files_named (Shows line)) before after
+    (memo-short line.memo before memo, tt) ends.stops)
 
-pub complete : (line : Option Line) (before after : World) (answer : ℕ) → Answers line before after answer → Completes line before after answer
+pub complete : (line : Option Line) (before after : World) (answer : ℕ) → Answers line before after answer
+    → Completes line before after answer
 complete None before after answer answers = tt
-complete (Some (Runs line)) before after answer answers = λ are none. run_by line before after answer answers.0 answers.1 answers.2 are none
-complete (Some (Reruns line)) before after answer answers = λ are none. rerun_by line before after answer answers.0 answers.1 answers.2 are none
-complete (Some (Shows line)) before after answer answers = λ memo none. show_by line before after answer answers.0 answers.1 answers.2 memo none
+complete (Some (Runs line)) before after answer answers =
+    λ are none. run_by line before after answer answers.0 answers.1 answers.2 are none
+complete (Some (Reruns line)) before after answer answers =
+    λ are none. rerun_by line before after answer answers.0 answers.1 answers.2 are none
+complete (Some (Shows line)) before after answer answers =
+    λ memo none. show_by line before after answer answers.0 answers.1 answers.2 memo none

@@ -17,16 +17,17 @@ use Rattle.ith_top.specs.Refusals.{Keeps, WhyCutShort, WhyUnkept, WhyUndone}
 use Rattle.ith_top.specs.Playing.{CanBePlayed, CanBeSpelled}
 use Rattle.ith_top.proofs.Worlds.{rose_before}
 use Rattle.ith_top.proofs.Going.{prints_after, prints_then}
-use Rattle.ith_top.proofs.Promises.{promised_of, any_of}
+use Rattle.ith_top.proofs.Promises.{promised_of, each_kept}
 
 -- the rounds of a line's plan
-pub rounds_in : (line : Line) (a : World) (p : Plan) → IsPlan line a p → CanBePlayed p → CanBeSpelled p → HasRounds line a
+pub rounds_in : (line : Line) (a : World) (p : Plan) → IsPlan line a p → CanBePlayed p → CanBeSpelled p
+    → HasRounds line a
 rounds_in line a p is playable spelled =
     record {
       plan = p;
       is_plan = is;
       promised = promised_of line a p is playable spelled;
-      of_any = any_of p playable spelled;
+      kept = each_kept p playable spelled;
     }
 
 -- a file was kept after all was printed
@@ -38,11 +39,13 @@ printed_and_kept name content a b c bytes prints keeps =
       tells = keeps.tells ∙ prints.tells;
       printed = subst (λ (told : Option (List ℕ)). Appends a.printed told bytes) (sym keeps.printed) prints.printed;
       written = keeps.written;
-      others = λ other away. keeps.others other away ∙ ap (λ (files : Text → Option (List ℕ)). files other) prints.files;
+      others = λ other away. keeps.others other away
+          ∙ ap (λ (files : Text → Option (List ℕ)). files other) prints.files;
     }
 
 -- and where nothing is to be kept
-pub printed_alone : (content : List ℕ) (a b : World) (bytes : List ℕ) → Prints a b bytes → PrintsAndKeeps None content a b bytes
+pub printed_alone : (content : List ℕ) (a b : World) (bytes : List ℕ) → Prints a b bytes
+    → PrintsAndKeeps None content a b bytes
 printed_alone content a b bytes prints =
     record {
       tells = prints.tells;
@@ -52,7 +55,8 @@ printed_alone content a b bytes prints =
     }
 
 -- printing and keeping after a change that leaves files and printed bytes
-kept_after : (name : Option Text) (content : List ℕ) (a b c : World) (bytes : List ℕ) → Stays a b → PrintsAndKeeps name content b c bytes → PrintsAndKeeps name content a c bytes
+kept_after : (name : Option Text) (content : List ℕ) (a b c : World) (bytes : List ℕ) → Stays a b
+    → PrintsAndKeeps name content b c bytes → PrintsAndKeeps name content a c bytes
 kept_after name content a b c bytes stays keeps =
     record {
       tells = keeps.tells ∙ stays.tells;
@@ -63,8 +67,10 @@ kept_after name content a b c bytes stays keeps =
 
 done_by :
     (line : Line) (a b c : World) (p : Plan) (exits : Bool)
-    → IsPlan line a p → CanBePlayed p → CanBeSpelled p → AsksForFiles (files_named line) a b → AsksNothing b c → Stays a b
-    → PrintsAndKeeps (kept_by line) (memo (left_of p)) b c (concat (texts_of line p)) → IsKeptWithin (kept_by line) (memo (left_of p))
+    → IsPlan line a p → CanBePlayed p → CanBeSpelled p → AsksForFiles (files_named line) a b → AsksNothing b c
+    → Stays a b
+    → PrintsAndKeeps (kept_by line) (memo (left_of p)) b c (concat (texts_of line p))
+    → IsKeptWithin (kept_by line) (memo (left_of p))
     → all_made_exit (rounds_of p) ≡ exits → IsDone line exits a c
 unfolding rounds_in
 done_by line a b c p exits is playable spelled asked none stays keeps within ends =
@@ -79,8 +85,10 @@ done_by line a b c p exits is playable spelled asked none stays keeps within end
 -- all was done, and each round ended by exit
 pub finished :
     (line : Line) (a b c : World) (p : Plan)
-    → IsPlan line a p → CanBePlayed p → CanBeSpelled p → AsksForFiles (files_named line) a b → AsksNothing b c → Stays a b
-    → PrintsAndKeeps (kept_by line) (memo (left_of p)) b c (concat (texts_of line p)) → IsKeptWithin (kept_by line) (memo (left_of p))
+    → IsPlan line a p → CanBePlayed p → CanBeSpelled p → AsksForFiles (files_named line) a b → AsksNothing b c
+    → Stays a b
+    → PrintsAndKeeps (kept_by line) (memo (left_of p)) b c (concat (texts_of line p))
+    → IsKeptWithin (kept_by line) (memo (left_of p))
     → all_made_exit (rounds_of p) ≡ true → RoundsEnd line a c status.Finished
 finished line a b c p is playable spelled asked none stays keeps within ends =
     done_by line a b c p true is playable spelled asked none stays keeps within ends
@@ -88,8 +96,10 @@ finished line a b c p is playable spelled asked none stays keeps within ends =
 -- all was done, and some round ended otherwise
 pub unfinished :
     (line : Line) (a b c : World) (p : Plan)
-    → IsPlan line a p → CanBePlayed p → CanBeSpelled p → AsksForFiles (files_named line) a b → AsksNothing b c → Stays a b
-    → PrintsAndKeeps (kept_by line) (memo (left_of p)) b c (concat (texts_of line p)) → IsKeptWithin (kept_by line) (memo (left_of p))
+    → IsPlan line a p → CanBePlayed p → CanBeSpelled p → AsksForFiles (files_named line) a b → AsksNothing b c
+    → Stays a b
+    → PrintsAndKeeps (kept_by line) (memo (left_of p)) b c (concat (texts_of line p))
+    → IsKeptWithin (kept_by line) (memo (left_of p))
     → all_made_exit (rounds_of p) ≡ false → RoundsEnd line a c status.Unfinished
 unfinished line a b c p is playable spelled asked none stays keeps within ends =
     done_by line a b c p false is playable spelled asked none stays keeps within ends
@@ -97,7 +107,8 @@ unfinished line a b c p is playable spelled asked none stays keeps within ends =
 -- not all texts were printed
 cut_short :
     (line : Line) (a b c : World) (p : Plan) (why : Status)
-    → IsPlan line a p → CanBePlayed p → CanBeSpelled p → AsksForFiles (files_named line) a b → AsksNothing b c → Stays a b → NoneFell a b
+    → IsPlan line a p → CanBePlayed p → CanBeSpelled p → AsksForFiles (files_named line) a b → AsksNothing b c
+    → Stays a b → NoneFell a b
     → WhyCutShort (texts_of line p) b c why → RoundsEnd line a c why
 unfolding rounds_in
 cut_short line a b c p status.Finished is playable spelled asked none stays fell cause = absurd cause
@@ -118,7 +129,8 @@ cut_short line a b c p status.WriteFault is playable spelled asked none stays fe
         next = cause.next;
         is_next = cause.is_next;
         count = cause.count;
-        prints = prints_after a b c (concat (take cause.whole (texts_of line p)) ++ take cause.count cause.next) stays cause.prints;
+        prints = prints_after a b c
+            (concat (take cause.whole (texts_of line p)) ++ take cause.count cause.next) stays cause.prints;
       };
     })
 cut_short line a b c p status.Memory is playable spelled asked none stays fell cause =
@@ -141,16 +153,24 @@ all_texts-are line p = take_all (all_texts line p) (texts_of line p) (omega arit
 -- all texts were printed, and the memo wasn't written
 unkept :
     (line : Line) (a b m c : World) (p : Plan) (name : Text) (why : Status)
-    → IsPlan line a p → CanBePlayed p → CanBeSpelled p → AsksForFiles (files_named line) a b → AsksNothing b c → Stays a b → NoneFell a b → NoneFell b m
-    → kept_by line ≡ Some name → Prints b m (concat (texts_of line p)) → WhyUnkept name (memo (left_of p)) m c why → RoundsEnd line a c why
+    → IsPlan line a p → CanBePlayed p → CanBeSpelled p → AsksForFiles (files_named line) a b → AsksNothing b c
+    → Stays a b → NoneFell a b → NoneFell b m
+    → kept_by line ≡ Some name → Prints b m (concat (texts_of line p)) → WhyUnkept name (memo (left_of p)) m c why
+    → RoundsEnd line a c why
 unfolding rounds_in
-unkept line a b m c p name status.Finished is playable spelled asked none stays fell later named prints cause = absurd cause
-unkept line a b m c p name status.Unfinished is playable spelled asked none stays fell later named prints cause = absurd cause
-unkept line a b m c p name status.Words is playable spelled asked none stays fell later named prints cause = absurd cause
-unkept line a b m c p name status.Image is playable spelled asked none stays fell later named prints cause = absurd cause
+unkept line a b m c p name status.Finished is playable spelled asked none stays fell later named prints cause =
+    absurd cause
+unkept line a b m c p name status.Unfinished is playable spelled asked none stays fell later named prints cause =
+    absurd cause
+unkept line a b m c p name status.Words is playable spelled asked none stays fell later named prints cause =
+    absurd cause
+unkept line a b m c p name status.Image is playable spelled asked none stays fell later named prints cause =
+    absurd cause
 unkept line a b m c p name status.Memo is playable spelled asked none stays fell later named prints cause = absurd cause
-unkept line a b m c p name status.EditList is playable spelled asked none stays fell later named prints cause = absurd cause
-unkept line a b m c p name status.ReadFault is playable spelled asked none stays fell later named prints cause = absurd cause
+unkept line a b m c p name status.EditList is playable spelled asked none stays fell later named prints cause =
+    absurd cause
+unkept line a b m c p name status.ReadFault is playable spelled asked none stays fell later named prints cause =
+    absurd cause
 unkept line a b m c p name status.WriteFault is playable spelled asked none stays fell later named prints cause =
     let all : Prints a m (concat (texts_of line p)) = prints_after a b m (concat (texts_of line p)) stays prints in
     inr
@@ -162,7 +182,8 @@ unkept line a b m c p name status.WriteFault is playable spelled asked none stay
       within = cause.within;
       cause = rose_before _ _ _ (fell.writes name) (rose_before _ _ _ (later.writes name) cause.cause);
       tells = cause.tells ∙ all.tells;
-      printed = subst (λ (told : Option (List ℕ)). Appends a.printed told (concat (texts_of line p))) (sym cause.printed) all.printed;
+      printed = subst (λ (told : Option (List ℕ)). Appends a.printed told (concat (texts_of line p)))
+          (sym cause.printed) all.printed;
       untold = cause.untold;
       others = λ other away. cause.others other away ∙ ap (λ (files : Text → Option (List ℕ)). files other) all.files;
     })
@@ -173,7 +194,8 @@ unkept line a b m c p name status.Memory is playable spelled asked none stays fe
       has = rounds_in line a p is playable spelled;
       rounds = all_texts line p;
       prints = subst (λ (ts : List (List ℕ)). Prints a c (concat ts)) (sym (all_texts-are line p))
-          (prints_then a m c (concat (texts_of line p)) (prints_after a b m (concat (texts_of line p)) stays prints) cause);
+          (prints_then a m c (concat (texts_of line p))
+          (prints_after a b m (concat (texts_of line p)) stays prints) cause);
     })
 unkept line a b m c p name status.TooLarge is playable spelled asked none stays fell later named prints cause =
     inr
@@ -183,16 +205,19 @@ unkept line a b m c p name status.TooLarge is playable spelled asked none stays 
       name = name;
       is_named = named;
       long = cause.long;
-      prints = prints_then a m c (concat (texts_of line p)) (prints_after a b m (concat (texts_of line p)) stays prints) cause.stays;
+      prints = prints_then a m c (concat (texts_of line p))
+          (prints_after a b m (concat (texts_of line p)) stays prints) cause.stays;
     })
 
 -- not all was done
 pub undone :
     (line : Line) (a b c : World) (p : Plan) (why : Status)
-    → IsPlan line a p → CanBePlayed p → CanBeSpelled p → AsksForFiles (files_named line) a b → AsksNothing b c → Stays a b → NoneFell a b
+    → IsPlan line a p → CanBePlayed p → CanBeSpelled p → AsksForFiles (files_named line) a b → AsksNothing b c
+    → Stays a b → NoneFell a b
     → WhyUndone (kept_by line) (texts_of line p) (memo (left_of p)) b c why → RoundsEnd line a c why
 undone line a b c p why is playable spelled asked none stays fell cause =
     elim cause [
       | inl short ↦ cut_short line a b c p why is playable spelled asked none stays fell short
-      | inr after ↦ unkept line a b after.between c p after.kept why is playable spelled asked none stays fell after.counts after.is_named after.prints after.why
+      | inr after ↦ unkept line a b after.between c p after.kept why is playable spelled asked none stays fell
+          after.counts after.is_named after.prints after.why
     ]

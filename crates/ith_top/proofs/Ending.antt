@@ -26,7 +26,8 @@ unfolding is_image
 refused_image bytes refusal is = rw is refl
 
 -- what edit lists are said to hold later, they held before
-pub lists_before : (a b : World) (names : List Text) (lists : List (List ℕ)) → Stays a b → AreLists b names lists → AreLists a names lists
+pub lists_before : (a b : World) (names : List Text) (lists : List (List ℕ)) → Stays a b → AreLists b names lists
+    → AreLists a names lists
 lists_before a b [] [] stays are = tt
 lists_before a b [] (list ∷ lists) stays are = absurd are
 lists_before a b (name ∷ names) [] stays are = absurd are
@@ -51,8 +52,10 @@ files_read line a b c elf input lists stays then first first_within second secon
     }
 
 -- the executable wasn't read
-pub elf_unread : (line : RunLine) (a b : World) (s : Status) → WhyUnread (elf_named line.elf ∷ []) a b s → WhyUnread (files_named (Runs line)) a b s
-elf_unread line a b s why = unread_front (elf_named line.elf ∷ []) (input_named line.input ∷ lists_named line.edits) a b s why
+pub elf_unread : (line : RunLine) (a b : World) (s : Status) → WhyUnread (elf_named line.elf ∷ []) a b s
+    → WhyUnread (files_named (Runs line)) a b s
+elf_unread line a b s why =
+    unread_front (elf_named line.elf ∷ []) (input_named line.input ∷ lists_named line.edits) a b s why
 
 -- the input wasn't, after the executable was
 pub input_unread :
@@ -62,7 +65,8 @@ pub input_unread :
     → WhyUnread (input_named line.input ∷ []) b c s → WhyUnread (files_named (Runs line)) a c s
 input_unread line a b c s elf stays fell asked first within why =
     unread_more (elf_named line.elf ∷ []) (input_named line.input ∷ lists_named line.edits) a b c s stays fell asked
-    (All-cons (IsWithin a) (elf_named line.elf) [] (within_told (a.files line.elf) elf MOST_ELF_BYTES first within) (All-nil (IsWithin a)))
+    (All-cons (IsWithin a) (elf_named line.elf) [] (within_told (a.files line.elf) elf MOST_ELF_BYTES first within)
+    (All-nil (IsWithin a)))
     (unread_front (input_named line.input ∷ []) (lists_named line.edits) b c s why)
 
 -- an edit list wasn't, after the executable and the input were
@@ -74,15 +78,20 @@ pub list_unread :
     → IsContent b line.input input → length input ≤ MOST_INPUT_BYTES
     → WhyUnread (lists_named line.edits) c d s → WhyUnread (files_named (Runs line)) a d s
 list_unread line a b c d s elf input stays fell then later asked more first within second shorter why =
-    let here : IsWithin a (input_named line.input) = within_before a b (input_named line.input) stays (within_told (b.files line.input) input MOST_INPUT_BYTES second shorter) in
-    unread_more (elf_named line.elf ∷ input_named line.input ∷ []) (lists_named line.edits) a c d s (stays_trans a b c stays then) (none_fell_trans a b c fell later)
+    let here : IsWithin a (input_named line.input) =
+    within_before a b (input_named line.input) stays
+    (within_told (b.files line.input) input MOST_INPUT_BYTES second shorter) in
+    unread_more (elf_named line.elf ∷ input_named line.input ∷ []) (lists_named line.edits) a c d s
+    (stays_trans a b c stays then) (none_fell_trans a b c fell later)
     (files_both (elf_named line.elf ∷ []) (input_named line.input ∷ []) a b c asked more)
-    (All-cons (IsWithin a) (elf_named line.elf) (input_named line.input ∷ []) (within_told (a.files line.elf) elf MOST_ELF_BYTES first within)
+    (All-cons (IsWithin a) (elf_named line.elf) (input_named line.input ∷ [])
+    (within_told (a.files line.elf) elf MOST_ELF_BYTES first within)
     (All-cons (IsWithin a) (input_named line.input) [] here (All-nil (IsWithin a))))
     why
 
 -- the memo of a rerun wasn't read
-pub memo_unread : (line : RerunLine) (a b : World) (s : Status) → WhyUnread (memo_named line.memo ∷ []) a b s → WhyUnread (files_named (Reruns line)) a b s
+pub memo_unread : (line : RerunLine) (a b : World) (s : Status) → WhyUnread (memo_named line.memo ∷ []) a b s
+    → WhyUnread (files_named (Reruns line)) a b s
 memo_unread line a b s why = unread_front (memo_named line.memo ∷ []) (lists_named line.edits) a b s why
 
 -- an edit list wasn't, after the memo was
@@ -92,11 +101,13 @@ pub rerun_list_unread :
     → WhyUnread (lists_named line.edits) b c s → WhyUnread (files_named (Reruns line)) a c s
 rerun_list_unread line a b c s memo stays fell asked read why =
     unread_more (memo_named line.memo ∷ []) (lists_named line.edits) a b c s stays fell asked
-    (All-cons (IsWithin a) (memo_named line.memo) [] (within_told (a.files line.memo) memo MOST_MEMO_BYTES read.content read.within) (All-nil (IsWithin a)))
+    (All-cons (IsWithin a) (memo_named line.memo) []
+    (within_told (a.files line.memo) memo MOST_MEMO_BYTES read.content read.within) (All-nil (IsWithin a)))
     why
 
 -- files of a line that asks for rounds weren't all read
-pub unread_ends : (line : Line) (a b : World) (s : Status) → Stays a b → WhyUnread (files_named line) a b s → RoundsEnd line a b s
+pub unread_ends : (line : Line) (a b : World) (s : Status) → Stays a b → WhyUnread (files_named line) a b s
+    → RoundsEnd line a b s
 unread_ends line a b status.Finished stays why = absurd why
 unread_ends line a b status.Unfinished stays why = absurd why
 unread_ends line a b status.Words stays why = absurd why
@@ -110,10 +121,20 @@ unread_ends line a b status.TooLarge stays why = inl (record { stops = why; stay
 
 unbegun : (line : Line) (a b : World) → AsksForFiles (files_named line) a b → Stays a b → IsUnbegun line a b
 unbegun line a b asked stays =
-    record { asked = record { first = files_named line; later = []; are = sym (append-nil (files_named line)); asked = asked }; stays = stays }
+    record {
+      asked = record {
+        first = files_named line;
+        later = [];
+        are = sym (append-nil (files_named line));
+        asked =
+            asked;
+      };
+      stays = stays;
+    }
 
 -- all files were asked for, and then the host's memory ran out
-pub cut_ends : (line : Line) (a b c : World) → AsksForFiles (files_named line) a b → AsksNothing b c → Stays a b → Stays b c → RoundsEnd line a c status.Memory
+pub cut_ends : (line : Line) (a b c : World) → AsksForFiles (files_named line) a b → AsksNothing b c → Stays a b
+    → Stays b c → RoundsEnd line a c status.Memory
 cut_ends line a b c asked none stays then = inl (unbegun line a c (none ∙ asked) (stays_trans a b c stays then))
 
 -- all files were read, and no setup was made of the executable
@@ -125,12 +146,20 @@ refused_ends line a b c contents status.Finished asked none stays then are why =
 refused_ends line a b c contents status.Unfinished asked none stays then are why = absurd why
 refused_ends line a b c contents status.Words asked none stays then are why = absurd why
 refused_ends line a b c contents status.Image asked none stays then are why =
-    record { asked = none ∙ asked; contents = contents; read = are; refused = why; stays = stays_trans a b c stays then }
+    record {
+      asked = none ∙ asked;
+      contents = contents;
+      read = are;
+      refused = why;
+      stays =
+          stays_trans a b c stays then;
+    }
 refused_ends line a b c contents status.Memo asked none stays then are why = absurd why
 refused_ends line a b c contents status.EditList asked none stays then are why = absurd why
 refused_ends line a b c contents status.ReadFault asked none stays then are why = absurd why
 refused_ends line a b c contents status.WriteFault asked none stays then are why = absurd why
-refused_ends line a b c contents status.Memory asked none stays then are why = cut_ends (Runs line) a b c asked none stays then
+refused_ends line a b c contents status.Memory asked none stays then are why =
+    cut_ends (Runs line) a b c asked none stays then
 refused_ends line a b c contents status.TooLarge asked none stays then are why = absurd why
 
 -- all files were read, and no history was had from the memo
@@ -143,11 +172,22 @@ forgotten_ends line a b c memo lists status.Unfinished asked none stays then rea
 forgotten_ends line a b c memo lists status.Words asked none stays then read told why = absurd why
 forgotten_ends line a b c memo lists status.Image asked none stays then read told why = absurd why
 forgotten_ends line a b c memo lists status.Memo asked none stays then read told why =
-    record { asked = none ∙ asked; memo = memo; read = read; lists = lists; lists_read = told; why = why.0; refused = why.1; stays = stays_trans a b c stays then }
+    record {
+      asked = none ∙ asked;
+      memo = memo;
+      read = read;
+      lists = lists;
+      lists_read = told;
+      why = why.0;
+      refused =
+          why.1;
+      stays = stays_trans a b c stays then;
+    }
 forgotten_ends line a b c memo lists status.EditList asked none stays then read told why = absurd why
 forgotten_ends line a b c memo lists status.ReadFault asked none stays then read told why = absurd why
 forgotten_ends line a b c memo lists status.WriteFault asked none stays then read told why = absurd why
-forgotten_ends line a b c memo lists status.Memory asked none stays then read told why = cut_ends (Reruns line) a b c asked none stays then
+forgotten_ends line a b c memo lists status.Memory asked none stays then read told why =
+    cut_ends (Reruns line) a b c asked none stays then
 forgotten_ends line a b c memo lists status.TooLarge asked none stays then read told why = absurd why
 
 -- the executable was accepted, and the edit lists made no inputs
@@ -161,17 +201,28 @@ unedited_ends line a b c contents status.Words asked none stays then read why = 
 unedited_ends line a b c contents status.Image asked none stays then read why = absurd why
 unedited_ends line a b c contents status.Memo asked none stays then read why = absurd why
 unedited_ends line a b c contents status.EditList asked none stays then read why =
-    record { asked = none ∙ asked; contents = contents; read = read; place = why.0; why = why.1; refused = why.2; stays = stays_trans a b c stays then }
+    record {
+      asked = none ∙ asked;
+      contents = contents;
+      read = read;
+      place = why.0;
+      why = why.1;
+      refused =
+          why.2;
+      stays = stays_trans a b c stays then;
+    }
 unedited_ends line a b c contents status.ReadFault asked none stays then read why = absurd why
 unedited_ends line a b c contents status.WriteFault asked none stays then read why = absurd why
-unedited_ends line a b c contents status.Memory asked none stays then read why = cut_ends (Runs line) a b c asked none stays then
+unedited_ends line a b c contents status.Memory asked none stays then read why =
+    cut_ends (Runs line) a b c asked none stays then
 unedited_ends line a b c contents status.TooLarge asked none stays then read why = absurd why
 
 -- the memo was accepted, and the edit lists made no inputs
 pub rerun_unedited_ends :
     (line : RerunLine) (a b c : World) (memo : List ℕ) (lists : List (List ℕ)) (h : History) (s : Status)
     → AsksForFiles (files_named (Reruns line)) a b → AsksNothing b c → Stays a b → Stays b c
-    → IsMemoContent a line.memo memo → AreLists a line.edits lists → IsMemoOf memo h → WhyUnedited h.setup.input lists s → RoundsEnd (Reruns line) a c s
+    → IsMemoContent a line.memo memo → AreLists a line.edits lists → IsMemoOf memo h → WhyUnedited h.setup.input lists s
+    → RoundsEnd (Reruns line) a c s
 rerun_unedited_ends line a b c memo lists h status.Finished asked none stays then read told is why = absurd why
 rerun_unedited_ends line a b c memo lists h status.Unfinished asked none stays then read told is why = absurd why
 rerun_unedited_ends line a b c memo lists h status.Words asked none stays then read told is why = absurd why
@@ -193,11 +244,13 @@ rerun_unedited_ends line a b c memo lists h status.EditList asked none stays the
     }
 rerun_unedited_ends line a b c memo lists h status.ReadFault asked none stays then read told is why = absurd why
 rerun_unedited_ends line a b c memo lists h status.WriteFault asked none stays then read told is why = absurd why
-rerun_unedited_ends line a b c memo lists h status.Memory asked none stays then read told is why = cut_ends (Reruns line) a b c asked none stays then
+rerun_unedited_ends line a b c memo lists h status.Memory asked none stays then read told is why =
+    cut_ends (Reruns line) a b c asked none stays then
 rerun_unedited_ends line a b c memo lists h status.TooLarge asked none stays then read told is why = absurd why
 
 -- the memo to show wasn't read
-pub show_unread : (line : ShowLine) (a b : World) (s : Status) → Stays a b → WhyUnread (files_named (Shows line)) a b s → ShowEnds line a b s
+pub show_unread : (line : ShowLine) (a b : World) (s : Status) → Stays a b → WhyUnread (files_named (Shows line)) a b s
+    → ShowEnds line a b s
 show_unread line a b status.Finished stays why = absurd why
 show_unread line a b status.Unfinished stays why = absurd why
 show_unread line a b status.Words stays why = absurd why
@@ -210,7 +263,8 @@ show_unread line a b status.Memory stays why = record { asked = why; stays = sta
 show_unread line a b status.TooLarge stays why = record { stops = why; stays = stays }
 
 -- the memo to show was read, and then the host's memory ran out
-pub show_cut : (line : ShowLine) (a b c : World) → AsksForFiles (files_named (Shows line)) a b → AsksNothing b c → Stays a b → Stays b c → ShowEnds line a c status.Memory
+pub show_cut : (line : ShowLine) (a b c : World) → AsksForFiles (files_named (Shows line)) a b → AsksNothing b c
+    → Stays a b → Stays b c → ShowEnds line a c status.Memory
 show_cut line a b c asked none stays then = unbegun (Shows line) a c (none ∙ asked) (stays_trans a b c stays then)
 
 -- the memo to show was read, and no history was had from it
@@ -223,7 +277,15 @@ show_forgotten line a b c memo status.Unfinished asked none stays then read why 
 show_forgotten line a b c memo status.Words asked none stays then read why = absurd why
 show_forgotten line a b c memo status.Image asked none stays then read why = absurd why
 show_forgotten line a b c memo status.Memo asked none stays then read why =
-    record { asked = none ∙ asked; memo = memo; read = read; why = why.0; refused = why.1; stays = stays_trans a b c stays then }
+    record {
+      asked = none ∙ asked;
+      memo = memo;
+      read = read;
+      why = why.0;
+      refused = why.1;
+      stays =
+          stays_trans a b c stays then;
+    }
 show_forgotten line a b c memo status.EditList asked none stays then read why = absurd why
 show_forgotten line a b c memo status.ReadFault asked none stays then read why = absurd why
 show_forgotten line a b c memo status.WriteFault asked none stays then read why = absurd why

@@ -14,22 +14,30 @@ use Rattle.ith_top.proofs.Worlds.{rose_before}
 use Rattle.ith_top.proofs.Going.{prints_after}
 use Rattle.ith_top.proofs.Ending.{show_cut}
 
-has_history : (line : ShowLine) (a : World) (memo : List ℕ) (h : History) → IsMemoContent a line.memo memo → IsMemoOf memo h → HasHistory line a
+has_history : (line : ShowLine) (a : World) (memo : List ℕ) (h : History) → IsMemoContent a line.memo memo
+    → IsMemoOf memo h → HasHistory line a
 has_history line a memo h read is = record { memo = memo; read = read; history = h; accepted = is }
 
 -- the lines were printed
 pub shown :
     (line : ShowLine) (a b c : World) (memo : List ℕ) (h : History)
-    → AsksForFiles (files_named (Shows line)) a b → AsksNothing b c → Stays a b → IsMemoContent a line.memo memo → IsMemoOf memo h
+    → AsksForFiles (files_named (Shows line)) a b → AsksNothing b c → Stays a b → IsMemoContent a line.memo memo
+    → IsMemoOf memo h
     → Prints b c (listing h) → ShowEnds line a c status.Finished
 unfolding has_history
 shown line a b c memo h asked none stays read is prints =
-    record { asked = none ∙ asked; has = has_history line a memo h read is; prints = prints_after a b c (listing h) stays prints }
+    record {
+      asked = none ∙ asked;
+      has = has_history line a memo h read is;
+      prints =
+          prints_after a b c (listing h) stays prints;
+    }
 
 -- they weren't all printed
 pub unshown :
     (line : ShowLine) (a b c : World) (memo : List ℕ) (h : History) (s : Status)
-    → AsksForFiles (files_named (Shows line)) a b → AsksNothing b c → Stays a b → NoneFell a b → IsMemoContent a line.memo memo → IsMemoOf memo h
+    → AsksForFiles (files_named (Shows line)) a b → AsksNothing b c → Stays a b → NoneFell a b
+    → IsMemoContent a line.memo memo → IsMemoOf memo h
     → WhyUnprinted (listing h) b c s → ShowEnds line a c s
 unfolding has_history
 unshown line a b c memo h status.Finished asked none stays fell read is why = absurd why

@@ -22,16 +22,20 @@ of_same_elf None s t same is = tt
 of_same_elf (Some h) s t same is = is ∙ same_image s t (ap image_pages same)
 
 -- a round that goes by a history of its page map stays on it
-pub round_map : (b : Beginning) (input : List ℕ) → IsOfMap b.past b.setup → IsOfMap (made (round_on b input)).past (made (round_on b input)).setup
+pub round_map : (b : Beginning) (input : List ℕ) → IsOfMap b.past b.setup
+    → IsOfMap (made (round_on b input)).past (made (round_on b input)).setup
 round_map b input is =
     let r = round_on b input in
     subst (λ (past : Option History). IsOfMap past (made r).setup) (sym (made_past r))
     (of_same_elf b.past b.setup (made r).setup (sym (ap (λ (s : Setup). s.elf) (left-own r))) is)
 
 -- and leaves a history of it
-pub left_map : (b : Beginning) (input : List ℕ) (left : History) → left ≡ left_by (round_on b input) → IsOfMap (Some left) b.setup
+pub left_map : (b : Beginning) (input : List ℕ) (left : History) → left ≡ left_by (round_on b input)
+    → IsOfMap (Some left) b.setup
 left_map b input left is =
-    same_image left.setup b.setup (ap image_pages (ap (λ (h : History). h.setup.elf) is ∙ ap (λ (s : Setup). s.elf) (left-own (round_on b input))))
+    same_image left.setup b.setup
+    (ap image_pages (ap (λ (h : History). h.setup.elf) is
+    ∙ ap (λ (s : Setup). s.elf) (left-own (round_on b input))))
 
 -- what is there is one thing
 pub some_is : {A : Type 0} (x y : A) → Some x ≡ Some y → x ≡ y

@@ -18,7 +18,8 @@ use Rattle.round_memo_spec.specs.Spelled.{IsSpelledPast}
 use Rattle.ith_top.specs.Playing.{CanBePlayed, CanBeSpelled}
 
 -- inputs that edit lists make of bytes are bytes
-made_bytes : (lists : List (List ℕ)) (input : List ℕ) (inputs : List (List ℕ)) → AreBytes input → AreMade input lists inputs → AllByRecursion AreBytes inputs
+made_bytes : (lists : List (List ℕ)) (input : List ℕ) (inputs : List (List ℕ)) → AreBytes input
+    → AreMade input lists inputs → AllByRecursion AreBytes inputs
 made_bytes [] input [] bytes made = tt
 made_bytes [] input (next ∷ inputs) bytes made = absurd made
 made_bytes (list ∷ lists) input [] bytes made = absurd made
@@ -26,19 +27,22 @@ made_bytes (list ∷ lists) input (next ∷ inputs) bytes made =
     let here : AreBytes next = bytes_of_bytes list input next made.0.edits made.0.said made.0.done bytes in
     (here, made_bytes lists next inputs here made.1)
 
-inputs_bytes : (lists : List (List ℕ)) (input : List ℕ) (inputs : List (List ℕ)) → AreBytes input → AreInputs input lists inputs → AllByRecursion AreBytes inputs
+inputs_bytes : (lists : List (List ℕ)) (input : List ℕ) (inputs : List (List ℕ)) → AreBytes input
+    → AreInputs input lists inputs → AllByRecursion AreBytes inputs
 inputs_bytes lists input [] bytes are = absurd are
 inputs_bytes lists input (first ∷ inputs) bytes are =
     (subst AreBytes (sym are.0) bytes, made_bytes lists input inputs bytes are.1)
 
-rerun_bytes : (lists : List (List ℕ)) (input : List ℕ) (inputs : List (List ℕ)) → AreBytes input → AreRerunInputs input lists inputs → AllByRecursion AreBytes inputs
+rerun_bytes : (lists : List (List ℕ)) (input : List ℕ) (inputs : List (List ℕ)) → AreBytes input
+    → AreRerunInputs input lists inputs → AllByRecursion AreBytes inputs
 rerun_bytes [] input inputs bytes are = subst (AllByRecursion AreBytes) (sym are) (bytes, tt)
 rerun_bytes (list ∷ lists) input inputs bytes are = made_bytes (list ∷ lists) input inputs bytes are
 
 -- a plan from scratch
 pub run_plan :
     (line : RunLine) (a : World) (c : Contents) (s : Setup) (p : Plan)
-    → AreContents a line c → s ≡ setup_of line c → IsSetup s → p.beginning ≡ from_scratch s → AreInputs s.input c.lists p.inputs
+    → AreContents a line c → s ≡ setup_of line c → IsSetup s → p.beginning ≡ from_scratch s
+    → AreInputs s.input c.lists p.inputs
     → IsRunPlan line a p
 run_plan line a c s p are is valid begins edited =
     record {
@@ -50,19 +54,22 @@ run_plan line a c s p are is valid begins edited =
 
 pub run_playable :
     (s : Setup) (lists : List (List ℕ)) (p : Plan)
-    → IsSetup s → p.beginning ≡ from_scratch s → length p.inputs < 2 ^ 64 → AreInputs s.input lists p.inputs → CanBePlayed p
+    → IsSetup s → p.beginning ≡ from_scratch s → length p.inputs < 2 ^ 64 → AreInputs s.input lists p.inputs
+    → CanBePlayed p
 run_playable s lists p valid begins few edited =
     let count = inputs-count s.input lists p.inputs edited in
     record {
       some = omega arith;
-      short = All-from_recursion (λ i. length i ≤ MOST_INPUT_BYTES) p.inputs (inputs-short s.input lists p.inputs valid.input_size edited);
+      short = All-from_recursion (λ i. length i ≤ MOST_INPUT_BYTES) p.inputs
+          (inputs-short s.input lists p.inputs valid.input_size edited);
       few = let number : p.beginning.number ≡ 0 = ap (λ (b : Beginning). b.number) begins in omega arith;
       map = subst (λ (b : Beginning). IsOfMap b.past b.setup) (sym begins) tt;
     }
 
 pub run_spelled :
     (s : Setup) (lists : List (List ℕ)) (p : Plan)
-    → IsSetup s → AreBytes s.elf → AreBytes s.input → p.beginning ≡ from_scratch s → AreInputs s.input lists p.inputs → CanBeSpelled p
+    → IsSetup s → AreBytes s.elf → AreBytes s.input → p.beginning ≡ from_scratch s → AreInputs s.input lists p.inputs
+    → CanBeSpelled p
 run_spelled s lists p valid elf input begins edited =
     record {
       valid = subst (λ (b : Beginning). IsSetup b.setup) (sym begins) valid;
@@ -77,7 +84,17 @@ pub rerun_plan :
     → IsMemoContent a line.memo memo → AreLists a line.edits lists → IsMemoOf memo h → p.beginning ≡ after_memo h
     → AreRerunInputs h.setup.input lists p.inputs → IsRerunPlan line a p
 rerun_plan line a memo lists h p read told is begins edited =
-    record { memo = memo; read = read; lists = lists; lists_read = told; history = h; accepted = is; beginning = begins; edited = edited }
+    record {
+      memo = memo;
+      read = read;
+      lists = lists;
+      lists_read = told;
+      history = h;
+      accepted = is;
+      beginning =
+          begins;
+      edited = edited;
+    }
 
 pub rerun_playable :
     (memo : List ℕ) (lists : List (List ℕ)) (h : History) (p : Plan)
@@ -102,5 +119,6 @@ rerun_spelled memo lists h p is begins edited =
       valid = subst (λ (b : Beginning). IsSetup b.setup) (sym begins) fits.setup;
       elf = subst (λ (b : Beginning). AreBytes b.setup.elf) (sym begins) fits.elf_bytes;
       inputs = All-from_recursion AreBytes p.inputs (rerun_bytes lists h.setup.input p.inputs fits.input_bytes edited);
-      past = subst (λ (b : Beginning). IsSpelledPast b.past b.setup) (sym begins) (fits, record { elf = refl; fuel = refl; limit = refl });
+      past = subst (λ (b : Beginning). IsSpelledPast b.past b.setup) (sym begins)
+          (fits, record { elf = refl; fuel = refl; limit = refl });
     }

@@ -17,7 +17,7 @@ use Rattle.round_memo_spec.proofs.Events.{lone-spelled}
 use Rattle.ith_host.specs.World.{World}
 use Rattle.ith_words.specs.Words.{Line, Runs, Reruns, Shows}
 use Rattle.ith_top.specs.Contents.{Plan, IsPlan, setup_of, workers_of}
-use Rattle.ith_top.specs.Rounds.{IsPromised, ArePromised, OnlyRepeats, BeginsHonestly, IsOfAny, rounds_of}
+use Rattle.ith_top.specs.Rounds.{IsPromised, ArePromised, OnlyRepeats, BeginsHonestly, CanBeKept, rounds_of}
 use Rattle.ith_top.specs.Ends.{left_of}
 use Rattle.ith_top.specs.Playing.{CanBePlayed, CanBeSpelled}
 
@@ -39,7 +39,8 @@ again_repeats h r again = record { reuses = again-reuses h r again; instructions
 
 -- a first round on the very setup of the history that it goes by
 abbrev Unedited : Beginning → List (List ℕ) → Type 0
-Unedited b inputs = (r : Round) (h : History) → slice_get (rounds_after b inputs) 0 ≡ Some r → r.past ≡ Some h → r.setup ≡ h.setup → OnlyRepeats h r
+Unedited b inputs = (r : Round) (h : History) → slice_get (rounds_after b inputs) 0 ≡ Some r → r.past ≡ Some h
+    → r.setup ≡ h.setup → OnlyRepeats h r
 
 -- what is promised of rounds holds of those of a beginning of which rounds may be made
 promised_after :
@@ -70,7 +71,8 @@ memo_unedited : (h : History) (inputs : List (List ℕ)) → IsHonest h → Uned
 memo_unedited h inputs honest r k first past same =
     let is : Some h ≡ Some k = sym (first-past (after_memo h) inputs r first) ∙ past in
     let one : h ≡ k = cc in
-    let input : r.setup.input ≡ h.setup.input = ap (λ (s : Setup). s.input) (same ∙ ap (λ (x : History). x.setup) (sym one)) in
+    let input : r.setup.input ≡ h.setup.input =
+    ap (λ (s : Setup). s.input) (same ∙ ap (λ (x : History). x.setup) (sym one)) in
     subst (λ (x : History). OnlyRepeats x r) one
     (again_repeats h r (rerun-again h inputs r honest (record { first = first; same = input })))
 
@@ -82,43 +84,61 @@ promised_of (Runs line) a p is playable spelled honest =
     let s = setup_of line is.contents in
     let valid : IsSetup s = subst (λ (b : Beginning). IsSetup b.setup) is.beginning spelled.valid in
     subst (λ (b : Beginning). ArePromised line.workers (rounds_after b p.inputs)) (sym is.beginning)
-    (promised_after line.workers (from_scratch s) p.inputs (scratch-begins s valid) playable.short (none_unedited s p.inputs))
+    (promised_after line.workers (from_scratch s) p.inputs (scratch-begins s valid) playable.short
+    (none_unedited s p.inputs))
 promised_of (Reruns line) a p is playable spelled honest =
     let h = is.history in
     let true_of : IsHonest h = subst (λ (b : Beginning). BeginsHonestly b) is.beginning honest in
     subst (λ (b : Beginning). ArePromised line.workers (rounds_after b p.inputs)) (sym is.beginning)
-    (promised_after line.workers (after_memo h) p.inputs (memo-begins h true_of) playable.short (memo_unedited h p.inputs true_of))
+    (promised_after line.workers (after_memo h) p.inputs (memo-begins h true_of) playable.short
+    (memo_unedited h p.inputs true_of))
 promised_of (Shows line) a p is playable spelled honest = absurd is
 
 any_after :
     (b : Beginning) (inputs : List (List ℕ)) → IsSetup b.setup → AreBytes b.setup.elf → IsSpelledPast b.past b.setup
-    → AllByRecursion (λ i. length i ≤ 1048576) inputs → AllByRecursion AreBytes inputs → AllByRecursion IsOfAny (rounds_after b inputs)
+    → AllByRecursion (λ i. length i ≤ 1048576) inputs → AllByRecursion AreBytes inputs
+    → AllByRecursion CanBeKept (rounds_after b inputs)
 any_after b [] valid elf known short bytes = tt
 any_after b (input ∷ inputs) valid elf known short bytes =
     let r = round_on b input in
     let may : IsSetup r.setup = with-short b.setup input valid short.0 in
-    let left : IsSpellable (left_by r) = lone-spelled r.setup r.past (record { valid = may; elf_bytes = elf; input_bytes = bytes.0; past = known_on b.past b.setup input known }) in
+    let left : IsSpellable (left_by r) =
+    lone-spelled r.setup r.past
+    (record { valid = may; elf_bytes = elf; input_bytes = bytes.0; past = known_on b.past b.setup input known }) in
     let own = left-own r in
     let same : IsSameProgram (left_by r).setup b.setup =
-    record { elf = ap (λ (s : Setup). s.elf) own; fuel = ap (λ (s : Setup). s.fuel) own; limit = ap (λ (s : Setup). s.limit) own } in
-    (record { ended = round-stops r may; spelled = left }, any_after (after_round b input) inputs valid elf (left, same) short.1 bytes.1)
+    record {
+      elf = ap (λ (s : Setup). s.elf) own;
+      fuel = ap (λ (s : Setup). s.fuel) own;
+      limit =
+          ap (λ (s : Setup). s.limit) own;
+    } in (
+      record { ended = round-stops r may; spelled = left },
+      any_after (after_round b input) inputs valid elf
+          (left, same) short.1 bytes.1,
+    )
   where
-    known_on : (past : Option History) (s : Setup) (input : List ℕ) → IsSpelledPast past s → IsSpelledPast past (with_input s input)
+    known_on : (past : Option History) (s : Setup) (input : List ℕ) → IsSpelledPast past s
+        → IsSpelledPast past (with_input s input)
     known_on None s input known = tt
-    known_on (Some h) s input known = (known.0, record { elf = known.1.elf; fuel = known.1.fuel; limit = known.1.limit })
+    known_on (Some h) s input known =
+        (known.0, record { elf = known.1.elf; fuel = known.1.fuel; limit = known.1.limit })
 
 -- what holds of the rounds of any plan
-pub any_of : (p : Plan) → CanBePlayed p → CanBeSpelled p → All IsOfAny (rounds_of p)
-any_of p playable spelled =
-    All-from_recursion IsOfAny (rounds_of p)
+pub each_kept : (p : Plan) → CanBePlayed p → CanBeSpelled p → All CanBeKept (rounds_of p)
+each_kept p playable spelled =
+    All-from_recursion CanBeKept (rounds_of p)
     (any_after p.beginning p.inputs spelled.valid spelled.elf spelled.past (each-short p.inputs playable.short)
     (recursion_from_All AreBytes p.inputs spelled.inputs))
 
 -- so what the last one leaves can be spelled
-last_any : (b : Beginning) (inputs : List (List ℕ)) → 0 < length inputs → AllByRecursion IsOfAny (rounds_after b inputs) → IsSpellable (last_left b inputs)
-last_any b [] some any = let no : ⊥ = omega arith in absurd no
-last_any b (input ∷ []) some any = any.0.spelled
-last_any b (input ∷ next ∷ inputs) some any = last_any (after_round b input) (next ∷ inputs) (omega arith) any.1
+last_kept : (b : Beginning) (inputs : List (List ℕ)) → 0 < length inputs
+    → AllByRecursion CanBeKept (rounds_after b inputs)
+    → IsSpellable (last_left b inputs)
+last_kept b [] some any = let no : ⊥ = omega arith in absurd no
+last_kept b (input ∷ []) some any = any.0.spelled
+last_kept b (input ∷ next ∷ inputs) some any = last_kept (after_round b input) (next ∷ inputs) (omega arith) any.1
 
-pub last_spelled : (p : Plan) → CanBePlayed p → All IsOfAny (rounds_of p) → IsSpellable (left_of p)
-last_spelled p playable any = last_any p.beginning p.inputs playable.some (recursion_from_All IsOfAny (rounds_of p) any)
+pub last_spelled : (p : Plan) → CanBePlayed p → All CanBeKept (rounds_of p) → IsSpellable (left_of p)
+last_spelled p playable kept =
+    last_kept p.beginning p.inputs playable.some (recursion_from_All CanBeKept (rounds_of p) kept)

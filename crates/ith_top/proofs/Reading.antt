@@ -20,14 +20,17 @@ abbrev pub texts_of : List (Bor (List ℕ)) → List Text
 texts_of names = map (λ name. name.now) names
 
 -- the first so many lists were read
-pub record IsReading (a w : World) (names : List (Bor (List ℕ))) (place : ℕ) (lists : List (Vec ℕ Global)) : Type 0 where
+pub record IsReading (a w : World) (names : List (Bor (List ℕ))) (place : ℕ) (lists : List (Vec ℕ Global)) :
+    Type 0 where
   pub are : AreLists a (take place (texts_of names)) (bytes_of_each lists)
   pub stays : Stays a w
   pub counts : NoneFell a w
   pub asked : AsksFor (take place (texts_of names)) a w
 
-pub none_read : (a : World) (names : List (Bor (List ℕ))) (lists : List (Vec ℕ Global)) → lists ≡ [] → Stays a a → NoneFell a a → IsReading a a names 0 lists
-none_read a names lists none stays counts = rw none (record { are = tt; stays = stays; counts = counts; asked = sym (append-nil a.asked) })
+pub none_read : (a : World) (names : List (Bor (List ℕ))) (lists : List (Vec ℕ Global)) → lists ≡ [] → Stays a a
+    → NoneFell a a → IsReading a a names 0 lists
+none_read a names lists none stays counts =
+    rw none (record { are = tt; stays = stays; counts = counts; asked = sym (append-nil a.asked) })
 
 pub stays_same : (a : World) → Stays a a
 stays_same a = record { tells = refl; files = refl; printed = refl }
@@ -35,28 +38,37 @@ stays_same a = record { tells = refl; files = refl; printed = refl }
 pub none_fell_same : (a : World) → NoneFell a a
 none_fell_same a = record { reads = λ name. omega arith; writes = λ name. omega arith; prints = omega arith }
 
-name_at : (names : List (Bor (List ℕ))) (place : ℕ) (name d : Bor (List ℕ)) → place < length names → name ≡ get_or names place d → name.now ≡ get_or (texts_of names) place name.now
-name_at names place name d within at = ap (λ (n : Bor (List ℕ)). n.now) at ∙ sym (get_or-map (λ (n : Bor (List ℕ)). n.now) names place d name.now within)
+name_at : (names : List (Bor (List ℕ))) (place : ℕ) (name d : Bor (List ℕ)) → place < length names
+    → name ≡ get_or names place d → name.now ≡ get_or (texts_of names) place name.now
+name_at names place name d within at = ap (λ (n : Bor (List ℕ)). n.now) at
+    ∙ sym (get_or-map (λ (n : Bor (List ℕ)). n.now) names place d name.now within)
 
 -- the names up to a place and the one there
-next_name : (names : List (Bor (List ℕ))) (place : ℕ) (name d : Bor (List ℕ)) → place < length names → name ≡ get_or names place d
+next_name : (names : List (Bor (List ℕ))) (place : ℕ) (name d : Bor (List ℕ)) → place < length names
+    → name ≡ get_or names place d
     → take (place + 1) (texts_of names) ≡ take place (texts_of names) ++ name.now ∷ []
 next_name names place name d within at =
-    let inside : place < length (texts_of names) = let same = length-map names (λ (n : Bor (List ℕ)). n.now) in omega arith in
+    let inside : place < length (texts_of names) = let same =
+    length-map names (λ (n : Bor (List ℕ)). n.now) in omega arith in
     take_more (texts_of names) place name.now inside
     ∙ ap (λ (t : Text). take place (texts_of names) ++ t ∷ []) (sym (name_at names place name d within at))
 
 -- one list more was read
 pub one_read :
-    (a w v : World) (names : List (Bor (List ℕ))) (place : ℕ) (name d : Bor (List ℕ)) (lists : List (Vec ℕ Global)) (list : Vec ℕ Global)
+    (a w v : World) (names : List (Bor (List ℕ))) (place : ℕ) (name d : Bor (List ℕ)) (lists : List (Vec ℕ Global))
+    (list : Vec ℕ Global)
     → IsReading a w names place lists → place < length names → name ≡ get_or names place d
-    → IsContent w name.now list.items → length list.items ≤ MOST_LIST_BYTES → Stays w v → NoneFell w v → AsksFor (name.now ∷ []) w v
+    → IsContent w name.now list.items → length list.items ≤ MOST_LIST_BYTES → Stays w v → NoneFell w v
+    → AsksFor (name.now ∷ []) w v
     → IsReading a v names (place + 1) (lists ++ list ∷ [])
 one_read a w v names place name d lists list reading within at content short stays counts asked =
-    let inside : place < length (texts_of names) = let same = length-map names (λ (n : Bor (List ℕ)). n.now) in omega arith in
+    let inside : place < length (texts_of names) = let same =
+    length-map names (λ (n : Bor (List ℕ)). n.now) in omega arith in
     let more =
-    all_zip_more (λ name list. IsContent a name list × (length list ≤ MOST_LIST_BYTES)) (texts_of names) (bytes_of_each lists) place name.now list.items inside
-    (name_at names place name d within at) reading.are (content_before a w name.now list.items reading.stays content, short) in
+    all_zip_more (λ name list. IsContent a name list × (length list ≤ MOST_LIST_BYTES)) (texts_of names)
+    (bytes_of_each lists) place name.now list.items inside
+    (name_at names place name d within at) reading.are
+    (content_before a w name.now list.items reading.stays content, short) in
     record {
       are = rw (map_push (λ (v : Vec ℕ Global). v.items) lists list) more;
       stays = stays_trans a w v reading.stays stays;
@@ -70,20 +82,24 @@ pub all_asked :
     (a w : World) (names : List (Bor (List ℕ))) (place : ℕ) (lists : List (Vec ℕ Global))
     → IsReading a w names place lists → length names ≤ place → AsksForFiles (lists_named (texts_of names)) a w
 all_asked a w names place lists reading over =
-    let past : length (texts_of names) ≤ place = let same = length-map names (λ (n : Bor (List ℕ)). n.now) in omega arith in
-    lists_asked (texts_of names) a w (subst (λ (ns : List Text). AsksFor ns a w) (take_all place (texts_of names) past) reading.asked)
+    let past : length (texts_of names) ≤ place = let same =
+    length-map names (λ (n : Bor (List ℕ)). n.now) in omega arith in
+    lists_asked (texts_of names) a w
+    (subst (λ (ns : List Text). AsksFor ns a w) (take_all place (texts_of names) past) reading.asked)
 
 -- all were read
 pub all_read :
     (a w : World) (names : List (Bor (List ℕ))) (place : ℕ) (lists : List (Vec ℕ Global))
     → IsReading a w names place lists → length names ≤ place → AreLists a (texts_of names) (bytes_of_each lists)
 all_read a w names place lists reading over =
-    let past : length (texts_of names) ≤ place = let same = length-map names (λ (n : Bor (List ℕ)). n.now) in omega arith in
+    let past : length (texts_of names) ≤ place = let same =
+    length-map names (λ (n : Bor (List ℕ)). n.now) in omega arith in
     subst (λ (ns : List Text). AreLists a ns (bytes_of_each lists)) (take_all place (texts_of names) past) reading.are
 
 -- one wasn't read, after the first so many were
 pub one_unread :
-    (a w v : World) (names : List (Bor (List ℕ))) (place : ℕ) (name d : Bor (List ℕ)) (lists : List (Vec ℕ Global)) (s : Status)
+    (a w v : World) (names : List (Bor (List ℕ))) (place : ℕ) (name d : Bor (List ℕ)) (lists : List (Vec ℕ Global))
+    (s : Status)
     → IsReading a w names place lists → place < length names → name ≡ get_or names place d
     → WhyUnread (record { name = name.now; most = MOST_LIST_BYTES } ∷ []) w v s
     → WhyUnread (lists_named (texts_of names)) a v s
@@ -93,7 +109,8 @@ one_unread a w v names place name d lists s reading within at why =
     let split = split_at all place name.now inside (name_at names place name d within at) in
     let here : Named = record { name = name.now; most = MOST_LIST_BYTES } in
     let are : lists_named all ≡ lists_named front ++ here ∷ lists_named split.0 =
-    ap lists_named split.1 ∙ map-append (λ (n : Text). record { name = n; most = MOST_LIST_BYTES }) front (name.now ∷ split.0) in
+    ap lists_named split.1 ∙ map-append (λ (n : Text). record { name = n; most = MOST_LIST_BYTES }) front
+    (name.now ∷ split.0) in
     subst (λ (files : List Named). WhyUnread files a v s) (sym are)
     (unread_more (lists_named front) (here ∷ lists_named split.0) a w v s reading.stays reading.counts
     (lists_asked front a w reading.asked) (lists_within a front (bytes_of_each lists) reading.are)

@@ -32,9 +32,11 @@ content_before a b name bytes stays content =
 -- a told file that is too long later was so before
 pub long_before : (a b : World) (file : Named) → Stays a b → IsLong b file → IsLong a file
 long_before a b file stays long =
-    subst (λ (files : List ℕ → Option (List ℕ)). IfSome (files file.name) (λ told. file.most < length told)) stays.files long
+    subst (λ (files : List ℕ → Option (List ℕ)). IfSome (files file.name) (λ told. file.most < length told)) stays.files
+    long
 
 -- and one that is within its limit
 pub within_before : (a b : World) (file : Named) → Stays a b → IsWithin b file → IsWithin a file
 within_before a b file stays within =
-    subst (λ (files : List ℕ → Option (List ℕ)). IfSome (files file.name) (λ told. length told ≤ file.most)) stays.files within
+    subst (λ (files : List ℕ → Option (List ℕ)). IfSome (files file.name) (λ told. length told ≤ file.most)) stays.files
+    within

@@ -1,5 +1,5 @@
 -- What the files of a line hold, and the rounds that it asks for with them.
-use Rattle.std.specs.Prelude.{◌≡◌, ℕ, ◌≤◌, true, List, length}
+use Rattle.std.specs.Prelude.{◌≡◌, ℕ, ◌≤◌, true, false, List, length}
 use Rattle.std.specs.List.{AllZip}
 use Rattle.elf_spec.specs.declared.TheConstants.{MOST_ELF_BYTES}
 use Rattle.elf_spec.specs.Image.{is_image}
@@ -9,6 +9,7 @@ use Rattle.machine_spec.specs.Setup.{Setup}
 use Rattle.history_spec.specs.History.{History, is_coherent}
 use Rattle.memo_spec.specs.declared.TheConstants.{MOST_MEMO_BYTES}
 use Rattle.memo_spec.specs.Spelling.{Spells}
+use Rattle.memo_spec.specs.Old.{is_old}
 use Rattle.rerun_spec.specs.Inputs.{AreInputs, AreRerunInputs}
 use Rattle.rerun_spec.specs.Rounds.{Beginning, from_scratch, after_memo}
 use Rattle.ith_host.specs.World.{World, IsContent}
@@ -47,9 +48,11 @@ pub record IsMemoContent (before : World) (name : Text) (bytes : List ℕ) : Typ
   pub content : IsContent before name bytes
   pub within : length bytes ≤ MOST_MEMO_BYTES
 
--- Bytes that are accepted as a memo of a history: they spell it, and it holds together.
+-- Bytes that are accepted as a memo of a history: they spell it, it isn't from before the standard extension M, and it
+-- holds together.
 pub record IsMemoOf (bytes : List ℕ) (h : History) : Type 0 where
   pub spells : Spells bytes h
+  pub of_today : is_old h ≡ false
   pub coherent : is_coherent h ≡ true
 
 -- The rounds that a line asks for: how the first begins, and the input of each.

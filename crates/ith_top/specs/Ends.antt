@@ -18,7 +18,7 @@ use Rattle.ith_top.specs.declared.status.Status.{Status}
 use Rattle.ith_top.specs.declared.status.Status.TheVariants as status
 use Rattle.ith_top.specs.Files.{Named, files_named, AsksForFiles, AsksForSome, StopsAt, FailedToRead, IsLong}
 use Rattle.ith_top.specs.Contents.{AreLists, Contents, AreContents, WasRead, IsMemoContent, IsMemoOf, Plan, IsPlan, workers_of}
-use Rattle.ith_top.specs.Rounds.{rounds_of, BeginsHonestly, ArePromised, IsOfAny}
+use Rattle.ith_top.specs.Rounds.{rounds_of, BeginsHonestly, ArePromised, CanBeKept}
 use Rattle.ith_top.specs.Statuses.{code_of}
 
 -- What a line's rounds come from, and what is promised of them: they are from scratch where they begin with no history
@@ -27,7 +27,7 @@ pub record HasRounds (line : Line) (before : World) : Type 0 where
   pub plan : Plan
   pub is_plan : IsPlan line before plan
   pub promised : BeginsHonestly plan.beginning → ArePromised (workers_of line) (rounds_of plan)
-  pub of_any : All IsOfAny (rounds_of plan)
+  pub kept : All CanBeKept (rounds_of plan)
 
 -- The texts that tell of a plan's rounds as they were made, in order: where it is promised that these are from scratch,
 -- they are the rounds' reports.

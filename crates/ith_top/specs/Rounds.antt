@@ -57,6 +57,6 @@ BeginsHonestly b = IfSome b.past IsHonest
 
 -- What holds of each round, also where it goes by a history that isn't honest: it has an end, and what it leaves can be
 -- spelled.
-pub record IsOfAny (r : Round) : Type 0 where
+pub record CanBeKept (r : Round) : Type 0 where
   pub ended : is_some (made r).machine.ending ≡ true
   pub spelled : IsSpellable (left_by r)

@@ -28,9 +28,8 @@ pub fn image_line(alloc: Global, refusal: Refusal) -> Vec<u8> {
 pub fn memo_line(alloc: Global, refusal: MemoRefusal) -> Vec<u8> {
     let mut line = name_line(alloc, "memo: ", memo_kind(refusal));
     let _ = match refusal {
-        MemoRefusal::Version(number) | MemoRefusal::Incoherent(number) => {
-            append_number(alloc, Some(u64::from(number)), &mut line)
-        }
+        MemoRefusal::Version(number) | MemoRefusal::Old(number) | MemoRefusal::Incoherent(number) =>
+            { append_number(alloc, Some(u64::from(number)), &mut line) }
         MemoRefusal::Field(offset) => append_number(alloc, Some(offset as u64), &mut line),
         MemoRefusal::Limit(limit) => line.extend_from_slice(limit_name(limit)),
         MemoRefusal::Image(refusal) => append_image(alloc, refusal, &mut line),
@@ -101,6 +100,7 @@ fn memo_kind(refusal: MemoRefusal) -> &'static str {
         MemoRefusal::Limit(_) => "Limit",
         MemoRefusal::Image(_) => "Image",
         MemoRefusal::Field(_) => "Field",
+        MemoRefusal::Old(_) => "Old",
         MemoRefusal::Incoherent(_) => "Incoherent",
     }
 }

@@ -8,7 +8,7 @@ ghost use Rattle.rerun_spec.specs.Reports.{made_reports, all_made_exit};
 ghost use Rattle.ith_words.specs.Words as said;
 ghost use Rattle.ith_words.specs.Words.{Runs, Reruns};
 ghost use Rattle.ith_words.specs.Said.{run_said, rerun_said};
-ghost use Rattle.ith_top.specs.Rounds.{rounds_of, IsOfAny};
+ghost use Rattle.ith_top.specs.Rounds.{rounds_of, CanBeKept};
 ghost use Rattle.ith_top.specs.Ends.{left_of, IsKeptWithin, PrintsAndKeeps, RoundsEnd, Ends};
 ghost use Rattle.ith_top.specs.Refusals.{WhyUndone};
 ghost use Rattle.ith_top.specs.Playing.{plan_said, CanBePlayed};
@@ -36,7 +36,7 @@ fn carry_out<R: Threads, H: Host>(
 ) -> Result<bool, Status>
     requires some { 1 ≤ workers }
     requires playable { CanBePlayed (plan_said plan) }
-    requires spelled { All IsOfAny (rounds_of (plan_said plan)) }
+    requires spelled { All CanBeKept (rounds_of (plan_said plan)) }
     ensures done { IfOk result (λ _. PrintsAndKeeps (option_map (λ name. name.now) kept.entry)
         (memo (left_of (plan_said plan))) (H.world host.old) (H.world host.new)
         (concat (made_reports workers (rounds_of (plan_said plan))))) }

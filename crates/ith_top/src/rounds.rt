@@ -71,7 +71,8 @@ fn make_rounds<R: Threads, H: Host>(
     ensures exits { IfOk result (λ outcome. outcome.exits ≡ all_made_exit (rounds_of (coming_said setup.now coming))) }
     ensures left { IfOk result (λ outcome. arc_value outcome.left ≡ left_of (coming_said setup.now coming)) }
     ensures refused { IfErr result (λ status. WhyCutShort
-        (made_reports workers (rounds_of (coming_said setup.now coming))) (H.world host.old) (H.world host.new) status) }
+        (made_reports workers (rounds_of (coming_said setup.now coming)))
+        (H.world host.old) (H.world host.new) status) }
     ensures asked { AsksNothing (H.world host.old) (H.world host.new) }
     ensures counts { NoneFell (H.world host.old) (H.world host.new) }
 {

@@ -15,50 +15,71 @@ use Rattle.ith_top.proofs.plan.prepare_rerun.Goals as goal
 pub returns-in-Err-recall-clause-refused : goal.returns-in-Err-recall-clause-refused
 returns-in-Err-recall-clause-refused g c =
     let w = g.H.Host.world in let files = c.in-Ok.files in
-    let why : WhyNoHistory files.memo.items c.in-Err-recall.status = rw (← c.as_slice.ensures.value) c.in-Err-recall.ensures.refused in
-    forgotten_ends (rerun_said c.args.line.now) (w c.args.host.now) (w c.read_rerun_files.new.host) (w c.recall.new.host) files.memo.items (bytes_of_each files.lists.items) c.in-Err-recall.status
-    c.in-Ok.ensures.asked c.in-Err-recall.ensures.asked c.in-Ok.ensures.stays c.in-Err-recall.ensures.stays c.in-Ok.ensures.memo c.in-Ok.ensures.lists why
+    let why : WhyNoHistory files.memo.items c.in-Err-recall.status =
+    rw (← c.as_slice.ensures.value) c.in-Err-recall.ensures.refused in
+    forgotten_ends (rerun_said c.args.line.now) (w c.args.host.now) (w c.read_rerun_files.new.host)
+    (w c.recall.new.host) files.memo.items (bytes_of_each files.lists.items) c.in-Err-recall.status
+    c.in-Ok.ensures.asked c.in-Err-recall.ensures.asked c.in-Ok.ensures.stays c.in-Err-recall.ensures.stays
+    c.in-Ok.ensures.memo c.in-Ok.ensures.lists why
 
 pub returns-in-Err-edit_again-clause-refused : goal.returns-in-Err-edit_again-clause-refused
 returns-in-Err-edit_again-clause-refused g c =
     let w = g.H.Host.world in let files = c.in-Ok.files in
-    let is : IsMemoOf files.memo.items c.in-Ok-recall.history = rw (← c.as_slice.ensures.value) c.in-Ok-recall.ensures.history in
-    let why : WhyUnedited c.in-Ok-recall.history.setup.input (bytes_of_each files.lists.items) c.in-Err-edit_again.status = search rules in
+    let is : IsMemoOf files.memo.items c.in-Ok-recall.history =
+    rw (← c.as_slice.ensures.value) c.in-Ok-recall.ensures.history in
+    let why : WhyUnedited c.in-Ok-recall.history.setup.input
+    (bytes_of_each files.lists.items) c.in-Err-edit_again.status = search rules in
     rerun_unedited_ends (rerun_said c.args.line.now) (w c.args.host.now) (w c.recall.new.host) (w c.edit_again.new.host)
     files.memo.items (bytes_of_each files.lists.items) c.in-Ok-recall.history c.in-Err-edit_again.status
     (c.in-Ok-recall.ensures.asked ∙ c.in-Ok.ensures.asked) c.in-Err-edit_again.ensures.asked
-    (stays_trans (w c.args.host.now) (w c.read_rerun_files.new.host) (w c.recall.new.host) c.in-Ok.ensures.stays c.in-Ok-recall.ensures.stays) c.in-Err-edit_again.ensures.stays
+    (stays_trans (w c.args.host.now) (w c.read_rerun_files.new.host)
+    (w c.recall.new.host) c.in-Ok.ensures.stays c.in-Ok-recall.ensures.stays) c.in-Err-edit_again.ensures.stays
     c.in-Ok.ensures.memo c.in-Ok.ensures.lists is why
 
 pub returns-in-Ok-start_after-clause-plan : goal.returns-in-Ok-start_after-clause-plan
 returns-in-Ok-start_after-clause-plan g c =
     let w = g.H.Host.world in let files = c.in-Ok.files in
-    let p : Plan = record { beginning = beginning_said c.in-Ok-start_after.start; inputs = c.in-Ok-edit_again.inputs } in
-    let is : IsMemoOf files.memo.items c.in-Ok-recall.history = rw (← c.as_slice.ensures.value) c.in-Ok-recall.ensures.history in
-    let edited : AreRerunInputs c.in-Ok-recall.history.setup.input (bytes_of_each files.lists.items) c.in-Ok-edit_again.inputs = search rules in
-    rerun_plan (rerun_said c.args.line.now) (w c.args.host.now) files.memo.items (bytes_of_each files.lists.items) c.in-Ok-recall.history p
+    let p : Plan = record { beginning = beginning_said c.in-Ok-start_after.start; inputs = c.in-Ok-edit_again.inputs }
+    in
+    let is : IsMemoOf files.memo.items c.in-Ok-recall.history =
+    rw (← c.as_slice.ensures.value) c.in-Ok-recall.ensures.history in
+    let edited : AreRerunInputs c.in-Ok-recall.history.setup.input
+    (bytes_of_each files.lists.items) c.in-Ok-edit_again.inputs = search rules in
+    rerun_plan (rerun_said c.args.line.now) (w c.args.host.now) files.memo.items
+    (bytes_of_each files.lists.items) c.in-Ok-recall.history p
     c.in-Ok.ensures.memo c.in-Ok.ensures.lists is c.in-Ok-start_after.ensures edited
 
 pub returns-in-Ok-start_after-clause-playable : goal.returns-in-Ok-start_after-clause-playable
 returns-in-Ok-start_after-clause-playable g c =
     let files = c.in-Ok.files in
-    let p : Plan = record { beginning = beginning_said c.in-Ok-start_after.start; inputs = c.in-Ok-edit_again.inputs } in
-    let is : IsMemoOf files.memo.items c.in-Ok-recall.history = rw (← c.as_slice.ensures.value) c.in-Ok-recall.ensures.history in
-    let edited : AreRerunInputs c.in-Ok-recall.history.setup.input (bytes_of_each files.lists.items) c.in-Ok-edit_again.inputs = search rules in
-    rerun_playable files.memo.items (bytes_of_each files.lists.items) c.in-Ok-recall.history p is c.in-Ok-start_after.ensures c.in-Ok-edit_again.ensures.few edited
+    let p : Plan = record { beginning = beginning_said c.in-Ok-start_after.start; inputs = c.in-Ok-edit_again.inputs }
+    in
+    let is : IsMemoOf files.memo.items c.in-Ok-recall.history =
+    rw (← c.as_slice.ensures.value) c.in-Ok-recall.ensures.history in
+    let edited : AreRerunInputs c.in-Ok-recall.history.setup.input
+    (bytes_of_each files.lists.items) c.in-Ok-edit_again.inputs = search rules in
+    rerun_playable files.memo.items
+    (bytes_of_each files.lists.items) c.in-Ok-recall.history p is c.in-Ok-start_after.ensures
+    c.in-Ok-edit_again.ensures.few edited
 
 pub returns-in-Ok-start_after-clause-spelled : goal.returns-in-Ok-start_after-clause-spelled
 returns-in-Ok-start_after-clause-spelled g c =
     let files = c.in-Ok.files in
-    let p : Plan = record { beginning = beginning_said c.in-Ok-start_after.start; inputs = c.in-Ok-edit_again.inputs } in
-    let is : IsMemoOf files.memo.items c.in-Ok-recall.history = rw (← c.as_slice.ensures.value) c.in-Ok-recall.ensures.history in
-    let edited : AreRerunInputs c.in-Ok-recall.history.setup.input (bytes_of_each files.lists.items) c.in-Ok-edit_again.inputs = search rules in
-    rerun_spelled files.memo.items (bytes_of_each files.lists.items) c.in-Ok-recall.history p is c.in-Ok-start_after.ensures edited
+    let p : Plan = record { beginning = beginning_said c.in-Ok-start_after.start; inputs = c.in-Ok-edit_again.inputs }
+    in
+    let is : IsMemoOf files.memo.items c.in-Ok-recall.history =
+    rw (← c.as_slice.ensures.value) c.in-Ok-recall.ensures.history in
+    let edited : AreRerunInputs c.in-Ok-recall.history.setup.input
+    (bytes_of_each files.lists.items) c.in-Ok-edit_again.inputs = search rules in
+    rerun_spelled files.memo.items
+    (bytes_of_each files.lists.items) c.in-Ok-recall.history p is c.in-Ok-start_after.ensures edited
 
 pub returns-clause-refused : goal.returns-clause-refused
 returns-clause-refused g c =
     let w = g.H.Host.world in
-    let a = w c.args.host.now in let b = w c.read_rerun_files.new.host in let d = w c.recall.new.host in let e = w c.edit_again.new.host in
+    let a = w c.args.host.now in let b = w c.read_rerun_files.new.host in let d = w c.recall.new.host in let e =
+    w c.edit_again.new.host in
     cut_ends (Reruns (rerun_said c.args.line.now)) a e (w c.complain.new.self)
     (c.in-Ok-edit_again.ensures.asked ∙ c.in-Ok-recall.ensures.asked ∙ c.in-Ok.ensures.asked) c.complain.ensures.asked
-    (stays_trans a d e (stays_trans a b d c.in-Ok.ensures.stays c.in-Ok-recall.ensures.stays) c.in-Ok-edit_again.ensures.stays) c.complain.ensures.stays
+    (stays_trans a d e (stays_trans a b d c.in-Ok.ensures.stays c.in-Ok-recall.ensures.stays)
+    c.in-Ok-edit_again.ensures.stays) c.complain.ensures.stays

@@ -32,7 +32,9 @@ unreachable-requires g c =
     let start : c.in_ok-start.start ≡ with_input c.args.setup.now c.args.next.input.items = search rules in
     let is : c.in_ok-round.round ≡ made (round_ahead c.args.setup.now c.args.next) =
     c.in_ok-round.ensures ∙ ap (λ (s : Setup). lone_round s (option_map arc_value c.args.next.past)) start in
-    let begins : Beginning = record { number = c.args.next.number; past = option_map arc_value c.args.next.past; setup = c.args.setup.now } in
+    let begins : Beginning =
+    record { number = c.args.next.number; past = option_map arc_value c.args.next.past; setup = c.args.setup.now }
+    in
     let on : IsOfMap c.in_ok-round.round.past c.in_ok-round.round.setup =
     rw is (round_map begins c.args.next.input.items c.requires.same) in
     c.in_default.not-Some (history_of c.in_ok-round.round) (c.into_history.ensures.same on)
@@ -42,7 +44,9 @@ returns-clause-left g c =
     let start : c.in_ok-start.start ≡ with_input c.args.setup.now c.args.next.input.items = search rules in
     let is : c.in_ok-round.round ≡ made (round_ahead c.args.setup.now c.args.next) =
     c.in_ok-round.ensures ∙ ap (λ (s : Setup). lone_round s (option_map arc_value c.args.next.past)) start in
-    let begins : Beginning = record { number = c.args.next.number; past = option_map arc_value c.args.next.past; setup = c.args.setup.now } in
+    let begins : Beginning =
+    record { number = c.args.next.number; past = option_map arc_value c.args.next.past; setup = c.args.setup.now }
+    in
     let on : IsOfMap c.in_ok-round.round.past c.in_ok-round.round.setup =
     rw is (round_map begins c.args.next.input.items c.requires.same) in
     let left : c.in-Some.left ≡ history_of c.in_ok-round.round =

@@ -19,8 +19,11 @@ loop-place-init g c =
     let w = g.H.Host.world in let coming = c.args.coming in
     let number : coming.number + 0 ≡ coming.number = omega arith in
     record {
-      going = going_start (begins coming.number (option_map arc_value coming.past) c.args.setup.now) (begins (coming.number + 0) (option_map arc_value coming.past) c.args.setup.now)
-          c.args.workers coming.inputs (w c.args.host.now) (ap (λ (n : ℕ). begins n (option_map arc_value coming.past) c.args.setup.now) number) (none_fell_same (w c.args.host.now));
+      going = going_start (begins coming.number (option_map arc_value coming.past) c.args.setup.now)
+          (begins (coming.number + 0) (option_map arc_value coming.past) c.args.setup.now)
+          c.args.workers coming.inputs (w c.args.host.now)
+          (ap (λ (n : ℕ). begins n (option_map arc_value coming.past) c.args.setup.now) number)
+          (none_fell_same (w c.args.host.now));
       left = omega (arith, c.len-place-end.ensures);
       short = c.requires.playable.short;
       map = c.requires.playable.map;
@@ -31,13 +34,16 @@ pub returns-in-Err-clause-refused : goal.returns-in-Err-clause-refused
 returns-in-Err-clause-refused g c =
     let w = g.H.Host.world in let coming = c.args.coming in
     rw (c.no_memory.ensures.status)
-    (going_cut (begins coming.number (option_map arc_value coming.past) c.args.setup.now) c.args.workers coming.inputs (w c.args.host.now) (w c.loop-place.host) (w c.no_memory.new.host)
-    (begins (coming.number + c.loop-place.place) (option_map arc_value c.loop-place.past) c.args.setup.now) c.loop-place.inputs c.loop-place.exits
+    (going_cut (begins coming.number (option_map arc_value coming.past) c.args.setup.now) c.args.workers coming.inputs
+    (w c.args.host.now) (w c.loop-place.host) (w c.no_memory.new.host)
+    (begins (coming.number + c.loop-place.place) (option_map arc_value c.loop-place.past) c.args.setup.now)
+    c.loop-place.inputs c.loop-place.exits
     c.loop-place.invariant.going c.no_memory.ensures.stays)
 
 pub make_round-requires-clause-short : goal.make_round-requires-clause-short
 make_round-requires-clause-short g c =
-    let taken : c.loop-place.inputs ≡ c.in-Ok-Some.input.items ∷ c.next.new.self = rw c.in-Ok-Some.field-0-is at c.in-Ok-Some.ensures.taken in
+    let taken : c.loop-place.inputs ≡ c.in-Ok-Some.input.items ∷ c.next.new.self =
+    rw c.in-Ok-Some.field-0-is at c.in-Ok-Some.ensures.taken in
     short_first c.in-Ok-Some.input.items c.next.new.self (subst AreShort taken c.loop-place.invariant.short)
 
 pub make_round-requires-clause-same : goal.make_round-requires-clause-same
@@ -47,16 +53,21 @@ pub returns-in-Err-make_round-clause-refused : goal.returns-in-Err-make_round-cl
 returns-in-Err-make_round-clause-refused g c =
     let w = g.H.Host.world in let coming = c.args.coming in
     rw (c.no_memory-in-Err-make_round.ensures.status)
-    (going_cut (begins coming.number (option_map arc_value coming.past) c.args.setup.now) c.args.workers coming.inputs (w c.args.host.now) (w c.loop-place.host) (w c.no_memory-in-Err-make_round.new.host)
-    (begins (coming.number + c.loop-place.place) (option_map arc_value c.loop-place.past) c.args.setup.now) c.loop-place.inputs c.loop-place.exits
+    (going_cut (begins coming.number (option_map arc_value coming.past) c.args.setup.now) c.args.workers coming.inputs
+    (w c.args.host.now) (w c.loop-place.host) (w c.no_memory-in-Err-make_round.new.host)
+    (begins (coming.number + c.loop-place.place) (option_map arc_value c.loop-place.past) c.args.setup.now)
+    c.loop-place.inputs c.loop-place.exits
     c.loop-place.invariant.going c.no_memory-in-Err-make_round.ensures.stays)
 
 pub returns-in-Err-print_text-clause-refused : goal.returns-in-Err-print_text-clause-refused
 returns-in-Err-print_text-clause-refused g c =
     let w = g.H.Host.world in let coming = c.args.coming in
-    let taken : c.loop-place.inputs ≡ c.in-Ok-Some.input.items ∷ c.next.new.self = rw c.in-Ok-Some.field-0-is at c.in-Ok-Some.ensures.taken in
-    going_unprinted (begins coming.number (option_map arc_value coming.past) c.args.setup.now) c.args.workers coming.inputs (w c.args.host.now) (w c.loop-place.host) (w c.print_text.new.host)
-    (begins (coming.number + c.loop-place.place) (option_map arc_value c.loop-place.past) c.args.setup.now) c.in-Ok-Some.input.items c.next.new.self c.loop-place.exits
+    let taken : c.loop-place.inputs ≡ c.in-Ok-Some.input.items ∷ c.next.new.self =
+    rw c.in-Ok-Some.field-0-is at c.in-Ok-Some.ensures.taken in
+    going_unprinted (begins coming.number (option_map arc_value coming.past) c.args.setup.now) c.args.workers
+    coming.inputs (w c.args.host.now) (w c.loop-place.host) (w c.print_text.new.host)
+    (begins (coming.number + c.loop-place.place) (option_map arc_value c.loop-place.past) c.args.setup.now)
+    c.in-Ok-Some.input.items c.next.new.self c.loop-place.exits
     c.in-Ok.played.text.items c.in-Err-print_text.status
     (rw taken at c.loop-place.invariant.going)
     c.in-Ok.ensures.text
@@ -65,22 +76,27 @@ returns-in-Err-print_text-clause-refused g c =
 pub loop-place-preserved : goal.loop-place-preserved
 loop-place-preserved g c =
     let w = g.H.Host.world in let coming = c.args.coming in
-    let taken : c.loop-place.inputs ≡ c.in-Ok-Some.input.items ∷ c.next.new.self = rw c.in-Ok-Some.field-0-is at c.in-Ok-Some.ensures.taken in
+    let taken : c.loop-place.inputs ≡ c.in-Ok-Some.input.items ∷ c.next.new.self =
+    rw c.in-Ok-Some.field-0-is at c.in-Ok-Some.ensures.taken in
     let fewer : length c.loop-place.inputs ≡ length (c.in-Ok-Some.input.items ∷ c.next.new.self) = ap length taken in
     let left : c.loop-place.place + length c.loop-place.inputs ≡ c.len-place-end.result = c.loop-place.invariant.left in
-    let now : Beginning = begins (coming.number + c.loop-place.place) (option_map arc_value c.loop-place.past) c.args.setup.now in
+    let now : Beginning =
+    begins (coming.number + c.loop-place.place) (option_map arc_value c.loop-place.past) c.args.setup.now in
     let number : coming.number + (c.loop-place.place + 1) ≡ coming.number + c.loop-place.place + 1 = omega arith in
     let leaves = c.in-Ok.ensures.left in
     record {
-      going = going_next (begins coming.number (option_map arc_value coming.past) c.args.setup.now) c.args.workers coming.inputs (w c.args.host.now) (w c.loop-place.host) (w c.print_text.new.host)
-          now (begins (coming.number + (c.loop-place.place + 1)) (Some (arc_value c.in-Ok.played.left)) c.args.setup.now)
+      going = going_next (begins coming.number (option_map arc_value coming.past) c.args.setup.now) c.args.workers
+          coming.inputs (w c.args.host.now) (w c.loop-place.host) (w c.print_text.new.host)
+          now (begins (coming.number + (c.loop-place.place + 1))
+          (Some (arc_value c.in-Ok.played.left)) c.args.setup.now)
           c.in-Ok-Some.input.items c.next.new.self c.loop-place.exits
           c.in-Ok.played.text.items c.in-Ok.played.exited
           (rw taken at c.loop-place.invariant.going)
           c.in-Ok.ensures.text c.in-Ok.ensures.exits
           (ap (λ (n : ℕ). begins n (Some (arc_value c.in-Ok.played.left)) c.args.setup.now) number
           ∙ ap (λ (h : History). begins (coming.number + c.loop-place.place + 1) (Some h) c.args.setup.now) leaves)
-          (rw (← c.as_slice.ensures.value) c.in-Ok-print_text.ensures.printed) c.in-Ok-print_text.ensures.counts c.in-Ok-print_text.ensures.asked;
+          (rw (← c.as_slice.ensures.value) c.in-Ok-print_text.ensures.printed) c.in-Ok-print_text.ensures.counts
+          c.in-Ok-print_text.ensures.asked;
       left = omega arith;
       short = short_rest c.in-Ok-Some.input.items c.next.new.self (subst AreShort taken c.loop-place.invariant.short);
       map = left_map now c.in-Ok-Some.input.items (arc_value c.in-Ok.played.left) leaves;
@@ -90,25 +106,34 @@ loop-place-preserved g c =
 pub returns-clause-printed : goal.returns-clause-printed
 returns-clause-printed g c =
     let w = g.H.Host.world in let coming = c.args.coming in
-    going_printed (begins coming.number (option_map arc_value coming.past) c.args.setup.now) c.args.workers coming.inputs (w c.args.host.now) (w c.loop-place.host)
-    (begins (coming.number + c.loop-place.place) (option_map arc_value c.loop-place.past) c.args.setup.now) c.loop-place.inputs c.loop-place.exits
-    (none_left c.loop-place.inputs c.loop-place.place c.len-place-end.result c.loop-place.invariant.left c.loop-place-test.false)
+    going_printed (begins coming.number (option_map arc_value coming.past) c.args.setup.now) c.args.workers
+    coming.inputs (w c.args.host.now) (w c.loop-place.host)
+    (begins (coming.number + c.loop-place.place) (option_map arc_value c.loop-place.past) c.args.setup.now)
+    c.loop-place.inputs c.loop-place.exits
+    (none_left c.loop-place.inputs c.loop-place.place c.len-place-end.result c.loop-place.invariant.left
+    c.loop-place-test.false)
     c.loop-place.invariant.going
 
 pub returns-clause-exits : goal.returns-clause-exits
 returns-clause-exits g c =
     let w = g.H.Host.world in let coming = c.args.coming in
-    going_exits (begins coming.number (option_map arc_value coming.past) c.args.setup.now) c.args.workers coming.inputs (w c.args.host.now) (w c.loop-place.host)
-    (begins (coming.number + c.loop-place.place) (option_map arc_value c.loop-place.past) c.args.setup.now) c.loop-place.inputs c.loop-place.exits
-    (none_left c.loop-place.inputs c.loop-place.place c.len-place-end.result c.loop-place.invariant.left c.loop-place-test.false)
+    going_exits (begins coming.number (option_map arc_value coming.past) c.args.setup.now) c.args.workers coming.inputs
+    (w c.args.host.now) (w c.loop-place.host)
+    (begins (coming.number + c.loop-place.place) (option_map arc_value c.loop-place.past) c.args.setup.now)
+    c.loop-place.inputs c.loop-place.exits
+    (none_left c.loop-place.inputs c.loop-place.place c.len-place-end.result c.loop-place.invariant.left
+    c.loop-place-test.false)
     c.loop-place.invariant.going
 
 pub returns-clause-left : goal.returns-clause-left
 returns-clause-left g c =
     let w = g.H.Host.world in let coming = c.args.coming in
-    going_left (begins coming.number (option_map arc_value coming.past) c.args.setup.now) c.args.workers coming.inputs (w c.args.host.now) (w c.loop-place.host)
-    (begins (coming.number + c.loop-place.place) (option_map arc_value c.loop-place.past) c.args.setup.now) c.loop-place.inputs c.loop-place.exits (arc_value c.in-Some.left)
-    (none_left c.loop-place.inputs c.loop-place.place c.len-place-end.result c.loop-place.invariant.left c.loop-place-test.false)
+    going_left (begins coming.number (option_map arc_value coming.past) c.args.setup.now) c.args.workers coming.inputs
+    (w c.args.host.now) (w c.loop-place.host)
+    (begins (coming.number + c.loop-place.place) (option_map arc_value c.loop-place.past) c.args.setup.now)
+    c.loop-place.inputs c.loop-place.exits (arc_value c.in-Some.left)
+    (none_left c.loop-place.inputs c.loop-place.place c.len-place-end.result c.loop-place.invariant.left
+    c.loop-place-test.false)
     (ap (option_map arc_value) c.in-Some.is)
     c.loop-place.invariant.going
 
