@@ -3,8 +3,10 @@
 #![tactic(auto)]
 
 #[cfg(test)]
+mod lines;
+#[cfg(test)]
 mod memos;
 #[cfg(test)]
-mod schedules;
+mod runs;
 #[cfg(test)]
-mod tests;
+mod schedules;

@@ -1,6 +1,6 @@
 //! Memos of worked runs: written, gone on from, listed, and damaged.
 
-use super::tests::{executable, status_of};
+use super::lines::{Row, compare, host_with_guests, status_of};
 use ith_host::MemHost;
 use sha2::{Digest, Sha256};
 use std::alloc::{AllocError, Global};
@@ -8,254 +8,139 @@ use std::collections::BTreeMap;
 use std::process::Abort;
 use std::test::Fail;
 use std::thread::Threads;
-use worked_guests::Guest;
-use worked_guests::guests::{HI, PAIR, SELF, TRAP};
 
-/// A line of the program.
-#[derive(Clone, Copy)]
-struct Call {
-    /// Its words, between spaces.
-    line: &'static str,
-    /// The exit status.
-    status: u8,
-    /// How what it prints begins.
-    begins: &'static str,
-    /// How what it prints ends.
-    ends: &'static str,
-}
+/// The memo of the guest that puts out `hi`: written, gone on from twice, and listed. The digest was computed by
+/// Python's hashlib, over the pages written out by hand.
+const HI: [Row; 4] = [
+    (
+        "ithreads run hi none --workers 1 --memo m",
+        0,
+        "round 0\nend exit 0\nsteps 2\nreused 0\nexecuted 2\ninstructions 8\nby 2\nschedule 0+ 0+\n\
+         memory e067f7df6c32cd794e71b125b718964257c850acbbafd68793e5e4808bcb3984\noutput 3\nhi\n\n",
+    ),
+    (
+        "ithreads rerun m --workers 1 --memo n",
+        0,
+        "round 1\nend exit 0\nsteps 2\nreused 2\nexecuted 0\ninstructions 0\nby 2\nschedule 0= 0=\n\
+         memory e067f7df6c32cd794e71b125b718964257c850acbbafd68793e5e4808bcb3984\noutput 3\nhi\n\n",
+    ),
+    (
+        "ithreads rerun n --workers 1",
+        0,
+        "round 1\nend exit 0\nsteps 2\nreused 2\nexecuted 0\ninstructions 0\nby 2\nschedule 0= 0=\n\
+         memory e067f7df6c32cd794e71b125b718964257c850acbbafd68793e5e4808bcb3984\noutput 3\nhi\n\n",
+    ),
+    (
+        "ithreads show m",
+        0,
+        "elf 119\ninput 0\nfuel 1000000\nlimit 4096\nentries 2\n\
+         entry 0 thread 0 number 0 end call 1 count 5 reads 00010000 writes -\n\
+         entry 1 thread 0 number 1 end call 0 count 3 reads 00010000 writes -\n",
+    ),
+];
 
-/// The first lines of the report of round 0 of the guest that puts out `hi`.
-const HI_BEGINS: &str =
-    "round 0\nend exit 0\nsteps 2\nreused 0\nexecuted 2\ninstructions 8\nby 2\nschedule 0+ 0+\n";
+/// Memos of a trap and of stored pages, and one that is gone on from after edits; lines that are refused.
+const FURTHER: [Row; 10] = [
+    (
+        "ithreads run trap none --workers 1 --memo m",
+        1,
+        "round 0\nend trap 0 0001000c 4\nsteps 1\nreused 0\nexecuted 1\ninstructions 4\nby 1\nschedule 0+\n\
+         memory *\noutput 0\n\n",
+    ),
+    (
+        "ithreads rerun m --workers 1",
+        1,
+        "round 1\nend trap 0 0001000c 4\nsteps 1\nreused 1\nexecuted 0\ninstructions 0\nby 1\nschedule 0=\n\
+         memory *\noutput 0\n\n",
+    ),
+    (
+        "ithreads run self none --workers 1 --memo m",
+        0,
+        "round 0\nend exit 9\nsteps 1\nreused 0\nexecuted 1\ninstructions 6\nby 1\nschedule 0+\n\
+         memory *\noutput 0\n\n",
+    ),
+    (
+        "ithreads show m",
+        0,
+        "elf 112\ninput 0\nfuel 1000000\nlimit 4096\nentries 1\n\
+         entry 0 thread 0 number 0 end call 0 count 6 reads 00010000 writes 00010000\n",
+    ),
+    (
+        "ithreads run pair pages --workers 1 --memo m",
+        0,
+        "round 0\nend exit 0\nsteps 12\nreused 0\nexecuted 12\ninstructions 51\nby 12\n\
+         schedule 0+ 1+ 0+ 2+ 1+ 2+ 0+ 1+ 2+ 0+ 0+ 0+\nmemory *\noutput 4\n\x0c\x00\x00\x00\n",
+    ),
+    (
+        "ithreads rerun m eight --workers 1 --memo m",
+        0,
+        "round 1\nend exit 0\nsteps 12\nreused 8\nexecuted 4\ninstructions 18\nby 12\n\
+         schedule 0= 1= 0= 2+ 1= 2+ 0= 1= 2+ 0= 0+ 0=\nmemory *\noutput 4\n\x0d\x00\x00\x00\n",
+    ),
+    (
+        "ithreads rerun m eight --workers 1",
+        0,
+        "round 1\nend exit 0\nsteps 12\nreused 12\nexecuted 0\ninstructions 0\nby 12\n\
+         schedule 0= 1= 0= 2= 1= 2= 0= 1= 2= 0= 0= 0=\nmemory *\noutput 4\n\x0d\x00\x00\x00\n",
+    ),
+    ("ithreads rerun m bad --workers 1", 5, ""),
+    ("ithreads rerun pair absent --workers 1", 6, ""),
+    ("ithreads show pages", 4, ""),
+];
 
-/// The first lines of the report of a further round without an edit.
-const HI_AGAIN: &str =
-    "round 1\nend exit 0\nsteps 2\nreused 2\nexecuted 0\ninstructions 0\nby 2\nschedule 0= 0=\n";
-
-/// The rest of either. The digest was computed by Python's hashlib, over the pages written out by hand.
-const HI_ENDS: &str =
-    "memory e067f7df6c32cd794e71b125b718964257c850acbbafd68793e5e4808bcb3984\noutput 3\nhi\n\n";
-
-/// The listing of its memo.
-const HI_LISTED: &str = "elf 119\ninput 0\nfuel 1000000\nlimit 4096\nentries 2\n";
-
-/// The lines of its entries.
-const HI_ENTRIES: &str =
-    "entry 0 thread 0 number 0 end call 1 count 5 reads 00010000 writes -\nentry 1 thread 0 number 1 end call 0 count 3 reads 00010000 writes -\n";
-
-/// A host that has these files.
-fn host_with(alloc: Global, files: &[(&str, &[u8])]) -> Result<MemHost, AllocError> {
-    let mut held = BTreeMap::new(alloc);
-    for (name, bytes) in files.iter().copied() {
-        held.insert(
-            String::from_str(alloc, name)?,
-            Vec::from_slice(alloc, bytes)?,
-        )?;
-    }
-    Ok(MemHost::new(alloc, held, Vec::new(alloc), 0))
-}
-
-/// Whether what was printed is its beginning and its end, with nothing between them. Between those of a report whose end
-/// is told from its output on stands the digest of the memory, which isn't compared.
-fn is_whole(printed: &[u8], call: &Call) -> bool {
-    let told = call.begins.len().wrapping_add(call.ends.len());
-    call.ends.starts_with("output ") || printed.len() == told
-}
-
-/// The bytes from a place on.
-fn bytes_from(bytes: &[u8], place: usize) -> &[u8] {
-    if place <= bytes.len() {
-        &bytes[place..]
-    } else {
-        bytes
-    }
-}
-
-/// The bytes before a place.
-fn bytes_before(bytes: &[u8], place: usize) -> &[u8] {
-    if place <= bytes.len() {
-        &bytes[..place]
-    } else {
-        bytes
-    }
-}
-
-/// Does a line, and compares.
-fn compare<R: Threads + Sync + Abort>(
-    rt: &R,
-    alloc: Global,
-    host: &mut MemHost,
-    call: &Call,
-) -> Result<(), Fail> {
-    let before = host.printed().len();
-    let status = status_of(rt, alloc, host, call.line)?;
-    assert_eq!(rt; status, call.status);
-    let printed = bytes_from(host.printed(), before);
-    assert!(rt; printed.starts_with(call.begins.as_bytes()));
-    assert!(rt; printed.ends_with(call.ends.as_bytes()));
-    assert!(rt; is_whole(printed, call));
-    Ok(())
-}
-
-/// A host with a guest and an empty input.
-fn host_of(alloc: Global, guest: Guest) -> Result<MemHost, AllocError> {
-    let file = executable(alloc, guest)?;
-    host_with(alloc, &[("guest", file.as_slice()), ("input", b"")])
-}
-
-#[test]
-fn a_memo_is_kept_and_gone_on_from(rt: HostRuntime) -> Result<(), Fail> {
-    let alloc = rt.alloc();
-    let mut host = host_of(alloc, HI)?;
-    for call in [
-        Call {
-            line: "ithreads run guest input --workers 1 --memo m",
-            status: 0,
-            begins: HI_BEGINS,
-            ends: HI_ENDS,
-        },
-        Call {
-            line: "ithreads rerun m --workers 1 --memo n",
-            status: 0,
-            begins: HI_AGAIN,
-            ends: HI_ENDS,
-        },
-        Call {
-            line: "ithreads rerun n --workers 1",
-            status: 0,
-            begins: HI_AGAIN,
-            ends: HI_ENDS,
-        },
-        Call {
-            line: "ithreads show m",
-            status: 0,
-            begins: HI_LISTED,
-            ends: HI_ENTRIES,
-        },
-    ] {
-        compare(&rt, alloc, &mut host, &call)?;
-    }
+/// Whether the host has a memo of this length, and another that is the same.
+fn is_kept_again(host: &MemHost, length: usize) -> bool {
     match (host.file("m"), host.file("n")) {
-        (Some(memo), Some(again)) => {
-            assert_eq!(rt; memo.len(), 4827);
-            assert!(rt; memo == again);
-        }
-        _ => assert!(rt; false, "a memo is missing"),
+        (Some(memo), Some(again)) => memo.len() == length && memo == again,
+        _ => false,
     }
-    Ok(())
 }
 
 #[test]
-fn a_memo_keeps_traps_and_stored_pages(rt: HostRuntime) -> Result<(), Fail> {
+fn memos_are_kept_and_gone_on_from(rt: HostRuntime) -> Result<(), Fail> {
     let alloc = rt.alloc();
-    let mut host = host_of(alloc, TRAP)?;
-    for call in [
-        Call {
-            line: "ithreads run guest input --workers 1 --memo m",
-            status: 1,
-            begins: "round 0\nend trap 0 0001000c 4\nsteps 1\nreused 0\nexecuted 1\ninstructions 4\nby 1\nschedule 0+\n",
-            ends: "output 0\n\n",
-        },
-        Call {
-            line: "ithreads rerun m --workers 1",
-            status: 1,
-            begins: "round 1\nend trap 0 0001000c 4\nsteps 1\nreused 1\nexecuted 0\ninstructions 0\nby 1\nschedule 0=\n",
-            ends: "output 0\n\n",
-        },
-    ] {
-        compare(&rt, alloc, &mut host, &call)?;
-    }
-    let mut host = host_of(alloc, SELF)?;
-    for call in [
-        Call {
-            line: "ithreads run guest input --workers 1 --memo m",
-            status: 0,
-            begins: "round 0\nend exit 9\nsteps 1\nreused 0\nexecuted 1\ninstructions 6\n",
-            ends: "output 0\n\n",
-        },
-        Call {
-            line: "ithreads show m",
-            status: 0,
-            begins: "elf 112\ninput 0\nfuel 1000000\nlimit 4096\nentries 1\n",
-            ends: "entry 0 thread 0 number 0 end call 0 count 6 reads 00010000 writes 00010000\n",
-        },
-    ] {
-        compare(&rt, alloc, &mut host, &call)?;
-    }
-    Ok(())
-}
-
-#[test]
-fn a_memo_is_gone_on_from_after_edits(rt: HostRuntime) -> Result<(), Fail> {
-    let alloc = rt.alloc();
-    // zeros, but for a 5 at the beginning and a 7 at the beginning of the second page
-    let mut input = vec![in alloc; 0u8; 4100]?;
-    input[0] = 5;
-    input[4096] = 7;
-    let file = executable(alloc, PAIR)?;
-    let mut host = host_with(
-        alloc,
-        &[
-            ("guest", file.as_slice()),
-            ("input", input.as_slice()),
-            ("eight", b"set 4096 08"),
-            ("bad", b"set 0"),
-        ],
-    )?;
-    for call in [
-        Call {
-            line: "ithreads run guest input --workers 1 --memo m",
-            status: 0,
-            begins: "round 0\nend exit 0\nsteps 12\n",
-            ends: "output 4\n\x0c\x00\x00\x00\n",
-        },
-        Call {
-            line: "ithreads rerun m eight --workers 1 --memo m",
-            status: 0,
-            begins: "round 1\nend exit 0\nsteps 12\nreused 8\nexecuted 4\ninstructions 18\nby 12\nschedule 0= 1= 0= 2+ 1= 2+ 0= 1= 2+ 0= 0+ 0=\n",
-            ends: "output 4\n\x0d\x00\x00\x00\n",
-        },
-        Call {
-            line: "ithreads rerun m eight --workers 1",
-            status: 0,
-            begins: "round 1\nend exit 0\nsteps 12\nreused 12\nexecuted 0\ninstructions 0\n",
-            ends: "output 4\n\x0d\x00\x00\x00\n",
-        },
-        Call {
-            line: "ithreads rerun m bad --workers 1",
-            status: 5,
-            begins: "",
-            ends: "",
-        },
-        Call {
-            line: "ithreads rerun guest absent --workers 1",
-            status: 6,
-            begins: "",
-            ends: "",
-        },
-        Call {
-            line: "ithreads show input",
-            status: 4,
-            begins: "",
-            ends: "",
-        },
-    ] {
-        compare(&rt, alloc, &mut host, &call)?;
-    }
-    Ok(())
+    let mut host = host_with_guests(alloc)?;
+    compare(&rt, alloc, &mut host, &HI)?;
+    assert!(rt; is_kept_again(&host, 4827));
+    compare(&rt, alloc, &mut host, &FURTHER)
 }
 
 /// The memo of the guest that puts out `hi`.
-fn memo_of_hi<R: Threads + Sync + Abort>(rt: &R, alloc: Global) -> Result<Vec<u8>, Fail> {
-    let mut host = host_of(alloc, HI)?;
-    let line = "ithreads run guest input --workers 1 --memo m";
-    let status = status_of(rt, alloc, &mut host, line)?;
-    assert_eq!(rt; status, 0);
+fn memo_of_hi<R: Threads + Sync>(rt: &R, alloc: Global) -> Result<Vec<u8>, AllocError> {
+    let mut host = host_with_guests(alloc)?;
+    let line = "ithreads run hi none --workers 1 --memo m";
+    status_of(rt, alloc, &mut host, line)?;
     match host.file("m") {
-        Some(memo) => Ok(Vec::from_slice(alloc, memo)?),
+        Some(memo) => Vec::from_slice(alloc, memo),
         None => Ok(Vec::new(alloc)),
     }
 }
+
+/// Other bytes in a memo: from which offset on, which, and what is then complained of.
+type Damage = (usize, &'static [u8], &'static str);
+
+/// What the digest at the end doesn't fit any more.
+const UNSEALED: [Damage; 3] = [
+    (0, &[0], "memo: Magic\n"),
+    (4, &[2], "memo: Version 2\n"),
+    (8, &[0], "memo: Digest\n"),
+];
+
+/// What stands under a digest that fits.
+const SEALED: [Damage; 12] = [
+    (8, &[1, 0, 0, 1], "memo: Limit elf\n"),
+    (135, &[0, 0, 0, 0], "memo: Limit fuel\n"),
+    (139, &[0, 0, 0, 0], "memo: Limit steps\n"),
+    (143, &[0, 0, 0, 0], "memo: Limit entries\n"),
+    (143, &[3, 0, 0, 0], "memo: Field 4795\n"),
+    (4249, &[0, 0, 0, 0], "memo: Field 4249\n"),
+    (4511, &[17, 0, 0, 0], "memo: Field 4511\n"),
+    (4515, &[1, 0, 0, 0], "memo: Field 4515\n"),
+    (12, &[0], "memo: Image NotElf\n"),
+    (4247, &[32], "memo: Field 4247\n"),
+    (4248, &[10], "memo: Field 4248\n"),
+    (4247, &[1], "memo: Incoherent 0\n"),
+];
 
 /// Bytes with others in place of some, from an offset on.
 fn with_bytes(
@@ -274,27 +159,58 @@ fn with_bytes(
     Ok(changed)
 }
 
-/// A memo with other bytes in place of some, from an offset on, and another digest.
-fn changed(alloc: Global, memo: &[u8], at: usize, others: &[u8]) -> Result<Vec<u8>, AllocError> {
-    let text = bytes_before(memo, memo.len().wrapping_sub(32));
-    let mut text = with_bytes(alloc, text, at, others)?;
-    let digest = Sha256::digest(text.as_slice());
-    text.extend_from_slice(digest.as_slice())?;
-    Ok(text)
+/// A memo with another digest at its end, one that fits.
+fn sealed(mut memo: Vec<u8>) -> Result<Vec<u8>, AllocError> {
+    memo.truncate(memo.len().wrapping_sub(32));
+    let digest = Sha256::digest(memo.as_slice());
+    memo.extend_from_slice(digest.as_slice())?;
+    Ok(memo)
 }
 
-/// Shows a memo, and compares the line on the standard error.
-fn compare_refused<R: Threads + Sync + Abort>(
+/// Whether a memo is refused with this complaint, and nothing is printed.
+fn is_refused<R: Threads + Sync>(
+    rt: &R,
+    alloc: Global,
+    memo: Vec<u8>,
+    complaint: &str,
+) -> Result<bool, AllocError> {
+    let mut files = BTreeMap::new(alloc);
+    files.insert(String::from_str(alloc, "m")?, memo)?;
+    let mut host = MemHost::new(alloc, files, Vec::new(alloc), 0);
+    let status = status_of(rt, alloc, &mut host, "ithreads rerun m --workers 1")?;
+    let told = host.complained() == complaint.as_bytes();
+    Ok(status == 4 && told && host.printed().is_empty())
+}
+
+/// Damages a memo, and compares what is complained of.
+fn compare_damage<R: Threads + Sync + Abort>(
     rt: &R,
     alloc: Global,
     memo: &[u8],
+    (at, others, complaint): Damage,
+    is_sealed: bool,
+) -> Result<(), Fail> {
+    let mut damaged = with_bytes(alloc, memo, at, others)?;
+    if is_sealed {
+        damaged = sealed(damaged)?;
+    }
+    let refused = is_refused(rt, alloc, damaged, complaint)?;
+    assert!(rt; refused, "at {complaint}");
+    Ok(())
+}
+
+/// Cuts a memo off, and compares what is complained of.
+fn compare_cut<R: Threads + Sync + Abort>(
+    rt: &R,
+    alloc: Global,
+    memo: &[u8],
+    length: usize,
     complaint: &str,
 ) -> Result<(), Fail> {
-    let mut host = host_with(alloc, &[("m", memo)])?;
-    let status = status_of(rt, alloc, &mut host, "ithreads rerun m --workers 1")?;
-    assert_eq!(rt; status, 4, "at {complaint}");
-    assert_eq!(rt; host.printed().len(), 0);
-    assert!(rt; host.complained() == complaint.as_bytes(), "at {complaint}");
+    let mut cut = Vec::from_slice(alloc, memo)?;
+    cut.truncate(length);
+    let refused = is_refused(rt, alloc, cut, complaint)?;
+    assert!(rt; refused, "at {complaint}");
     Ok(())
 }
 
@@ -302,37 +218,13 @@ fn compare_refused<R: Threads + Sync + Abort>(
 fn a_damaged_memo_is_refused(rt: HostRuntime) -> Result<(), Fail> {
     let alloc = rt.alloc();
     let memo = memo_of_hi(&rt, alloc)?;
-    for (at, byte, complaint) in [
-        (0usize, 0u8, "memo: Magic\n"),
-        (4, 2, "memo: Version 2\n"),
-        (8, 0, "memo: Digest\n"),
-    ] {
-        let damaged = with_bytes(alloc, &memo, at, &[byte])?;
-        compare_refused(&rt, alloc, damaged.as_slice(), complaint)?;
+    compare_cut(&rt, alloc, &memo, 4826, "memo: Digest\n")?;
+    compare_cut(&rt, alloc, &memo, 39, "memo: Short\n")?;
+    for damage in UNSEALED {
+        compare_damage(&rt, alloc, &memo, damage, false)?;
     }
-    compare_refused(&rt, alloc, bytes_before(&memo, 4826), "memo: Digest\n")?;
-    compare_refused(&rt, alloc, bytes_before(&memo, 39), "memo: Short\n")?;
-    for (at, bytes, complaint) in [
-        (8usize, &[1u8, 0, 0, 1], "memo: Limit elf\n"),
-        (135, &[0, 0, 0, 0], "memo: Limit fuel\n"),
-        (139, &[0, 0, 0, 0], "memo: Limit steps\n"),
-        (143, &[0, 0, 0, 0], "memo: Limit entries\n"),
-        (143, &[3, 0, 0, 0], "memo: Field 4795\n"),
-        (4249, &[0, 0, 0, 0], "memo: Field 4249\n"),
-        (4511, &[17, 0, 0, 0], "memo: Field 4511\n"),
-        (4515, &[1, 0, 0, 0], "memo: Field 4515\n"),
-    ] {
-        let damaged = changed(alloc, &memo, at, bytes)?;
-        compare_refused(&rt, alloc, damaged.as_slice(), complaint)?;
-    }
-    for (at, byte, complaint) in [
-        (12usize, 0u8, "memo: Image NotElf\n"),
-        (4247, 32, "memo: Field 4247\n"),
-        (4248, 10, "memo: Field 4248\n"),
-        (4247, 1, "memo: Incoherent 0\n"),
-    ] {
-        let damaged = changed(alloc, &memo, at, &[byte])?;
-        compare_refused(&rt, alloc, damaged.as_slice(), complaint)?;
+    for damage in SEALED {
+        compare_damage(&rt, alloc, &memo, damage, true)?;
     }
     Ok(())
 }

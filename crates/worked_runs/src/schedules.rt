@@ -2,7 +2,7 @@
 
 ghost use Rattle.std.specs.Prelude.{◌≡◌, ◌<◌};
 
-use super::tests::executable;
+use super::lines::executable;
 use machine_spec::{End, Limits};
 use page_store::PageTable;
 use propagate::{Round, drive};
@@ -10,7 +10,6 @@ use release_core::Setup;
 use round_spec::Event;
 use std::alloc::{AllocError, Global};
 use std::marker::Brand;
-use std::process::Abort;
 use std::sync::ledger::{Blank, Ledger};
 use std::test::Fail;
 use std::thread::Threads;
@@ -75,27 +74,36 @@ fn scheduled<R: Threads>(
     driven(rt, alloc, guest, input, &events)
 }
 
+/// A schedule of the guest whose two threads take two mutexes in opposite order, how many of its steps are permitted,
+/// what they execute, and the end, if that is one.
+type Row = (&'static [u8], usize, u64, Option<End>);
+
+const CROSSED: [Row; 5] = [
+    (&[0, 0, 1, 0, 1], 5, 17, Some(End::Deadlock)),
+    (
+        &[0, 0, 0, 0, 0, 1, 1, 1, 1, 1, 0, 0],
+        12,
+        38,
+        Some(End::Exit(0)),
+    ),
+    (&[0, 0, 1, 0, 1, 0], 5, 17, Some(End::Deadlock)),
+    (&[0, 0, 1], 3, 11, None),
+    (&[1], 0, 0, None),
+];
+
+/// Whether a round has this many steps and instructions, and this end.
+fn is_followed(round: &Round, steps: usize, instructions: u64, end: Option<End>) -> bool {
+    round.schedule().len() == steps && round.instructions() == instructions && round.end() == end
+}
+
 #[test]
 fn schedules_are_followed_as_far_as_they_are_permitted(rt: HostRuntime) -> Result<(), Fail> {
-    let alloc = rt.alloc();
-    let rows: [(Guest, &[u8], usize, u64, Option<End>); 5] = [
-        (CROSS, &[0, 0, 1, 0, 1], 5, 17, Some(End::Deadlock)),
-        (
-            CROSS,
-            &[0, 0, 0, 0, 0, 1, 1, 1, 1, 1, 0, 0],
-            12,
-            38,
-            Some(End::Exit(0)),
-        ),
-        (CROSS, &[0, 0, 1, 0, 1, 0], 5, 17, Some(End::Deadlock)),
-        (CROSS, &[0, 0, 1], 3, 11, None),
-        (CROSS, &[1], 0, 0, None),
-    ];
-    for (guest, schedule, steps, instructions, ending) in rows {
-        let round = scheduled(&rt, alloc, guest, b"", schedule)?;
-        assert_eq!(rt; round.schedule().len(), steps);
-        assert_eq!(rt; round.instructions(), instructions);
-        assert!(rt; round.end() == ending);
+    for (schedule, steps, instructions, end) in CROSSED {
+        let round = scheduled(&rt, rt.alloc(), CROSS, b"", schedule)?;
+        assert!(rt;
+            is_followed(&round, steps, instructions, end),
+            "at {schedule:?}"
+        );
     }
     Ok(())
 }
@@ -130,34 +138,35 @@ const INTERLEAVED: [Event; 16] = [
     Event::Commit(0),
 ];
 
+/// Whether both bytes stand in the output and in memory.
+fn has_both_bytes(round: &Round) -> bool {
+    round.output() == b"\x11\x12".as_slice()
+        && byte_at(round.memory(), 1, 0) == Some(0x11)
+        && byte_at(round.memory(), 1, 1) == Some(0x12)
+}
+
 #[test]
 fn masked_commits_keep_both_bytes(rt: HostRuntime) -> Result<(), Fail> {
     let alloc = rt.alloc();
     let round = driven(&rt, alloc, BYTES, b"", &INTERLEAVED)?;
-    assert!(rt; round.end() == Some(End::Exit(0)));
-    assert_eq!(rt; round.schedule().len(), 8);
-    assert!(rt; round.output() == b"\x11\x12".as_slice());
-    assert!(rt; byte_at(round.memory(), 1, 0) == Some(0x11));
-    assert!(rt; byte_at(round.memory(), 1, 1) == Some(0x12));
     let in_order = scheduled(&rt, alloc, BYTES, b"", &[0, 0, 1, 2, 0, 0, 0, 0])?;
-    assert_eq!(rt; in_order.schedule().len(), 8);
-    assert_eq!(rt; in_order.instructions(), 35);
-    assert!(rt; in_order.end() == Some(End::Exit(0)));
+    assert!(rt; is_followed(&round, 8, 35, Some(End::Exit(0))));
+    assert!(rt; has_both_bytes(&round));
+    assert!(rt; is_followed(&in_order, 8, 35, Some(End::Exit(0))));
     assert!(rt; *round.memory() == *in_order.memory());
     Ok(())
 }
 
-/// Compares the slots of the read pages of an entry.
-fn compare_reads<R: Abort>(rt: &R, round: &Round, entry: usize, slots: &[usize]) {
+/// Whether an entry has read the pages at these slots, in this order.
+fn has_read(round: &Round, entry: usize, slots: &[usize]) -> bool {
     if entry >= round.schedule().len() {
-        assert!(rt; false, "there is no entry {entry}");
-        return;
+        return false;
     }
-    let reads = round.entry(entry).reads();
-    assert_eq!(rt; reads.pages().len(), slots.len(), "at entry {entry}");
-    for (read, slot) in reads.pages().iter().zip(slots.iter()) {
-        assert_eq!(rt; read.slot(), *slot, "at entry {entry}");
-    }
+    let pages = round.entry(entry).reads().pages();
+    pages
+        .iter()
+        .map(|page| page.slot())
+        .eq(slots.iter().copied())
 }
 
 // The guest's code is in slot 0 and its own data in slot 1; the input's header is in slot 2, and its
@@ -165,12 +174,11 @@ fn compare_reads<R: Abort>(rt: &R, round: &Round, entry: usize, slots: &[usize])
 // over the edge of the header takes bytes of both pages, and the one of the answers of the data.
 #[test]
 fn put_takes_its_pages(rt: HostRuntime) -> Result<(), Fail> {
-    let alloc = rt.alloc();
-    let round = scheduled(&rt, alloc, PUTS, b"\x01\x02\x03", &[0, 0, 0, 0, 0, 0])?;
+    let round = scheduled(&rt, rt.alloc(), PUTS, b"\x01\x02\x03", &[0; 6])?;
     assert!(rt; round.end() == Some(End::Exit(0)));
     let rows: [&[usize]; 6] = [&[0], &[0], &[0], &[0, 2, 3], &[0, 1], &[0]];
     for (entry, slots) in rows.into_iter().enumerate() {
-        compare_reads(&rt, &round, entry, slots);
+        assert!(rt; has_read(&round, entry, slots), "at entry {entry}");
     }
     Ok(())
 }
