@@ -114,7 +114,8 @@ fn add_page(
     requires headers { map header_of headers.now ≡ segments bytes.now }
     requires number { number < 2 ^ 21 }
     ensures mapped { OnOk result (pages.new.mapped.items ≡ (if touched
-        then pages.old.mapped.items ++ record { number = number; permission = page_permission (segments bytes.now) number } ∷ []
+        then pages.old.mapped.items
+        ++ record { number = number; permission = page_permission (segments bytes.now) number } ∷ []
         else pages.old.mapped.items)) }
     ensures table { OnOk result (pages.new.table ≡ (if touched
         then pages.old.table ++ image_page bytes.now number ∷ []

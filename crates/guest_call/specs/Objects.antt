@@ -154,7 +154,8 @@ acts_on readable o (SemPost s) = one_of (nat_lt s OBJECTS) (object.Semaphore s)
 acts_on readable o (SemInit s n) = one_of (nat_lt s OBJECTS && nat_le n largest_value) (object.Semaphore s)
 acts_on readable o (BarrierInit b n) = one_of (nat_lt b OBJECTS && is_count n) (object.Barrier b)
 acts_on readable o (BarrierWait b) = one_of (nat_lt b OBJECTS) (object.Barrier b)
-acts_on readable o (CondWait c m) = if nat_lt c OBJECTS && nat_lt m OBJECTS then object.Condition c ∷ object.Mutex m ∷ [] else []
+acts_on readable o (CondWait c m) =
+    if nat_lt c OBJECTS && nat_lt m OBJECTS then object.Condition c ∷ object.Mutex m ∷ [] else []
 acts_on readable o (Signal c) = leave_objects o c
 acts_on readable o (Broadcast c) = leave_objects o c
 

@@ -52,10 +52,22 @@ first-threads = refl
 
 -- The smallest and the largest limits, and one past each.
 pub limits-least : AreLimits 1 1
-limits-least = record { some_fuel = omega arith; most_fuel = omega arith; some_steps = omega arith; most_steps = omega arith }
+limits-least = record {
+  some_fuel = omega arith;
+  most_fuel = omega arith;
+  some_steps = omega arith;
+  most_steps =
+      omega arith;
+}
 
 pub limits-most : AreLimits 16777216 65536
-limits-most = record { some_fuel = omega arith; most_fuel = omega arith; some_steps = omega arith; most_steps = omega arith }
+limits-most = record {
+  some_fuel = omega arith;
+  most_fuel = omega arith;
+  some_steps = omega arith;
+  most_steps =
+      omega arith;
+}
 
 pub limits-no_fuel : AreLimits 0 1 → ⊥
 limits-no_fuel are = let some = are.some_fuel in omega arith

@@ -77,7 +77,7 @@ finished-stays m t u memory regs e put tied ready other ready_u =
     (ready-written m t memory regs put ready) other (ap (λ (h : Hart). is_ready h.status) same ∙ ready_u)
     ∙ same
 
-can_step-ready : (m : Machine) (t : ℕ) → can_step m t ≡ true → is_ready (hart_of m t).status ≡ true
+pub can_step-ready : (m : Machine) (t : ℕ) → can_step m t ≡ true → is_ready (hart_of m t).status ≡ true
 can_step-ready m t can = grind (arith, nat_tests)
 
 -- a step of one thread leaves every other ready thread's registers, view, number and status as they are

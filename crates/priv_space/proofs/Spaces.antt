@@ -62,7 +62,8 @@ pub stored_space :
     → (let w : Workspace = record { map = map; view = view'; memory = memory'; stored = stored'; taken = taken' } in w)
     ≡ after_storing (record { map = map; view = view; memory = memory; stored = stored; taken = taken })
     (bytes_stored address size value)
-stored_space map view memory stored taken view' memory' stored' taken' address size value slot offset view_is taken_is memory_is stored_is slot_is offset_is aligned lt below =
+stored_space map view memory stored taken view' memory' stored' taken' address size value slot offset view_is taken_is
+    memory_is stored_is slot_is offset_is aligned lt below =
     let within : slot_of map address < length memory = omega arith in
     let within' : slot_of map address < length stored = omega arith in
     let bytes = laid-access map memory address size value aligned within in

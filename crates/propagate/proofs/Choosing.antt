@@ -301,9 +301,9 @@ picked-by w false (Some u) p over chosen is = by (fits_next w.past w.machine u) 
         (fit : Bool) → fits_next w.past w.machine u ≡ fit
         → ((t : ℕ) → p ≡ pick.Reuse t → can_reuse w t ≡ true) × ((t : ℕ) → p ≡ pick.Run t → can_take w t ≡ true)
     by true fit =
-        let reuses : pick_of w ≡ pick.Reuse u = pick-chosen w u true over chosen (chosen-fits w u over chosen ∙ fit) in (
-          λ t same. let is_t : u ≡ t = cc in ap (can_reuse w) (sym is_t) ∙ chosen-fits w u over chosen
-              ∙ fit,
+        let can : can_reuse w u ≡ true = chosen-fits w u over chosen ∙ fit in
+        let reuses : pick_of w ≡ pick.Reuse u = pick-chosen w u true over chosen can in (
+          λ t same. let is_t : u ≡ t = cc in ap (can_reuse w) (sym is_t) ∙ can,
           λ t same. cc,
         )
     by false fit =

@@ -21,7 +21,7 @@ use Rattle.round_spec.specs.Marks.{record_for, fits_next}
 use Rattle.round_spec.specs.Rounds.{RoundState, nobody_out, is_over, is_out, is_out_of, can_begin, can_take, can_reuse, reused_by, committed, given_back, happens, all_happen}
 use Rattle.round_spec.specs.Keeping.{IsHeld, IsInOrder, IsCounted}
 use Rattle.round_spec.proofs.Conditions.{happens-take, happens-commit_over, happens-give_back}
-use Rattle.round_spec.proofs.Happening.{CanBegin, can_begin-parts, nobody_out-none}
+use Rattle.round_spec.proofs.Happening.{CanBegin, can_begin-parts, nobody_out-none, still_out}
 use Rattle.std.specs.declared.alloc.AllocError.{AllocError}
 use Rattle.propagate.specs.declared.events.Committed.{Committed}
 use Rattle.propagate.specs.declared.events.Committed.TheVariants.{Done, Stale, Memory}
@@ -33,20 +33,6 @@ use Rattle.propagate.proofs.Appending.{out-below, take-ready, below-32}
 use Rattle.propagate.specs.Executing.{executed_by}
 use Rattle.propagate.proofs.Keeping.{record_count}
 use Rattle.propagate.proofs.Executing.{run-record, out-commits, commit-counts}
-
--- a flag that was cleared isn't set, and the others are as before
-cleared : (out : List Bool) (t : ℕ) → is_out_of (set out t false) t ≡ false
-cleared [] t = refl
-cleared (b ∷ out) zero = refl
-cleared (b ∷ out) (suc t) = cleared out t
-
-still_out : (out : List Bool) (t u : ℕ) → is_out_of (set out t false) u ≡ true → (u ≢ t) × (is_out_of out u ≡ true)
-still_out out t u is =
-    elim (cases_eq u t) [
-      | inl same ↦ absurd (let none : is_out_of (set out t false) u ≡ false = ap (is_out_of (set out t false)) same
-          ∙ cleared out t in cc)
-      | inr other ↦ (other, sym (get_or-set_other out t u false false other) ∙ is)
-    ]
 
 -- who is out after an event that takes nobody was out before, with the same hart, in the same frame
 record Stays (w v : RoundState) (u : ℕ) : Type 0 where

@@ -1,12 +1,6 @@
 -- What a round keeps beside what is seen of it, after each event.
 use Rattle.std.proofs.Common.{◌≡◌, ◌≤◌, ◌+◌, ◌*◌, ℕ, suc, true, cond, List, [], ◌∷◌, ◌++◌, length, length-append, Option, is_some, refl, ap, sym, ◌∙◌, subst, arith}
-use Rattle.record_spec.specs.Record.{Record, kept_thunk}
-use Rattle.isa_spec.specs.Registers.{Registers}
-use Rattle.memory_spec.specs.Pages.{Memory}
-use Rattle.thunk_spec.specs.Thunk.{Frame, thunk}
-use Rattle.machine_spec.specs.Machine.{Machine, hart_of}
-use Rattle.machine_spec.specs.Step.{step}
-use Rattle.machine_spec.specs.Schedule.{records_from}
+use Rattle.record_spec.specs.Record.{Record}
 use Rattle.machine_spec.specs.Setup.{Setup, IsSetup, first}
 use Rattle.history_spec.specs.History.{History, IsHonest, IsSound, threads_of_records}
 use Rattle.report_spec.specs.declared.Entry.{Entry}
@@ -18,6 +12,7 @@ use Rattle.round_spec.specs.Keeping.{IsFromScratch, IsInOrder, IsCounted}
 use Rattle.round_spec.proofs.Happening.{opening-kept, happens-kept}
 use Rattle.round_spec.proofs.Counting.{round-counted, happens-counted}
 use Rattle.round_spec.proofs.Leaving.{leaves-honest}
+use Rattle.round_spec.proofs.Executed.{executed-records}
 use Rattle.propagate.specs.Kept.{front_in, IsOnMap, IsKept}
 use Rattle.propagate.proofs.Mapped.{opening-on_map, happens-on_map}
 use Rattle.propagate.proofs.Passing.{front-first}
@@ -46,20 +41,6 @@ executed-more [] [] e r same = omega arith
 executed-more [] (q ∷ rs) e r same = absurd (omega arith)
 executed-more (d ∷ es) [] e r same = absurd (omega arith)
 executed-more (d ∷ es) (q ∷ rs) e r same = let rest = executed-more es rs e r (omega arith) in omega arith
-
-kept-count : (f : Frame) (view : Memory) (r : Registers) → (kept_thunk f view r).count ≡ (thunk f view r).count
-unfolding kept_thunk
-kept-count f view r = refl
-
-executed-records :
-    (m : Machine) (es : List Entry)
-    → executed_instructions es (records_from m (threads_of es)) ≡ instructions_from m es
-executed-records m [] = refl
-executed-records m (e ∷ es) =
-    ap (λ n. cond e.reused 0 n + executed_instructions es (records_from (step m e.thread) (threads_of es)))
-    (kept-count m.frame (hart_of m e.thread).view (hart_of m e.thread).regs)
-    ∙ ap (λ n. cond e.reused 0 (thunk m.frame (hart_of m e.thread).view (hart_of m e.thread).regs).count + n)
-    (executed-records (step m e.thread) es)
 
 -- by a sound history the sum is the one that the report tells
 pub reported :

@@ -6,7 +6,6 @@ use Rattle.std.specs.Bool.{OnTrue}
 use Rattle.memory_spec.specs.Pages.{Mapped}
 use Rattle.thunk_spec.specs.Thunk.{Frame}
 use Rattle.elf_spec.specs.Image.{image_pages}
-use Rattle.record_spec.specs.Record.{Record}
 use Rattle.machine_spec.specs.Setup.{Setup, map_of, data_pages}
 use Rattle.history_spec.specs.History.{History, IsSound, IsMappedIn, IsMapped, past_records}
 use Rattle.history_spec.proofs.Mapped.{first-map}

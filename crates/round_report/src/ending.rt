@@ -60,22 +60,5 @@ fn append_trap(
     into.push(b' ')?;
     hex8(alloc, pc, into)?;
     into.push(b' ')?;
-    decimal(alloc, cause_number(cause), into)
-}
-
-/// The number of a cause (RISC-V privileged ISA 20211203, 3.1.15); 8 is a call that has no row.
-fn cause_number(cause: Cause) -> u64
-    ensures { result ≡ number_of cause }
-{
-    match cause {
-        Cause::InstructionMisaligned => 0,
-        Cause::InstructionAccess => 1,
-        Cause::IllegalInstruction => 2,
-        Cause::Breakpoint => 3,
-        Cause::LoadMisaligned => 4,
-        Cause::LoadAccess => 5,
-        Cause::StoreMisaligned => 6,
-        Cause::StoreAccess => 7,
-        Cause::BadCall => 8,
-    }
+    decimal(alloc, u64::from(cause.number()), into)
 }

@@ -172,12 +172,18 @@ pick-ended = refl
 -- One worker that goes by the order 0, 0, 1, 0 makes these steps, and exits.
 pub guided-late :
     guided_from (past_of (bare 0 0 ∷ bare 0 1 ∷ bare 1 0 ∷ bare 0 2 ∷ [])) 9 (begins 9 9 late) ≡ 0 ∷ 0 ∷ 1 ∷ 0 ∷ []
-unfolding nobody_out is_due free_threads least_by best choice_by pick_of is_picked_on fits fits_at step finished thunk turn fetched number_at number_in permission_at decoded reading_of u_immediate i_immediate s_immediate immediate_result shift_result register_result with_register is_readable put_addresses loaded may_store bytes_stored with_byte first_registers all_unlocked
+unfolding nobody_out is_due free_threads least_by best choice_by pick_of is_picked_on fits fits_at step finished thunk
+    turn fetched number_at number_in permission_at decoded reading_of u_immediate i_immediate s_immediate
+    immediate_result shift_result register_result with_register is_readable put_addresses loaded may_store bytes_stored
+    with_byte first_registers all_unlocked
 guided-late = refl
 
 -- With nothing to go by, main and the thread alternate.
 pub guided-alone : guided_from None 9 (begins 9 9 late) ≡ 0 ∷ 1 ∷ 0 ∷ 1 ∷ 0 ∷ []
-unfolding nobody_out is_due free_threads least_by best choice_by pick_of is_picked_on fits fits_at step finished thunk turn fetched number_at number_in permission_at decoded reading_of u_immediate i_immediate s_immediate immediate_result shift_result register_result with_register is_readable put_addresses loaded may_store bytes_stored with_byte first_registers all_unlocked
+unfolding nobody_out is_due free_threads least_by best choice_by pick_of is_picked_on fits fits_at step finished thunk
+    turn fetched number_at number_in permission_at decoded reading_of u_immediate i_immediate s_immediate
+    immediate_result shift_result register_result with_register is_readable put_addresses loaded may_store bytes_stored
+    with_byte first_registers all_unlocked
 guided-alone = refl
 
 -- Rightly picked is who is ready, at that number, and due.
@@ -219,5 +225,8 @@ picked-unplaced_unfit = refl
 pub lone-late :
     seen (after_picks 9 (starts (begins 9 9 late) (past_of (bare 0 0 ∷ bare 0 1 ∷ bare 1 0 ∷ bare 0 2 ∷ []))))
     ≡ (executes 0 ∷ executes 0 ∷ executes 1 ∷ executes 0 ∷ [], [], 0, false)
-unfolding nobody_out is_due free_threads least_by best choice_by pick_of is_picked_on fits fits_at step finished thunk turn fetched number_at number_in permission_at decoded reading_of u_immediate i_immediate s_immediate immediate_result shift_result register_result with_register is_readable put_addresses loaded may_store bytes_stored with_byte first_registers all_unlocked happens
+unfolding nobody_out is_due free_threads least_by best choice_by pick_of is_picked_on fits fits_at step finished thunk
+    turn fetched number_at number_in permission_at decoded reading_of u_immediate i_immediate s_immediate
+    immediate_result shift_result register_result with_register is_readable put_addresses loaded may_store bytes_stored
+    with_byte first_registers all_unlocked happens
 lone-late = refl

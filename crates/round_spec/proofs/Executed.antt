@@ -21,7 +21,7 @@ kept-count : (f : Frame) (view : Memory) (r : Registers) → (kept_thunk f view 
 unfolding kept_thunk
 kept-count f view r = refl
 
-executed-records :
+pub executed-records :
     (m : Machine) (es : List Entry)
     → executed_instructions es (records_from m (threads_of es)) ≡ instructions_from m es
 executed-records m [] = refl

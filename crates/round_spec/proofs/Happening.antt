@@ -11,7 +11,7 @@ use Rattle.machine_spec.specs.Setup.{Setup, IsSetup, first}
 use Rattle.machine_spec.proofs.Beginning.{IsWhole-first}
 use Rattle.machine_spec.proofs.Steps.{step-stays, step-whole}
 use Rattle.history_spec.specs.History.{History}
-use Rattle.history_spec.proofs.Scratch.{scratch-frame, scratch-more, permitted-more, records-more}
+use Rattle.history_spec.proofs.Scratch.{and-left, and-right, scratch-frame, scratch-more, permitted-more, records-more}
 use Rattle.history_spec.proofs.Laying.{lay-whole, lay-stays}
 use Rattle.history_spec.proofs.Truth.{past-of, reuse-record, reuse-lay}
 use Rattle.report_spec.specs.declared.Entry.{Entry}
@@ -39,13 +39,13 @@ unfolding nobody_out
 nobody_out-length = refl
 
 -- a flag that was cleared isn't set
-cleared : (out : List Bool) (t : ℕ) → is_out_of (set out t false) t ≡ false
+pub cleared : (out : List Bool) (t : ℕ) → is_out_of (set out t false) t ≡ false
 cleared [] t = refl
 cleared (b ∷ out) zero = refl
 cleared (b ∷ out) (suc t) = cleared out t
 
 -- who is out after a flag was cleared was out before, and is another thread
-still_out : (out : List Bool) (t u : ℕ) → is_out_of (set out t false) u ≡ true → (u ≢ t) × (is_out_of out u ≡ true)
+pub still_out : (out : List Bool) (t u : ℕ) → is_out_of (set out t false) u ≡ true → (u ≢ t) × (is_out_of out u ≡ true)
 still_out out t u is =
     elim (cases_eq u t) [
       | inl same ↦ absurd (let none : is_out_of (set out t false) u ≡ false = rw same (cleared out t) in cc)
@@ -69,14 +69,6 @@ begin-parts None true ready out h = cc
 begin-parts None false false out h = cc
 begin-parts None false true true h = cc
 begin-parts None false true false h = (refl, refl, refl)
-
-and-left : (a b : Bool) → (a && b) ≡ true → a ≡ true
-and-left true b h = refl
-and-left false b h = h
-
-and-right : (a b : Bool) → (a && b) ≡ true → b ≡ true
-and-right true b h = h
-and-right false b h = cc
 
 not-true : (b : Bool) → not b ≡ true → b ≡ false
 not-true true h = cc
@@ -245,7 +237,8 @@ given_back-kept w t kept =
           let before : IsHeld w u = kept.held u (still_out w.out t u out).1 in
           record { ready = before.ready; unfit = before.unfit };
       scratch = λ sound.
-          aside-scratch w (set w.out t false) (min (suc w.discarded) 18446744073709551615) w.stopped (kept.scratch sound);
+          aside-scratch w (set w.out t false) (min (suc w.discarded) 18446744073709551615) w.stopped
+          (kept.scratch sound);
     }
 
 committed-kept :

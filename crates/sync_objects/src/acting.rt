@@ -58,7 +58,8 @@ fn leave_objects(conditions: &Conditions, c: u32) -> ActedOn
 /// The objects on which a call acts, which is no put.
 pub(super) fn acts_on(conditions: &Conditions, call: Call) -> ActedOn
     requires { is_put call ≡ false }
-    ensures { (readable : ℕ → ℕ → Bool) (o : spec.Objects) → o.conditions ≡ conditions.now → objects_in result ≡ spec.acts_on readable o call }
+    ensures { (readable : ℕ → ℕ → Bool) (o : spec.Objects) → o.conditions ≡ conditions.now
+        → objects_in result ≡ spec.acts_on readable o call }
 {
     match call {
         Call::Exit(_) | Call::Yield => ActedOn::Nothing,

@@ -64,7 +64,8 @@ fn cond_wait(
 fn come_back(mutexes: &mut Mutexes, leaving: &Leaving) -> Effect
     requires mutex { leaving.now.mutex < OBJECTS }
     requires once { (u : ℕ) → waits mutex_queue mutexes.old u + places u leaving.now.threads ≤ 1 }
-    ensures effect { result ≡ wakes (Fate.Returns 0 None) (admit_each_at mutexes.old leaving.now.mutex leaving.now.threads).0 }
+    ensures effect { result
+        ≡ wakes (Fate.Returns 0 None) (admit_each_at mutexes.old leaving.now.mutex leaving.now.threads).0 }
     ensures mutexes { mutexes.new ≡ (admit_each_at mutexes.old leaving.now.mutex leaving.now.threads).1 }
 {
     let woken = mutexes.admit_each(leaving.mutex, &leaving.threads);
@@ -99,7 +100,8 @@ fn act_on(tables: &mut Tables, t: Thread, call: Call) -> Effect
     requires exists { t < length tables.old.threads }
     requires free { spec.waits_at (objects_of tables.old) t ≡ 0 }
     requires no_put { is_put call ≡ false }
-    ensures { (readable : ℕ → ℕ → Bool) → (result, objects_of tables.new) ≡ spec.act readable (objects_of tables.old) t call }
+    ensures { (readable : ℕ → ℕ → Bool)
+        → (result, objects_of tables.new) ≡ spec.act readable (objects_of tables.old) t call }
 {
     match call {
         Call::Exit(code) => Effect::exits(code),

@@ -9,7 +9,7 @@ use Rattle.machine_spec.specs.Setup.{Setup, IsSetup, first}
 use Rattle.machine_spec.specs.Whole.{IsWhole}
 use Rattle.machine_spec.proofs.Alone.{step-limit, step-steps, first-limit}
 use Rattle.machine_spec.proofs.Beginning.{IsWhole-first}
-use Rattle.machine_spec.proofs.Steps.{step-whole}
+use Rattle.machine_spec.proofs.Steps.{step-whole, can_step-ready}
 use Rattle.history_spec.specs.History.{History}
 use Rattle.history_spec.proofs.Laying.{fits-can_step, lay-limit, lay-whole}
 use Rattle.history_spec.proofs.Numbers.{lay-steps}
@@ -20,7 +20,6 @@ use Rattle.round_spec.specs.Marks.{record_for, is_fitting, fits_next}
 use Rattle.round_spec.specs.Rounds.{RoundState, opening}
 use Rattle.round_spec.specs.Choice.{pick_of}
 use Rattle.round_spec.specs.Alone.{after_pick, after_picks, lone_round}
-use Rattle.worker_spec.proofs.Numbers.{can_step-ready}
 use Rattle.worker_spec.proofs.Picks.{lone_state, after-reuse, after-run, pick-over, pick-chosen, running, below-32, Stands, Over, Goes, stands}
 
 -- how a round goes on from a whole machine: it is over and stays as it is, or one step more is made

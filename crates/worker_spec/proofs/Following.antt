@@ -13,6 +13,7 @@ use Rattle.machine_spec.specs.Setup.{first, scratch, records}
 use Rattle.machine_spec.specs.Whole.{IsWhole}
 use Rattle.machine_spec.proofs.Beginning.{IsWhole-first}
 use Rattle.machine_spec.proofs.Alone.{step-limit, step-steps, first-limit}
+use Rattle.machine_spec.proofs.Steps.{can_step-ready}
 use Rattle.history_spec.specs.History.{History, IsHonest, schedule_of, is_of, past_records}
 use Rattle.history_spec.proofs.Scratch.{and-left, and-right, scratch-whole, scratch-more}
 use Rattle.history_spec.proofs.Numbers.{first-steps}
@@ -24,7 +25,7 @@ use Rattle.round_spec.specs.Due.{place_in, is_passed, must_come_before, is_due}
 use Rattle.round_spec.specs.Choice.{choice_by}
 use Rattle.round_spec.specs.Alone.{guided_from}
 use Rattle.worker_spec.proofs.Choosing.{choice_by-chosen}
-use Rattle.worker_spec.proofs.Numbers.{IsMadeOn, made-all, can_step-ready}
+use Rattle.worker_spec.proofs.Numbers.{IsMadeOn, made-all}
 use Rattle.worker_spec.proofs.Picks.{guided-over, guided-next, Stands, Over, Goes, stands}
 
 -- where nothing in front passes a test

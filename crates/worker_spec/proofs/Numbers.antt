@@ -1,16 +1,14 @@
 -- Each step of a permitted schedule has been made after it.
-use Rattle.std.proofs.Common.{◌≡◌, ◌<◌, ℕ, true, eqb, List, [], ◌∷◌, is_none, refl, arith}
+use Rattle.std.proofs.Common.{◌≡◌, ◌<◌, ℕ, true, eqb, List, [], ◌∷◌, refl, arith}
 use Rattle.std.proofs.lemmas.Bool.{eq-eqb}
 use Rattle.std.specs.List.{AllByRecursion}
 use Rattle.record_spec.specs.Record.{Record}
-use Rattle.machine_spec.specs.Machine.{Machine, hart_of, is_ready}
+use Rattle.machine_spec.specs.Machine.{Machine, hart_of}
 use Rattle.machine_spec.specs.Step.{step, can_step}
 use Rattle.machine_spec.specs.Schedule.{scratch_from, is_permitted_from, records_from}
+use Rattle.machine_spec.proofs.Steps.{can_step-ready}
 use Rattle.history_spec.proofs.Scratch.{and-left, and-right}
 use Rattle.history_spec.proofs.Numbers.{one_for, step-number, scratch-number}
-
-pub can_step-ready : (m : Machine) (t : ℕ) → can_step m t ≡ true → is_ready (hart_of m t).status ≡ true
-can_step-ready m t can = and-right (is_none m.ending) (is_ready (hart_of m t).status) can
 
 -- a record whose step has been made
 abbrev pub IsMadeOn : Machine → Record → Type 0

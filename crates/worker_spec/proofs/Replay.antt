@@ -10,6 +10,7 @@ use Rattle.machine_spec.specs.Step.{step, fits}
 use Rattle.machine_spec.specs.Schedule.{record_of, records_from}
 use Rattle.machine_spec.specs.Setup.{Setup, first, scratch, records}
 use Rattle.machine_spec.specs.Whole.{IsWhole}
+use Rattle.machine_spec.proofs.Steps.{can_step-ready}
 use Rattle.history_spec.specs.History.{History, IsHonest, schedule_of}
 use Rattle.history_spec.proofs.Scratch.{scratch-more}
 use Rattle.history_spec.proofs.Truth.{record-fits, record-lay}
@@ -30,7 +31,6 @@ use Rattle.round_spec.proofs.Conditions.{happens-commit_not, happens-give_back_n
 use Rattle.round_spec.proofs.Fits.{threads-more}
 use Rattle.round_spec.proofs.Happening.{nobody_out-none}
 use Rattle.worker_spec.specs.Replaying.{IsReplaying, IsNextStep, goes_on_by}
-use Rattle.worker_spec.proofs.Numbers.{can_step-ready}
 use Rattle.worker_spec.proofs.Following.{IsNext, honest-next, honest-whole, honest-end, next-place, other-place, next-due, next-found, next-fits, next-chosen, can_step-none}
 use Rattle.worker_spec.proofs.Unedited.{reused-all, reused-instructions, reused-executed, unedited-begun}
 

@@ -47,7 +47,8 @@ loop-number-preserved c =
     let more = sym (touched_more bytes n) in (
       c.loop-number.invariant.0,
       c.in_ok-add_page.ensures.mapped
-          ∙ ap (λ b. cond b (c.loop-number.pages.mapped.items ++ mapped_at bytes n ∷ []) c.loop-number.pages.mapped.items)
+          ∙ ap (λ b. cond b (c.loop-number.pages.mapped.items ++ mapped_at bytes n ∷ [])
+          c.loop-number.pages.mapped.items)
           marked ∙ map-pushed (mapped_at bytes) test (touched_below bytes n) n c.loop-number.pages.mapped.items
           c.loop-number.invariant.1 ∙ ap (map (mapped_at bytes)) more,
       c.in_ok-add_page.ensures.table

@@ -6,4 +6,5 @@ use Rattle.sync_objects.proofs.tests.first.Goals as goal
 
 pub act-requires-clause-free : goal.act-requires-clause-free
 act-requires-clause-free c =
-    subst (λ (o : Objects). waits_at o c.in-Some.thread ≡ 0) (sym c.new-objects.ensures) (opening_waits c.in-Some.thread)
+    subst (λ (o : Objects). waits_at o c.in-Some.thread ≡ 0) (sym c.new-objects.ensures)
+    (opening_waits c.in-Some.thread)

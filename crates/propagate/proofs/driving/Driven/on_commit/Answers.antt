@@ -1,5 +1,5 @@
 -- What is left to prove of `Driven::on_commit`.
-use Rattle.std.proofs.Common.{◌≡◌, ◌+◌, true, Result, OnOk, sym, ◌∙◌, subst, arith}
+use Rattle.std.proofs.Common.{◌≡◌, true, Result, OnOk, sym, ◌∙◌, subst, arith}
 use Rattle.std.specs.declared.alloc.AllocError.{AllocError}
 use Rattle.round_spec.specs.declared.events.Event.TheVariants.{GiveBack}
 use Rattle.round_spec.proofs.Conditions.{happens-commit_not}

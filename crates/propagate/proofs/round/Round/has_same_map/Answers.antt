@@ -1,7 +1,6 @@
 -- What is left to prove of `Round::has_same_map`.
-use Rattle.std.proofs.Common.{◌≡◌, Some, None, option_map, ap, sym, subst, ◌∙◌}
+use Rattle.std.proofs.Common.{option_map, ap, sym, subst, ◌∙◌}
 use Rattle.std.specs.Arc.{arc_value}
-use Rattle.memory_spec.specs.Pages.{Mapped}
 use Rattle.elf_spec.specs.Image.{image_pages}
 use Rattle.machine_spec.specs.Setup.{Setup}
 use Rattle.history_spec.specs.History.{History, IsMapped}

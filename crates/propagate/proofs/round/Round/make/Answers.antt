@@ -55,7 +55,12 @@ made :
 made c =
     let from_is : c.from.result ≡ (arc_value c.args.run.now.rec).thread =
     grind (arith, c.from.ensures, c.thread.ensures, c.deref.ensures) in
-    rw (c.in_ok-append.ensures.ok.machine, c.in_ok-append.ensures.ok.schedule, c.in_ok-append.ensures.ok.records, from_is) refl
+    rw (
+      c.in_ok-append.ensures.ok.machine,
+      c.in_ok-append.ensures.ok.schedule,
+      c.in_ok-append.ensures.ok.records,
+      from_is,
+    ) refl
 
 pub invariant_of-self-2 : goal.invariant_of-self-2
 invariant_of-self-2 c =

@@ -95,7 +95,8 @@ there-2 c =
     ∙ ap (λ (r : Record). Some r) (sym c.in_ok-rec-in-Some.ensures)
 
 made : (c : goal.After-drop-rec-2) → after c ≡ appended (start c) (arc_value c.in_ok-rec-in-Some.rec) true (start c).out
-made c = rw (c.in_ok-append.ensures.ok.machine, c.in_ok-append.ensures.ok.schedule, c.in_ok-append.ensures.ok.records) refl
+made c = rw (c.in_ok-append.ensures.ok.machine, c.in_ok-append.ensures.ok.schedule, c.in_ok-append.ensures.ok.records)
+    refl
 
 pub invariant_of-self-2 : goal.invariant_of-self-2
 invariant_of-self-2 c =
