@@ -1,5 +1,6 @@
-/* What a guest written in C needs: the environment calls as functions, the input, and what clang wants of a program that has no C
-   library. It is the only header, and there is no file beside it to link. A guest is an ordinary program:
+/* What a guest written in C without a C library needs: the environment calls as functions, the input, and what clang wants
+   of such a program. It is the only header, and there is no file beside it to link; for programs with a C library there are
+   pthread.h and semaphore.h beside it, and guest/README.md. A guest is an ordinary program:
 
        #include "ithreads.h"
 
@@ -125,6 +126,19 @@ static inline unsigned it_input_length(void)
 {
     return *(const volatile unsigned *)0xC0000000u;
 }
+
+/* For all that follows a program with a C library, built by `guest/build --libc`, has stdio.h, pthread.h and semaphore.h; of this header it has what
+   stands above, and it_yield. */
+#ifdef IT_WITH_C_LIBRARY
+
+#include <sched.h>
+
+static inline int it_yield(void)
+{
+    return sched_yield();
+}
+
+#else
 
 /* Appends bytes to the output. Answers count; -IT_EINVAL where count is above IT_PUT_MOST; -IT_EFAULT where a byte isn't readable. The step
    that makes the call has then loaded these bytes, and what stands beside them on their pages counts too. The next step starts with the count in
@@ -389,7 +403,7 @@ IT_LIBRARY int memcmp(const void *one, const void *other, __SIZE_TYPE__ count)
 }
 
 /* RV32I has no multiplication and no division: clang calls these where a program has *, / or %. A product takes some 6 instructions for each
-   bit of the smaller factor, a quotient some 12 for each of its bits. */
+   bit of the smaller factor, a quotient some 12 for each of its bits. For RV32IM only quotients of long long are calls. */
 IT_LIBRARY unsigned __mulsi3(unsigned a, unsigned b)
 {
     unsigned product = 0, few = a < b ? a : b;
@@ -450,7 +464,7 @@ IT_LIBRARY int __modsi3(int number, int by)
     return number < 0 ? (int)(0u - remainder) : (int)remainder;
 }
 
-/* the same of long long; at the -O2 of examples/guest/build shifts of it need no function */
+/* the same of long long; at the -O2 of guest/build shifts of it need no function */
 IT_LIBRARY unsigned long long __muldi3(unsigned long long a, unsigned long long b)
 {
     unsigned long long product = 0, few = a < b ? a : b;
@@ -487,4 +501,5 @@ IT_LIBRARY long long __moddi3(long long number, long long by)
     return number < 0 ? (long long)(0ull - remainder) : (long long)remainder;
 }
 
+#endif /* IT_WITH_C_LIBRARY */
 #endif

@@ -1,0 +1,214 @@
+/* POSIX threads for guests with a C library: what of POSIX.1-2017 <pthread.h> this machine has. Each function is that
+   of the same name in POSIX.1-2017, System Interfaces; the comments say what it answers here. What isn't declared isn't
+   there: a wait with a time, cancelling, detaching, recursive and robust mutexes, read-write locks and spin locks.
+
+   Answers are 0 or one of errno.h's numbers, and errno isn't set. A program has at most 32 threads, ended ones and
+   main's counted, and of mutexes, conditions, semaphores and barriers 63 of each at once. A mutex or a condition has
+   one of them from its first use or its init on, until it is destroyed. Where all are in use an init answers EAGAIN,
+   and the first use of a static one ends the guest with a message.
+
+   Before each call here the library puts out what the thread has printed: so prints of several threads come in the
+   order of their calls. */
+#ifndef _PTHREAD_H
+#define _PTHREAD_H
+
+#include <sched.h>
+#include <stddef.h>
+#include <time.h>
+
+#ifdef __cplusplus
+extern "C" {
+#endif
+
+/* limits.h's names for what a program may have */
+#define PTHREAD_THREADS_MAX 32
+#define PTHREAD_KEYS_MAX 128
+#define PTHREAD_DESTRUCTOR_ITERATIONS 4
+#define PTHREAD_STACK_MIN 16384
+
+/* ---------------------------------------------------------------------------------------------- threads ---- */
+
+typedef unsigned pthread_t;
+
+/* Attributes of a thread. Only values that change nothing are taken. */
+typedef struct { size_t stack; } pthread_attr_t;
+
+#define PTHREAD_CREATE_JOINABLE 0
+#define PTHREAD_CREATE_DETACHED 1
+#define PTHREAD_SCOPE_SYSTEM 0
+#define PTHREAD_SCOPE_PROCESS 1
+#define PTHREAD_INHERIT_SCHED 0
+#define PTHREAD_EXPLICIT_SCHED 1
+
+/* Creates a thread that calls function(argument). Answers 0; EAGAIN: there are 32 threads. */
+int pthread_create(pthread_t *__restrict thread, const pthread_attr_t *__restrict attributes, void *(*function)(void *),
+                   void *__restrict argument);
+
+/* Waits until the thread has ended; *value is its value. Answers 0; ESRCH: there is no such thread; EDEADLK: it is the
+   caller; EINVAL: somebody waits for it or has waited. */
+int pthread_join(pthread_t thread, void **value);
+
+/* Ends the calling thread. The run goes on until the last thread ends, which is as exit(0). */
+void pthread_exit(void *value) __attribute__((__noreturn__));
+
+/* The caller. */
+pthread_t pthread_self(void);
+
+/* Other than 0 where both are the same thread. */
+int pthread_equal(pthread_t one, pthread_t other);
+
+/* Each answers 0. */
+int pthread_attr_init(pthread_attr_t *attributes);
+int pthread_attr_destroy(pthread_attr_t *attributes);
+
+/* Joinable: 0. Detached: ENOTSUP. Else EINVAL. */
+int pthread_attr_setdetachstate(pthread_attr_t *attributes, int state);
+int pthread_attr_getdetachstate(const pthread_attr_t *attributes, int *state);
+
+/* A stack has 65,536 bytes: up to that 0, and the stack is as it is. More, or less than PTHREAD_STACK_MIN: EINVAL. */
+int pthread_attr_setstacksize(pthread_attr_t *__restrict attributes, size_t size);
+int pthread_attr_getstacksize(const pthread_attr_t *__restrict attributes, size_t *__restrict size);
+
+/* Nothing is guarded: stacks lie one upon the other. Size 0: 0. Else ENOTSUP. */
+int pthread_attr_setguardsize(pthread_attr_t *attributes, size_t size);
+int pthread_attr_getguardsize(const pthread_attr_t *__restrict attributes, size_t *__restrict size);
+
+/* PTHREAD_SCOPE_SYSTEM: 0. PTHREAD_SCOPE_PROCESS: ENOTSUP. Else EINVAL. */
+int pthread_attr_setscope(pthread_attr_t *attributes, int scope);
+int pthread_attr_getscope(const pthread_attr_t *__restrict attributes, int *__restrict scope);
+
+/* ---------------------------------------------------------------------------------------------- mutexes ---- */
+
+typedef struct { int type; } pthread_mutex_t;
+typedef struct { int type, shared; } pthread_mutexattr_t;
+
+#define PTHREAD_PROCESS_PRIVATE 0
+#define PTHREAD_PROCESS_SHARED 1
+#define PTHREAD_PRIO_NONE 0
+#define PTHREAD_PRIO_INHERIT 1
+#define PTHREAD_PRIO_PROTECT 2
+
+/* The default type checks for errors. Of a normal mutex the owner's second lock waits for ever, as POSIX has it. */
+#define PTHREAD_MUTEX_ERRORCHECK 0
+#define PTHREAD_MUTEX_DEFAULT PTHREAD_MUTEX_ERRORCHECK
+#define PTHREAD_MUTEX_NORMAL 1
+#define PTHREAD_MUTEX_INITIALIZER { PTHREAD_MUTEX_DEFAULT }
+
+/* Answers 0; EAGAIN: 63 are in use. */
+int pthread_mutex_init(pthread_mutex_t *__restrict mutex, const pthread_mutexattr_t *__restrict attributes);
+
+/* Answers 0; EBUSY: somebody has it. */
+int pthread_mutex_destroy(pthread_mutex_t *mutex);
+
+/* Waits until the mutex is the caller's. Answers 0; EDEADLK: it is the caller's already. */
+int pthread_mutex_lock(pthread_mutex_t *mutex);
+
+/* Answers 0; EBUSY: somebody has it, maybe the caller. */
+int pthread_mutex_trylock(pthread_mutex_t *mutex);
+
+/* Answers 0; EPERM: it isn't the caller's. */
+int pthread_mutex_unlock(pthread_mutex_t *mutex);
+
+/* Each answers 0. */
+int pthread_mutexattr_init(pthread_mutexattr_t *attributes);
+int pthread_mutexattr_destroy(pthread_mutexattr_t *attributes);
+
+/* One of the three types: 0. Else EINVAL; there is no recursive one. */
+int pthread_mutexattr_settype(pthread_mutexattr_t *attributes, int type);
+int pthread_mutexattr_gettype(const pthread_mutexattr_t *__restrict attributes, int *__restrict type);
+
+/* PTHREAD_PROCESS_PRIVATE and PTHREAD_PROCESS_SHARED: 0; there is one process. Else EINVAL. */
+int pthread_mutexattr_setpshared(pthread_mutexattr_t *attributes, int shared);
+int pthread_mutexattr_getpshared(const pthread_mutexattr_t *__restrict attributes, int *__restrict shared);
+
+/* PTHREAD_PRIO_NONE: 0. The others: ENOTSUP. Else EINVAL. */
+int pthread_mutexattr_setprotocol(pthread_mutexattr_t *attributes, int protocol);
+int pthread_mutexattr_getprotocol(const pthread_mutexattr_t *__restrict attributes, int *__restrict protocol);
+
+/* ---------------------------------------------------------------------------------------------- conditions ---- */
+
+typedef struct { int unused; } pthread_cond_t;
+typedef struct { int shared; } pthread_condattr_t;
+
+#define PTHREAD_COND_INITIALIZER { 0 }
+
+/* Answers 0; EAGAIN: 63 are in use. */
+int pthread_cond_init(pthread_cond_t *__restrict condition, const pthread_condattr_t *__restrict attributes);
+
+/* Answers 0. Nobody may wait. */
+int pthread_cond_destroy(pthread_cond_t *condition);
+
+/* Gives the mutex up, waits for the condition, and takes the mutex again. There are no spurious wake-ups, but another
+   thread may have had the mutex in between. Answers 0; EPERM: the mutex isn't the caller's; EINVAL: others wait with
+   another mutex. */
+int pthread_cond_wait(pthread_cond_t *__restrict condition, pthread_mutex_t *__restrict mutex);
+
+/* Wakes who waits first. Answers 0. */
+int pthread_cond_signal(pthread_cond_t *condition);
+
+/* Wakes all who wait. Answers 0. */
+int pthread_cond_broadcast(pthread_cond_t *condition);
+
+/* Each answers 0. */
+int pthread_condattr_init(pthread_condattr_t *attributes);
+int pthread_condattr_destroy(pthread_condattr_t *attributes);
+
+/* PTHREAD_PROCESS_PRIVATE and PTHREAD_PROCESS_SHARED: 0; there is one process. Else EINVAL. */
+int pthread_condattr_setpshared(pthread_condattr_t *attributes, int shared);
+int pthread_condattr_getpshared(const pthread_condattr_t *__restrict attributes, int *__restrict shared);
+
+/* ---------------------------------------------------------------------------------------------- barriers ---- */
+
+typedef struct { int unused; } pthread_barrier_t;
+typedef struct { int shared; } pthread_barrierattr_t;
+
+#define PTHREAD_BARRIER_SERIAL_THREAD (-1)
+
+/* Answers 0; EINVAL: count 0; EAGAIN: count above 32, or 63 are in use; EBUSY: somebody waits. */
+int pthread_barrier_init(pthread_barrier_t *__restrict barrier, const pthread_barrierattr_t *__restrict attributes,
+                         unsigned count);
+
+/* Answers 0; EBUSY: somebody waits. */
+int pthread_barrier_destroy(pthread_barrier_t *barrier);
+
+/* Waits until as many have come. Answers PTHREAD_BARRIER_SERIAL_THREAD to the last, 0 to the others; EINVAL: it isn't
+   initialised. */
+int pthread_barrier_wait(pthread_barrier_t *barrier);
+
+/* Each answers 0. */
+int pthread_barrierattr_init(pthread_barrierattr_t *attributes);
+int pthread_barrierattr_destroy(pthread_barrierattr_t *attributes);
+
+/* PTHREAD_PROCESS_PRIVATE and PTHREAD_PROCESS_SHARED: 0; there is one process. Else EINVAL. */
+int pthread_barrierattr_setpshared(pthread_barrierattr_t *attributes, int shared);
+int pthread_barrierattr_getpshared(const pthread_barrierattr_t *__restrict attributes, int *__restrict shared);
+
+/* ---------------------------------------------------------------------------------------------- once, and keys ---- */
+
+typedef struct { int done; } pthread_once_t;
+typedef unsigned pthread_key_t;
+
+#define PTHREAD_ONCE_INIT { 0 }
+
+/* Calls the function in the first call alone; no call returns before that is done. Answers 0. It takes a mutex's
+   number, and keeps it. */
+int pthread_once(pthread_once_t *once, void (*function)(void));
+
+/* A key: each thread has a value of it, at first null. At a thread's end the destructor is called with the value, where
+   neither is null. Answers 0; EAGAIN: 128 have been made. A key that was deleted isn't made again. */
+int pthread_key_create(pthread_key_t *key, void (*destructor)(void *));
+
+/* Answers 0; EINVAL: there is no such key. No destructor of it is called from then on. */
+int pthread_key_delete(pthread_key_t key);
+
+/* Answers 0; EINVAL: there is no such key. */
+int pthread_setspecific(pthread_key_t key, const void *value);
+
+/* The caller's value. */
+void *pthread_getspecific(pthread_key_t key);
+
+#ifdef __cplusplus
+}
+#endif
+
+#endif

@@ -1,0 +1,27 @@
+/* The C library's stdio.h, and what of POSIX.1-2017 <stdio.h> it leaves out. */
+#include_next <stdio.h>
+#ifndef IT_STDIO_H
+#define IT_STDIO_H
+
+#include <sys/types.h>
+
+#ifdef __cplusplus
+extern "C" {
+#endif
+
+/* POSIX.1-2017 getline and getdelim: read up to and with a newline, or the given byte, into memory that grows. Answer
+   how many bytes; -1 at the end. */
+ssize_t getline(char **__restrict line, size_t *__restrict size, FILE *__restrict stream);
+ssize_t getdelim(char **__restrict line, size_t *__restrict size, int delimiter, FILE *__restrict stream);
+
+/* No call takes a lock for each byte, so these are as the others. */
+#define getc_unlocked(stream) fgetc(stream)
+#define getchar_unlocked() fgetc(stdin)
+#define putc_unlocked(byte, stream) fputc(byte, stream)
+#define putchar_unlocked(byte) fputc(byte, stdout)
+
+#ifdef __cplusplus
+}
+#endif
+
+#endif

@@ -1,0 +1,293 @@
+/* Products and quotients of integers, which RV32I has no instructions for: the compiler calls these functions, and so
+   do its own for float and double. They stand in place of the compiler's, which take several times as long where a
+   number is small or where the divisor is 10, as in all that prints numbers. A quotient by 0 is all ones, and the
+   remainder is the number, as RISC-V has it.
+
+   RV32IM has instructions for 32 bits, and the compiler makes products of 64 bits of them. So there only the quotients
+   of 64 bits are left. */
+
+#include "library.h"
+
+unsigned long long __udivdi3(unsigned long long number, unsigned long long by);
+unsigned long long __umoddi3(unsigned long long number, unsigned long long by);
+long long __divdi3(long long number, long long by);
+long long __moddi3(long long number, long long by);
+
+#ifndef __riscv_mul
+
+unsigned __mulsi3(unsigned a, unsigned b);
+unsigned __udivsi3(unsigned number, unsigned by);
+unsigned __umodsi3(unsigned number, unsigned by);
+int __divsi3(int number, int by);
+int __modsi3(int number, int by);
+unsigned long long __muldi3(unsigned long long a, unsigned long long b);
+
+/* ---------------------------------------------------------------------------------------------- products ---- */
+
+/* Two bits of the smaller factor in each turn, the lowest first. The compiler's functions for double call this as one
+   that changes no registers but a0 to a3; so it is written in assembly. */
+__asm__(".section .text.__mulsi3,\"ax\",@progbits\n"
+        ".globl __mulsi3\n"
+        ".type __mulsi3, @function\n"
+        "__mulsi3:\n\t"
+        "mv a2, a0\n\t"
+        "bgeu a2, a1, 1f\n\t"
+        "mv a2, a1\n\t"
+        "mv a1, a0\n"
+        "1:\tli a0, 0\n"
+        "2:\tandi a3, a1, 1\n\t"
+        "beqz a3, 3f\n\t"
+        "add a0, a0, a2\n"
+        "3:\tandi a3, a1, 2\n\t"
+        "slli a2, a2, 1\n\t"
+        "beqz a3, 4f\n\t"
+        "add a0, a0, a2\n"
+        "4:\tsrli a1, a1, 2\n\t"
+        "slli a2, a2, 1\n\t"
+        "bnez a1, 2b\n\t"
+        "ret\n\t"
+        ".size __mulsi3, .-__mulsi3\n");
+
+/* All 64 bits of a product: two bits of the smaller factor (a2) in each turn, the highest first. The larger one is in
+   a3, twice of it in a4 and a5, three times of it in a6 and a7. In C it would take some half as much again, and this is
+   most of what it takes to print a double. */
+unsigned long long it_wide_product(unsigned a, unsigned b);
+__asm__(".section .text.it_wide_product,\"ax\",@progbits\n"
+        ".globl it_wide_product\n"
+        ".type it_wide_product, @function\n"
+        "it_wide_product:\n\t"
+        "mv a3, a0\n\t"
+        "mv a2, a1\n\t"
+        "bgeu a3, a2, 1f\n\t"
+        "mv a3, a1\n\t"
+        "mv a2, a0\n"
+        "1:\tli a0, 0\n\t"
+        "li a1, 0\n\t"
+        "beqz a2, 9f\n\t"
+        "slli a4, a3, 1\n\t"
+        "srli a5, a3, 31\n\t"
+        "add a6, a4, a3\n\t"
+        "sltu a7, a6, a3\n\t"
+        "add a7, a7, a5\n\t"
+        "li t0, 16\n\t"
+        "srli t1, a2, 16\n\t" /* the zeros in front */
+        "bnez t1, 7f\n\t"
+        "slli a2, a2, 16\n\t"
+        "addi t0, t0, -8\n"
+        "7:\tsrli t1, a2, 24\n\t"
+        "bnez t1, 2f\n\t"
+        "slli a2, a2, 8\n\t"
+        "addi t0, t0, -4\n"
+        "2:\tsrli t1, a2, 30\n\t"
+        "bnez t1, 3f\n\t"
+        "slli a2, a2, 2\n\t"
+        "addi t0, t0, -1\n\t"
+        "j 2b\n"
+        "3:\tsrli t1, a0, 30\n\t" /* four times the product, and the next two bits */
+        "slli a1, a1, 2\n\t"
+        "or a1, a1, t1\n\t"
+        "slli a0, a0, 2\n\t"
+        "slli t1, a2, 1\n\t"
+        "bltz a2, 5f\n\t"
+        "bgez t1, 4f\n\t"
+        "add a0, a0, a3\n\t"
+        "sltu t1, a0, a3\n\t"
+        "add a1, a1, t1\n"
+        "4:\tslli a2, a2, 2\n\t"
+        "addi t0, t0, -1\n\t"
+        "bnez t0, 3b\n"
+        "9:\tret\n"
+        "5:\tbltz t1, 6f\n\t"
+        "add a0, a0, a4\n\t"
+        "sltu t1, a0, a4\n\t"
+        "add a1, a1, a5\n\t"
+        "add a1, a1, t1\n\t"
+        "j 4b\n"
+        "6:\tadd a0, a0, a6\n\t"
+        "sltu t1, a0, a6\n\t"
+        "add a1, a1, a7\n\t"
+        "add a1, a1, t1\n\t"
+        "j 4b\n\t"
+        ".size it_wide_product, .-it_wide_product\n"
+        ".text\n");
+
+unsigned long long __muldi3(unsigned long long a, unsigned long long b)
+{
+    unsigned a_high = (unsigned)(a >> 32), b_high = (unsigned)(b >> 32), a_low = (unsigned)a, b_low = (unsigned)b;
+    unsigned high = 0;
+    if (a_high)
+        high += __mulsi3(a_high, b_low);
+    if (b_high)
+        high += __mulsi3(a_low, b_high);
+    return it_wide_product(a_low, b_low) + ((unsigned long long)high << 32);
+}
+
+/* ---------------------------------------------------------------------------------------- quotients of 32 bits ---- */
+
+static inline unsigned divided(unsigned number, unsigned by, unsigned *remainder)
+{
+    unsigned quotient = 0, bit = 1;
+    if (by == 10)
+        return it_tenth(number, remainder);
+    if (by == 16) {
+        *remainder = number & 15;
+        return number >> 4;
+    }
+    if (by == 0) {
+        *remainder = number;
+        return ~0u;
+    }
+    while (by < number && !(by >> 31)) {
+        by <<= 1;
+        bit <<= 1;
+    }
+    for (; bit; bit >>= 1, by >>= 1)
+        if (number >= by) {
+            number -= by;
+            quotient |= bit;
+        }
+    *remainder = number;
+    return quotient;
+}
+
+unsigned __udivsi3(unsigned number, unsigned by)
+{
+    unsigned remainder;
+    return divided(number, by, &remainder);
+}
+
+unsigned __umodsi3(unsigned number, unsigned by)
+{
+    unsigned remainder;
+    divided(number, by, &remainder);
+    return remainder;
+}
+
+static unsigned size_of(int number)
+{
+    return number < 0 ? 0u - (unsigned)number : (unsigned)number;
+}
+
+/* C's quotient is rounded towards zero, and the remainder has the sign of the number. */
+int __divsi3(int number, int by)
+{
+    unsigned remainder, quotient = divided(size_of(number), size_of(by), &remainder);
+    return by && (number < 0) != (by < 0) ? (int)(0u - quotient) : (int)quotient;
+}
+
+int __modsi3(int number, int by)
+{
+    unsigned remainder;
+    divided(size_of(number), size_of(by), &remainder);
+    return number < 0 ? (int)(0u - remainder) : (int)remainder;
+}
+
+#endif
+
+/* ---------------------------------------------------------------------------------------- quotients of 64 bits ---- */
+
+/* A tenth, by 16 bits of the number at a time. */
+static unsigned long long tenth_long(unsigned long long number, unsigned *remainder)
+{
+    unsigned high = (unsigned)(number >> 32), low = (unsigned)number, parts[4], left = 0;
+    const unsigned digits[4] = { high >> 16, high & 0xFFFF, low >> 16, low & 0xFFFF };
+    for (unsigned k = 0; k < 4; k++)
+        parts[k] = it_tenth(left << 16 | digits[k], &left);
+    *remainder = left;
+    return (unsigned long long)(parts[0] << 16 | parts[1]) << 32 | (parts[2] << 16 | parts[3]);
+}
+
+#ifdef __riscv_mul
+
+/* What isn't short, and isn't a tenth, is left to the compiler's function: the linker brings all other calls of it to
+   __wrap___udivdi3. */
+unsigned long long __real___udivdi3(unsigned long long number, unsigned long long by);
+unsigned long long __wrap___udivdi3(unsigned long long number, unsigned long long by);
+#define __udivdi3 __wrap___udivdi3
+
+static unsigned long long divided_long(unsigned long long number, unsigned long long by, unsigned long long *remainder)
+{
+    unsigned long long quotient;
+    unsigned left;
+    if (by == 0) {
+        *remainder = number;
+        return ~0ull;
+    }
+    if (!((number | by) >> 32)) {
+        *remainder = (unsigned)number % (unsigned)by;
+        return (unsigned)number / (unsigned)by;
+    }
+    if (by == 10) {
+        quotient = tenth_long(number, &left);
+        *remainder = left;
+        return quotient;
+    }
+    quotient = __real___udivdi3(number, by);
+    *remainder = number - quotient * by;
+    return quotient;
+}
+
+#else
+
+static unsigned long long divided_long(unsigned long long number, unsigned long long by, unsigned long long *remainder)
+{
+    unsigned long long quotient = 0, bit = 1;
+    unsigned left;
+    if (!((number | by) >> 32)) {
+        quotient = divided((unsigned)number, (unsigned)by, &left);
+        *remainder = left;
+        return by ? quotient : ~0ull;
+    }
+    if (by == 10) {
+        quotient = tenth_long(number, &left);
+        *remainder = left;
+        return quotient;
+    }
+    *remainder = number;
+    if (by == 0)
+        return ~0ull;
+    while (by < number && !(by >> 63)) {
+        by <<= 1;
+        bit <<= 1;
+    }
+    for (; bit; bit >>= 1, by >>= 1)
+        if (number >= by) {
+            number -= by;
+            quotient |= bit;
+        }
+    *remainder = number;
+    return quotient;
+}
+
+#endif
+
+unsigned long long __udivdi3(unsigned long long number, unsigned long long by)
+{
+    unsigned long long remainder;
+    return divided_long(number, by, &remainder);
+}
+
+unsigned long long __umoddi3(unsigned long long number, unsigned long long by)
+{
+    unsigned long long remainder;
+    divided_long(number, by, &remainder);
+    return remainder;
+}
+
+static unsigned long long size_of_long(long long number)
+{
+    return number < 0 ? 0ull - (unsigned long long)number : (unsigned long long)number;
+}
+
+long long __divdi3(long long number, long long by)
+{
+    unsigned long long remainder, quotient = divided_long(size_of_long(number), size_of_long(by), &remainder);
+    return by && (number < 0) != (by < 0) ? (long long)(0ull - quotient) : (long long)quotient;
+}
+
+long long __moddi3(long long number, long long by)
+{
+    unsigned long long remainder;
+    divided_long(size_of_long(number), size_of_long(by), &remainder);
+    return number < 0 ? (long long)(0ull - remainder) : (long long)remainder;
+}

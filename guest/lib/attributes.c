@@ -1,0 +1,168 @@
+/* Attributes of threads, mutexes, conditions and barriers. They change nothing but a mutex's type; what would change
+   something is refused. */
+#include <errno.h>
+#include <pthread.h>
+#include "library.h"
+
+enum { LEAST_GUARD = 0 };
+
+/* What is asked for where there is one value to have, and another that POSIX knows. */
+static int one_of_two(int asked, int taken, int refused)
+{
+    if (asked == taken)
+        return 0;
+    return asked == refused ? ENOTSUP : EINVAL;
+}
+
+/* There is one process, so that what is shared between processes is as what isn't. */
+static int process(int asked)
+{
+    return asked == PTHREAD_PROCESS_PRIVATE || asked == PTHREAD_PROCESS_SHARED ? 0 : EINVAL;
+}
+
+int pthread_attr_init(pthread_attr_t *attributes)
+{
+    attributes->stack = IT_STACK;
+    return 0;
+}
+
+int pthread_attr_destroy(pthread_attr_t *attributes)
+{
+    (void)attributes;
+    return 0;
+}
+
+int pthread_attr_setdetachstate(pthread_attr_t *attributes, int state)
+{
+    (void)attributes;
+    return one_of_two(state, PTHREAD_CREATE_JOINABLE, PTHREAD_CREATE_DETACHED);
+}
+
+int pthread_attr_getdetachstate(const pthread_attr_t *attributes, int *state)
+{
+    (void)attributes;
+    *state = PTHREAD_CREATE_JOINABLE;
+    return 0;
+}
+
+int pthread_attr_setstacksize(pthread_attr_t *restrict attributes, size_t size)
+{
+    if (size < PTHREAD_STACK_MIN || size > IT_STACK)
+        return EINVAL;
+    attributes->stack = size;
+    return 0;
+}
+
+int pthread_attr_getstacksize(const pthread_attr_t *restrict attributes, size_t *restrict size)
+{
+    *size = attributes->stack;
+    return 0;
+}
+
+int pthread_attr_setguardsize(pthread_attr_t *attributes, size_t size)
+{
+    (void)attributes;
+    return size == LEAST_GUARD ? 0 : ENOTSUP;
+}
+
+int pthread_attr_getguardsize(const pthread_attr_t *restrict attributes, size_t *restrict size)
+{
+    (void)attributes;
+    *size = LEAST_GUARD;
+    return 0;
+}
+
+int pthread_attr_setscope(pthread_attr_t *attributes, int scope)
+{
+    (void)attributes;
+    return one_of_two(scope, PTHREAD_SCOPE_SYSTEM, PTHREAD_SCOPE_PROCESS);
+}
+
+int pthread_attr_getscope(const pthread_attr_t *restrict attributes, int *restrict scope)
+{
+    (void)attributes;
+    *scope = PTHREAD_SCOPE_SYSTEM;
+    return 0;
+}
+
+int pthread_mutexattr_init(pthread_mutexattr_t *attributes)
+{
+    attributes->type = PTHREAD_MUTEX_DEFAULT;
+    attributes->shared = PTHREAD_PROCESS_PRIVATE;
+    return 0;
+}
+
+int pthread_mutexattr_destroy(pthread_mutexattr_t *attributes)
+{
+    (void)attributes;
+    return 0;
+}
+
+int pthread_mutexattr_settype(pthread_mutexattr_t *attributes, int type)
+{
+    if (type != PTHREAD_MUTEX_NORMAL && type != PTHREAD_MUTEX_ERRORCHECK)
+        return EINVAL;
+    attributes->type = type;
+    return 0;
+}
+
+int pthread_mutexattr_gettype(const pthread_mutexattr_t *restrict attributes, int *restrict type)
+{
+    *type = attributes->type;
+    return 0;
+}
+
+int pthread_mutexattr_setprotocol(pthread_mutexattr_t *attributes, int protocol)
+{
+    (void)attributes;
+    return protocol == PTHREAD_PRIO_INHERIT ? ENOTSUP : one_of_two(protocol, PTHREAD_PRIO_NONE, PTHREAD_PRIO_PROTECT);
+}
+
+int pthread_mutexattr_getprotocol(const pthread_mutexattr_t *restrict attributes, int *restrict protocol)
+{
+    (void)attributes;
+    *protocol = PTHREAD_PRIO_NONE;
+    return 0;
+}
+
+int pthread_mutexattr_setpshared(pthread_mutexattr_t *attributes, int shared)
+{
+    int answer = process(shared);
+    if (answer == 0)
+        attributes->shared = shared;
+    return answer;
+}
+
+int pthread_mutexattr_getpshared(const pthread_mutexattr_t *restrict attributes, int *restrict shared)
+{
+    *shared = attributes->shared;
+    return 0;
+}
+
+/* Attributes of a condition and of a barrier are alike. */
+#define ATTRIBUTES_OF(kind, type_of_kind)                                                                              \
+    int pthread_##kind##_init(type_of_kind *attributes)                                                                \
+    {                                                                                                                  \
+        attributes->shared = PTHREAD_PROCESS_PRIVATE;                                                                  \
+        return 0;                                                                                                      \
+    }                                                                                                                  \
+    int pthread_##kind##_destroy(type_of_kind *attributes)                                                             \
+    {                                                                                                                  \
+        (void)attributes;                                                                                              \
+        return 0;                                                                                                      \
+    }                                                                                                                  \
+    int pthread_##kind##_setpshared(type_of_kind *attributes, int shared)                                              \
+    {                                                                                                                  \
+        int answer = process(shared);                                                                                  \
+        if (answer == 0)                                                                                               \
+            attributes->shared = shared;                                                                               \
+        return answer;                                                                                                 \
+    }                                                                                                                  \
+    int pthread_##kind##_getpshared(const type_of_kind *restrict attributes, int *restrict shared)                     \
+    {                                                                                                                  \
+        *shared = attributes->shared;                                                                                  \
+        return 0;                                                                                                      \
+    }
+
+ATTRIBUTES_OF(condattr, pthread_condattr_t)
+ATTRIBUTES_OF(barrierattr, pthread_barrierattr_t)

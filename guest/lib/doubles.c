@@ -1,0 +1,211 @@
+/* Turning doubles into text, in place of the C library's: digits as they are, rounded once, to the even digit where two
+   are as near. And turning text into doubles, which is the C library's.
+
+   A step may take only so many instructions: therefore a call of the library's own ends the step after some of either.
+   The count of them is back at 0 when a call of the program's begins, so that a step doesn't differ by what was done
+   before. */
+#include <stdbool.h>
+#include <stdint.h>
+#include "library.h"
+
+enum { MOST = 256, OF_EACH = 2 };
+
+static void breathe(unsigned share)
+{
+    it_self.doubles += share;
+    it_self.settle = 1;
+    if (it_self.doubles < MOST)
+        return;
+    it_self.doubles = 0;
+    it_call(IT_CALL_YIELD, 0, 0);
+}
+
+typedef unsigned word;
+
+/* The linker brings the C library's calls here; what they pass are words. */
+unsigned long long __real___atod_engine(word a, word b, word c, word d, word e, word f, word g, word h);
+unsigned long long __wrap___atod_engine(word a, word b, word c, word d, word e, word f, word g, word h)
+{
+    breathe(OF_EACH);
+    return __real___atod_engine(a, b, c, d, e, f, g, h);
+}
+
+/* ------------------------------------------------------------------------------------------- a double in parts ---- */
+
+enum { WORDS = 34, WHOLE_DIGITS = 310, MANTISSA = 52, BIAS = 1075, SPECIAL = 2047 };
+
+/* A double without its sign: the digits before the point, of which those from `at` on aren't used yet; and what is
+   behind the point, in binary, the highest word first. */
+struct parts {
+    unsigned char digits[WHOLE_DIGITS];
+    unsigned at, end;
+    word part[WORDS];
+    unsigned parts;
+};
+
+/* Writes the decimal digits of a number of some words, the highest first, which ends as 0. */
+static void whole_digits(struct parts *parts, word *whole, unsigned words)
+{
+    unsigned first = 0;
+    parts->at = parts->end = WHOLE_DIGITS;
+    for (;;) {
+        while (first < words && !whole[first])
+            first++;
+        if (first == words)
+            return;
+        unsigned left = 0;
+        for (unsigned k = first; k < words; k++) {
+            unsigned high = it_tenth(left << 16 | whole[k] >> 16, &left);
+            whole[k] = high << 16 | it_tenth(left << 16 | (whole[k] & 0xFFFF), &left);
+        }
+        parts->digits[--parts->at] = (unsigned char)left;
+    }
+}
+
+/* Puts a number of 64 bits into words, so many bits above the end of the last. */
+static void lay(word *words, unsigned count, unsigned long long number, unsigned shift)
+{
+    for (unsigned k = 0; k < count; k++)
+        words[k] = 0;
+    unsigned last = count - 1 - shift / 32, bits = shift % 32;
+    words[last] = (word)(number << bits);
+    if (last >= 1)
+        words[last - 1] = (word)(number >> (32 - bits));
+    if (last >= 2 && bits)
+        words[last - 2] = (word)(number >> 32 >> (32 - bits));
+}
+
+/* The parts of mantissa * 2^exponent. */
+static void split(struct parts *parts, unsigned long long mantissa, int exponent)
+{
+    word whole[WORDS];
+    unsigned words = 2, below = exponent < 0 ? (unsigned)-exponent : 0;
+    parts->parts = (below + 31) / 32;
+    if (exponent >= 0) {
+        words = ((unsigned)exponent + MANTISSA + 32) / 32 + 1;
+        lay(whole, words, mantissa, (unsigned)exponent);
+    } else {
+        unsigned long long above = below > MANTISSA ? 0 : mantissa >> below;
+        lay(whole, words, above, 0);
+        lay(parts->part, parts->parts, mantissa - (below > MANTISSA ? 0 : above << below), 32 * parts->parts - below);
+    }
+    whole_digits(parts, whole, words);
+}
+
+/* The next digit. Ten times what is behind the point has it before the point. */
+static unsigned next_digit(struct parts *parts)
+{
+    unsigned carry = 0;
+    if (parts->at < parts->end)
+        return parts->digits[parts->at++];
+    while (parts->parts && !parts->part[parts->parts - 1])
+        parts->parts--;
+    for (unsigned k = parts->parts; k--;) {
+        unsigned low = (parts->part[k] & 0xFFFF) * 10 + carry, high = (parts->part[k] >> 16) * 10 + (low >> 16);
+        parts->part[k] = high << 16 | (low & 0xFFFF);
+        carry = high >> 16;
+    }
+    return carry;
+}
+
+/* Whether only zeros are left. */
+static bool is_zero(const struct parts *parts)
+{
+    for (unsigned k = parts->at; k < parts->end; k++)
+        if (parts->digits[k])
+            return false;
+    for (unsigned k = 0; k < parts->parts; k++)
+        if (parts->part[k])
+            return false;
+    return true;
+}
+
+/* Whether what is left, and the digit before it, is more than half of the unit of the digit before that; or half of it,
+   where that is odd. */
+static bool rounds_up(const struct parts *parts, unsigned digit, bool odd)
+{
+    return digit > 5 || (digit == 5 && (odd || !is_zero(parts)));
+}
+
+/* ---------------------------------------------------------------------------------------- the C library's call ---- */
+
+enum { MINUS = 1, ZERO = 2, INFINITE = 4, NOT_A_NUMBER = 8 };
+
+/* What vfprintf of picolibc wants of a double: the first digit's power of ten, and the digits. */
+struct dtoa {
+    int32_t exp;
+    uint8_t flags;
+    char digits[];
+};
+
+/* One more in the last of some digits. Gives 1 where they are all nines: then there is a 1 and zeros. */
+static int add_one(char *digits, int count)
+{
+    while (count-- > 0) {
+        if (digits[count]++ != '9')
+            return 0;
+        digits[count] = '0';
+    }
+    digits[0] = '1';
+    return 1;
+}
+
+/* Writes the digits, at most so many, and with fixed_point only up to so many behind the point. Gives how many. */
+static int round_digits(struct dtoa *to, struct parts *parts, int most, bool fixed_point, int decimals)
+{
+    int exponent = (int)(parts->end - parts->at) - 1, count = 0;
+    unsigned first = next_digit(parts);
+    for (; !first; exponent--)
+        first = next_digit(parts);
+    int wanted = fixed_point && exponent + 1 + decimals < most ? exponent + 1 + decimals : most;
+    if (wanted <= 0) { /* all is behind the last place, which gets a 1 where it is more than half of one */
+        to->exp = -decimals;
+        to->digits[0] = wanted == 0 && rounds_up(parts, first, false) ? '1' : '0';
+        return 1;
+    }
+    to->exp = exponent;
+    to->digits[count++] = (char)('0' + first);
+    while (count < wanted)
+        to->digits[count++] = (char)('0' + next_digit(parts));
+    unsigned behind = next_digit(parts);
+    if (rounds_up(parts, behind, to->digits[count - 1] & 1))
+        to->exp += add_one(to->digits, count);
+    while (count > 1 && to->digits[count - 1] == '0')
+        count--;
+    return count;
+}
+
+/* Between 1e-22 and 1e20 all count the same: else a number that an edit makes longer would move the ends of steps. */
+static unsigned share_of(const struct parts *parts)
+{
+    unsigned digits = parts->end - parts->at;
+    if (parts->parts <= 4 && digits <= 20)
+        return OF_EACH;
+    return OF_EACH + parts->parts * parts->parts / 4 + digits * digits / 256;
+}
+
+int __dtoa_engine(double number, struct dtoa *to, int most, bool fixed_point, int decimals)
+{
+    union { double number; unsigned long long bits; } as = { number };
+    unsigned biased = (unsigned)(as.bits >> MANTISSA) & SPECIAL;
+    unsigned long long mantissa = as.bits & ((1ull << MANTISSA) - 1);
+    struct parts parts;
+    to->flags = as.bits >> 63 ? MINUS : 0;
+    if (biased == SPECIAL) {
+        to->flags |= mantissa ? NOT_A_NUMBER : INFINITE;
+        return 0;
+    }
+    if (!biased && !mantissa) {
+        to->flags |= ZERO;
+        to->exp = 0;
+        to->digits[0] = '0';
+        return 1;
+    }
+    if (biased)
+        mantissa |= 1ull << MANTISSA;
+    else
+        biased = 1;
+    split(&parts, mantissa, (int)biased - BIAS);
+    breathe(share_of(&parts));
+    return round_digits(to, &parts, most, fixed_point, decimals);
+}

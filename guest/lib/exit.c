@@ -1,0 +1,96 @@
+/* How a guest ends: exit with its handlers, _exit, abort, assert, and the end of a thread. */
+#include <stdio.h>
+#include <stdlib.h>
+#include <string.h>
+#include <unistd.h>
+#include "library.h"
+
+/* What a program that was ended by SIGABRT gives to a shell: 128 + 6. */
+enum { ABORTED = 134, HANDLERS = 64 };
+
+/* What exit is to call. A program that has no atexit doesn't have this either: its size tells the linker's script
+   whether there are handlers. */
+static __attribute__((section(".bss.it_handlers"))) struct IT_PAGE_ALIGNED {
+    unsigned count;
+    void (*function[HANDLERS])(void);
+} handlers;
+
+extern void (*const it_destructors[])(void), (*const it_destructors_end[])(void);
+extern __attribute__((weak)) const char it_has_handlers[]; /* weak, since it may be 0 */
+
+static void run_handlers(void)
+{
+    while (handlers.count)
+        handlers.function[--handlers.count]();
+}
+
+int atexit(void (*function)(void))
+{
+    int answer = -1;
+    it_shared.run_handlers = run_handlers;
+    it_lock_library();
+    if (handlers.count < HANDLERS) {
+        handlers.function[handlers.count++] = function;
+        answer = 0;
+    }
+    it_unlock_library();
+    return answer;
+}
+
+void _exit(int code)
+{
+    it_last_call(IT_CALL_EXIT, (unsigned)code);
+}
+
+void _Exit(int code)
+{
+    _exit(code);
+}
+
+void exit(int code)
+{
+    if (it_shared.run_handlers)
+        it_shared.run_handlers();
+    for (void (*const *each)(void) = it_destructors_end; each != it_destructors;)
+        (*--each)();
+    it_settle();
+    _exit(code);
+}
+
+void abort(void)
+{
+    it_end_by("abort was called");
+}
+
+void it_end_by(const char *message)
+{
+    fputs("guest ended: ", stderr);
+    fputs(message, stderr);
+    fputs("\n", stderr);
+    it_settle();
+    _exit(ABORTED);
+}
+
+void __assert_func(const char *file, int line, const char *function, const char *expression)
+{
+    const char *inside = function ? function : "", *colon = function ? ": " : "";
+    fprintf(stderr, "%s:%d: %s%sAssertion `%s' failed.\n", file, line, inside, colon, expression);
+    it_settle();
+    _exit(ABORTED);
+}
+
+/* The last thread that ends calls exit(0), as POSIX has it. Only a guest that has handlers must know which one it is.
+   The count of the others that go on is a semaphore's value: a call that takes from it or finds it empty needs no
+   memory that threads would share. */
+void it_end_thread(void *value)
+{
+    if (it_self.leave_keys)
+        it_self.leave_keys();
+    if (it_self.leave_heap)
+        it_self.leave_heap();
+    if (it_self.settle)
+        it_settle();
+    if (it_has_handlers && it_call(IT_CALL_SEM_TRYWAIT, IT_OTHERS, 0) != 0)
+        exit(0);
+    it_last_call(IT_CALL_THREAD_EXIT, (unsigned)value);
+}

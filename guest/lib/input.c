@@ -1,0 +1,242 @@
+/* stdin: the run's input, which is in memory.
+
+   At the end of each page of the input a call ends the step, so that what is read from one page is a step of its own;
+   and the input's length is asked for in a small step, so that the steps that read don't depend on it. Reading
+   therefore costs two calls for each page.
+
+   Once there are threads, a thread takes a mutex before it reads, and gives it up before its next call of pthread.h,
+   semaphore.h or sched.h. So each byte is read once, whoever reads, and a loop over getchar costs no more than two
+   calls. */
+#include <errno.h>
+#include <stdio.h>
+#include <stdlib.h>
+#include <string.h>
+#include <unistd.h>
+#include "library.h"
+
+static int get_byte(FILE *stream);
+static __off_t seek(FILE *stream, __off_t offset, int whence);
+
+static int stay(FILE *stream)
+{
+    (void)stream;
+    return 0;
+}
+
+static int no_buffer(FILE *stream, char *buffer, int mode, size_t size)
+{
+    (void)stream, (void)buffer, (void)mode, (void)size;
+    return 0;
+}
+
+/* The stream, the place of the next byte, and up to where bytes may be taken without asking. Those who read it see it
+   change, so that it has a page. */
+static struct IT_PAGE_ALIGNED {
+    struct __file_ext stream;
+    unsigned at, end;
+} input = { FDEV_SETUP_EXT(NULL, get_byte, NULL, stay, seek, no_buffer, __SRD), 0, 0 };
+FILE *const stdin = &input.stream.cfile.file;
+
+static void hold(void)
+{
+    if (!it_shared.threads_made || it_self.holds_stdin)
+        return;
+    it_call(IT_CALL_LOCK, it_number_or_end(IT_MUTEX, &input), 0);
+    it_self.holds_stdin = it_self.settle = 1;
+}
+
+void it_give_up_stdin(void)
+{
+    if (!it_self.holds_stdin)
+        return;
+    it_self.holds_stdin = 0;
+    it_call(IT_CALL_UNLOCK, it_number_or_end(IT_MUTEX, &input), 0);
+}
+
+/* Whether there is another byte. */
+static int more(void)
+{
+    if (input.at < input.end)
+        return 1;
+    it_call(IT_CALL_YIELD, 0, 0);
+    unsigned length = it_input_length(), end = (input.at & ~(IT_PAGE - 1u)) + IT_PAGE;
+    input.end = length < end ? length : end;
+    it_call(IT_CALL_YIELD, 0, 0);
+    return input.at < input.end;
+}
+
+static int get_byte(FILE *stream)
+{
+    (void)stream;
+    hold();
+    return more() ? it_input()[input.at++] : _FDEV_EOF;
+}
+
+/* ---------------------------------------------------------------------------------------------- bytes ---- */
+
+/* `unget` has the byte that was given back and a bit above it. */
+enum { GIVEN_BACK = 0x100 };
+
+static IT_NOINLINE int get_slowly(FILE *stream)
+{
+    if (!(stream->flags & __SRD))
+        return EOF;
+    if (stream == stdin)
+        hold();
+    if (stream->unget) {
+        int byte = (unsigned char)stream->unget;
+        stream->unget = 0;
+        return byte;
+    }
+    int byte = stream->get(stream);
+    if (byte >= 0)
+        return (unsigned char)byte;
+    stream->flags |= byte == _FDEV_ERR ? __SERR : __SEOF;
+    return EOF;
+}
+
+/* The first case is that of nearly all bytes: one of stdin is there, none was given back, and the thread may read. */
+int fgetc(FILE *stream)
+{
+    if (stream == stdin && input.at < input.end && !stream->unget && it_shared.threads_made == it_self.holds_stdin)
+        return it_input()[input.at++];
+    return get_slowly(stream);
+}
+
+int (getc)(FILE *stream)
+{
+    return fgetc(stream);
+}
+
+int (getchar)(void)
+{
+    return fgetc(stdin);
+}
+
+int ungetc(int byte, FILE *stream)
+{
+    if (stream == stdin)
+        hold();
+    if (byte == EOF || !(stream->flags & __SRD) || stream->unget)
+        return EOF;
+    stream->unget = (__ungetc_t)((unsigned char)byte | GIVEN_BACK);
+    stream->flags &= (unsigned char)~__SEOF;
+    return (unsigned char)byte;
+}
+
+/* Takes up to `most` bytes of stdin that are there without asking, up to and with the stop, where there is one (else
+   the stop is EOF). Gives how many; *bytes is where they are. */
+static size_t take(size_t most, int stop, const unsigned char **bytes)
+{
+    size_t there = input.end - input.at, count = there < most ? there : most;
+    *bytes = it_input() + input.at;
+    if (stop != EOF) {
+        const unsigned char *found = memchr(*bytes, stop, count);
+        if (found)
+            count = (size_t)(found - *bytes) + 1;
+    }
+    input.at += count;
+    return count;
+}
+
+/* Reads up to `most` bytes, up to and with the stop. Gives how many. */
+static size_t read_some(FILE *stream, unsigned char *to, size_t most, int stop)
+{
+    size_t done = 0;
+    while (done < most) {
+        if (stream != stdin || stream->unget || !(hold(), more())) {
+            int byte = fgetc(stream);
+            if (byte == EOF)
+                break;
+            to[done++] = (unsigned char)byte;
+        } else {
+            const unsigned char *bytes;
+            size_t count = take(most - done, stop, &bytes);
+            memcpy(to + done, bytes, count);
+            done += count;
+        }
+        if (to[done - 1] == stop)
+            break;
+    }
+    return done;
+}
+
+size_t fread(void *restrict to, size_t size, size_t count, FILE *restrict stream)
+{
+    if (size == 0 || count == 0)
+        return 0;
+    size_t all = size * count, done = read_some(stream, to, all, EOF);
+    return done == all ? count : done / size;
+}
+
+char *fgets(char *restrict to, int size, FILE *restrict stream)
+{
+    if (size <= 0)
+        return NULL;
+    size_t done = read_some(stream, (unsigned char *)to, (size_t)size - 1, '\n');
+    if (done == 0 && size > 1)
+        return NULL;
+    to[done] = 0;
+    return to;
+}
+
+/* POSIX.1-2017 getdelim: what is read so far has `done` bytes and a zero behind them; the line grows by doubling. */
+IT_REPLACEABLE ssize_t getdelim(char **restrict line, size_t *restrict size, int stop, FILE *restrict stream)
+{
+    size_t done = 0;
+    if (!*line)
+        *size = 0;
+    for (;;) {
+        if (*size < done + 2) {
+            size_t wanted = *size < 60 ? 120 : 2 * *size;
+            char *larger = realloc(*line, wanted);
+            if (!larger)
+                return -1;
+            *line = larger;
+            *size = wanted;
+        }
+        size_t room = *size - done - 1;
+        size_t count = read_some(stream, (unsigned char *)*line + done, room, (unsigned char)stop);
+        done += count;
+        (*line)[done] = 0;
+        if (count < room || (*line)[done - 1] == (char)stop)
+            return done ? (ssize_t)done : -1;
+    }
+}
+
+IT_REPLACEABLE ssize_t getline(char **restrict line, size_t *restrict size, FILE *restrict stream)
+{
+    return getdelim(line, size, '\n', stream);
+}
+
+/* ---------------------------------------------------------------------------------------------- places ---- */
+
+static __off_t seek(FILE *stream, __off_t offset, int whence)
+{
+    (void)stream;
+    hold();
+    __off_t place = offset;
+    if (whence == SEEK_CUR)
+        place += (__off_t)input.at;
+    else if (whence == SEEK_END)
+        place += (__off_t)it_input_length();
+    if (place < 0) {
+        errno = EINVAL;
+        return -1;
+    }
+    if (place != (__off_t)input.at) {
+        input.at = (unsigned)place;
+        input.end = 0;
+    }
+    return place;
+}
+
+/* The input's descriptor is 0, and shares its place with stdin. */
+IT_REPLACEABLE ssize_t read(int descriptor, void *bytes, size_t count)
+{
+    if (descriptor != STDIN_FILENO) {
+        errno = EBADF;
+        return -1;
+    }
+    return (ssize_t)read_some(stdin, bytes, count, EOF);
+}

@@ -1,0 +1,79 @@
+/* Which number of the machine a mutex, semaphore, barrier or condition has.
+
+   A table of each kind, on a page of its own, has the object's address at its number. A call looks an object up there
+   and doesn't load from the object: what stands beside a mutex is what it guards, and a step that ends by the lock
+   would have read that. The place where the search begins comes from the address, so that the numbers hardly depend on
+   who comes first. Entries are made and taken away under the library's mutex; one that is found without it is right,
+   since nobody changes it while the object is in use. */
+#include <stdio.h>
+#include "library.h"
+
+enum { NEVER_USED = 0, GONE = 1 };
+
+static struct IT_PAGE_ALIGNED table { unsigned object[IT_FOR_PROGRAMS]; } tables[4];
+
+static unsigned first_place(unsigned object)
+{
+    unsigned place = (object >> 2 ^ object >> 8 ^ object >> 14) & 63;
+    return place == IT_FOR_PROGRAMS ? 0 : place;
+}
+
+/* The number of an object; -1: it has none. Where one could go is in *place, IT_FOR_PROGRAMS if nowhere. */
+static int find(const struct table *table, unsigned object, unsigned *place)
+{
+    unsigned at = first_place(object);
+    *place = IT_FOR_PROGRAMS;
+    for (unsigned k = 0; k < IT_FOR_PROGRAMS; k++) {
+        if (table->object[at] == object)
+            return (int)at;
+        if (table->object[at] <= GONE && *place == IT_FOR_PROGRAMS)
+            *place = at;
+        if (table->object[at] == NEVER_USED)
+            return -1;
+        if (++at == IT_FOR_PROGRAMS)
+            at = 0;
+    }
+    return -1;
+}
+
+int it_number(enum it_kind kind, const void *object)
+{
+    struct table *table = &tables[kind];
+    unsigned place;
+    int number = find(table, (unsigned)object, &place);
+    if (number >= 0)
+        return number;
+    it_lock_library();
+    number = find(table, (unsigned)object, &place);
+    if (number < 0 && place < IT_FOR_PROGRAMS) {
+        number = (int)place;
+        table->object[place] = (unsigned)object;
+        if (kind == IT_SEMAPHORE) /* whoever had the number may have left a value */
+            it_call(IT_CALL_SEM_INIT, place, 0);
+    }
+    it_unlock_library();
+    return number;
+}
+
+unsigned it_number_or_end(enum it_kind kind, const void *object)
+{
+    static const char *const messages[] = {
+        "more than 63 mutexes are in use", "more than 63 semaphores are in use", "more than 63 barriers are in use",
+        "more than 63 conditions are in use"
+    };
+    int number = it_number(kind, object);
+    if (number < 0)
+        it_end_by(messages[kind]);
+    return (unsigned)number;
+}
+
+void it_forget(enum it_kind kind, const void *object)
+{
+    struct table *table = &tables[kind];
+    unsigned place;
+    it_lock_library();
+    int number = find(table, (unsigned)object, &place);
+    if (number >= 0)
+        table->object[number] = GONE;
+    it_unlock_library();
+}

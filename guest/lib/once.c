@@ -1,0 +1,88 @@
+/* pthread_once, and keys. */
+#include <errno.h>
+#include <pthread.h>
+#include "library.h"
+
+int pthread_once(pthread_once_t *once, void (*function)(void))
+{
+    if (once->done)
+        return 0;
+    unsigned number = it_number_or_end(IT_MUTEX, once);
+    it_ordered_call(IT_CALL_LOCK, number, 0);
+    if (!once->done) {
+        function();
+        once->done = 1;
+    }
+    return it_ordered_call(IT_CALL_UNLOCK, number, 0);
+}
+
+/* Keys that were made, on a page of their own. A key that was deleted has its number still, so that no thread has an
+   old value of a new key. */
+static struct IT_PAGE_ALIGNED {
+    unsigned made;
+    char deleted[PTHREAD_KEYS_MAX];
+    void (*destructor[PTHREAD_KEYS_MAX])(void *);
+} keys;
+
+static _Thread_local void *values[PTHREAD_KEYS_MAX];
+
+static int exists(pthread_key_t key)
+{
+    return key < keys.made && !keys.deleted[key];
+}
+
+int pthread_key_create(pthread_key_t *key, void (*destructor)(void *))
+{
+    int answer = EAGAIN;
+    it_lock_library();
+    if (keys.made < PTHREAD_KEYS_MAX) {
+        keys.destructor[keys.made] = destructor;
+        *key = keys.made++;
+        answer = 0;
+    }
+    it_unlock_library();
+    return answer;
+}
+
+int pthread_key_delete(pthread_key_t key)
+{
+    int answer = EINVAL;
+    it_lock_library();
+    if (exists(key)) {
+        keys.deleted[key] = 1;
+        answer = 0;
+    }
+    it_unlock_library();
+    return answer;
+}
+
+/* A destructor may set values again: so they are gone through as often as POSIX wants it at least. */
+static void leave_keys(void)
+{
+    int some = 1;
+    for (unsigned turn = 0; some && turn < PTHREAD_DESTRUCTOR_ITERATIONS; turn++) {
+        some = 0;
+        for (pthread_key_t key = 0; key < keys.made; key++) {
+            void *value = values[key];
+            if (!value || !exists(key) || !keys.destructor[key])
+                continue;
+            some = 1;
+            values[key] = 0;
+            keys.destructor[key](value);
+        }
+    }
+}
+
+int pthread_setspecific(pthread_key_t key, const void *value)
+{
+    if (!exists(key))
+        return EINVAL;
+    values[key] = (void *)value;
+    it_self.leave_keys = leave_keys;
+    return 0;
+}
+
+void *pthread_getspecific(pthread_key_t key)
+{
+    return key < PTHREAD_KEYS_MAX ? values[key] : 0;
+}

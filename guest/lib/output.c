@@ -1,0 +1,245 @@
+/* stdout and stderr: both go into the one output of the run.
+
+   Each thread has two pages of its own that it fills in turn. A full page is put out; what there is less than that is
+   put out before the thread's next call of pthread.h, semaphore.h or sched.h, at fflush, and at exit. So no lock is
+   needed and no print costs a call, and yet prints come in each order that the program makes by its calls: what was
+   printed before a call is in the output before anybody sees the call.
+
+   A put reads the page of its bytes, and what a read page held when the step began counts for the reuse of the step.
+   Therefore there are two pages: while the one is filled the other is cleared, so that the step that fills a page found
+   it empty, and doesn't depend on what was printed before.
+
+   Each call of stdio with at most 4,096 bytes is in one put, once there are threads: so nobody's bytes come between. Of
+   a longer call those of others may, if nothing orders them. */
+#include <stdio.h>
+#include <string.h>
+#include <unistd.h>
+#include <errno.h>
+#include "library.h"
+
+static struct IT_PAGE_ALIGNED { unsigned char bytes[2][IT_PAGE]; } pages[IT_THREADS];
+
+/* Clears the first bytes of a page, and up to 31 more. */
+static void clear(unsigned char *page, unsigned count)
+{
+    for (unsigned *word = (unsigned *)page, *end = (unsigned *)(page + count); word < end; word += 8)
+        word[0] = word[1] = word[2] = word[3] = word[4] = word[5] = word[6] = word[7] = 0;
+}
+
+static void begin_page(unsigned char *page)
+{
+    it_self.page = it_self.at = page;
+}
+
+/* Puts out the first bytes of the page, goes on with the other page, and brings there what is behind them. */
+static void put_out(unsigned count)
+{
+    unsigned char *page = it_self.page, *other = pages[it_self.number].bytes[page == pages[it_self.number].bytes[0]];
+    unsigned rest = (unsigned)(it_self.at - page) - count;
+    it_call(IT_CALL_PUT, (unsigned)page, count);
+    begin_page(other);
+    if (rest) {
+        memcpy(other, page + count, rest);
+        it_self.at += rest;
+    }
+    clear(page, count + rest);
+}
+
+static void full(void)
+{
+    unsigned before = it_self.call ? (unsigned)(it_self.call - it_self.page) : 0;
+    put_out(it_shared.threads_made && before ? before : IT_PAGE);
+    it_self.call = it_self.call ? it_self.page : NULL;
+}
+
+static void begin(void)
+{
+    if (!it_self.page)
+        begin_page(pages[it_self.number].bytes[0]);
+    it_self.settle = 1;
+}
+
+static void flush(void)
+{
+    if (it_self.at != it_self.page)
+        put_out((unsigned)(it_self.at - it_self.page));
+}
+
+void it_settle(void)
+{
+    flush();
+    it_give_up_stdin();
+    it_self.settle = it_self.doubles = 0;
+}
+
+/* Whole pages are put out from where they are, if nothing is to come before. What can't be read traps when it is
+   copied. */
+static void add(const unsigned char *bytes, size_t count)
+{
+    for (; count >= IT_PAGE && it_self.at == it_self.page; bytes += IT_PAGE, count -= IT_PAGE)
+        if (it_call(IT_CALL_PUT, (unsigned)bytes, IT_PAGE) < 0)
+            break;
+    while (count) {
+        size_t room = IT_PAGE - (size_t)(it_self.at - it_self.page), part = count < room ? count : room;
+        memcpy(it_self.at, bytes, part);
+        it_self.at += part;
+        bytes += part;
+        count -= part;
+        if (part == room)
+            full();
+    }
+}
+
+/* ---------------------------------------------------------------------------------------------- the streams ---- */
+
+static int put_byte(char byte, FILE *stream)
+{
+    (void)stream;
+    begin();
+    *it_self.at++ = (unsigned char)byte;
+    if (it_self.at == it_self.page + IT_PAGE)
+        full();
+    return (unsigned char)byte;
+}
+
+/* Outside of a longer call a byte for stderr goes out at once. */
+static int put_error(char byte, FILE *stream)
+{
+    int answer = put_byte(byte, stream);
+    if (!it_self.call)
+        flush();
+    return answer;
+}
+
+static int flush_stream(FILE *stream)
+{
+    (void)stream;
+    flush();
+    return 0;
+}
+
+static int no_buffer(FILE *stream, char *buffer, int mode, size_t size)
+{
+    (void)stream, (void)buffer, (void)mode, (void)size;
+    return 0;
+}
+
+static int stay_open(FILE *stream)
+{
+    return flush_stream(stream);
+}
+
+static __off_t no_seek(FILE *stream, __off_t offset, int whence)
+{
+    (void)stream, (void)offset, (void)whence;
+    errno = ESPIPE;
+    return -1;
+}
+
+/* Nothing in them changes but an error's mark, so they needn't be on pages of their own. */
+static struct __file_ext output = FDEV_SETUP_EXT(put_byte, NULL, flush_stream, stay_open, no_seek, no_buffer, __SWR);
+static struct __file_ext errors = FDEV_SETUP_EXT(put_error, NULL, flush_stream, stay_open, no_seek, no_buffer, __SWR);
+FILE *const stdout = &output.cfile.file;
+FILE *const stderr = &errors.cfile.file;
+
+static int is_ours(const FILE *stream)
+{
+    return stream == stdout || stream == stderr;
+}
+
+/* A call of stdio begins and ends. Calls may stand in one another, as where a printf calls a print. */
+static unsigned char *begin_call(void)
+{
+    unsigned char *outer = it_self.call;
+    begin();
+    if (!outer)
+        it_self.call = it_self.at;
+    return outer;
+}
+
+static void end_call(const FILE *stream, const unsigned char *outer)
+{
+    if (outer)
+        return;
+    it_self.call = NULL;
+    if (stream == stderr)
+        flush();
+}
+
+/* The linker brings each vfprintf here, also those of printf and its like. */
+int __real_vfprintf(FILE *stream, const char *format, va_list arguments);
+int __wrap_vfprintf(FILE *stream, const char *format, va_list arguments)
+{
+    if (!is_ours(stream))
+        return __real_vfprintf(stream, format, arguments);
+    const unsigned char *outer = begin_call();
+    int answer = __real_vfprintf(stream, format, arguments);
+    end_call(stream, outer);
+    return answer;
+}
+
+static size_t write_all(FILE *stream, const void *bytes, size_t count)
+{
+    if (is_ours(stream)) {
+        const unsigned char *outer = begin_call();
+        add(bytes, count);
+        end_call(stream, outer);
+        return count;
+    }
+    if (!(stream->flags & __SWR))
+        return 0;
+    for (size_t k = 0; k < count; k++)
+        if (stream->put(((const char *)bytes)[k], stream) < 0)
+            return k;
+    return count;
+}
+
+size_t fwrite(const void *restrict bytes, size_t size, size_t count, FILE *restrict stream)
+{
+    if (size == 0 || count == 0)
+        return 0;
+    size_t all = size * count, written = write_all(stream, bytes, all);
+    return written == all ? count : written / size;
+}
+
+int fputs(const char *restrict text, FILE *restrict stream)
+{
+    size_t length = strlen(text);
+    return write_all(stream, text, length) == length ? 0 : EOF;
+}
+
+int puts(const char *text)
+{
+    const unsigned char *outer = begin_call();
+    add((const unsigned char *)text, strlen(text));
+    add((const unsigned char *)"\n", 1);
+    end_call(stdout, outer);
+    return 0;
+}
+
+int fflush(FILE *stream)
+{
+    if (!stream || is_ours(stream))
+        flush();
+    else if (stream->flush)
+        return stream->flush(stream);
+    return 0;
+}
+
+/* The output's descriptors are 1 and 2. What stdio holds comes before; the bytes are put out from where they are. */
+IT_REPLACEABLE ssize_t write(int descriptor, const void *bytes, size_t count)
+{
+    if (descriptor != STDOUT_FILENO && descriptor != STDERR_FILENO) {
+        errno = EBADF;
+        return -1;
+    }
+    flush();
+    for (size_t done = 0, part; done < count; done += part) {
+        part = count - done < IT_PAGE ? count - done : IT_PAGE;
+        if (it_call(IT_CALL_PUT, (unsigned)bytes + done, part) < 0) {
+            errno = EFAULT;
+            return done ? (ssize_t)done : -1;
+        }
+    }
+    return (ssize_t)count;
+}

@@ -1,0 +1,75 @@
+/* Where a guest with a C library starts, and where each of its threads does: gp, tp, and the block of thread-local
+   data. */
+#include <stdlib.h>
+#include <string.h>
+#include "library.h"
+
+_Thread_local struct it_self it_self;
+struct it_shared it_shared;
+
+/* from the linker's script */
+extern const char it_own_image[], it_own_image_size[];
+extern void (*const it_constructors[])(void), (*const it_constructors_end[])(void);
+
+int main(int count, char **words, char **environment);
+
+/* The machine gives each thread its number in tp. Number n has the block at it_own + n * it_own_size. A number isn't
+   used again, so that a block is zero when its thread starts. Both entries come to the same place; main's thread has
+   nothing in a0 that is wanted. */
+__asm__(".section .text.startup,\"ax\",@progbits\n"
+        ".globl _start\n"
+        ".globl it_thread_entry\n"
+        "_start:\n\t"
+        "li a0, 0\n"
+        "it_thread_entry:\n\t"
+        ".option push\n\t"
+        ".option norelax\n\t"
+        "la gp, __global_pointer$\n\t"
+        ".option pop\n\t"
+        "mv a1, tp\n\t"
+        "mv a2, tp\n\t"
+        "lui a3, %hi(it_own_size)\n\t"
+        "addi a3, a3, %lo(it_own_size)\n\t"
+        "lui tp, %hi(it_own)\n\t"
+        "addi tp, tp, %lo(it_own)\n\t"
+        "j 2f\n"
+        "1:\tadd tp, tp, a3\n\t"
+        "addi a2, a2, -1\n"
+        "2:\tbnez a2, 1b\n\t"
+        "tail it_start\n\t"
+        ".text\n");
+
+/* What a new thread calls: stands on its creator's stack, and the new thread sees it as it was at the create. */
+struct it_beginning {
+    void *(*function)(void *);
+    void *argument;
+};
+
+static __attribute__((noreturn)) void start_main(void)
+{
+    static char *words[] = { NULL };
+    for (void (*const *each)(void) = it_constructors; each != it_constructors_end; each++)
+        (*each)();
+    exit(main(0, words, words));
+}
+
+/* The first step of a thread ends here, with a call: so the creator's page, on which the beginning stands, isn't read
+   by the step that works. */
+static __attribute__((noreturn)) void start_thread(const struct it_beginning *beginning)
+{
+    void *(*function)(void *) = beginning->function;
+    void *argument = beginning->argument;
+    it_call(IT_CALL_YIELD, 0, 0);
+    it_end_thread(function(argument));
+}
+
+__attribute__((noreturn, used)) void it_start(const struct it_beginning *beginning, unsigned number)
+{
+    char *block;
+    __asm__("mv %0, tp" : "=r"(block));
+    memcpy(block, it_own_image, (size_t)it_own_image_size);
+    it_self.number = number;
+    if (number == 0)
+        start_main();
+    start_thread(beginning);
+}

@@ -1,0 +1,183 @@
+/* Mutexes, conditions, barriers and semaphores: each call is the machine's of the same name, with the object's
+   number. */
+#include <errno.h>
+#include <pthread.h>
+#include <semaphore.h>
+#include "library.h"
+
+/* The machine's negated errors as errno.h has them. */
+static int answered(int answer)
+{
+    switch (answer) {
+    case -IT_EPERM:
+        return EPERM;
+    case -IT_ESRCH:
+        return ESRCH;
+    case -IT_EAGAIN:
+        return EAGAIN;
+    case -IT_EBUSY:
+        return EBUSY;
+    case -IT_EINVAL:
+        return EINVAL;
+    case -IT_EDEADLK:
+        return EDEADLK;
+    case -IT_EOVERFLOW:
+        return EOVERFLOW;
+    default:
+        return answer;
+    }
+}
+
+/* ---------------------------------------------------------------------------------------------- mutexes ---- */
+
+int pthread_mutex_init(pthread_mutex_t *restrict mutex, const pthread_mutexattr_t *restrict attributes)
+{
+    if (it_number(IT_MUTEX, mutex) < 0)
+        return EAGAIN;
+    mutex->type = attributes ? attributes->type : PTHREAD_MUTEX_DEFAULT;
+    return 0;
+}
+
+int pthread_mutex_destroy(pthread_mutex_t *mutex)
+{
+    unsigned number = it_number_or_end(IT_MUTEX, mutex);
+    if (it_ordered_call(IT_CALL_TRYLOCK, number, 0) != 0)
+        return EBUSY;
+    it_call(IT_CALL_UNLOCK, number, 0);
+    it_forget(IT_MUTEX, mutex);
+    return 0;
+}
+
+/* Nobody signals the condition, so this doesn't return. */
+static void wait_for_ever(void)
+{
+    it_call(IT_CALL_LOCK, IT_OWN_MUTEX, 0);
+    it_call(IT_CALL_COND_WAIT, IT_NEVER, IT_OWN_MUTEX);
+}
+
+int pthread_mutex_lock(pthread_mutex_t *mutex)
+{
+    int answer = it_ordered_call(IT_CALL_LOCK, it_number_or_end(IT_MUTEX, mutex), 0);
+    if (answer == -IT_EDEADLK && mutex->type == PTHREAD_MUTEX_NORMAL)
+        wait_for_ever();
+    return answered(answer);
+}
+
+int pthread_mutex_trylock(pthread_mutex_t *mutex)
+{
+    return answered(it_ordered_call(IT_CALL_TRYLOCK, it_number_or_end(IT_MUTEX, mutex), 0));
+}
+
+int pthread_mutex_unlock(pthread_mutex_t *mutex)
+{
+    return answered(it_ordered_call(IT_CALL_UNLOCK, it_number_or_end(IT_MUTEX, mutex), 0));
+}
+
+/* ---------------------------------------------------------------------------------------------- conditions ---- */
+
+int pthread_cond_init(pthread_cond_t *restrict condition, const pthread_condattr_t *restrict attributes)
+{
+    (void)attributes;
+    return it_number(IT_CONDITION, condition) < 0 ? EAGAIN : 0;
+}
+
+int pthread_cond_destroy(pthread_cond_t *condition)
+{
+    it_forget(IT_CONDITION, condition);
+    return 0;
+}
+
+int pthread_cond_wait(pthread_cond_t *restrict condition, pthread_mutex_t *restrict mutex)
+{
+    unsigned number = it_number_or_end(IT_CONDITION, condition);
+    return answered(it_ordered_call(IT_CALL_COND_WAIT, number, it_number_or_end(IT_MUTEX, mutex)));
+}
+
+int pthread_cond_signal(pthread_cond_t *condition)
+{
+    return answered(it_ordered_call(IT_CALL_SIGNAL, it_number_or_end(IT_CONDITION, condition), 0));
+}
+
+int pthread_cond_broadcast(pthread_cond_t *condition)
+{
+    return answered(it_ordered_call(IT_CALL_BROADCAST, it_number_or_end(IT_CONDITION, condition), 0));
+}
+
+/* ---------------------------------------------------------------------------------------------- barriers ---- */
+
+int pthread_barrier_init(pthread_barrier_t *restrict barrier, const pthread_barrierattr_t *restrict attributes,
+                         unsigned count)
+{
+    (void)attributes;
+    if (count == 0)
+        return EINVAL;
+    if (count > IT_BARRIER_MOST)
+        return EAGAIN;
+    int number = it_number(IT_BARRIER, barrier);
+    return number < 0 ? EAGAIN : answered(it_ordered_call(IT_CALL_BARRIER_INIT, (unsigned)number, count));
+}
+
+/* To set a count is refused while somebody waits, so it tells whether somebody does. */
+int pthread_barrier_destroy(pthread_barrier_t *barrier)
+{
+    unsigned number = it_number_or_end(IT_BARRIER, barrier);
+    if (it_ordered_call(IT_CALL_BARRIER_INIT, number, 1) != 0)
+        return EBUSY;
+    it_forget(IT_BARRIER, barrier);
+    return 0;
+}
+
+int pthread_barrier_wait(pthread_barrier_t *barrier)
+{
+    int answer = it_ordered_call(IT_CALL_BARRIER_WAIT, it_number_or_end(IT_BARRIER, barrier), 0);
+    return answer == IT_BARRIER_SERIAL_THREAD ? PTHREAD_BARRIER_SERIAL_THREAD : answered(answer);
+}
+
+/* ---------------------------------------------------------------------------------------------- semaphores ---- */
+
+/* An answer as semaphore.h has it. */
+static int told(int error)
+{
+    if (error == 0)
+        return 0;
+    errno = error;
+    return -1;
+}
+
+static int semaphore_call(enum it_call call, sem_t *semaphore)
+{
+    return told(answered(it_ordered_call(call, it_number_or_end(IT_SEMAPHORE, semaphore), 0)));
+}
+
+int sem_init(sem_t *semaphore, int shared, unsigned value)
+{
+    (void)shared;
+    if (value > SEM_VALUE_MAX)
+        return told(EINVAL);
+    int number = it_number(IT_SEMAPHORE, semaphore);
+    return told(number < 0 ? ENOSPC : answered(it_ordered_call(IT_CALL_SEM_INIT, (unsigned)number, value)));
+}
+
+int sem_destroy(sem_t *semaphore)
+{
+    unsigned number = it_number_or_end(IT_SEMAPHORE, semaphore);
+    if (it_ordered_call(IT_CALL_SEM_INIT, number, 0) != 0)
+        return told(EBUSY);
+    it_forget(IT_SEMAPHORE, semaphore);
+    return 0;
+}
+
+int sem_wait(sem_t *semaphore)
+{
+    return semaphore_call(IT_CALL_SEM_WAIT, semaphore);
+}
+
+int sem_trywait(sem_t *semaphore)
+{
+    return semaphore_call(IT_CALL_SEM_TRYWAIT, semaphore);
+}
+
+int sem_post(sem_t *semaphore)
+{
+    return semaphore_call(IT_CALL_SEM_POST, semaphore);
+}

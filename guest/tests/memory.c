@@ -1,0 +1,129 @@
+/* Memory: more than there is gives NULL, and what was given back is there again. Each line says `yes`. */
+#include <errno.h>
+#include <sched.h>
+#include <stdint.h>
+#include <stdio.h>
+#include <stdlib.h>
+#include <string.h>
+
+static void tell(const char *what, int right)
+{
+    printf("%s: %s\n", what, right ? "yes" : "no");
+}
+
+/* A step may take only so many instructions. */
+static void now_and_then(unsigned count)
+{
+    if (count % 1024 == 0)
+        sched_yield();
+}
+
+/* As many blocks as there are, each with the address of the one before. */
+static void **fill(size_t bytes)
+{
+    void **last = NULL, **block;
+    for (unsigned count = 0; (block = malloc(bytes)) != NULL; now_and_then(++count)) {
+        memset(block, 0x55, bytes);
+        *block = last;
+        last = block;
+    }
+    return last;
+}
+
+static unsigned give_back(void **block)
+{
+    unsigned count = 0;
+    for (void **before; block; block = before, now_and_then(++count)) {
+        before = *block;
+        free(block);
+    }
+    return count;
+}
+
+static int is_zero(const char *bytes, size_t count)
+{
+    for (size_t k = 0; k < count; k++, now_and_then((unsigned)k))
+        if (bytes[k])
+            return 0;
+    return 1;
+}
+
+static void limits(void)
+{
+    volatile size_t most = SIZE_MAX, many = 65537;
+    errno = 0;
+    tell("100 MB are too many", malloc(100000000) == NULL && errno == ENOMEM);
+    errno = 0;
+    tell("as many as a size_t has, too", malloc(most) == NULL && errno == ENOMEM);
+    errno = 0;
+    tell("a product that is too large", calloc(many, many) == NULL && errno == ENOMEM);
+    char *kept = malloc(10);
+    strcpy(kept, "kept");
+    char *larger = realloc(kept, 100000000);
+    tell("realloc to too many", larger == NULL && strcmp(kept, "kept") == 0);
+    free(larger ? larger : kept);
+    free(NULL);
+    void *one = malloc(0), *other = malloc(0);
+    tell("blocks of no bytes are two", one && other && one != other);
+    free(one);
+    free(other);
+}
+
+static void sizes(void)
+{
+    unsigned small = give_back(fill(24));
+    tell("small blocks, over 2 MiB of them", small > 2 * 1048576 / 32);
+    tell("and again as many", give_back(fill(24)) == small);
+    void *large = malloc(2 * 1048576);
+    tell("then 2 MiB in one", large != NULL);
+    free(large);
+    unsigned middle = give_back(fill(1000));
+    tell("blocks of 1,000 bytes, over 2 MiB of them", middle > 2 * 1048576 / 1024);
+    char *zeros = calloc(1048576, 1);
+    tell("1 MiB of zeros where they were", zeros && is_zero(zeros, 1048576));
+    free(zeros);
+}
+
+static void grows(void)
+{
+    char *bytes = NULL;
+    int kept = 1;
+    for (size_t size = 1; size <= 1048576; size *= 2) {
+        char *larger = realloc(bytes, size);
+        if (!larger)
+            break;
+        bytes = larger;
+        for (size_t k = 0; k < size / 2; k += 997)
+            kept &= bytes[k] == (char)(k & 127);
+        for (size_t k = 0; k < size; k++, now_and_then((unsigned)k))
+            bytes[k] = (char)(k & 127);
+    }
+    tell("realloc keeps what it has, up to 1 MiB", kept && bytes);
+    bytes = realloc(bytes, 100);
+    tell("and when it gets smaller", bytes && bytes[99] == 99);
+    free(bytes);
+}
+
+static void alignment(void)
+{
+    int right = 1;
+    for (size_t align = 8; align <= 65536; align *= 2) {
+        void *one = aligned_alloc(align, align), *other = NULL;
+        right &= one && (uintptr_t)one % align == 0;
+        right &= posix_memalign(&other, align, 10) == 0 && (uintptr_t)other % align == 0;
+        free(one);
+        free(other);
+    }
+    tell("alignments", right);
+    void *block = NULL;
+    tell("an alignment that is none", posix_memalign(&block, 24, 10) == EINVAL && !block);
+}
+
+int main(void)
+{
+    limits();
+    sizes();
+    grows();
+    alignment();
+    return 0;
+}
