@@ -1,0 +1,50 @@
+"""What the checks of the tools share: counting, files, random numbers, and running the program or a tool."""
+import pathlib
+import random
+import subprocess
+
+ROOT = pathlib.Path(__file__).resolve().parent.parent
+EXAMPLES = ROOT / "examples"
+SECONDS = 120  # that a run may take
+MOST_INPUT = 1_048_576
+MOST_LIST = 1_048_576
+GUEST = EXAMPLES / "length.elf"  # one thread, so that nothing but the input can make its memory another
+
+
+class Checks:
+    """What was found so far, a folder for files, and where the random numbers come from."""
+
+    def __init__(self, folder):
+        self.folder, self.passed, self.failed, self.random = folder, 0, 0, random.Random(1)
+
+    def expect(self, what, right):
+        if right:
+            self.passed += 1
+        else:
+            self.failed += 1
+            print(f"failed: {what}")
+        return right
+
+    def file(self, name, data):
+        (self.folder / name).write_bytes(data)
+        return self.folder / name
+
+
+def ran_whole(*words, **how):
+    """The status, what was printed, and all of standard error."""
+    done = subprocess.run(words, stdin=subprocess.DEVNULL, capture_output=True, timeout=SECONDS, check=False, **how)
+    return done.returncode, done.stdout, done.stderr.decode("utf-8", "replace")
+
+
+def ran(*words):
+    """The status, what was printed, and the first line on standard error."""
+    status, printed, said = ran_whole(*words)
+    return status, printed, said.partition("\n")[0]
+
+
+def program(*words):
+    return ran(str(ROOT / "ithreads"), *map(str, words))
+
+
+def tool(name, *words):
+    return ran(str(ROOT / "tools" / name), *map(str, words))
