@@ -387,6 +387,25 @@ def follow(memo):
         raise Refused(f"Incoherent {len(memo.records)}")
 
 
+def known_byte(memo, record, address):
+    """a byte at a record's end, as it stored or else read it; None where it did neither"""
+    *_, reads, stores = record
+    number, place = divmod(address, PAGE)
+    for stored, mask, data in stores:
+        if stored == number and mask[place // 8] >> place % 8 & 1:
+            before = [k for k in range(place) if mask[k // 8] >> k % 8 & 1]
+            return data[len(before)]
+    return next((memo.pool[index][place] for read, index in reads if read == number), None)
+
+
+def check_old(memo):
+    """an earlier version's end at a word that wasn't an instruction then, and is one of RV32M: opcode OP, funct7 1"""
+    _, end, _, _, finish, *_ = memo.records[-1]
+    word = [known_byte(memo, memo.records[-1], finish[0] + k) for k in range(4)]
+    if end == 2 and None not in word and word[0] % 128 == 51 and word[3] // 2 == 1:
+        raise Refused(f"Old {len(memo.records) - 1}")
+
+
 def check_frame(data):
     """what is seen before any field"""
     if len(data) < 40:
@@ -404,6 +423,7 @@ def judge(data):
     try:
         check_frame(data)
         memo = Memo(data[:-32])
+        check_old(memo)
         follow(memo)
         return None, listing(memo)
     except Refused as refusal:

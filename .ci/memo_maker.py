@@ -70,10 +70,19 @@ def rich(elf):
     return [page, bytes(PAGE), changed], [put, leave]
 
 
+def with_code(elf, at, code):
+    """hi.elf with other bytes at a place of its code"""
+    return elf[:84 + at] + code + elf[84 + at + len(code):]
+
+
+def illegal(pc, start=FIRST, **fields_of_it):
+    """a record that ends as illegal at a pc"""
+    return record(start, registers(pc, x10=0xC0000000), **{"end": 2, **fields_of_it})
+
+
 def yields(elf):
     """hi.elf with other instructions: it yields for ever"""
-    code = bytes.fromhex("93085000 73000000 6ff09fff")
-    return elf[:84] + code + elf[84 + len(code):]
+    return with_code(elf, 0, bytes.fromhex("93085000 73000000 6ff09fff"))
 
 
 def full_pages(elf, pages, spare):
