@@ -1,11 +1,11 @@
 -- The smallest history that can be had, by which the definitions of histories are tried.
-use Rattle.std.proofs.Common.{◌≡◌, ◌<◌, ℕ, Bool, true, false, ◌&&◌, [], ◌∷◌, length, Option, Some, None, is_none, is_some, refl, ap, ◌∙◌, arith}
+use Rattle.std.proofs.Common.{◌≡◌, ◌<◌, ℕ, Bool, true, false, ◌&&◌, [], ◌∷◌, length, Option, Some, None, is_none, is_some, refl, ap, sym, ◌∙◌, arith}
 use Rattle.std.proofs.lemmas.List.Elements.{recursion_from_All, All-from_recursion}
 use Rattle.elf_spec.proofs.Examples.{hi_elf, hi_is_accepted}
 use Rattle.thunk_spec.specs.declared.ends.ThunkEnd.TheVariants.{Fuel}
 use Rattle.record_spec.specs.Delta.{PageDelta}
 use Rattle.record_spec.specs.Reads.{ReadPage}
-use Rattle.record_spec.specs.Record.{Record}
+use Rattle.record_spec.specs.Record.{Record, may_end}
 use Rattle.machine_spec.specs.declared.states.End.{End}
 use Rattle.machine_spec.specs.Machine.{Machine}
 use Rattle.machine_spec.specs.Step.{step, lay, fits, can_step}
@@ -16,7 +16,7 @@ use Rattle.machine_spec.proofs.Alone.{step-limit, step-steps, first-limit}
 use Rattle.machine_spec.proofs.Beginning.{IsWhole-first}
 use Rattle.machine_spec.proofs.Steps.{step-whole}
 use Rattle.history_spec.specs.History.{History, IsHonest, CanGoBy, IsMappedIn, is_coherent, can_lay_from}
-use Rattle.history_spec.proofs.Truth.{record-lay, honest-coherent}
+use Rattle.history_spec.proofs.Truth.{fits-within, record-lay, honest-coherent}
 
 -- the guest that prints "hi", on no input, with one turn and one step
 abbrev pub shortest : Setup
@@ -110,7 +110,39 @@ twice-not_coherent =
     after true false c e d ended = refl
     after false b c e d ended = refl
 
--- Its program may be run on another input by the history of the one step, and not with another limit.
+-- a program of two turns a thunk, and a record of it that the fuel ended after one turn
+abbrev pub longer : Setup
+longer = record shortest { fuel = 2 }
+
+abbrev pub early : Record
+early =
+    let r : Record = record_of (first shortest) 0 in record r { kept = record r.kept { end = Fuel; count = 1 } }
+
+longer-fuel : (first longer).frame.fuel ≡ 2
+unfolding first
+longer-fuel = refl
+
+pub early-fits : fits (first longer) early ≡ false
+unfolding may_end
+early-fits = refused (fits (first longer) early) refl
+  where
+    refused : (b : Bool) → fits (first longer) early ≡ b → b ≡ false
+    refused true fit =
+        let no : false ≡ true =
+        ap (λ (fuel : ℕ). may_end fuel Fuel 1) (sym longer-fuel) ∙ fits-within (first longer) early fit in
+        cc
+    refused false fit = refl
+
+-- Its history isn't coherent, since the fuel ends a thunk after as many turns as it allows.
+pub early-not_coherent : is_coherent (record { setup = longer; records = early ∷ [] }) ≡ false
+early-not_coherent =
+    rw early-fits (never (is_none (first longer).ending) (is_some (lay (first longer) early).ending))
+  where
+    never : (a b : Bool) → (((a && false) && true) && b) ≡ false
+    never true b = refl
+    never false b = refl
+
+-- Its program may be run on another input, and with another fuel, by the history of the one step.
 pub goes-edited : CanGoBy (Some only_step) (record shortest { input = 7 ∷ [] })
 goes-edited =
     record {
@@ -120,9 +152,28 @@ goes-edited =
         input_size = omega arith;
         limits = shortest-setup.limits;
       };
-      sound = (only-honest, record { elf = refl; fuel = refl; limit = refl });
+      sound = (only-honest, record { elf = refl; limit = refl });
     }
 
+pub goes-fuel : CanGoBy (Some only_step) longer
+goes-fuel =
+    record {
+      valid = record {
+        elf_size = shortest-setup.elf_size;
+        elf_accepted = hi_is_accepted;
+        input_size = shortest-setup.input_size;
+        limits =
+            record {
+              some_fuel = omega arith;
+              most_fuel = omega arith;
+              some_steps = omega arith;
+              most_steps = omega arith;
+            };
+      };
+      sound = (only-honest, record { elf = refl; limit = refl });
+    }
+
+-- With another limit it may not.
 pub goes-limit : CanGoBy (Some only_step) (record shortest { limit = 2 }) → ⊥
 goes-limit can = let other : 1 ≡ 2 = can.sound.1.limit in omega arith
 

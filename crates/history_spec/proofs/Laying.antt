@@ -54,7 +54,8 @@ unfolding fits
 fits-can_step m r none fit =
     rw none
     (and-left (is_ready (hart_of m r.thread).status)
-    (fits_at r (hart_of m r.thread).number (hart_of m r.thread).regs (hart_of m r.thread).view) fit)
+    (fits_at r (hart_of m r.thread).number (hart_of m r.thread).regs (hart_of m r.thread).view
+    m.frame.fuel) fit)
 
 pub lay-frame : (m : Machine) (r : Record) → (lay m r).frame ≡ m.frame
 unfolding lay

@@ -9,8 +9,9 @@ use Rattle.isa_spec.proofs.Equality.{same_registers-true, same_registers-refl}
 use Rattle.memory_spec.specs.Pages.{IsMemory}
 use Rattle.thunk_spec.specs.Thunk.{Frame}
 use Rattle.record_spec.specs.Reads.{has}
-use Rattle.record_spec.specs.Record.{Kept, Record, IsTrue, kept_thunk, fits_at}
+use Rattle.record_spec.specs.Record.{Kept, Record, IsTrue, kept_thunk, may_end, fits_at}
 use Rattle.record_spec.proofs.Truth.{has-kept, IsTrue-kept}
+use Rattle.record_spec.proofs.Fuel.{IsTrue-within, kept-within}
 use Rattle.machine_spec.specs.Machine.{Hart, Machine, hart_of, is_ready}
 use Rattle.machine_spec.specs.Step.{step, lay, fits, can_step}
 use Rattle.machine_spec.specs.Schedule.{scratch_from, is_permitted_from, record_of, records_from}
@@ -89,10 +90,17 @@ found-of t number (x ∷ rs) r there = here (is_of t number x) refl (found-of t 
         )
     here false is later h = later h
 
--- setups of the same program have the same frame
-pub same-frame : (a b : Setup) → IsSameProgram a b → (first a).frame ≡ (first b).frame
+-- setups of the same program have frames that differ in nothing but the fuel
+same-frame :
+    (a b : Setup) → IsSameProgram a b
+    → record (first a).frame { fuel = (first b).frame.fuel } ≡ (first b).frame
 unfolding first map_of
-same-frame a b same = rw (same.elf, same.fuel) refl
+same-frame a b same = rw same.elf refl
+
+-- a record that fits ended within the machine's fuel
+pub fits-within : (m : Machine) (r : Record) → fits m r ≡ true → may_end m.frame.fuel r.kept.end r.kept.count ≡ true
+unfolding fits fits_at
+fits-within m r fit = grind (arith, nat_tests)
 
 same-record :
     (r : Record) (n : ℕ) (x : Registers) (k : Kept) → r.number ≡ n → r.start ≡ x → r.kept ≡ k
@@ -123,7 +131,8 @@ record-fits m t ready =
     let regs : same_registers (hart_of m t).regs (hart_of m t).regs ≡ true = same_registers-refl (hart_of m t).regs in
     let reads : has (hart_of m t).view (kept_thunk m.frame (hart_of m t).view (hart_of m t).regs).reads ≡ true =
     has-kept m.frame (hart_of m t).view (hart_of m t).regs in
-    rw (ready, number, regs, reads) refl
+    let within = kept-within m.frame (hart_of m t).view (hart_of m t).regs in
+    rw (ready, number, regs, reads, within) refl
 
 -- laid, it is the step
 pub record-lay : (m : Machine) (t : ℕ) → IsWhole m → can_step m t ≡ true → lay m (record_of m t) ≡ step m t
@@ -169,14 +178,28 @@ honest-coherent h honest =
     ap (λ (m : Machine). is_some m.ending) laid ∙ honest.complete in
     rw (can, ended) refl
 
--- what a run may go by has true records
-pub sound-true :
+-- what a run may go by has records that are true where they ended within its fuel
+sound-true :
     (past : Option History) (setup : Setup) (t number : ℕ) (r : Record)
-    → IsSound past setup → found past t number ≡ Some r → IsTrueIn (first setup).frame r
-sound-true None setup t number r sound there = cc
-sound-true (Some h) setup t number r sound there =
+    → IsSound past setup → found past t number ≡ Some r
+    → may_end (first setup).frame.fuel r.kept.end r.kept.count ≡ true
+    → IsTrueIn (first setup).frame r
+sound-true None setup t number r sound there within = cc
+sound-true (Some h) setup t number r sound there within =
     subst (λ (f : Frame). IsTrueIn f r) (same-frame h.setup setup sound.1)
-    (found-all (IsTrueIn (first h.setup).frame) t number h.records r (honest-true h sound.0) there)
+    (IsTrue-within (first h.setup).frame (first setup).frame.fuel r.start r.kept
+    (found-all (IsTrueIn (first h.setup).frame) t number h.records r (honest-true h sound.0) there) within)
+
+-- a record that is found, and fits a machine of a run, is true there
+found-true :
+    (setup : Setup) (past : Option History) (m : Machine) (t number : ℕ) (r : Record)
+    → IsSound past setup → m.frame ≡ (first setup).frame
+    → found past t number ≡ Some r → fits m r ≡ true
+    → IsTrueIn m.frame r
+found-true setup past m t number r sound frame there fit =
+    subst (λ (f : Frame). IsTrueIn f r) (sym frame)
+    (sound-true past setup t number r sound there
+    (ap (λ (f : Frame). may_end f.fuel r.kept.end r.kept.count) (sym frame) ∙ fits-within m r fit))
 
 -- what is found is of the thread, at the number
 pub past-of :
@@ -191,9 +214,8 @@ pub reuse-record :
     → found past t number ≡ Some r → fits m r ≡ true
     → r ≡ record_of m t
 reuse-record setup past m t number r sound whole frame there fit =
-    let honest : IsTrueIn m.frame r =
-    subst (λ (f : Frame). IsTrueIn f r) (sym frame) (sound-true past setup t number r sound there) in
-    fits-record m r whole honest fit ∙ ap (record_of m) (past-of past t number r there).0
+    fits-record m r whole (found-true setup past m t number r sound frame there fit) fit
+    ∙ ap (record_of m) (past-of past t number r there).0
 
 -- and laid it is the step
 pub reuse-lay :
@@ -202,15 +224,21 @@ pub reuse-lay :
     → found past t number ≡ Some r → fits m r ≡ true
     → lay m r ≡ step m t
 reuse-lay setup past m t number r sound whole frame there fit =
-    let honest : IsTrueIn m.frame r =
-    subst (λ (f : Frame). IsTrueIn f r) (sym frame) (sound-true past setup t number r sound there) in
-    lay-step m r whole honest fit ∙ ap (step m) (past-of past t number r there).0
+    lay-step m r whole (found-true setup past m t number r sound frame there fit) fit
+    ∙ ap (step m) (past-of past t number r there).0
 
--- a record fits by its thread's hart alone
-pub fits-hart : (m n : Machine) (r : Record) → hart_of n r.thread ≡ hart_of m r.thread → fits n r ≡ fits m r
+-- under one fuel a record fits by its thread's hart alone
+pub fits-hart :
+    (m n : Machine) (r : Record) → n.frame.fuel ≡ m.frame.fuel → hart_of n r.thread ≡ hart_of m r.thread
+    → fits n r ≡ fits m r
 unfolding fits
-fits-hart m n r same = ap (λ (h : Hart). is_ready h.status && fits_at r h.number h.regs h.view) same
+fits-hart m n r fuel same =
+    ap (λ (h : Hart). is_ready h.status && fits_at r h.number h.regs h.view n.frame.fuel) same
+    ∙ ap
+    (λ (fuel : ℕ). is_ready (hart_of m r.thread).status
+    && fits_at r (hart_of m r.thread).number (hart_of m r.thread).regs (hart_of m r.thread).view fuel)
+    fuel
 
--- setups of the same program with the same input
-pub same-setup : (a b : Setup) → IsSameProgram a b → a.input ≡ b.input → a ≡ b
-same-setup a b same input = rw (← same.elf, ← same.fuel, ← same.limit, ← input) refl
+-- setups of the same program with the same input and fuel
+pub same-setup : (a b : Setup) → IsSameProgram a b → a.input ≡ b.input → a.fuel ≡ b.fuel → a ≡ b
+same-setup a b same input fuel = rw (← same.elf, ← fuel, ← same.limit, ← input) refl

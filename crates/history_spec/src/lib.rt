@@ -34,7 +34,7 @@ pub fn honest_is_coherent()
 {}
 
 /// Where a record that is found fits the machine from scratch, it is the record of the step that its
-/// thread would make there, and to lay it is that step.
+/// thread would make there, and to lay it is that step. The history may be of another input and fuel.
 pub fn reuse_is_step()
     ensures record { (setup : Setup) (past : Option History) (schedule : List ℕ) (t number : ℕ) (r : Record)
         → CanGoBy past setup
@@ -76,9 +76,9 @@ pub fn numbers_count_steps()
     ensures records { (h : History) → IsHonest h → is_numbered h.records ≡ true }
 {}
 
-/// Two setups of the same program and with the same input are the same.
-pub fn same_input_is_same_setup()
-    ensures { (a b : Setup) → IsSameProgram a b → a.input ≡ b.input → a ≡ b }
+/// Two setups of the same program, with the same input and fuel, are the same.
+pub fn same_input_and_fuel_is_same_setup()
+    ensures { (a b : Setup) → IsSameProgram a b → a.input ≡ b.input → a.fuel ≡ b.fuel → a ≡ b }
 {}
 
 /// The slots of a record of a step, those of its read pages and of its stored bytes, are in the map of

@@ -14,7 +14,7 @@ use Rattle.thunk_spec.specs.declared.ends.ThunkEnd.TheVariants as thunk_end
 use Rattle.thunk_spec.specs.Put.{is_readable, put_addresses}
 use Rattle.thunk_spec.specs.Turn.{turn}
 use Rattle.thunk_spec.specs.Thunk.{thunk}
-use Rattle.record_spec.specs.Record.{Record, fits_at}
+use Rattle.record_spec.specs.Record.{Record, may_end, fits_at}
 use Rattle.machine_spec.specs.declared.states.Status.{Status}
 use Rattle.machine_spec.specs.declared.states.Status.TheVariants.{Ready, Blocked, Ended}
 use Rattle.machine_spec.specs.declared.states.End.TheVariants.{Exit, Trap, Deadlock, Spent}
@@ -160,14 +160,14 @@ unfolding step finished thunk turn fetched number_at number_in permission_at dec
     bytes_stored with_byte first_registers all_unlocked choice
 bad-limit = refl
 
--- a record of thread 0 at its start, with no read pages
+-- a record of thread 0 at its start, with no read pages, whose thunk called in its ninth turn
 abbrev pub sample : Record
 sample =
     record {
       thread = 0;
       number = 0;
       start = first_registers 0 0x10000 0;
-      kept = record { reads = []; delta = []; finish = first_registers 0 0x10000 0; end = thunk_end.Fuel; count = 1 };
+      kept = record { reads = []; delta = []; finish = first_registers 0 0x10000 0; end = thunk_end.Call; count = 9 };
     }
 
 -- a machine of these threads
@@ -180,20 +180,46 @@ at number status = record small_hart { number = number; status = status }
 
 -- A record fits a thread that is ready, and no other.
 pub fits-ready : fits (with_harts (at 0 Ready ∷ [])) sample ≡ true
-unfolding fits fits_at first_registers
+unfolding fits fits_at may_end first_registers
 fits-ready = refl
 
 pub fits-blocked : fits (with_harts (at 0 Blocked ∷ [])) sample ≡ false
-unfolding fits fits_at first_registers
+unfolding fits fits_at may_end first_registers
 fits-blocked = refl
 
 pub fits-ended : fits (with_harts (at 0 (Ended 0) ∷ [])) sample ≡ false
-unfolding fits fits_at first_registers
+unfolding fits fits_at may_end first_registers
 fits-ended = refl
 
 pub fits-nobody : fits (with_harts []) sample ≡ false
-unfolding fits fits_at first_registers
+unfolding fits fits_at may_end first_registers
 fits-nobody = refl
+
+-- a machine of one ready thread, with this fuel
+abbrev pub with_fuel : ℕ → Machine
+with_fuel fuel = record (begins fuel 9 leave) { harts = at 0 Ready ∷ [] }
+
+-- It fits where its count is no more than the machine's fuel.
+pub fits-more_fuel : fits (with_fuel 10) sample ≡ true
+unfolding fits fits_at may_end first_registers
+fits-more_fuel = refl
+
+pub fits-count_above : fits (with_fuel 8) sample ≡ false
+unfolding fits fits_at may_end first_registers
+fits-count_above = refl
+
+-- the same record, of a thunk that the fuel ended
+abbrev pub out_of_fuel : Record
+out_of_fuel = record sample { kept = record sample.kept { end = thunk_end.Fuel } }
+
+-- It fits where its count is the machine's fuel.
+pub fits-out_of_fuel : fits (with_fuel 9) out_of_fuel ≡ true
+unfolding fits fits_at may_end first_registers
+fits-out_of_fuel = refl
+
+pub fits-count_below : fits (with_fuel 10) out_of_fuel ≡ false
+unfolding fits fits_at may_end first_registers
+fits-count_below = refl
 
 -- The ready thread with the fewest steps is chosen, and of two the lower one; who waits or has ended is passed over.
 pub choice-fewest :

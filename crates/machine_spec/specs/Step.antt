@@ -101,11 +101,12 @@ lay m r =
     finished m r.thread (masked m.memory r.kept.delta) r.kept.finish r.kept.end
     (put_of m.frame.map (hart_of m r.thread).view r.kept)
 
--- Whether a record fits: its thread is ready, at its number, with its start registers and the bytes of its read pages.
+-- Whether a record fits: its thread is ready, at its number, with its start registers and the bytes of its read pages,
+-- and its thunk may have ended so under the fuel.
 unfoldable pub fits : Machine → Record → Bool
 fits m r =
     is_ready (hart_of m r.thread).status
-    && fits_at r (hart_of m r.thread).number (hart_of m r.thread).regs (hart_of m r.thread).view
+    && fits_at r (hart_of m r.thread).number (hart_of m r.thread).regs (hart_of m r.thread).view m.frame.fuel
 
 -- Whether a thread may make the next step: the machine hasn't ended, and the thread is ready.
 abbrev pub can_step : Machine → ℕ → Bool

@@ -1,6 +1,6 @@
 //! The limits of a run.
 
-ghost use Rattle.std.specs.Prelude.{◌≡◌, ◌↔◌, IsTrue, is_some, IfSome};
+ghost use Rattle.std.specs.Prelude.{◌≡◌, ◌≤◌, ◌↔◌, IsTrue, is_some, IfSome};
 ghost use Rattle.machine_spec.specs.Limits.{AreLimits};
 
 use crate::{MOST_FUEL, MOST_STEPS};
@@ -52,6 +52,15 @@ impl Limits {
         ensures { result ≡ self.now.steps }
     {
         self.steps
+    }
+
+    /// The same step limit, and another fuel.
+    pub fn with_fuel(self, fuel: u32) -> Limits
+        requires some { 1 ≤ fuel }
+        requires most { fuel ≤ MOST_FUEL }
+        ensures { result ≡ record { fuel = fuel; steps = self.steps } }
+    {
+        Limits { fuel, ..self }
     }
 
     /// They are in range: what a caller learns of any limits.

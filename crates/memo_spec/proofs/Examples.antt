@@ -1,6 +1,6 @@
 -- Worked examples, each computed by the checker: the bytes of a record, of all that stands before the records, what is
 -- refused first, and which memos come from before M. Pages are cut to their first bytes.
-use Rattle.std.proofs.Common.{◌≡◌, true, false, Bool, ℕ, List, [], ◌∷◌, ◌++◌, replicate, refl, Some, None, Err}
+use Rattle.std.proofs.Common.{◌≡◌, true, false, Bool, ℕ, List, [], ◌∷◌, ◌++◌, ◌&&◌, cond, replicate, is_none, refl, Some, None, Err}
 use Rattle.isa_spec.specs.Registers.{Registers}
 use Rattle.isa_spec.specs.declared.Cause.TheVariants as cause
 use Rattle.memory_spec.specs.Pages.{Mapped}
@@ -9,10 +9,13 @@ use Rattle.thunk_spec.specs.declared.ends.ThunkEnd.{ThunkEnd}
 use Rattle.record_spec.specs.Delta.{PageDelta}
 use Rattle.record_spec.specs.Reads.{ReadPage}
 use Rattle.record_spec.specs.Record.{Record}
+use Rattle.machine_spec.specs.Setup.{first}
+use Rattle.machine_spec.specs.Step.{lay}
 use Rattle.history_spec.specs.History.{History}
+use Rattle.history_spec.proofs.Examples.{longer, early, early-fits}
 use Rattle.memo_spec.specs.declared.Refusal.TheVariants as refusal
 use Rattle.memo_spec.specs.Spelling.{distinct, end_number, mask, record_bytes, body, magic}
-use Rattle.memo_spec.specs.Reading.{reading}
+use Rattle.memo_spec.specs.Reading.{incoherent_from, reading}
 use Rattle.memo_spec.specs.Old.{is_of_m, told_word, ends_old}
 
 -- A page that stands twice among the read pages stands once in the pool, where it came first.
@@ -103,6 +106,14 @@ no-magic = refl
 pub later-version : reading (magic ++ (2 ∷ 0 ∷ 0 ∷ 0 ∷ []) ++ replicate 32 0) ≡ Err (refusal.Version 2)
 unfolding reading
 later-version = refl
+
+-- The fuel is two, so a record that it ended after one turn doesn't fit.
+pub fuel-incoherent : incoherent_from 0 (first longer) (early ∷ []) ≡ Some 0
+fuel-incoherent = rw early-fits (never (is_none (first longer).ending))
+  where
+    never : (b : Bool) → cond (b && false) (incoherent_from 1 (lay (first longer) early) []) (Some 0) ≡ Some 0
+    never true = refl
+    never false = refl
 
 -- MUL a0, a0, a1 and DIVU a0, a0, a1 are instructions of M. ADD a0, a0, a1 has another funct7, and ADDI a0, a0, 43
 -- another opcode.

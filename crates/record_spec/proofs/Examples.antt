@@ -4,11 +4,11 @@ use Rattle.isa_spec.specs.Registers.{with_pc}
 use Rattle.memory_spec.specs.Pages.{Memory}
 use Rattle.memory_spec.specs.Stores.{StoredByte, with_byte, laid}
 use Rattle.memory_spec.specs.Workspace.{Masks, with_mark, marked}
-use Rattle.thunk_spec.specs.declared.ends.ThunkEnd.TheVariants.{Call}
+use Rattle.thunk_spec.specs.declared.ends.ThunkEnd.TheVariants.{Call, Fuel}
 use Rattle.thunk_spec.proofs.Guests.{map, start}
 use Rattle.record_spec.specs.Delta.{PageDelta, delta_from, masked}
 use Rattle.record_spec.specs.Reads.{ReadPage, reads_of, has}
-use Rattle.record_spec.specs.Record.{Record, fits_at}
+use Rattle.record_spec.specs.Record.{Record, may_end, fits_at}
 
 -- two stores at 0x11001, one at 0x11003, in this order
 abbrev pub stores : List StoredByte
@@ -67,33 +67,59 @@ has-other_page = refl
 pub has-differs : has ((1 ∷ 2 ∷ 3 ∷ 5 ∷ []) ∷ (10 ∷ 11 ∷ 12 ∷ 13 ∷ []) ∷ []) first_page ≡ false
 has-differs = refl
 
--- the record of a thunk that took bytes of the first page
+-- the record of a thunk that took bytes of the first page, and called in its fifth turn
 abbrev pub sample : Record
 sample =
     record {
       thread = 3;
       number = 2;
       start = start 5 6;
-      kept = record { reads = first_page; delta = delta; finish = start 5 7; end = Call; count = 1 };
+      kept = record { reads = first_page; delta = delta; finish = start 5 7; end = Call; count = 5 };
     }
 
-pub fits-same : fits_at sample 2 (start 5 6) memory ≡ true
-unfolding fits_at
+pub fits-same : fits_at sample 2 (start 5 6) memory 5 ≡ true
+unfolding fits_at may_end
 fits-same = refl
 
 -- It doesn't fit at another number of steps, with another register, or where a read page differs.
-pub fits-number : fits_at sample 3 (start 5 6) memory ≡ false
-unfolding fits_at
+pub fits-number : fits_at sample 3 (start 5 6) memory 5 ≡ false
+unfolding fits_at may_end
 fits-number = refl
 
-pub fits-register : fits_at sample 2 (start 5 7) memory ≡ false
-unfolding fits_at
+pub fits-register : fits_at sample 2 (start 5 7) memory 5 ≡ false
+unfolding fits_at may_end
 fits-register = refl
 
-pub fits-page : fits_at sample 2 (start 5 6) ((1 ∷ 2 ∷ 9 ∷ 4 ∷ []) ∷ (10 ∷ 11 ∷ 12 ∷ 13 ∷ []) ∷ []) ≡ false
-unfolding fits_at
+pub fits-page : fits_at sample 2 (start 5 6) ((1 ∷ 2 ∷ 9 ∷ 4 ∷ []) ∷ (10 ∷ 11 ∷ 12 ∷ 13 ∷ []) ∷ []) 5 ≡ false
+unfolding fits_at may_end
 fits-page = refl
 
-pub fits-pc : fits_at sample 2 (with_pc (start 5 6) 0x10004) memory ≡ false
-unfolding fits_at
+pub fits-pc : fits_at sample 2 (with_pc (start 5 6) 0x10004) memory 5 ≡ false
+unfolding fits_at may_end
 fits-pc = refl
+
+-- It fits under a larger fuel, and not under one below its count.
+pub fits-more_fuel : fits_at sample 2 (start 5 6) memory 6 ≡ true
+unfolding fits_at may_end
+fits-more_fuel = refl
+
+pub fits-less_fuel : fits_at sample 2 (start 5 6) memory 4 ≡ false
+unfolding fits_at may_end
+fits-less_fuel = refl
+
+-- the record of a thunk that ended by the fuel after five turns
+abbrev pub out_of_fuel : Record
+out_of_fuel = record sample { kept = record sample.kept { end = Fuel } }
+
+-- It fits under the fuel that is its count, and under no larger or smaller one.
+pub fits-out_of_fuel : fits_at out_of_fuel 2 (start 5 6) memory 5 ≡ true
+unfolding fits_at may_end
+fits-out_of_fuel = refl
+
+pub fits-count_below : fits_at out_of_fuel 2 (start 5 6) memory 6 ≡ false
+unfolding fits_at may_end
+fits-count_below = refl
+
+pub fits-count_above : fits_at out_of_fuel 2 (start 5 6) memory 4 ≡ false
+unfolding fits_at may_end
+fits-count_above = refl

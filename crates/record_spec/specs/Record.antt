@@ -1,9 +1,10 @@
 -- A record of a finished thunk: what is kept of it, when it is true, and when it fits.
-use Rattle.std.specs.Prelude.{◌≡◌, ℕ, Bool, true, ◌&&◌, ◌==◌, List}
+use Rattle.std.specs.Prelude.{◌≡◌, ℕ, Bool, true, nat_le, ◌&&◌, ◌==◌, List}
 use Rattle.isa_spec.specs.Registers.{Registers, same_registers}
 use Rattle.memory_spec.specs.Pages.{Mapped, Memory, IsMemory}
 use Rattle.memory_spec.specs.Stores.{laid}
 use Rattle.thunk_spec.specs.declared.ends.ThunkEnd.{ThunkEnd}
+use Rattle.thunk_spec.specs.declared.ends.ThunkEnd.TheVariants as thunk_end
 use Rattle.thunk_spec.specs.Put.{put_addresses, bytes_at}
 use Rattle.thunk_spec.specs.Thunk.{Frame, Thunk, thunk}
 use Rattle.record_spec.specs.Delta.{PageDelta, delta_of, masked}
@@ -49,9 +50,19 @@ pub record Record : Type 0 where
 pub record IsTrue (f : Frame) (start : Registers) (k : Kept) : Type 0 where
   pub same : (view : Memory) → IsMemory f.map view → has view k.reads ≡ true → kept_thunk f view start ≡ k
 
--- Whether a record fits a thread that has made so many steps, with these registers and this view.
-unfoldable pub fits_at : Record → ℕ → Registers → Memory → Bool
-fits_at r number regs view = (r.number == number) && same_registers r.start regs && has view r.kept.reads
+-- Whether a thunk of this fuel may end so after so many turns: they are no more than the fuel, and just as many where
+-- the fuel ended it.
+unfoldable pub may_end : ℕ → ThunkEnd → ℕ → Bool
+may_end fuel thunk_end.Call count = nat_le count fuel
+may_end fuel (thunk_end.Trap cause) count = nat_le count fuel
+may_end fuel thunk_end.Fuel count = count == fuel
+
+-- Whether a record fits a thread that has made so many steps, with these registers and this view, in a run of this
+-- fuel.
+unfoldable pub fits_at : Record → ℕ → Registers → Memory → ℕ → Bool
+fits_at r number regs view fuel =
+    (r.number == number) && same_registers r.start regs && has view r.kept.reads
+    && may_end fuel r.kept.end r.kept.count
 
 -- What is kept stands for the thunk of these registers on this view: written into a memory, its stored bytes leave what
 -- the thunk's stores leave; registers, end and count are the thunk's; and so are the bytes of its put.

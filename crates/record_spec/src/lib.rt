@@ -1,15 +1,16 @@
 //! What a record keeps of a thunk, as definitions, when it is true and when it fits, with the laws
-//! that a true record that fits stands for its thunk. No code.
+//! that a true record that fits stands for its thunk, and that it is true under another fuel if it ended
+//! within that one. No code.
 #![tactic(auto)]
 
-ghost use Rattle.std.specs.Prelude.{◌≡◌, List, true};
+ghost use Rattle.std.specs.Prelude.{◌≡◌, ℕ, List, true};
 ghost use Rattle.isa_spec.specs.Registers.{Registers};
 ghost use Rattle.memory_spec.specs.Pages.{Mapped, Memory, IsMemory};
 ghost use Rattle.memory_spec.specs.Stores.{StoredByte, laid};
 ghost use Rattle.thunk_spec.specs.Thunk.{Frame};
 ghost use Rattle.record_spec.specs.Delta.{delta_of, masked};
 ghost use Rattle.record_spec.specs.Reads.{has};
-ghost use Rattle.record_spec.specs.Record.{Kept, kept_thunk, IsTrue, StandsFor};
+ghost use Rattle.record_spec.specs.Record.{Kept, kept_thunk, IsTrue, may_end, StandsFor};
 
 /// Writing the masked last bytes that stores leave is laying the stores in order.
 pub fn delta_is_laid()
@@ -39,4 +40,19 @@ pub fn true_stands_for_thunk()
         → IsMemory frame.map view
         → IsMemory frame.map memory
         → StandsFor frame view memory start kept }
+{}
+
+/// What is kept of a thunk ended within the fuel that the thunk had.
+pub fn kept_is_within_its_fuel()
+    ensures { (frame : Frame) (view : Memory) (start : Registers)
+        → may_end frame.fuel (kept_thunk frame view start).end (kept_thunk frame view start).count ≡ true }
+{}
+
+/// What is true under one fuel, and ended within another, is true under the other: by a call or a trap
+/// after no more turns, or by a fuel that is the same.
+pub fn true_within_another_fuel()
+    ensures { (frame : Frame) (fuel : ℕ) (start : Registers) (kept : Kept)
+        → IsTrue frame start kept
+        → may_end fuel kept.end kept.count ≡ true
+        → IsTrue (record frame { fuel = fuel }) start kept }
 {}

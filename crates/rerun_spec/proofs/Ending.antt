@@ -105,7 +105,6 @@ program-left b input =
     let same = left-own (round_on b input) in
     record {
       elf = ap (λ (t : Setup). t.elf) same;
-      fuel = ap (λ (t : Setup). t.fuel) same;
       limit = ap (λ (t : Setup). t.limit) same;
     }
 
@@ -126,7 +125,7 @@ other-input :
     (past : Option History) (s : Setup) (input : List ℕ)
     → IsOfProgram past s → IsOfProgram past (with_input s input)
 other-input None s input of = tt
-other-input (Some h) s input of = record { elf = of.elf; fuel = of.fuel; limit = of.limit }
+other-input (Some h) s input of = record { elf = of.elf; limit = of.limit }
 
 past-each :
     (b : Beginning) (inputs : List (List ℕ)) → IsOfProgram b.past b.setup

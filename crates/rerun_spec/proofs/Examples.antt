@@ -1,5 +1,6 @@
 -- Worked examples, on an input of the five bytes 1 to 5. The expected values follow by hand.
-use Rattle.std.proofs.Common.{◌≡◌, ℕ, true, false, List, [], ◌∷◌, ◌++◌, inl, Some, None, Ok, refl, sym, subst, lit<}
+use Rattle.std.proofs.Common.{◌≡◌, ℕ, true, false, List, [], ◌∷◌, ◌++◌, inl, Some, None, Ok, refl, ap, sym, ◌∙◌, subst, lit<}
+use Rattle.std.proofs.lemmas.Option.{same_Some}
 use Rattle.std.specs.Prelude.{codes, decimal}
 use Rattle.std.specs.Fmt.{digits}
 use Rattle.machine_spec.specs.declared.states.End.TheVariants.{Exit, Deadlock, Spent}
@@ -10,7 +11,7 @@ use Rattle.edit_spec.specs.Grammar.{Spells, IsEdit, Says, SpellBytes, lines}
 use Rattle.edit_spec.proofs.Spelling.{digits-decimal, same_around_space, other_word}
 use Rattle.edit_spec.proofs.Examples.{five, zero_is_spelled}
 use Rattle.rerun_spec.specs.Inputs.{Makes, AreInputs, AreRerunInputs, BadLine, OutOfRange, IsFirstRefused}
-use Rattle.rerun_spec.specs.Rounds.{with_input, left_by, from_scratch, after_memo, round_on, after_round, rounds_after, after_rounds, last_left, IsRepeated}
+use Rattle.rerun_spec.specs.Rounds.{Round, with_input, with_fuel, left_by, from_scratch, after_memo, round_on, after_round, rounds_after, after_rounds, last_left, IsRepeated, IsUneditedRerun}
 use Rattle.rerun_spec.specs.Reports.{shares_of_first, is_exit}
 use Rattle.edit_spec.proofs.Deciding.{no-byte-odd}
 
@@ -97,32 +98,36 @@ pub rounds-two :
     ∷ []
 rounds-two s a b = refl
 
--- After a memo, round 1 goes by its history, and round 2 by what round 1 leaves.
+-- After a memo, round 1 goes by its history, and round 2 by what round 1 leaves; both have the fuel that is asked for.
 pub reruns-two :
-    (h : History) (a b : List ℕ)
-    → rounds_after (after_memo h) (a ∷ b ∷ [])
-    ≡ record { number = 1; setup = with_input h.setup a; past = Some h }
+    (h : History) (fuel : ℕ) (a b : List ℕ)
+    → rounds_after (after_memo h fuel) (a ∷ b ∷ [])
+    ≡ record { number = 1; setup = with_input (with_fuel h.setup fuel) a; past = Some h }
     ∷ record {
       number = 2;
-      setup = with_input h.setup b;
-      past = Some (left_by (record { number = 1; setup = with_input h.setup a; past = Some h }));
+      setup = with_input (with_fuel h.setup fuel) b;
+      past =
+          Some (left_by
+          (record { number = 1; setup = with_input (with_fuel h.setup fuel) a; past = Some h }));
     }
     ∷ []
-reruns-two h a b = refl
+reruns-two h fuel a b = refl
 
 -- The last of them leaves what round 2 does; and with no round the memo's history is left.
 pub left-two :
-    (h : History) (a b : List ℕ)
-    → last_left (after_memo h) (a ∷ b ∷ [])
+    (h : History) (fuel : ℕ) (a b : List ℕ)
+    → last_left (after_memo h fuel) (a ∷ b ∷ [])
     ≡ left_by (record {
       number = 2;
-      setup = with_input h.setup b;
-      past = Some (left_by (record { number = 1; setup = with_input h.setup a; past = Some h }));
+      setup = with_input (with_fuel h.setup fuel) b;
+      past =
+          Some (left_by
+          (record { number = 1; setup = with_input (with_fuel h.setup fuel) a; past = Some h }));
     })
-left-two h a b = refl
+left-two h fuel a b = refl
 
-pub left-none : (h : History) → last_left (after_memo h) [] ≡ h
-left-none h = refl
+pub left-none : (h : History) (fuel : ℕ) → last_left (after_memo h fuel) [] ≡ h
+left-none h fuel = refl
 
 -- From scratch and with no round a history of no steps is left.
 pub left-scratch : (s : Setup) → last_left (from_scratch s) [] ≡ record { setup = s; records = [] }
@@ -142,6 +147,12 @@ rerun-emptied = (record { edits = record { line = 1; edit = Size 0 } ∷ []; sai
 
 pub rerun-unedited : AreRerunInputs five [] (five ∷ [])
 rerun-unedited = refl
+
+-- A rerun with another fuel than the memo's isn't without an edit.
+pub rerun-fuel :
+    (h : History) (fuel : ℕ) (input : List ℕ) (r : Round) → IsUneditedRerun h fuel (input ∷ []) r → fuel ≡ h.setup.fuel
+rerun-fuel h fuel input r rerun =
+    ap (λ (q : Round). q.setup.fuel) (same_Some (round_on (after_memo h fuel) input) r rerun.first) ∙ rerun.same_fuel
 
 -- One worker of three makes all twelve steps.
 pub shares-three : shares_of_first 3 12 ≡ 12 ∷ 0 ∷ 0 ∷ []

@@ -1,4 +1,4 @@
--- A round on the input of the round before it, or of the memo that it goes by, reuses every step.
+-- A round on the input of the round before it, or on input and fuel of the memo that it goes by, reuses every step.
 use Rattle.std.proofs.Common.{◌≡◌, ◌≢◌, ℕ, List, [], ◌∷◌, Option, Some, None, ap, sym, ◌∙◌, subst}
 use Rattle.std.proofs.lemmas.Option.{same_Some}
 use Rattle.machine_spec.specs.Setup.{Setup, first, scratch}
@@ -13,7 +13,7 @@ use Rattle.round_spec.specs.Unedited.{all_reused_of, OnlyReuses}
 use Rattle.worker_spec.specs.OneWorker.{executed_in}
 use Rattle.worker_spec.proofs.Unedited.{unedited-schedule, unedited-marks, unedited-reuses, reused-instructions, unedited-never_runs, unedited-executed}
 use Rattle.rerun_spec.specs.Inputs.{AreShort}
-use Rattle.rerun_spec.specs.Rounds.{with_input, Round, made, left_by, Beginning, after_memo, CanBegin, round_on, rounds_after, schedule_in, entries_of, machine_of, IsRepeated, IsUneditedRerun}
+use Rattle.rerun_spec.specs.Rounds.{with_input, with_fuel, Round, made, left_by, Beginning, after_memo, CanBegin, round_on, rounds_after, schedule_in, entries_of, machine_of, IsRepeated, IsUneditedRerun}
 use Rattle.rerun_spec.proofs.Rounds.{CanBeMade, round-honest, left-setup, left-schedule, each-round, IsNext, next-after, at-place}
 
 -- a round goes by an honest history, on its very setup
@@ -48,23 +48,28 @@ repeated-after b inputs before after can short repeated =
       schedule = left-schedule before may;
     }
 
--- so does the first round of a rerun on the memo's input
+-- so does the first round of a rerun on the memo's input with its fuel
 rerun-round :
-    (h : History) (r : Round) (input : List ℕ)
-    → round_on (after_memo h) input ≡ r → r.setup.input ≡ h.setup.input → IsHonest h → IsAgain h r
-rerun-round h r input is same honest =
+    (h : History) (fuel : ℕ) (r : Round) (input : List ℕ)
+    → round_on (after_memo h fuel) input ≡ r → r.setup.input ≡ h.setup.input → r.setup.fuel ≡ h.setup.fuel → IsHonest h
+    → IsAgain h r
+rerun-round h fuel r input is same_input same_fuel honest =
+    let made : with_input (with_fuel h.setup fuel) input ≡ r.setup = ap (λ (q : Round). q.setup) is in
+    let asked : h.setup.fuel ≡ fuel = sym same_fuel ∙ sym (ap (λ (s : Setup). s.fuel) made) in
+    let read : h.setup.input ≡ input = sym same_input ∙ sym (ap (λ (s : Setup). s.input) made) in
     record {
       honest = honest;
       past = sym (ap (λ (q : Round). q.past) is);
-      setup = ap (with_input h.setup) (sym same ∙ sym (ap (λ (q : Round). q.setup.input) is))
-          ∙ ap (λ (q : Round). q.setup) is;
+      setup = ap (with_fuel h.setup) asked ∙ ap (with_input (with_fuel h.setup fuel)) read ∙ made;
     }
 
 pub rerun-again :
-    (h : History) (inputs : List (List ℕ)) (r : Round) → IsHonest h → IsUneditedRerun h inputs r → IsAgain h r
-rerun-again h [] r honest rerun = absurd (let no : None ≡ Some r = rerun.first in cc)
-rerun-again h (input ∷ inputs) r honest rerun =
-    rerun-round h r input (same_Some (round_on (after_memo h) input) r rerun.first) rerun.same honest
+    (h : History) (fuel : ℕ) (inputs : List (List ℕ)) (r : Round)
+    → IsHonest h → IsUneditedRerun h fuel inputs r → IsAgain h r
+rerun-again h fuel [] r honest rerun = absurd (let no : None ≡ Some r = rerun.first in cc)
+rerun-again h fuel (input ∷ inputs) r honest rerun =
+    rerun-round h fuel r input (same_Some (round_on (after_memo h fuel) input) r rerun.first) rerun.same_input
+    rerun.same_fuel honest
 
 -- what holds of the history's own setup holds of the round
 carried :

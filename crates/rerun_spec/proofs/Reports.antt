@@ -19,7 +19,7 @@ use Rattle.round_spec.proofs.Agreeing.{one_worker-nothing}
 use Rattle.round_spec.proofs.Executed.{round-executed}
 use Rattle.worker_spec.proofs.Events.{picks-events}
 use Rattle.rerun_spec.specs.Inputs.{AreInputs, AreRerunInputs, AreShort}
-use Rattle.rerun_spec.specs.Rounds.{Round, made, Beginning, from_scratch, after_memo, CanBegin, round_on, after_round, rounds_after, after_rounds, schedule_in, entries_of, IsUneditedRerun}
+use Rattle.rerun_spec.specs.Rounds.{with_fuel, Round, made, Beginning, from_scratch, after_memo, CanBegin, round_on, after_round, rounds_after, after_rounds, schedule_in, entries_of, IsUneditedRerun}
 use Rattle.rerun_spec.specs.Reports.{all_executed, shares_of_first, report_of, reports_of, is_exit, exits, all_exit, told_as_made, made_report, made_reports, made_exits, all_made_exit}
 use Rattle.rerun_spec.proofs.Inputs.{only-input}
 use Rattle.rerun_spec.proofs.Rounds.{CanBeMade, each-round, rounds-later, round-threads, round-entries, round-machine}
@@ -71,17 +71,22 @@ only-exits setup inputs are =
     ap (λ (is : List (List ℕ)). all_exit (rounds_after (from_scratch setup) is)) (only-input setup.input inputs are)
     ∙ first-exits setup
 
--- without lists a rerun is one round, without an edit
+-- without lists a rerun is one round, without an edit where its fuel is the memo's
 pub only-rerun :
-    (h : History) (inputs : List (List ℕ)) → AreRerunInputs h.setup.input [] inputs
-    → rounds_after (after_memo h) inputs ≡ record { number = 1; setup = h.setup; past = Some h } ∷ []
-only-rerun h inputs are = ap (rounds_after (after_memo h)) are
+    (h : History) (fuel : ℕ) (inputs : List (List ℕ)) → AreRerunInputs h.setup.input [] inputs
+    → rounds_after (after_memo h fuel) inputs
+    ≡ record { number = 1; setup = with_fuel h.setup fuel; past = Some h } ∷ []
+only-rerun h fuel inputs are = ap (rounds_after (after_memo h fuel)) are
 
 pub only-unedited :
     (h : History) (inputs : List (List ℕ)) → AreRerunInputs h.setup.input [] inputs
-    → IsUneditedRerun h inputs (record { number = 1; setup = h.setup; past = Some h })
+    → IsUneditedRerun h h.setup.fuel inputs (record { number = 1; setup = h.setup; past = Some h })
 only-unedited h inputs are =
-    record { first = ap (λ (rs : List Round). slice_get rs 0) (only-rerun h inputs are); same = refl }
+    record {
+      first = ap (λ (rs : List Round). slice_get rs 0) (only-rerun h h.setup.fuel inputs are);
+      same_input = refl;
+      same_fuel = refl;
+    }
 
 -- counts
 rounds-count : (b : Beginning) (inputs : List (List ℕ)) → length (rounds_after b inputs) ≡ length inputs

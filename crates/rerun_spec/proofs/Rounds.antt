@@ -4,6 +4,7 @@ use Rattle.std.specs.List.{AllByRecursion, range_with_len}
 use Rattle.std.proofs.lemmas.Option.{same_Some}
 use Rattle.std.proofs.lemmas.List.Elements.{All-from_recursion, recursion_from_All}
 use Rattle.edit_spec.specs.Editing.{longest_input}
+use Rattle.machine_spec.specs.Limits.{AreLimits}
 use Rattle.machine_spec.specs.Setup.{Setup, IsSetup, first, scratch, is_permitted, is_complete, records}
 use Rattle.history_spec.specs.History.{History, IsHonest, IsSound, CanGoBy, schedule_of, threads_of_records}
 use Rattle.history_spec.proofs.Scratch.{records-threads}
@@ -15,9 +16,8 @@ use Rattle.worker_spec.proofs.Picks.{marked-threads}
 use Rattle.worker_spec.proofs.Lone.{rounds-made, one_worker-permitted, one_worker-complete}
 use Rattle.worker_spec.proofs.Events.{lone-honest}
 use Rattle.worker_spec.proofs.Cost.{rounds-cost}
-use Rattle.worker_spec.proofs.Unedited.{honest-sound}
 use Rattle.rerun_spec.specs.Inputs.{AreInputs, AreShort}
-use Rattle.rerun_spec.specs.Rounds.{with_input, Round, made, left_by, Beginning, from_scratch, after_memo, CanBegin, round_on, after_round, rounds_after, after_rounds, history_at, last_left, schedule_in, entries_of, machine_of}
+use Rattle.rerun_spec.specs.Rounds.{with_input, with_fuel, Round, made, left_by, Beginning, from_scratch, after_memo, CanBegin, round_on, after_round, rounds_after, after_rounds, history_at, last_left, schedule_in, entries_of, machine_of}
 
 -- a round that may be made: its setup can go by its history
 abbrev pub CanBeMade : Round → Type 0
@@ -36,7 +36,7 @@ with-short s input valid short =
 -- a history that is sound is so for any input
 sound-any : (past : Option History) (s : Setup) (input : List ℕ) → IsSound past s → IsSound past (with_input s input)
 sound-any None s input sound = tt
-sound-any (Some h) s input sound = (sound.0, record { elf = sound.1.elf; fuel = sound.1.fuel; limit = sound.1.limit })
+sound-any (Some h) s input sound = (sound.0, record { elf = sound.1.elf; limit = sound.1.limit })
 
 -- a round as one worker makes it is the one that its schedule makes
 pub round-made : (r : Round) → CanBeMade r → made r ≡ made_by r.setup r.past (schedule_in r)
@@ -62,7 +62,6 @@ goes-on b input can is =
         round-honest (round_on b input) is,
         record {
           elf = ap (λ (t : Setup). t.elf) same;
-          fuel = ap (λ (t : Setup). t.fuel) same;
           limit = ap (λ (t : Setup). t.limit) same;
         },
       );
@@ -107,12 +106,27 @@ each-holds P holds b inputs can short = λ k d below.
     holds (slice_index_or (rounds_after b inputs) k d)
     (All-from_recursion CanBeMade (rounds_after b inputs) (each-round b inputs can short) k d below)
 
+-- a setup with another fuel in range may be run, where it may be
+pub with-limits : (s : Setup) (fuel : ℕ) → IsSetup s → AreLimits fuel s.limit → IsSetup (with_fuel s fuel)
+with-limits s fuel valid limits =
+    record {
+      elf_size = valid.elf_size;
+      elf_accepted = valid.elf_accepted;
+      input_size = valid.input_size;
+      limits = limits;
+    }
+
 -- what a beginning from scratch, and one after a memo, need
 pub scratch-begins : (s : Setup) → IsSetup s → CanBegin (from_scratch s)
 scratch-begins s valid = record { valid = valid; sound = tt }
 
-pub memo-begins : (h : History) → IsHonest h → CanBegin (after_memo h)
-memo-begins h honest = record { valid = honest.valid; sound = honest-sound h honest }
+pub memo-begins :
+    (h : History) (fuel : ℕ) → IsHonest h → AreLimits fuel h.setup.limit → CanBegin (after_memo h fuel)
+memo-begins h fuel honest limits =
+    record {
+      valid = with-limits h.setup fuel honest.valid limits;
+      sound = (honest, record { elf = refl; limit = refl });
+    }
 
 -- what the last one leaves is honest
 honest-after :

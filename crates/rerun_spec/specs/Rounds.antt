@@ -12,6 +12,10 @@ use Rattle.round_spec.specs.Alone.{one_worker, lone_round}
 abbrev pub with_input : Setup → List ℕ → Setup
 with_input setup input = record setup { input = input }
 
+-- A setup with another fuel: the same executable, input and limit.
+abbrev pub with_fuel : Setup → ℕ → Setup
+with_fuel setup fuel = record setup { fuel = fuel }
+
 -- A round before it is made: its number, what it starts from, and the history that it goes by, if there is one.
 pub record Round : Type 0 where
   pub number : ℕ
@@ -37,9 +41,10 @@ pub record Beginning : Type 0 where
 abbrev pub from_scratch : Setup → Beginning
 from_scratch setup = record { number = 0; past = None; setup = setup }
 
--- After a memo, which holds a round by its history: round 1 goes by this history, and the program is its own.
-abbrev pub after_memo : History → Beginning
-after_memo h = record { number = 1; past = Some h; setup = h.setup }
+-- After a memo, which holds a round by its history: round 1 goes by this history, and the program is its own; the fuel
+-- is the one that is asked for.
+abbrev pub after_memo : History → ℕ → Beginning
+after_memo h fuel = record { number = 1; past = Some h; setup = with_fuel h.setup fuel }
 
 -- A beginning of which rounds may be made: its setup can go by its history.
 abbrev pub CanBegin : Beginning → Type 0
@@ -89,14 +94,15 @@ entries_of r = marked r.past r.setup (schedule_in r)
 abbrev pub machine_of : Round → Machine
 machine_of r = scratch r.setup (schedule_in r)
 
--- Of some rounds, one and the next after it, without an edit in between: their inputs are equal.
+-- Of some rounds, which have one fuel, one and the next after it, without an edit in between: their inputs are equal.
 pub record IsRepeated (rounds : List Round) (before after : Round) : Type 0 where
   pub place : ℕ
   pub one : slice_get rounds place ≡ Some before
   pub next : slice_get rounds (suc place) ≡ Some after
   pub same : after.setup.input ≡ before.setup.input
 
--- Of rounds that go by a memo, the first, without an edit: its input is that of the memo's round.
-pub record IsUneditedRerun (h : History) (inputs : List (List ℕ)) (r : Round) : Type 0 where
-  pub first : slice_get (rounds_after (after_memo h) inputs) 0 ≡ Some r
-  pub same : r.setup.input ≡ h.setup.input
+-- Of rounds that go by a memo, the first, without an edit: its input and its fuel are those of the memo's round.
+pub record IsUneditedRerun (h : History) (fuel : ℕ) (inputs : List (List ℕ)) (r : Round) : Type 0 where
+  pub first : slice_get (rounds_after (after_memo h fuel) inputs) 0 ≡ Some r
+  pub same_input : r.setup.input ≡ h.setup.input
+  pub same_fuel : r.setup.fuel ≡ h.setup.fuel

@@ -8,6 +8,7 @@
 ghost use Rattle.std.specs.Prelude.{◌≡◌, ◌≢◌, ◌≤◌, ◌<◌, ◌+◌, ℕ, suc, max, true, ◌&&◌, List, [], ◌∷◌, ◌++◌, All, length, map, sum, slice_get, Option, Some, None, is_some, ◌⊎◌};
 ghost use Rattle.std.specs.List.{range_with_len};
 ghost use Rattle.edit_spec.specs.Editing.{longest_input};
+ghost use Rattle.machine_spec.specs.Limits.{AreLimits};
 ghost use Rattle.machine_spec.specs.Setup.{Setup, IsSetup, first, scratch, is_permitted, is_complete, records};
 ghost use Rattle.machine_spec.specs.Choice.{alone};
 ghost use Rattle.history_spec.specs.History.{History, IsHonest, IsSameProgram, CanGoBy, schedule_of};
@@ -21,7 +22,7 @@ ghost use Rattle.round_spec.specs.Keeping.{IsCounted};
 ghost use Rattle.round_spec.specs.Unedited.{OnlyReuses};
 ghost use Rattle.worker_spec.specs.OneWorker.{executed_in};
 ghost use Rattle.rerun_spec.specs.Inputs.{Makes, AreInputs, AreRerunInputs, AreShort, Refusal, Refuses, IsFirstRefused};
-ghost use Rattle.rerun_spec.specs.Rounds.{Round, Beginning, with_input, made, left_by, from_scratch, after_memo, CanBegin, round_on, after_round, rounds_after, after_rounds, IsOfProgram, last_left, schedule_in, entries_of, machine_of, IsRepeated, IsUneditedRerun};
+ghost use Rattle.rerun_spec.specs.Rounds.{Round, Beginning, with_input, with_fuel, made, left_by, from_scratch, after_memo, CanBegin, round_on, after_round, rounds_after, after_rounds, IsOfProgram, last_left, schedule_in, entries_of, machine_of, IsRepeated, IsUneditedRerun};
 ghost use Rattle.rerun_spec.specs.Reports.{all_executed, shares_of_first, report_of, reports_of, is_exit, exits, all_exit, made_report, made_reports, made_exits, all_made_exit};
 
 /// For each first input and lists of edits either the inputs of the rounds are there, or a list is the
@@ -208,12 +209,15 @@ pub fn each_round_comes_to_an_end()
         → IsOfProgram (after_rounds b inputs).past b.setup }
 {}
 
-/// Rounds may begin from scratch with a setup that may be run, and after a memo whose history is honest. Then
-/// each round may be made: its setup can go by its history. So each law of one worker's round holds of it.
-/// What it leaves is honest, and of its own schedule.
+/// Rounds may begin from scratch with a setup that may be run, and after a memo whose history is honest, with
+/// any fuel in range. Then each round may be made: its setup can go by its history. So each law of one
+/// worker's round holds of it. What it leaves is honest, and of its own schedule.
 pub fn each_round_may_be_made()
     ensures scratch { (setup : Setup) → IsSetup setup → CanBegin (from_scratch setup) }
-    ensures memo { (h : History) → IsHonest h → CanBegin (after_memo h) }
+    ensures memo { (h : History) (fuel : ℕ)
+        → IsHonest h
+        → AreLimits fuel h.setup.limit
+        → CanBegin (after_memo h fuel) }
     ensures sound { (b : Beginning) (inputs : List (List ℕ))
         → CanBegin b
         → AreShort inputs
@@ -342,39 +346,39 @@ pub fn repeated_round_executes_nothing()
         → machine_of after ≡ machine_of before }
 {}
 
-/// Where the input of the first round of a rerun is that of the memo's round, and the memo's history is honest,
-/// the round is all reuse of it: no step is picked to be executed, no instruction is executed and nothing is
-/// discarded; and schedule and machine (so its end, output and final memory) are those of the memo's round.
+/// Where input and fuel of the first round of a rerun are those of the memo's round, and the memo's history is
+/// honest, the round is all reuse of it: no step is picked to be executed, no instruction is executed and nothing
+/// is discarded; and schedule and machine (so its end, output and final memory) are those of the memo's round.
 pub fn unedited_rerun_executes_nothing()
-    ensures reuses { (h : History) (inputs : List (List ℕ)) (r : Round)
+    ensures reuses { (h : History) (fuel : ℕ) (inputs : List (List ℕ)) (r : Round)
         → IsHonest h
-        → IsUneditedRerun h inputs r
+        → IsUneditedRerun h fuel inputs r
         → OnlyReuses h (made r) }
-    ensures schedule { (h : History) (inputs : List (List ℕ)) (r : Round)
+    ensures schedule { (h : History) (fuel : ℕ) (inputs : List (List ℕ)) (r : Round)
         → IsHonest h
-        → IsUneditedRerun h inputs r
+        → IsUneditedRerun h fuel inputs r
         → schedule_in r ≡ schedule_of h }
-    ensures never_runs { (h : History) (inputs : List (List ℕ)) (r : Round) (n t : ℕ)
+    ensures never_runs { (h : History) (fuel : ℕ) (inputs : List (List ℕ)) (r : Round) (n t : ℕ)
         → IsHonest h
-        → IsUneditedRerun h inputs r
+        → IsUneditedRerun h fuel inputs r
         → pick_of (after_picks n (opening r.setup r.past)) ≢ pick.Run t }
-    ensures executed { (h : History) (inputs : List (List ℕ)) (r : Round)
+    ensures executed { (h : History) (fuel : ℕ) (inputs : List (List ℕ)) (r : Round)
         → IsHonest h
-        → IsUneditedRerun h inputs r
+        → IsUneditedRerun h fuel inputs r
         → executed_in r.setup.limit (opening r.setup r.past) ≡ 0 }
-    ensures instructions { (h : History) (inputs : List (List ℕ)) (r : Round)
+    ensures instructions { (h : History) (fuel : ℕ) (inputs : List (List ℕ)) (r : Round)
         → IsHonest h
-        → IsUneditedRerun h inputs r
+        → IsUneditedRerun h fuel inputs r
         → instructions_from (first r.setup) (entries_of r) ≡ 0 }
-    ensures machine { (h : History) (inputs : List (List ℕ)) (r : Round)
+    ensures machine { (h : History) (fuel : ℕ) (inputs : List (List ℕ)) (r : Round)
         → IsHonest h
-        → IsUneditedRerun h inputs r
+        → IsUneditedRerun h fuel inputs r
         → machine_of r ≡ scratch h.setup (schedule_of h) }
 {}
 
 /// Without lists of edits there is one round, the run from scratch that follows the choice: with no
 /// history each entry is executed, and reports and ends are that run's. A rerun without lists is one round,
-/// round 1, without an edit.
+/// round 1, on the memo's input; with the memo's fuel it is without an edit.
 pub fn no_edit_list_is_one_round()
     ensures marks { (setup : Setup) (schedule : List ℕ) → marked None setup schedule ≡ all_executed schedule }
     ensures reports { (setup : Setup) (inputs : List (List ℕ)) (workers : ℕ)
@@ -384,12 +388,13 @@ pub fn no_edit_list_is_one_round()
     ensures exits { (setup : Setup) (inputs : List (List ℕ))
         → AreInputs setup.input [] inputs
         → all_exit (rounds_after (from_scratch setup) inputs) ≡ is_exit (scratch setup (alone setup)).ending }
-    ensures rerun { (h : History) (inputs : List (List ℕ))
+    ensures rerun { (h : History) (fuel : ℕ) (inputs : List (List ℕ))
         → AreRerunInputs h.setup.input [] inputs
-        → rounds_after (after_memo h) inputs ≡ record { number = 1; setup = h.setup; past = Some h } ∷ [] }
+        → rounds_after (after_memo h fuel) inputs
+        ≡ record { number = 1; setup = with_fuel h.setup fuel; past = Some h } ∷ [] }
     ensures unedited { (h : History) (inputs : List (List ℕ))
         → AreRerunInputs h.setup.input [] inputs
-        → IsUneditedRerun h inputs (record { number = 1; setup = h.setup; past = Some h }) }
+        → IsUneditedRerun h h.setup.fuel inputs (record { number = 1; setup = h.setup; past = Some h }) }
 {}
 
 /// There is a report for each input; and the shares in a report are as many as there are workers, and add

@@ -2,23 +2,25 @@
 use Rattle.std.proofs.Common.{◌≡◌, ◌≤◌, ℕ, Bool, true, false, cond, List, [], ◌∷◌, ◌++◌, length, Option, Some, None, is_some, refl, ap, sym, ◌∙◌, subst, arith}
 use Rattle.std.proofs.lemmas.List.{length-append, length-map}
 use Rattle.std.specs.List.{AllByRecursion}
+use Rattle.memory_spec.specs.Pages.{Mapped}
 use Rattle.thunk_spec.specs.Thunk.{Frame}
 use Rattle.record_spec.specs.Record.{Record}
+use Rattle.record_spec.proofs.Fuel.{within-most}
 use Rattle.machine_spec.specs.Machine.{hart_of, is_ready}
 use Rattle.machine_spec.specs.Schedule.{record_of}
 use Rattle.machine_spec.specs.Setup.{Setup, IsSetup, map_of, first}
 use Rattle.machine_spec.proofs.Alone.{step-limit}
 use Rattle.history_spec.specs.History.{History, IsSameProgram, past_records, threads_of_records}
-use Rattle.history_spec.proofs.Scratch.{step-frame}
+use Rattle.history_spec.proofs.Scratch.{and-right, step-frame}
 use Rattle.history_spec.proofs.Laying.{lay-frame, lay-limit}
-use Rattle.history_spec.proofs.Truth.{found-all}
+use Rattle.history_spec.proofs.Truth.{fits-within, found-all}
 use Rattle.report_spec.specs.declared.Entry.{Entry}
 use Rattle.report_spec.specs.Report.{threads_of}
 use Rattle.round_spec.specs.declared.events.Event.{Event}
 use Rattle.round_spec.specs.declared.events.Event.TheVariants.{Take, Reuse, Commit, GiveBack, Stop}
 use Rattle.round_spec.specs.Keeping.{IsInOrder, IsCounted}
-use Rattle.round_spec.specs.Marks.{record_for}
-use Rattle.round_spec.specs.Rounds.{RoundState, opening, is_over, is_out, can_take, can_reuse, taken, reused_by, committed, given_back, with_stop, happens, all_happen, round_after, history_of}
+use Rattle.round_spec.specs.Marks.{record_for, is_fitting, fits_next}
+use Rattle.round_spec.specs.Rounds.{RoundState, opening, is_over, is_out, can_begin, can_take, can_reuse, taken, reused_by, committed, given_back, with_stop, happens, all_happen, round_after, history_of}
 use Rattle.round_spec.specs.Alone.{lone_round}
 use Rattle.round_spec.proofs.Happening.{happens-kept, opening-kept, round-kept}
 use Rattle.round_spec.proofs.Counting.{round-counted}
@@ -35,13 +37,40 @@ use Rattle.round_memo_spec.proofs.Beginning.{first-words}
 abbrev AreRecords : Frame → List Record → Type 0
 AreRecords f rs = AllByRecursion (IsRecord f.map f.fuel) rs
 
+-- a record that can be spelled where the fuel is its count or more
+abbrev IsRecordOfSome : List Mapped → Record → Type 0
+IsRecordOfSome map r = IsRecord map r.kept.count r
+
+under :
+    (map : List Mapped) (fuel other : ℕ) (r : Record)
+    → IsRecord map fuel r → r.kept.count ≤ other → IsRecord map other r
+under map fuel other r is most =
+    record {
+      thread = is.thread;
+      end = is.end;
+      some_turns = is.some_turns;
+      most_turns = most;
+      start = is.start;
+      finish = is.finish;
+      reads_ascend = is.reads_ascend;
+      reads = is.reads;
+      delta_ascends = is.delta_ascends;
+      delta = is.delta;
+    }
+
+under-some :
+    (map : List Mapped) (fuel : ℕ) (rs : List Record)
+    → AllByRecursion (IsRecord map fuel) rs → AllByRecursion (IsRecordOfSome map) rs
+under-some map fuel [] all = tt
+under-some map fuel (r ∷ rs) all = (under map fuel r.kept.count r all.0 (omega arith), under-some map fuel rs all.1)
+
 -- what holds of a round in this frame and with this limit: its machine is one of words and bytes; the records that it
--- goes by and its own can be spelled; and where there is an end, it has a record
+-- goes by can be spelled under some fuel, and its own under the frame's; and where there is an end, it has a record
 record IsSpelled (f : Frame) (limit : ℕ) (w : RoundState) : Type 0 where
   pub frame : w.machine.frame ≡ f
   pub same_limit : w.machine.limit ≡ limit
   pub machine : IsOfWords w.machine
-  pub earlier : AreRecords f (past_records w.past)
+  pub earlier : AllByRecursion (IsRecordOfSome f.map) (past_records w.past)
   pub records : AreRecords f w.records
   pub some_records : is_some w.machine.ending ≡ true → 1 ≤ length w.records
 
@@ -92,11 +121,16 @@ more-some rs r = simp length-append (omega arith)
 
 reused-spelled :
     (f : Frame) (limit : ℕ) (w : RoundState) (t : ℕ) (o : Option Record)
-    → IsInOrder w → IsSpelled f limit w → record_for w.past w.machine t ≡ o → IsSpelled f limit (reused_by w t o)
-reused-spelled f limit w t None kept s there = s
-reused-spelled f limit w t (Some r) kept s there =
-    let is : IsRecord f.map f.fuel r =
-    found-all (IsRecord f.map f.fuel) t (hart_of w.machine t).number (past_records w.past) r s.earlier there in
+    → IsInOrder w → IsSpelled f limit w → record_for w.past w.machine t ≡ o → is_fitting w.machine o ≡ true
+    → IsSpelled f limit (reused_by w t o)
+reused-spelled f limit w t None kept s there fit = s
+reused-spelled f limit w t (Some r) kept s there fit =
+    let some : IsRecordOfSome f.map r =
+    found-all (IsRecordOfSome f.map) t (hart_of w.machine t).number (past_records w.past) r s.earlier there in
+    let few : r.kept.count ≤ f.fuel =
+    subst (λ (g : Frame). r.kept.count ≤ g.fuel) s.frame
+    (within-most w.machine.frame.fuel r.kept.end r.kept.count (fits-within w.machine r fit)) in
+    let is : IsRecord f.map f.fuel r = under f.map r.kept.count f.fuel r some few in
     record {
       frame = lay-frame w.machine r ∙ s.frame;
       same_limit = lay-limit w.machine r ∙ s.same_limit;
@@ -107,6 +141,15 @@ reused-spelled f limit w t (Some r) kept s there =
       records = every-append (IsRecord f.map f.fuel) w.records (r ∷ []) s.records (is, tt);
       some_records = λ ended. more-some w.records r;
     }
+
+reuse-spelled :
+    (f : Frame) (limit : ℕ) (w : RoundState) (t : ℕ) (b : Bool)
+    → IsInOrder w → IsSpelled f limit w → can_reuse w t ≡ b
+    → IsSpelled f limit (cond b (reused_by w t (record_for w.past w.machine t)) w)
+reuse-spelled f limit w t false kept s is = s
+reuse-spelled f limit w t true kept s is =
+    reused-spelled f limit w t (record_for w.past w.machine t) kept s refl
+    (and-right (can_begin w t) (fits_next w.past w.machine t) is)
 
 committed-spelled :
     (f : Frame) (limit : ℕ) (w : RoundState) (t : ℕ)
@@ -142,9 +185,7 @@ happens-spelled :
 unfolding happens
 happens-spelled f limit w (Take t) kept s =
     either-spelled f limit (can_take w t) (taken w t) w (taken-spelled f limit w t s) s
-happens-spelled f limit w (Reuse t) kept s =
-    either-spelled f limit (can_reuse w t) (reused_by w t (record_for w.past w.machine t)) w
-    (reused-spelled f limit w t (record_for w.past w.machine t) kept s refl) s
+happens-spelled f limit w (Reuse t) kept s = reuse-spelled f limit w t (can_reuse w t) kept s refl
 happens-spelled f limit w (Commit t) kept s = commit-spelled f limit w t (is_out w t) kept s refl
 happens-spelled f limit w (GiveBack t) kept s =
     either-spelled f limit (is_out w t) (given_back w t) w (given_back-spelled f limit w t s) s
@@ -163,15 +204,17 @@ all_happen-spelled f limit w (e ∷ es) kept s =
 abbrev frame_of : Setup → Frame
 frame_of s = record { map = map_of s; fuel = s.fuel }
 
-same-frame : (a b : Setup) → IsSameProgram a b → frame_of a ≡ frame_of b
+same-map : (a b : Setup) → IsSameProgram a b → map_of a ≡ map_of b
 unfolding map_of
-same-frame a b same = rw (same.elf, same.fuel) refl
+same-map a b same = rw same.elf refl
 
 past-records :
-    (past : Option History) (setup : Setup) → IsSpelledPast past setup → AreRecords (frame_of setup) (past_records past)
+    (past : Option History) (setup : Setup) → IsSpelledPast past setup
+    → AllByRecursion (IsRecordOfSome (map_of setup)) (past_records past)
 past-records None setup is = tt
 past-records (Some h) setup is =
-    subst (λ (f : Frame). AreRecords f h.records) (same-frame h.setup setup is.1) is.0.records
+    subst (λ (map : List Mapped). AllByRecursion (IsRecordOfSome map) h.records) (same-map h.setup setup is.1)
+    (under-some (map_of h.setup) h.setup.fuel h.records is.0.records)
 
 opening-spelled :
     (past : Option History) (setup : Setup) → IsSpelledStart past setup

@@ -39,9 +39,9 @@ first-left = history_of (lone_round shortest None)
 pub first-spelled : IsSpellable first-left
 first-spelled = lone-spelled shortest None first-start
 
--- the same program on another input, by what the first round left
+-- the same program on another input and with another fuel, by what the first round left
 abbrev pub longer : Setup
-longer = record { elf = hi_elf; input = 255 ∷ []; fuel = 1; limit = 1 }
+longer = record { elf = hi_elf; input = 255 ∷ []; fuel = 2; limit = 1 }
 
 pub second-start : IsSpelledStart (Some first-left) longer
 second-start =
@@ -51,11 +51,17 @@ second-start =
             elf_size = shortest-setup.elf_size;
             elf_accepted = shortest-setup.elf_accepted;
             input_size = omega arith;
-            limits = shortest-setup.limits;
+            limits =
+                record {
+                  some_fuel = omega arith;
+                  most_fuel = omega arith;
+                  some_steps = omega arith;
+                  most_steps = omega arith;
+                };
           };
       elf_bytes = hi-bytes;
       input_bytes = (omega arith, tt);
-      past = lone-next shortest longer None first-start (record { elf = refl; fuel = refl; limit = refl });
+      past = lone-next shortest longer None first-start (record { elf = refl; limit = refl });
     }
 
 pub second-spelled : IsSpellable (history_of (lone_round longer (Some first-left)))

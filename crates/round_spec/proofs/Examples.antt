@@ -12,7 +12,7 @@ use Rattle.thunk_spec.specs.Put.{is_readable, put_addresses}
 use Rattle.thunk_spec.specs.Turn.{turn}
 use Rattle.thunk_spec.specs.Thunk.{thunk}
 use Rattle.record_spec.specs.Reads.{reads_of}
-use Rattle.record_spec.specs.Record.{put_of, fits_at}
+use Rattle.record_spec.specs.Record.{put_of, may_end, fits_at}
 use Rattle.machine_spec.specs.declared.states.End.TheVariants.{Exit}
 use Rattle.machine_spec.specs.Machine.{Machine}
 use Rattle.machine_spec.specs.Performing.{first_registers}
@@ -37,16 +37,18 @@ goes_by =
 
 -- Nothing has happened: main's record fits, and is reused, and not taken.
 pub reuse-fits : seen (all_happen goes_by (Take 0 ∷ Reuse 0 ∷ [])) ≡ (reuses 0 ∷ [], [], 0, false)
-unfolding step finished lay fits fits_at put_of reads_of happens nobody_out thunk turn fetched number_at number_in
-    permission_at decoded reading_of u_immediate i_immediate s_immediate immediate_result shift_result register_result
-    with_register is_readable put_addresses loaded may_store bytes_stored with_byte first_registers all_unlocked
+unfolding step finished lay fits fits_at may_end put_of reads_of happens nobody_out thunk turn fetched number_at
+    number_in permission_at decoded reading_of u_immediate i_immediate s_immediate immediate_result shift_result
+    register_result with_register is_readable put_addresses loaded may_store bytes_stored with_byte first_registers
+    all_unlocked
 reuse-fits = refl
 
 -- Each condition fails once: main's record fits; thread 1 isn't there; nobody is out.
 pub fail-start : seen (all_happen goes_by (Take 0 ∷ Reuse 1 ∷ Take 1 ∷ Commit 0 ∷ GiveBack 0 ∷ [])) ≡ ([], [], 0, false)
-unfolding step finished lay fits fits_at put_of reads_of happens nobody_out thunk turn fetched number_at number_in
-    permission_at decoded reading_of u_immediate i_immediate s_immediate immediate_result shift_result register_result
-    with_register is_readable put_addresses loaded may_store bytes_stored with_byte first_registers all_unlocked
+unfolding step finished lay fits fits_at may_end put_of reads_of happens nobody_out thunk turn fetched number_at
+    number_in permission_at decoded reading_of u_immediate i_immediate s_immediate immediate_result shift_result
+    register_result with_register is_readable put_addresses loaded may_store bytes_stored with_byte first_registers
+    all_unlocked
 fail-start = refl
 
 -- Main has no second record, so it is taken and not reused; while it is out it is neither taken nor reused; and it is
@@ -54,49 +56,55 @@ fail-start = refl
 pub fail-later :
     seen (all_happen goes_by (Reuse 0 ∷ Reuse 0 ∷ Take 0 ∷ Take 0 ∷ Reuse 0 ∷ Commit 0 ∷ Commit 0 ∷ GiveBack 0 ∷ []))
     ≡ (reuses 0 ∷ executes 0 ∷ [], [], 0, false)
-unfolding step finished lay fits fits_at put_of reads_of happens nobody_out thunk turn fetched number_at number_in
-    permission_at decoded reading_of u_immediate i_immediate s_immediate immediate_result shift_result register_result
-    with_register is_readable put_addresses loaded may_store bytes_stored with_byte first_registers all_unlocked
+unfolding step finished lay fits fits_at may_end put_of reads_of happens nobody_out thunk turn fetched number_at
+    number_in permission_at decoded reading_of u_immediate i_immediate s_immediate immediate_result shift_result
+    register_result with_register is_readable put_addresses loaded may_store bytes_stored with_byte first_registers
+    all_unlocked
 fail-later = refl
 
 -- The thread's record fits: it is reused while main is out.
 pub reuse-beside :
     seen (all_happen goes_by (Reuse 0 ∷ Take 0 ∷ Take 1 ∷ Reuse 1 ∷ [])) ≡ (reuses 0 ∷ reuses 1 ∷ [], 0 ∷ [], 0, false)
-unfolding step finished lay fits fits_at put_of reads_of happens nobody_out thunk turn fetched number_at number_in
-    permission_at decoded reading_of u_immediate i_immediate s_immediate immediate_result shift_result register_result
-    with_register is_readable put_addresses loaded may_store bytes_stored with_byte first_registers all_unlocked
+unfolding step finished lay fits fits_at may_end put_of reads_of happens nobody_out thunk turn fetched number_at
+    number_in permission_at decoded reading_of u_immediate i_immediate s_immediate immediate_result shift_result
+    register_result with_register is_readable put_addresses loaded may_store bytes_stored with_byte first_registers
+    all_unlocked
 reuse-beside = refl
 
 -- A stopped round takes and reuses nothing.
 pub fail-stopped : seen (all_happen goes_by (Stop ∷ Take 0 ∷ Reuse 0 ∷ [])) ≡ ([], [], 0, true)
-unfolding step finished lay fits fits_at put_of reads_of happens nobody_out thunk turn fetched number_at number_in
-    permission_at decoded reading_of u_immediate i_immediate s_immediate immediate_result shift_result register_result
-    with_register is_readable put_addresses loaded may_store bytes_stored with_byte first_registers all_unlocked
+unfolding step finished lay fits fits_at may_end put_of reads_of happens nobody_out thunk turn fetched number_at
+    number_in permission_at decoded reading_of u_immediate i_immediate s_immediate immediate_result shift_result
+    register_result with_register is_readable put_addresses loaded may_store bytes_stored with_byte first_registers
+    all_unlocked
 fail-stopped = refl
 
 -- With nothing to go by, the record of neither is reused, and both can be out at once.
 pub no-history :
     seen (all_happen (starts (begins 9 9 late) None) (Reuse 0 ∷ Take 0 ∷ Commit 0 ∷ Take 0 ∷ Take 1 ∷ []))
     ≡ (executes 0 ∷ [], 0 ∷ 1 ∷ [], 0, false)
-unfolding step finished lay fits fits_at put_of reads_of happens nobody_out thunk turn fetched number_at number_in
-    permission_at decoded reading_of u_immediate i_immediate s_immediate immediate_result shift_result register_result
-    with_register is_readable put_addresses loaded may_store bytes_stored with_byte first_registers all_unlocked
+unfolding step finished lay fits fits_at may_end put_of reads_of happens nobody_out thunk turn fetched number_at
+    number_in permission_at decoded reading_of u_immediate i_immediate s_immediate immediate_result shift_result
+    register_result with_register is_readable put_addresses loaded may_store bytes_stored with_byte first_registers
+    all_unlocked
 no-history = refl
 
 -- What is given back is discarded, and can be taken again.
 pub given-back :
     seen (all_happen goes_by (Reuse 0 ∷ Take 0 ∷ GiveBack 0 ∷ Take 0 ∷ [])) ≡ (reuses 0 ∷ [], 0 ∷ [], 1, false)
-unfolding step finished lay fits fits_at put_of reads_of happens nobody_out thunk turn fetched number_at number_in
-    permission_at decoded reading_of u_immediate i_immediate s_immediate immediate_result shift_result register_result
-    with_register is_readable put_addresses loaded may_store bytes_stored with_byte first_registers all_unlocked
+unfolding step finished lay fits fits_at may_end put_of reads_of happens nobody_out thunk turn fetched number_at
+    number_in permission_at decoded reading_of u_immediate i_immediate s_immediate immediate_result shift_result
+    register_result with_register is_readable put_addresses loaded may_store bytes_stored with_byte first_registers
+    all_unlocked
 given-back = refl
 
 -- A commit after the round was stopped is discarded.
 pub discarded-stopped :
     seen (all_happen goes_by (Reuse 0 ∷ Take 0 ∷ Stop ∷ Commit 0 ∷ [])) ≡ (reuses 0 ∷ [], [], 1, true)
-unfolding step finished lay fits fits_at put_of reads_of happens nobody_out thunk turn fetched number_at number_in
-    permission_at decoded reading_of u_immediate i_immediate s_immediate immediate_result shift_result register_result
-    with_register is_readable put_addresses loaded may_store bytes_stored with_byte first_registers all_unlocked
+unfolding step finished lay fits fits_at may_end put_of reads_of happens nobody_out thunk turn fetched number_at
+    number_in permission_at decoded reading_of u_immediate i_immediate s_immediate immediate_result shift_result
+    register_result with_register is_readable put_addresses loaded may_store bytes_stored with_byte first_registers
+    all_unlocked
 discarded-stopped = refl
 
 -- A commit after the machine's end is discarded: main has exited while thread 1 was out.
@@ -104,27 +112,30 @@ pub discarded-ended :
     seen (all_happen (starts (begins 9 9 late) None)
     (Take 0 ∷ Commit 0 ∷ Take 1 ∷ Take 0 ∷ Commit 0 ∷ Take 0 ∷ Commit 0 ∷ Commit 1 ∷ Take 1 ∷ Reuse 1 ∷ []))
     ≡ (executes 0 ∷ executes 0 ∷ executes 0 ∷ [], [], 1, false)
-unfolding step finished lay fits fits_at put_of reads_of happens nobody_out thunk turn fetched number_at number_in
-    permission_at decoded reading_of u_immediate i_immediate s_immediate immediate_result shift_result register_result
-    with_register is_readable put_addresses loaded may_store bytes_stored with_byte first_registers all_unlocked
+unfolding step finished lay fits fits_at may_end put_of reads_of happens nobody_out thunk turn fetched number_at
+    number_in permission_at decoded reading_of u_immediate i_immediate s_immediate immediate_result shift_result
+    register_result with_register is_readable put_addresses loaded may_store bytes_stored with_byte first_registers
+    all_unlocked
 discarded-ended = refl
 
 -- A count of discarded steps that stands at 2 ^ 64 - 1 stays.
 pub discarded-most :
     (all_happen (record goes_by { discarded = 18446744073709551615 }) (Reuse 0 ∷ Take 0 ∷ GiveBack 0 ∷ [])).discarded
     ≡ 18446744073709551615
-unfolding step finished lay fits fits_at put_of reads_of happens nobody_out thunk turn fetched number_at number_in
-    permission_at decoded reading_of u_immediate i_immediate s_immediate immediate_result shift_result register_result
-    with_register is_readable put_addresses loaded may_store bytes_stored with_byte first_registers all_unlocked
+unfolding step finished lay fits fits_at may_end put_of reads_of happens nobody_out thunk turn fetched number_at
+    number_in permission_at decoded reading_of u_immediate i_immediate s_immediate immediate_result shift_result
+    register_result with_register is_readable put_addresses loaded may_store bytes_stored with_byte first_registers
+    all_unlocked
 discarded-most = refl
 
 -- One less rises to it.
 pub discarded-one_less :
     (all_happen (record goes_by { discarded = 18446744073709551614 })
     (Reuse 0 ∷ Take 0 ∷ Stop ∷ Commit 0 ∷ [])).discarded ≡ 18446744073709551615
-unfolding step finished lay fits fits_at put_of reads_of happens nobody_out thunk turn fetched number_at number_in
-    permission_at decoded reading_of u_immediate i_immediate s_immediate immediate_result shift_result register_result
-    with_register is_readable put_addresses loaded may_store bytes_stored with_byte first_registers all_unlocked
+unfolding step finished lay fits fits_at may_end put_of reads_of happens nobody_out thunk turn fetched number_at
+    number_in permission_at decoded reading_of u_immediate i_immediate s_immediate immediate_result shift_result
+    register_result with_register is_readable put_addresses loaded may_store bytes_stored with_byte first_registers
+    all_unlocked
 discarded-one_less = refl
 
 -- The machine after a reused step is the one after the step, and the thread that was out kept its view from before the
@@ -132,17 +143,58 @@ discarded-one_less = refl
 pub reuse-machine :
     (all_happen goes_by (Reuse 0 ∷ Take 0 ∷ Reuse 1 ∷ Commit 0 ∷ Take 0 ∷ Commit 0 ∷ [])).machine.ending
     ≡ Some (Exit 51)
-unfolding step finished lay fits fits_at put_of reads_of happens nobody_out thunk turn fetched number_at number_in
-    permission_at decoded reading_of u_immediate i_immediate s_immediate immediate_result shift_result register_result
-    with_register is_readable put_addresses loaded may_store bytes_stored with_byte first_registers all_unlocked
+unfolding step finished lay fits fits_at may_end put_of reads_of happens nobody_out thunk turn fetched number_at
+    number_in permission_at decoded reading_of u_immediate i_immediate s_immediate immediate_result shift_result
+    register_result with_register is_readable put_addresses loaded may_store bytes_stored with_byte first_registers
+    all_unlocked
 reuse-machine = refl
 
 -- The store of a laid record is in shared memory.
 pub reuse-memory : page_of (all_happen goes_by (Reuse 0 ∷ Reuse 1 ∷ [])).machine.memory 1 ≡ 51 ∷ 0 ∷ []
-unfolding step finished lay fits fits_at put_of reads_of happens nobody_out thunk turn fetched number_at number_in
-    permission_at decoded reading_of u_immediate i_immediate s_immediate immediate_result shift_result register_result
-    with_register is_readable put_addresses loaded may_store bytes_stored with_byte first_registers all_unlocked
+unfolding step finished lay fits fits_at may_end put_of reads_of happens nobody_out thunk turn fetched number_at
+    number_in permission_at decoded reading_of u_immediate i_immediate s_immediate immediate_result shift_result
+    register_result with_register is_readable put_addresses loaded may_store bytes_stored with_byte first_registers
+    all_unlocked
 reuse-memory = refl
+
+-- Main's first thunk calls in its fifth turn: its record is reused under a fuel of 5, and under one of 4 the thunk is
+-- executed.
+pub fuel-count :
+    seen (all_happen (starts (begins 5 9 late) goes_by.past) (Reuse 0 ∷ Take 0 ∷ Commit 0 ∷ []))
+    ≡ (reuses 0 ∷ executes 0 ∷ [], [], 0, false)
+unfolding step finished lay fits fits_at may_end put_of reads_of happens nobody_out thunk turn fetched number_at
+    number_in permission_at decoded reading_of u_immediate i_immediate s_immediate immediate_result shift_result
+    register_result with_register is_readable put_addresses loaded may_store bytes_stored with_byte first_registers
+    all_unlocked
+fuel-count = refl
+
+pub fuel-below_count :
+    seen (all_happen (starts (begins 4 9 late) goes_by.past) (Reuse 0 ∷ Take 0 ∷ Commit 0 ∷ []))
+    ≡ (executes 0 ∷ [], [], 0, false)
+unfolding step finished lay fits fits_at may_end put_of reads_of happens nobody_out thunk turn fetched number_at
+    number_in permission_at decoded reading_of u_immediate i_immediate s_immediate immediate_result shift_result
+    register_result with_register is_readable put_addresses loaded may_store bytes_stored with_byte first_registers
+    all_unlocked
+fuel-below_count = refl
+
+-- A record of it that a fuel of 4 ended is reused under this fuel, and under one of 5 its thunk is executed.
+pub fuel-same :
+    seen (all_happen (starts (begins 4 9 late) (past_of (recorded (begins 4 9 late) 0 [] ∷ [])))
+    (Reuse 0 ∷ Take 0 ∷ Commit 0 ∷ [])) ≡ (reuses 0 ∷ [], [], 0, false)
+unfolding step finished lay fits fits_at may_end put_of reads_of happens nobody_out thunk turn fetched number_at
+    number_in permission_at decoded reading_of u_immediate i_immediate s_immediate immediate_result shift_result
+    register_result with_register is_readable put_addresses loaded may_store bytes_stored with_byte first_registers
+    all_unlocked
+fuel-same = refl
+
+pub fuel-larger :
+    seen (all_happen (starts (begins 5 9 late) (past_of (recorded (begins 4 9 late) 0 [] ∷ [])))
+    (Reuse 0 ∷ Take 0 ∷ Commit 0 ∷ [])) ≡ (executes 0 ∷ [], [], 0, false)
+unfolding step finished lay fits fits_at may_end put_of reads_of happens nobody_out thunk turn fetched number_at
+    number_in permission_at decoded reading_of u_immediate i_immediate s_immediate immediate_result shift_result
+    register_result with_register is_readable put_addresses loaded may_store bytes_stored with_byte first_registers
+    all_unlocked
+fuel-larger = refl
 
 -- After an edit of the byte that main loads, main's first step is executed, and its second, whose start registers are
 -- the old ones, is reused.
@@ -150,27 +202,30 @@ pub fits-again :
     seen (all_happen (starts (begins 9 9 (forgets 7))
     (past_of (recorded (begins 9 9 (forgets 4)) 0 [] ∷ recorded (step (begins 9 9 (forgets 4)) 0) 0 [] ∷ [])))
     (Reuse 0 ∷ Take 0 ∷ Commit 0 ∷ Take 0 ∷ Reuse 0 ∷ [])) ≡ (executes 0 ∷ reuses 0 ∷ [], [], 0, false)
-unfolding step finished lay fits fits_at put_of reads_of happens nobody_out thunk turn fetched number_at number_in
-    permission_at decoded reading_of u_immediate i_immediate s_immediate immediate_result shift_result register_result
-    with_register is_readable put_addresses loaded may_store bytes_stored with_byte first_registers all_unlocked
+unfolding step finished lay fits fits_at may_end put_of reads_of happens nobody_out thunk turn fetched number_at
+    number_in permission_at decoded reading_of u_immediate i_immediate s_immediate immediate_result shift_result
+    register_result with_register is_readable put_addresses loaded may_store bytes_stored with_byte first_registers
+    all_unlocked
 fits-again = refl
 
 -- So are the marks of the schedule.
 pub fits-again_marks :
     marked_from (past_of (recorded (begins 9 9 (forgets 4)) 0 [] ∷ recorded (step (begins 9 9 (forgets 4)) 0) 0
     [] ∷ [])) (begins 9 9 (forgets 7)) (0 ∷ 0 ∷ []) ≡ executes 0 ∷ reuses 0 ∷ []
-unfolding step finished lay fits fits_at put_of reads_of happens nobody_out thunk turn fetched number_at number_in
-    permission_at decoded reading_of u_immediate i_immediate s_immediate immediate_result shift_result register_result
-    with_register is_readable put_addresses loaded may_store bytes_stored with_byte first_registers all_unlocked
+unfolding step finished lay fits fits_at may_end put_of reads_of happens nobody_out thunk turn fetched number_at
+    number_in permission_at decoded reading_of u_immediate i_immediate s_immediate immediate_result shift_result
+    register_result with_register is_readable put_addresses loaded may_store bytes_stored with_byte first_registers
+    all_unlocked
 fits-again_marks = refl
 
 -- The records that were gone by, laid in order, hold together and lead to the end; one left out, no more.
 pub coherent-records :
     can_lay_from (begins 9 9 (forgets 4))
     (recorded (begins 9 9 (forgets 4)) 0 [] ∷ recorded (step (begins 9 9 (forgets 4)) 0) 0 [] ∷ []) ≡ true
-unfolding step finished lay fits fits_at put_of reads_of happens nobody_out thunk turn fetched number_at number_in
-    permission_at decoded reading_of u_immediate i_immediate s_immediate immediate_result shift_result register_result
-    with_register is_readable put_addresses loaded may_store bytes_stored with_byte first_registers all_unlocked
+unfolding step finished lay fits fits_at may_end put_of reads_of happens nobody_out thunk turn fetched number_at
+    number_in permission_at decoded reading_of u_immediate i_immediate s_immediate immediate_result shift_result
+    register_result with_register is_readable put_addresses loaded may_store bytes_stored with_byte first_registers
+    all_unlocked
 coherent-records = refl
 
 -- So does the end.
@@ -178,25 +233,28 @@ pub coherent-end :
     (laid_from (begins 9 9 (forgets 4))
     (recorded (begins 9 9 (forgets 4)) 0 [] ∷ recorded (step (begins 9 9 (forgets 4)) 0) 0 [] ∷ [])).ending
     ≡ Some (Exit 3)
-unfolding step finished lay fits fits_at put_of reads_of happens nobody_out thunk turn fetched number_at number_in
-    permission_at decoded reading_of u_immediate i_immediate s_immediate immediate_result shift_result register_result
-    with_register is_readable put_addresses loaded may_store bytes_stored with_byte first_registers all_unlocked
+unfolding step finished lay fits fits_at may_end put_of reads_of happens nobody_out thunk turn fetched number_at
+    number_in permission_at decoded reading_of u_immediate i_immediate s_immediate immediate_result shift_result
+    register_result with_register is_readable put_addresses loaded may_store bytes_stored with_byte first_registers
+    all_unlocked
 coherent-end = refl
 
 -- A record isn't laid twice, nor in another's place.
 pub coherent-twice :
     can_lay_from (begins 9 9 (forgets 4))
     (recorded (begins 9 9 (forgets 4)) 0 [] ∷ recorded (begins 9 9 (forgets 4)) 0 [] ∷ []) ≡ false
-unfolding step finished lay fits fits_at put_of reads_of happens nobody_out thunk turn fetched number_at number_in
-    permission_at decoded reading_of u_immediate i_immediate s_immediate immediate_result shift_result register_result
-    with_register is_readable put_addresses loaded may_store bytes_stored with_byte first_registers all_unlocked
+unfolding step finished lay fits fits_at may_end put_of reads_of happens nobody_out thunk turn fetched number_at
+    number_in permission_at decoded reading_of u_immediate i_immediate s_immediate immediate_result shift_result
+    register_result with_register is_readable put_addresses loaded may_store bytes_stored with_byte first_registers
+    all_unlocked
 coherent-twice = refl
 
 -- No record is laid after an end.
 pub coherent-after_end :
     can_lay_from (begins 9 1 (forgets 4))
     (recorded (begins 9 9 (forgets 4)) 0 [] ∷ recorded (step (begins 9 9 (forgets 4)) 0) 0 [] ∷ []) ≡ false
-unfolding step finished lay fits fits_at put_of reads_of happens nobody_out thunk turn fetched number_at number_in
-    permission_at decoded reading_of u_immediate i_immediate s_immediate immediate_result shift_result register_result
-    with_register is_readable put_addresses loaded may_store bytes_stored with_byte first_registers all_unlocked
+unfolding step finished lay fits fits_at may_end put_of reads_of happens nobody_out thunk turn fetched number_at
+    number_in permission_at decoded reading_of u_immediate i_immediate s_immediate immediate_result shift_result
+    register_result with_register is_readable put_addresses loaded may_store bytes_stored with_byte first_registers
+    all_unlocked
 coherent-after_end = refl

@@ -1,5 +1,6 @@
 -- What the marks of a schedule depend on, and one entry more.
 use Rattle.std.proofs.Common.{◌≡◌, ℕ, List, [], ◌∷◌, ◌++◌, Option, Some, None, refl, ap, sym, ◌∙◌}
+use Rattle.thunk_spec.specs.Thunk.{Frame}
 use Rattle.record_spec.specs.Record.{Record}
 use Rattle.machine_spec.specs.Machine.{Hart, Machine, hart_of}
 use Rattle.machine_spec.specs.Step.{step}
@@ -12,19 +13,19 @@ use Rattle.round_spec.specs.Marks.{is_fitting, fits_next, marked_from, source_of
 
 is_fitting-hart :
     (past : Option History) (n m : Machine) (t number : ℕ) (o : Option Record)
-    → found past t number ≡ o → hart_of n t ≡ hart_of m t → is_fitting n o ≡ is_fitting m o
-is_fitting-hart past n m t number None there same = refl
-is_fitting-hart past n m t number (Some r) there same =
+    → found past t number ≡ o → n.frame ≡ m.frame → hart_of n t ≡ hart_of m t → is_fitting n o ≡ is_fitting m o
+is_fitting-hart past n m t number None there frame same = refl
+is_fitting-hart past n m t number (Some r) there frame same =
     let is : r.thread ≡ t = (past-of past t number r there).0 in
-    fits-hart m n r (ap (hart_of n) is ∙ same ∙ ap (hart_of m) (sym is))
+    fits-hart m n r (ap (λ (f : Frame). f.fuel) frame) (ap (hart_of n) is ∙ same ∙ ap (hart_of m) (sym is))
 
--- whether the record of a thread's next step fits depends on the thread's hart alone
+-- whether the record of a thread's next step fits depends on the machine's frame and the thread's hart alone
 pub fits_next-hart :
-    (past : Option History) (n m : Machine) (t : ℕ) → hart_of n t ≡ hart_of m t
+    (past : Option History) (n m : Machine) (t : ℕ) → n.frame ≡ m.frame → hart_of n t ≡ hart_of m t
     → fits_next past n t ≡ fits_next past m t
-fits_next-hart past n m t same =
+fits_next-hart past n m t frame same =
     ap (λ (h : Hart). is_fitting n (found past t h.number)) same
-    ∙ is_fitting-hart past n m t (hart_of m t).number (found past t (hart_of m t).number) refl same
+    ∙ is_fitting-hart past n m t (hart_of m t).number (found past t (hart_of m t).number) refl frame same
 
 pub threads-more : (es : List Entry) (e : Entry) → threads_of (es ++ e ∷ []) ≡ threads_of es ++ e.thread ∷ []
 threads-more [] e = refl

@@ -11,8 +11,8 @@ use Rattle.machine_spec.specs.Setup.{Setup, IsSetup, first}
 use Rattle.machine_spec.proofs.Beginning.{IsWhole-first}
 use Rattle.machine_spec.proofs.Steps.{step-stays, step-whole}
 use Rattle.history_spec.specs.History.{History}
-use Rattle.history_spec.proofs.Scratch.{and-left, and-right, scratch-frame, scratch-more, permitted-more, records-more}
-use Rattle.history_spec.proofs.Laying.{lay-whole, lay-stays}
+use Rattle.history_spec.proofs.Scratch.{and-left, and-right, step-frame, scratch-frame, scratch-more, permitted-more, records-more}
+use Rattle.history_spec.proofs.Laying.{lay-frame, lay-whole, lay-stays}
 use Rattle.history_spec.proofs.Truth.{past-of, reuse-record, reuse-lay}
 use Rattle.report_spec.specs.declared.Entry.{Entry}
 use Rattle.report_spec.specs.Report.{threads_of}
@@ -138,14 +138,14 @@ from_scratch-more w t reused m r out s can is_step is_record is_source is_mark =
 -- a machine at which who is out has the hart that it had
 held-same :
     (w v : RoundState) (u : ℕ)
-    → v.past ≡ w.past → hart_of v.machine u ≡ hart_of w.machine u
+    → v.past ≡ w.past → v.machine.frame ≡ w.machine.frame → hart_of v.machine u ≡ hart_of w.machine u
     → IsHeld w u → IsHeld v u
-held-same w v u past same held =
+held-same w v u past frame same held =
     record {
       ready = ap (λ (h : Hart). is_ready h.status) same ∙ held.ready;
       unfit =
           ap (λ (p : Option History). fits_next p v.machine u) past
-          ∙ fits_next-hart w.past v.machine w.machine u same
+          ∙ fits_next-hart w.past v.machine w.machine u frame same
           ∙ held.unfit;
     }
 
@@ -205,8 +205,8 @@ reuse-some w t (Some r) there can fit kept =
           let other : u ≢ r.thread =
           λ same. let inside : is_out w u ≡ false = ap (is_out w) (same ∙ of.0) ∙ can.inside in cc in
           let before : IsHeld w u = kept.held u out in
-          held-same w (reused_by w t (Some r)) u refl (lay-stays w.machine r u kept.whole can_r other before.ready)
-          before;
+          held-same w (reused_by w t (Some r)) u refl (lay-frame w.machine r)
+          (lay-stays w.machine r u kept.whole can_r other before.ready) before;
       scratch = λ sound.
           let s : IsFromScratch w = kept.scratch sound in
           let frame : w.machine.frame ≡ (first w.setup).frame =
@@ -254,7 +254,8 @@ committed-kept w t out over kept =
       held = λ u out_u.
           let still = still_out w.out t u out_u in
           let before : IsHeld w u = kept.held u still.1 in
-          held-same w (committed w t) u refl (step-stays w.machine t u kept.whole can still.0 before.ready) before;
+          held-same w (committed w t) u refl (step-frame w.machine t)
+          (step-stays w.machine t u kept.whole can still.0 before.ready) before;
       scratch = λ sound.
           from_scratch-more w t false (step w.machine t) (record_of w.machine t) (set w.out t false)
           (kept.scratch sound) can refl refl refl
