@@ -1,3 +1,4 @@
 -- The files of lemmas of this crate.
 pub mod Slots
 pub mod Comparing
+pub mod Tables

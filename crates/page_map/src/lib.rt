@@ -5,6 +5,7 @@
 mod lookup;
 mod pages;
 mod permission;
+mod table;
 mod working;
 
 pub use pages::{MappedPage, PageMap, Slot};

@@ -1,4 +1,4 @@
-//! The slot of an address in a list of pages: by a hint, and by halves where the hint misses.
+//! The slot of an address in a list of pages, by halves.
 
 ghost use Rattle.std.specs.Prelude.{◌≡◌, ◌<◌, ◌/◌, true, length, slice_index_or, IfSome, IfNone};
 ghost use Rattle.memory_spec.specs.Pages.{slot_of, ascends_above, unmapped};
@@ -6,21 +6,9 @@ ghost use Rattle.memory_spec.specs.Pages.{slot_of, ascends_above, unmapped};
 use super::pages::MappedPage;
 use memory_spec::PAGE_SIZE;
 
-/// How many hints there are.
-pub(super) const HINTS: usize = 4096;
-
-/// The place of the hint for a page: the ranges of a guest's pages have different ones.
-#[inline(always)]
-pub(super) fn hint_place(number: u32) -> usize
-    ensures { result < HINTS }
-{
-    let spread = number.wrapping_add((number >> 16) << 9);
-    (spread & 0xfff) as usize
-}
-
 /// The number of the page in a slot.
 #[inline(always)]
-fn number_at(pages: &[MappedPage], slot: usize) -> u32
+pub(super) fn number_at(pages: &[MappedPage], slot: usize) -> u32
     requires { slot < length pages.now }
     ensures { result ≡ (slice_index_or pages.now slot unmapped).number }
 {
@@ -30,7 +18,7 @@ fn number_at(pages: &[MappedPage], slot: usize) -> u32
 
 /// The slot of an address, by halves. None exactly where no page has it.
 #[cold]
-fn find(pages: &[MappedPage], address: u32) -> Option<usize>
+pub(super) fn find(pages: &[MappedPage], address: u32) -> Option<usize>
     requires { ascends_above 0 pages.now ≡ true }
     ensures found { IfSome result (λ slot. (slot ≡ slot_of pages.now address) × (slot < length pages.now)) }
     ensures missing { IfNone result (slot_of pages.now address ≡ length pages.now) }
@@ -51,19 +39,4 @@ fn find(pages: &[MappedPage], address: u32) -> Option<usize>
         }
     }
     None
-}
-
-/// The slot of an address, where `guess` may be it. None exactly where no page has it.
-#[inline(always)]
-pub(super) fn find_near(pages: &[MappedPage], guess: usize, address: u32) -> Option<usize>
-    requires { ascends_above 0 pages.now ≡ true }
-    ensures found { IfSome result (λ slot. (slot ≡ slot_of pages.now address) × (slot < length pages.now)) }
-    ensures missing { IfNone result (slot_of pages.now address ≡ length pages.now) }
-{
-    if guess < pages.len() {
-        if number_at(pages, guess) == address / PAGE_SIZE as u32 {
-            return Some(guess);
-        }
-    }
-    find(pages, address)
 }

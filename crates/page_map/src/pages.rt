@@ -5,8 +5,9 @@ ghost use Rattle.std.specs.Cmp.{partial_equiv_from_equiv};
 ghost use Rattle.memory_spec.specs.Pages.{slot_of, ascends_above, unmapped};
 ghost use Rattle.page_map.specs.Equal.{is_same_page, is_same_map, is_same_page-equiv, is_same_map-equiv};
 
-use super::lookup::{HINTS, find_near, hint_place};
+use super::lookup::find;
 use super::permission::Perm;
+use super::table::Table;
 use memory_spec::PAGE_SIZE;
 use std::marker::Model;
 
@@ -78,35 +79,25 @@ impl Eq for MappedPage {
 
 /// The mapped pages, in ascending order, each in its slot.
 ///
-/// A clause sees the list of them, each a `Mapped` of `memory_spec`.
+/// A clause sees the list of them, each a `Mapped` of `memory_spec`. Beside the list stands a table of 24 KiB that finds
+/// the slots of most.
 #[derive(Drop)]
 pub struct PageMap {
     pages: Vec<MappedPage>,
-    hints: [u16; HINTS],
+    table: Table,
 }
 
 impl Model for PageMap {
-    ghost use Rattle.std.specs.Prelude.{◌≡◌, List, true};
-    ghost use Rattle.memory_spec.specs.Pages.{Mapped, ascends_above};
+    ghost use Rattle.std.specs.Prelude.{List};
+    ghost use Rattle.memory_spec.specs.Pages.{Mapped};
 
     ghost Value = { List Mapped };
 
-    ghost use Rattle.page_map.specs.Maps.{pages_of};
+    ghost use Rattle.page_map.specs.Maps.{pages_of, IsMap};
 
     ghost view = { pages_of };
 
-    ghost invariant = { λ m. ascends_above 0 (pages_of m) ≡ true };
-}
-
-/// For each page the slot in which it may be looked for first.
-fn hints_for(pages: &[MappedPage]) -> [u16; HINTS] {
-    let mut hints = [0; HINTS];
-    for (slot, page) in pages.iter().enumerate() {
-        if let Ok(hint) = u16::try_from(slot) {
-            hints[hint_place(page.number())] = hint;
-        }
-    }
-    hints
+    ghost invariant = { IsMap };
 }
 
 impl PageMap {
@@ -115,8 +106,8 @@ impl PageMap {
         requires { ascends_above 0 pages.items ≡ true }
         ensures { result ≡ pages.items }
     {
-        let hints = hints_for(&pages);
-        PageMap { pages, hints }
+        let table = Table::of(&pages);
+        PageMap { pages, table }
     }
 
     /// The slot of an address. None exactly where no page has it.
@@ -125,8 +116,19 @@ impl PageMap {
         ensures found { IfSome result (λ slot. (slot ≡ slot_of self.now address) × (slot < length self.now)) }
         ensures missing { IfNone result (slot_of self.now address ≡ length self.now) }
     {
-        let guess = self.hints[hint_place(address / PAGE_SIZE as u32)];
-        find_near(&self.pages, usize::from(guess), address)
+        match self.listed_slot(address) {
+            Some(slot) => Some(slot),
+            None => find(&self.pages, address),
+        }
+    }
+
+    /// The slot of an address, where the map's table lists its page: the faster way, for one who asks `slot_of` where
+    /// there is none, which says nothing.
+    #[inline(always)]
+    pub fn listed_slot(&self, address: u32) -> Option<Slot>
+        ensures { IfSome result (λ slot. (slot ≡ slot_of self.now address) × (slot < length self.now)) }
+    {
+        self.table.slot_of(&self.pages, address)
     }
 
     /// What the page in a slot permits.

@@ -1,10 +1,14 @@
 //! The memory that a thread works on.
 
-ghost use Rattle.std.specs.Prelude.{◌≡◌, ℕ, ◌<◌, ◌*◌, ◌%◌, ◌^◌, IfOk};
+ghost use Rattle.std.specs.Prelude.{◌≡◌, ℕ, ◌<◌, ◌*◌, ◌%◌, ◌^◌, length, IfOk, IfSome, IfNone};
+ghost use Rattle.std.specs.Str.{bytes_eq};
 ghost use Rattle.memory_spec.specs.Access.{byte_count, loaded, fetched};
+ghost use Rattle.memory_spec.specs.Pages.{page_of};
 ghost use Rattle.memory_spec.specs.Workspace.{Workspace, Takes, Stores};
+ghost use Rattle.page_map.specs.Entering.{Enters};
 
-use memory_spec::{MemoryError, Size};
+use super::pages::Slot;
+use memory_spec::{MemoryError, PAGE_SIZE, Size};
 
 /// A memory that a thread works on: a view, with the thread's own stores laid over it.
 ///
@@ -47,4 +51,15 @@ pub trait Mem {
     fn store(&mut self, address: u32, size: Size, value: u32) -> Result<(), MemoryError>
         requires { address % byte_count size ≡ 0 }
         ensures { Stores (workspace self.old) address size value result (workspace self.new) };
+
+    /// Enters the page of an address, to run its instructions: a byte of it is taken. The slot of the page, where it may
+    /// be executed and has none of the thread's own stores; else none, and nothing changes.
+    fn enter(&mut self, address: u32) -> Option<Slot>
+        ensures entered { IfSome result (λ slot. Enters (workspace self.old) address slot (workspace self.new)) }
+        ensures stays { IfNone result (workspace self.new ≡ workspace self.old) };
+
+    /// Whether the view has these bytes in a slot.
+    fn shows(&self, slot: Slot, bytes: &[u8; PAGE_SIZE]) -> bool
+        requires { slot < length (workspace self.now).view }
+        ensures { result ≡ bytes_eq (page_of (workspace self.now).view slot) bytes.now };
 }

@@ -1,8 +1,8 @@
 -- Read pages and stored bytes, collected slot by slot.
-use Rattle.std.proofs.Common.{◌≡◌, ℕ, ◌+◌, ◌<◌, ◌≤◌, zero, suc, Bool, true, false, cond, nat_le, List, [], ◌∷◌, ◌++◌, length, get_or, set, drop, map, replicate, refl, ap, sym, ◌∙◌, arith, append_assoc}
+use Rattle.std.proofs.Common.{◌≡◌, ℕ, ◌+◌, ◌<◌, ◌≤◌, zero, suc, Bool, true, false, cond, nat_le, List, [], ◌∷◌, ◌++◌, length, get_or, drop, map, replicate, refl, ap, sym, ◌∙◌, arith, append_assoc}
 use Rattle.std.proofs.lemmas.Bool.{and_from}
 use Rattle.std.proofs.lemmas.Bool.Decides.{nat_tests}
-use Rattle.std.proofs.lemmas.List.{drop_more, drop_all, append-nil, map-set, drop-set-lt}
+use Rattle.std.proofs.lemmas.List.{drop_more, drop_all, append-nil}
 use Rattle.memory_spec.specs.Pages.{Mapped, Memory, page_of, on_each, zero_page, IsMemory}
 use Rattle.memory_spec.specs.Stores.{StoredByte, laid}
 use Rattle.memory_spec.specs.Workspace.{Masks, mask_of, no_marks, marked}
@@ -10,10 +10,7 @@ use Rattle.record_spec.specs.Delta.{PageDelta, chosen, is_stored, delta_from, de
 use Rattle.record_spec.specs.Reads.{ReadPage, reads_from}
 use Rattle.record_spec.proofs.Merging.{merged, merged_all, Shaped, shaped-laid, shaped-fresh, merged_all-laid, merged_all-no_marks}
 use Rattle.record_spec.specs.Ascending.{deltas_ascend, reads_ascend}
-use Rattle.priv_space.specs.declared.slot.Slot.{Slot}
-use Rattle.priv_space.specs.Slots.{on_view}
 use Rattle.priv_space.specs.Parts.{read_part, delta_part}
-use Rattle.priv_space.proofs.Views.{on_view-set}
 
 -- no place of an unmarked page is stored to
 unstored : (n : ℕ) → is_stored (replicate n false) ≡ false
@@ -176,16 +173,3 @@ pub part_none :
 part_none slot mask page items h =
     let d : PageDelta = record { slot = slot; mask = mask; bytes = chosen mask page } in
     sym (append-nil items) ∙ ap (λ b. items ++ cond b (d ∷ []) []) (sym h)
-
--- a change of a slot that was passed leaves what the others give
-pub drop-map-set :
-    {A B : Type 0} (f : A → B) (xs : List A) (i : ℕ) (x : A) → drop (i + 1) (map f (set xs i x))
-    ≡ drop (i + 1) (map f xs)
-drop-map-set f xs i x = ap (drop (i + 1)) (map-set f xs i x) ∙ drop-set-lt (i + 1) (map f xs) i (f x) (omega arith)
-
-pub drop-on_view-set :
-    (f : List ℕ → Slot → List ℕ) (view : Memory) (slots : List Slot) (i : ℕ) (s : Slot)
-    → drop (i + 1) (on_view f view (set slots i s)) ≡ drop (i + 1) (on_view f view slots)
-drop-on_view-set f view slots i s =
-    ap (drop (i + 1)) (on_view-set f view slots i s)
-    ∙ drop-set-lt (i + 1) (on_view f view slots) i (f (page_of view i) s) (omega arith)

@@ -1,49 +1,56 @@
 -- What a slot of a thread's memory means, over the page that the view has in its place.
-use Rattle.std.specs.Prelude.{◌≡◌, ℕ, Bool, false, List, [], ◌∷◌, length}
+use Rattle.std.specs.Prelude.{◌≡◌, ℕ, Bool, true, false, List, [], ◌∷◌, length}
 use Rattle.std.specs.Arc.{arc_value}
-use Rattle.memory_spec.specs.Pages.{Mapped, Memory}
+use Rattle.memory_spec.specs.Pages.{Mapped, Memory, allows, read_right, write_right}
 use Rattle.memory_spec.specs.Workspace.{no_marks}
-use Rattle.priv_space.specs.declared.slot.Held.{Held}
-use Rattle.priv_space.specs.declared.slot.Held.TheVariants.{Untouched, Shared, Own}
 use Rattle.priv_space.specs.declared.slot.Slot.{Slot}
+use Rattle.priv_space.specs.declared.slot.Slot.TheVariants.{View, Shared, Own, Hidden}
 
 -- A slot that wasn't touched.
 unfoldable pub untouched : Slot
-untouched = record { held = Untouched; taken = false }
+untouched = View false
 
--- The bytes that are shared with the view, which are the view's where nothing is.
-abbrev pub shared_in : Held → List ℕ → List ℕ
-shared_in Untouched page = page
-shared_in (Shared shared) page = arc_value shared
-shared_in (Own own) page = page
-
--- The bytes with the thread's stores.
-abbrev pub bytes_in : Held → List ℕ → List ℕ
-bytes_in Untouched page = page
-bytes_in (Shared shared) page = page
-bytes_in (Own own) page = own.value.page
-
--- The places that were stored to.
-abbrev pub marks_in : Held → List Bool
-marks_in Untouched = no_marks
-marks_in (Shared shared) = no_marks
-marks_in (Own own) = own.value.mask
-
--- The bytes that the slot shares with the view.
+-- The bytes that the slot shares with the view, which are the view's where nothing is.
 unfoldable pub slot_shared : List ℕ → Slot → List ℕ
-slot_shared page s = shared_in s.held page
+slot_shared page (View taken) = page
+slot_shared page (Shared shared) = arc_value shared
+slot_shared page (Own own) = page
+slot_shared page (Hidden taken own) = page
 
 -- The bytes with the thread's stores.
 unfoldable pub slot_bytes : List ℕ → Slot → List ℕ
-slot_bytes page s = bytes_in s.held page
+slot_bytes page (View taken) = page
+slot_bytes page (Shared shared) = page
+slot_bytes page (Own own) = own.value.page
+slot_bytes page (Hidden taken own) = own.value.page
 
 -- Which places were stored to.
 unfoldable pub slot_marks : Slot → List Bool
-slot_marks s = marks_in s.held
+slot_marks (View taken) = no_marks
+slot_marks (Shared shared) = no_marks
+slot_marks (Own own) = own.value.mask
+slot_marks (Hidden taken own) = own.value.mask
 
 -- Whether a byte was taken.
 unfoldable pub slot_taken : Slot → Bool
-slot_taken s = s.taken
+slot_taken (View taken) = taken
+slot_taken (Shared shared) = true
+slot_taken (Own own) = true
+slot_taken (Hidden taken own) = taken
+
+-- A page of this permission may be held so: what loads find without a look at it may be read, and an own copy may be
+-- stored to.
+abbrev pub IsPermitted : ℕ → Slot → Type 0
+IsPermitted permission (View taken) = Unit {0}
+IsPermitted permission (Shared shared) = allows read_right permission ≡ true
+IsPermitted permission (Own own) = (allows read_right permission ≡ true) × (allows write_right permission ≡ true)
+IsPermitted permission (Hidden taken own) = allows write_right permission ≡ true
+
+-- Each page may be held as its slot holds it.
+abbrev pub ArePermitted : List Mapped → List Slot → Type 0
+ArePermitted [] slots = Unit {0}
+ArePermitted (page ∷ map) [] = Unit {0}
+ArePermitted (page ∷ map) (s ∷ slots) = IsPermitted page.permission s × ArePermitted map slots
 
 -- What each slot makes of the view's page in its place.
 abbrev pub on_view : (List ℕ → Slot → List ℕ) → Memory → List Slot → Memory
@@ -51,10 +58,10 @@ on_view f [] slots = []
 on_view f (page ∷ view) [] = []
 on_view f (page ∷ view) (s ∷ slots) = f page s ∷ on_view f view slots
 
--- There is a slot for each page of the map and of the view, and each that has a share has it of the view's page in its
--- place.
---
+-- There is a slot for each page of the map and of the view; each that has a share has it of the view's page in its
+-- place, and holds its page as it may be held.
 pub record Fits (map : List Mapped) (view : Memory) (slots : List Slot) : Type 0 where
   pub pages : length view ≡ length map
   pub count : length slots ≡ length map
   pub shared : on_view slot_shared view slots ≡ view
+  pub permitted : ArePermitted map slots

@@ -1,13 +1,12 @@
 //! One page of a thread's memory.
 
-ghost use Rattle.std.specs.Prelude.{◌≡◌, ℕ, ◌+◌, ◌*◌, ◌/◌, ◌%◌, ◌^◌, ◌<◌, ◌≤◌, ◌++◌, List, true, length, IfOk, IfSome, IfNone, OnOk, OnErr};
+ghost use Rattle.std.specs.Prelude.{◌≡◌, ℕ, ◌+◌, ◌*◌, ◌/◌, ◌%◌, ◌^◌, ◌<◌, ◌≤◌, ◌++◌, List, true, length, IfOk, IfSome, IfNone, OnOk, OnErr, IsTrue, IsFalse};
 ghost use Rattle.memory_spec.specs.Access.{byte_count, number_in};
-ghost use Rattle.memory_spec.specs.Pages.{page_of};
+ghost use Rattle.memory_spec.specs.Pages.{page_of, allows, read_right, write_right};
 ghost use Rattle.memory_spec.specs.Workspace.{no_marks};
 ghost use Rattle.priv_space.specs.Written.{byte_of, with_number, with_marks};
 ghost use Rattle.priv_space.specs.Parts.{read_part, delta_part};
-ghost use Rattle.priv_space.specs.declared.slot.Held.TheVariants.{Untouched};
-ghost use Rattle.priv_space.specs.Slots.{untouched, slot_shared, slot_bytes, slot_marks, slot_taken};
+ghost use Rattle.priv_space.specs.Slots.{untouched, slot_shared, slot_bytes, slot_marks, slot_taken, IsPermitted};
 
 use memory_spec::{PAGE_SIZE, Size};
 use page_store::{Page, PageTable};
@@ -16,25 +15,29 @@ use std::mem;
 use std::sync::Arc;
 use store_mask::{Mask, PageDelta, ReadPage, StoredPage};
 
-/// What a slot holds of its page.
+/// What the thread holds of a page, and whether it took a byte of it.
 ///
 /// One that wasn't touched has no share, so that a view of many pages costs no count of holders for those
-/// that a thread leaves alone.
+/// that a thread leaves alone. A load from a share or from an own copy that is `Own`, and a store to an own copy,
+/// needs no look at the page's rights: they were looked at before it came to that.
 #[derive(Drop)]
-pub(super) enum Held {
-    /// Nothing: its page is the view's.
-    Untouched,
-    /// A share of the view's page, from the first byte on that was taken from it.
+pub(super) enum Slot {
+    /// Nothing: its page is the view's. Only instructions were taken from it, if any byte was.
+    View {
+        /// Whether a byte was taken.
+        taken: bool,
+    },
+    /// A share of the view's page, from which a byte was loaded.
     Shared(Arc<Page>),
-    /// The thread's own copy, from the first store on.
+    /// The thread's own copy of a page from which a byte was loaded.
     Own(Box<StoredPage>),
-}
-
-/// What the thread holds of a page, and whether it took a byte of it.
-#[derive(Drop)]
-pub(super) struct Slot {
-    pub(super) held: Held,
-    pub(super) taken: bool,
+    /// The thread's own copy of a page from which no byte was loaded so far, and which may have no right to it.
+    Hidden {
+        /// Whether a byte was taken.
+        taken: bool,
+        /// The copy.
+        own: Box<StoredPage>,
+    },
 }
 
 /// An aligned access: the slot of its page, where in the page it begins, and how many bytes it moves.
@@ -144,17 +147,43 @@ fn store_number(stored: &mut StoredPage, offset: usize, size: Size, value: u32)
 fn own_copy(
     alloc: Global,
     page: &Page,
-    offset: usize,
-    size: Size,
+    access: Access,
     value: u32,
 ) -> Result<Box<StoredPage>, AllocError>
-    requires { offset + byte_count size ≤ PAGE_SIZE }
-    ensures page { IfOk result (λ own. own.value.page ≡ with_number page.now offset size value) }
-    ensures mask { IfOk result (λ own. own.value.mask ≡ with_marks no_marks offset size) }
+    requires { access.offset + byte_count access.size ≤ PAGE_SIZE }
+    ensures page { IfOk result (λ own. own.value.page ≡ with_number page.now access.offset access.size value) }
+    ensures mask { IfOk result (λ own. own.value.mask ≡ with_marks no_marks access.offset access.size) }
 {
     let mut own = Box::new(alloc, StoredPage::of(page))?;
-    store_number(&mut own, offset, size, value);
+    store_number(&mut own, access.offset, access.size, value);
     Ok(own)
+}
+
+/// Adds the view's page in a slot to the read pages.
+#[inline(never)]
+fn push_read(view: &PageTable, slot: usize, pages: &mut Vec<ReadPage>) -> Result<(), AllocError>
+    requires { slot < length view.now }
+    ensures { OnOk result (pages.new.items ≡ pages.old.items ++ read_part slot true (page_of view.now slot)) }
+{
+    pages.push(ReadPage::new(slot, view.share(slot)?))?;
+    Ok(())
+}
+
+/// Gives an own copy to the deltas, if a byte was stored.
+#[inline(never)]
+fn push_delta(
+    own: Box<StoredPage>,
+    slot: usize,
+    deltas: &mut Vec<PageDelta>,
+) -> Result<(), AllocError>
+    ensures { OnOk result (deltas.new.items
+        ≡ deltas.old.items ++ delta_part slot own.value.mask own.value.page) }
+{
+    if own.mask.is_empty() {
+        return Ok(());
+    }
+    deltas.push(PageDelta::new(slot, own))?;
+    Ok(())
 }
 
 impl Slot {
@@ -163,33 +192,48 @@ impl Slot {
     pub(super) fn new() -> Slot
         ensures { result ≡ untouched }
     {
-        Slot {
-            held: Held::Untouched,
-            taken: false,
-        }
+        Slot::View { taken: false }
     }
 
-    /// The page, with the thread's stores, where the slot holds one.
+    /// Whether a byte was taken.
     #[inline(always)]
-    #[tactic(auto, unfolding(crate::specs::Slots::slot_shared, crate::specs::Slots::slot_bytes))]
-    fn page(&self) -> Option<&Page>
-        ensures held { (page : List ℕ) → slot_shared page self.now ≡ page
-            → IfSome result (λ held. held.now ≡ slot_bytes page self.now) }
-        ensures missing { IfNone result (self.now.held ≡ Untouched) }
+    #[tactic(auto, unfolding(crate::specs::Slots::slot_taken))]
+    fn taken(&self) -> bool
+        ensures { result ≡ slot_taken self.now }
     {
-        match &self.held {
-            Held::Own(own) => Some(&own.page),
-            Held::Shared(shared) => Some(shared),
-            Held::Untouched => None,
+        match self {
+            Slot::View { taken } | Slot::Hidden { taken, .. } => *taken,
+            Slot::Shared(_) | Slot::Own(_) => true,
         }
     }
 
-    /// Takes the number of an access to the slot's page.
+    /// The number of an access to the page, where one was loaded from it before.
+    #[inline(always)]
+    #[tactic(auto, unfolding(crate::specs::Slots::slot_shared, crate::specs::Slots::slot_bytes, crate::specs::Slots::slot_taken))]
+    pub(super) fn held_number(&self, access: Access) -> Option<u32>
+        requires { access.offset + byte_count access.size ≤ PAGE_SIZE }
+        ensures value { (page : List ℕ) → slot_shared page self.now ≡ page
+            → IfSome result (λ number. number ≡ number_in (slot_bytes page self.now) access.offset access.size) }
+        ensures small { IfSome result (λ number. number < 2 ^ (8 * byte_count access.size)) }
+        ensures taken { IfSome result (λ number. slot_taken self.now ≡ true) }
+        ensures permitted { (permission : ℕ) → IsPermitted permission self.now
+            → IfSome result (λ number. allows read_right permission ≡ true) }
+    {
+        // Two tests are faster than a jump by a table of four.
+        if let Slot::Own(own) = self {
+            return Some(number_at(&own.page, access.offset, access.size));
+        }
+        if let Slot::Shared(page) = self {
+            return Some(number_at(page, access.offset, access.size));
+        }
+        None
+    }
+
+    /// Takes the number of an access to the slot's page, which may be read.
     ///
     /// # Errors
     ///
     /// An error where the page has as many holders as can be counted; nothing changes then.
-    #[inline(always)]
     #[tactic(auto, unfolding(crate::specs::Slots::slot_shared, crate::specs::Slots::slot_bytes, crate::specs::Slots::slot_marks, crate::specs::Slots::slot_taken))]
     pub(super) fn take(&mut self, view: &PageTable, access: Access) -> Result<u32, AllocError>
         requires within { access.slot < length view.now }
@@ -204,54 +248,125 @@ impl Slot {
         ensures marks { slot_marks self.new ≡ slot_marks self.old }
         ensures taken { OnOk result (slot_taken self.new ≡ true) }
         ensures taken_stays { OnErr result (slot_taken self.new ≡ slot_taken self.old) }
+        ensures permitted { (permission : ℕ) → allows read_right permission ≡ true → IsPermitted permission self.old
+            → IsPermitted permission self.new }
     {
-        let number = match self.page() {
-            Some(page) => number_at(page, access.offset, access.size),
-            None => self.first_number(view, access.slot, access.offset, access.size)?,
-        };
-        self.taken = true;
+        let number = number_at(self.page(view, access.slot), access.offset, access.size);
+        self.show(view, access.slot)?;
         Ok(number)
     }
 
-    /// The number that stands at an offset of the view's page, of which the slot gets its share.
-    ///
-    /// It stands apart from the taking of a later number, which is the common case.
+    /// The page with the thread's stores.
+    #[tactic(auto, unfolding(crate::specs::Slots::slot_shared, crate::specs::Slots::slot_bytes))]
+    fn page<'a>(&'a self, view: &'a PageTable, slot: usize) -> &'a Page
+        requires within { slot < length view.now }
+        requires share { slot_shared (page_of view.now slot) self.now ≡ page_of view.now slot }
+        ensures { result.now ≡ slot_bytes (page_of view.now slot) self.now }
+    {
+        match self {
+            Slot::View { .. } => view.page(slot),
+            Slot::Shared(page) => page,
+            Slot::Own(own) => &own.page,
+            Slot::Hidden { own, .. } => &own.page,
+        }
+    }
+
+    /// Lets loads find the page, which may be read: by a share of the view's, or as the own copy. So a byte was taken.
     ///
     /// # Errors
     ///
     /// An error where the page has as many holders as can be counted; nothing changes then.
-    #[cold]
-    #[inline(never)]
     #[tactic(auto, unfolding(crate::specs::Slots::slot_shared, crate::specs::Slots::slot_bytes, crate::specs::Slots::slot_marks, crate::specs::Slots::slot_taken))]
-    fn first_number(
-        &mut self,
-        view: &PageTable,
-        slot: usize,
-        offset: usize,
-        size: Size,
-    ) -> Result<u32, AllocError>
+    fn show(&mut self, view: &PageTable, slot: usize) -> Result<(), AllocError>
         requires within { slot < length view.now }
-        requires inside { offset + byte_count size ≤ PAGE_SIZE }
-        requires untouched { self.old.held ≡ Untouched }
-        ensures value { IfOk result (λ number. number ≡ number_in (page_of view.now slot) offset size) }
-        ensures small { IfOk result (λ number. number < 2 ^ (8 * byte_count size)) }
+        requires share { slot_shared (page_of view.now slot) self.old ≡ page_of view.now slot }
         ensures shared { slot_shared (page_of view.now slot) self.new ≡ page_of view.now slot }
-        ensures bytes { slot_bytes (page_of view.now slot) self.new ≡ page_of view.now slot }
-        ensures marks { slot_marks self.new ≡ no_marks }
-        ensures taken { slot_taken self.new ≡ slot_taken self.old }
+        ensures bytes { slot_bytes (page_of view.now slot) self.new ≡ slot_bytes (page_of view.now slot) self.old }
+        ensures marks { slot_marks self.new ≡ slot_marks self.old }
+        ensures taken { OnOk result (slot_taken self.new ≡ true) }
+        ensures taken_stays { OnErr result (slot_taken self.new ≡ slot_taken self.old) }
+        ensures permitted { (permission : ℕ) → allows read_right permission ≡ true → IsPermitted permission self.old
+            → IsPermitted permission self.new }
     {
-        let shared = view.share(slot)?;
-        let number = number_at(&shared, offset, size);
-        self.held = Held::Shared(shared);
-        Ok(number)
+        if let Slot::View { .. } = self {
+            *self = Slot::Shared(view.share(slot)?);
+            return Ok(());
+        }
+        *self = match mem::replace(self, Slot::new()) {
+            Slot::Hidden { own, .. } => Slot::Own(own),
+            held => held,
+        };
+        Ok(())
     }
 
-    /// Stores the lowest bytes of a value by an access to the slot's page.
+    /// Marks that a byte was taken.
+    #[tactic(auto, unfolding(crate::specs::Slots::slot_shared, crate::specs::Slots::slot_bytes, crate::specs::Slots::slot_marks, crate::specs::Slots::slot_taken))]
+    fn mark(&mut self)
+        ensures shared { (page : List ℕ) → slot_shared page self.new ≡ slot_shared page self.old }
+        ensures bytes { (page : List ℕ) → slot_bytes page self.new ≡ slot_bytes page self.old }
+        ensures marks { slot_marks self.new ≡ slot_marks self.old }
+        ensures taken { slot_taken self.new ≡ true }
+        ensures permitted { (permission : ℕ) → IsPermitted permission self.old → IsPermitted permission self.new }
+    {
+        match self {
+            Slot::View { taken } => *taken = true,
+            Slot::Hidden { taken, .. } => *taken = true,
+            Slot::Shared(_) | Slot::Own(_) => {}
+        }
+    }
+
+    /// Takes the word of a fetch from the slot's page.
+    #[tactic(auto, unfolding(crate::specs::Slots::slot_shared, crate::specs::Slots::slot_bytes, crate::specs::Slots::slot_marks, crate::specs::Slots::slot_taken))]
+    pub(super) fn fetch(&mut self, view: &PageTable, access: Access) -> u32
+        requires within { access.slot < length view.now }
+        requires inside { access.offset + byte_count access.size ≤ PAGE_SIZE }
+        requires share { slot_shared (page_of view.now access.slot) self.old ≡ page_of view.now access.slot }
+        ensures value { result ≡ number_in (slot_bytes (page_of view.now access.slot) self.old) access.offset access.size }
+        ensures shared { slot_shared (page_of view.now access.slot) self.new ≡ page_of view.now access.slot }
+        ensures bytes { slot_bytes (page_of view.now access.slot) self.new
+            ≡ slot_bytes (page_of view.now access.slot) self.old }
+        ensures marks { slot_marks self.new ≡ slot_marks self.old }
+        ensures taken { slot_taken self.new ≡ true }
+        ensures permitted { (permission : ℕ) → IsPermitted permission self.old → IsPermitted permission self.new }
+    {
+        let number = number_at(self.page(view, access.slot), access.offset, access.size);
+        self.mark();
+        number
+    }
+
+    /// Stores the lowest bytes of a value into the own copy. Whether there is one; else nothing changes.
+    #[inline(always)]
+    #[tactic(auto, unfolding(crate::specs::Slots::slot_shared, crate::specs::Slots::slot_bytes, crate::specs::Slots::slot_marks, crate::specs::Slots::slot_taken))]
+    pub(super) fn store_again(&mut self, access: Access, value: u32) -> bool
+        requires { access.offset + byte_count access.size ≤ PAGE_SIZE }
+        ensures shared { (page : List ℕ) → slot_shared page self.new ≡ slot_shared page self.old }
+        ensures taken { slot_taken self.new ≡ slot_taken self.old }
+        ensures bytes { (page : List ℕ) → IsTrue result → slot_bytes page self.new
+            ≡ with_number (slot_bytes page self.old) access.offset access.size value }
+        ensures marks { IsTrue result → slot_marks self.new ≡ with_marks (slot_marks self.old) access.offset access.size }
+        ensures stays { IsFalse result → self.new ≡ self.old }
+        ensures permitted { (permission : ℕ) → IsPermitted permission self.old → IsPermitted permission self.new }
+        ensures writes { (permission : ℕ) → IsPermitted permission self.old → IsTrue result
+            → allows write_right permission ≡ true }
+    {
+        match self {
+            Slot::Own(own) => {
+                store_number(own, access.offset, access.size, value);
+                true
+            }
+            Slot::Hidden { own, .. } => {
+                store_number(own, access.offset, access.size, value);
+                true
+            }
+            Slot::View { .. } | Slot::Shared(_) => false,
+        }
+    }
+
+    /// Stores the lowest bytes of a value by an access to the slot's page, which may be stored to.
     ///
     /// # Errors
     ///
     /// An error where the host's memory ran out; nothing changes then.
-    #[inline(always)]
     #[tactic(auto, unfolding(crate::specs::Slots::slot_shared, crate::specs::Slots::slot_bytes, crate::specs::Slots::slot_marks, crate::specs::Slots::slot_taken))]
     pub(super) fn store(
         &mut self,
@@ -268,29 +383,53 @@ impl Slot {
         ensures bytes { OnOk result (slot_bytes (page_of view.now access.slot) self.new
             ≡ with_number (slot_bytes (page_of view.now access.slot) self.old) access.offset access.size value) }
         ensures marks { OnOk result (slot_marks self.new ≡ with_marks (slot_marks self.old) access.offset access.size) }
-        ensures bytes_stay { OnErr result (slot_bytes (page_of view.now access.slot) self.new
-            ≡ slot_bytes (page_of view.now access.slot) self.old) }
-        ensures marks_stay { OnErr result (slot_marks self.new ≡ slot_marks self.old) }
+        ensures stays { OnErr result (self.new ≡ self.old) }
+        ensures permitted { (permission : ℕ) → allows write_right permission ≡ true → IsPermitted permission self.old
+            → IsPermitted permission self.new }
     {
-        match &mut self.held {
-            Held::Own(own) => {
+        match self {
+            Slot::Own(own) => {
                 store_number(own, access.offset, access.size, value);
-                Ok(())
             }
-            Held::Shared(_) | Held::Untouched => {
-                self.held = Held::Own(own_copy(
-                    alloc,
-                    view.page(access.slot),
-                    access.offset,
-                    access.size,
-                    value,
-                )?);
-                Ok(())
+            Slot::Hidden { own, .. } => {
+                store_number(own, access.offset, access.size, value);
             }
+            Slot::Shared(page) => {
+                let own = own_copy(alloc, page, access, value)?;
+                *self = Slot::Own(own);
+            }
+            Slot::View { taken } => {
+                let taken = *taken;
+                let own = own_copy(alloc, view.page(access.slot), access, value)?;
+                *self = Slot::Hidden { taken, own };
+            }
+        }
+        Ok(())
+    }
+
+    /// Takes a byte of the slot's page, to run its instructions, unless it has the thread's own stores.
+    #[inline(always)]
+    #[tactic(auto, unfolding(crate::specs::Slots::slot_shared, crate::specs::Slots::slot_bytes, crate::specs::Slots::slot_marks, crate::specs::Slots::slot_taken))]
+    pub(super) fn enter(&mut self) -> bool
+        ensures shared { (page : List ℕ) → slot_shared page self.new ≡ slot_shared page self.old }
+        ensures bytes { (page : List ℕ) → slot_bytes page self.new ≡ slot_bytes page self.old }
+        ensures marks { slot_marks self.new ≡ slot_marks self.old }
+        ensures unchanged { (page : List ℕ) → IsTrue result → slot_bytes page self.old ≡ page }
+        ensures taken { IsTrue result → slot_taken self.new ≡ true }
+        ensures stays { IsFalse result → slot_taken self.new ≡ slot_taken self.old }
+        ensures permitted { (permission : ℕ) → IsPermitted permission self.old → IsPermitted permission self.new }
+    {
+        match self {
+            Slot::View { .. } | Slot::Shared(_) => {
+                self.mark();
+                true
+            }
+            Slot::Own(_) | Slot::Hidden { .. } => false,
         }
     }
 
     /// Adds the view's page in this slot to the read pages, if a byte was taken.
+    #[inline(always)]
     #[tactic(auto, unfolding(crate::specs::Slots::slot_taken))]
     pub(super) fn add_read(
         &self,
@@ -302,32 +441,27 @@ impl Slot {
         ensures { OnOk result (pages.new.items
             ≡ pages.old.items ++ read_part slot (slot_taken self.now) (page_of view.now slot)) }
     {
-        if self.taken {
-            pages.push(ReadPage::new(slot, view.share(slot)?))?;
+        if self.taken() {
+            push_read(view, slot, pages)?;
         }
         Ok(())
     }
 
     /// Gives the own copy to the deltas, if a byte was stored. Which page the view has counts for nothing.
+    #[inline(always)]
     #[tactic(auto, unfolding(crate::specs::Slots::slot_bytes, crate::specs::Slots::slot_marks))]
     pub(super) fn give_delta(
-        &mut self,
+        self,
         slot: usize,
         deltas: &mut Vec<PageDelta>,
     ) -> Result<(), AllocError>
         ensures { (page : List ℕ) → OnOk result (deltas.new.items
-            ≡ deltas.old.items ++ delta_part slot (slot_marks self.old) (slot_bytes page self.old)) }
+            ≡ deltas.old.items ++ delta_part slot (slot_marks self) (slot_bytes page self)) }
     {
-        match mem::replace(&mut self.held, Held::Untouched) {
-            Held::Untouched => Ok(()),
-            Held::Shared(_) => Ok(()),
-            Held::Own(own) => {
-                if own.mask.is_empty() {
-                    return Ok(());
-                }
-                deltas.push(PageDelta::new(slot, own))?;
-                Ok(())
-            }
+        match self {
+            Slot::View { .. } => Ok(()),
+            Slot::Shared(_) => Ok(()),
+            Slot::Own(own) | Slot::Hidden { own, .. } => push_delta(own, slot, deltas),
         }
     }
 }

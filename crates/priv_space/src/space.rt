@@ -1,10 +1,10 @@
 //! The memory that a thread works on.
 
-ghost use Rattle.std.specs.Prelude.{◌≡◌, ◌+◌, ◌<◌, ◌≤◌, ◌%◌, List, length, map, IfOk, IfSome, IfNone};
+ghost use Rattle.std.specs.Prelude.{◌≡◌, ◌+◌, ◌*◌, ◌^◌, ◌<◌, ◌≤◌, ◌%◌, List, length, map, IfOk, IfSome, IfNone};
 ghost use Rattle.std.specs.Arc.{arc_value};
-ghost use Rattle.memory_spec.specs.Access.{byte_count};
+ghost use Rattle.memory_spec.specs.Access.{byte_count, loaded};
 ghost use Rattle.memory_spec.specs.Pages.{slot_of, permission_at};
-ghost use Rattle.memory_spec.specs.Workspace.{fresh};
+ghost use Rattle.memory_spec.specs.Workspace.{fresh, Takes, Stores};
 ghost use Rattle.record_spec.specs.Delta.{delta_from};
 ghost use Rattle.record_spec.specs.Reads.{reads_from};
 
@@ -70,7 +70,6 @@ fn access_to(slot: usize, address: u32, size: Size) -> Access
 impl Mem for Space {
     ghost workspace = { λ s. s };
 
-    #[inline(always)]
     #[tactic(auto, unfolding(memory_spec::specs::Access::fetched, memory_spec::specs::Access::number_at))]
     fn fetch(&mut self, address: u32) -> Result<u32, MemoryError> {
         match permitted(&self.pages, address) {
@@ -80,10 +79,7 @@ impl Mem for Space {
                     return Err(MemoryError::Access);
                 }
                 let access = access_to(slot, address, Size::Four);
-                match slots::take(&self.view, &mut self.slots, access) {
-                    Ok(number) => Ok(number),
-                    Err(_) => Err(MemoryError::NoMemory),
-                }
+                Ok(slots::fetch(&self.view, &mut self.slots, access))
             }
         }
     }
@@ -91,6 +87,60 @@ impl Mem for Space {
     #[inline(always)]
     #[tactic(auto, unfolding(memory_spec::specs::Access::loaded, memory_spec::specs::Access::number_at))]
     fn load(&mut self, address: u32, size: Size) -> Result<u32, MemoryError> {
+        if let Some(slot) = self.pages.listed_slot(address) {
+            let access = access_to(slot, address, size);
+            if let Some(number) = slots::held_number(&self.slots, access) {
+                return Ok(number);
+            }
+        }
+        self.first_load(address, size)
+    }
+
+    #[inline(always)]
+    #[tactic(auto, unfolding(memory_spec::specs::Access::may_store))]
+    fn store(&mut self, address: u32, size: Size, value: u32) -> Result<(), MemoryError> {
+        if let Some(slot) = self.pages.listed_slot(address) {
+            let access = access_to(slot, address, size);
+            if slots::store_again(&mut self.slots, access, value) {
+                return Ok(());
+            }
+        }
+        self.first_store(address, size, value)
+    }
+
+    #[inline(always)]
+    fn enter(&mut self, address: u32) -> Option<usize> {
+        let (slot, perm) = permitted(&self.pages, address)?;
+        if !perm.executes() {
+            return None;
+        }
+        if slots::enter(&mut self.slots, slot) {
+            Some(slot)
+        } else {
+            None
+        }
+    }
+
+    fn shows(&self, slot: usize, bytes: &[u8; PAGE_SIZE]) -> bool {
+        self.view.page(slot).bytes().as_slice() == bytes.as_slice()
+    }
+}
+
+impl Space {
+    /// Loads where the slot of the page doesn't say that it may be read: the first time, where it may not, or where the
+    /// map doesn't list it.
+    ///
+    /// # Errors
+    ///
+    /// `Access` exactly where the page isn't mapped or may not be read; `NoMemory` where the host has no memory left.
+    #[cold]
+    #[inline(never)]
+    #[tactic(auto, unfolding(memory_spec::specs::Access::loaded, memory_spec::specs::Access::number_at))]
+    fn first_load(&mut self, address: u32, size: Size) -> Result<u32, MemoryError>
+        requires { address % byte_count size ≡ 0 }
+        ensures found { Takes self.old address (loaded self.old.map self.old.memory address size) result self.new }
+        ensures fits { IfOk result (λ value. value < 2 ^ (8 * byte_count size)) }
+    {
         match permitted(&self.pages, address) {
             None => Err(MemoryError::Access),
             Some((slot, perm)) => {
@@ -106,9 +156,20 @@ impl Mem for Space {
         }
     }
 
-    #[inline(always)]
+    /// Stores where the page has no own copy: the first time, where it may not be stored to, or where the map doesn't
+    /// list it.
+    ///
+    /// # Errors
+    ///
+    /// `Access` exactly where the page isn't mapped or may not be written; `NoMemory` where the host has no memory
+    /// left. Nothing changes then.
+    #[cold]
+    #[inline(never)]
     #[tactic(auto, unfolding(memory_spec::specs::Access::may_store))]
-    fn store(&mut self, address: u32, size: Size, value: u32) -> Result<(), MemoryError> {
+    fn first_store(&mut self, address: u32, size: Size, value: u32) -> Result<(), MemoryError>
+        requires { address % byte_count size ≡ 0 }
+        ensures { Stores self.old address size value result self.new }
+    {
         match permitted(&self.pages, address) {
             None => Err(MemoryError::Access),
             Some((slot, perm)) => {
@@ -124,9 +185,7 @@ impl Mem for Space {
             }
         }
     }
-}
 
-impl Space {
     /// A view with nothing stored and nothing taken. It shares the table, and no byte is copied.
     ///
     /// # Errors
@@ -184,10 +243,9 @@ impl Space {
         } = self;
         drop(view);
         drop(pages);
-        let mut slots = slots;
         let mut deltas = Vec::new(alloc);
-        for slot in 0..slots.len() {
-            slots[slot].give_delta(slot, &mut deltas)?;
+        for (slot, held) in slots.into_iter().enumerate() {
+            held.give_delta(slot, &mut deltas)?;
         }
         Ok(Delta::new(deltas))
     }

@@ -94,3 +94,41 @@ fn an_untouched_page_has_no_share_taken(rt: HostRuntime) -> Result<(), AllocErro
     assert_eq!(rt; Arc::strong_count(&second), 2);
     Ok(())
 }
+
+#[test]
+fn a_page_is_entered_before_its_stores(rt: HostRuntime) -> Result<(), AllocError> {
+    let pages = vec![in rt.alloc();
+        MappedPage::new(0x10, Perm::R | Perm::W | Perm::X),
+        MappedPage::new(0x11, Perm::R | Perm::W),
+    ]?;
+    let map = Arc::new(rt.alloc(), PageMap::new(pages))?;
+    let mut view = PageTable::empty(rt.alloc());
+    view.push(Page::new([3; PAGE_SIZE]))?;
+    view.push(Page::new([5; PAGE_SIZE]))?;
+    let view = Arc::new(rt.alloc(), view)?;
+    let mut space = Space::new(rt.alloc(), &view, &map)?;
+    assert_eq!(rt; space.enter(0x1_1000), None);
+    assert_eq!(rt; space.enter(0x1_2000), None);
+    assert_eq!(rt; space.reads()?.pages().len(), 0);
+    assert_eq!(rt; space.enter(0x1_0ffc), Some(0));
+    assert_eq!(rt; space.reads()?.pages().len(), 1);
+    assert_eq!(rt; space.store(0x1_0004, Size::One, 9), Ok(()));
+    assert_eq!(rt; space.enter(0x1_0ffc), None);
+    Ok(())
+}
+
+#[test]
+fn a_view_shows_its_bytes(rt: HostRuntime) -> Result<(), AllocError> {
+    let pages = vec![in rt.alloc(); MappedPage::new(0x10, Perm::R | Perm::W)]?;
+    let map = Arc::new(rt.alloc(), PageMap::new(pages))?;
+    let mut view = PageTable::empty(rt.alloc());
+    view.push(Page::new([3; PAGE_SIZE]))?;
+    let view = Arc::new(rt.alloc(), view)?;
+    let mut space = Space::new(rt.alloc(), &view, &map)?;
+    assert_eq!(rt; space.store(0x1_0004, Size::One, 9), Ok(()));
+    let mut other = [3; PAGE_SIZE];
+    assert!(rt; space.shows(0, &other));
+    other[4095] = 4;
+    assert!(rt; !space.shows(0, &other));
+    Ok(())
+}

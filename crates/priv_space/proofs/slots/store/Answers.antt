@@ -1,11 +1,11 @@
 -- Answers to the goals that the check leaves of `store`.
 use Rattle.std.proofs.Common.{map, set, ap, sym, ◌∙◌, [], arith, ◌<◌, length}
-use Rattle.std.proofs.lemmas.List.{map-set, get_or-map}
+use Rattle.std.proofs.lemmas.List.{map-set, get_or-map, set-get_or}
 use Rattle.std.proofs.Math.Seq.{map-set_same}
 use Rattle.priv_space.specs.Written.{with_number, with_marks}
 use Rattle.priv_space.specs.Slots.{on_view, slot_shared, slot_bytes, slot_marks, slot_taken}
 use Rattle.priv_space.proofs.Spaces.{on_ok, on_err}
-use Rattle.priv_space.proofs.Views.{on_view-set, get_or-on_view, fitting-on_view, on_view-set_same}
+use Rattle.priv_space.proofs.Views.{on_view-set, get_or-on_view, fitting-on_view, on_view-set_same, permitted-set}
 use Rattle.priv_space.proofs.slots.store.Goals as goal
 
 pub store-requires-clause-share : goal.store-requires-clause-share
@@ -57,18 +57,14 @@ returns-clause-marks c =
     (sym (get_or-map slot_marks c.args.slots.now c.args.access.slot c.index-slots-access.result [] c.requires.within))))
     c.store.ensures.marks
 
-pub returns-clause-bytes_stay : goal.returns-clause-bytes_stay
-returns-clause-bytes_stay c =
-    let within : c.args.access.slot < length c.args.view.now = omega arith in
+pub returns-clause-stays : goal.returns-clause-stays
+returns-clause-stays c =
     on_err c.store.result
-    (λ is.
-    on_view-set_same slot_bytes c.args.view.now c.args.slots.now c.args.access.slot c.store.new.self
-    c.index-slots-access.result within
-    c.requires.within is)
-    c.store.ensures.bytes_stay
+    (λ is. ap (set c.args.slots.now c.args.access.slot) is
+    ∙ set-get_or c.args.slots.now c.args.access.slot c.index-slots-access.result)
+    c.store.ensures.stays
 
-pub returns-clause-marks_stay : goal.returns-clause-marks_stay
-returns-clause-marks_stay c =
-    on_err c.store.result
-    (λ is. map-set_same slot_marks c.args.slots.now c.args.access.slot c.store.new.self c.index-slots-access.result is)
-    c.store.ensures.marks_stay
+pub returns-clause-permitted : goal.returns-clause-permitted
+returns-clause-permitted c pages may =
+    permitted-set pages c.args.slots.now c.args.access.slot c.store.new.self c.index-slots-access.result
+    (c.store.ensures.permitted _ may)

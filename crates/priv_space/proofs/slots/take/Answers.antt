@@ -5,7 +5,7 @@ use Rattle.std.proofs.Math.Seq.{map-set_same}
 use Rattle.memory_spec.specs.Access.{number_in}
 use Rattle.priv_space.specs.Slots.{slot_shared, slot_bytes, slot_marks, slot_taken}
 use Rattle.priv_space.proofs.Spaces.{on_ok, on_err, if_ok}
-use Rattle.priv_space.proofs.Views.{get_or-on_view, fitting-on_view, on_view-set_same}
+use Rattle.priv_space.proofs.Views.{get_or-on_view, fitting-on_view, on_view-set_same, permitted-set}
 use Rattle.priv_space.proofs.slots.take.Goals as goal
 
 pub take-requires-clause-share : goal.take-requires-clause-share
@@ -62,3 +62,8 @@ returns-clause-taken_stays c =
     on_err c.take.result
     (λ is. map-set_same slot_taken c.args.slots.now c.args.access.slot c.take.new.self c.index-slots-access.result is)
     c.take.ensures.taken_stays
+
+pub returns-clause-permitted : goal.returns-clause-permitted
+returns-clause-permitted c pages may =
+    permitted-set pages c.args.slots.now c.args.access.slot c.take.new.self c.index-slots-access.result
+    (c.take.ensures.permitted _ may)

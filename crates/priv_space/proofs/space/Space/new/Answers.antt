@@ -4,7 +4,7 @@ use Rattle.std.proofs.lemmas.List.{length-replicate, replicate_more}
 use Rattle.std.specs.Arc.{arc_value}
 use Rattle.priv_space.specs.Slots.{untouched}
 use Rattle.priv_space.proofs.Spaces.{fresh_space}
-use Rattle.priv_space.proofs.Views.{shared-untouched}
+use Rattle.priv_space.proofs.Views.{shared-untouched, permitted-untouched}
 use Rattle.priv_space.proofs.space.Space.new.Goals as goal
 
 pub loop-init : goal.loop-init
@@ -31,6 +31,7 @@ invariant_of-result c =
       pages = same;
       count = length-replicate (length view) untouched ∙ same;
       shared = shared-untouched view;
+      permitted = permitted-untouched pages (length view);
     }
 
 pub returns : goal.returns

@@ -3,39 +3,35 @@ use Rattle.std.proofs.Common.{◌≡◌, ◌<◌, ◌%◌, map, length, arith, a
 use Rattle.std.proofs.lemmas.List.{with_items_is, length-map}
 use Rattle.std.specs.Arc.{arc_value}
 use Rattle.std.specs.Vec.{with_items}
-use Rattle.memory_spec.specs.Access.{may_store}
-use Rattle.memory_spec.specs.Pages.{allows, write_right, slot_of, permission_at}
 use Rattle.priv_space.specs.Slots.{on_view, slot_bytes, slot_marks, slot_taken}
-use Rattle.priv_space.proofs.Spaces.{stored_space}
+use Rattle.priv_space.proofs.Spaces.{may_store_in_slot, stored_space}
 use Rattle.priv_space.proofs.Views.{length-on_view}
 use Rattle.priv_space.proofs.space.SpaceMem.store.Goals as goal
 
-pub returns-in-Ok : goal.returns-in-Ok
-unfolding may_store
-returns-in-Ok c =
+pub returns-then-store_again : goal.returns-then-store_again
+returns-then-store_again c =
     let pages = arc_value c.self.inside.pages in
     let view = arc_value c.self.inside.view in
     let slots = c.self.inside.slots.items in
-    let after = c.store.new.slots in
+    let after = c.store_again.new.slots in
     let items : (with_items c.self.inside.slots after).items ≡ after =
     with_items_is c.self.inside.slots after (omega arith) in
-    let done =
-    rw (c.deref_mut.ensures.value, c.deref-in-Some.ensures, c.access_to-access.ensures.value) at c.in-Ok.ensures in
-    let at_slot : c.in-Some.slot ≡ slot_of pages c.args.address = rw (← c.deref.ensures) c.in-Some.ensures.slot.0 in
-    let perm : c.in-Some.perm.0 ≡ permission_at pages c.args.address = rw (← c.deref.ensures) c.in-Some.ensures.perm in
-    let under : c.in-Some.slot < length pages = rw (← c.deref.ensures) c.in-Some.ensures.slot.1 in
+    let found = rw c.deref.ensures at c.in-Some.ensures in
+    let done = rw (c.deref_mut.ensures.value, c.access_to-access.ensures.value) at c.store_again.ensures in
     let same : length slots ≡ length pages = c.self.invariant.count in
     let whole : length slots ≡ length view = same ∙ sym c.self.invariant.pages in
     let within : c.in-Some.slot < length slots = omega arith in
     rw (← c.self.view_is) (
-      ap (allows write_right) (sym perm) ∙ sym c.if-not-writes.ensures,
+      may_store_in_slot pages c.args.address c.in-Some.slot found.0
+          (done.writes pages same c.self.invariant.permitted c.if-store_again.true),
       stored_space pages view (on_view slot_bytes view slots) (map slot_marks slots) (map slot_taken slots)
           view (on_view slot_bytes view (with_items c.self.inside.slots after).items)
           (map slot_marks (with_items c.self.inside.slots after).items)
           (map slot_taken (with_items c.self.inside.slots after).items)
           c.args.address c.args.size c.args.value c.in-Some.slot (c.args.address % 4096)
           refl (ap (map slot_taken) items ∙ done.taken)
-          (ap (on_view slot_bytes view) items ∙ done.bytes) (ap (map slot_marks) items ∙ done.marks)
-          at_slot refl c.requires
+          (ap (on_view slot_bytes view) items ∙ done.bytes view whole c.if-store_again.true)
+          (ap (map slot_marks) items ∙ done.marks c.if-store_again.true)
+          found.0 refl c.requires
           (omega (arith, length-on_view slot_bytes view slots whole)) (omega (arith, length-map slots slot_marks)),
     )
