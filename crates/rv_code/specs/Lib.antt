@@ -1,0 +1,4 @@
+-- The files of definitions of this crate.
+pub mod Meaning
+pub mod Pages
+pub mod Reading
