@@ -1,6 +1,6 @@
 //! The registers of a hart (RISC-V unprivileged ISA 20191213, 2.1).
 
-ghost use Rattle.std.specs.Prelude.{◌≡◌, ◌<◌, length, replicate, slice_index, slice_set};
+ghost use Rattle.std.specs.Prelude.{◌≡◌, ◌≢◌, ◌<◌, length, replicate, slice_index, slice_set};
 ghost use Rattle.isa_spec.specs.Registers.{Registers, register, with_register, with_pc, same_registers};
 ghost use Rattle.std.proofs.Common.{rules};
 ghost use Rattle.std.specs.Cmp.Rules.{comparing};
@@ -102,6 +102,17 @@ impl Regs {
         if n != 0 {
             self.x[usize::from(n)] = value;
         }
+    }
+
+    /// Writes register `n`, which isn't x0.
+    #[inline(always)]
+    #[tactic(auto, unfolding(isa_spec::specs::Registers::with_register))]
+    pub fn write(&mut self, n: u8, value: u32)
+        requires among { n < 32 }
+        requires writable { n ≢ 0 }
+        ensures { self.new ≡ with_register self.old n value }
+    {
+        self.x[usize::from(n)] = value;
     }
 
     /// x0 to x31. That there are 32, and that x0 is zero, is what a caller learns of any registers.

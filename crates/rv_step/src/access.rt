@@ -18,7 +18,7 @@ use thunk_spec::Outcome;
 
 /// How many bytes a load moves.
 #[inline(always)]
-fn size_loaded(kind: Load) -> Size
+pub(super) fn size_loaded(kind: Load) -> Size
     ensures { result ≡ load_size kind }
 {
     match kind {
@@ -30,7 +30,7 @@ fn size_loaded(kind: Load) -> Size
 
 /// How many bytes a store moves.
 #[inline(always)]
-fn size_stored(kind: Store) -> Size
+pub(super) fn size_stored(kind: Store) -> Size
     ensures { result ≡ store_size kind }
 {
     match kind {
@@ -42,7 +42,7 @@ fn size_stored(kind: Store) -> Size
 
 /// Whether an address is a multiple of the number of bytes.
 #[inline(always)]
-fn is_aligned(address: u32, size: Size) -> bool
+pub(super) fn is_aligned(address: u32, size: Size) -> bool
     ensures { result ≡ (address % byte_count size == 0) }
 {
     match size {
@@ -54,7 +54,7 @@ fn is_aligned(address: u32, size: Size) -> bool
 
 /// The word that a load puts into its register: LB and LH copy the sign upwards.
 #[inline(always)]
-fn extended(kind: Load, value: u32) -> u32
+pub(super) fn extended(kind: Load, value: u32) -> u32
     requires { value < 2 ^ (8 * byte_count (load_size kind)) }
     ensures { result ≡ load_result kind value }
 {

@@ -3,10 +3,17 @@
 #![tactic(auto)]
 
 mod access;
+mod computing;
 mod control;
+mod executing;
+mod jumping;
+mod moving;
+mod page;
+mod placed;
 mod turn;
 
 pub use isa_spec::Cause;
+pub use page::{Left, Ran, run_page};
 pub use page_map::Mem;
 pub use rv_alu::Regs;
 pub use thunk_spec::Outcome;

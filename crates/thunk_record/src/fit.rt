@@ -4,12 +4,13 @@ ghost use Rattle.std.specs.Prelude.{◌≡◌};
 ghost use Rattle.std.specs.Str.{bytes_eq};
 ghost use Rattle.memory_spec.specs.Pages.{page_of};
 ghost use Rattle.record_spec.specs.Reads.{has};
-ghost use Rattle.record_spec.specs.Record.{fits_at};
+ghost use Rattle.record_spec.specs.Record.{fits_at, may_end};
 
 use super::kept::Record;
 use page_store::PageTable;
 use rv_alu::Regs;
 use store_mask::ReadPage;
+use thunk_spec::ThunkEnd;
 
 /// Whether a view has the bytes of a read page. One past its end it hasn't.
 #[tactic(auto, using(crate::proofs::Past::no_bytes))]
@@ -37,12 +38,28 @@ fn has_pages(table: &PageTable, reads: &[ReadPage]) -> bool
     true
 }
 
-/// Whether a record stands for the next thunk of a thread that has made `number` steps, and has
-/// these registers and this view: it is of the same number, its first registers are these, and the
-/// view has the bytes of each of its read pages. Takes no memory.
-#[tactic(auto, unfolding(record_spec::specs::Record::fits_at))]
-pub fn fits(rec: &Record, number: u32, regs: &Regs, table: &PageTable) -> bool
-    ensures { result ≡ fits_at rec.now number regs.now table.now }
+/// Whether a thunk of this fuel may have ended so after so many turns: they are no more than the
+/// fuel, and just as many where the fuel ended it.
+#[tactic(auto, unfolding(record_spec::specs::Record::may_end))]
+fn is_within_fuel(fuel: u32, end: ThunkEnd, count: u32) -> bool
+    ensures { result ≡ may_end fuel end count }
 {
-    rec.number() == number && rec.start() == regs && has_pages(table, rec.reads().pages())
+    match end {
+        ThunkEnd::Call | ThunkEnd::Trap(_) => count <= fuel,
+        ThunkEnd::Fuel => count == fuel,
+    }
+}
+
+/// Whether a record stands for the next thunk of a thread that has made `number` steps, and has
+/// these registers and this view, in a run of this fuel: it is of the same number, its first
+/// registers are these, the view has the bytes of each of its read pages, and a thunk of this fuel
+/// may have ended as it did. Takes no memory.
+#[tactic(auto, unfolding(record_spec::specs::Record::fits_at))]
+pub fn fits(rec: &Record, number: u32, regs: &Regs, table: &PageTable, fuel: u32) -> bool
+    ensures { result ≡ fits_at rec.now number regs.now table.now fuel }
+{
+    rec.number() == number
+        && rec.start() == regs
+        && has_pages(table, rec.reads().pages())
+        && is_within_fuel(fuel, rec.end(), rec.count())
 }

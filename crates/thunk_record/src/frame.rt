@@ -6,14 +6,17 @@ ghost use Rattle.std.specs.Cmp.{partial_equiv_from_equiv};
 ghost use Rattle.thunk_record.specs.Equal.{is_same_frame, is_same_frame-equiv};
 
 use page_map::PageMap;
+use rv_code::Code;
 use std::marker::Model;
 use std::sync::Arc;
 
-/// The page map of a run, and the most turns of one thunk. A clause sees a `Frame` of `thunk_spec`.
+/// The page map of a run, and the most turns of one thunk; and decoded pages, which make its turns faster, and mean
+/// nothing. A clause sees a `Frame` of `thunk_spec`.
 #[derive(Drop)]
 pub struct Frame {
     pages: Arc<PageMap>,
     turns: u32,
+    decoded: Arc<Code>,
 }
 
 impl Model for Frame {
@@ -26,13 +29,14 @@ impl Model for Frame {
 }
 
 impl Frame {
-    /// The frame of this page map and this fuel.
-    pub fn new(map: Arc<PageMap>, fuel: u32) -> Frame
+    /// The frame of this page map and this fuel, with these decoded pages.
+    pub fn new(map: Arc<PageMap>, fuel: u32, code: Arc<Code>) -> Frame
         ensures { result ≡ record { map = arc_value map; fuel = fuel } }
     {
         Frame {
             pages: map,
             turns: fuel,
+            decoded: code,
         }
     }
 
@@ -58,6 +62,12 @@ impl Frame {
         ensures { result ≡ self.now.fuel }
     {
         self.turns
+    }
+
+    /// The decoded pages, by slot. Nothing is said of them: who uses one looks whether a view has its bytes.
+    #[inline(always)]
+    pub fn code(&self) -> &Code {
+        &self.decoded
     }
 }
 

@@ -1,5 +1,5 @@
 -- How many turns a thunk makes.
-use Rattle.std.proofs.Common.{◌≡◌, ◌≤◌, ℕ, zero, suc, List, arith, refl}
+use Rattle.std.proofs.Common.{◌≤◌, ℕ, zero, suc, List, arith}
 use Rattle.isa_spec.specs.Registers.{Registers}
 use Rattle.memory_spec.specs.Pages.{Mapped, Memory}
 use Rattle.memory_spec.specs.Stores.{laid}

@@ -71,7 +71,8 @@ followed-trap :
     → o ≡ outcome.Trap cause → followed o map memory t rest ≡ last_turn (thunk_end.Trap cause) t
 followed-trap o cause map memory t rest e = rw e refl
 
-counted-twice : (a b : ℕ) (l : Left) → counted a (counted b l) ≡ counted (a + b) l
+-- turns that were counted in two parts
+pub counted-twice : (a b : ℕ) (l : Left) → counted a (counted b l) ≡ counted (a + b) l
 counted-twice a b l = ap (λ (n : ℕ). record l { count = n }) (sym (add_assoc a b l.count))
 
 -- one turn more was made, and its thunk goes on

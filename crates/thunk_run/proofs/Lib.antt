@@ -1,5 +1,6 @@
 -- The files of lemmas of this crate.
 pub mod Leaving
+pub mod Entering
 pub mod Keeping
 pub mod Counting
 pub mod Ends

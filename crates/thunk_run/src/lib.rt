@@ -2,6 +2,7 @@
 #![tactic(auto)]
 
 mod job;
+mod pages;
 mod put;
 mod running;
 mod turns;
@@ -10,5 +11,7 @@ pub use job::{Job, Run};
 pub use put::{Range, appends_all, put_range};
 pub use running::execute;
 
+#[cfg(test)]
+mod random_guests;
 #[cfg(test)]
 mod tests;

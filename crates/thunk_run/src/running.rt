@@ -51,7 +51,7 @@ fn run_thunk<L: Ledger>(alloc: Global, job: &Job, turns: &mut Turns<L>) -> Resul
 {
     let mut space = Space::new(alloc, &job.view, job.frame.shared_map())?;
     let mut regs = job.regs;
-    let turned = make_thunk(&job.frame, &mut regs, &mut space, turns)?;
+    let turned = make_thunk(alloc, &job.frame, &mut regs, &mut space, turns)?;
     let reads = space.reads()?;
     let delta = space.into_delta()?;
     Ok(Kept {

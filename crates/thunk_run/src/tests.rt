@@ -6,6 +6,7 @@ use crate::{Job, Run, execute};
 use page_map::{MappedPage, PageMap, Perm};
 use page_store::{Page, PageTable};
 use rv_alu::Regs;
+use rv_code::Code;
 use std::alloc::{AllocError, Global};
 use std::marker::Brand;
 use std::sync::Arc;
@@ -42,10 +43,11 @@ fn job_of(alloc: Global, code: &[u8], fuel: u32) -> Result<Job, AllocError> {
         MappedPage::new(0x11, Perm::R | Perm::W),
     ]?;
     let map = Arc::new(alloc, PageMap::new(pages))?;
-    let frame = Arc::new(alloc, Frame::new(map, fuel))?;
     let mut table = PageTable::empty(alloc);
     table.push(Page::new(bytes))?;
     table.push(Page::zero())?;
+    let code = Arc::new(alloc, Code::of(alloc, &map, &table)?)?;
+    let frame = Arc::new(alloc, Frame::new(map, fuel, code))?;
     let view = Arc::new(alloc, table)?;
     Ok(Job::new(frame, 3, 7, Regs::new(0x10000), view))
 }
@@ -65,7 +67,7 @@ fn counted<R: Threads, L: Ledger>(
 }
 
 /// A job run, with nobody who looks at the counter.
-fn uncounted<R: Threads>(rt: &R, alloc: Global, job: &Job) -> Result<Run, AllocError> {
+pub(super) fn uncounted<R: Threads>(rt: &R, alloc: Global, job: &Job) -> Result<Run, AllocError> {
     counted::<R, Brand>(rt, alloc, job, Blank::new(1))
 }
 
@@ -79,8 +81,8 @@ fn put_ends_the_first_thunk(rt: HostRuntime) -> Result<(), AllocError> {
     assert_eq!(rt; run.rec.finish().pc(), 0x10010);
     assert_eq!(rt; run.rec.reads().pages().len(), 1);
     assert!(rt; run.rec.delta().pages().is_empty());
-    assert!(rt; fits(&run.rec, 7, &job.regs, &job.view));
-    assert!(rt; !fits(&run.rec, 8, &job.regs, &job.view));
+    assert!(rt; fits(&run.rec, 7, &job.regs, &job.view, 100));
+    assert!(rt; !fits(&run.rec, 8, &job.regs, &job.view, 100));
     let short = job_of(rt.alloc(), &HI, 4)?;
     let run = uncounted(&rt, rt.alloc(), &short)?;
     assert_eq!(rt; run.rec.count(), 4);

@@ -3,11 +3,12 @@
 ghost use Rattle.std.specs.Prelude.{◌≡◌, ◌+◌, ◌≤◌, IfOk};
 ghost use Rattle.thunk_run.specs.Left.{Left, left_after, with_put_taken};
 
+use super::pages::{Seen, run_pages};
 use super::put::{put_range, take_range};
 use page_map::Mem;
 use rv_alu::Regs;
 use rv_step::step;
-use std::alloc::AllocError;
+use std::alloc::{AllocError, Global};
 use std::sync::ledger::Ledger;
 use thunk_record::Frame;
 use thunk_spec::{Outcome, ThunkEnd};
@@ -22,26 +23,35 @@ pub(super) struct Turned {
     pub count: u32,
 }
 
-/// Makes turns up to the first that calls or traps, or as many as the fuel allows. The counter rises
-/// by the number of turns.
+/// Makes turns up to the first that calls or traps, or as many as the fuel allows: from decoded pages where they can be
+/// run from, else one at a time. The counter rises by the number of turns.
 ///
 /// # Errors
 ///
 /// An error where the host's memory ran out.
 pub(super) fn make_turns<M: Mem, L: Ledger>(
+    alloc: Global,
+    frame: &Frame,
     regs: &mut Regs,
     mem: &mut M,
-    fuel: u32,
     turns: &mut Turns<L>,
 ) -> Result<Turned, AllocError>
     ensures cost { IfOk result (λ turned. turns.new ≡ turns.old + turned.count) }
     ensures never_lower { turns.old ≤ turns.new }
     ensures left { IfOk result (λ turned.
         record { regs = regs.new; end = turned.end; count = turned.count; workspace = M.workspace mem.new }
-        ≡ left_after fuel (M.workspace mem.old) regs.old) }
+        ≡ left_after frame.now.fuel (M.workspace mem.old) regs.old) }
 {
+    let fuel = frame.fuel();
+    let code = frame.code();
+    let mut slots = vec![in alloc; Seen::Nothing; frame.map().len()]?;
+    let seen = slots.as_mut_slice();
     let mut count = 0;
     while count < fuel {
+        count += run_pages(regs, mem, code, seen, fuel - count, turns)?;
+        if count == fuel {
+            break;
+        }
         count += 1;
         match step(regs, mem, turns)? {
             Outcome::Next => {}
@@ -71,6 +81,7 @@ pub(super) fn make_turns<M: Mem, L: Ledger>(
 ///
 /// An error where the host's memory ran out.
 pub(super) fn make_thunk<M: Mem, L: Ledger>(
+    alloc: Global,
     frame: &Frame,
     regs: &mut Regs,
     mem: &mut M,
@@ -83,7 +94,7 @@ pub(super) fn make_thunk<M: Mem, L: Ledger>(
         record { regs = regs.new; end = turned.end; count = turned.count; workspace = M.workspace mem.new }
         ≡ with_put_taken (left_after frame.now.fuel (M.workspace mem.old) regs.old)) }
 {
-    let turned = make_turns(regs, mem, frame.fuel(), turns)?;
+    let turned = make_turns(alloc, frame, regs, mem, turns)?;
     let range = put_range(frame.map(), turned.end, regs);
     take_range(mem, range)?;
     Ok(turned)

@@ -1,13 +1,17 @@
 -- What holds at the loop of `make_turns`.
-use Rattle.std.proofs.Common.{◌-◌, ◌+◌, ◌≡◌}
+use Rattle.std.proofs.Common.{◌≡◌, ◌+◌, ◌-◌, ◌≤◌}
 use Rattle.thunk_run.specs.Left.{left_after, counted}
+use Rattle.thunk_run.specs.Seeing.{AreSeen}
 use Rattle.thunk_run.proofs.turns.make_turns.Given as goal
 
 abbrev pub invariant-loop-count : goal.invariant-loop-count
-invariant-loop-count g l =
-    (counted l.count (left_after (l.fuel - l.count) (g.M.Mem.workspace l.mem) l.regs)
-    ≡ left_after l.fuel (g.M.Mem.workspace l.fn.mem) l.fn.regs)
-    × (l.turns ≡ l.fn.turns + l.count)
+invariant-loop-count g l = record {
+  few : l.count ≤ l.fuel;
+  counter : l.turns ≡ l.fn.turns + l.count;
+  seen : AreSeen l.code (g.M.Mem.workspace l.mem).view l.seen;
+  left : counted l.count (left_after (l.fuel - l.count) (g.M.Mem.workspace l.mem) l.regs)
+      ≡ left_after l.fuel (g.M.Mem.workspace l.fn.mem) l.fn.regs;
+}
 
 abbrev pub decreases-loop-count : goal.decreases-loop-count
 decreases-loop-count g l = l.fuel - l.count

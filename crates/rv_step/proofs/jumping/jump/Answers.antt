@@ -1,0 +1,20 @@
+-- What is left to prove of `jump`.
+use Rattle.std.proofs.Common.{◌<◌, refl}
+use Rattle.isa_spec.specs.declared.Instr.TheVariants as instr
+use Rattle.rv_code.specs.Meaning.{offset_to}
+use Rattle.rv_step.specs.Paging.{word_at, at_word}
+use Rattle.rv_step.proofs.Words.{inside-leads, offset-leads, word_at-aligned, linked-zero}
+use Rattle.rv_step.proofs.jumping.jump.Goals as goal
+
+pub returns : goal.returns
+returns c =
+    let p = c.args.placed in
+    let inside : p.imm < 1024 = p.inside c.requires.inside in
+    inside-leads p c.args.regs.now c.args.regs.now p.imm
+    (instr.Jal 0 (offset_to (word_at p.number p.index) p.imm)) c.requires.stands inside
+    (λ w.
+    rw (
+      linked-zero (at_word p.number p.index c.args.regs.now),
+      offset-leads p.number p.index p.imm p.few_pages (p.within c.requires.inside) inside,
+      word_at-aligned p.number p.imm,
+    ) refl)

@@ -1,0 +1,113 @@
+-- What is left to prove of `run_page`.
+use Rattle.std.proofs.Common.{◌≡◌, ◌+◌, ◌-◌, ◌<◌, refl, arith}
+use Rattle.isa_spec.specs.Registers.{with_pc}
+use Rattle.rv_step.specs.Paging.{at_word}
+use Rattle.rv_step.proofs.Pages.{placed-within, placed-more}
+use Rattle.rv_step.proofs.page.run_page.Goals as goal
+
+pub turns-preserved-in-Ok-Next : goal.turns-preserved-in-Ok-Next
+turns-preserved-in-Ok-Next g c =
+    let page = c.args.page.now in
+    let p = c.operation_at-placed.result in
+    let here = c.operation_at-placed.ensures in
+    let w = g.M.Mem.workspace c.turns.mem in
+    let after = g.M.Mem.workspace c.execute_operation.new.mem in
+    let registers = at_word p.number (p.index + 1) c.execute_operation.new.regs in
+    let led = rw c.in-Ok-Next.field-0-is at c.in-Ok-Next.ensures in
+    let within : c.turns.index < 1024 = placed-within page p c.turns.index w after c.turns.regs registers here.code
+    here.operation here.number here.index c.turns.invariant.within led.0 in
+    let more = placed-more page p c.turns.index (c.turns.ahead + c.turns.index - 1024)
+    (c.turns.ahead + (c.turns.index + 1) - 1024) (g.M.Mem.workspace c.args.mem.now) w after c.args.regs.now c.turns.regs
+    registers here.code here.operation here.number here.index c.turns.invariant.runs c.as_array-zero.ensures.zero
+    c.turns.invariant.follow within (omega arith) led.0 in
+    let same : registers ≡ at_word page.number (c.turns.index + 1) c.execute_operation.new.regs =
+    rw (here.number, here.index) refl in
+    record {
+      within = omega arith;
+      some = omega arith;
+      few = c.turns.invariant.few;
+      counted = c.turns.invariant.counted;
+      runs = (rw here.number at led.1) page.bytes c.turns.invariant.runs;
+      follow = rw (← same) more;
+    }
+
+pub turns-preserved : goal.turns-preserved
+turns-preserved g c =
+    let page = c.args.page.now in
+    let p = c.operation_at-placed.result in
+    let here = c.operation_at-placed.ensures in
+    let w = g.M.Mem.workspace c.turns.mem in
+    let after = g.M.Mem.workspace c.execute_operation.new.mem in
+    let target = c.in-Ok-Inside.target in
+    let registers = at_word p.number target c.execute_operation.new.regs in
+    let led = rw c.in-Ok-Inside.field-0-is at c.in-Ok-Inside.ensures in
+    let within : c.turns.index < 1024 = placed-within page p c.turns.index w after c.turns.regs registers here.code
+    here.operation here.number here.index c.turns.invariant.within led.0 in
+    let inside : target < 1024 = led.2 in
+    let more = placed-more page p c.turns.index (c.turns.ahead + c.turns.index - 1024)
+    (c.turns.ahead - (1023 - c.turns.index) + (1024 - target) + target - 1024) (g.M.Mem.workspace c.args.mem.now) w
+    after
+    c.args.regs.now c.turns.regs
+    registers here.code here.operation here.number here.index c.turns.invariant.runs c.as_array-zero.ensures.zero
+    c.turns.invariant.follow within (omega arith) led.0 in
+    let same : registers ≡ at_word page.number target c.execute_operation.new.regs =
+    rw here.number refl in
+    record {
+      within = omega arith;
+      some = omega arith;
+      few = omega arith;
+      counted = c.turns.invariant.counted;
+      runs = (rw here.number at led.1) page.bytes c.turns.invariant.runs;
+      follow = rw (← same) more;
+    }
+
+pub returns-then-made-room-clause-turns : goal.returns-then-made-room-clause-turns
+returns-then-made-room-clause-turns g c =
+    let page = c.args.page.now in
+    let p = c.operation_at-placed.result in
+    let here = c.operation_at-placed.ensures in
+    let w = g.M.Mem.workspace c.turns.mem in
+    let after = g.M.Mem.workspace c.execute_operation.new.mem in
+    let registers = at_word p.number c.in-Ok-Inside.target c.execute_operation.new.regs in
+    let led = rw c.in-Ok-Inside.field-0-is at c.in-Ok-Inside.ensures in
+    let within : c.turns.index < 1024 = placed-within page p c.turns.index w after c.turns.regs registers here.code
+    here.operation here.number here.index c.turns.invariant.within led.0 in
+    rw (c.leave.ensures.registers, c.address_of-pc.ensures)
+    (placed-more page p c.turns.index (c.turns.ahead + c.turns.index - 1024) c.leave.result.count
+    (g.M.Mem.workspace c.args.mem.now) w after c.args.regs.now c.turns.regs registers here.code here.operation
+    here.number here.index c.turns.invariant.runs c.as_array-zero.ensures.zero c.turns.invariant.follow within
+    (omega arith) led.0)
+
+pub returns-in-Ok-Outside-clause-turns : goal.returns-in-Ok-Outside-clause-turns
+returns-in-Ok-Outside-clause-turns g c =
+    let page = c.args.page.now in
+    let p = c.operation_at-placed.result in
+    let here = c.operation_at-placed.ensures in
+    let w = g.M.Mem.workspace c.turns.mem in
+    let after = g.M.Mem.workspace c.execute_operation.new.mem in
+    let registers = with_pc c.execute_operation.new.regs c.in-Ok-Outside.target in
+    let led = rw c.in-Ok-Outside.field-0-is at c.in-Ok-Outside.ensures in
+    let within : c.turns.index < 1024 = placed-within page p c.turns.index w after c.turns.regs registers here.code
+    here.operation here.number here.index c.turns.invariant.within led in
+    rw c.leave-in-Ok-Outside.ensures.registers
+    (placed-more page p c.turns.index (c.turns.ahead + c.turns.index - 1024) c.leave-in-Ok-Outside.result.count
+    (g.M.Mem.workspace c.args.mem.now) w after c.args.regs.now c.turns.regs registers here.code here.operation
+    here.number here.index c.turns.invariant.runs c.as_array-zero.ensures.zero c.turns.invariant.follow within
+    (omega arith) led)
+
+pub returns-in-Ok-Changed-clause-turns : goal.returns-in-Ok-Changed-clause-turns
+returns-in-Ok-Changed-clause-turns g c =
+    let page = c.args.page.now in
+    let p = c.operation_at-placed.result in
+    let here = c.operation_at-placed.ensures in
+    let w = g.M.Mem.workspace c.turns.mem in
+    let after = g.M.Mem.workspace c.execute_operation.new.mem in
+    let registers = at_word p.number (p.index + 1) c.execute_operation.new.regs in
+    let led = rw c.in-Ok-Changed.field-0-is at c.in-Ok-Changed.ensures in
+    let within : c.turns.index < 1024 = placed-within page p c.turns.index w after c.turns.regs registers here.code
+    here.operation here.number here.index c.turns.invariant.within led in
+    rw (c.leave-in-Ok-Changed.ensures.registers, c.address_of-pc-in-Ok-Changed.ensures, ← here.index)
+    (placed-more page p c.turns.index (c.turns.ahead + c.turns.index - 1024) c.leave-in-Ok-Changed.result.count
+    (g.M.Mem.workspace c.args.mem.now) w after c.args.regs.now c.turns.regs registers here.code here.operation
+    here.number here.index c.turns.invariant.runs c.as_array-zero.ensures.zero c.turns.invariant.follow within
+    (omega arith) led)

@@ -1,0 +1,137 @@
+//! Turns made from a decoded page.
+
+ghost use Rattle.std.specs.Prelude.{◌≡◌, ◌+◌, ◌/◌, ◌%◌, ◌≤◌, IfOk, slice_index_or};
+ghost use Rattle.isa_spec.specs.Registers.{with_pc};
+ghost use Rattle.page_map.specs.Entering.{RunsFrom};
+ghost use Rattle.rv_code.specs.Meaning.{IsCodeOf, other};
+ghost use Rattle.rv_step.specs.Paging.{operation_of};
+ghost use Rattle.rv_step.specs.Step.{Follow};
+ghost use Rattle.rv_step.specs.declared.page.Left.TheVariants as left;
+
+use super::executing::execute_operation;
+use super::jumping::address_of;
+use super::placed::{Flow, Placed};
+use page_map::Mem;
+use rv_alu::Regs;
+use rv_code::CodePage;
+use std::alloc::AllocError;
+use std::sync::ledger::Ledger;
+use turn_count::Turns;
+
+/// Why turns in a page ended.
+#[derive(Clone, Copy, PartialEq, Eq)]
+pub enum Left {
+    /// A jump led out of the page, or was made where the room had got short; or a store changed the page.
+    Jumped,
+    /// The next turn is one for `step`.
+    Other,
+}
+
+/// Turns that were made in a page.
+#[derive(Clone, Copy)]
+pub struct Ran {
+    /// Why they ended.
+    pub left: Left,
+    /// How many they were.
+    pub count: u32,
+}
+
+/// The operation of an index in a page of a number.
+#[inline(always)]
+fn operation_at(page: &CodePage, number: u32, index: usize) -> Placed
+    requires within { index ≤ 1024 }
+    requires number { number ≡ page.now.number }
+    ensures operation { operation_of result ≡ slice_index_or page.now.operations index other }
+    ensures number { result.number ≡ page.now.number }
+    ensures index { result.index ≡ index }
+    ensures code { IsCodeOf page.now }
+{
+    let operation = page.operation(index);
+    Placed {
+        kind: operation.kind,
+        rd: operation.rd,
+        rs1: operation.rs1,
+        rs2: operation.rs2,
+        imm: operation.imm,
+        number,
+        index,
+    }
+}
+
+/// Ends turns in a page: so many were made, and the next is at this pc.
+#[inline(always)]
+fn leave<L: Ledger>(regs: &mut Regs, turns: &mut Turns<L>, left: Left, count: u32, pc: u32) -> Ran
+    ensures left { result.left ≡ left }
+    ensures count { result.count ≡ count }
+    ensures registers { regs.new ≡ with_pc regs.old pc }
+    ensures cost { turns.new ≡ turns.old + count }
+{
+    regs.set_pc(pc);
+    turns.count(count);
+    Ran { left, count }
+}
+
+/// Makes turns from a decoded page, whose instructions may be run: up to one that leads out of it, a store to it, or a
+/// turn that is left to `step`, and no more than there is room for. The counter rises by the number of turns.
+///
+/// # Errors
+///
+/// An error where the host's memory ran out; the counter may have risen, and registers and memory are of no use then.
+#[inline(never)]
+pub fn run_page<M: Mem, L: Ledger>(
+    regs: &mut Regs,
+    mem: &mut M,
+    page: &CodePage,
+    room: u32,
+    turns: &mut Turns<L>,
+) -> Result<Ran, AllocError>
+    requires here { regs.old.pc / 4096 ≡ page.now.number }
+    requires aligned { regs.old.pc % 4 ≡ 0 }
+    requires runs { RunsFrom (M.workspace mem.old) page.now.number page.now.bytes }
+    requires room { 1024 ≤ room }
+    ensures turns { IfOk result (λ ran.
+        Follow ran.count (M.workspace mem.old) regs.old (M.workspace mem.new) regs.new) }
+    ensures few { IfOk result (λ ran. ran.count ≤ room) }
+    ensures cost { IfOk result (λ ran. turns.new ≡ turns.old + ran.count) }
+    ensures never_lower { turns.old ≤ turns.new }
+    ensures jumped { IfOk result (λ ran. ran.left ≡ left.Jumped → 1 ≤ ran.count) }
+{
+    let number = page.number();
+    let mut index = (regs.pc() % 4096 / 4) as usize;
+    let mut ahead = 1024 - index as u32;
+    'turns: loop {
+        let placed = operation_at(page, number, index);
+        let _zero = regs.as_array();
+        match execute_operation(placed, regs, mem) {
+            Ok(Flow::Next) => index += 1,
+            Ok(Flow::Inside(target)) => {
+                let made = ahead - (1023 - index as u32);
+                if made > room - 1024 {
+                    let pc = address_of(placed.number, target as usize);
+                    return Ok(leave(regs, turns, Left::Jumped, made, pc));
+                }
+                ahead = made + (1024 - target);
+                index = target as usize;
+            }
+            Ok(Flow::Outside(target)) => {
+                let made = ahead - (1023 - index as u32);
+                return Ok(leave(regs, turns, Left::Jumped, made, target));
+            }
+            Ok(Flow::Changed) => {
+                let made = ahead - (1023 - index as u32);
+                let pc = address_of(placed.number, index + 1);
+                return Ok(leave(regs, turns, Left::Jumped, made, pc));
+            }
+            Ok(Flow::Other) => {
+                let made = ahead - (1024 - index as u32);
+                let pc = address_of(placed.number, index);
+                return Ok(leave(regs, turns, Left::Other, made, pc));
+            }
+            Err(error) => {
+                turns.count(ahead - (1024 - index as u32));
+                turns.count(1);
+                return Err(error);
+            }
+        }
+    }
+}

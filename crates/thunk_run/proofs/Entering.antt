@@ -1,0 +1,130 @@
+-- Entering a page changes nothing of what turns leave, and turns that follow leave what the model's leave.
+use Rattle.std.proofs.Common.{◌≡◌, ℕ, ◌+◌, ◌-◌, ◌*◌, ◌/◌, ◌%◌, ◌≤◌, zero, suc, Bool, true, set, List, [], ◌∷◌, ◌++◌, subst, ap, sym, ◌∙◌, refl, eq-eqb, arith}
+use Rattle.std.proofs.lemmas.List.{set-set}
+use Rattle.isa_spec.specs.Registers.{Registers}
+use Rattle.isa_spec.specs.Table.{decoded}
+use Rattle.memory_spec.specs.declared.Size.TheVariants.{Four}
+use Rattle.memory_spec.specs.Access.{number_at, fetched}
+use Rattle.memory_spec.specs.Pages.{Mapped, Memory, allows, execute_right, permission_at, page_of, slot_of}
+use Rattle.memory_spec.specs.Stores.{laid}
+use Rattle.memory_spec.specs.Workspace.{Workspace, taken_at, after_taking, after_storing}
+use Rattle.thunk_spec.specs.declared.ends.Outcome.{Outcome}
+use Rattle.thunk_spec.specs.declared.ends.Outcome.TheVariants as outcome
+use Rattle.thunk_spec.specs.Turn.{Turn, turn, word_turn, with_fetch}
+use Rattle.thunk_spec.specs.Thunk.{Thunk, turns, followed}
+use Rattle.page_map.specs.Entering.{Enters, RunsFrom}
+use Rattle.rv_step.specs.Step.{Makes, Follow}
+use Rattle.rv_step.proofs.Pages.{slot_of-page, permission_at-page}
+use Rattle.thunk_run.specs.Left.{Left, left_by, left_after, counted}
+use Rattle.thunk_run.proofs.Leaving.{counted-twice, turns-next}
+
+-- a turn at a page that may be executed begins with its fetch
+turn-fetches :
+    (map : List Mapped) (memory : Memory) (r : Registers)
+    → r.pc % 4 ≡ 0 → allows execute_right (permission_at map r.pc) ≡ true
+    → turn map memory r
+    ≡ with_fetch r.pc (word_turn map memory r (decoded (number_at map memory r.pc Four)))
+unfolding turn fetched
+turn-fetches map memory r aligned permitted = rw (eq-eqb (r.pc % 4) 0 aligned, permitted) refl
+
+-- the pages of a turn come first in its thunk
+followed-takes :
+    (o : Outcome) (map : List Mapped) (memory : Memory) (address : ℕ) (t : Turn) (rest : Memory → Registers → Thunk)
+    → (addresses : List ℕ) × (followed o map memory (with_fetch address t) rest).taken ≡ address ∷ addresses
+followed-takes outcome.Next map memory address t rest =
+    (t.taken ++ (rest (laid map memory t.stores) t.regs).taken, refl)
+followed-takes outcome.Call map memory address t rest = (t.taken, refl)
+followed-takes (outcome.Trap cause) map memory address t rest = (t.taken, refl)
+
+-- turns at a page that may be executed take a byte of it first
+turns-take :
+    (map : List Mapped) (memory : Memory) (r : Registers) (n : ℕ)
+    → r.pc % 4 ≡ 0 → allows execute_right (permission_at map r.pc) ≡ true
+    → (addresses : List ℕ) × (turns map (suc n) memory r).taken ≡ r.pc ∷ addresses
+turns-take map memory r n aligned permitted =
+    let first = word_turn map memory r (decoded (number_at map memory r.pc Four)) in
+    let is = turn-fetches map memory r aligned permitted in
+    let P : Turn → Type 0 =
+    λ t. (addresses : List ℕ) × (followed t.outcome map memory t (turns map n)).taken ≡ r.pc ∷ addresses in
+    subst P (sym is) (followed-takes first.outcome map memory r.pc first (turns map n))
+
+-- what is taken first may be taken before
+taken-before :
+    (w : Workspace) (address : ℕ) (t : Thunk)
+    → ((addresses : List ℕ) × t.taken ≡ address ∷ addresses)
+    → left_by (after_taking w (address ∷ [])) t ≡ left_by w t
+taken-before w address t (addresses, is) =
+    let marks : taken_at w.map (set w.taken (slot_of w.map address) true) t.taken ≡ taken_at w.map w.taken t.taken =
+    rw is
+    (ap (λ (taken : List Bool). taken_at w.map taken addresses) (set-set w.taken (slot_of w.map address) true true)) in
+    ap (λ (taken : List Bool). record {
+      regs = t.regs;
+      end = t.end;
+      count = t.count;
+      workspace = after_storing (record w { taken = taken }) t.stores;
+    }) marks
+
+-- a page that was entered leaves what it leaves where it wasn't
+pub entered-left :
+    (w after : Workspace) (r : Registers) (pc slot n : ℕ) → pc ≡ r.pc → Enters w pc slot after → pc % 4 ≡ 0 → 1 ≤ n
+    → left_after n after r ≡ left_after n w r
+entered-left w after r pc slot zero here enters aligned some = absurd (omega arith)
+entered-left w after r pc slot (suc n) here enters aligned some =
+    let permitted : allows execute_right (permission_at w.map r.pc) ≡ true = rw (← here) enters.permitted in
+    let P : Workspace → Type 0 = λ v. left_after (suc n) v r ≡ left_after (suc n) w r in
+    subst P (sym (enters.taken ∙ ap (λ (address : ℕ). after_taking w (address ∷ [])) here))
+    (taken-before w r.pc (turns w.map (suc n) w.memory r) (turns-take w.map w.memory r n (omega arith) permitted))
+
+-- a page that was entered, and whose bytes the view shows, may be run from
+pub entered-runs :
+    (w after : Workspace) (pc slot number : ℕ) (bytes : List ℕ) → Enters w pc slot after → pc / 4096 ≡ number
+    → page_of after.view slot ≡ bytes → RunsFrom after number bytes
+entered-runs w after pc slot number bytes enters here shown =
+    let permission : permission_at w.map (number * 4096) ≡ permission_at w.map pc =
+    permission_at-page w.map (number * 4096) pc (omega arith) in
+    let same : slot_of w.map (number * 4096) ≡ slot_of w.map pc = slot_of-page w.map (number * 4096) pc (omega arith) in
+    rw enters.taken
+    record {
+      permitted = rw permission enters.permitted;
+      bytes_are =
+          rw (same, ← enters.slot_is)
+          (enters.unchanged ∙ ap (λ (v : Workspace). page_of v.view slot) (sym enters.taken) ∙ shown);
+      taken = rw same (set-set w.taken (slot_of w.map pc) true true);
+    }
+
+-- turns that follow leave what the turns of the model leave
+pub follow-left :
+    (n fuel count k : ℕ) (w after : Workspace) (r registers : Registers)
+    → Follow n w r after registers → count + n ≤ fuel → k ≡ count + n
+    → counted k (left_after (fuel - k) after registers) ≡ counted count (left_after (fuel - count) w r)
+follow-left zero fuel count k w after r registers (same, still) few is =
+    let at : k ≡ count = omega arith in
+    rw (at, same, still) refl
+follow-left (suc n) fuel count k w after r registers (middle, between, made, rest) few is =
+    follow-left n fuel (count + 1) k middle after between registers rest (omega arith) (omega arith)
+    ∙ turns-next fuel count w middle r between outcome.Next (omega arith) made refl
+
+-- and they leave the view
+pub follow-view :
+    (n : ℕ) (w after : Workspace) (r registers : Registers) → Follow n w r after registers → after.view ≡ w.view
+follow-view zero w after r registers (same, still) = rw same refl
+follow-view (suc n) w after r registers (middle, between, made, rest) =
+    follow-view n middle after between registers rest ∙ rw made.workspace_is refl
+
+-- a turn leaves the view
+pub turn-view :
+    {t : Turn} (w after : Workspace) (o : Outcome) (registers : Registers) → Makes t w o registers after
+    → after.view ≡ w.view
+turn-view w after o registers made = rw made.workspace_is refl
+
+-- turns that leave what the rest leaves, after others that do
+pub left-more :
+    (fuel count more : ℕ) (w after : Workspace) (r registers : Registers) (whole : Left)
+    → counted more (left_after (fuel - count - more) after registers) ≡ left_after (fuel - count) w r
+    → counted count (left_after (fuel - count) w r) ≡ whole
+    → counted (count + more) (left_after (fuel - (count + more)) after registers) ≡ whole
+left-more fuel count more w after r registers whole then first =
+    let rest : fuel - (count + more) ≡ fuel - count - more = omega arith in
+    rw rest
+    (sym (counted-twice count more (left_after (fuel - count - more) after registers))
+    ∙ ap (counted count) then ∙ first)

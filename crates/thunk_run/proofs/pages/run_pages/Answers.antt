@@ -1,0 +1,36 @@
+-- What is left to prove of `run_pages`.
+use Rattle.std.proofs.Common.{◌+◌, ◌-◌, refl, ap, ◌∙◌, arith}
+use Rattle.thunk_run.specs.Left.{counted}
+use Rattle.thunk_run.proofs.Entering.{follow-left, follow-view}
+use Rattle.thunk_run.proofs.pages.run_pages.Goals as goal
+
+pub returns-then-eq-clause-seen : goal.returns-then-eq-clause-seen
+returns-then-eq-clause-seen g c slot page same at =
+    rw (follow-view c.in_ok-ran.ran.count (g.M.Mem.workspace c.enter_page.new.mem)
+    (g.M.Mem.workspace c.run_page.new.mem) c.loop-count.regs c.run_page.new.regs c.in_ok-ran.ensures.turns)
+    (c.in-Some.ensures.seen slot page same at)
+
+pub returns-then-eq-clause-left : goal.returns-then-eq-clause-left
+returns-then-eq-clause-left g c =
+    follow-left c.in_ok-ran.ran.count c.args.room c.loop-count.count (c.loop-count.count + c.in_ok-ran.ran.count)
+    (g.M.Mem.workspace c.enter_page.new.mem) (g.M.Mem.workspace c.run_page.new.mem) c.loop-count.regs
+    c.run_page.new.regs c.in_ok-ran.ensures.turns (omega (arith, c.in_ok-ran.ensures.few)) refl
+    ∙ ap (counted c.loop-count.count) (c.in-Some.ensures.left (c.args.room - c.loop-count.count) (omega arith))
+    ∙ c.loop-count.invariant.left
+
+pub loop-count-preserved : goal.loop-count-preserved
+loop-count-preserved g c =
+    record {
+      few = omega (arith, c.in_ok-ran.ensures.few);
+      counter = omega (arith, c.in_ok-ran.ensures.cost);
+      seen = λ slot page same at.
+          rw (follow-view c.in_ok-ran.ran.count (g.M.Mem.workspace c.enter_page.new.mem)
+          (g.M.Mem.workspace c.run_page.new.mem) c.loop-count.regs c.run_page.new.regs c.in_ok-ran.ensures.turns)
+          (c.in-Some.ensures.seen slot page same at);
+      left =
+          follow-left c.in_ok-ran.ran.count c.args.room c.loop-count.count (c.loop-count.count + c.in_ok-ran.ran.count)
+          (g.M.Mem.workspace c.enter_page.new.mem) (g.M.Mem.workspace c.run_page.new.mem) c.loop-count.regs
+          c.run_page.new.regs c.in_ok-ran.ensures.turns (omega (arith, c.in_ok-ran.ensures.few)) refl
+          ∙ ap (counted c.loop-count.count) (c.in-Some.ensures.left (c.args.room - c.loop-count.count) (omega arith))
+          ∙ c.loop-count.invariant.left;
+    }
