@@ -1,11 +1,12 @@
 //! Writing stored bytes into the shared pages.
 #![tactic(auto)]
 
-ghost use Rattle.std.specs.Prelude.{◌≡◌, IfOk, OnOk, OnErr};
+ghost use Rattle.std.specs.Prelude.{◌≡◌, ◌<◌, length, IfOk, OnOk, OnErr};
+ghost use Rattle.memory_spec.specs.Pages.{page_of};
 ghost use Rattle.record_spec.specs.Delta.{masked};
 ghost use Rattle.page_commit.specs.Stores.{WritesStores};
 
-use page_store::PageTable;
+use page_store::{Page, PageTable};
 use std::alloc::AllocError;
 use store_mask::Delta;
 
@@ -46,6 +47,19 @@ pub fn commit(table: &mut PageTable, delta: &Delta) -> Result<(), AllocError>
 {
     *table = committed(table, delta)?;
     Ok(())
+}
+
+/// The page that a slot has after the stored bytes of a thunk were written: that of `committed`, alone.
+pub fn committed_page(table: &PageTable, delta: &Delta, slot: usize) -> Page
+    requires { slot < length table.now }
+    ensures { result ≡ page_of (masked table.now delta.now) slot }
+{
+    for stored in delta.pages() {
+        if stored.slot() == slot {
+            return stored.written(table.page(slot));
+        }
+    }
+    table.page(slot).copy()
 }
 
 #[cfg(test)]

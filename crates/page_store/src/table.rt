@@ -1,6 +1,6 @@
 //! A table of pages, by slot.
 
-ghost use Rattle.std.specs.Prelude.{◌≡◌, ◌<◌, [], ◌∷◌, ◌++◌, All, Decides, length, slice_set, IfOk, OnOk, OnErr};
+ghost use Rattle.std.specs.Prelude.{◌≡◌, ◌<◌, [], ◌∷◌, ◌++◌, All, Decides, length, map, slice_set, IfOk, OnOk, OnErr};
 ghost use Rattle.std.specs.Cmp.{partial_equiv_from_equiv};
 ghost use Rattle.std.specs.Cmp.Lexicographic.{lists_equiv, nat_list_eq_equiv, pointwise};
 ghost use Rattle.std.specs.Str.{bytes_eq};
@@ -47,6 +47,21 @@ impl PageTable {
             count: 0,
             groups: Vec::new(alloc),
         }
+    }
+
+    /// A table of these pages, by slot. No byte is copied.
+    ///
+    /// # Errors
+    ///
+    /// An error where the host's memory ran out, or a page has as many holders as can be counted.
+    pub fn new(alloc: Global, pages: Vec<Arc<Page>>) -> Result<PageTable, AllocError>
+        ensures { IfOk result (λ table. table ≡ map arc_value pages.items) }
+    {
+        let mut table = PageTable::empty(alloc);
+        for page in pages {
+            table.push_owned(page)?;
+        }
+        Ok(table)
     }
 
     /// How many pages there are.

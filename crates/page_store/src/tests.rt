@@ -85,3 +85,15 @@ fn tables_are_equal_where_their_pages_are(rt: HostRuntime) -> Result<(), AllocEr
     assert!(rt; table != other);
     Ok(())
 }
+
+#[test]
+fn a_table_of_a_list_has_its_pages(rt: HostRuntime) -> Result<(), AllocError> {
+    let mut pages = Vec::new(rt.alloc());
+    for slot in 0..100u8 {
+        pages.push(Arc::new(rt.alloc(), Page::new([slot; PAGE_SIZE]))?)?;
+    }
+    let table = PageTable::new(rt.alloc(), pages)?;
+    assert_eq!(rt; table.len(), 100);
+    assert!(rt; table == numbered(rt.alloc())?);
+    Ok(())
+}

@@ -1,9 +1,8 @@
 -- When a record may be appended, and what is there after an event.
 use Rattle.std.proofs.Common.{◌≡◌, ◌<◌, ◌≤◌, ℕ, zero, suc, Bool, true, false, not, ◌&&◌, ◌||◌, eqb, List, [], ◌∷◌, length, count_by, Option, Some, None, is_some, is_none, refl, ap, sym, ◌∙◌, arith}
-use Rattle.std.proofs.lemmas.Bool.{eqb-true, and_parts}
-use Rattle.isa_spec.specs.Registers.{same_registers}
+use Rattle.std.proofs.lemmas.Bool.{and_parts}
+use Rattle.std.proofs.lemmas.Bool.Decides.{nat_tests}
 use Rattle.record_spec.specs.Record.{Record, fits_at}
-use Rattle.record_spec.specs.Reads.{has}
 use Rattle.machine_spec.specs.declared.states.End.{End}
 use Rattle.machine_spec.specs.Machine.{Machine, hart_of, is_ready}
 use Rattle.machine_spec.specs.Step.{lay, fits, can_step}
@@ -71,16 +70,7 @@ fits-parts :
     (m : Machine) (r : Record) → fits m r ≡ true
     → (is_ready (hart_of m r.thread).status ≡ true) × (r.number ≡ (hart_of m r.thread).number)
 unfolding fits fits_at
-fits-parts m r fit =
-    let parts = and_parts (is_ready (hart_of m r.thread).status)
-    ((eqb r.number (hart_of m r.thread).number && same_registers r.start (hart_of m r.thread).regs) && has
-    (hart_of m r.thread).view r.kept.reads) fit in
-    let left =
-    and_parts (eqb r.number (hart_of m r.thread).number && same_registers r.start (hart_of m r.thread).regs)
-    (has (hart_of m r.thread).view r.kept.reads) parts.1 in
-    let number =
-    and_parts (eqb r.number (hart_of m r.thread).number) (same_registers r.start (hart_of m r.thread).regs) left.0 in
-    (parts.0, eqb-true r.number (hart_of m r.thread).number number.0)
+fits-parts m r fit = (grind (arith, nat_tests), grind (arith, nat_tests))
 
 -- one that fits, in a round that isn't over
 pub fitting-append :

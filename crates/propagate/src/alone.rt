@@ -13,7 +13,6 @@ ghost use Rattle.round_spec.specs.Keeping.{IsFromScratch};
 ghost use Rattle.round_spec.specs.Unedited.{IsUnedited, OnlyReuses};
 ghost use Rattle.propagate.specs.Executing.{executed_by, Costs};
 
-use super::events::Committed;
 use super::round::Round;
 use release_core::{History, Setup};
 use round_spec::Pick;
@@ -39,11 +38,8 @@ fn run_step<L: Ledger>(
     round.keeps();
     let job = round.take(t)?;
     let run = execute(alloc, &job, turns)?;
-    match round.commit(run) {
-        Committed::Done => Ok(()),
-        Committed::Stale(_) => unreachable!(),
-        Committed::Memory(_) => Err(AllocError),
-    }
+    // It ran by the round's own job, which stands as it was: nothing is compared.
+    round.make(&run)
 }
 
 /// Follows one pick: what is picked is reused, or executed and committed. The answer is whether

@@ -126,7 +126,11 @@ impl Round {
     }
 
     /// Makes an executed step that can be committed an entry of the schedule.
-    fn make(&mut self, run: &Run) -> Result<(), AllocError>
+    ///
+    /// # Errors
+    ///
+    /// An error where the host's memory ran out; the round is then as before.
+    pub(super) fn make(&mut self, run: &Run) -> Result<(), AllocError>
         requires { CanCommit self.old (arc_value run.now.frame) (arc_value run.now.rec) }
         ensures ok { OnOk result (self.new ≡ happens self.old (event.Commit (arc_value run.now.rec).thread)) }
         ensures same { GoesOn (if is_ok result then 1 else 0) self.old self.new }

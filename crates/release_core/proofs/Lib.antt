@@ -1,6 +1,8 @@
 -- The files of lemmas of this crate.
 pub mod DataPages
 pub mod Asking
+mod Giving
 pub mod Laying
 pub mod Placing
+mod Putting
 pub mod Zeros

@@ -5,6 +5,7 @@ ghost use Rattle.std.specs.Arc.{arc_value};
 ghost use Rattle.record_spec.specs.Delta.{masked};
 ghost use Rattle.record_spec.specs.Record.{put_of, IsTrue};
 ghost use Rattle.release_core.specs.Views.{AreViewsOf};
+ghost use Rattle.release_core.specs.Views as views;
 ghost use Rattle.release_core.specs.Jobs.{IsJobOf};
 ghost use Rattle.release_core.specs.Applying.{can_apply, IsCauseOf};
 ghost use Rattle.machine_spec.specs.Machine.{Machine, hart_of, is_ready, is_ended};
@@ -15,7 +16,7 @@ ghost use Rattle.machine_spec.specs.Whole.{IsWhole};
 
 use super::doing::{Written, asked, do_as_asked};
 use super::hart::Hart;
-use super::performing::{MOST_VIEWS, view_at, views_of, write_back};
+use super::performing::{most_views, view_at, views_of, write_back};
 use super::put::put_bytes;
 use super::setup::Setup;
 use super::start::memory_of;
@@ -35,7 +36,8 @@ use thunk_run::Job;
 #[derive(Debug, PartialEq, Eq, Clone, Copy, Drop)]
 pub enum ApplyError {
     /// The machine has ended, or the record doesn't fit: its thread isn't ready at its number of
-    /// steps, or has other registers, or its view has other bytes in a read page.
+    /// steps, or has other registers, or its view has other bytes in a read page, or no thunk of this
+    /// fuel ended as its did.
     Stale,
     /// The host's memory ran out.
     NoMemory,
@@ -173,8 +175,8 @@ impl Core {
     }
 
     /// Whether a record stands for the next step of its thread: the thread is ready and has made as
-    /// many steps, and has the record's first registers, and its view has the bytes of each read
-    /// page. Takes no memory.
+    /// many steps, and has the record's first registers, its view has the bytes of each read page,
+    /// and a thunk of this machine's fuel may have ended as the record's did. Takes no memory.
     #[tactic(auto, using(crate::proofs::Asking::below), unfolding(machine_spec::specs::Step::fits))]
     pub fn fits(&self, rec: &Record) -> bool
         ensures { result ≡ step.fits self.now rec.now }
@@ -183,17 +185,24 @@ impl Core {
             return false;
         }
         let hart = &self.harts[usize::from(rec.thread())];
-        fits(rec, hart.number(), hart.regs(), hart.view())
+        fits(
+            rec,
+            hart.number(),
+            hart.regs(),
+            hart.view(),
+            self.frame.fuel(),
+        )
     }
 }
 
-/// The frame of a setup: all its pages, and its fuel.
+/// The frame of a setup: all its pages and its fuel, with its decoded pages.
 fn frame_of(alloc: Global, setup: &Setup) -> Result<Arc<Frame>, AllocError>
     ensures { IfOk result (λ frame. arc_value frame ≡ record { map = map_of setup.now; fuel = setup.now.fuel }) }
 {
     setup.sound();
     let map = Arc::new(alloc, setup.page_map(alloc)?)?;
-    let frame = Arc::new(alloc, Frame::new(map, setup.limits().fuel()))?;
+    let code = Arc::try_clone(setup.code())?;
+    let frame = Arc::new(alloc, Frame::new(map, setup.limits().fuel(), code))?;
     Ok(frame)
 }
 
@@ -256,23 +265,40 @@ struct Prepared {
     views: Vec<Arc<PageTable>>,
 }
 
-/// Shared memory with a record's stored bytes, the bytes of its put, and views to give.
+/// Shared memory with a record's stored bytes. One that stored nothing shares the table.
+fn written(
+    alloc: Global,
+    memory: &Arc<PageTable>,
+    rec: &Record,
+) -> Result<Arc<PageTable>, AllocError>
+    ensures { IfOk result (λ after. arc_value after ≡ masked (arc_value memory.now) rec.now.kept.delta) }
+{
+    if rec.delta().pages().is_empty() {
+        return Arc::try_clone(memory);
+    }
+    let after = Arc::new(alloc, committed(memory, rec.delta())?)?;
+    Ok(after)
+}
+
+/// Shared memory with a record's stored bytes, the bytes of its put, and the views that its end can give.
 fn prepare(
     alloc: Global,
     map: &PageMap,
-    memory: &PageTable,
+    memory: &Arc<PageTable>,
     view: &PageTable,
     rec: &Record,
 ) -> Result<Prepared, AllocError>
     requires { length view.now ≡ length map.now }
-    ensures memory { IfOk result (λ p. arc_value p.memory ≡ masked memory.now rec.now.kept.delta) }
+    ensures memory { IfOk result (λ p. arc_value p.memory ≡ masked (arc_value memory.now) rec.now.kept.delta) }
     ensures put { IfOk result (λ p. p.put.items ≡ put_of map.now view.now rec.now.kept) }
     ensures views { IfOk result (λ p. AreViewsOf (arc_value p.memory) p.views.items) }
-    ensures enough { IfOk result (λ p. MOST_VIEWS ≤ vec_len p.views) }
+    ensures enough { IfOk result (λ p.
+        views.most_views (step.asked rec.now.thread rec.now.kept.end rec.now.kept.finish) ≤ vec_len p.views) }
 {
-    let memory = Arc::new(alloc, committed(memory, rec.delta())?)?;
+    let memory = written(alloc, memory, rec)?;
     let put = put_bytes(alloc, map, view, rec)?;
-    let views = views_of(alloc, &memory, MOST_VIEWS)?;
+    let count = most_views(asked(rec.thread(), rec.end(), rec.finish()));
+    let views = views_of(alloc, &memory, count)?;
     Ok(Prepared { memory, put, views })
 }
 

@@ -9,10 +9,10 @@ ghost use Rattle.machine_spec.specs.Machine.{Hart as HartState, hart_in, is_read
 ghost use Rattle.std.specs.List.{list_all, list_any};
 ghost use Rattle.machine_spec.specs.Whole.{IsTied};
 ghost use Rattle.release_core.specs.Doing.{harts_after, objects_after, own_end};
-ghost use Rattle.release_core.specs.Views.{AreViewsOf};
+ghost use Rattle.release_core.specs.Views.{AreViewsOf, most_views};
 
 use super::hart::Hart;
-use super::performing::{MOST_VIEWS, settle};
+use super::performing::settle;
 use call_effect::Effect;
 use guest_call::{Call, EFAULT, EINVAL, Fate};
 use isa_spec::Cause;
@@ -176,7 +176,7 @@ pub fn do_as_asked(
     requires tied { IsTied objects.old harts.old.items }
     requires ready { is_ready (hart_in harts.old.items t).status ≡ true }
     requires room { vec_len harts.old < vec_capacity harts.old }
-    requires enough { MOST_VIEWS ≤ vec_len views.old }
+    requires enough { most_views asked ≤ vec_len views.old }
     requires views { AreViewsOf (arc_value written.now.memory.now) views.old.items }
     ensures harts { harts.new.items
         ≡ harts_after written.now.map.now objects.old (arc_value written.now.memory.now) t harts.old.items asked }

@@ -8,11 +8,12 @@ ghost use Rattle.machine_spec.specs.Performing.{fated, woken, returned, with_cre
 ghost use Rattle.machine_spec.specs.Machine.{hart_in};
 ghost use Rattle.guest_call.specs.Objects.{created_count};
 ghost use Rattle.release_core.specs.Views.{AreViewsOf};
+ghost use Rattle.release_core.specs.Views as views;
 
 use super::hart::Hart;
 use call_effect::Effect;
-use guest_call::{Fate, THREADS};
-use machine_spec::Status;
+use guest_call::{Call, Fate, THREADS};
+use machine_spec::{Asked, Status};
 use page_store::PageTable;
 use rv_alu::Regs;
 use std::alloc::{AllocError, Global};
@@ -45,8 +46,16 @@ pub fn write_back(harts: &mut Vec<Hart>, t: u8, regs: Regs)
     hart.write_back(regs);
 }
 
-/// How many views one effect can give: to its caller, to a created thread, and to all that a queue can hold.
-pub const MOST_VIEWS: usize = THREADS + 2;
+/// How many views what is asked gives at most. Only who comes last to a barrier wakes more than one thread.
+pub fn most_views(asked: Asked) -> usize
+    ensures { result ≡ views.most_views asked }
+{
+    match asked {
+        Asked::Asks(Call::BarrierWait(_)) => THREADS + 2,
+        Asked::Asks(_) => 3,
+        Asked::Stops(_) => 0,
+    }
+}
 
 /// So many views of a memory.
 pub fn views_of(
@@ -57,7 +66,7 @@ pub fn views_of(
     ensures views { IfOk result (λ views. AreViewsOf (arc_value memory.now) views.items) }
     ensures count { IfOk result (λ views. vec_len views ≡ count) }
 {
-    let mut views = Vec::new(alloc);
+    let mut views = Vec::with_capacity(alloc, count)?;
     for _ in 0..count {
         views.push(Arc::try_clone(memory)?)?;
     }

@@ -1,51 +1,67 @@
 //! The bytes that a put appends to the output.
 
-ghost use Rattle.std.specs.Prelude.{◌≡◌, ◌+◌, ◌≤◌, ◌^◌, ◌<◌, true, length, IfOk};
+ghost use Rattle.std.specs.Prelude.{◌≡◌, ◌+◌, ◌/◌, ◌%◌, ◌≤◌, ◌^◌, ◌<◌, ℕ, true, length, slice_index, IfOk};
 ghost use Rattle.std.specs.List.{range_with_len};
-ghost use Rattle.memory_spec.specs.Pages.{slot_of, page_of};
 ghost use Rattle.thunk_spec.specs.Put.{byte_at, bytes_at, is_readable};
+ghost use Rattle.record_spec.specs.Delta.{masked};
 ghost use Rattle.record_spec.specs.Record.{put_of};
 
-use page_commit::committed;
+use page_commit::committed_page;
 use page_map::PageMap;
-use page_store::PageTable;
+use page_store::{Page, PageTable};
 use std::alloc::{AllocError, Global};
 use thunk_record::Record;
 use thunk_run::{Range, put_range};
 
-/// The byte at an address; zero where no page has it.
-#[tactic(auto, using(crate::proofs::Laying::no_byte))]
-fn byte_of(map: &PageMap, table: &PageTable, address: u32) -> u8
-    requires { length table.now ≡ length map.now }
-    ensures { result ≡ byte_at map.now table.now address }
+/// The page of an address, in a thread's view with the stored bytes of a thunk written over it; one of zeros where there
+/// is none. No other page is looked at.
+#[tactic(auto, using(crate::proofs::Putting::same_page, crate::proofs::Putting::no_page))]
+fn page_at(map: &PageMap, view: &PageTable, rec: &Record, address: u32) -> Page
+    requires { length view.now ≡ length map.now }
+    ensures { (a : ℕ) → a / 4096 ≡ address / 4096
+        → slice_index result (a % 4096) ≡ byte_at map.now (masked view.now rec.now.kept.delta) a }
 {
     match map.slot_of(address) {
-        Some(slot) => table.page(slot).get((address % 4096) as usize),
-        None => 0,
+        Some(slot) => committed_page(view, rec.delta(), slot),
+        None => Page::zero(),
     }
 }
 
-/// The bytes of a range.
+/// The bytes of a range that has some, and no more than a page: each stands in the page of the first or in that of
+/// the last.
 fn bytes_of(
     alloc: Global,
     map: &PageMap,
-    table: &PageTable,
+    view: &PageTable,
+    rec: &Record,
     range: Range,
 ) -> Result<Vec<u8>, AllocError>
+    requires some { 0 < range.len }
+    requires few { range.len ≤ 4096 }
     requires in_range { range.start + range.len ≤ 2 ^ 32 }
-    requires pages { length table.now ≡ length map.now }
-    ensures { IfOk result (λ bytes. bytes.items ≡ bytes_at map.now table.now (range_with_len range.start range.len)) }
+    requires pages { length view.now ≡ length map.now }
+    ensures { IfOk result (λ bytes. bytes.items
+        ≡ bytes_at map.now (masked view.now rec.now.kept.delta) (range_with_len range.start range.len)) }
 {
-    let mut bytes = Vec::new(alloc);
+    let first = page_at(map, view, rec, range.start);
+    let last = page_at(map, view, rec, range.start + (range.len - 1));
+    let mut bytes = Vec::with_capacity(alloc, range.len as usize)?;
     for k in 0..range.len {
-        bytes.push(byte_of(map, table, range.start + k))?;
+        let address = range.start + k;
+        let offset = (address % 4096) as usize;
+        let byte = if address / 4096 == range.start / 4096 {
+            first.get(offset)
+        } else {
+            last.get(offset)
+        };
+        bytes.push(byte)?;
     }
     Ok(bytes)
 }
 
 /// The bytes that the put which ends a kept thunk appends, read in the thread's view with the
-/// thunk's stored bytes written over it; none where no put ends it.
-#[tactic(auto, unfolding(record_spec::specs::Record::put_of), using(crate::proofs::Laying::masked_count))]
+/// thunk's stored bytes written over it; none where no put ends it. Two pages are made for it at most.
+#[tactic(auto, unfolding(record_spec::specs::Record::put_of))]
 pub fn put_bytes(
     alloc: Global,
     map: &PageMap,
@@ -59,6 +75,5 @@ pub fn put_bytes(
     if range.len == 0 {
         return Ok(Vec::new(alloc));
     }
-    let table = committed(view, rec.delta())?;
-    bytes_of(alloc, map, &table, range)
+    bytes_of(alloc, map, view, rec, range)
 }

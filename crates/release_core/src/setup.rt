@@ -1,6 +1,7 @@
 //! What a run starts from.
 
 ghost use Rattle.std.specs.Prelude.{◌≡◌, ◌≤◌, length, IfOk, IfErr};
+ghost use Rattle.std.specs.Arc.{arc_value};
 ghost use Rattle.elf_load.specs.Load.{IsImageOf, Refuses};
 ghost use Rattle.machine_spec.specs.Setup as setup;
 
@@ -9,15 +10,44 @@ use elf_load::{Image, LoadError, load};
 use elf_spec::MOST_ELF_BYTES;
 use machine_spec::{Limits, MOST_INPUT_BYTES};
 use page_map::PageMap;
+use rv_code::Code;
 use std::alloc::{AllocError, Global};
 use std::marker::Model;
 use std::sync::Arc;
 
-/// An executable that is accepted, and what it starts as.
+/// An executable that is accepted, what it starts as, and its pages that may be executed, decoded.
 #[derive(Drop)]
 struct Program {
     elf: Vec<u8>,
     image: Image,
+    code: Arc<Code>,
+}
+
+/// The pages of an image that may be executed, decoded.
+fn code_of(alloc: Global, image: &Image) -> Result<Arc<Code>, AllocError>
+    requires { length image.now.pages ≡ length image.now.map }
+{
+    let code = Arc::new(alloc, Code::of(alloc, &image.map, &image.pages)?)?;
+    Ok(code)
+}
+
+/// The program of an executable.
+///
+/// # Errors
+///
+/// The executable's refusal exactly where it has one, or want of memory.
+fn program_of(alloc: Global, elf: Vec<u8>) -> Result<Arc<Program>, LoadError>
+    ensures elf { IfOk result (λ program. (arc_value program).elf.items ≡ elf.items) }
+    ensures image { IfOk result (λ program. IsImageOf elf.items (arc_value program).image) }
+    ensures refused { IfErr result (λ e. Refuses elf.items e) }
+{
+    let image = load(alloc, elf.as_slice())?;
+    elf_spec::memory_is_of_pages(elf.as_slice());
+    let code = code_of(alloc, &image)?;
+    match Arc::new(alloc, Program { elf, image, code }) {
+        Ok(program) => Ok(program),
+        Err(_) => Err(LoadError::NoMemory),
+    }
 }
 
 /// An executable that is accepted, an input, and the limits of a run. Setups of one executable share
@@ -66,15 +96,12 @@ impl Setup {
         ensures refused { IfErr result (λ e. Refuses elf.items e) }
     {
         limits.sound();
-        let image = load(alloc, elf.as_slice())?;
-        match Arc::new(alloc, Program { elf, image }) {
-            Ok(program) => Ok(Setup {
-                program,
-                input,
-                limits,
-            }),
-            Err(_) => Err(LoadError::NoMemory),
-        }
+        let program = program_of(alloc, elf)?;
+        Ok(Setup {
+            program,
+            input,
+            limits,
+        })
     }
 
     /// The setup of the same executable with this input and these limits. The executable is shared.
@@ -129,6 +156,11 @@ impl Setup {
         ensures { IsImageOf self.now.elf result.now }
     {
         &self.program.image
+    }
+
+    /// The pages of its executable that may be executed, decoded: each in the slot that it has in the page map too.
+    pub fn code(&self) -> &Arc<Code> {
+        &self.program.code
     }
 
     /// Its page map: the image's pages, the input's header and pages, and the stacks.

@@ -1,4 +1,5 @@
 -- The files of lemmas of this crate.
+mod Lanes
 pub mod Marks
 pub mod Picking
 pub mod Words

@@ -1,6 +1,11 @@
--- Merging pages byte by byte.
-use Rattle.std.proofs.Common.{◌≡◌, ℕ, ◌<◌, ◌≤◌, ◌+◌, zero, suc, Bool, true, false, cond, List, [], ◌∷◌, length, get_or, set, take, refl, ap, sym, ◌∙◌, arith}
-use Rattle.std.proofs.lemmas.List.{take_all}
+-- Merging pages word by word of a mask.
+use Rattle.std.proofs.Common.{◌≡◌, ℕ, ◌<◌, ◌≤◌, ◌+◌, ◌-◌, ◌==◌, zero, suc, Bool, true, false, cond, List, [], ◌∷◌, length, get_or, take, refl, ap, sym, ◌∙◌, arith, nat_eq, inl, inr}
+use Rattle.std.proofs.lemmas.Bool.{cases_lt}
+use Rattle.std.specs.Int.{bit_at}
+use Rattle.std.specs.Simd.Lanes.{mask_l, chunk}
+use Rattle.std.proofs.lemmas.List.{take_all, length-take, get_or-take, get_or_past, ext_get_or}
+use Rattle.std.proofs.lemmas.Nat.Bits.{bit_at-zero}
+use Rattle.std.proofs.lemmas.Simd.{bit_mask_l, get_or-chunk}
 use Rattle.record_spec.specs.Delta.{chosen, spread}
 use Rattle.record_spec.proofs.Merging.{merged, spread-chosen}
 
@@ -9,19 +14,6 @@ merged-nil [] n = refl
 merged-nil (o ∷ os) [] = refl
 merged-nil (o ∷ os) (n ∷ ns) = refl
 
--- one place more
-pub merged-more :
-    (o n : List ℕ) (m : List Bool) (i : ℕ)
-    → length n ≡ length o → length m ≡ length o → i < length o
-    → set (merged o n (take i m)) i (cond (get_or m i false) (get_or n i 0) (get_or (merged o n (take i m)) i 0))
-    ≡ merged o n (take (suc i) m)
-merged-more [] n m i p q lt = absurd (omega arith)
-merged-more (o ∷ os) [] m i p q lt = absurd (omega arith)
-merged-more (o ∷ os) (n ∷ ns) [] i p q lt = absurd (omega arith)
-merged-more (o ∷ os) (n ∷ ns) (m ∷ ms) zero p q lt = ap (λ rest. cond m n o ∷ rest) (sym (merged-nil os ns))
-merged-more (o ∷ os) (n ∷ ns) (m ∷ ms) (suc i) p q lt =
-    ap (λ rest. cond m n o ∷ rest) (merged-more os ns ms i (omega arith) (omega arith) (omega arith))
-
 -- all places
 pub merged-all :
     (o n : List ℕ) (m : List Bool)
@@ -29,44 +21,98 @@ pub merged-all :
     → merged o n (take 4096 m) ≡ spread m (chosen m n) o
 merged-all o n m p q count = ap (merged o n) (take_all 4096 m (omega arith)) ∙ sym (spread-chosen m n o p q)
 
--- a place that isn't marked changes nothing
-merged-unmarked :
-    (o n : List ℕ) (m : List Bool) (i : ℕ)
-    → length n ≡ length o → length m ≡ length o → i < length o → get_or m i false ≡ false
-    → merged o n (take (suc i) m) ≡ merged o n (take i m)
-merged-unmarked [] n m i p q lt unmarked = absurd (omega arith)
-merged-unmarked (o ∷ os) [] m i p q lt unmarked = absurd (omega arith)
-merged-unmarked (o ∷ os) (n ∷ ns) [] i p q lt unmarked = absurd (omega arith)
-merged-unmarked (o ∷ os) (n ∷ ns) (m ∷ ms) zero p q lt unmarked =
-    ap (λ b. cond b n o ∷ merged os ns []) unmarked ∙ ap (λ rest. o ∷ rest) (merged-nil os ns)
-merged-unmarked (o ∷ os) (n ∷ ns) (m ∷ ms) (suc i) p q lt unmarked =
-    ap (λ rest. cond m n o ∷ rest) (merged-unmarked os ns ms i (omega arith) (omega arith) (omega arith) unmarked)
+length-merged : (o n : List ℕ) (m : List Bool) → length (merged o n m) ≡ length o
+length-merged [] n m = refl
+length-merged (o ∷ os) [] m = refl
+length-merged (o ∷ os) (n ∷ ns) [] = refl
+length-merged (o ∷ os) (n ∷ ns) (m ∷ ms) = ap suc (length-merged os ns ms)
 
--- and so many of them
-pub merged-blank :
-    (count : ℕ) (o n : List ℕ) (m : List Bool) (i : ℕ)
-    → length n ≡ length o → length m ≡ length o → i + count ≤ length o
-    → ((k : ℕ) → i ≤ k → k < i + count → get_or m k false ≡ false)
-    → merged o n (take (i + count) m) ≡ merged o n (take i m)
-merged-blank zero o n m i p q within blank =
-    let same : i + 0 ≡ i = omega arith in ap (λ k. merged o n (take k m)) same
-merged-blank (suc count) o n m i p q within blank =
-    let next : i + suc count ≡ suc (i + count) = omega arith in
-    ap (λ k. merged o n (take k m)) next
-    ∙ merged-unmarked o n m (i + count) p q (omega (arith, within)) (blank (i + count) (omega arith) (omega arith))
-    ∙ merged-blank count o n m i p q (omega (arith, within)) (λ k from below. blank k from (omega (arith, below)))
+-- a byte of a merged page
+merged-at :
+    (o n : List ℕ) (m : List Bool) (k : ℕ) → length n ≡ length o
+    → get_or (merged o n m) k 0 ≡ cond (get_or m k false) (get_or n k 0) (get_or o k 0)
+merged-at [] [] m k same = both (get_or m k false)
+  where
+    both : (b : Bool) → ◌≡◌ {A = ℕ} 0 (cond b 0 0)
+    both true = refl
+    both false = refl
+merged-at [] (n ∷ ns) m k same = absurd (omega (arith, same))
+merged-at (o ∷ os) [] m k same = absurd (omega (arith, same))
+merged-at (o ∷ os) (n ∷ ns) [] k same = refl
+merged-at (o ∷ os) (n ∷ ns) (m ∷ ms) zero same = refl
+merged-at (o ∷ os) (n ∷ ns) (m ∷ ms) (suc k) same = merged-at os ns ms k (omega (arith, same))
 
--- One mark more, with no mark between.
-pub merged-mark :
-    (o n page : List ℕ) (m : List Bool) (i t : ℕ)
-    → page ≡ merged o n (take i m)
-    → length n ≡ length o → length m ≡ length o → i + t < length o
-    → get_or m (i + t) false ≡ true → ((j : ℕ) → i ≤ j → j < i + t → get_or m j false ≡ false)
-    → set page (i + t) (get_or n (i + t) 0) ≡ merged o n (take (i + t + 1) m)
-merged-mark o n page m i t is p q lt marked blank =
-    let next : suc (i + t) ≡ i + t + 1 = omega arith in
-    ap (λ start. set start (i + t) (get_or n (i + t) 0)) (is ∙ sym (merged-blank t o n m i p q (omega arith) blank))
-    ∙ ap (λ b. set (merged o n (take (i + t) m)) (i + t)
-    (cond b (get_or n (i + t) 0) (get_or (merged o n (take (i + t) m)) (i + t) 0))) (sym marked)
-    ∙ merged-more o n m (i + t) p q lt
-    ∙ ap (λ k. merged o n (take k m)) next
+-- where the marks don't reach, it is as before
+merged-past :
+    (o n : List ℕ) (m : List Bool) (i k : ℕ) → length n ≡ length o → i ≤ k
+    → get_or (merged o n (take i m)) k 0 ≡ get_or o k 0
+merged-past o n m i k same le =
+    merged-at o n (take i m) k same
+    ∙ ap (λ b. cond b (get_or n k 0) (get_or o k 0)) (get_or_past (take i m) k false (omega (arith, length-take i m)))
+
+-- where they do, it is merged with all of them
+merged-within :
+    (o n : List ℕ) (m : List Bool) (i k : ℕ) → length n ≡ length o → k < i
+    → get_or (merged o n (take i m)) k 0 ≡ cond (get_or m k false) (get_or n k 0) (get_or o k 0)
+merged-within o n m i k same lt =
+    merged-at o n (take i m) k same ∙ ap (λ b. cond b (get_or n k 0) (get_or o k 0)) (get_or-take i m k false lt)
+
+-- A page after the written bytes were put at the 64 places from a place on whose bit is set in a word.
+pub record HasWord (n : List ℕ) (i word : ℕ) (before after : List ℕ) : Type 0 where
+  pub count : length after ≡ length before
+  pub each : (k : ℕ) → k < 64
+      → get_or after (i + k) 0 ≡ cond (bit_at word k == 1) (get_or n (i + k) 0) (get_or before (i + k) 0)
+  pub below : (k : ℕ) → k < i → get_or after k 0 ≡ get_or before k 0
+  pub behind : (k : ℕ) → i + 64 ≤ k → get_or after k 0 ≡ get_or before k 0
+
+-- A word without a mark changes nothing.
+pub no_word : (n page : List ℕ) (i word : ℕ) → word ≡ 0 → HasWord n i word page page
+no_word n page i word none = record {
+  count = refl;
+  each = λ k lt.
+      ap (λ b. cond (nat_eq b 1) (get_or n (i + k) 0) (get_or page (i + k) 0))
+      (sym (bit_at-zero k) ∙ ap (λ w. bit_at w k) (sym none));
+  below = λ k lt. refl;
+  behind = λ k le. refl;
+}
+
+marked_at : (m : List Bool) (i word k : ℕ) → word ≡ mask_l (chunk i 64 m) → k < 64
+    → nat_eq (bit_at word k) 1 ≡ get_or m (i + k) false
+marked_at m i word k is lt =
+    ap (λ w. nat_eq (bit_at w k) 1) is ∙ ap (λ b. nat_eq b 1) (bit_mask_l (chunk i 64 m) k)
+    ∙ test (get_or (chunk i 64 m) k false) ∙ get_or-chunk i 64 m k false lt
+  where
+    test : (b : Bool) → nat_eq (cond b 1 0) 1 ≡ b
+    test true = refl
+    test false = refl
+
+-- The marks of one word more.
+pub merged-word :
+    (o n before after : List ℕ) (m : List Bool) (i word : ℕ)
+    → before ≡ merged o n (take i m) → length n ≡ length o → word ≡ mask_l (chunk i 64 m)
+    → HasWord n i word before after → after ≡ merged o n (take (i + 64) m)
+merged-word o n before after m i word is same word_is has =
+    ext_get_or 0 after (merged o n (take (i + 64) m))
+    (has.count ∙ ap length is ∙ length-merged o n (take i m) ∙ sym (length-merged o n (take (i + 64) m))) (λ k lt. at k)
+  where
+    within : (k : ℕ) → i ≤ k → k < i + 64 → get_or after k 0 ≡ get_or (merged o n (take (i + 64) m)) k 0
+    within k from lt =
+        let place : i + (k - i) ≡ k = omega arith in
+        let old : get_or before k 0 ≡ get_or o k 0 = ap (λ l. get_or l k 0) is ∙ merged-past o n m i k same from in
+        ap (λ p. get_or after p 0) (sym place) ∙ has.each (k - i) (omega arith)
+        ∙ ap (λ b. cond b (get_or n (i + (k - i)) 0) (get_or before (i + (k - i)) 0)) (marked_at m i word (k - i) word_is
+        (omega arith))
+        ∙ ap (λ p. cond (get_or m p false) (get_or n p 0) (get_or before p 0)) place
+        ∙ ap (λ b. cond (get_or m k false) (get_or n k 0) b) old
+        ∙ sym (merged-within o n m (i + 64) k same lt)
+
+    at : (k : ℕ) → get_or after k 0 ≡ get_or (merged o n (take (i + 64) m)) k 0
+    at k = elim (cases_lt k i) [
+      | inl lt ↦ has.below k lt ∙ ap (λ l. get_or l k 0) is ∙ merged-within o n m i k same lt
+          ∙ sym (merged-within o n m (i + 64) k same (omega arith))
+      | inr from ↦ elim (cases_lt k (i + 64)) [
+        | inl lt ↦ within k from lt
+        | inr past ↦ has.behind k past ∙ ap (λ l. get_or l k 0) is ∙ merged-past o n m i k same from
+            ∙ sym (merged-past o n m (i + 64) k same past)
+      ]
+    ]

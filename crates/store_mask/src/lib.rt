@@ -4,6 +4,7 @@
 
 mod delta;
 mod mask;
+mod merging;
 mod reads;
 mod stored;
 

@@ -6,6 +6,7 @@ ghost use Rattle.memory_spec.specs.Workspace.{no_marks};
 ghost use Rattle.record_spec.specs.Delta.{is_stored, chosen, spread};
 ghost use Rattle.store_mask.specs.Flags.{flags_of};
 
+use super::merging::{WORD_PLACES, merge_word};
 use page_store::PAGE_SIZE;
 use std::marker::Model;
 
@@ -98,8 +99,8 @@ impl Mask {
         }
     }
 
-    /// Writes the bytes of another page at the marked places of a page. It goes from mark to mark, since most places
-    /// have none.
+    /// Writes the bytes of another page at the marked places of a page, 64 places at a time. Words that mark nothing are
+    /// passed over, since most do.
     pub fn merge(&self, page: &mut [u8], written: &[u8])
         requires page_is_whole { length page.old ≡ PAGE_SIZE }
         requires written_is_whole { length written.now ≡ PAGE_SIZE }
@@ -107,14 +108,9 @@ impl Mask {
     {
         self.whole();
         for number in 0..MASK_WORDS {
-            let mut place = 64 * number;
-            let mut left = self.word(number);
-            while left != 0 {
-                let skipped = left.trailing_zeros();
-                place += skipped as usize;
-                page[place] = written[place];
-                place += 1;
-                left = left >> skipped >> 1;
+            let word = self.word(number);
+            if word != 0 {
+                merge_word(page, written, WORD_PLACES * number, word);
             }
         }
     }

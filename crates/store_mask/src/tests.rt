@@ -39,6 +39,21 @@ fn no_mark_and_all_marks(rt: HostRuntime) {
 }
 
 #[test]
+fn marks_of_each_pattern_change_their_places(rt: HostRuntime) {
+    for step in [2usize, 3, 7, 63, 64, 65] {
+        let mut mask = Mask::new();
+        let mut is_marked = [false; 4096];
+        for place in 0..4096usize {
+            if place % step == step - 1 {
+                mask.set(place);
+                is_marked[place] = true;
+            }
+        }
+        compare(&rt, &mask, &is_marked);
+    }
+}
+
+#[test]
 fn words_have_the_first_place_lowest(rt: HostRuntime) {
     let mut mask = Mask::new();
     mask.set(0);

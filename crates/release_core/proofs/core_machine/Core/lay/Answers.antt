@@ -1,10 +1,13 @@
 -- What is left to prove of `Core::lay`.
-use Rattle.std.proofs.Common.{◌≡◌, true, ◌+◌, suc, ◌++◌, slice_set, refl, ap, sym, subst, ◌∙◌, arith}
+use Rattle.std.proofs.Common.{◌≡◌, ℕ, true, ◌+◌, suc, ◌++◌, slice_set, refl, ap, sym, subst, ◌∙◌, arith}
 use Rattle.std.proofs.lemmas.Grind.{common_steps}
 use Rattle.std.specs.Arc.{arc_value}
 use Rattle.record_spec.specs.Delta.{masked}
 use Rattle.record_spec.specs.Record.{Record, put_of}
-use Rattle.machine_spec.specs.Machine.{Machine, hart_of}
+use Rattle.machine_spec.specs.Machine.{Machine, Hart, hart_in, hart_of, is_ready}
+use Rattle.machine_spec.proofs.Harts.{ready-below}
+use Rattle.std.proofs.lemmas.Bool.{and_parts}
+use Rattle.std.proofs.lemmas.List.{get_or-set_same}
 use Rattle.machine_spec.specs.Step as step
 use Rattle.machine_spec.specs.Whole.{IsWhole}
 use Rattle.machine_spec.proofs.Tied.{tied-written}
@@ -51,8 +54,6 @@ laid c =
       common_steps,
       c.in_ok-memory.ensures.memory,
       c.in_ok-memory.memory-is,
-      c.deref-2.ensures,
-      c.deref.ensures,
     ) in
     let is_written :
     c.write_back.new.harts.items
@@ -102,7 +103,7 @@ laid c =
       arith,
       common_steps,
       c.do_as_asked-self-inside.ensures.harts,
-      c.deref-3.ensures,
+      c.deref-2.ensures,
       c.map-2.ensures,
       c.in_ok-memory.memory-is,
       c.thread-t.ensures,
@@ -113,7 +114,7 @@ laid c =
       arith,
       common_steps,
       c.do_as_asked-self-inside.ensures.objects,
-      c.deref-3.ensures,
+      c.deref-2.ensures,
       c.map-2.ensures,
       c.thread-t.ensures,
     ) in
@@ -124,7 +125,7 @@ laid c =
       arith,
       common_steps,
       c.do_as_asked-self-inside.ensures.ending,
-      c.deref-3.ensures,
+      c.deref-2.ensures,
       c.map-2.ensures,
       c.in_ok-memory.memory-is,
       c.thread-t.ensures,
@@ -150,3 +151,14 @@ invariant_of-self-2 c =
 
 pub returns-clause-ok : goal.returns-clause-ok
 returns-clause-ok c = laid c ∙ ap (λ (x : Machine). step.lay x c.args.rec.now) c.self.view_is
+
+pub do_as_asked-self-inside-requires-clause-ready :
+    goal.do_as_asked-self-inside-requires-clause-ready
+do_as_asked-self-inside-requires-clause-ready c =
+    let ready : is_ready (hart_in c.self.inside.harts.items c.thread-t.result).status ≡ true =
+    ap (λ (t : ℕ). is_ready (hart_in c.self.inside.harts.items t).status) c.thread-t.ensures
+    ∙ (and_parts _ _ (subst (λ (m : Machine). step.can_step m c.args.rec.now.thread ≡ true) (sym c.self.view_is)
+    c.requires)).1 in
+    rw (c.write_back.ensures.harts, c.in_ok-reserve.ensures.items)
+    (ap (λ (h : Hart). is_ready h.status) (get_or-set_same c.self.inside.harts.items c.thread-t.result _ _
+    (ready-below c.self.inside.harts.items c.thread-t.result ready)) ∙ ready)
