@@ -7,7 +7,7 @@ use Rattle.machine_spec.specs.Setup.{Setup, IsSetup}
 use Rattle.history_spec.specs.History.{History, IsHonest, IsSameProgram}
 use Rattle.memo_spec.specs.Spelling.{AreBytes, IsSpellable}
 use Rattle.rerun_spec.specs.Inputs.{AreShort}
-use Rattle.rerun_spec.specs.Rounds.{Round, Beginning, left_by, with_input, from_scratch, after_memo, CanBegin, round_on, after_round, rounds_after, last_left}
+use Rattle.rerun_spec.specs.Rounds.{Round, Beginning, left_by, with_input, with_fuel, from_scratch, after_memo, CanBegin, round_on, after_round, rounds_after, last_left, IsUneditedRerun}
 use Rattle.rerun_spec.proofs.Rounds.{CanBeMade, each-holds, each-short, with-short, first-past, scratch-begins, memo-begins, round-entries, round-permitted, round-complete, round-marks, round-honest, round-records}
 use Rattle.rerun_spec.proofs.Repeating.{IsAgain, repeated-after, rerun-again, again-reuses, again-instructions, after-schedule, after-machine}
 use Rattle.rerun_spec.proofs.Reports.{reports-made, exits-made}
@@ -16,7 +16,7 @@ use Rattle.round_memo_spec.specs.Spelled.{IsSpelledPast}
 use Rattle.round_memo_spec.proofs.Events.{lone-spelled}
 use Rattle.ith_host.specs.World.{World}
 use Rattle.ith_words.specs.Words.{Line, Runs, Reruns, Shows}
-use Rattle.ith_top.specs.Contents.{Plan, IsPlan, setup_of, workers_of}
+use Rattle.ith_top.specs.Contents.{Plan, IsPlan, setup_of, workers_of, fuel_of}
 use Rattle.ith_top.specs.Rounds.{IsPromised, ArePromised, OnlyRepeats, BeginsHonestly, CanBeKept, rounds_of}
 use Rattle.ith_top.specs.Ends.{left_of}
 use Rattle.ith_top.specs.Playing.{CanBePlayed, CanBeSpelled}
@@ -67,14 +67,19 @@ none_unedited s inputs r h first past same =
     let none : None ≡ Some h = sym (first-past (from_scratch s) inputs r first) ∙ past in absurd (cc)
 
 -- after a memo there is the memo's
-memo_unedited : (h : History) (inputs : List (List ℕ)) → IsHonest h → Unedited (after_memo h) inputs
-memo_unedited h inputs honest r k first past same =
-    let is : Some h ≡ Some k = sym (first-past (after_memo h) inputs r first) ∙ past in
+memo_unedited :
+    (h : History) (fuel : ℕ) (inputs : List (List ℕ)) → IsHonest h → Unedited (after_memo h fuel) inputs
+memo_unedited h fuel inputs honest r k first past same =
+    let is : Some h ≡ Some k = sym (first-past (after_memo h fuel) inputs r first) ∙ past in
     let one : h ≡ k = cc in
-    let input : r.setup.input ≡ h.setup.input =
-    ap (λ (s : Setup). s.input) (same ∙ ap (λ (x : History). x.setup) (sym one)) in
-    subst (λ (x : History). OnlyRepeats x r) one
-    (again_repeats h r (rerun-again h inputs r honest (record { first = first; same = input })))
+    let its : r.setup ≡ h.setup = same ∙ ap (λ (x : History). x.setup) (sym one) in
+    let unedited : IsUneditedRerun h fuel inputs r =
+    record {
+      first = first;
+      same_input = ap (λ (s : Setup). s.input) its;
+      same_fuel = ap (λ (s : Setup). s.fuel) its;
+    } in
+    subst (λ (x : History). OnlyRepeats x r) one (again_repeats h r (rerun-again h fuel inputs r honest unedited))
 
 -- the rounds of a line begin with what its plan says
 pub promised_of :
@@ -88,10 +93,13 @@ promised_of (Runs line) a p is playable spelled honest =
     (none_unedited s p.inputs))
 promised_of (Reruns line) a p is playable spelled honest =
     let h = is.history in
+    let fuel = fuel_of line h in
     let true_of : IsHonest h = subst (λ (b : Beginning). BeginsHonestly b) is.beginning honest in
+    let valid : IsSetup (with_fuel h.setup fuel) =
+    subst (λ (b : Beginning). IsSetup b.setup) is.beginning spelled.valid in
     subst (λ (b : Beginning). ArePromised line.workers (rounds_after b p.inputs)) (sym is.beginning)
-    (promised_after line.workers (after_memo h) p.inputs (memo-begins h true_of) playable.short
-    (memo_unedited h p.inputs true_of))
+    (promised_after line.workers (after_memo h fuel) p.inputs (memo-begins h fuel true_of valid.limits) playable.short
+    (memo_unedited h fuel p.inputs true_of))
 promised_of (Shows line) a p is playable spelled honest = absurd is
 
 any_after :
@@ -107,12 +115,7 @@ any_after b (input ∷ inputs) valid elf known short bytes =
     (record { valid = may; elf_bytes = elf; input_bytes = bytes.0; past = known_on b.past b.setup input known }) in
     let own = left-own r in
     let same : IsSameProgram (left_by r).setup b.setup =
-    record {
-      elf = ap (λ (s : Setup). s.elf) own;
-      fuel = ap (λ (s : Setup). s.fuel) own;
-      limit =
-          ap (λ (s : Setup). s.limit) own;
-    } in (
+    record { elf = ap (λ (s : Setup). s.elf) own; limit = ap (λ (s : Setup). s.limit) own } in (
       record { ended = round-stops r may; spelled = left },
       any_after (after_round b input) inputs valid elf
           (left, same) short.1 bytes.1,
@@ -122,7 +125,7 @@ any_after b (input ∷ inputs) valid elf known short bytes =
         → IsSpelledPast past (with_input s input)
     known_on None s input known = tt
     known_on (Some h) s input known =
-        (known.0, record { elf = known.1.elf; fuel = known.1.fuel; limit = known.1.limit })
+        (known.0, record { elf = known.1.elf; limit = known.1.limit })
 
 -- what holds of the rounds of any plan
 pub each_kept : (p : Plan) → CanBePlayed p → CanBeSpelled p → All CanBeKept (rounds_of p)

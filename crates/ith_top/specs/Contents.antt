@@ -1,5 +1,5 @@
 -- What the files of a line hold, and the rounds that it asks for with them.
-use Rattle.std.specs.Prelude.{◌≡◌, ℕ, ◌≤◌, true, false, List, length}
+use Rattle.std.specs.Prelude.{◌≡◌, ℕ, ◌≤◌, true, false, List, length, unwrap_or}
 use Rattle.std.specs.List.{AllZip}
 use Rattle.elf_spec.specs.declared.TheConstants.{MOST_ELF_BYTES}
 use Rattle.elf_spec.specs.Image.{is_image}
@@ -68,8 +68,13 @@ pub record IsRunPlan (line : RunLine) (before : World) (p : Plan) : Type 0 where
   pub beginning : p.beginning ≡ from_scratch (setup_of line contents)
   pub edited : AreInputs contents.input contents.lists p.inputs
 
+-- The fuel of a line that reruns a memo: its own, or the memo's where it has none.
+abbrev pub fuel_of : RerunLine → History → ℕ
+fuel_of line h = unwrap_or line.fuel h.setup.fuel
+
 -- The plan of a line that reruns a memo: its files were read, and the memo is accepted; round 1 goes by the history
--- that the memo spells; and each edit list makes the input of a round, or there is one round on the memo's input.
+-- that the memo spells, with the line's fuel; and each edit list makes the input of a round, or there is one round on
+-- the memo's input.
 pub record IsRerunPlan (line : RerunLine) (before : World) (p : Plan) : Type 0 where
   pub memo : List ℕ
   pub read : IsMemoContent before line.memo memo
@@ -77,7 +82,7 @@ pub record IsRerunPlan (line : RerunLine) (before : World) (p : Plan) : Type 0 w
   pub lists_read : AreLists before line.edits lists
   pub history : History
   pub accepted : IsMemoOf memo history
-  pub beginning : p.beginning ≡ after_memo history
+  pub beginning : p.beginning ≡ after_memo history (fuel_of line history)
   pub edited : AreRerunInputs history.setup.input lists p.inputs
 
 -- A plan of a line; a line that shows a memo asks for no rounds.

@@ -30,8 +30,8 @@ pub use status::Status;
 /// `run ELF INPUT [EDITS].. --workers W --fuel F --steps S --memo FILE` runs the executable on the input from scratch,
 /// and then once for each edit list, on the input of the round before after the list's edits.
 ///
-/// `rerun MEMO [EDITS].. --workers W --memo FILE` goes on from the round that a memo holds: once for each edit list, or
-/// once without an edit.
+/// `rerun MEMO [EDITS].. --workers W --fuel F --memo FILE` goes on from the round that a memo holds: once for each edit
+/// list, or once without an edit; with the memo's fuel where the line names none.
 ///
 /// Each round takes from the round before it the steps whose records fit, and executes the others. The report of each
 /// round is printed before the next round begins; after the last one the memo of what it leaves is written, where the

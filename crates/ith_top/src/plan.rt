@@ -3,6 +3,7 @@
 
 ghost use Rattle.std.specs.Prelude.{◌≡◌, ◌≤◌, ◌<◌, ◌+◌, ◌^◌, length, IfOk, IfErr};
 ghost use Rattle.ith_host.specs.World.{Stays, NoneFell, AsksNothing};
+ghost use Rattle.machine_spec.specs.Limits.{AreLimits};
 ghost use Rattle.machine_spec.specs.Setup.{IsSetup};
 ghost use Rattle.memo_spec.specs.Spelling.{AreBytes};
 ghost use Rattle.rerun_spec.specs.Inputs.{AreInputs, AreRerunInputs};
@@ -11,7 +12,7 @@ ghost use Rattle.round_inputs.specs.Lists.{bytes_of_each};
 ghost use Rattle.ith_words.specs.Words.{Runs, Reruns};
 ghost use Rattle.ith_words.specs.Said.{run_said, rerun_said};
 ghost use Rattle.ith_top.specs.Files.{files_named, AsksForFiles};
-ghost use Rattle.ith_top.specs.Contents.{IsMemoOf, IsRunPlan, IsRerunPlan};
+ghost use Rattle.ith_top.specs.Contents.{IsMemoOf, IsRunPlan, IsRerunPlan, fuel_of};
 ghost use Rattle.ith_top.specs.Ends.{RoundsEnd};
 ghost use Rattle.ith_top.specs.Refusals.{WhyNoSetup, WhyNoHistory, WhyUnedited};
 ghost use Rattle.ith_top.specs.Playing.{beginning_said, plan_said, CanBePlayed, CanBeSpelled};
@@ -170,12 +171,26 @@ fn edit_again<H: Host>(
     }
 }
 
-/// What the rounds begin with that go by a memo.
-fn start_after(alloc: Global, history: History) -> Result<Start, AllocError>
-    ensures { IfOk result (λ start. beginning_said start ≡ begin.after_memo history) }
+/// The most turns of a thunk in the rounds of a line that reruns a memo: the line's, or the memo's where it has none.
+fn fuel_of(line: &RerunLine<'_>, history: &History) -> u32
+    ensures value { result ≡ fuel_of (rerun_said line.now) history.now }
+    ensures within { AreLimits result history.now.setup.limit }
+{
+    let limits = history.setup().limits();
+    limits.sound();
+    match line.fuel {
+        Some(fuel) => fuel,
+        None => limits.fuel(),
+    }
+}
+
+/// What the rounds of this fuel begin with that go by a memo.
+fn start_after(alloc: Global, history: History, fuel: u32) -> Result<Start, AllocError>
+    requires { AreLimits fuel history.setup.limit }
+    ensures { IfOk result (λ start. beginning_said start ≡ begin.after_memo history fuel) }
 {
     history.setup().sound();
-    let limits = history.setup().limits();
+    let limits = history.setup().limits().with_fuel(fuel);
     let input = Vec::from_slice(alloc, history.setup().input())?;
     let setup = history.setup().with(input, limits)?;
     let past = Arc::new(alloc, history)?;
@@ -269,7 +284,8 @@ pub fn prepare_rerun<H: Host>(
         Ok(inputs) => inputs,
         Err(status) => return Err(status),
     };
-    match start_after(alloc, history) {
+    let fuel = fuel_of(line, &history);
+    match start_after(alloc, history, fuel) {
         Ok(start) => Ok(Plan { start, inputs }),
         Err(_) => {
             host.complain(NO_MEMORY);

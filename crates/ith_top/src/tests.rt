@@ -84,13 +84,15 @@ fn a_trap_is_reported(rt: HostRuntime) -> Result<(), Fail> {
 }
 
 /// Lines that are refused: their words, the status, and how the complaint begins.
-const REFUSED: [(&str, u8, &str); 24] = [
+const REFUSED: [(&str, u8, &str); 26] = [
     ("ithreads run hi.elf", 2, "words: "),
     ("ithreads run hi.elf empty --workers 0", 2, "words: "),
     ("ithreads run hi.elf empty --workers 17", 2, "words: "),
     ("ithreads run -x empty --workers 1", 2, "words: "),
     ("ithreads rerun", 2, "words: "),
-    ("ithreads rerun five --fuel 4", 2, "words: "),
+    ("ithreads rerun five --fuel 0", 2, "words: "),
+    ("ithreads rerun five --steps 4", 2, "words: "),
+    ("ithreads rerun five --fuel 4", 4, "memo: Short\n"),
     ("ithreads show five five", 2, "words: "),
     ("ithreads run empty empty --workers 1", 3, "image: NotElf\n"),
     ("ithreads rerun five --workers 1", 4, "memo: Short\n"),

@@ -9,7 +9,7 @@ use Rattle.clap.specs.declared.builder.value_parser.ValueParser.TheVariants as p
 use Rattle.clap.specs.declared.parser.matches.Found.{Found}
 use Rattle.clap.proofs.ValueTestLemmas.{accepts-Accepts, Accepts-accepts}
 use Rattle.clap.proofs.WalkLemmas.{both, first_value-rows, one_text-rows, raw_values-rows}
-use Rattle.ith_words.specs.Words.{number_or}
+use Rattle.ith_words.specs.Words.{number_given}
 
 -- the first text of an operand or option
 pub first_value_of_rows : (f : Found) (id : Text) → first_value f id ≡ first_of id (rows_of f)
@@ -35,25 +35,23 @@ numeral text number =
     let least : 0 ≤ value text = omega arith in
     (both _ _ (Accepts-accepts false (parser.Unsigned 0 18446744073709551615) text (number.0, small, least, most))).0
 
--- the number that is taken: this one where it lies from 1 to the most, and else the default
-abbrev pub taken : ℕ → ℕ → ℕ → ℕ
-taken most default n = cond (nat_le 1 n && nat_le n most) n default
+-- the number that is taken: this one where it lies from 1 to the most
+abbrev pub taken : ℕ → ℕ → Option ℕ
+taken most n = cond (nat_le 1 n && nat_le n most) (Some n) None
 
 -- of a text that is a number
 taken_text :
-    (most default : ℕ) (text : Text) (n : ℕ)
-    → IsNumber text → n ≡ value text → taken most default n ≡ number_or most default (Some text)
-taken_text most default text n number is =
+    (most : ℕ) (text : Text) (n : ℕ)
+    → IsNumber text → n ≡ value text → taken most n ≡ number_given most (Some text)
+taken_text most text n number is =
     let small : nat_lt (value text) (2 ^ 64) ≡ true = let h = number.1 in lt-ltb _ _ (omega arith) in
     rw (is, numeral text number, small) refl
 
 -- of a text that is none
-left_text :
-    (most default : ℕ) (text : Text)
-    → most < 2 ^ 32 → (IsNumber text → ⊥) → default ≡ number_or most default (Some text)
-left_text most default text fits none = go (is_unsigned_in 1 most text) refl
+left_text : (most : ℕ) (text : Text) → most < 2 ^ 32 → (IsNumber text → ⊥) → None ≡ number_given most (Some text)
+left_text most text fits none = go (is_unsigned_in 1 most text) refl
   where
-    go : (b : Bool) → is_unsigned_in 1 most text ≡ b → default ≡ cond b (value text) default
+    go : (b : Bool) → is_unsigned_in 1 most text ≡ b → None ≡ cond b (Some (value text)) None
     go false is = refl
     go true is =
         let accepted = accepts-Accepts false (parser.Unsigned 1 most) text is in
@@ -62,36 +60,35 @@ left_text most default text fits none = go (is_unsigned_in 1 most text) refl
 
 -- the number of an option, where the parser's reader gave one
 pub number_read :
-    (most default : ℕ) (f : Found) (id : Text) (n : ℕ)
+    (most : ℕ) (f : Found) (id : Text) (n : ℕ)
     → (one_text f id ≡ None → Some n ≡ None) → ((t : List ℕ) → one_text f id ≡ Some t → IsNumber t × (n ≡ value t))
-    → taken most default n ≡ number_or most default (one_of id (rows_of f))
-number_read most default f id n none some =
-    go (one_text f id) none some ∙ ap (number_or most default) (one_text-rows f id)
+    → taken most n ≡ number_given most (one_of id (rows_of f))
+number_read most f id n none some = go (one_text f id) none some ∙ ap (number_given most) (one_text-rows f id)
   where
     go : (o : Option Text) → (o ≡ None → Some n ≡ None) → ((t : List ℕ) → o ≡ Some t → IsNumber t × (n ≡ value t))
-        → taken most default n ≡ number_or most default o
+        → taken most n ≡ number_given most o
     go None absent number = absurd (true≢false (ap is_some (absent refl)))
     go (Some text) absent number =
         let is = number text refl in
-        taken_text most default text n is.0 is.1
+        taken_text most text n is.0 is.1
 
 -- and where it gave none
 pub number_unread :
-    (most default : ℕ) (f : Found) (id : Text)
+    (most : ℕ) (f : Found) (id : Text)
     → most < 2 ^ 32 → ((t : List ℕ) → one_text f id ≡ Some t → IsNumber t → ⊥)
-    → default ≡ number_or most default (one_of id (rows_of f))
-number_unread most default f id fits some = go (one_text f id) some ∙ ap (number_or most default) (one_text-rows f id)
+    → None ≡ number_given most (one_of id (rows_of f))
+number_unread most f id fits some = go (one_text f id) some ∙ ap (number_given most) (one_text-rows f id)
   where
-    go : (o : Option Text) → ((t : List ℕ) → o ≡ Some t → IsNumber t → ⊥) → default ≡ number_or most default o
+    go : (o : Option Text) → ((t : List ℕ) → o ≡ Some t → IsNumber t → ⊥) → None ≡ number_given most o
     go None none = refl
-    go (Some text) none = left_text most default text fits (none text refl)
+    go (Some text) none = left_text most text fits (none text refl)
 
 -- which number is taken, by where it lies
-pub taken_within : (most default n : ℕ) → 1 ≤ n → n ≤ most → n ≡ taken most default n
-taken_within most default n some within = rw (le-leb 1 n some, le-leb n most within) refl
+pub taken_within : (most n : ℕ) → 1 ≤ n → n ≤ most → Some n ≡ taken most n
+taken_within most n some within = rw (le-leb 1 n some, le-leb n most within) refl
 
-pub taken_below : (most default n : ℕ) → n < 1 → default ≡ taken most default n
-taken_below most default n none = rw (lt-leb 1 n none) refl
+pub taken_below : (most n : ℕ) → n < 1 → None ≡ taken most n
+taken_below most n none = rw (lt-leb 1 n none) refl
 
-pub taken_above : (most default n : ℕ) → 1 ≤ n → most < n → default ≡ taken most default n
-taken_above most default n some above = rw (le-leb 1 n some, lt-leb n most above) refl
+pub taken_above : (most n : ℕ) → 1 ≤ n → most < n → None ≡ taken most n
+taken_above most n some above = rw (le-leb 1 n some, lt-leb n most above) refl

@@ -24,6 +24,7 @@ rerun_said l = record {
   memo = l.memo.now;
   edits = map (λ name. name.now) l.edits.items;
   workers = l.workers;
+  fuel = l.fuel;
   kept = option_map (λ name. name.now) l.kept;
 }
 

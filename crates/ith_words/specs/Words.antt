@@ -26,11 +26,12 @@ pub record RunLine : Type 0 where
   pub kept : Option Text
 
 -- A line that goes on from a memo: the names of the memo to read and of the edit lists, in order, how many workers,
--- and the name of the memo to write, if there is to be one.
+-- the fuel, if it isn't to be the memo's, and the name of the memo to write, if there is to be one.
 pub record RerunLine : Type 0 where
   pub memo : Text
   pub edits : List Text
   pub workers : ℕ
+  pub fuel : Option ℕ
   pub kept : Option Text
 
 -- A line that lists a memo: the name of the memo to read.
@@ -79,12 +80,13 @@ with_edits command = with_rule command (operands_rule (codes "EDITS"))
 abbrev pub with_workers : App → App
 with_workers command = with_rule command (number_rule (codes "workers") MOST_WORKERS)
 
+-- A command with the option for the fuel more.
+abbrev pub with_fuel : App → App
+with_fuel command = with_rule command (number_rule (codes "fuel") MOST_FUEL)
+
 -- A command with the options for the limits of a run more.
 abbrev pub with_limits : App → App
-with_limits command =
-    with_rule
-    (with_rule command (number_rule (codes "fuel") MOST_FUEL))
-    (number_rule (codes "steps") MOST_STEPS)
+with_limits command = with_rule (with_fuel command) (number_rule (codes "steps") MOST_STEPS)
 
 -- A command with the option for the memo to write more.
 abbrev pub with_memo : App → App
@@ -100,10 +102,13 @@ run_operands =
 abbrev pub run_command : App
 run_command = with_memo (with_limits (with_workers run_operands))
 
--- The command that goes on from a memo: the memo and edit lists, and two options.
+-- The operands of the command that goes on from a memo: the memo, and then any number of edit lists.
+abbrev pub rerun_operands : App
+rerun_operands = with_edits (with_rule (new_app (codes "rerun")) (operand_rule (codes "MEMO")))
+
+-- The command that goes on from a memo: its operands, and three options.
 abbrev pub rerun_command : App
-rerun_command =
-    with_memo (with_workers (with_edits (with_rule (new_app (codes "rerun")) (operand_rule (codes "MEMO")))))
+rerun_command = with_memo (with_fuel (with_workers rerun_operands))
 
 -- The command that lists a memo: the memo alone.
 abbrev pub show_command : App
@@ -118,11 +123,15 @@ abbrev pub command_line : App
 command_line =
     with_subcommand (with_subcommand (with_subcommand program run_command.top) rerun_command.top) show_command.top
 
--- The number that a text writes where it lies from 1 to the most, and else the default.
+-- The number that a text writes where it lies from 1 to the most.
+abbrev pub number_given : ℕ → Option Text → Option ℕ
+number_given most None = None
+number_given most (Some text) =
+    if is_unsigned_in 1 most text then Some (digits_value 10 (without_leading_plus text)) else None
+
+-- The same, or else the default.
 abbrev pub number_or : ℕ → ℕ → Option Text → ℕ
-number_or most default None = default
-number_or most default (Some text) =
-    if is_unsigned_in 1 most text then digits_value 10 (without_leading_plus text) else default
+number_or most default text = unwrap_or (number_given most text) default
 
 -- The text of an operand that has to be there.
 abbrev pub operand : Text → List Row → Text
@@ -136,9 +145,13 @@ edits_named rows = unwrap_or (all_of (codes "EDITS") rows) []
 abbrev pub workers_named : List Row → ℕ
 workers_named rows = number_or MOST_WORKERS default_workers (one_of (codes "workers") rows)
 
+-- The most turns of a thunk, if the line says.
+abbrev pub fuel_given : List Row → Option ℕ
+fuel_given rows = number_given MOST_FUEL (one_of (codes "fuel") rows)
+
 -- The most turns of a thunk.
 abbrev pub fuel_named : List Row → ℕ
-fuel_named rows = number_or MOST_FUEL default_fuel (one_of (codes "fuel") rows)
+fuel_named rows = unwrap_or (fuel_given rows) default_fuel
 
 -- The most steps of a run.
 abbrev pub limit_named : List Row → ℕ
@@ -168,6 +181,7 @@ rerun_line rows =
       memo = operand (codes "MEMO") rows;
       edits = edits_named rows;
       workers = workers_named rows;
+      fuel = fuel_given rows;
       kept = memo_named rows;
     }
 

@@ -105,19 +105,27 @@ fn with_memo<'a>(alloc: Global, command: Command<'a>) -> Result<Command<'a>, All
     )
 }
 
+/// A command with the option for the fuel more.
+fn with_fuel<'a>(
+    alloc: Global,
+    command: Command<'a>,
+    help: &'a str,
+) -> Result<Command<'a>, AllocError>
+    ensures shape { IfOk result (λ c. app_of c ≡ line.with_fuel (app_of command.entry)) }
+    ensures local { IfOk result (λ c. (out-Command c).has_globals ≡ (out-Command command.entry).has_globals) }
+{
+    with_arg(command, number(alloc, "fuel", MOST_FUEL, help))
+}
+
 /// A command with the options for the limits of a run more.
 fn with_limits<'a>(alloc: Global, command: Command<'a>) -> Result<Command<'a>, AllocError>
     ensures shape { IfOk result (λ c. app_of c ≡ line.with_limits (app_of command.entry)) }
     ensures local { IfOk result (λ c. (out-Command c).has_globals ≡ (out-Command command.entry).has_globals) }
 {
-    let command = with_arg(
+    let command = with_fuel(
+        alloc,
         command,
-        number(
-            alloc,
-            "fuel",
-            MOST_FUEL,
-            "The most turns of a thunk, 1 to 16777216 [default: 1000000]",
-        ),
+        "The most turns of a thunk, 1 to 16777216 [default: 1000000]",
     )?;
     with_arg(
         command,
@@ -152,9 +160,9 @@ fn run_command<'a>(alloc: Global) -> Result<Command<'a>, AllocError>
     with_memo(alloc, command)
 }
 
-/// The command that goes on from a memo.
-fn rerun_command<'a>(alloc: Global) -> Result<Command<'a>, AllocError>
-    ensures shape { IfOk result (λ c. app_of c ≡ line.rerun_command) }
+/// The operands of the command that goes on from a memo.
+fn rerun_operands<'a>(alloc: Global) -> Result<Command<'a>, AllocError>
+    ensures shape { IfOk result (λ c. app_of c ≡ line.rerun_operands) }
     ensures local { IfOk result (λ c. (out-Command c).has_globals ≡ false) }
 {
     let command = Command::new(alloc, "rerun").about("Goes on from a memo");
@@ -162,8 +170,21 @@ fn rerun_command<'a>(alloc: Global) -> Result<Command<'a>, AllocError>
         command,
         operand(alloc, "MEMO", "The name of the memo to read"),
     )?;
-    let command = with_edits(alloc, command)?;
+    with_edits(alloc, command)
+}
+
+/// The command that goes on from a memo.
+fn rerun_command<'a>(alloc: Global) -> Result<Command<'a>, AllocError>
+    ensures shape { IfOk result (λ c. app_of c ≡ line.rerun_command) }
+    ensures local { IfOk result (λ c. (out-Command c).has_globals ≡ false) }
+{
+    let command = rerun_operands(alloc)?;
     let command = with_workers(alloc, command)?;
+    let command = with_fuel(
+        alloc,
+        command,
+        "The most turns of a thunk, 1 to 16777216 [default: the memo's]",
+    )?;
     with_memo(alloc, command)
 }
 

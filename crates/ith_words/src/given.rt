@@ -1,6 +1,6 @@
 //! What the parser found in the words, for one of the operands or options of a command.
 
-ghost use Rattle.std.specs.Prelude.{◌≡◌, ◌≤◌, map, codes, unwrap_or, option_map, [], IfOk};
+ghost use Rattle.std.specs.Prelude.{◌≡◌, ◌≤◌, map, codes, unwrap_or, option_map, [], IfOk, IfSome};
 ghost use Rattle.clap.specs.Words.{all_of, first_of, found_of, one_of, rows_of};
 ghost use Rattle.ith_words.specs.Words as line;
 
@@ -41,17 +41,14 @@ pub fn edits_of<'a>(alloc: Global, given: &ArgMatches<'a>) -> Result<Vec<&'a str
     }
 }
 
-/// The number of an option, or the default where the line has no such option.
-fn number_of(given: &ArgMatches<'_>, id: &str, most: u32, default: u32) -> u32
-    requires some { 1 ≤ default }
-    requires within { default ≤ most }
-    ensures value { result ≡ line.number_or most default (one_of id.now (rows_of (found_of given.now))) }
-    ensures least { 1 ≤ result }
-    ensures most { result ≤ most }
+/// The number of an option, if the line has the option.
+fn number_of(given: &ArgMatches<'_>, id: &str, most: u32) -> Option<u32>
+    ensures value { result ≡ line.number_given most (one_of id.now (rows_of (found_of given.now))) }
+    ensures within { IfSome result (λ number. (1 ≤ number) × (number ≤ most)) }
 {
     match given.get_one::<u32>(id) {
-        Some(number) if 1 <= number && number <= most => number,
-        _ => default,
+        Some(number) if 1 <= number && number <= most => Some(number),
+        _ => None,
     }
 }
 
@@ -61,7 +58,15 @@ pub fn workers_of(given: &ArgMatches<'_>) -> u32
     ensures least { 1 ≤ result }
     ensures most { result ≤ MOST_WORKERS }
 {
-    number_of(given, "workers", MOST_WORKERS, DEFAULT_WORKERS)
+    number_of(given, "workers", MOST_WORKERS).unwrap_or(DEFAULT_WORKERS)
+}
+
+/// The most turns of a thunk, if the line says.
+pub fn fuel_of(given: &ArgMatches<'_>) -> Option<u32>
+    ensures value { result ≡ line.fuel_given (rows_of (found_of given.now)) }
+    ensures within { IfSome result (λ fuel. (1 ≤ fuel) × (fuel ≤ MOST_FUEL)) }
+{
+    number_of(given, "fuel", MOST_FUEL)
 }
 
 /// The limits of the run.
@@ -69,8 +74,8 @@ pub fn limits_of(given: &ArgMatches<'_>) -> Limits
     ensures fuel { result.fuel ≡ line.fuel_named (rows_of (found_of given.now)) }
     ensures steps { result.steps ≡ line.limit_named (rows_of (found_of given.now)) }
 {
-    let fuel = number_of(given, "fuel", MOST_FUEL, DEFAULT_FUEL);
-    let steps = number_of(given, "steps", MOST_STEPS, DEFAULT_STEPS);
+    let fuel = fuel_of(given).unwrap_or(DEFAULT_FUEL);
+    let steps = number_of(given, "steps", MOST_STEPS).unwrap_or(DEFAULT_STEPS);
     match Limits::new(fuel, steps) {
         Some(limits) => limits,
         None => unreachable!(),

@@ -1,6 +1,8 @@
 //! What a command line asks for.
 
-ghost use Rattle.std.specs.Prelude.{◌≤◌};
+ghost use Rattle.std.specs.Prelude.{◌≤◌, IfSome};
+ghost use Rattle.std.proofs.Props.{props};
+ghost use Rattle.machine_spec.specs.declared.TheConstants.{MOST_FUEL};
 ghost use Rattle.ith_words.specs.declared.line.TheConstants.{MOST_WORKERS};
 
 use machine_spec::Limits;
@@ -47,10 +49,13 @@ pub struct RerunLine<'a> {
     pub edits: Vec<&'a str>,
     /// How many workers there are.
     pub workers: u32,
+    /// The most turns of a thunk, if it isn't to be the memo's.
+    pub fuel: Option<u32>,
     /// The name of the memo to write, if there is to be one.
     pub kept: Option<&'a str>,
     ghost some_worker: { 1 ≤ workers },
     ghost most_workers: { workers ≤ MOST_WORKERS },
+    ghost fuel_within: { IfSome fuel (λ f. (1 ≤ f) × (f ≤ MOST_FUEL)) } by { Prim.hlevel props },
 }
 
 /// A line that lists a memo.

@@ -8,7 +8,8 @@ use std::test::Fail;
 struct Wanted<'a> {
     edits: &'a [&'a str],
     workers: u32,
-    fuel: u32,
+    /// The fuel that the line names, if it names one.
+    fuel: Option<u32>,
     limit: u32,
     kept: Option<&'a str>,
 }
@@ -17,7 +18,7 @@ struct Wanted<'a> {
 const PLAIN: Wanted<'static> = Wanted {
     edits: &[],
     workers: 4,
-    fuel: 1_000_000,
+    fuel: None,
     limit: 4096,
     kept: None,
 };
@@ -40,7 +41,7 @@ fn runs(run: &RunLine<'_>, wanted: &Wanted<'_>) -> bool {
         && run.input == "b"
         && run.edits.as_slice() == wanted.edits
         && run.workers == wanted.workers
-        && run.limits.fuel() == wanted.fuel
+        && run.limits.fuel() == wanted.fuel.unwrap_or(1_000_000)
         && run.limits.steps() == wanted.limit
         && is_kept
 }
@@ -51,6 +52,7 @@ fn reruns(rerun: &RerunLine<'_>, wanted: &Wanted<'_>) -> bool {
     rerun.memo == "m"
         && rerun.edits.as_slice() == wanted.edits
         && rerun.workers == wanted.workers
+        && rerun.fuel == wanted.fuel
         && is_kept
 }
 
@@ -119,7 +121,7 @@ fn runs_are_accepted(rt: HostRuntime) -> Result<(), Fail> {
         let wanted = Wanted {
             edits,
             workers,
-            fuel,
+            fuel: Some(fuel),
             limit,
             kept: None,
         };
@@ -154,6 +156,26 @@ fn memos_are_named(rt: HostRuntime) -> Result<(), Fail> {
             edits,
             workers,
             kept,
+            ..PLAIN
+        };
+        assert!(rt; is_accepted(rt.alloc(), line, &wanted)?, "at {line}");
+    }
+    Ok(())
+}
+
+#[test]
+fn reruns_have_a_fuel_of_their_own(rt: HostRuntime) -> Result<(), Fail> {
+    let rows: [(&str, &[&str], u32); 5] = [
+        ("rerun m --fuel 4", &[], 4),
+        ("rerun --fuel=1 m", &[], 1),
+        ("rerun m c --fuel 16777216 d", &["c", "d"], 16_777_216),
+        ("rerun m --fuel +5", &[], 5),
+        ("rerun --fuel 1000000 -- m --fuel", &["--fuel"], 1_000_000),
+    ];
+    for (line, edits, fuel) in rows {
+        let wanted = Wanted {
+            edits,
+            fuel: Some(fuel),
             ..PLAIN
         };
         assert!(rt; is_accepted(rt.alloc(), line, &wanted)?, "at {line}");
@@ -231,7 +253,11 @@ fn lines_about_a_memo_are_refused(rt: HostRuntime) -> Result<(), Fail> {
         "rerun --memo m",
         "rerun m --memo",
         "rerun m --memo=k --memo=l",
-        "rerun m --fuel 4",
+        "rerun m --fuel",
+        "rerun m --fuel 0",
+        "rerun m --fuel 16777217",
+        "rerun m --fuel four",
+        "rerun m --fuel 4 --fuel 4",
         "rerun m --steps 4",
         "rerun m --workers 0",
         "rerun m --workers 17",

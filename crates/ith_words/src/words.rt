@@ -7,7 +7,7 @@ ghost use Rattle.ith_words.specs.Said.{run_said, rerun_said, show_said, line_sai
 ghost use Rattle.ith_words.specs.Refusals.{WhyNoLine, WhyFault};
 
 use super::command::command_line;
-use super::given::{edits_of, limits_of, memo_of, operand_of, workers_of};
+use super::given::{edits_of, fuel_of, limits_of, memo_of, operand_of, workers_of};
 use super::line::{Line, RerunLine, RunLine, ShowLine};
 use clap::error::ErrorKind;
 use clap::{ArgMatches, Error};
@@ -91,6 +91,7 @@ fn rerun_line<'a>(alloc: Global, given: &ArgMatches<'a>) -> Result<RerunLine<'a>
         memo: operand_of(given, "MEMO"),
         edits,
         workers: workers_of(given),
+        fuel: fuel_of(given),
         kept: memo_of(given),
     })
 }

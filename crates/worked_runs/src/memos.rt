@@ -39,6 +39,74 @@ const HI: [Row; 4] = [
     ),
 ];
 
+/// Memos of the guest that puts out `hi`, gone on from with another fuel: its first step takes 5 instructions, and its
+/// second 3.
+const OTHER_FUEL: [Row; 10] = [
+    (
+        "ithreads run hi none --workers 1 --memo m",
+        0,
+        "round 0\nend exit 0\nsteps 2\nreused 0\nexecuted 2\ninstructions 8\nby 2\nschedule 0+ 0+\n\
+         memory *\noutput 3\nhi\n\n",
+    ),
+    (
+        "ithreads rerun m --workers 1 --fuel 4 --memo n",
+        1,
+        "round 1\nend spent\nsteps 1\nreused 0\nexecuted 1\ninstructions 4\nby 1\nschedule 0+\n\
+         memory *\noutput 0\n\n",
+    ),
+    (
+        "ithreads show n",
+        0,
+        "elf 119\ninput 0\nfuel 4\nlimit 4096\nentries 1\n\
+         entry 0 thread 0 number 0 end fuel count 4 reads 00010000 writes -\n",
+    ),
+    (
+        "ithreads rerun m --workers 1 --fuel 5",
+        0,
+        "round 1\nend exit 0\nsteps 2\nreused 2\nexecuted 0\ninstructions 0\nby 2\nschedule 0= 0=\n\
+         memory *\noutput 3\nhi\n\n",
+    ),
+    (
+        "ithreads run hi none --workers 1 --fuel 4 --memo m4",
+        1,
+        "round 0\nend spent\nsteps 1\nreused 0\nexecuted 1\ninstructions 4\nby 1\nschedule 0+\n\
+         memory *\noutput 0\n\n",
+    ),
+    (
+        "ithreads rerun m4 --workers 1",
+        1,
+        "round 1\nend spent\nsteps 1\nreused 1\nexecuted 0\ninstructions 0\nby 1\nschedule 0=\n\
+         memory *\noutput 0\n\n",
+    ),
+    (
+        "ithreads rerun m4 --workers 1 --fuel 4",
+        1,
+        "round 1\nend spent\nsteps 1\nreused 1\nexecuted 0\ninstructions 0\nby 1\nschedule 0=\n\
+         memory *\noutput 0\n\n",
+    ),
+    (
+        "ithreads rerun m4 --workers 1 --fuel 3",
+        1,
+        "round 1\nend spent\nsteps 1\nreused 0\nexecuted 1\ninstructions 3\nby 1\nschedule 0+\n\
+         memory *\noutput 0\n\n",
+    ),
+    (
+        "ithreads rerun m4 --workers 1 --fuel 5",
+        0,
+        "round 1\nend exit 0\nsteps 2\nreused 0\nexecuted 2\ninstructions 8\nby 2\nschedule 0+ 0+\n\
+         memory *\noutput 3\nhi\n\n",
+    ),
+    // all rounds of the line have its fuel
+    (
+        "ithreads rerun m4 shorter shorter --workers 1 --fuel 5",
+        0,
+        "round 1\nend exit 0\nsteps 2\nreused 0\nexecuted 2\ninstructions 8\nby 2\nschedule 0+ 0+\n\
+         memory *\noutput 3\nhi\n\n\
+         round 2\nend exit 0\nsteps 2\nreused 2\nexecuted 0\ninstructions 0\nby 2\nschedule 0= 0=\n\
+         memory *\noutput 3\nhi\n\n",
+    ),
+];
+
 /// Memos of a trap and of stored pages, and one that is gone on from after edits; lines that are refused.
 const FURTHER: [Row; 10] = [
     (
@@ -105,6 +173,13 @@ fn memos_are_kept_and_gone_on_from(rt: HostRuntime) -> Result<(), Fail> {
     compare(&rt, alloc, &mut host, &FURTHER)
 }
 
+#[test]
+fn another_fuel_is_asked_for(rt: HostRuntime) -> Result<(), Fail> {
+    let alloc = rt.alloc();
+    let mut host = host_with_guests(alloc)?;
+    compare(&rt, alloc, &mut host, &OTHER_FUEL)
+}
+
 /// The memo of the guest that puts out `hi`.
 fn memo_of_hi<R: Threads + Sync>(rt: &R, alloc: Global) -> Result<Vec<u8>, AllocError> {
     let mut host = host_with_guests(alloc)?;
@@ -127,7 +202,7 @@ const UNSEALED: [Damage; 3] = [
 ];
 
 /// What stands under a digest that fits.
-const SEALED: [Damage; 12] = [
+const SEALED: [Damage; 13] = [
     (8, &[1, 0, 0, 1], "memo: Limit elf\n"),
     (135, &[0, 0, 0, 0], "memo: Limit fuel\n"),
     (139, &[0, 0, 0, 0], "memo: Limit steps\n"),
@@ -140,6 +215,8 @@ const SEALED: [Damage; 12] = [
     (4247, &[32], "memo: Field 4247\n"),
     (4248, &[10], "memo: Field 4248\n"),
     (4247, &[1], "memo: Incoherent 0\n"),
+    // ended by the fuel, after fewer turns than it allows
+    (4248, &[9], "memo: Incoherent 0\n"),
 ];
 
 /// Bytes with others in place of some, from an offset on.

@@ -1,10 +1,11 @@
 -- How a rerun ends that has no plan, and what holds of its plan.
-use Rattle.std.proofs.Common.{rules, ◌∙◌}
+use Rattle.std.proofs.Common.{rules, ◌≡◌, ◌∙◌, ap}
 use Rattle.round_inputs.specs.Lists.{bytes_of_each}
 use Rattle.ith_words.specs.Words.{Reruns}
 use Rattle.ith_words.specs.Said.{rerun_said}
 use Rattle.rerun_spec.specs.Inputs.{AreRerunInputs}
-use Rattle.ith_top.specs.Contents.{IsMemoOf, Plan}
+use Rattle.rerun_spec.specs.Rounds.{after_memo}
+use Rattle.ith_top.specs.Contents.{IsMemoOf, Plan, fuel_of}
 use Rattle.ith_top.specs.Playing.{beginning_said}
 use Rattle.ith_top.specs.Refusals.{WhyNoHistory, WhyUnedited}
 use Rattle.ith_top.proofs.Worlds.{stays_trans}
@@ -45,9 +46,12 @@ returns-in-Ok-start_after-clause-plan g c =
     rw (← c.as_slice.ensures.value) c.in-Ok-recall.ensures.history in
     let edited : AreRerunInputs c.in-Ok-recall.history.setup.input
     (bytes_of_each files.lists.items) c.in-Ok-edit_again.inputs = search rules in
+    let begins : p.beginning ≡ after_memo c.in-Ok-recall.history
+    (fuel_of (rerun_said c.args.line.now) c.in-Ok-recall.history) =
+    c.in-Ok-start_after.ensures ∙ ap (after_memo c.in-Ok-recall.history) c.fuel_of-fuel.ensures.value in
     rerun_plan (rerun_said c.args.line.now) (w c.args.host.now) files.memo.items
     (bytes_of_each files.lists.items) c.in-Ok-recall.history p
-    c.in-Ok.ensures.memo c.in-Ok.ensures.lists is c.in-Ok-start_after.ensures edited
+    c.in-Ok.ensures.memo c.in-Ok.ensures.lists is begins edited
 
 pub returns-in-Ok-start_after-clause-playable : goal.returns-in-Ok-start_after-clause-playable
 returns-in-Ok-start_after-clause-playable g c =
@@ -59,7 +63,7 @@ returns-in-Ok-start_after-clause-playable g c =
     let edited : AreRerunInputs c.in-Ok-recall.history.setup.input
     (bytes_of_each files.lists.items) c.in-Ok-edit_again.inputs = search rules in
     rerun_playable files.memo.items
-    (bytes_of_each files.lists.items) c.in-Ok-recall.history p is c.in-Ok-start_after.ensures
+    (bytes_of_each files.lists.items) c.in-Ok-recall.history c.fuel_of-fuel.result p is c.in-Ok-start_after.ensures
     c.in-Ok-edit_again.ensures.few edited
 
 pub returns-in-Ok-start_after-clause-spelled : goal.returns-in-Ok-start_after-clause-spelled
@@ -72,7 +76,8 @@ returns-in-Ok-start_after-clause-spelled g c =
     let edited : AreRerunInputs c.in-Ok-recall.history.setup.input
     (bytes_of_each files.lists.items) c.in-Ok-edit_again.inputs = search rules in
     rerun_spelled files.memo.items
-    (bytes_of_each files.lists.items) c.in-Ok-recall.history p is c.in-Ok-start_after.ensures edited
+    (bytes_of_each files.lists.items) c.in-Ok-recall.history c.fuel_of-fuel.result p is c.fuel_of-fuel.ensures.within
+    c.in-Ok-start_after.ensures edited
 
 pub returns-clause-refused : goal.returns-clause-refused
 returns-clause-refused g c =
