@@ -240,13 +240,14 @@ class Machine:
         return self.memory.setdefault(number, bytearray(PAGE))
 
     def fits(self, memo, record):
-        thread, _, _, start, _, reads, _ = record
+        thread, end, count, start, _, reads, _ = record
         if thread:
             if thread < self.threads:
                 raise Unknown
             return False
         held = all(bytes(self.page(number)) == memo.pool[index] for number, index in reads)
-        return held and start == self.registers
+        may_end = count == memo.fuel if end == 9 else count <= memo.fuel
+        return held and start == self.registers and may_end
 
     def lay(self, memo, record):
         _, end, _, _, finish, _, stores = record
