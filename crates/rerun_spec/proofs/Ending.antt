@@ -1,37 +1,41 @@
--- Each round comes to an end, has made a step, and is of its setup, whatever it goes by.
-use Rattle.std.proofs.Common.{◌≡◌, ◌≢◌, ℕ, Bool, true, false, cond, List, [], ◌∷◌, ◌++◌, slice_index_or, All, Option, Some, None, is_some, refl, ap, sym, ◌∙◌, subst}
+-- Each round that workers made has an end and has made a step; and each is of its setup, whatever it goes by.
+use Rattle.std.proofs.Common.{◌≡◌, ◌≢◌, ℕ, Bool, true, false, cond, List, [], ◌∷◌, ◌++◌, slice_index_or, All, Option, Some, None, is_some, refl, ap, sym, ◌∙◌}
 use Rattle.std.specs.List.{AllByRecursion}
 use Rattle.std.proofs.lemmas.List.Elements.{All-from_recursion}
 use Rattle.record_spec.specs.Record.{Record}
 use Rattle.machine_spec.specs.declared.states.End.{End}
 use Rattle.machine_spec.specs.Setup.{Setup, IsSetup, first}
-use Rattle.history_spec.specs.History.{History, IsSameProgram}
+use Rattle.history_spec.specs.History.{History, IsSameProgram, schedule_of}
+use Rattle.report_spec.specs.Report.{threads_of}
 use Rattle.round_spec.specs.declared.events.Event.{Event}
 use Rattle.round_spec.specs.declared.events.Event.TheVariants.{Take, Reuse, Commit, GiveBack, Stop}
 use Rattle.round_spec.specs.Marks.{record_for}
+use Rattle.round_spec.specs.Schedules.{events_in}
 use Rattle.round_spec.specs.Rounds.{RoundState, opening, is_out, is_over, can_take, can_reuse, taken, reused_by, committed, given_back, happens, all_happen}
 use Rattle.round_spec.specs.Keeping.{IsCounted}
 use Rattle.round_spec.proofs.Counting.{round-counted}
 use Rattle.round_spec.proofs.Leaving.{round-setup}
-use Rattle.worker_spec.proofs.Ending.{lone-ends}
-use Rattle.worker_spec.proofs.Events.{picks-events}
 use Rattle.rerun_spec.specs.Inputs.{AreShort}
-use Rattle.rerun_spec.specs.Rounds.{with_input, Round, made, left_by, Beginning, IsOfProgram, round_on, after_round, rounds_after, after_rounds}
+use Rattle.rerun_spec.specs.Rounds.{with_input, Found, Round, made, IsMade, left_by, schedule_in, Beginning, IsOfProgram, round_on, after_round, rounds_after, after_rounds}
 use Rattle.rerun_spec.proofs.Rounds.{EachShort, each-short, with-short}
 
--- a round is made by events
+-- a round is made by the events of its entries
 made-setup : (r : Round) → (made r).setup ≡ r.setup
-made-setup r =
-    let events = picks-events r.setup r.past r.setup.limit in
-    ap (λ (w : RoundState). w.setup) events.1 ∙ round-setup r.setup r.past events.0
+made-setup r = round-setup r.setup r.past (events_in r.found.entries)
 
 pub round-counts : (r : Round) → IsSetup r.setup → IsCounted (made r)
-round-counts r valid =
-    let events = picks-events r.setup r.past r.setup.limit in
-    subst IsCounted (sym events.1) (round-counted r.setup r.past events.0 valid)
+round-counts r valid = round-counted r.setup r.past (events_in r.found.entries) valid
 
-pub round-stops : (r : Round) → IsSetup r.setup → is_some (made r).machine.ending ≡ true
-round-stops r valid = lone-ends r.setup r.past valid
+pub round-stops : (workers : ℕ) (r : Round) → IsMade workers r → is_some (made r).machine.ending ≡ true
+round-stops workers r is = is.ended
+
+pub round-stands : (workers : ℕ) (r : Round) → IsMade workers r → (made r).schedule ≡ r.found.entries
+round-stands workers r is = is.stands
+
+-- what is left is of the schedule that was found
+pub left-found :
+    (workers : ℕ) (r : Round) → IsSetup r.setup → IsMade workers r → schedule_of (left_by r) ≡ schedule_in r
+left-found workers r valid is = (round-counts r valid).threads ∙ ap threads_of is.stands
 
 -- a round that has made no step has no end
 abbrev IsYoung : RoundState → Type 0
@@ -70,55 +74,81 @@ young-first : (s : Setup) (past : Option History) → IsYoung (opening s past)
 unfolding first
 young-first s past = λ none. refl
 
-pub round-steps : (r : Round) → IsSetup r.setup → (made r).schedule ≢ []
-round-steps r valid = λ none.
-    let events = picks-events r.setup r.past r.setup.limit in
+pub round-steps : (workers : ℕ) (r : Round) → IsMade workers r → (made r).schedule ≢ []
+round-steps workers r is = λ none.
     let young : IsYoung (made r) =
-    subst IsYoung (sym events.1) (young-all (opening r.setup r.past) events.0 (young-first r.setup r.past)) in
+    young-all (opening r.setup r.past) (events_in r.found.entries) (young-first r.setup r.past) in
     let ending : (made r).machine.ending ≡ None = young none in
-    let some : is_some (made r).machine.ending ≡ true = round-stops r valid in
-    let no : false ≡ true = sym (ap (λ (e : Option End). is_some e) ending) ∙ some in
+    let no : false ≡ true = sym (ap (λ (e : Option End). is_some e) ending) ∙ is.ended in
     cc
 
 -- what holds of every round
 each-valid :
-    (b : Beginning) (inputs : List (List ℕ)) → IsSetup b.setup → EachShort inputs
-    → AllByRecursion (λ (r : Round). IsSetup r.setup) (rounds_after b inputs)
-each-valid b [] valid short = tt
-each-valid b (input ∷ inputs) valid short =
-    (with-short b.setup input valid short.0, each-valid (after_round b input) inputs valid short.1)
+    (b : Beginning) (inputs : List (List ℕ)) (found : List Found) → IsSetup b.setup → EachShort inputs
+    → AllByRecursion (λ (r : Round). IsSetup r.setup) (rounds_after b inputs found)
+each-valid b [] found valid short = tt
+each-valid b (input ∷ inputs) [] valid short = tt
+each-valid b (input ∷ inputs) (f ∷ found) valid short =
+    (with-short b.setup input valid short.0, each-valid (after_round b input f) inputs found valid short.1)
+
+pub all-valid :
+    (b : Beginning) (inputs : List (List ℕ)) (found : List Found) → IsSetup b.setup → AreShort inputs
+    → All (λ (r : Round). IsSetup r.setup) (rounds_after b inputs found)
+all-valid b inputs found valid short =
+    All-from_recursion (λ (r : Round). IsSetup r.setup) (rounds_after b inputs found)
+    (each-valid b inputs found valid (each-short inputs short))
 
 pub valid-holds :
     (P : Round → Type 0) → ((r : Round) → IsSetup r.setup → P r)
-    → (b : Beginning) (inputs : List (List ℕ)) → IsSetup b.setup → AreShort inputs → All P (rounds_after b inputs)
-valid-holds P holds b inputs valid short = λ k d below.
-    holds (slice_index_or (rounds_after b inputs) k d)
-    (All-from_recursion (λ (r : Round). IsSetup r.setup) (rounds_after b inputs)
-    (each-valid b inputs valid (each-short inputs short)) k d below)
+    → (b : Beginning) (inputs : List (List ℕ)) (found : List Found) → IsSetup b.setup → AreShort inputs
+    → All P (rounds_after b inputs found)
+valid-holds P holds b inputs found valid short = λ k d below.
+    holds (slice_index_or (rounds_after b inputs found) k d) (all-valid b inputs found valid short k d below)
+
+-- what holds of every round that workers made
+pub made-holds :
+    (P : Round → Type 0) → ((workers : ℕ) (r : Round) → IsMade workers r → P r)
+    → (b : Beginning) (inputs : List (List ℕ)) (found : List Found) (workers : ℕ)
+    → All (IsMade workers) (rounds_after b inputs found) → All P (rounds_after b inputs found)
+made-holds P holds b inputs found workers made = λ k d below.
+    holds workers (slice_index_or (rounds_after b inputs found) k d) (made k d below)
+
+pub valid-made-holds :
+    (P : Round → Type 0) → ((workers : ℕ) (r : Round) → IsSetup r.setup → IsMade workers r → P r)
+    → (b : Beginning) (inputs : List (List ℕ)) (found : List Found) (workers : ℕ)
+    → IsSetup b.setup → AreShort inputs → All (IsMade workers) (rounds_after b inputs found)
+    → All P (rounds_after b inputs found)
+valid-made-holds P holds b inputs found workers valid short made = λ k d below.
+    holds workers (slice_index_or (rounds_after b inputs found) k d)
+    (all-valid b inputs found valid short k d below) (made k d below)
 
 pub left-own : (r : Round) → (left_by r).setup ≡ r.setup
 left-own r = made-setup r
 
 -- what is left is of the same program
-program-left : (b : Beginning) (input : List ℕ) → IsSameProgram (left_by (round_on b input)).setup b.setup
-program-left b input =
-    let same = left-own (round_on b input) in
+program-left :
+    (b : Beginning) (input : List ℕ) (f : Found) → IsSameProgram (left_by (round_on b input f)).setup b.setup
+program-left b input f =
+    let same = left-own (round_on b input f) in
     record {
       elf = ap (λ (t : Setup). t.elf) same;
       limit = ap (λ (t : Setup). t.limit) same;
     }
 
 program-each :
-    (b : Beginning) (inputs : List (List ℕ))
-    → AllByRecursion (λ r. IsSameProgram (left_by r).setup b.setup) (rounds_after b inputs)
-program-each b [] = tt
-program-each b (input ∷ inputs) = (program-left b input, program-each (after_round b input) inputs)
+    (b : Beginning) (inputs : List (List ℕ)) (found : List Found)
+    → AllByRecursion (λ r. IsSameProgram (left_by r).setup b.setup) (rounds_after b inputs found)
+program-each b [] found = tt
+program-each b (input ∷ inputs) [] = tt
+program-each b (input ∷ inputs) (f ∷ found) =
+    (program-left b input f, program-each (after_round b input f) inputs found)
 
 pub same-program :
-    (b : Beginning) (inputs : List (List ℕ))
-    → All (λ r. IsSameProgram (left_by r).setup b.setup) (rounds_after b inputs)
-same-program b inputs =
-    All-from_recursion (λ r. IsSameProgram (left_by r).setup b.setup) (rounds_after b inputs) (program-each b inputs)
+    (b : Beginning) (inputs : List (List ℕ)) (found : List Found)
+    → All (λ r. IsSameProgram (left_by r).setup b.setup) (rounds_after b inputs found)
+same-program b inputs found =
+    All-from_recursion (λ r. IsSameProgram (left_by r).setup b.setup) (rounds_after b inputs found)
+    (program-each b inputs found)
 
 -- so each round goes by a history of its program
 other-input :
@@ -128,20 +158,26 @@ other-input None s input of = tt
 other-input (Some h) s input of = record { elf = of.elf; limit = of.limit }
 
 past-each :
-    (b : Beginning) (inputs : List (List ℕ)) → IsOfProgram b.past b.setup
-    → AllByRecursion (λ (r : Round). IsOfProgram r.past r.setup) (rounds_after b inputs)
-past-each b [] of = tt
-past-each b (input ∷ inputs) of =
-    (other-input b.past b.setup input of, past-each (after_round b input) inputs (program-left b input))
+    (b : Beginning) (inputs : List (List ℕ)) (found : List Found) → IsOfProgram b.past b.setup
+    → AllByRecursion (λ (r : Round). IsOfProgram r.past r.setup) (rounds_after b inputs found)
+past-each b [] found of = tt
+past-each b (input ∷ inputs) [] of = tt
+past-each b (input ∷ inputs) (f ∷ found) of = (
+  other-input b.past b.setup input of,
+  past-each (after_round b input f) inputs found (program-left b input f),
+)
 
 pub same-past :
-    (b : Beginning) (inputs : List (List ℕ)) → IsOfProgram b.past b.setup
-    → All (λ (r : Round). IsOfProgram r.past r.setup) (rounds_after b inputs)
-same-past b inputs of =
-    All-from_recursion (λ (r : Round). IsOfProgram r.past r.setup) (rounds_after b inputs) (past-each b inputs of)
+    (b : Beginning) (inputs : List (List ℕ)) (found : List Found) → IsOfProgram b.past b.setup
+    → All (λ (r : Round). IsOfProgram r.past r.setup) (rounds_after b inputs found)
+same-past b inputs found of =
+    All-from_recursion (λ (r : Round). IsOfProgram r.past r.setup) (rounds_after b inputs found)
+    (past-each b inputs found of)
 
 pub later-past :
-    (b : Beginning) (inputs : List (List ℕ)) → IsOfProgram b.past b.setup
-    → IsOfProgram (after_rounds b inputs).past b.setup
-later-past b [] of = of
-later-past b (input ∷ inputs) of = later-past (after_round b input) inputs (program-left b input)
+    (b : Beginning) (inputs : List (List ℕ)) (found : List Found) → IsOfProgram b.past b.setup
+    → IsOfProgram (after_rounds b inputs found).past b.setup
+later-past b [] found of = of
+later-past b (input ∷ inputs) [] of = of
+later-past b (input ∷ inputs) (f ∷ found) of =
+    later-past (after_round b input f) inputs found (program-left b input f)

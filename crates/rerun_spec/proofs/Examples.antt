@@ -11,8 +11,8 @@ use Rattle.edit_spec.specs.Grammar.{Spells, IsEdit, Says, SpellBytes, lines}
 use Rattle.edit_spec.proofs.Spelling.{digits-decimal, same_around_space, other_word}
 use Rattle.edit_spec.proofs.Examples.{five, zero_is_spelled}
 use Rattle.rerun_spec.specs.Inputs.{Makes, AreInputs, AreRerunInputs, BadLine, OutOfRange, IsFirstRefused}
-use Rattle.rerun_spec.specs.Rounds.{Round, with_input, with_fuel, left_by, from_scratch, after_memo, round_on, after_round, rounds_after, after_rounds, last_left, IsRepeated, IsUneditedRerun}
-use Rattle.rerun_spec.specs.Reports.{shares_of_first, is_exit}
+use Rattle.rerun_spec.specs.Rounds.{Found, Round, with_input, with_fuel, left_by, from_scratch, after_memo, round_on, after_round, rounds_after, after_rounds, last_left, IsRepeated, IsUneditedRerun}
+use Rattle.rerun_spec.specs.Reports.{is_exit}
 use Rattle.edit_spec.proofs.Deciding.{no-byte-odd}
 
 -- the byte at offset 1 is 2 already
@@ -87,59 +87,70 @@ refused-first = inl (half_byte_is_bad, refl)
 
 -- Round 0 goes by nothing, and round 1 by what round 0 leaves.
 pub rounds-two :
-    (s : Setup) (a b : List ℕ)
-    → rounds_after (from_scratch s) (a ∷ b ∷ [])
-    ≡ record { number = 0; setup = with_input s a; past = None }
+    (s : Setup) (a b : List ℕ) (f g : Found)
+    → rounds_after (from_scratch s) (a ∷ b ∷ []) (f ∷ g ∷ [])
+    ≡ record { number = 0; setup = with_input s a; past = None; found = f }
     ∷ record {
       number = 1;
       setup = with_input s b;
-      past = Some (left_by (record { number = 0; setup = with_input s a; past = None }));
+      past = Some (left_by (record { number = 0; setup = with_input s a; past = None; found = f }));
+      found = g;
     }
     ∷ []
-rounds-two s a b = refl
+rounds-two s a b f g = refl
 
 -- After a memo, round 1 goes by its history, and round 2 by what round 1 leaves; both have the fuel that is asked for.
 pub reruns-two :
-    (h : History) (fuel : ℕ) (a b : List ℕ)
-    → rounds_after (after_memo h fuel) (a ∷ b ∷ [])
-    ≡ record { number = 1; setup = with_input (with_fuel h.setup fuel) a; past = Some h }
+    (h : History) (fuel : ℕ) (a b : List ℕ) (f g : Found)
+    → rounds_after (after_memo h fuel) (a ∷ b ∷ []) (f ∷ g ∷ [])
+    ≡ record { number = 1; setup = with_input (with_fuel h.setup fuel) a; past = Some h; found = f }
     ∷ record {
       number = 2;
       setup = with_input (with_fuel h.setup fuel) b;
       past =
           Some (left_by
-          (record { number = 1; setup = with_input (with_fuel h.setup fuel) a; past = Some h }));
+          (record { number = 1; setup = with_input (with_fuel h.setup fuel) a; past = Some h; found = f }));
+      found = g;
     }
     ∷ []
-reruns-two h fuel a b = refl
+reruns-two h fuel a b f g = refl
+
+-- Where one thing was found so far, there is one round, whatever inputs are to come.
+pub rounds-one_of_two :
+    (s : Setup) (a b : List ℕ) (f : Found)
+    → rounds_after (from_scratch s) (a ∷ b ∷ []) (f ∷ [])
+    ≡ record { number = 0; setup = with_input s a; past = None; found = f } ∷ []
+rounds-one_of_two s a b f = refl
 
 -- The last of them leaves what round 2 does; and with no round the memo's history is left.
 pub left-two :
-    (h : History) (fuel : ℕ) (a b : List ℕ)
-    → last_left (after_memo h fuel) (a ∷ b ∷ [])
+    (h : History) (fuel : ℕ) (a b : List ℕ) (f g : Found)
+    → last_left (after_memo h fuel) (a ∷ b ∷ []) (f ∷ g ∷ [])
     ≡ left_by (record {
       number = 2;
       setup = with_input (with_fuel h.setup fuel) b;
       past =
           Some (left_by
-          (record { number = 1; setup = with_input (with_fuel h.setup fuel) a; past = Some h }));
+          (record { number = 1; setup = with_input (with_fuel h.setup fuel) a; past = Some h; found = f }));
+      found = g;
     })
-left-two h fuel a b = refl
+left-two h fuel a b f g = refl
 
-pub left-none : (h : History) (fuel : ℕ) → last_left (after_memo h fuel) [] ≡ h
-left-none h fuel = refl
+pub left-none : (h : History) (fuel : ℕ) (found : List Found) → last_left (after_memo h fuel) [] found ≡ h
+left-none h fuel found = refl
 
 -- From scratch and with no round a history of no steps is left.
-pub left-scratch : (s : Setup) → last_left (from_scratch s) [] ≡ record { setup = s; records = [] }
-left-scratch s = refl
+pub left-scratch :
+    (s : Setup) (found : List Found) → last_left (from_scratch s) [] found ≡ record { setup = s; records = [] }
+left-scratch s found = refl
 
 -- The third round is without an edit, though the second isn't.
 pub repeated-third :
-    (s : Setup) (a b : List ℕ)
-    → IsRepeated (rounds_after (from_scratch s) (a ∷ b ∷ b ∷ []))
-    (round_on (after_round (from_scratch s) a) b)
-    (round_on (after_rounds (from_scratch s) (a ∷ b ∷ [])) b)
-repeated-third s a b = record { place = 1; one = refl; next = refl; same = refl }
+    (s : Setup) (a b : List ℕ) (f g k : Found)
+    → IsRepeated (rounds_after (from_scratch s) (a ∷ b ∷ b ∷ []) (f ∷ g ∷ k ∷ []))
+    (round_on (after_round (from_scratch s) a f) b g)
+    (round_on (after_rounds (from_scratch s) (a ∷ b ∷ []) (f ∷ g ∷ [])) b k)
+repeated-third s a b f g k = record { place = 1; one = refl; next = refl; same = refl }
 
 -- A rerun with a list is on what the list makes alone, and one without is on the input itself.
 pub rerun-emptied : AreRerunInputs five (codes "size 0" ∷ []) ([] ∷ [])
@@ -150,13 +161,11 @@ rerun-unedited = refl
 
 -- A rerun with another fuel than the memo's isn't without an edit.
 pub rerun-fuel :
-    (h : History) (fuel : ℕ) (input : List ℕ) (r : Round) → IsUneditedRerun h fuel (input ∷ []) r → fuel ≡ h.setup.fuel
-rerun-fuel h fuel input r rerun =
-    ap (λ (q : Round). q.setup.fuel) (same_Some (round_on (after_memo h fuel) input) r rerun.first) ∙ rerun.same_fuel
-
--- One worker of three makes all twelve steps.
-pub shares-three : shares_of_first 3 12 ≡ 12 ∷ 0 ∷ 0 ∷ []
-shares-three = refl
+    (h : History) (fuel : ℕ) (input : List ℕ) (f : Found) (r : Round)
+    → IsUneditedRerun h fuel (input ∷ []) (f ∷ []) r → fuel ≡ h.setup.fuel
+rerun-fuel h fuel input f r rerun =
+    ap (λ (q : Round). q.setup.fuel) (same_Some (round_on (after_memo h fuel) input f) r rerun.first)
+    ∙ rerun.same_fuel
 
 -- An exit with another code than 0 is an exit; no other end is one.
 pub exit-five : is_exit (Some (Exit 5)) ≡ true

@@ -1,5 +1,5 @@
 -- A round on the input of the round before it, or on input and fuel of the memo that it goes by, reuses every step.
-use Rattle.std.proofs.Common.{◌≡◌, ◌≢◌, ℕ, List, [], ◌∷◌, Option, Some, None, ap, sym, ◌∙◌, subst}
+use Rattle.std.proofs.Common.{◌≡◌, ◌≢◌, ℕ, suc, List, [], ◌∷◌, All, Option, Some, None, ap, sym, ◌∙◌, subst}
 use Rattle.std.proofs.lemmas.Option.{same_Some}
 use Rattle.machine_spec.specs.Setup.{Setup, first, scratch}
 use Rattle.history_spec.specs.History.{History, IsHonest, schedule_of}
@@ -7,14 +7,17 @@ use Rattle.report_spec.specs.Report.{instructions_from}
 use Rattle.round_spec.specs.declared.events.Pick.TheVariants as pick
 use Rattle.round_spec.specs.Marks.{marked}
 use Rattle.round_spec.specs.Rounds.{opening}
+use Rattle.round_spec.specs.Schedules.{round_by}
 use Rattle.round_spec.specs.Choice.{pick_of}
-use Rattle.round_spec.specs.Alone.{one_worker, after_picks, lone_round}
-use Rattle.round_spec.specs.Unedited.{all_reused_of, OnlyReuses}
+use Rattle.round_spec.specs.Alone.{after_picks}
+use Rattle.round_spec.specs.Unedited.{IsUnedited, OnlyReuses}
 use Rattle.worker_spec.specs.OneWorker.{executed_in}
-use Rattle.worker_spec.proofs.Unedited.{unedited-schedule, unedited-marks, unedited-reuses, reused-instructions, unedited-never_runs, unedited-executed}
+use Rattle.worker_spec.proofs.Unedited.{unedited-marks, reused-instructions, unedited-never_runs, unedited-executed}
+use Rattle.worker_spec.proofs.Workers.{workers-threads, workers-reuse}
+use Rattle.worker_spec.specs.Workers.{IsMadeBy}
 use Rattle.rerun_spec.specs.Inputs.{AreShort}
-use Rattle.rerun_spec.specs.Rounds.{with_input, with_fuel, Round, made, left_by, Beginning, after_memo, CanBegin, round_on, rounds_after, schedule_in, entries_of, machine_of, IsRepeated, IsUneditedRerun}
-use Rattle.rerun_spec.proofs.Rounds.{CanBeMade, round-honest, left-setup, left-schedule, each-round, IsNext, next-after, at-place}
+use Rattle.rerun_spec.specs.Rounds.{with_input, with_fuel, Found, Round, made, IsMade, left_by, Beginning, after_memo, CanBegin, round_on, rounds_after, schedule_in, entries_of, machine_of, IsRepeated, IsUneditedRerun}
+use Rattle.rerun_spec.proofs.Rounds.{IsSoundlyMade, round-honest, left-setup, left-schedule, each-round, IsNext, next-after, at-place}
 
 -- a round goes by an honest history, on its very setup
 pub record IsAgain (h : History) (r : Round) : Type 0 where
@@ -23,37 +26,44 @@ pub record IsAgain (h : History) (r : Round) : Type 0 where
   pub setup : h.setup ≡ r.setup
 
 -- so does a round on the input of the round before it
-pub record IsAfter (before after : Round) : Type 0 where
+pub record IsAfter (workers : ℕ) (before after : Round) : Type 0 where
   pub again : IsAgain (left_by before) after
+  pub made : IsMade workers after
   pub setup : after.setup ≡ before.setup
   pub schedule : schedule_of (left_by before) ≡ schedule_in before
 
 pub repeated-after :
-    (b : Beginning) (inputs : List (List ℕ)) (before after : Round)
-    → CanBegin b → AreShort inputs → IsRepeated (rounds_after b inputs) before after → IsAfter before after
-repeated-after b inputs before after can short repeated =
+    (b : Beginning) (inputs : List (List ℕ)) (found : List Found) (workers : ℕ) (before after : Round)
+    → CanBegin b → AreShort inputs → All (IsMade workers) (rounds_after b inputs found)
+    → IsRepeated (rounds_after b inputs found) before after → IsAfter workers before after
+repeated-after b inputs found workers before after can short made repeated =
+    let rounds = rounds_after b inputs found in
+    let each = each-round b inputs found workers can short made in
     let next : IsNext b.setup before after =
-    next-after b inputs repeated.place before after repeated.one repeated.next in
-    let may : CanBeMade before =
-    at-place CanBeMade (rounds_after b inputs) repeated.place before (each-round b inputs can short) repeated.one in
+    next-after b inputs found repeated.place before after repeated.one repeated.next in
+    let is : IsSoundlyMade workers before =
+    at-place (IsSoundlyMade workers) rounds repeated.place before each repeated.one in
+    let its : IsSoundlyMade workers after =
+    at-place (IsSoundlyMade workers) rounds (suc repeated.place) after each repeated.next in
     let same : after.setup ≡ before.setup =
     next.after_setup ∙ ap (with_input b.setup) repeated.same ∙ sym next.before_setup in
     record {
       again = record {
-        honest = round-honest before may;
+        honest = round-honest workers before is;
         past = next.left;
-        setup = left-setup before may ∙ sym same;
+        setup = left-setup workers before is ∙ sym same;
       };
+      made = its.made;
       setup = same;
-      schedule = left-schedule before may;
+      schedule = left-schedule workers before is;
     }
 
 -- so does the first round of a rerun on the memo's input with its fuel
 rerun-round :
-    (h : History) (fuel : ℕ) (r : Round) (input : List ℕ)
-    → round_on (after_memo h fuel) input ≡ r → r.setup.input ≡ h.setup.input → r.setup.fuel ≡ h.setup.fuel → IsHonest h
-    → IsAgain h r
-rerun-round h fuel r input is same_input same_fuel honest =
+    (h : History) (fuel : ℕ) (r : Round) (input : List ℕ) (f : Found)
+    → round_on (after_memo h fuel) input f ≡ r → r.setup.input ≡ h.setup.input → r.setup.fuel ≡ h.setup.fuel
+    → IsHonest h → IsAgain h r
+rerun-round h fuel r input f is same_input same_fuel honest =
     let made : with_input (with_fuel h.setup fuel) input ≡ r.setup = ap (λ (q : Round). q.setup) is in
     let asked : h.setup.fuel ≡ fuel = sym same_fuel ∙ sym (ap (λ (s : Setup). s.fuel) made) in
     let read : h.setup.input ≡ input = sym same_input ∙ sym (ap (λ (s : Setup). s.input) made) in
@@ -64,11 +74,12 @@ rerun-round h fuel r input is same_input same_fuel honest =
     }
 
 pub rerun-again :
-    (h : History) (fuel : ℕ) (inputs : List (List ℕ)) (r : Round)
-    → IsHonest h → IsUneditedRerun h fuel inputs r → IsAgain h r
-rerun-again h fuel [] r honest rerun = absurd (let no : None ≡ Some r = rerun.first in cc)
-rerun-again h fuel (input ∷ inputs) r honest rerun =
-    rerun-round h fuel r input (same_Some (round_on (after_memo h fuel) input) r rerun.first) rerun.same_input
+    (h : History) (fuel : ℕ) (inputs : List (List ℕ)) (found : List Found) (r : Round)
+    → IsHonest h → IsUneditedRerun h fuel inputs found r → IsAgain h r
+rerun-again h fuel [] found r honest rerun = absurd (let no : None ≡ Some r = rerun.first in cc)
+rerun-again h fuel (input ∷ inputs) [] r honest rerun = absurd (let no : None ≡ Some r = rerun.first in cc)
+rerun-again h fuel (input ∷ inputs) (f ∷ found) r honest rerun =
+    rerun-round h fuel r input f (same_Some (round_on (after_memo h fuel) input f) r rerun.first) rerun.same_input
     rerun.same_fuel honest
 
 -- what holds of the history's own setup holds of the round
@@ -79,22 +90,38 @@ carried C h r again holds =
     subst (λ (p : Option History). C r.setup p) (sym again.past)
     (subst (λ (s : Setup). C s (Some h)) again.setup holds)
 
+-- its workers made it by that history
+again-unedited : (h : History) (r : Round) → IsAgain h r → IsUnedited h r.setup
+again-unedited h r again = record { honest = again.honest; same = again.setup }
+
+again-made :
+    (workers : ℕ) (h : History) (r : Round)
+    → IsAgain h r → IsMade workers r → IsMadeBy workers r.setup (Some h) r.found.entries r.found.shares
+again-made workers h r again is =
+    subst (λ (p : Option History). IsMadeBy workers r.setup p r.found.entries r.found.shares) again.past is
+
 -- its schedule is the history's
-pub again-schedule : (h : History) (r : Round) → IsAgain h r → schedule_in r ≡ schedule_of h
-again-schedule h r again =
-    carried (λ s p. one_worker s p ≡ schedule_of h) h r again (unedited-schedule h again.honest)
+pub again-schedule :
+    (workers : ℕ) (h : History) (r : Round) → IsAgain h r → IsMade workers r → schedule_in r ≡ schedule_of h
+again-schedule workers h r again is =
+    workers-threads workers h r.setup r.found.entries r.found.shares (again-unedited h r again)
+    (again-made workers h r again is)
 
 -- its round is all reuse of the history
-pub again-reuses : (h : History) (r : Round) → IsAgain h r → OnlyReuses h (made r)
-again-reuses h r again = carried (λ s p. OnlyReuses h (lone_round s p)) h r again (unedited-reuses h again.honest)
+pub again-reuses : (workers : ℕ) (h : History) (r : Round) → IsAgain h r → IsMade workers r → OnlyReuses h (made r)
+again-reuses workers h r again is =
+    subst (λ (p : Option History). OnlyReuses h (round_by r.setup p r.found.entries)) (sym again.past)
+    (workers-reuse workers h r.setup r.found.entries r.found.shares (again-unedited h r again)
+    (again-made workers h r again is))
 
-left-entries : (h : History) → IsHonest h → marked (Some h) h.setup (one_worker h.setup (Some h)) ≡ all_reused_of h
-left-entries h honest = ap (marked (Some h) h.setup) (unedited-schedule h honest) ∙ unedited-marks h honest
-
-pub again-instructions : (h : History) (r : Round) → IsAgain h r → instructions_from (first r.setup) (entries_of r) ≡ 0
-again-instructions h r again =
-    carried (λ s p. instructions_from (first s) (marked p s (one_worker s p)) ≡ 0) h r again
-    (ap (instructions_from (first h.setup)) (left-entries h again.honest)
+pub again-instructions :
+    (workers : ℕ) (h : History) (r : Round) → IsAgain h r → IsMade workers r
+    → instructions_from (first r.setup) (entries_of r) ≡ 0
+again-instructions workers h r again is =
+    ap (λ (ts : List ℕ). instructions_from (first r.setup) (marked r.past r.setup ts))
+    (again-schedule workers h r again is)
+    ∙ carried (λ s p. instructions_from (first s) (marked p s (schedule_of h)) ≡ 0) h r again
+    (ap (instructions_from (first h.setup)) (unedited-marks h again.honest)
     ∙ reused-instructions (first h.setup) (schedule_of h))
 
 -- nothing is executed
@@ -110,16 +137,21 @@ again-executed h r again =
     carried (λ s p. executed_in s.limit (opening s p) ≡ 0) h r again (unedited-executed h again.honest)
 
 -- its machine is the history's
-pub again-machine : (h : History) (r : Round) → IsAgain h r → machine_of r ≡ scratch h.setup (schedule_of h)
-again-machine h r again =
+pub again-machine :
+    (workers : ℕ) (h : History) (r : Round) → IsAgain h r → IsMade workers r
+    → machine_of r ≡ scratch h.setup (schedule_of h)
+again-machine workers h r again is =
     ap (λ (s : Setup). scratch s (schedule_in r)) (sym again.setup)
-    ∙ ap (scratch h.setup) (again-schedule h r again)
+    ∙ ap (scratch h.setup) (again-schedule workers h r again is)
 
 -- schedule and machine are those of the round before
-pub after-schedule : (before after : Round) → IsAfter before after → schedule_in after ≡ schedule_in before
-after-schedule before after is = again-schedule (left_by before) after is.again ∙ is.schedule
+pub after-schedule :
+    (workers : ℕ) (before after : Round) → IsAfter workers before after → schedule_in after ≡ schedule_in before
+after-schedule workers before after is =
+    again-schedule workers (left_by before) after is.again is.made ∙ is.schedule
 
-pub after-machine : (before after : Round) → IsAfter before after → machine_of after ≡ machine_of before
-after-machine before after is =
+pub after-machine :
+    (workers : ℕ) (before after : Round) → IsAfter workers before after → machine_of after ≡ machine_of before
+after-machine workers before after is =
     ap (λ (s : Setup). scratch s (schedule_in after)) is.setup
-    ∙ ap (scratch before.setup) (after-schedule before after is)
+    ∙ ap (scratch before.setup) (after-schedule workers before after is)

@@ -1,7 +1,8 @@
--- Each round of a beginning may be made, and follows the one before it.
-use Rattle.std.proofs.Common.{◌≡◌, ◌≢◌, ◌≤◌, ◌+◌, ℕ, zero, suc, true, List, [], ◌∷◌, ◌++◌, length, map, slice_get, slice_index_or, All, Option, Some, None, is_some, refl, ap, sym, ◌∙◌, subst, arith}
+-- Each round of a beginning that workers make may be made, and follows the one before it.
+use Rattle.std.proofs.Common.{◌≡◌, ◌≢◌, ◌≤◌, ◌+◌, ◌-◌, ℕ, zero, suc, min, true, List, [], ◌∷◌, length, map, take, sum, replicate, slice_get, slice_index_or, fold, All, Option, Some, None, is_some, refl, ap, sym, ◌∙◌, subst, arith}
 use Rattle.std.specs.List.{AllByRecursion, range_with_len}
 use Rattle.std.proofs.lemmas.Option.{same_Some}
+use Rattle.std.proofs.lemmas.List.{length-replicate}
 use Rattle.std.proofs.lemmas.List.Elements.{All-from_recursion, recursion_from_All}
 use Rattle.edit_spec.specs.Editing.{longest_input}
 use Rattle.machine_spec.specs.Limits.{AreLimits}
@@ -9,19 +10,20 @@ use Rattle.machine_spec.specs.Setup.{Setup, IsSetup, first, scratch, is_permitte
 use Rattle.history_spec.specs.History.{History, IsHonest, IsSound, CanGoBy, schedule_of, threads_of_records}
 use Rattle.history_spec.proofs.Scratch.{records-threads}
 use Rattle.report_spec.specs.Report.{threads_of, instructions_from}
-use Rattle.round_spec.specs.Marks.{marked}
 use Rattle.round_spec.specs.Rounds.{RoundState, opening}
+use Rattle.round_spec.specs.Alone.{one_worker, lone_round}
 use Rattle.worker_spec.specs.OneWorker.{made_by, executed_in}
 use Rattle.worker_spec.proofs.Picks.{marked-threads}
-use Rattle.worker_spec.proofs.Lone.{rounds-made, one_worker-permitted, one_worker-complete}
-use Rattle.worker_spec.proofs.Events.{lone-honest}
+use Rattle.worker_spec.proofs.Lone.{rounds-made}
+use Rattle.worker_spec.proofs.Workers.{lone-made, workers-round, workers-permitted, workers-complete, workers-marks, workers-honest, workers-alone}
 use Rattle.worker_spec.proofs.Cost.{rounds-cost}
 use Rattle.rerun_spec.specs.Inputs.{AreInputs, AreShort}
-use Rattle.rerun_spec.specs.Rounds.{with_input, with_fuel, Round, made, left_by, Beginning, from_scratch, after_memo, CanBegin, round_on, after_round, rounds_after, after_rounds, history_at, last_left, schedule_in, entries_of, machine_of}
+use Rattle.rerun_spec.specs.Rounds.{with_input, with_fuel, Found, Round, made, IsMade, left_by, Beginning, from_scratch, after_memo, CanBegin, round_on, after_round, rounds_after, after_rounds, last_left, schedule_in, entries_of, machine_of}
 
--- a round that may be made: its setup can go by its history
-abbrev pub CanBeMade : Round → Type 0
-CanBeMade r = CanGoBy r.past r.setup
+-- a round that its workers made by a history that its setup can go by
+pub record IsSoundlyMade (workers : ℕ) (r : Round) : Type 0 where
+  pub can : CanGoBy r.past r.setup
+  pub made : IsMade workers r
 
 -- a setup with another short input may be run, where it may be
 pub with-short : (s : Setup) (input : List ℕ) → IsSetup s → length input ≤ longest_input → IsSetup (with_input s input)
@@ -38,28 +40,33 @@ sound-any : (past : Option History) (s : Setup) (input : List ℕ) → IsSound p
 sound-any None s input sound = tt
 sound-any (Some h) s input sound = (sound.0, record { elf = sound.1.elf; limit = sound.1.limit })
 
--- a round as one worker makes it is the one that its schedule makes
-pub round-made : (r : Round) → CanBeMade r → made r ≡ made_by r.setup r.past (schedule_in r)
-round-made r is = rounds-made r.setup r.past r.setup.limit is.valid is.sound
+-- a round as its workers make it is the one that their schedule makes
+pub round-made :
+    (workers : ℕ) (r : Round) → IsSoundlyMade workers r → made r ≡ made_by r.setup r.past (schedule_in r)
+round-made workers r is = workers-round workers r.setup r.past r.found.entries r.found.shares is.can is.made
 
-pub round-honest : (r : Round) → CanBeMade r → IsHonest (left_by r)
-round-honest r is = lone-honest r.setup r.past is.valid is.sound
+pub round-honest : (workers : ℕ) (r : Round) → IsSoundlyMade workers r → IsHonest (left_by r)
+round-honest workers r is = workers-honest workers r.setup r.past r.found.entries r.found.shares is.can is.made
 
-pub left-setup : (r : Round) → CanBeMade r → (left_by r).setup ≡ r.setup
-left-setup r is = ap (λ (w : RoundState). w.setup) (round-made r is)
+pub left-setup : (workers : ℕ) (r : Round) → IsSoundlyMade workers r → (left_by r).setup ≡ r.setup
+left-setup workers r is = ap (λ (w : RoundState). w.setup) (round-made workers r is)
 
--- the first round of a beginning may be made, and so may what comes after it
-first-made : (b : Beginning) (input : List ℕ) → CanBegin b → length input ≤ longest_input → CanBeMade (round_on b input)
-first-made b input can short =
+-- the first round of a beginning can go by its history, and so can what comes after it
+first-can :
+    (b : Beginning) (input : List ℕ) (f : Found) → CanBegin b → length input ≤ longest_input
+    → CanGoBy (round_on b input f).past (round_on b input f).setup
+first-can b input f can short =
     record { valid = with-short b.setup input can.valid short; sound = sound-any b.past b.setup input can.sound }
 
-goes-on : (b : Beginning) (input : List ℕ) → CanBegin b → CanBeMade (round_on b input) → CanBegin (after_round b input)
-goes-on b input can is =
-    let same = left-setup (round_on b input) is in
+goes-on :
+    (b : Beginning) (input : List ℕ) (f : Found) (workers : ℕ)
+    → CanBegin b → IsSoundlyMade workers (round_on b input f) → CanBegin (after_round b input f)
+goes-on b input f workers can is =
+    let same = left-setup workers (round_on b input f) is in
     record {
       valid = can.valid;
       sound = (
-        round-honest (round_on b input) is,
+        round-honest workers (round_on b input f) is,
         record {
           elf = ap (λ (t : Setup). t.elf) same;
           limit = ap (λ (t : Setup). t.limit) same;
@@ -74,37 +81,67 @@ EachShort inputs = AllByRecursion (λ i. length i ≤ longest_input) inputs
 pub each-short : (inputs : List (List ℕ)) → AreShort inputs → EachShort inputs
 each-short inputs short = recursion_from_All (λ i. length i ≤ longest_input) inputs short
 
+-- so many workers made each of some rounds
+abbrev pub EachMade : ℕ → List Round → Type 0
+EachMade workers rounds = AllByRecursion (IsMade workers) rounds
+
+pub each-made : (workers : ℕ) (rounds : List Round) → All (IsMade workers) rounds → EachMade workers rounds
+each-made workers rounds made = recursion_from_All (IsMade workers) rounds made
+
+first-made :
+    (b : Beginning) (input : List ℕ) (f : Found) (workers : ℕ)
+    → CanBegin b → length input ≤ longest_input → IsMade workers (round_on b input f)
+    → IsSoundlyMade workers (round_on b input f)
+first-made b input f workers can short made = record { can = first-can b input f can short; made = made }
+
 each-after :
-    (b : Beginning) (inputs : List (List ℕ)) → CanBegin b → EachShort inputs
-    → AllByRecursion CanBeMade (rounds_after b inputs)
-each-after b [] can short = tt
-each-after b (input ∷ inputs) can short =
-    let here : CanBeMade (round_on b input) = first-made b input can short.0 in
-    (here, each-after (after_round b input) inputs (goes-on b input can here) short.1)
+    (b : Beginning) (inputs : List (List ℕ)) (found : List Found) (workers : ℕ)
+    → CanBegin b → EachShort inputs → EachMade workers (rounds_after b inputs found)
+    → AllByRecursion (IsSoundlyMade workers) (rounds_after b inputs found)
+each-after b [] found workers can short made = tt
+each-after b (input ∷ inputs) [] workers can short made = tt
+each-after b (input ∷ inputs) (f ∷ found) workers can short made =
+    let here = first-made b input f workers can short.0 made.0 in (
+      here,
+      each-after (after_round b input f) inputs found workers (goes-on b input f workers can here) short.1 made.1,
+    )
 
 later-after :
-    (b : Beginning) (inputs : List (List ℕ)) → CanBegin b → EachShort inputs
-    → CanBegin (after_rounds b inputs)
-later-after b [] can short = can
-later-after b (input ∷ inputs) can short =
-    later-after (after_round b input) inputs (goes-on b input can (first-made b input can short.0)) short.1
+    (b : Beginning) (inputs : List (List ℕ)) (found : List Found) (workers : ℕ)
+    → CanBegin b → EachShort inputs → EachMade workers (rounds_after b inputs found)
+    → CanBegin (after_rounds b inputs found)
+later-after b [] found workers can short made = can
+later-after b (input ∷ inputs) [] workers can short made = can
+later-after b (input ∷ inputs) (f ∷ found) workers can short made =
+    later-after (after_round b input f) inputs found workers
+    (goes-on b input f workers can (first-made b input f workers can short.0 made.0)) short.1 made.1
 
 pub each-round :
-    (b : Beginning) (inputs : List (List ℕ)) → CanBegin b → AreShort inputs
-    → AllByRecursion CanBeMade (rounds_after b inputs)
-each-round b inputs can short = each-after b inputs can (each-short inputs short)
+    (b : Beginning) (inputs : List (List ℕ)) (found : List Found) (workers : ℕ)
+    → CanBegin b → AreShort inputs → All (IsMade workers) (rounds_after b inputs found)
+    → AllByRecursion (IsSoundlyMade workers) (rounds_after b inputs found)
+each-round b inputs found workers can short made =
+    each-after b inputs found workers can (each-short inputs short)
+    (each-made workers (rounds_after b inputs found) made)
 
 pub later-round :
-    (b : Beginning) (inputs : List (List ℕ)) → CanBegin b → AreShort inputs → CanBegin (after_rounds b inputs)
-later-round b inputs can short = later-after b inputs can (each-short inputs short)
+    (b : Beginning) (inputs : List (List ℕ)) (found : List Found) (workers : ℕ)
+    → CanBegin b → AreShort inputs → All (IsMade workers) (rounds_after b inputs found)
+    → CanBegin (after_rounds b inputs found)
+later-round b inputs found workers can short made =
+    later-after b inputs found workers can (each-short inputs short)
+    (each-made workers (rounds_after b inputs found) made)
 
--- what holds of every round that may be made
+-- what holds of every round that was made soundly
 pub each-holds :
-    (P : Round → Type 0) → ((r : Round) → CanBeMade r → P r)
-    → (b : Beginning) (inputs : List (List ℕ)) → CanBegin b → AreShort inputs → All P (rounds_after b inputs)
-each-holds P holds b inputs can short = λ k d below.
-    holds (slice_index_or (rounds_after b inputs) k d)
-    (All-from_recursion CanBeMade (rounds_after b inputs) (each-round b inputs can short) k d below)
+    (P : Round → Type 0) → ((workers : ℕ) (r : Round) → IsSoundlyMade workers r → P r)
+    → (b : Beginning) (inputs : List (List ℕ)) (found : List Found) (workers : ℕ)
+    → CanBegin b → AreShort inputs → All (IsMade workers) (rounds_after b inputs found)
+    → All P (rounds_after b inputs found)
+each-holds P holds b inputs found workers can short made = λ k d below.
+    holds workers (slice_index_or (rounds_after b inputs found) k d)
+    (All-from_recursion (IsSoundlyMade workers) (rounds_after b inputs found)
+    (each-round b inputs found workers can short made) k d below)
 
 -- a setup with another fuel in range may be run, where it may be
 pub with-limits : (s : Setup) (fuel : ℕ) → IsSetup s → AreLimits fuel s.limit → IsSetup (with_fuel s fuel)
@@ -130,95 +167,227 @@ memo-begins h fuel honest limits =
 
 -- what the last one leaves is honest
 honest-after :
-    (b : Beginning) (input : List ℕ) (inputs : List (List ℕ)) → CanBegin b → EachShort (input ∷ inputs)
-    → IsHonest (last_left b (input ∷ inputs))
-honest-after b input [] can short = round-honest (round_on b input) (first-made b input can short.0)
-honest-after b input (next ∷ inputs) can short =
-    honest-after (after_round b input) next inputs (goes-on b input can (first-made b input can short.0)) short.1
+    (b : Beginning) (input : List ℕ) (inputs : List (List ℕ)) (f : Found) (found : List Found) (workers : ℕ)
+    → CanBegin b → EachShort (input ∷ inputs) → EachMade workers (rounds_after b (input ∷ inputs) (f ∷ found))
+    → IsHonest (last_left b (input ∷ inputs) (f ∷ found))
+honest-after b input [] f found workers can short made =
+    round-honest workers (round_on b input f) (first-made b input f workers can short.0 made.0)
+honest-after b input (next ∷ inputs) f [] workers can short made =
+    round-honest workers (round_on b input f) (first-made b input f workers can short.0 made.0)
+honest-after b input (next ∷ inputs) f (g ∷ found) workers can short made =
+    honest-after (after_round b input f) next inputs g found workers
+    (goes-on b input f workers can (first-made b input f workers can short.0 made.0)) short.1 made.1
 
 pub last-honest :
-    (b : Beginning) (inputs : List (List ℕ)) → CanBegin b → AreShort inputs → inputs ≢ []
-    → IsHonest (last_left b inputs)
-last-honest b [] can short some = absurd (some refl)
-last-honest b (input ∷ inputs) can short some =
-    honest-after b input inputs can (each-short (input ∷ inputs) short)
+    (b : Beginning) (inputs : List (List ℕ)) (found : List Found) (workers : ℕ)
+    → CanBegin b → AreShort inputs → All (IsMade workers) (rounds_after b inputs found) → inputs ≢ [] → found ≢ []
+    → IsHonest (last_left b inputs found)
+last-honest b [] found workers can short made some one = absurd (some refl)
+last-honest b (input ∷ inputs) [] workers can short made some one = absurd (one refl)
+last-honest b (input ∷ inputs) (f ∷ found) workers can short made some one =
+    honest-after b input inputs f found workers can (each-short (input ∷ inputs) short)
+    (each-made workers (rounds_after b (input ∷ inputs) (f ∷ found)) made)
 
+-- what a round that was made soundly is
 pub round-threads : (r : Round) → threads_of (entries_of r) ≡ schedule_in r
 round-threads r = marked-threads r.past (first r.setup) (schedule_in r)
 
-pub round-permitted : (r : Round) → CanBeMade r → is_permitted r.setup (threads_of (entries_of r)) ≡ true
-round-permitted r is = ap (is_permitted r.setup) (round-threads r) ∙ one_worker-permitted r.setup r.past is.valid
+pub round-permitted :
+    (workers : ℕ) (r : Round) → IsSoundlyMade workers r → is_permitted r.setup (threads_of (entries_of r)) ≡ true
+round-permitted workers r is =
+    ap (is_permitted r.setup) (round-threads r)
+    ∙ workers-permitted workers r.setup r.past r.found.entries r.found.shares is.can is.made
 
-pub round-complete : (r : Round) → CanBeMade r → is_complete r.setup (threads_of (entries_of r)) ≡ true
-round-complete r is = ap (is_complete r.setup) (round-threads r) ∙ one_worker-complete r.setup r.past is.valid
+pub round-complete :
+    (workers : ℕ) (r : Round) → IsSoundlyMade workers r → is_complete r.setup (threads_of (entries_of r)) ≡ true
+round-complete workers r is =
+    ap (is_complete r.setup) (round-threads r)
+    ∙ workers-complete workers r.setup r.past r.found.entries r.found.shares is.can is.made
 
-pub round-entries : (r : Round) → CanBeMade r → (made r).schedule ≡ entries_of r
-round-entries r is = ap (λ (w : RoundState). w.schedule) (round-made r is)
+pub round-entries : (workers : ℕ) (r : Round) → IsSoundlyMade workers r → (made r).schedule ≡ entries_of r
+round-entries workers r is = ap (λ (w : RoundState). w.schedule) (round-made workers r is)
 
-pub round-marks : (r : Round) → CanBeMade r → entries_of r ≡ marked r.past r.setup (threads_of (entries_of r))
-round-marks r is = ap (marked r.past r.setup) (sym (round-threads r))
+pub round-found : (workers : ℕ) (r : Round) → IsSoundlyMade workers r → r.found.entries ≡ entries_of r
+round-found workers r is = workers-marks workers r.setup r.past r.found.entries r.found.shares is.can is.made
 
-pub round-machine : (r : Round) → CanBeMade r → (made r).machine ≡ scratch r.setup (threads_of (entries_of r))
-round-machine r is = ap (λ (w : RoundState). w.machine) (round-made r is) ∙ ap (scratch r.setup) (sym (round-threads r))
+pub round-machine :
+    (workers : ℕ) (r : Round) → IsSoundlyMade workers r
+    → (made r).machine ≡ scratch r.setup (threads_of (entries_of r))
+round-machine workers r is =
+    ap (λ (w : RoundState). w.machine) (round-made workers r is) ∙ ap (scratch r.setup) (sym (round-threads r))
 
-pub round-records : (r : Round) → CanBeMade r → (made r).records ≡ records r.setup (threads_of (entries_of r))
-round-records r is = ap (λ (w : RoundState). w.records) (round-made r is) ∙ ap (records r.setup) (sym (round-threads r))
+pub round-records :
+    (workers : ℕ) (r : Round) → IsSoundlyMade workers r
+    → (made r).records ≡ records r.setup (threads_of (entries_of r))
+round-records workers r is =
+    ap (λ (w : RoundState). w.records) (round-made workers r is) ∙ ap (records r.setup) (sym (round-threads r))
 
-pub left-schedule : (r : Round) → CanBeMade r → schedule_of (left_by r) ≡ schedule_in r
-left-schedule r is =
-    ap (λ (w : RoundState). threads_of_records w.records) (round-made r is)
+pub left-schedule : (workers : ℕ) (r : Round) → IsSoundlyMade workers r → schedule_of (left_by r) ≡ schedule_in r
+left-schedule workers r is =
+    ap (λ (w : RoundState). threads_of_records w.records) (round-made workers r is)
     ∙ records-threads (first r.setup) (schedule_in r)
 
-pub round-ends : (r : Round) → CanBeMade r → is_some (machine_of r).ending ≡ true
-round-ends r is = one_worker-complete r.setup r.past is.valid
+pub round-ends : (workers : ℕ) (r : Round) → IsSoundlyMade workers r → is_some (machine_of r).ending ≡ true
+round-ends workers r is = workers-complete workers r.setup r.past r.found.entries r.found.shares is.can is.made
+
+-- what one worker makes
+pub round-lone : (r : Round) → IsMade 1 r → made r ≡ lone_round r.setup r.past
+round-lone r is = workers-alone r.setup r.past r.found.entries r.found.shares is
+
+pub round-alone : (r : Round) → IsSoundlyMade 1 r → schedule_in r ≡ one_worker r.setup r.past
+round-alone r is =
+    ap threads_of (is.made.alone refl)
+    ∙ ap (λ (w : RoundState). threads_of w.schedule)
+    (rounds-made r.setup r.past r.setup.limit is.can.valid is.can.sound)
+    ∙ marked-threads r.past (first r.setup) (one_worker r.setup r.past)
 
 pub round-cost :
-    (r : Round) → CanBeMade r
+    (r : Round) → IsSoundlyMade 1 r
     → executed_in r.setup.limit (opening r.setup r.past) ≡ instructions_from (first r.setup) (entries_of r)
 round-cost r is =
-    rounds-cost r.setup r.past r.setup.limit is.valid is.sound
-    ∙ ap (instructions_from (first r.setup)) (round-entries r is)
+    rounds-cost r.setup r.past r.setup.limit is.can.valid is.can.sound
+    ∙ ap (λ (w : RoundState). instructions_from (first r.setup) w.schedule) (sym (round-lone r is.made))
+    ∙ ap (instructions_from (first r.setup)) (round-entries 1 r is)
 
--- numbers and setups
+pub alone-holds :
+    (P : Round → Type 0) → ((r : Round) → IsSoundlyMade 1 r → P r)
+    → (b : Beginning) (inputs : List (List ℕ)) (found : List Found)
+    → CanBegin b → AreShort inputs → All (IsMade 1) (rounds_after b inputs found) → All P (rounds_after b inputs found)
+alone-holds P holds b inputs found can short made = λ k d below.
+    holds (slice_index_or (rounds_after b inputs found) k d)
+    (All-from_recursion (IsSoundlyMade 1) (rounds_after b inputs found)
+    (each-round b inputs found 1 can short made) k d below)
+
+-- however many workers there are, they can make the rounds as one worker makes them
+zeros-sum : (n a : ℕ) → fold (λ (s : ℕ) (x : ℕ). s + x) a (replicate n 0) ≡ a
+zeros-sum zero a = refl
+zeros-sum (suc n) a = let rest = zeros-sum n (a + 0) in omega arith
+
+-- the shares where the first of the workers makes all steps
+abbrev shares_of_first : ℕ → ℕ → List ℕ
+shares_of_first workers steps = steps ∷ replicate (workers - 1) 0
+
+shares-count : (workers steps : ℕ) → 1 ≤ workers → length (shares_of_first workers steps) ≡ workers
+shares-count workers steps some =
+    let rest : length (replicate {A = ℕ} (workers - 1) 0) ≡ workers - 1 = length-replicate (workers - 1) 0 in
+    omega arith
+
+shares-sum : (workers steps : ℕ) → sum (shares_of_first workers steps) ≡ steps
+shares-sum workers steps = let rest = zeros-sum (workers - 1) (0 + steps) in omega arith
+
+abbrev found_alone : ℕ → Setup → Option History → Found
+found_alone workers s past =
+    record {
+      entries = (lone_round s past).schedule;
+      shares = shares_of_first workers (length (lone_round s past).schedule);
+    }
+
+alone-made :
+    (workers : ℕ) (b : Beginning) (input : List ℕ) → IsSetup b.setup → length input ≤ longest_input → 1 ≤ workers
+    → IsMade workers (round_on b input (found_alone workers (with_input b.setup input) b.past))
+alone-made workers b input valid short some =
+    let s = with_input b.setup input in
+    let steps = length (lone_round s b.past).schedule in
+    lone-made workers s b.past (shares_of_first workers steps) (with-short b.setup input valid short)
+    (shares-count workers steps some) (shares-sum workers steps)
+
+some-after :
+    (b : Beginning) (inputs : List (List ℕ)) (workers : ℕ) → IsSetup b.setup → EachShort inputs → 1 ≤ workers
+    → (found : List Found) × (length found ≡ length inputs) × EachMade workers (rounds_after b inputs found)
+some-after b [] workers valid short some = ([], refl, tt)
+some-after b (input ∷ inputs) workers valid short some =
+    let f = found_alone workers (with_input b.setup input) b.past in
+    let rest = some-after (after_round b input f) inputs workers valid short.1 some in (
+      f ∷ rest.0,
+      ap (λ (n : ℕ). suc n) rest.1,
+      (alone-made workers b input valid short.0 some, rest.2),
+    )
+
+pub some-made :
+    (b : Beginning) (inputs : List (List ℕ)) (workers : ℕ) → IsSetup b.setup → AreShort inputs → 1 ≤ workers
+    → (found : List Found) × (length found ≡ length inputs) × All (IsMade workers) (rounds_after b inputs found)
+some-made b inputs workers valid short some =
+    let is = some-after b inputs workers valid (each-short inputs short) some in
+    (is.0, is.1, All-from_recursion (IsMade workers) (rounds_after b inputs is.0) is.2)
+
+-- numbers, setups and what was found
 pub numbers-after :
-    (b : Beginning) (inputs : List (List ℕ))
-    → map (λ (r : Round). r.number) (rounds_after b inputs) ≡ range_with_len b.number (length inputs)
-numbers-after b [] = refl
-numbers-after b (input ∷ inputs) =
-    ap (λ (ns : List ℕ). b.number ∷ ns) (numbers-after (after_round b input) inputs)
+    (b : Beginning) (inputs : List (List ℕ)) (found : List Found)
+    → map (λ (r : Round). r.number) (rounds_after b inputs found)
+    ≡ range_with_len b.number (min (length inputs) (length found))
+numbers-after b [] found = let none : min 0 (length found) ≡ 0 = omega arith in rw none refl
+numbers-after b (input ∷ inputs) [] = let none : min (suc (length inputs)) 0 ≡ 0 = omega arith in rw none refl
+numbers-after b (input ∷ inputs) (f ∷ found) =
+    let more : min (suc (length inputs)) (suc (length found)) ≡ suc (min (length inputs) (length found)) =
+    omega arith in
+    ap (λ (ns : List ℕ). b.number ∷ ns) (numbers-after (after_round b input f) inputs found)
+    ∙ ap (range_with_len b.number) (sym more)
 
 pub setups-after :
-    (b : Beginning) (inputs : List (List ℕ))
-    → map (λ (r : Round). r.setup) (rounds_after b inputs) ≡ map (with_input b.setup) inputs
-setups-after b [] = refl
-setups-after b (input ∷ inputs) =
-    ap (λ (ss : List Setup). with_input b.setup input ∷ ss) (setups-after (after_round b input) inputs)
+    (b : Beginning) (inputs : List (List ℕ)) (found : List Found)
+    → map (λ (r : Round). r.setup) (rounds_after b inputs found) ≡ map (with_input b.setup) (take (length found) inputs)
+setups-after b [] [] = refl
+setups-after b [] (f ∷ found) = refl
+setups-after b (input ∷ inputs) [] = refl
+setups-after b (input ∷ inputs) (f ∷ found) =
+    ap (λ (ss : List Setup). with_input b.setup input ∷ ss) (setups-after (after_round b input f) inputs found)
+
+pub founds-after :
+    (b : Beginning) (inputs : List (List ℕ)) (found : List Found)
+    → map (λ (r : Round). r.found) (rounds_after b inputs found) ≡ take (length inputs) found
+founds-after b [] found = refl
+founds-after b (input ∷ inputs) [] = refl
+founds-after b (input ∷ inputs) (f ∷ found) =
+    ap (λ (fs : List Found). f ∷ fs) (founds-after (after_round b input f) inputs found)
+
+pub count-after :
+    (b : Beginning) (inputs : List (List ℕ)) (found : List Found)
+    → length (rounds_after b inputs found) ≡ min (length inputs) (length found)
+count-after b [] found = omega arith
+count-after b (input ∷ inputs) [] = omega arith
+count-after b (input ∷ inputs) (f ∷ found) =
+    let rest = count-after (after_round b input f) inputs found in omega arith
 
 -- the round at a place
 pub at-after :
-    (b : Beginning) (inputs : List (List ℕ)) (place : ℕ) (input : List ℕ)
-    → slice_get inputs place ≡ Some input
-    → (r : Round) × (slice_get (rounds_after b inputs) place ≡ Some r) × (r.number ≡ b.number + place)
-    × (r.setup ≡ with_input b.setup input)
-at-after b [] place input is = absurd (let no : None ≡ Some input = is in cc)
-at-after b (x ∷ inputs) zero input is =
-    (round_on b x, refl, omega arith, ap (with_input b.setup) (same_Some x input is))
-at-after b (x ∷ inputs) (suc place) input is =
-    let rest = at-after (after_round b x) inputs place input is in
-    (rest.0, rest.1, (let later : rest.0.number ≡ b.number + 1 + place = rest.2 in omega arith), rest.3)
+    (b : Beginning) (inputs : List (List ℕ)) (found : List Found) (place : ℕ) (input : List ℕ) (f : Found)
+    → slice_get inputs place ≡ Some input → slice_get found place ≡ Some f
+    → (r : Round) × (slice_get (rounds_after b inputs found) place ≡ Some r) × (r.number ≡ b.number + place)
+    × (r.setup ≡ with_input b.setup input) × (r.found ≡ f)
+at-after b [] found place input f is there = absurd (let no : None ≡ Some input = is in cc)
+at-after b (x ∷ inputs) [] place input f is there = absurd (let no : None ≡ Some f = there in cc)
+at-after b (x ∷ inputs) (y ∷ found) zero input f is there = (
+  round_on b x y,
+  refl,
+  omega arith,
+  ap (with_input b.setup) (same_Some x input is),
+  same_Some y f there,
+)
+at-after b (x ∷ inputs) (y ∷ found) (suc place) input f is there =
+    let rest = at-after (after_round b x y) inputs found place input f is there in (
+      rest.0,
+      rest.1,
+      (let later : rest.0.number ≡ b.number + 1 + place = rest.2 in omega arith),
+      rest.3,
+      rest.4,
+    )
 
 pub first-past :
-    (b : Beginning) (inputs : List (List ℕ)) (r : Round) → slice_get (rounds_after b inputs) 0 ≡ Some r
+    (b : Beginning) (inputs : List (List ℕ)) (found : List Found) (r : Round)
+    → slice_get (rounds_after b inputs found) 0 ≡ Some r
     → r.past ≡ b.past
-first-past b [] r is = let no : None ≡ Some r = is in cc
-first-past b (input ∷ inputs) r is = ap (λ (q : Round). q.past) (sym (same_Some (round_on b input) r is))
+first-past b [] found r is = let no : None ≡ Some r = is in cc
+first-past b (input ∷ inputs) [] r is = let no : None ≡ Some r = is in cc
+first-past b (input ∷ inputs) (f ∷ found) r is =
+    ap (λ (q : Round). q.past) (sym (same_Some (round_on b input f) r is))
 
 pub first-setup :
-    (b : Beginning) (lists inputs : List (List ℕ)) (r : Round)
-    → AreInputs b.setup.input lists inputs → slice_get (rounds_after b inputs) 0 ≡ Some r → r.setup ≡ b.setup
-first-setup b lists [] r are is = absurd are
-first-setup b lists (input ∷ inputs) r are is =
-    ap (λ (q : Round). q.setup) (sym (same_Some (round_on b input) r is)) ∙ ap (with_input b.setup) are.0
+    (b : Beginning) (lists inputs : List (List ℕ)) (found : List Found) (r : Round)
+    → AreInputs b.setup.input lists inputs → slice_get (rounds_after b inputs found) 0 ≡ Some r → r.setup ≡ b.setup
+first-setup b lists [] found r are is = absurd are
+first-setup b lists (input ∷ inputs) [] r are is = absurd (let no : None ≡ Some r = is in cc)
+first-setup b lists (input ∷ inputs) (f ∷ found) r are is =
+    ap (λ (q : Round). q.setup) (sym (same_Some (round_on b input f) r is)) ∙ ap (with_input b.setup) are.0
 
 -- one round and the next after it
 pub record IsNext (s : Setup) (before after : Round) : Type 0 where
@@ -227,9 +396,9 @@ pub record IsNext (s : Setup) (before after : Round) : Type 0 where
   pub after_setup : after.setup ≡ with_input s after.setup.input
 
 next-of :
-    (b : Beginning) (x y : List ℕ) (before after : Round)
-    → round_on b x ≡ before → round_on (after_round b x) y ≡ after → IsNext b.setup before after
-next-of b x y before after one next =
+    (b : Beginning) (x y : List ℕ) (f g : Found) (before after : Round)
+    → round_on b x f ≡ before → round_on (after_round b x f) y g ≡ after → IsNext b.setup before after
+next-of b x y f g before after one next =
     record {
       left = sym (ap (λ (r : Round). r.past) next) ∙ ap (λ (r : Round). Some (left_by r)) one;
       before_setup = subst (λ (r : Round). r.setup ≡ with_input b.setup r.setup.input) one refl;
@@ -237,61 +406,19 @@ next-of b x y before after one next =
     }
 
 pub next-after :
-    (b : Beginning) (inputs : List (List ℕ)) (place : ℕ) (before after : Round)
-    → slice_get (rounds_after b inputs) place ≡ Some before
-    → slice_get (rounds_after b inputs) (suc place) ≡ Some after
+    (b : Beginning) (inputs : List (List ℕ)) (found : List Found) (place : ℕ) (before after : Round)
+    → slice_get (rounds_after b inputs found) place ≡ Some before
+    → slice_get (rounds_after b inputs found) (suc place) ≡ Some after
     → IsNext b.setup before after
-next-after b [] place before after one next = absurd (let no : None ≡ Some before = one in cc)
-next-after b (x ∷ []) zero before after one next = absurd (let no : None ≡ Some after = next in cc)
-next-after b (x ∷ y ∷ inputs) zero before after one next =
-    next-of b x y before after (same_Some (round_on b x) before one)
-    (same_Some (round_on (after_round b x) y) after next)
-next-after b (x ∷ inputs) (suc place) before after one next =
-    next-after (after_round b x) inputs place before after one next
-
--- rounds that are made one after the other
-pub rounds-later :
-    (b : Beginning) (inputs others : List (List ℕ))
-    → rounds_after b (inputs ++ others) ≡ rounds_after b inputs ++ rounds_after (after_rounds b inputs) others
-rounds-later b [] others = refl
-rounds-later b (input ∷ inputs) others =
-    ap (λ (rs : List Round). round_on b input ∷ rs) (rounds-later (after_round b input) inputs others)
-
-pub after-later :
-    (b : Beginning) (inputs others : List (List ℕ))
-    → after_rounds b (inputs ++ others) ≡ after_rounds (after_rounds b inputs) others
-after-later b [] others = refl
-after-later b (input ∷ inputs) others = after-later (after_round b input) inputs others
-
-pub last-one :
-    (b : Beginning) (inputs : List (List ℕ)) (input : List ℕ)
-    → last_left b (inputs ++ input ∷ []) ≡ left_by (round_on (after_rounds b inputs) input)
-last-one b inputs input = ap (λ (c : Beginning). history_at c) (after-later b inputs (input ∷ []))
-
--- after a round there is a history, which the last round left
-pub past-later :
-    (b : Beginning) (inputs : List (List ℕ)) → inputs ≢ []
-    → (after_rounds b inputs).past ≡ Some (last_left b inputs)
-past-later b [] some = absurd (some refl)
-past-later b (input ∷ []) some = refl
-past-later b (input ∷ next ∷ inputs) some = past-later (after_round b input) (next ∷ inputs) (λ none. cc)
-
--- what each round passes on from the history that it goes by is passed on to the end
-pub passed-on :
-    (P : Option History → Type 0) (Q : List ℕ → Type 0) (b : Beginning) (inputs : List (List ℕ))
-    → ((r : Round) → r.setup ≡ with_input b.setup r.setup.input → Q r.setup.input → P r.past → P (Some (left_by r)))
-    → AllByRecursion Q inputs → P b.past → P (after_rounds b inputs).past
-passed-on P Q b [] passes all start = start
-passed-on P Q b (input ∷ inputs) passes all start =
-    passed-on P Q (after_round b input) inputs passes all.1 (passes (round_on b input) refl all.0 start)
-
-pub number-later : (b : Beginning) (inputs : List (List ℕ)) → (after_rounds b inputs).number ≡ b.number + length inputs
-number-later b [] = omega arith
-number-later b (input ∷ inputs) = let rest = number-later (after_round b input) inputs in omega arith
-
-pub setup-later : (b : Beginning) (inputs : List (List ℕ)) → (after_rounds b inputs).setup ≡ b.setup
-setup-later b [] = refl
-setup-later b (input ∷ inputs) = setup-later (after_round b input) inputs
+next-after b [] found place before after one next = absurd (let no : None ≡ Some before = one in cc)
+next-after b (x ∷ inputs) [] place before after one next = absurd (let no : None ≡ Some before = one in cc)
+next-after b (x ∷ []) (f ∷ found) zero before after one next = absurd (let no : None ≡ Some after = next in cc)
+next-after b (x ∷ y ∷ inputs) (f ∷ []) zero before after one next = absurd (let no : None ≡ Some after = next in cc)
+next-after b (x ∷ y ∷ inputs) (f ∷ g ∷ found) zero before after one next =
+    next-of b x y f g before after (same_Some (round_on b x f) before one)
+    (same_Some (round_on (after_round b x f) y g) after next)
+next-after b (x ∷ inputs) (f ∷ found) (suc place) before after one next =
+    next-after (after_round b x f) inputs found place before after one next
 
 -- a fact of each element holds of the one at a place
 pub at-place :

@@ -1,12 +1,15 @@
--- The rounds of one worker on some inputs, one after the other, from scratch or by a history that was read.
+-- The rounds of a line on some inputs, one after the other, from scratch or by a history that was read, each by the
+-- schedule that its workers found.
 use Rattle.std.specs.Prelude.{ℕ, suc, ◌+◌, ◌≡◌, List, [], ◌∷◌, slice_get, Option, Some, None, unwrap_or, ⊤}
 use Rattle.machine_spec.specs.Machine.{Machine}
 use Rattle.machine_spec.specs.Setup.{Setup, scratch}
 use Rattle.history_spec.specs.History.{History, IsSameProgram, CanGoBy}
 use Rattle.report_spec.specs.declared.Entry.{Entry}
+use Rattle.report_spec.specs.Report.{threads_of}
 use Rattle.round_spec.specs.Marks.{marked}
 use Rattle.round_spec.specs.Rounds.{RoundState, history_of}
-use Rattle.round_spec.specs.Alone.{one_worker, lone_round}
+use Rattle.round_spec.specs.Schedules.{round_by}
+use Rattle.worker_spec.specs.Workers.{IsMadeBy}
 
 -- A setup with another input: the same executable, fuel and limit.
 abbrev pub with_input : Setup → List ℕ → Setup
@@ -16,15 +19,25 @@ with_input setup input = record setup { input = input }
 abbrev pub with_fuel : Setup → ℕ → Setup
 with_fuel setup fuel = record setup { fuel = fuel }
 
--- A round before it is made: its number, what it starts from, and the history that it goes by, if there is one.
+-- What the workers of a round found: a schedule with its marks, and how many of its steps each of them made.
+pub record Found : Type 0 where
+  pub entries : List Entry
+  pub shares : List ℕ
+
+-- A round: its number, what it starts from, the history that it goes by, if there is one, and what its workers found.
 pub record Round : Type 0 where
   pub number : ℕ
   pub setup : Setup
   pub past : Option History
+  pub found : Found
 
--- A round as one worker makes it.
+-- A round as it was made, entry by entry of the schedule that its workers found.
 abbrev pub made : Round → RoundState
-made r = lone_round r.setup r.past
+made r = round_by r.setup r.past r.found.entries
+
+-- So many workers made a round.
+abbrev pub IsMade : ℕ → Round → Type 0
+IsMade workers r = IsMadeBy workers r.setup r.past r.found.entries r.found.shares
 
 -- What a round leaves to the next one.
 abbrev pub left_by : Round → History
@@ -55,38 +68,42 @@ abbrev pub IsOfProgram : Option History → Setup → Type 0
 IsOfProgram None setup = ⊤
 IsOfProgram (Some h) setup = IsSameProgram h.setup setup
 
--- The first round of a beginning, on an input.
-abbrev pub round_on : Beginning → List ℕ → Round
-round_on b input = record { number = b.number; setup = with_input b.setup input; past = b.past }
+-- The first round of a beginning, on an input, by what its workers found.
+abbrev pub round_on : Beginning → List ℕ → Found → Round
+round_on b input found =
+    record { number = b.number; setup = with_input b.setup input; past = b.past; found = found }
 
 -- What the rounds after the first begin with: the next number, and what the first leaves.
-abbrev pub after_round : Beginning → List ℕ → Beginning
-after_round b input = record { number = b.number + 1; past = Some (left_by (round_on b input)); setup = b.setup }
+abbrev pub after_round : Beginning → List ℕ → Found → Beginning
+after_round b input found =
+    record { number = b.number + 1; past = Some (left_by (round_on b input found)); setup = b.setup }
 
--- The rounds on some inputs: the first goes by the history of the beginning, if there is one, and each other by what
--- the round before it leaves.
-abbrev pub rounds_after : Beginning → List (List ℕ) → List Round
-rounds_after b [] = []
-rounds_after b (input ∷ inputs) = round_on b input ∷ rounds_after (after_round b input) inputs
+-- The rounds on the first of some inputs, one for each thing that was found, in order: the first goes by the history of
+-- the beginning, if there is one, and each other by what the round before it leaves.
+abbrev pub rounds_after : Beginning → List (List ℕ) → List Found → List Round
+rounds_after b [] found = []
+rounds_after b (input ∷ inputs) [] = []
+rounds_after b (input ∷ inputs) (f ∷ found) = round_on b input f ∷ rounds_after (after_round b input f) inputs found
 
--- What the rounds after those on some inputs begin with.
-abbrev pub after_rounds : Beginning → List (List ℕ) → Beginning
-after_rounds b [] = b
-after_rounds b (input ∷ inputs) = after_rounds (after_round b input) inputs
+-- What the rounds after these begin with.
+abbrev pub after_rounds : Beginning → List (List ℕ) → List Found → Beginning
+after_rounds b [] found = b
+after_rounds b (input ∷ inputs) [] = b
+after_rounds b (input ∷ inputs) (f ∷ found) = after_rounds (after_round b input f) inputs found
 
 -- The history of a beginning; where it has none, the one of no steps.
 abbrev pub history_at : Beginning → History
 history_at b = unwrap_or b.past (record { setup = b.setup; records = [] })
 
--- What the last of the rounds on some inputs leaves; where there is none, the history of the beginning.
-abbrev pub last_left : Beginning → List (List ℕ) → History
-last_left b inputs = history_at (after_rounds b inputs)
+-- What the last of these rounds leaves; where there is none, the history of the beginning.
+abbrev pub last_left : Beginning → List (List ℕ) → List Found → History
+last_left b inputs found = history_at (after_rounds b inputs found)
 
--- The schedule that a round's worker makes.
+-- The schedule that a round's workers found, by threads alone.
 abbrev pub schedule_in : Round → List ℕ
-schedule_in r = one_worker r.setup r.past
+schedule_in r = threads_of r.found.entries
 
--- Its entries with their marks: a step is reused exactly where the record of it fits.
+-- Its entries with the marks of the machine from scratch: a step is reused exactly where the record of it fits.
 abbrev pub entries_of : Round → List Entry
 entries_of r = marked r.past r.setup (schedule_in r)
 
@@ -102,7 +119,8 @@ pub record IsRepeated (rounds : List Round) (before after : Round) : Type 0 wher
   pub same : after.setup.input ≡ before.setup.input
 
 -- Of rounds that go by a memo, the first, without an edit: its input and its fuel are those of the memo's round.
-pub record IsUneditedRerun (h : History) (fuel : ℕ) (inputs : List (List ℕ)) (r : Round) : Type 0 where
-  pub first : slice_get (rounds_after (after_memo h fuel) inputs) 0 ≡ Some r
+pub record IsUneditedRerun (h : History) (fuel : ℕ) (inputs : List (List ℕ)) (found : List Found)
+    (r : Round) : Type 0 where
+  pub first : slice_get (rounds_after (after_memo h fuel) inputs found) 0 ≡ Some r
   pub same_input : r.setup.input ≡ h.setup.input
   pub same_fuel : r.setup.fuel ≡ h.setup.fuel

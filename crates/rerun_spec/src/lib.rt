@@ -1,11 +1,12 @@
-//! What a command line with lists of edits asks for, with one worker's schedule, as definitions: the
-//! inputs of the rounds or the first list that is refused, the rounds, from scratch or after a memo that was
+//! What a command line with lists of edits asks for, as definitions: the inputs of the rounds or the first list
+//! that is refused, the rounds, each by the schedule that its workers found, from scratch or after a memo that was
 //! read, each going by what the one before it leaves, their reports, and whether each ends by exit; with the
 //! laws that what was proved of one round holds of each of them, that a rerun without an edit executes
-//! nothing, and that without lists there is the one run from scratch. No code.
+//! nothing, and that without lists there is the one run from scratch; of one worker, that it makes the schedule
+//! that follows the choice. No code.
 #![tactic(auto)]
 
-ghost use Rattle.std.specs.Prelude.{◌≡◌, ◌≢◌, ◌≤◌, ◌<◌, ◌+◌, ℕ, suc, max, true, ◌&&◌, List, [], ◌∷◌, ◌++◌, All, length, map, sum, slice_get, Option, Some, None, is_some, ◌⊎◌};
+ghost use Rattle.std.specs.Prelude.{◌≡◌, ◌≢◌, ◌≤◌, ◌<◌, ◌+◌, ℕ, suc, min, max, true, ◌&&◌, List, [], ◌∷◌, ◌++◌, All, length, map, take, drop, sum, slice_get, Option, Some, None, is_some, ◌⊎◌};
 ghost use Rattle.std.specs.List.{range_with_len};
 ghost use Rattle.edit_spec.specs.Editing.{longest_input};
 ghost use Rattle.machine_spec.specs.Limits.{AreLimits};
@@ -17,13 +18,14 @@ ghost use Rattle.round_spec.specs.declared.events.Pick.TheVariants as pick;
 ghost use Rattle.round_spec.specs.Marks.{marked};
 ghost use Rattle.round_spec.specs.Rounds.{opening};
 ghost use Rattle.round_spec.specs.Choice.{pick_of};
-ghost use Rattle.round_spec.specs.Alone.{after_picks};
+ghost use Rattle.round_spec.specs.Alone.{one_worker, after_picks, lone_round};
+ghost use Rattle.round_spec.specs.Instructions.{executed_instructions};
 ghost use Rattle.round_spec.specs.Keeping.{IsCounted};
 ghost use Rattle.round_spec.specs.Unedited.{OnlyReuses};
 ghost use Rattle.worker_spec.specs.OneWorker.{executed_in};
 ghost use Rattle.rerun_spec.specs.Inputs.{Makes, AreInputs, AreRerunInputs, AreShort, Refusal, Refuses, IsFirstRefused};
-ghost use Rattle.rerun_spec.specs.Rounds.{Round, Beginning, with_input, with_fuel, made, left_by, from_scratch, after_memo, CanBegin, round_on, after_round, rounds_after, after_rounds, IsOfProgram, last_left, schedule_in, entries_of, machine_of, IsRepeated, IsUneditedRerun};
-ghost use Rattle.rerun_spec.specs.Reports.{all_executed, shares_of_first, report_of, reports_of, is_exit, exits, all_exit, made_report, made_reports, made_exits, all_made_exit};
+ghost use Rattle.rerun_spec.specs.Rounds.{Found, Round, Beginning, with_input, with_fuel, made, IsMade, left_by, from_scratch, after_memo, CanBegin, round_on, after_round, rounds_after, after_rounds, IsOfProgram, last_left, schedule_in, entries_of, machine_of, IsRepeated, IsUneditedRerun};
+ghost use Rattle.rerun_spec.specs.Reports.{all_executed, report_of, reports_of, is_exit, exits, all_exit, made_report, made_reports, made_exits, all_made_exit};
 
 /// For each first input and lists of edits either the inputs of the rounds are there, or a list is the
 /// first that is refused; never both; and there is one answer. The place of the refused list is one of
@@ -114,296 +116,406 @@ pub fn rerun_inputs_fit_their_lists()
     ensures none { (input : List ℕ) → AreRerunInputs input [] (input ∷ []) }
 {}
 
-/// The rounds are numbered from the beginning's number on; each is of the same program, on its own input, and
-/// the first is of the setup itself where the inputs start with its own; the first goes by the beginning's
-/// history, which is none from scratch, and each other round by what the one before it leaves.
+/// There is a round for each thing that was found, as far as there are inputs. The rounds are numbered from the
+/// beginning's number on; each is of the same program, on its own input, by what was found of it, and the first is of
+/// the setup itself where the inputs start with its own; the first goes by the beginning's history, which is none from
+/// scratch, and each other round by what the one before it leaves.
 pub fn rounds_follow_each_other()
-    ensures numbers { (b : Beginning) (inputs : List (List ℕ))
-        → map (λ (r : Round). r.number) (rounds_after b inputs) ≡ range_with_len b.number (length inputs) }
-    ensures setups { (b : Beginning) (inputs : List (List ℕ))
-        → map (λ (r : Round). r.setup) (rounds_after b inputs) ≡ map (with_input b.setup) inputs }
-    ensures at { (b : Beginning) (inputs : List (List ℕ)) (place : ℕ) (input : List ℕ)
+    ensures numbers { (b : Beginning) (inputs : List (List ℕ)) (found : List Found)
+        → map (λ (r : Round). r.number) (rounds_after b inputs found)
+        ≡ range_with_len b.number (min (length inputs) (length found)) }
+    ensures setups { (b : Beginning) (inputs : List (List ℕ)) (found : List Found)
+        → map (λ (r : Round). r.setup) (rounds_after b inputs found)
+        ≡ map (with_input b.setup) (take (length found) inputs) }
+    ensures found { (b : Beginning) (inputs : List (List ℕ)) (found : List Found)
+        → map (λ (r : Round). r.found) (rounds_after b inputs found) ≡ take (length inputs) found }
+    ensures at { (b : Beginning) (inputs : List (List ℕ)) (found : List Found) (place : ℕ) (input : List ℕ) (f : Found)
         → slice_get inputs place ≡ Some input
-        → (r : Round) × (slice_get (rounds_after b inputs) place ≡ Some r) × (r.number ≡ b.number + place)
-        × (r.setup ≡ with_input b.setup input) }
-    ensures start { (b : Beginning) (lists inputs : List (List ℕ)) (r : Round)
+        → slice_get found place ≡ Some f
+        → (r : Round) × (slice_get (rounds_after b inputs found) place ≡ Some r) × (r.number ≡ b.number + place)
+        × (r.setup ≡ with_input b.setup input) × (r.found ≡ f) }
+    ensures start { (b : Beginning) (lists inputs : List (List ℕ)) (found : List Found) (r : Round)
         → AreInputs b.setup.input lists inputs
-        → slice_get (rounds_after b inputs) 0 ≡ Some r
+        → slice_get (rounds_after b inputs found) 0 ≡ Some r
         → r.setup ≡ b.setup }
-    ensures past { (b : Beginning) (inputs : List (List ℕ)) (r : Round)
-        → slice_get (rounds_after b inputs) 0 ≡ Some r
+    ensures past { (b : Beginning) (inputs : List (List ℕ)) (found : List Found) (r : Round)
+        → slice_get (rounds_after b inputs found) 0 ≡ Some r
         → r.past ≡ b.past }
-    ensures none { (setup : Setup) (inputs : List (List ℕ)) (r : Round)
-        → slice_get (rounds_after (from_scratch setup) inputs) 0 ≡ Some r
+    ensures none { (setup : Setup) (inputs : List (List ℕ)) (found : List Found) (r : Round)
+        → slice_get (rounds_after (from_scratch setup) inputs found) 0 ≡ Some r
         → r.past ≡ None }
-    ensures left { (b : Beginning) (inputs : List (List ℕ)) (place : ℕ) (before after : Round)
-        → slice_get (rounds_after b inputs) place ≡ Some before
-        → slice_get (rounds_after b inputs) (suc place) ≡ Some after
+    ensures left { (b : Beginning) (inputs : List (List ℕ)) (found : List Found) (place : ℕ) (before after : Round)
+        → slice_get (rounds_after b inputs found) place ≡ Some before
+        → slice_get (rounds_after b inputs found) (suc place) ≡ Some after
         → after.past ≡ Some (left_by before) }
 {}
 
 /// Who makes the rounds one after the other, each with what the ones before it leave to begin with, makes all
-/// of them; and the last one leaves what the next would go by.
+/// of them; and the last one leaves what the next would go by. The rounds so far are those of what was found so
+/// far, whatever inputs are still to come.
 pub fn rounds_go_on()
-    ensures later { (b : Beginning) (inputs others : List (List ℕ))
-        → rounds_after b (inputs ++ others) ≡ rounds_after b inputs ++ rounds_after (after_rounds b inputs) others }
-    ensures one { (b : Beginning) (inputs : List (List ℕ)) (input : List ℕ)
-        → rounds_after b (inputs ++ input ∷ []) ≡ rounds_after b inputs ++ round_on (after_rounds b inputs) input ∷ [] }
-    ensures next { (b : Beginning) (inputs : List (List ℕ)) (input : List ℕ)
-        → after_rounds b (inputs ++ input ∷ []) ≡ after_round (after_rounds b inputs) input }
-    ensures last { (b : Beginning) (inputs : List (List ℕ)) (input : List ℕ)
-        → last_left b (inputs ++ input ∷ []) ≡ left_by (round_on (after_rounds b inputs) input) }
-    ensures number { (b : Beginning) (inputs : List (List ℕ))
-        → (after_rounds b inputs).number ≡ b.number + length inputs }
-    ensures setup { (b : Beginning) (inputs : List (List ℕ)) → (after_rounds b inputs).setup ≡ b.setup }
-    ensures past { (b : Beginning) (inputs : List (List ℕ))
+    ensures later { (b : Beginning) (inputs : List (List ℕ)) (found more : List Found)
+        → rounds_after b inputs (found ++ more)
+        ≡ rounds_after b inputs found ++ rounds_after (after_rounds b inputs found) (drop (length found) inputs) more }
+    ensures after { (b : Beginning) (inputs : List (List ℕ)) (found more : List Found)
+        → after_rounds b inputs (found ++ more)
+        ≡ after_rounds (after_rounds b inputs found) (drop (length found) inputs) more }
+    ensures one { (b : Beginning) (inputs : List (List ℕ)) (found : List Found) (input : List ℕ) (f : Found)
+        → slice_get inputs (length found) ≡ Some input
+        → rounds_after b inputs (found ++ f ∷ [])
+        ≡ rounds_after b inputs found ++ round_on (after_rounds b inputs found) input f ∷ [] }
+    ensures next { (b : Beginning) (inputs : List (List ℕ)) (found : List Found) (input : List ℕ) (f : Found)
+        → slice_get inputs (length found) ≡ Some input
+        → after_rounds b inputs (found ++ f ∷ []) ≡ after_round (after_rounds b inputs found) input f }
+    ensures last { (b : Beginning) (inputs : List (List ℕ)) (found : List Found) (input : List ℕ) (f : Found)
+        → slice_get inputs (length found) ≡ Some input
+        → last_left b inputs (found ++ f ∷ []) ≡ left_by (round_on (after_rounds b inputs found) input f) }
+    ensures few { (b : Beginning) (inputs rest : List (List ℕ)) (found : List Found)
+        → length found ≤ length inputs
+        → rounds_after b (inputs ++ rest) found ≡ rounds_after b inputs found }
+    ensures few_after { (b : Beginning) (inputs rest : List (List ℕ)) (found : List Found)
+        → length found ≤ length inputs
+        → after_rounds b (inputs ++ rest) found ≡ after_rounds b inputs found }
+    ensures number { (b : Beginning) (inputs : List (List ℕ)) (found : List Found)
+        → (after_rounds b inputs found).number ≡ b.number + min (length inputs) (length found) }
+    ensures setup { (b : Beginning) (inputs : List (List ℕ)) (found : List Found)
+        → (after_rounds b inputs found).setup ≡ b.setup }
+    ensures past { (b : Beginning) (inputs : List (List ℕ)) (found : List Found)
         → inputs ≢ []
-        → (after_rounds b inputs).past ≡ Some (last_left b inputs) }
+        → found ≢ []
+        → (after_rounds b inputs found).past ≡ Some (last_left b inputs found) }
 {}
 
 /// Who tells of the rounds one after the other, each as it was made, tells of all of them, in order; and all
 /// ended by exit where those so far did and the last one does.
 pub fn made_reports_go_on()
-    ensures later { (b : Beginning) (inputs others : List (List ℕ)) (workers : ℕ)
-        → made_reports workers (rounds_after b (inputs ++ others))
-        ≡ made_reports workers (rounds_after b inputs)
-        ++ made_reports workers (rounds_after (after_rounds b inputs) others) }
-    ensures one { (b : Beginning) (inputs : List (List ℕ)) (input : List ℕ) (workers : ℕ)
-        → made_reports workers (rounds_after b (inputs ++ input ∷ []))
-        ≡ made_reports workers (rounds_after b inputs)
-        ++ made_report workers (round_on (after_rounds b inputs) input) ∷ [] }
-    ensures exits { (b : Beginning) (inputs : List (List ℕ)) (input : List ℕ)
-        → all_made_exit (rounds_after b (inputs ++ input ∷ []))
-        ≡ (all_made_exit (rounds_after b inputs) && made_exits (round_on (after_rounds b inputs) input)) }
+    ensures later { (b : Beginning) (inputs : List (List ℕ)) (found more : List Found)
+        → made_reports (rounds_after b inputs (found ++ more))
+        ≡ made_reports (rounds_after b inputs found)
+        ++ made_reports (rounds_after (after_rounds b inputs found) (drop (length found) inputs) more) }
+    ensures one { (b : Beginning) (inputs : List (List ℕ)) (found : List Found) (input : List ℕ) (f : Found)
+        → slice_get inputs (length found) ≡ Some input
+        → made_reports (rounds_after b inputs (found ++ f ∷ []))
+        ≡ made_reports (rounds_after b inputs found)
+        ++ made_report (round_on (after_rounds b inputs found) input f) ∷ [] }
+    ensures exits { (b : Beginning) (inputs : List (List ℕ)) (found : List Found) (input : List ℕ) (f : Found)
+        → slice_get inputs (length found) ≡ Some input
+        → all_made_exit (rounds_after b inputs (found ++ f ∷ []))
+        ≡ (all_made_exit (rounds_after b inputs found) && made_exits (round_on (after_rounds b inputs found) input f)) }
 {}
 
-/// Whatever the first round goes by: each round may be run, has an end, has made a step, and leaves the records
-/// of its own entries; what it leaves is of its own setup, and so of the same program; and so each goes by a
-/// history of its program, where the first does.
+/// Whatever the first round goes by: each round may be run, and leaves the records of its own entries; where
+/// workers made it, it has an end, has made a step, and was made by the entries that they found; what it leaves is
+/// of its own setup, and so of the same program; and so each goes by a history of its program, where the first does.
 pub fn each_round_comes_to_an_end()
-    ensures runs { (b : Beginning) (inputs : List (List ℕ))
+    ensures runs { (b : Beginning) (inputs : List (List ℕ)) (found : List Found)
         → IsSetup b.setup
         → AreShort inputs
-        → All (λ (r : Round). IsSetup r.setup) (rounds_after b inputs) }
-    ensures ends { (b : Beginning) (inputs : List (List ℕ))
+        → All (λ (r : Round). IsSetup r.setup) (rounds_after b inputs found) }
+    ensures ends { (b : Beginning) (inputs : List (List ℕ)) (found : List Found) (workers : ℕ)
+        → All (IsMade workers) (rounds_after b inputs found)
+        → All (λ r. is_some (made r).machine.ending ≡ true) (rounds_after b inputs found) }
+    ensures steps { (b : Beginning) (inputs : List (List ℕ)) (found : List Found) (workers : ℕ)
+        → All (IsMade workers) (rounds_after b inputs found)
+        → All (λ r. (made r).schedule ≢ []) (rounds_after b inputs found) }
+    ensures entries { (b : Beginning) (inputs : List (List ℕ)) (found : List Found) (workers : ℕ)
+        → All (IsMade workers) (rounds_after b inputs found)
+        → All (λ r. (made r).schedule ≡ r.found.entries) (rounds_after b inputs found) }
+    ensures records { (b : Beginning) (inputs : List (List ℕ)) (found : List Found)
         → IsSetup b.setup
         → AreShort inputs
-        → All (λ r. is_some (made r).machine.ending ≡ true) (rounds_after b inputs) }
-    ensures steps { (b : Beginning) (inputs : List (List ℕ))
+        → All (λ r. IsCounted (made r)) (rounds_after b inputs found) }
+    ensures schedule { (b : Beginning) (inputs : List (List ℕ)) (found : List Found) (workers : ℕ)
         → IsSetup b.setup
         → AreShort inputs
-        → All (λ r. (made r).schedule ≢ []) (rounds_after b inputs) }
-    ensures records { (b : Beginning) (inputs : List (List ℕ))
-        → IsSetup b.setup
-        → AreShort inputs
-        → All (λ r. IsCounted (made r)) (rounds_after b inputs) }
-    ensures setup { (b : Beginning) (inputs : List (List ℕ))
-        → All (λ (r : Round). (left_by r).setup ≡ r.setup) (rounds_after b inputs) }
-    ensures program { (b : Beginning) (inputs : List (List ℕ))
-        → All (λ r. IsSameProgram (left_by r).setup b.setup) (rounds_after b inputs) }
-    ensures past { (b : Beginning) (inputs : List (List ℕ))
+        → All (IsMade workers) (rounds_after b inputs found)
+        → All (λ r. schedule_of (left_by r) ≡ schedule_in r) (rounds_after b inputs found) }
+    ensures setup { (b : Beginning) (inputs : List (List ℕ)) (found : List Found)
+        → All (λ (r : Round). (left_by r).setup ≡ r.setup) (rounds_after b inputs found) }
+    ensures program { (b : Beginning) (inputs : List (List ℕ)) (found : List Found)
+        → All (λ r. IsSameProgram (left_by r).setup b.setup) (rounds_after b inputs found) }
+    ensures past { (b : Beginning) (inputs : List (List ℕ)) (found : List Found)
         → IsOfProgram b.past b.setup
-        → All (λ (r : Round). IsOfProgram r.past r.setup) (rounds_after b inputs) }
-    ensures later { (b : Beginning) (inputs : List (List ℕ))
+        → All (λ (r : Round). IsOfProgram r.past r.setup) (rounds_after b inputs found) }
+    ensures later { (b : Beginning) (inputs : List (List ℕ)) (found : List Found)
         → IsOfProgram b.past b.setup
-        → IsOfProgram (after_rounds b inputs).past b.setup }
+        → IsOfProgram (after_rounds b inputs found).past b.setup }
 {}
 
 /// Rounds may begin from scratch with a setup that may be run, and after a memo whose history is honest, with
-/// any fuel in range. Then each round may be made: its setup can go by its history. So each law of one
-/// worker's round holds of it. What it leaves is honest, and of its own schedule.
+/// any fuel in range. Then each round that workers make may be made: its setup can go by its history. So each law of
+/// a round that goes by a sound history holds of it. What it leaves is honest. However many workers there are, one or
+/// more, they can make a round of each input.
 pub fn each_round_may_be_made()
     ensures scratch { (setup : Setup) → IsSetup setup → CanBegin (from_scratch setup) }
     ensures memo { (h : History) (fuel : ℕ)
         → IsHonest h
         → AreLimits fuel h.setup.limit
         → CanBegin (after_memo h fuel) }
-    ensures sound { (b : Beginning) (inputs : List (List ℕ))
+    ensures sound { (b : Beginning) (inputs : List (List ℕ)) (found : List Found) (workers : ℕ)
         → CanBegin b
         → AreShort inputs
-        → All (λ (r : Round). CanGoBy r.past r.setup) (rounds_after b inputs) }
-    ensures later { (b : Beginning) (inputs : List (List ℕ))
+        → All (IsMade workers) (rounds_after b inputs found)
+        → All (λ (r : Round). CanGoBy r.past r.setup) (rounds_after b inputs found) }
+    ensures later { (b : Beginning) (inputs : List (List ℕ)) (found : List Found) (workers : ℕ)
         → CanBegin b
         → AreShort inputs
-        → CanBegin (after_rounds b inputs) }
-    ensures honest { (b : Beginning) (inputs : List (List ℕ))
+        → All (IsMade workers) (rounds_after b inputs found)
+        → CanBegin (after_rounds b inputs found) }
+    ensures honest { (b : Beginning) (inputs : List (List ℕ)) (found : List Found) (workers : ℕ)
         → CanBegin b
         → AreShort inputs
-        → All (λ r. IsHonest (left_by r)) (rounds_after b inputs) }
-    ensures last { (b : Beginning) (inputs : List (List ℕ))
+        → All (IsMade workers) (rounds_after b inputs found)
+        → All (λ r. IsHonest (left_by r)) (rounds_after b inputs found) }
+    ensures last { (b : Beginning) (inputs : List (List ℕ)) (found : List Found) (workers : ℕ)
         → CanBegin b
         → AreShort inputs
+        → All (IsMade workers) (rounds_after b inputs found)
         → inputs ≢ []
-        → IsHonest (last_left b inputs) }
-    ensures schedule { (b : Beginning) (inputs : List (List ℕ))
-        → CanBegin b
+        → found ≢ []
+        → IsHonest (last_left b inputs found) }
+    ensures some { (b : Beginning) (inputs : List (List ℕ)) (workers : ℕ)
+        → IsSetup b.setup
         → AreShort inputs
-        → All (λ r. schedule_of (left_by r) ≡ schedule_in r) (rounds_after b inputs) }
+        → 1 ≤ workers
+        → (found : List Found) × (length found ≡ length inputs) × All (IsMade workers) (rounds_after b inputs found) }
 {}
 
-/// Each round, as one worker makes it, is what its report tells: its entries have exact marks, and their
-/// threads are the schedule, which is permitted and complete; its machine is the one from scratch under
+/// Each round, as its workers make it, is what its report tells: its entries, which they found, have exact marks, and
+/// their threads are the schedule, which is permitted and complete; its machine is the one from scratch under
 /// it, and has an end; its records are the machine's, entry by entry; and what was executed is what the
-/// report says.
+/// report says. One worker makes the round that follows the choice, and executes, pick by pick, what its report says.
 pub fn each_round_is_from_scratch()
     ensures threads { (r : Round) → threads_of (entries_of r) ≡ schedule_in r }
-    ensures permitted { (b : Beginning) (inputs : List (List ℕ))
+    ensures permitted { (b : Beginning) (inputs : List (List ℕ)) (found : List Found) (workers : ℕ)
         → CanBegin b
         → AreShort inputs
-        → All (λ (r : Round). is_permitted r.setup (threads_of (entries_of r)) ≡ true) (rounds_after b inputs) }
-    ensures complete { (b : Beginning) (inputs : List (List ℕ))
+        → All (IsMade workers) (rounds_after b inputs found)
+        → All (λ (r : Round). is_permitted r.setup (threads_of (entries_of r)) ≡ true) (rounds_after b inputs found) }
+    ensures complete { (b : Beginning) (inputs : List (List ℕ)) (found : List Found) (workers : ℕ)
         → CanBegin b
         → AreShort inputs
-        → All (λ (r : Round). is_complete r.setup (threads_of (entries_of r)) ≡ true) (rounds_after b inputs) }
-    ensures entries { (b : Beginning) (inputs : List (List ℕ))
+        → All (IsMade workers) (rounds_after b inputs found)
+        → All (λ (r : Round). is_complete r.setup (threads_of (entries_of r)) ≡ true) (rounds_after b inputs found) }
+    ensures entries { (b : Beginning) (inputs : List (List ℕ)) (found : List Found) (workers : ℕ)
         → CanBegin b
         → AreShort inputs
-        → All (λ r. (made r).schedule ≡ entries_of r) (rounds_after b inputs) }
-    ensures marks { (b : Beginning) (inputs : List (List ℕ))
+        → All (IsMade workers) (rounds_after b inputs found)
+        → All (λ r. (made r).schedule ≡ entries_of r) (rounds_after b inputs found) }
+    ensures found { (b : Beginning) (inputs : List (List ℕ)) (found : List Found) (workers : ℕ)
         → CanBegin b
         → AreShort inputs
-        → All (λ (r : Round). entries_of r ≡ marked r.past r.setup (threads_of (entries_of r)))
-        (rounds_after b inputs) }
-    ensures machine { (b : Beginning) (inputs : List (List ℕ))
+        → All (IsMade workers) (rounds_after b inputs found)
+        → All (λ (r : Round). r.found.entries ≡ entries_of r) (rounds_after b inputs found) }
+    ensures marks { (b : Beginning) (inputs : List (List ℕ)) (found : List Found) (workers : ℕ)
         → CanBegin b
         → AreShort inputs
-        → All (λ (r : Round). (made r).machine ≡ scratch r.setup (threads_of (entries_of r))) (rounds_after b inputs) }
-    ensures records { (b : Beginning) (inputs : List (List ℕ))
+        → All (IsMade workers) (rounds_after b inputs found)
+        → All (λ (r : Round). r.found.entries ≡ marked r.past r.setup (threads_of r.found.entries))
+        (rounds_after b inputs found) }
+    ensures machine { (b : Beginning) (inputs : List (List ℕ)) (found : List Found) (workers : ℕ)
         → CanBegin b
         → AreShort inputs
-        → All (λ (r : Round). (made r).records ≡ records r.setup (threads_of (entries_of r))) (rounds_after b inputs) }
-    ensures ends { (b : Beginning) (inputs : List (List ℕ))
+        → All (IsMade workers) (rounds_after b inputs found)
+        → All (λ (r : Round). (made r).machine ≡ scratch r.setup (threads_of (entries_of r)))
+        (rounds_after b inputs found) }
+    ensures records { (b : Beginning) (inputs : List (List ℕ)) (found : List Found) (workers : ℕ)
         → CanBegin b
         → AreShort inputs
-        → All (λ r. is_some (machine_of r).ending ≡ true) (rounds_after b inputs) }
-    ensures instructions { (b : Beginning) (inputs : List (List ℕ))
+        → All (IsMade workers) (rounds_after b inputs found)
+        → All (λ (r : Round). (made r).records ≡ records r.setup (threads_of (entries_of r)))
+        (rounds_after b inputs found) }
+    ensures ends { (b : Beginning) (inputs : List (List ℕ)) (found : List Found) (workers : ℕ)
         → CanBegin b
         → AreShort inputs
+        → All (IsMade workers) (rounds_after b inputs found)
+        → All (λ r. is_some (machine_of r).ending ≡ true) (rounds_after b inputs found) }
+    ensures instructions { (b : Beginning) (inputs : List (List ℕ)) (found : List Found) (workers : ℕ)
+        → CanBegin b
+        → AreShort inputs
+        → All (IsMade workers) (rounds_after b inputs found)
+        → All (λ (r : Round).
+        executed_instructions (made r).schedule (made r).records ≡ instructions_from (first r.setup) (entries_of r))
+        (rounds_after b inputs found) }
+    ensures report { (b : Beginning) (inputs : List (List ℕ)) (found : List Found) (workers : ℕ)
+        → CanBegin b
+        → AreShort inputs
+        → All (IsMade workers) (rounds_after b inputs found)
+        → All (λ r. report_of r ≡ report r.number r.setup (made r).schedule r.found.shares)
+        (rounds_after b inputs found) }
+    ensures exit { (b : Beginning) (inputs : List (List ℕ)) (found : List Found) (workers : ℕ)
+        → CanBegin b
+        → AreShort inputs
+        → All (IsMade workers) (rounds_after b inputs found)
+        → All (λ r. exits r ≡ is_exit (made r).machine.ending) (rounds_after b inputs found) }
+    ensures lone { (b : Beginning) (inputs : List (List ℕ)) (found : List Found)
+        → All (IsMade 1) (rounds_after b inputs found)
+        → All (λ r. made r ≡ lone_round r.setup r.past) (rounds_after b inputs found) }
+    ensures alone { (b : Beginning) (inputs : List (List ℕ)) (found : List Found)
+        → CanBegin b
+        → AreShort inputs
+        → All (IsMade 1) (rounds_after b inputs found)
+        → All (λ (r : Round). schedule_in r ≡ one_worker r.setup r.past) (rounds_after b inputs found) }
+    ensures executed { (b : Beginning) (inputs : List (List ℕ)) (found : List Found)
+        → CanBegin b
+        → AreShort inputs
+        → All (IsMade 1) (rounds_after b inputs found)
         → All (λ (r : Round).
         executed_in r.setup.limit (opening r.setup r.past) ≡ instructions_from (first r.setup) (entries_of r))
-        (rounds_after b inputs) }
-    ensures report { (b : Beginning) (inputs : List (List ℕ)) (workers : ℕ)
-        → CanBegin b
-        → AreShort inputs
-        → All (λ r.
-        report_of workers r
-        ≡ report r.number r.setup (made r).schedule (shares_of_first workers (length (made r).schedule)))
-        (rounds_after b inputs) }
-    ensures exit { (b : Beginning) (inputs : List (List ℕ))
-        → CanBegin b
-        → AreShort inputs
-        → All (λ r. exits r ≡ is_exit (made r).machine.ending) (rounds_after b inputs) }
+        (rounds_after b inputs found) }
 {}
 
 /// What is told of a round as it was made, and whether it ended by exit, is what its report says and whether it
-/// ends by exit, where it can go by its history; and so it is for all rounds of a line.
+/// ends by exit, where it can go by its history and workers made it; and so it is for all rounds of a line.
 pub fn made_rounds_are_told_right()
-    ensures report { (r : Round) (workers : ℕ) → CanGoBy r.past r.setup → made_report workers r ≡ report_of workers r }
-    ensures exit { (r : Round) → CanGoBy r.past r.setup → made_exits r ≡ exits r }
-    ensures reports { (b : Beginning) (inputs : List (List ℕ)) (workers : ℕ)
+    ensures report { (r : Round) (workers : ℕ)
+        → CanGoBy r.past r.setup
+        → IsMade workers r
+        → made_report r ≡ report_of r }
+    ensures exit { (r : Round) (workers : ℕ)
+        → CanGoBy r.past r.setup
+        → IsMade workers r
+        → made_exits r ≡ exits r }
+    ensures reports { (b : Beginning) (inputs : List (List ℕ)) (found : List Found) (workers : ℕ)
         → CanBegin b
         → AreShort inputs
-        → made_reports workers (rounds_after b inputs) ≡ reports_of workers (rounds_after b inputs) }
-    ensures exits { (b : Beginning) (inputs : List (List ℕ))
+        → All (IsMade workers) (rounds_after b inputs found)
+        → made_reports (rounds_after b inputs found) ≡ reports_of (rounds_after b inputs found) }
+    ensures exits { (b : Beginning) (inputs : List (List ℕ)) (found : List Found) (workers : ℕ)
         → CanBegin b
         → AreShort inputs
-        → all_made_exit (rounds_after b inputs) ≡ all_exit (rounds_after b inputs) }
+        → All (IsMade workers) (rounds_after b inputs found)
+        → all_made_exit (rounds_after b inputs found) ≡ all_exit (rounds_after b inputs found) }
 {}
 
-/// Where the input of a round equals that of the round before, it is all reuse of what that one left: no
-/// step is picked to be executed, no instruction is executed and nothing is discarded; and schedule and
-/// machine (so its end, output and final memory) are those of the round before.
+/// Where the input of a round equals that of the round before, it is all reuse of what that one left, however many
+/// workers there are: no instruction is executed and nothing is discarded; and schedule and machine (so its end,
+/// output and final memory) are those of the round before. One worker would pick no step to be executed.
 pub fn repeated_round_executes_nothing()
-    ensures reuses { (b : Beginning) (inputs : List (List ℕ)) (before after : Round)
+    ensures reuses { (b : Beginning) (inputs : List (List ℕ)) (found : List Found) (workers : ℕ) (before after : Round)
         → CanBegin b
         → AreShort inputs
-        → IsRepeated (rounds_after b inputs) before after
+        → All (IsMade workers) (rounds_after b inputs found)
+        → IsRepeated (rounds_after b inputs found) before after
         → OnlyReuses (left_by before) (made after) }
-    ensures schedule { (b : Beginning) (inputs : List (List ℕ)) (before after : Round)
+    ensures schedule { (b : Beginning) (inputs : List (List ℕ)) (found : List Found) (workers : ℕ)
+        (before after : Round)
         → CanBegin b
         → AreShort inputs
-        → IsRepeated (rounds_after b inputs) before after
+        → All (IsMade workers) (rounds_after b inputs found)
+        → IsRepeated (rounds_after b inputs found) before after
         → schedule_in after ≡ schedule_in before }
-    ensures never_runs { (b : Beginning) (inputs : List (List ℕ)) (before after : Round) (n t : ℕ)
+    ensures never_runs { (b : Beginning) (inputs : List (List ℕ)) (found : List Found) (workers : ℕ)
+        (before after : Round) (n t : ℕ)
         → CanBegin b
         → AreShort inputs
-        → IsRepeated (rounds_after b inputs) before after
+        → All (IsMade workers) (rounds_after b inputs found)
+        → IsRepeated (rounds_after b inputs found) before after
         → pick_of (after_picks n (opening after.setup after.past)) ≢ pick.Run t }
-    ensures executed { (b : Beginning) (inputs : List (List ℕ)) (before after : Round)
+    ensures executed { (b : Beginning) (inputs : List (List ℕ)) (found : List Found) (workers : ℕ)
+        (before after : Round)
         → CanBegin b
         → AreShort inputs
-        → IsRepeated (rounds_after b inputs) before after
+        → All (IsMade workers) (rounds_after b inputs found)
+        → IsRepeated (rounds_after b inputs found) before after
         → executed_in after.setup.limit (opening after.setup after.past) ≡ 0 }
-    ensures instructions { (b : Beginning) (inputs : List (List ℕ)) (before after : Round)
+    ensures instructions { (b : Beginning) (inputs : List (List ℕ)) (found : List Found) (workers : ℕ)
+        (before after : Round)
         → CanBegin b
         → AreShort inputs
-        → IsRepeated (rounds_after b inputs) before after
+        → All (IsMade workers) (rounds_after b inputs found)
+        → IsRepeated (rounds_after b inputs found) before after
         → instructions_from (first after.setup) (entries_of after) ≡ 0 }
-    ensures machine { (b : Beginning) (inputs : List (List ℕ)) (before after : Round)
+    ensures machine { (b : Beginning) (inputs : List (List ℕ)) (found : List Found) (workers : ℕ)
+        (before after : Round)
         → CanBegin b
         → AreShort inputs
-        → IsRepeated (rounds_after b inputs) before after
+        → All (IsMade workers) (rounds_after b inputs found)
+        → IsRepeated (rounds_after b inputs found) before after
         → machine_of after ≡ machine_of before }
 {}
 
 /// Where input and fuel of the first round of a rerun are those of the memo's round, and the memo's history is
-/// honest, the round is all reuse of it: no step is picked to be executed, no instruction is executed and nothing
-/// is discarded; and schedule and machine (so its end, output and final memory) are those of the memo's round.
+/// honest, the round is all reuse of it, however many workers there are: no instruction is executed and nothing
+/// is discarded; and schedule and machine (so its end, output and final memory) are those of the memo's round. One
+/// worker would pick no step to be executed.
 pub fn unedited_rerun_executes_nothing()
-    ensures reuses { (h : History) (fuel : ℕ) (inputs : List (List ℕ)) (r : Round)
+    ensures reuses { (h : History) (fuel : ℕ) (inputs : List (List ℕ)) (found : List Found) (workers : ℕ) (r : Round)
         → IsHonest h
-        → IsUneditedRerun h fuel inputs r
+        → IsUneditedRerun h fuel inputs found r
+        → IsMade workers r
         → OnlyReuses h (made r) }
-    ensures schedule { (h : History) (fuel : ℕ) (inputs : List (List ℕ)) (r : Round)
+    ensures schedule { (h : History) (fuel : ℕ) (inputs : List (List ℕ)) (found : List Found) (workers : ℕ) (r : Round)
         → IsHonest h
-        → IsUneditedRerun h fuel inputs r
+        → IsUneditedRerun h fuel inputs found r
+        → IsMade workers r
         → schedule_in r ≡ schedule_of h }
-    ensures never_runs { (h : History) (fuel : ℕ) (inputs : List (List ℕ)) (r : Round) (n t : ℕ)
+    ensures never_runs { (h : History) (fuel : ℕ) (inputs : List (List ℕ)) (found : List Found) (r : Round) (n t : ℕ)
         → IsHonest h
-        → IsUneditedRerun h fuel inputs r
+        → IsUneditedRerun h fuel inputs found r
         → pick_of (after_picks n (opening r.setup r.past)) ≢ pick.Run t }
-    ensures executed { (h : History) (fuel : ℕ) (inputs : List (List ℕ)) (r : Round)
+    ensures executed { (h : History) (fuel : ℕ) (inputs : List (List ℕ)) (found : List Found) (r : Round)
         → IsHonest h
-        → IsUneditedRerun h fuel inputs r
+        → IsUneditedRerun h fuel inputs found r
         → executed_in r.setup.limit (opening r.setup r.past) ≡ 0 }
-    ensures instructions { (h : History) (fuel : ℕ) (inputs : List (List ℕ)) (r : Round)
+    ensures instructions { (h : History) (fuel : ℕ) (inputs : List (List ℕ)) (found : List Found) (workers : ℕ)
+        (r : Round)
         → IsHonest h
-        → IsUneditedRerun h fuel inputs r
+        → IsUneditedRerun h fuel inputs found r
+        → IsMade workers r
         → instructions_from (first r.setup) (entries_of r) ≡ 0 }
-    ensures machine { (h : History) (fuel : ℕ) (inputs : List (List ℕ)) (r : Round)
+    ensures machine { (h : History) (fuel : ℕ) (inputs : List (List ℕ)) (found : List Found) (workers : ℕ) (r : Round)
         → IsHonest h
-        → IsUneditedRerun h fuel inputs r
+        → IsUneditedRerun h fuel inputs found r
+        → IsMade workers r
         → machine_of r ≡ scratch h.setup (schedule_of h) }
 {}
 
-/// Without lists of edits there is one round, the run from scratch that follows the choice: with no
-/// history each entry is executed, and reports and ends are that run's. A rerun without lists is one round,
-/// round 1, on the memo's input; with the memo's fuel it is without an edit.
+/// Without lists of edits there is one round, a run from scratch: with no history each entry is executed, and report
+/// and end are that run's, under the schedule that its workers found; with one worker that is the run that follows the
+/// choice. A rerun without lists is one round, round 1, on the memo's input; with the memo's fuel it is without an
+/// edit.
 pub fn no_edit_list_is_one_round()
     ensures marks { (setup : Setup) (schedule : List ℕ) → marked None setup schedule ≡ all_executed schedule }
-    ensures reports { (setup : Setup) (inputs : List (List ℕ)) (workers : ℕ)
+    ensures reports { (setup : Setup) (inputs : List (List ℕ)) (f : Found)
         → AreInputs setup.input [] inputs
-        → reports_of workers (rounds_after (from_scratch setup) inputs)
-        ≡ report 0 setup (all_executed (alone setup)) (shares_of_first workers (length (alone setup))) ∷ [] }
-    ensures exits { (setup : Setup) (inputs : List (List ℕ))
+        → reports_of (rounds_after (from_scratch setup) inputs (f ∷ []))
+        ≡ report 0 setup (all_executed (threads_of f.entries)) f.shares ∷ [] }
+    ensures exits { (setup : Setup) (inputs : List (List ℕ)) (f : Found)
         → AreInputs setup.input [] inputs
-        → all_exit (rounds_after (from_scratch setup) inputs) ≡ is_exit (scratch setup (alone setup)).ending }
-    ensures rerun { (h : History) (fuel : ℕ) (inputs : List (List ℕ))
+        → all_exit (rounds_after (from_scratch setup) inputs (f ∷ []))
+        ≡ is_exit (scratch setup (threads_of f.entries)).ending }
+    ensures alone { (setup : Setup) (inputs : List (List ℕ)) (f : Found)
+        → IsSetup setup
+        → AreInputs setup.input [] inputs
+        → All (IsMade 1) (rounds_after (from_scratch setup) inputs (f ∷ []))
+        → reports_of (rounds_after (from_scratch setup) inputs (f ∷ []))
+        ≡ report 0 setup (all_executed (alone setup)) (length (alone setup) ∷ []) ∷ [] }
+    ensures alone_exits { (setup : Setup) (inputs : List (List ℕ)) (f : Found)
+        → IsSetup setup
+        → AreInputs setup.input [] inputs
+        → All (IsMade 1) (rounds_after (from_scratch setup) inputs (f ∷ []))
+        → all_exit (rounds_after (from_scratch setup) inputs (f ∷ [])) ≡ is_exit (scratch setup (alone setup)).ending }
+    ensures rerun { (h : History) (fuel : ℕ) (inputs : List (List ℕ)) (f : Found)
         → AreRerunInputs h.setup.input [] inputs
-        → rounds_after (after_memo h fuel) inputs
-        ≡ record { number = 1; setup = with_fuel h.setup fuel; past = Some h } ∷ [] }
-    ensures unedited { (h : History) (inputs : List (List ℕ))
+        → rounds_after (after_memo h fuel) inputs (f ∷ [])
+        ≡ record { number = 1; setup = with_fuel h.setup fuel; past = Some h; found = f } ∷ [] }
+    ensures unedited { (h : History) (inputs : List (List ℕ)) (f : Found)
         → AreRerunInputs h.setup.input [] inputs
-        → IsUneditedRerun h h.setup.fuel inputs (record { number = 1; setup = h.setup; past = Some h }) }
+        → IsUneditedRerun h h.setup.fuel inputs (f ∷ [])
+        (record { number = 1; setup = h.setup; past = Some h; found = f }) }
 {}
 
-/// There is a report for each input; and the shares in a report are as many as there are workers, and add
-/// up to the number of steps.
+/// There is a report for each round, and so for each input of which something was found; and the shares in the report
+/// of a round that workers made are as many as they are, and add up to the number of steps.
 pub fn reports_count_right()
-    ensures reports { (b : Beginning) (inputs : List (List ℕ)) (workers : ℕ)
-        → length (reports_of workers (rounds_after b inputs)) ≡ length inputs }
-    ensures made { (b : Beginning) (inputs : List (List ℕ)) (workers : ℕ)
-        → length (made_reports workers (rounds_after b inputs)) ≡ length inputs }
-    ensures shares { (workers steps : ℕ) → 1 ≤ workers → length (shares_of_first workers steps) ≡ workers }
-    ensures steps { (workers steps : ℕ) → sum (shares_of_first workers steps) ≡ steps }
+    ensures reports { (b : Beginning) (inputs : List (List ℕ)) (found : List Found)
+        → length (reports_of (rounds_after b inputs found)) ≡ min (length inputs) (length found) }
+    ensures made { (b : Beginning) (inputs : List (List ℕ)) (found : List Found)
+        → length (made_reports (rounds_after b inputs found)) ≡ min (length inputs) (length found) }
+    ensures shares { (r : Round) (workers : ℕ) → IsMade workers r → length r.found.shares ≡ workers }
+    ensures steps { (r : Round) (workers : ℕ) → IsMade workers r → sum r.found.shares ≡ length (entries_of r) }
+    ensures steps_made { (r : Round) (workers : ℕ)
+        → IsMade workers r
+        → sum r.found.shares ≡ length (made r).schedule }
 {}

@@ -7,11 +7,14 @@ use Rattle.elf_spec.proofs.Examples.{hi_elf}
 use Rattle.machine_spec.specs.Setup.{Setup}
 use Rattle.history_spec.specs.History.{History}
 use Rattle.history_spec.proofs.Examples.{shortest, shortest-setup}
+use Rattle.report_spec.specs.declared.Entry.{Entry}
 use Rattle.round_spec.specs.Rounds.{history_of}
+use Rattle.round_spec.specs.Schedules.{events_in, round_by}
 use Rattle.round_spec.specs.Alone.{lone_round}
+use Rattle.worker_spec.proofs.Workers.{entries-end}
 use Rattle.memo_spec.specs.Spelling.{AreBytes, IsSpellable}
 use Rattle.round_memo_spec.specs.Spelled.{IsSpelledStart}
-use Rattle.round_memo_spec.proofs.Events.{lone-spelled, lone-next}
+use Rattle.round_memo_spec.proofs.Events.{round-spelled, round-next}
 
 tested-bytes : (bytes : List ℕ) → list_all (λ (b : ℕ). ltb b 256) bytes ≡ true → AreBytes bytes
 tested-bytes [] h = tt
@@ -32,12 +35,17 @@ first-start =
       past = tt;
     }
 
+-- made by the schedule that one worker picks
+abbrev first-entries : List Entry
+first-entries = (lone_round shortest None).schedule
+
 -- what it leaves
 abbrev pub first-left : History
-first-left = history_of (lone_round shortest None)
+first-left = history_of (round_by shortest None first-entries)
 
 pub first-spelled : IsSpellable first-left
-first-spelled = lone-spelled shortest None first-start
+first-spelled =
+    round-spelled shortest None (events_in first-entries) first-start (entries-end shortest None shortest-setup)
 
 -- the same program on another input and with another fuel, by what the first round left
 abbrev pub longer : Setup
@@ -61,11 +69,18 @@ second-start =
           };
       elf_bytes = hi-bytes;
       input_bytes = (omega arith, tt);
-      past = lone-next shortest longer None first-start (record { elf = refl; limit = refl });
+      past =
+          round-next shortest longer None (events_in first-entries) first-start
+          (entries-end shortest None shortest-setup) (record { elf = refl; limit = refl });
     }
 
-pub second-spelled : IsSpellable (history_of (lone_round longer (Some first-left)))
-second-spelled = lone-spelled longer (Some first-left) second-start
+abbrev second-entries : List Entry
+second-entries = (lone_round longer (Some first-left)).schedule
+
+pub second-spelled : IsSpellable (history_of (round_by longer (Some first-left) second-entries))
+second-spelled =
+    round-spelled longer (Some first-left) (events_in second-entries) second-start
+    (entries-end longer (Some first-left) second-start.valid)
 
 -- a byte of 256 is no byte, so this input has no spelling
 pub no-bytes : AreBytes (256 ∷ []) → ⊥

@@ -1,5 +1,5 @@
 -- What instructions compute on words are words, and registers stay registers.
-use Rattle.std.proofs.Common.{◌≡◌, ◌≢◌, ℕ, zero, suc, ◌-◌, ◌*◌, ◌/◌, ◌%◌, ◌^◌, ◌<◌, ◌≤◌, Bool, true, false, eqb, cond, set, refl, ◌∙◌, arith, ℤ, pos, negsuc, ◌*ℤ◌, neg_ℤ, unsigned_abs, int_div, int_rem, FitsSigned, ◌==◌}
+use Rattle.std.proofs.Common.{◌≡◌, ◌≢◌, ℕ, zero, suc, ◌-◌, ◌/◌, ◌%◌, ◌^◌, ◌<◌, ◌≤◌, Bool, true, false, eqb, cond, set, refl, ◌∙◌, arith, ℤ, pos, negsuc, ◌*ℤ◌, neg_ℤ, unsigned_abs, int_div, int_rem, FitsSigned, ◌==◌}
 use Rattle.std.specs.Prelude.{bit_and, bit_or, bit_xor, if◌then◌else◌}
 use Rattle.std.proofs.Math.Nat.{div-le_self, mod-le, mul-le-mul}
 use Rattle.std.proofs.lemmas.Int.{fits_signed_mul, ints}

@@ -34,7 +34,7 @@ pub nobody_out-none : (t : ℕ) → is_out_of nobody_out t ≡ false
 unfolding nobody_out
 nobody_out-none t = get_or-replicate 32 false t
 
-nobody_out-length : length nobody_out ≡ 32
+pub nobody_out-length : length nobody_out ≡ 32
 unfolding nobody_out
 nobody_out-length = refl
 
@@ -79,7 +79,7 @@ can_begin-parts w t can =
     let parts = begin-parts w.machine.ending w.stopped (is_ready (hart_of w.machine t).status) (is_out w t) can in
     record { none = parts.0; ready = parts.1; inside = parts.2 }
 
-open-none : (e : Option End) (stopped : Bool) → (is_some e || stopped) ≡ false → is_none e ≡ true
+pub open-none : (e : Option End) (stopped : Bool) → (is_some e || stopped) ≡ false → is_none e ≡ true
 open-none (Some e) stopped h = cc
 open-none None stopped h = refl
 

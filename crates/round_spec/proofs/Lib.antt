@@ -8,7 +8,9 @@ pub mod Leaving
 pub mod Agreeing
 pub mod Counting
 pub mod Conditions
+pub mod BySchedule
 pub mod PickingExamples
 pub mod Executed
 pub mod Mapping
 pub mod UneditedExamples
+pub mod ScheduleExamples

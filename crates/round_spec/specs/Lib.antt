@@ -1,6 +1,7 @@
 -- The files of definitions of this crate.
 pub mod Marks
 pub mod Rounds
+pub mod Schedules
 pub mod Due
 pub mod Choice
 pub mod Alone

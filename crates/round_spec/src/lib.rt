@@ -19,6 +19,7 @@ ghost use Rattle.report_spec.specs.Report.{threads_of, instructions_from};
 ghost use Rattle.round_spec.specs.declared.events.Event.{Event};
 ghost use Rattle.round_spec.specs.Marks.{marked, sourced};
 ghost use Rattle.round_spec.specs.Rounds.{RoundState, nobody_out, happens, is_out, is_over, round_after, history_of};
+ghost use Rattle.round_spec.specs.Schedules.{IsBySchedule};
 ghost use Rattle.round_spec.specs.Choice.{choice_by};
 ghost use Rattle.round_spec.specs.Alone.{one_worker};
 ghost use Rattle.round_spec.specs.Instructions.{executed_instructions};
@@ -67,6 +68,16 @@ pub fn rounds_count_right()
     ensures events { (setup : Setup) (past : Option History) (events : List Event)
         → IsSetup setup
         → IsCounted (round_after setup past events) }
+{}
+
+/// Whatever happens, a round is where its schedule leads: made entry by entry, with nobody else at work, that
+/// schedule comes to the same machine and the same records. So a round is known by its schedule with marks,
+/// whoever made its steps. By which history it goes doesn't matter.
+pub fn rounds_are_by_their_schedules()
+    ensures event { (w : RoundState) (e : Event) → IsInOrder w → IsBySchedule w → IsBySchedule (happens w e) }
+    ensures events { (setup : Setup) (past : Option History) (events : List Event)
+        → IsSetup setup
+        → IsBySchedule (round_after setup past events) }
 {}
 
 /// Whatever happens, a round is of the setup that it was opened with, and goes by the same history.

@@ -1,51 +1,21 @@
 -- What one worker does at its picks are events, and its round leaves an honest history.
-use Rattle.std.proofs.Common.{◌≡◌, ℕ, zero, suc, true, List, [], ◌∷◌, ◌++◌, Option, refl, ap, sym, ◌∙◌, subst}
+use Rattle.std.proofs.Common.{◌≡◌, ℕ, true, List, Option, ap, sym, ◌∙◌, subst}
 use Rattle.machine_spec.specs.Setup.{Setup, IsSetup, first, is_permitted, is_complete, records}
 use Rattle.history_spec.specs.History.{History, IsHonest, IsSound, threads_of_records}
 use Rattle.history_spec.proofs.Scratch.{records-threads}
 use Rattle.round_spec.specs.declared.events.Event.{Event}
-use Rattle.round_spec.specs.declared.events.Event.TheVariants.{Take, Reuse, Commit}
-use Rattle.round_spec.specs.declared.events.Pick.{Pick}
-use Rattle.round_spec.specs.declared.events.Pick.TheVariants as pick
-use Rattle.round_spec.specs.Rounds.{RoundState, opening, happens, all_happen, round_after, history_of}
-use Rattle.round_spec.specs.Choice.{pick_of}
-use Rattle.round_spec.specs.Alone.{one_worker, after_pick, after_picks, lone_round}
+use Rattle.round_spec.specs.Rounds.{RoundState, opening, round_after, history_of}
+use Rattle.round_spec.specs.Alone.{one_worker, after_picks, lone_round}
+use Rattle.round_spec.specs.Schedules.{events_in}
 use Rattle.worker_spec.specs.OneWorker.{made_by}
 use Rattle.worker_spec.proofs.Lone.{rounds-made, one_worker-permitted, one_worker-complete}
+use Rattle.worker_spec.proofs.Workers.{picks-entries}
 
--- the events of one pick
-abbrev events_of : Pick → List Event
-events_of (pick.Reuse t) = Reuse t ∷ []
-events_of (pick.Run t) = Take t ∷ Commit t ∷ []
-events_of pick.Hold = []
-events_of pick.Over = []
-
-pick-events : (w : RoundState) (p : Pick) → after_pick w p ≡ all_happen w (events_of p)
-pick-events w (pick.Reuse t) = refl
-pick-events w (pick.Run t) = refl
-pick-events w pick.Hold = refl
-pick-events w pick.Over = refl
-
--- the events of some picks
-abbrev events_in : ℕ → RoundState → List Event
-events_in zero w = []
-events_in (suc n) w = events_of (pick_of w) ++ events_in n (after_pick w (pick_of w))
-
-both-happen : (w : RoundState) (es fs : List Event) → all_happen w (es ++ fs) ≡ all_happen (all_happen w es) fs
-both-happen w [] fs = refl
-both-happen w (e ∷ es) fs = both-happen (happens w e) es fs
-
-all-picks : (n : ℕ) (w : RoundState) → after_picks n w ≡ all_happen w (events_in n w)
-all-picks zero w = refl
-all-picks (suc n) w =
-    all-picks n (after_pick w (pick_of w))
-    ∙ ap (λ (v : RoundState). all_happen v (events_in n (after_pick w (pick_of w)))) (pick-events w (pick_of w))
-    ∙ sym (both-happen w (events_of (pick_of w)) (events_in n (after_pick w (pick_of w))))
-
+-- the events of the entries that were made
 pub picks-events :
     (setup : Setup) (past : Option History) (n : ℕ)
     → (events : List Event) × (after_picks n (opening setup past) ≡ round_after setup past events)
-picks-events setup past n = (events_in n (opening setup past), all-picks n (opening setup past))
+picks-events setup past n = (events_in (after_picks n (opening setup past)).schedule, sym (picks-entries setup past n))
 
 made-honest :
     (setup : Setup) (past : Option History) (ts : List ℕ)

@@ -10,5 +10,7 @@ pub mod Following
 pub mod Unedited
 pub mod Cost
 pub mod Replay
+pub mod Workers
 pub mod Events
 pub mod Examples
+pub mod WorkersExamples

@@ -48,7 +48,7 @@ grown all front x back k split long =
 abbrev reused_of : ℕ → Entry
 reused_of t = record { thread = t; reused = true }
 
-threads-reused : (ts : List ℕ) → threads_of (map reused_of ts) ≡ ts
+pub threads-reused : (ts : List ℕ) → threads_of (map reused_of ts) ≡ ts
 threads-reused [] = refl
 threads-reused (t ∷ ts) = ap (λ (us : List ℕ). t ∷ us) (threads-reused ts)
 

@@ -1,11 +1,11 @@
-//! The round of one worker, and the round without an edit, as laws over the definitions of rounds: one
-//! worker makes the schedule that follows the choice, which is permitted and complete, and picks each
+//! The round of one worker, the rounds of many, and the round without an edit, as laws over the definitions of
+//! rounds: one worker makes the schedule that follows the choice, which is permitted and complete, and picks each
 //! entry rightly; what it executes is what the executed entries sum up to; and where a setup is run again
 //! by its own honest history, each step is reused and nothing is executed, by one worker or by many. No
 //! code.
 #![tactic(auto)]
 
-ghost use Rattle.std.specs.Prelude.{◌≡◌, ◌≢◌, ◌<◌, ℕ, true, false, List, length, slice_index_or, Option, Some, is_some};
+ghost use Rattle.std.specs.Prelude.{◌≡◌, ◌≢◌, ◌<◌, ℕ, true, false, List, length, sum, slice_index_or, Option, Some, is_some};
 ghost use Rattle.machine_spec.specs.Setup.{Setup, IsSetup, first, is_permitted, is_complete};
 ghost use Rattle.history_spec.specs.History.{History, IsHonest, CanGoBy, schedule_of};
 ghost use Rattle.report_spec.specs.declared.Entry.{Entry};
@@ -13,12 +13,15 @@ ghost use Rattle.report_spec.specs.Report.{threads_of, instructions_from};
 ghost use Rattle.round_spec.specs.declared.events.Event.{Event};
 ghost use Rattle.round_spec.specs.declared.events.Pick.TheVariants as pick;
 ghost use Rattle.round_spec.specs.Rounds.{RoundState, opening, happens, is_over, round_after, history_of};
+ghost use Rattle.round_spec.specs.Schedules.{IsBySchedule, round_by};
 ghost use Rattle.round_spec.specs.Choice.{pick_of};
 ghost use Rattle.round_spec.specs.Alone.{guided_from, one_worker, after_picks, lone_round};
 ghost use Rattle.round_spec.specs.Keeping.{IsFromScratch};
 ghost use Rattle.round_spec.specs.Picking.{IsPicked};
 ghost use Rattle.round_spec.specs.Unedited.{IsUnedited, OnlyReuses};
 ghost use Rattle.worker_spec.specs.OneWorker.{made_by, executed_in};
+ghost use Rattle.round_spec.specs.Marks.{marked};
+ghost use Rattle.worker_spec.specs.Workers.{IsMadeBy};
 ghost use Rattle.worker_spec.specs.Replaying.{IsReplaying, IsNextStep, goes_on_by};
 
 /// The schedule that follows the choice is permitted, and there is an end after it, within the step
@@ -62,6 +65,72 @@ pub fn one_worker_makes_its_schedule()
 pub fn one_worker_does_events()
     ensures { (setup : Setup) (past : Option History) (n : ℕ)
         → (events : List Event) × (after_picks n (opening setup past) ≡ round_after setup past events) }
+{}
+
+/// One worker makes its round entry by entry: it is the round that its schedule makes. So a round by that
+/// schedule is one that workers make, however its steps are shared out.
+pub fn one_worker_makes_its_entries()
+    ensures round { (setup : Setup) (past : Option History)
+        → round_by setup past (lone_round setup past).schedule ≡ lone_round setup past }
+    ensures made { (workers : ℕ) (setup : Setup) (past : Option History) (shares : List ℕ)
+        → IsSetup setup
+        → length shares ≡ workers
+        → sum shares ≡ length (lone_round setup past).schedule
+        → IsMadeBy workers setup past (lone_round setup past).schedule shares }
+{}
+
+/// A round that has an end was made by the workers who share its steps, where it is where its schedule leads
+/// and, without an edit, replays its history; of one worker more is owed.
+pub fn workers_make_what_comes_to_an_end()
+    ensures { (workers : ℕ) (w : RoundState) (shares : List ℕ)
+        → 1 < workers
+        → IsBySchedule w
+        → is_some w.machine.ending ≡ true
+        → length shares ≡ workers
+        → sum shares ≡ length w.schedule
+        → ((h : History) → w.past ≡ Some h → IsUnedited h w.setup → IsReplaying h w)
+        → IsMadeBy workers w.setup w.past w.schedule shares }
+{}
+
+/// A round that workers make by a sound history is the one that their schedule makes from scratch: the
+/// schedule is permitted and complete, machine and records are those from scratch, and the marks are exact.
+/// What it leaves is an honest history. One worker's round is the one that follows the choice.
+pub fn workers_make_rounds_from_scratch()
+    ensures round { (workers : ℕ) (setup : Setup) (past : Option History) (entries : List Entry) (shares : List ℕ)
+        → CanGoBy past setup
+        → IsMadeBy workers setup past entries shares
+        → round_by setup past entries ≡ made_by setup past (threads_of entries) }
+    ensures permitted { (workers : ℕ) (setup : Setup) (past : Option History) (entries : List Entry) (shares : List ℕ)
+        → CanGoBy past setup
+        → IsMadeBy workers setup past entries shares
+        → is_permitted setup (threads_of entries) ≡ true }
+    ensures complete { (workers : ℕ) (setup : Setup) (past : Option History) (entries : List Entry) (shares : List ℕ)
+        → CanGoBy past setup
+        → IsMadeBy workers setup past entries shares
+        → is_complete setup (threads_of entries) ≡ true }
+    ensures marks { (workers : ℕ) (setup : Setup) (past : Option History) (entries : List Entry) (shares : List ℕ)
+        → CanGoBy past setup
+        → IsMadeBy workers setup past entries shares
+        → entries ≡ marked past setup (threads_of entries) }
+    ensures honest { (workers : ℕ) (setup : Setup) (past : Option History) (entries : List Entry) (shares : List ℕ)
+        → CanGoBy past setup
+        → IsMadeBy workers setup past entries shares
+        → IsHonest (history_of (round_by setup past entries)) }
+    ensures alone { (setup : Setup) (past : Option History) (entries : List Entry) (shares : List ℕ)
+        → IsMadeBy 1 setup past entries shares
+        → round_by setup past entries ≡ lone_round setup past }
+{}
+
+/// Without an edit the round that workers make is all reuse of the history, however many they are.
+pub fn workers_repeat_an_unedited_round()
+    ensures threads { (workers : ℕ) (h : History) (setup : Setup) (entries : List Entry) (shares : List ℕ)
+        → IsUnedited h setup
+        → IsMadeBy workers setup (Some h) entries shares
+        → threads_of entries ≡ schedule_of h }
+    ensures reuses { (workers : ℕ) (h : History) (setup : Setup) (entries : List Entry) (shares : List ℕ)
+        → IsUnedited h setup
+        → IsMadeBy workers setup (Some h) entries shares
+        → OnlyReuses h (round_by setup (Some h) entries) }
 {}
 
 /// What one worker leaves that went by a sound history is an honest history.

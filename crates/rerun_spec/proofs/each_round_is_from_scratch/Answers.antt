@@ -1,14 +1,16 @@
 -- Answers to the goals that the check leaves of `each_round_is_from_scratch`.
-use Rattle.std.proofs.Common.{◌≡◌, true, is_some, length, sym}
+use Rattle.std.proofs.Common.{◌≡◌, true, is_some, slice_index_or, sym}
 use Rattle.machine_spec.specs.Setup.{first, scratch, is_permitted, is_complete, records}
 use Rattle.report_spec.specs.Report.{threads_of, instructions_from, report}
 use Rattle.round_spec.specs.Marks.{marked}
 use Rattle.round_spec.specs.Rounds.{opening}
+use Rattle.round_spec.specs.Alone.{one_worker}
+use Rattle.round_spec.specs.Instructions.{executed_instructions}
 use Rattle.worker_spec.specs.OneWorker.{executed_in}
-use Rattle.rerun_spec.specs.Rounds.{Round, made, entries_of, machine_of}
-use Rattle.rerun_spec.proofs.Rounds.{each-holds, round-threads, round-permitted, round-complete, round-entries, round-marks, round-machine, round-records, round-ends, round-cost}
-use Rattle.rerun_spec.specs.Reports.{shares_of_first, report_of, is_exit, exits}
-use Rattle.rerun_spec.proofs.Reports.{report-entries, exit-made}
+use Rattle.rerun_spec.specs.Rounds.{Round, made, rounds_after, entries_of, schedule_in, machine_of}
+use Rattle.rerun_spec.proofs.Rounds.{each-holds, alone-holds, round-threads, round-permitted, round-complete, round-entries, round-found, round-machine, round-records, round-ends, round-lone, round-alone, round-cost}
+use Rattle.rerun_spec.specs.Reports.{report_of, is_exit, exits}
+use Rattle.rerun_spec.proofs.Reports.{round-instructions, report-entries, exit-made}
 use Rattle.rerun_spec.proofs.each_round_is_from_scratch.Goals as goal
 
 pub returns-clause-permitted : goal.returns-clause-permitted
@@ -22,9 +24,12 @@ returns-clause-complete c =
 pub returns-clause-entries : goal.returns-clause-entries
 returns-clause-entries c = each-holds (λ r. (made r).schedule ≡ entries_of r) round-entries
 
+pub returns-clause-found : goal.returns-clause-found
+returns-clause-found c = each-holds (λ (r : Round). r.found.entries ≡ entries_of r) round-found
+
 pub returns-clause-marks : goal.returns-clause-marks
 returns-clause-marks c =
-    each-holds (λ (r : Round). entries_of r ≡ marked r.past r.setup (threads_of (entries_of r))) round-marks
+    each-holds (λ (r : Round). r.found.entries ≡ marked r.past r.setup (threads_of r.found.entries)) round-found
 
 pub returns-clause-machine : goal.returns-clause-machine
 returns-clause-machine c =
@@ -39,17 +44,28 @@ returns-clause-ends c = each-holds (λ r. is_some (machine_of r).ending ≡ true
 
 pub returns-clause-instructions : goal.returns-clause-instructions
 returns-clause-instructions c =
-    each-holds (λ (r : Round). executed_in r.setup.limit (opening r.setup r.past)
-    ≡ instructions_from (first r.setup) (entries_of r)) round-cost
+    each-holds (λ (r : Round). executed_instructions (made r).schedule (made r).records
+    ≡ instructions_from (first r.setup) (entries_of r)) round-instructions
 
 pub returns-clause-threads : goal.returns-clause-threads
 returns-clause-threads c = round-threads
 
 pub returns-clause-report : goal.returns-clause-report
-returns-clause-report c = λ b inputs workers.
-    each-holds (λ r. report_of workers r
-    ≡ report r.number r.setup (made r).schedule (shares_of_first workers (length (made r).schedule)))
-    (report-entries workers) b inputs
+returns-clause-report c =
+    each-holds (λ r. report_of r ≡ report r.number r.setup (made r).schedule r.found.shares) report-entries
 
 pub returns-clause-exit : goal.returns-clause-exit
-returns-clause-exit c = each-holds (λ r. exits r ≡ is_exit (made r).machine.ending) (λ r is. sym (exit-made r is))
+returns-clause-exit c =
+    each-holds (λ r. exits r ≡ is_exit (made r).machine.ending) (λ workers r is. sym (exit-made workers r is))
+
+pub returns-clause-lone : goal.returns-clause-lone
+returns-clause-lone c = λ b inputs found made k d below.
+    round-lone (slice_index_or (rounds_after b inputs found) k d) (made k d below)
+
+pub returns-clause-alone : goal.returns-clause-alone
+returns-clause-alone c = alone-holds (λ (r : Round). schedule_in r ≡ one_worker r.setup r.past) round-alone
+
+pub returns-clause-executed : goal.returns-clause-executed
+returns-clause-executed c =
+    alone-holds (λ (r : Round). executed_in r.setup.limit (opening r.setup r.past)
+    ≡ instructions_from (first r.setup) (entries_of r)) round-cost

@@ -3,10 +3,10 @@ use Rattle.rerun_spec.proofs.Reports.{report-made, exit-made, reports-made, exit
 use Rattle.rerun_spec.proofs.made_rounds_are_told_right.Goals as goal
 
 pub returns-clause-report : goal.returns-clause-report
-returns-clause-report c = λ r workers. report-made workers r
+returns-clause-report c = λ r workers can is. report-made workers r (record { can = can; made = is })
 
 pub returns-clause-exit : goal.returns-clause-exit
-returns-clause-exit c = exit-made
+returns-clause-exit c = λ r workers can is. exit-made workers r (record { can = can; made = is })
 
 pub returns-clause-reports : goal.returns-clause-reports
 returns-clause-reports c = reports-made

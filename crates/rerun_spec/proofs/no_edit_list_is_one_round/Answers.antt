@@ -1,6 +1,6 @@
 -- Answers to the goals that the check leaves of `no_edit_list_is_one_round`.
 use Rattle.machine_spec.specs.Setup.{first}
-use Rattle.rerun_spec.proofs.Reports.{marks-nothing, only-report, only-exits, only-rerun, only-unedited}
+use Rattle.rerun_spec.proofs.Reports.{marks-nothing, only-report, only-exits, alone-report, alone-exits, only-rerun, only-unedited}
 use Rattle.rerun_spec.proofs.no_edit_list_is_one_round.Goals as goal
 
 pub returns-clause-marks : goal.returns-clause-marks
@@ -11,6 +11,12 @@ returns-clause-reports c = only-report
 
 pub returns-clause-exits : goal.returns-clause-exits
 returns-clause-exits c = only-exits
+
+pub returns-clause-alone : goal.returns-clause-alone
+returns-clause-alone c = alone-report
+
+pub returns-clause-alone_exits : goal.returns-clause-alone_exits
+returns-clause-alone_exits c = alone-exits
 
 pub returns-clause-rerun : goal.returns-clause-rerun
 returns-clause-rerun c = only-rerun

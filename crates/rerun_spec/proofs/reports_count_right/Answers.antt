@@ -1,5 +1,5 @@
 -- Answers to the goals that the check leaves of `reports_count_right`.
-use Rattle.rerun_spec.proofs.Reports.{reports-count, made-count, shares-count, shares-sum}
+use Rattle.rerun_spec.proofs.Reports.{reports-count, made-count, shares-steps, shares-made}
 use Rattle.rerun_spec.proofs.reports_count_right.Goals as goal
 
 pub returns-clause-reports : goal.returns-clause-reports
@@ -9,7 +9,10 @@ pub returns-clause-made : goal.returns-clause-made
 returns-clause-made c = made-count
 
 pub returns-clause-shares : goal.returns-clause-shares
-returns-clause-shares c = shares-count
+returns-clause-shares c = λ r workers is. is.each
 
 pub returns-clause-steps : goal.returns-clause-steps
-returns-clause-steps c = shares-sum
+returns-clause-steps c = λ r workers. shares-steps workers r
+
+pub returns-clause-steps_made : goal.returns-clause-steps_made
+returns-clause-steps_made c = λ r workers. shares-made workers r

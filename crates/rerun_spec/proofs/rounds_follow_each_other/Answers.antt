@@ -1,6 +1,6 @@
 -- Answers to the goals that the check leaves of `rounds_follow_each_other`.
 use Rattle.rerun_spec.specs.Rounds.{from_scratch}
-use Rattle.rerun_spec.proofs.Rounds.{numbers-after, setups-after, at-after, first-past, first-setup, next-after}
+use Rattle.rerun_spec.proofs.Rounds.{numbers-after, setups-after, founds-after, at-after, first-past, first-setup, next-after}
 use Rattle.rerun_spec.proofs.rounds_follow_each_other.Goals as goal
 
 pub returns-clause-numbers : goal.returns-clause-numbers
@@ -8,6 +8,9 @@ returns-clause-numbers c = numbers-after
 
 pub returns-clause-setups : goal.returns-clause-setups
 returns-clause-setups c = setups-after
+
+pub returns-clause-found : goal.returns-clause-found
+returns-clause-found c = founds-after
 
 pub returns-clause-at : goal.returns-clause-at
 returns-clause-at c = at-after
@@ -19,8 +22,8 @@ pub returns-clause-past : goal.returns-clause-past
 returns-clause-past c = first-past
 
 pub returns-clause-left : goal.returns-clause-left
-returns-clause-left c = λ b inputs place before after one next.
-    (next-after b inputs place before after one next).left
+returns-clause-left c = λ b inputs found place before after one next.
+    (next-after b inputs found place before after one next).left
 
 pub returns-clause-none : goal.returns-clause-none
 returns-clause-none c = λ setup. first-past (from_scratch setup)

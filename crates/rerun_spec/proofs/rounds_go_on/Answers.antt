@@ -1,19 +1,27 @@
 -- Answers to the goals that the check leaves of `rounds_go_on`.
-use Rattle.std.proofs.Common.{[], ◌∷◌}
-use Rattle.rerun_spec.proofs.Rounds.{rounds-later, after-later, last-one, number-later, setup-later, past-later}
+use Rattle.rerun_spec.proofs.Going.{rounds-later, after-later, rounds-one, after-one, last-one, rounds-few, after-few, number-later, setup-later, past-later}
 use Rattle.rerun_spec.proofs.rounds_go_on.Goals as goal
 
 pub returns-clause-later : goal.returns-clause-later
 returns-clause-later c = rounds-later
 
+pub returns-clause-after : goal.returns-clause-after
+returns-clause-after c = after-later
+
 pub returns-clause-one : goal.returns-clause-one
-returns-clause-one c = λ b inputs input. rounds-later b inputs (input ∷ [])
+returns-clause-one c = rounds-one
 
 pub returns-clause-next : goal.returns-clause-next
-returns-clause-next c = λ b inputs input. after-later b inputs (input ∷ [])
+returns-clause-next c = after-one
 
 pub returns-clause-last : goal.returns-clause-last
 returns-clause-last c = last-one
+
+pub returns-clause-few : goal.returns-clause-few
+returns-clause-few c = rounds-few
+
+pub returns-clause-few_after : goal.returns-clause-few_after
+returns-clause-few_after c = after-few
 
 pub returns-clause-number : goal.returns-clause-number
 returns-clause-number c = number-later
