@@ -1,5 +1,5 @@
 -- What a space means, after each of its operations.
-use Rattle.std.proofs.Common.{◌≡◌, ℕ, ◌%◌, ◌<◌, zero, suc, Bool, true, false, cond, List, [], ◌∷◌, length, map, get_or, set, replicate, refl, ap, sym, ◌∙◌, arith, Result, Ok, Err, IfOk, OnOk, OnErr, Option, Some, None, IfSome}
+use Rattle.std.proofs.Common.{◌≡◌, ℕ, ◌%◌, ◌<◌, zero, suc, Bool, true, false, cond, List, [], ◌∷◌, length, map, get_or, set, replicate, refl, ap, sym, ◌∙◌, arith, Result, Ok, Err, IfOk, OnOk, OnErr, Option, Some, None, IfSome, IfNone}
 use Rattle.memory_spec.specs.declared.Size.{Size}
 use Rattle.memory_spec.specs.Pages.{Mapped, Memory, allows, read_right, write_right, slot_of, permission_at, page_of, unmapped, on_each}
 use Rattle.memory_spec.specs.Access.{byte_count, bytes_stored, number_in, number_at, loaded, may_store}
@@ -26,6 +26,10 @@ pub if_some :
     {T : Type 0} {P Q : T → Type 0} (o : Option T) → ((value : T) → P value → Q value) → IfSome o P → IfSome o Q
 if_some (Some value) f h = f value h
 if_some None f h = h
+
+pub if_none : {T : Type 0} {P Q : Type 0} (o : Option T) → (P → Q) → IfNone o P → IfNone o Q
+if_none (Some value) f h = h
+if_none None f h = f h
 
 on_each-replicate : {A : Type 0} (a : A) (map : List Mapped) (n : ℕ) → n ≡ length map → replicate n a ≡ on_each a map
 on_each-replicate a [] zero h = refl

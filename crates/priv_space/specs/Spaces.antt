@@ -11,7 +11,7 @@ abbrev pub workspace_of : Inside → Workspace
 workspace_of space = record {
   map = arc_value space.pages;
   view = arc_value space.view;
-  memory = on_view slot_bytes (arc_value space.view) space.slots.items;
-  stored = map slot_marks space.slots.items;
-  taken = map slot_taken space.slots.items;
+  memory = on_view slot_bytes (arc_value space.view) space.slots;
+  stored = map slot_marks space.slots;
+  taken = map slot_taken space.slots;
 }

@@ -1,20 +1,210 @@
 //! The pages of a thread's memory, by slot.
 
-ghost use Rattle.std.specs.Prelude.{◌≡◌, ℕ, ◌+◌, ◌*◌, ◌^◌, ◌<◌, ◌≤◌, true, List, length, map, slice_index_or, slice_set, IfOk, IfSome, OnOk, OnErr, IsTrue, IsFalse};
+ghost use Rattle.std.specs.Prelude.{◌≡◌, ℕ, ◌+◌, ◌*◌, ◌^◌, ◌<◌, ◌≤◌, ◌++◌, true, List, length, map, slice_index, slice_index_or, slice_set, replicate, IfOk, IfSome, IfNone, OnOk, OnErr, IsTrue, IsFalse};
 ghost use Rattle.memory_spec.specs.Access.{byte_count, number_in};
 ghost use Rattle.memory_spec.specs.Pages.{Mapped, Memory, page_of, allows, read_right, write_right, unmapped};
 ghost use Rattle.memory_spec.specs.Workspace.{mask_of};
 ghost use Rattle.priv_space.specs.Written.{with_number, with_marks};
-ghost use Rattle.priv_space.specs.Slots.{on_view, slot_shared, slot_bytes, slot_marks, slot_taken, ArePermitted};
+ghost use Rattle.priv_space.specs.Slots.{on_view, untouched, slot_shared, slot_bytes, slot_marks, slot_taken, ArePermitted};
+ghost use Rattle.priv_space.specs.Parts.{read_part, delta_part};
+ghost use Rattle.priv_space.specs.Held.{held_at, all_held, IsHeld};
 
 use super::slot::{Access, Slot};
 use memory_spec::PAGE_SIZE;
 use page_store::PageTable;
 use std::alloc::{AllocError, Global};
+use std::marker::Model;
+use std::mem;
+use store_mask::{PageDelta, ReadPage};
+
+/// How many slots are looked at in one go for one that was touched.
+const BLOCK: usize = 32;
+
+/// For how many touched slots there is room at first.
+const ROOM: usize = 16;
+
+/// The slots of a thread's memory. A thread touches few pages, and only what it touched is kept. A clause sees the list
+/// of all slots.
+#[derive(Drop)]
+pub(super) struct Slots {
+    /// For each slot where it is held, or 0 where it wasn't touched.
+    places: Vec<u16>,
+    /// The touched slots; at place 0 one that wasn't touched, which stands for all others.
+    held: Vec<Slot>,
+}
+
+impl Model for Slots {
+    ghost use Rattle.std.specs.Prelude.{List};
+    ghost use Rattle.priv_space.specs.declared.slot.Slot.{Slot};
+
+    ghost Value = { List Slot };
+
+    ghost use Rattle.priv_space.specs.Tables.{slots_of, IsTable};
+
+    ghost view = { slots_of };
+
+    ghost invariant = { IsTable };
+}
+
+/// Whether none of the slots of a block was touched.
+#[inline(always)]
+fn is_clear(places: &[u16], start: usize) -> bool
+    requires { start + BLOCK ≤ length places.now }
+    ensures { IsTrue result → (k : ℕ) → start ≤ k → k < start + BLOCK → slice_index places.now k ≡ 0 }
+{
+    let mut all = 0;
+    for k in 0..BLOCK {
+        all |= places[start + k];
+    }
+    all == 0
+}
+
+/// The next slot that was touched, from this one on.
+fn next_place(places: &[u16], from: usize) -> Option<usize>
+    ensures found { IfSome result (λ slot. (from ≤ slot) × (slot < length places.now)) }
+    ensures fits { IfSome result (λ slot. slot + 1 < 2 ^ 64) }
+    ensures none_before { IfSome result (λ slot. (k : ℕ) → from ≤ k → k < slot → slice_index places.now k ≡ 0) }
+    ensures none_left { IfNone result ((k : ℕ) → from ≤ k → slice_index places.now k ≡ 0) }
+{
+    let mut slot = from;
+    while slot < places.len() && places.len() - slot >= BLOCK && is_clear(places, slot) {
+        slot += BLOCK;
+    }
+    while slot < places.len() {
+        if places[slot] != 0 {
+            return Some(slot);
+        }
+        slot += 1;
+    }
+    None
+}
+
+/// The place of a slot.
+#[inline(always)]
+fn place_of(places: &[u16], slot: usize) -> usize
+    requires { slot < length places.now }
+    ensures { result ≡ slice_index places.now slot }
+{
+    usize::from(places[slot])
+}
+
+/// Makes a place for a slot that wasn't touched.
+///
+/// # Errors
+///
+/// An error where the host's memory ran out, or 65,535 slots were touched.
+#[cold]
+#[inline(never)]
+fn make_place(places: &mut [u16], held: &mut Vec<Slot>, slot: usize) -> Result<usize, AllocError>
+    requires held { IsHeld places.old held.old.items }
+    requires within { slot < length places.old }
+    requires free { slice_index places.old slot ≡ 0 }
+    ensures held { IsHeld places.new held.new.items }
+    ensures same { all_held places.new held.new.items ≡ all_held places.old held.old.items }
+    ensures place { IfOk result (λ place. (place ≡ slice_index places.new slot) × (0 < place)) }
+{
+    let place = held.len();
+    if place > usize::from(u16::MAX) {
+        return Err(AllocError);
+    }
+    held.push(Slot::new())?;
+    places[slot] = place as u16;
+    Ok(place)
+}
+
+/// The place of a slot that is to be touched; it gets one if it has none.
+///
+/// # Errors
+///
+/// An error where the host's memory ran out.
+#[inline(always)]
+fn place_for(places: &mut [u16], held: &mut Vec<Slot>, slot: usize) -> Result<usize, AllocError>
+    requires held { IsHeld places.old held.old.items }
+    requires within { slot < length places.old }
+    ensures held { IsHeld places.new held.new.items }
+    ensures same { all_held places.new held.new.items ≡ all_held places.old held.old.items }
+    ensures place { IfOk result (λ place. (place ≡ slice_index places.new slot) × (0 < place)) }
+{
+    let place = place_of(places, slot);
+    if place != 0 {
+        return Ok(place);
+    }
+    make_place(places, held, slot)
+}
+
+impl Slots {
+    /// So many slots, none of which was touched.
+    ///
+    /// # Errors
+    ///
+    /// An error where the host's memory ran out.
+    pub(super) fn new(alloc: Global, count: usize) -> Result<Slots, AllocError>
+        ensures { IfOk result (λ slots. slots ≡ replicate count untouched) }
+    {
+        let places = vec![in alloc; 0; count]?;
+        let mut held = Vec::with_capacity(alloc, ROOM)?;
+        held.push(Slot::new())?;
+        Ok(Slots { places, held })
+    }
+
+    /// A slot.
+    #[inline(always)]
+    fn at(&self, slot: usize) -> &Slot
+        requires { slot < length self.now }
+        ensures { result.now ≡ slice_index_or self.now slot untouched }
+    {
+        &self.held[place_of(&self.places, slot)]
+    }
+
+    /// The next slot that was touched, from this one on.
+    pub(super) fn next_touched(&self, from: usize) -> Option<usize>
+        ensures found { IfSome result (λ slot. (from ≤ slot) × (slot < length self.now)) }
+        ensures fits { IfSome result (λ slot. slot + 1 < 2 ^ 64) }
+        ensures none_before { IfSome result (λ slot. (k : ℕ) → from ≤ k → k < slot
+            → slice_index_or self.now k untouched ≡ untouched) }
+        ensures none_left { IfNone result ((k : ℕ) → from ≤ k → slice_index_or self.now k untouched ≡ untouched) }
+    {
+        next_place(&self.places, from)
+    }
+
+    /// Adds the view's page in a slot to the read pages, if a byte was taken.
+    #[inline(always)]
+    pub(super) fn add_read(
+        &self,
+        view: &PageTable,
+        slot: usize,
+        pages: &mut Vec<ReadPage>,
+    ) -> Result<(), AllocError>
+        requires within { slot < length self.now }
+        requires mapped { slot < length view.now }
+        ensures { OnOk result (pages.new.items
+            ≡ pages.old.items ++ read_part slot (slot_taken (slice_index_or self.now slot untouched)) (page_of view.now slot)) }
+    {
+        self.at(slot).add_read(view, slot, pages)
+    }
+
+    /// Gives the own copy in a slot to the deltas, if a byte was stored. The slot is then one that wasn't touched.
+    #[inline(always)]
+    pub(super) fn give_delta(
+        &mut self,
+        slot: usize,
+        deltas: &mut Vec<PageDelta>,
+    ) -> Result<(), AllocError>
+        requires { slot < length self.old }
+        ensures given { (page : List ℕ) → OnOk result (deltas.new.items
+            ≡ deltas.old.items ++ delta_part slot (slot_marks (slice_index_or self.old slot untouched))
+            (slot_bytes page (slice_index_or self.old slot untouched))) }
+        ensures left { self.new ≡ slice_set self.old slot untouched }
+    {
+        let place = place_of(&self.places, slot);
+        let given = mem::replace(&mut self.held[place], Slot::new());
+        given.give_delta(slot, deltas)
+    }
+}
 
 /// The number of an access, where one was loaded from its page before.
 #[inline(always)]
-pub(super) fn held_number(slots: &[Slot], access: Access) -> Option<u32>
+pub(super) fn held_number(slots: &Slots, access: Access) -> Option<u32>
     requires within { access.slot < length slots.now }
     requires inside { access.offset + byte_count access.size ≤ PAGE_SIZE }
     ensures value { (view : Memory) → length slots.now ≡ length view → on_view slot_shared view slots.now ≡ view
@@ -26,15 +216,16 @@ pub(super) fn held_number(slots: &[Slot], access: Access) -> Option<u32>
     ensures permitted { (pages : List Mapped) → length slots.now ≡ length pages → ArePermitted pages slots.now
         → IfSome result (λ number. allows read_right (slice_index_or pages access.slot unmapped).permission ≡ true) }
 {
-    slots[access.slot].held_number(access)
+    slots.at(access.slot).held_number(access)
 }
 
 /// Takes a number from a page that may be read.
 ///
 /// # Errors
 ///
-/// An error where the view's page has as many holders as can be counted; nothing changes then.
-pub(super) fn take(view: &PageTable, slots: &mut [Slot], access: Access) -> Result<u32, AllocError>
+/// An error where the host's memory ran out, or the view's page has as many holders as can be counted; nothing changes
+/// then.
+pub(super) fn take(view: &PageTable, slots: &mut Slots, access: Access) -> Result<u32, AllocError>
     requires count { length slots.old ≡ length view.now }
     requires within { access.slot < length slots.old }
     requires inside { access.offset + byte_count access.size ≤ PAGE_SIZE }
@@ -51,30 +242,37 @@ pub(super) fn take(view: &PageTable, slots: &mut [Slot], access: Access) -> Resu
         → allows read_right (slice_index_or pages access.slot unmapped).permission ≡ true
         → ArePermitted pages slots.old → ArePermitted pages slots.new }
 {
-    slots[access.slot].take(view, access)
+    let place = place_for(&mut slots.places, &mut slots.held, access.slot)?;
+    slots.held[place].take(view, access)
 }
 
 /// Takes the word of a fetch from a page.
-pub(super) fn fetch(view: &PageTable, slots: &mut [Slot], access: Access) -> u32
+///
+/// # Errors
+///
+/// An error where the host's memory ran out; nothing changes then.
+pub(super) fn fetch(view: &PageTable, slots: &mut Slots, access: Access) -> Result<u32, AllocError>
     requires count { length slots.old ≡ length view.now }
     requires within { access.slot < length slots.old }
     requires inside { access.offset + byte_count access.size ≤ PAGE_SIZE }
     requires share { on_view slot_shared view.now slots.old ≡ view.now }
-    ensures value { result
-        ≡ number_in (page_of (on_view slot_bytes view.now slots.old) access.slot) access.offset access.size }
+    ensures value { IfOk result (λ number. number
+        ≡ number_in (page_of (on_view slot_bytes view.now slots.old) access.slot) access.offset access.size) }
     ensures shared { on_view slot_shared view.now slots.new ≡ view.now }
     ensures bytes { on_view slot_bytes view.now slots.new ≡ on_view slot_bytes view.now slots.old }
     ensures marks { map slot_marks slots.new ≡ map slot_marks slots.old }
-    ensures taken { map slot_taken slots.new ≡ slice_set (map slot_taken slots.old) access.slot true }
+    ensures taken { OnOk result (map slot_taken slots.new ≡ slice_set (map slot_taken slots.old) access.slot true) }
+    ensures taken_stays { OnErr result (map slot_taken slots.new ≡ map slot_taken slots.old) }
     ensures permitted { (pages : List Mapped) → ArePermitted pages slots.old → ArePermitted pages slots.new }
 {
-    slots[access.slot].fetch(view, access)
+    let place = place_for(&mut slots.places, &mut slots.held, access.slot)?;
+    Ok(slots.held[place].fetch(view, access))
 }
 
 /// Stores the lowest bytes of a value into the own copy of a page. Whether there is one; else nothing changes. It says
 /// so on any view and any map.
 #[inline(always)]
-pub(super) fn store_again(slots: &mut [Slot], access: Access, value: u32) -> bool
+pub(super) fn store_again(slots: &mut Slots, access: Access, value: u32) -> bool
     requires within { access.slot < length slots.old }
     requires inside { access.offset + byte_count access.size ≤ PAGE_SIZE }
     ensures shared { (view : Memory) → on_view slot_shared view slots.new ≡ on_view slot_shared view slots.old }
@@ -90,7 +288,8 @@ pub(super) fn store_again(slots: &mut [Slot], access: Access, value: u32) -> boo
     ensures writes { (pages : List Mapped) → length slots.old ≡ length pages → ArePermitted pages slots.old
         → IsTrue result → allows write_right (slice_index_or pages access.slot unmapped).permission ≡ true }
 {
-    slots[access.slot].store_again(access, value)
+    let place = place_of(&slots.places, access.slot);
+    slots.held[place].store_again(access, value)
 }
 
 /// Stores the lowest bytes of a value into a page that may be stored to.
@@ -101,7 +300,7 @@ pub(super) fn store_again(slots: &mut [Slot], access: Access, value: u32) -> boo
 pub(super) fn store(
     alloc: Global,
     view: &PageTable,
-    slots: &mut [Slot],
+    slots: &mut Slots,
     access: Access,
     value: u32,
 ) -> Result<(), AllocError>
@@ -122,12 +321,14 @@ pub(super) fn store(
         → allows write_right (slice_index_or pages access.slot unmapped).permission ≡ true
         → ArePermitted pages slots.old → ArePermitted pages slots.new }
 {
-    slots[access.slot].store(alloc, view, access, value)
+    let place = place_for(&mut slots.places, &mut slots.held, access.slot)?;
+    slots.held[place].store(alloc, view, access, value)
 }
 
-/// Takes a byte of a page, to run its instructions, unless it has the thread's own stores. It says so on any view.
+/// Takes a byte of a page, to run its instructions, unless it has the thread's own stores or the host's memory ran out.
+/// It says so on any view.
 #[inline(always)]
-pub(super) fn enter(slots: &mut [Slot], slot: usize) -> bool
+pub(super) fn enter(slots: &mut Slots, slot: usize) -> bool
     requires { slot < length slots.old }
     ensures shared { (view : Memory) → on_view slot_shared view slots.new ≡ on_view slot_shared view slots.old }
     ensures bytes { (view : Memory) → on_view slot_bytes view slots.new ≡ on_view slot_bytes view slots.old }
@@ -138,5 +339,8 @@ pub(super) fn enter(slots: &mut [Slot], slot: usize) -> bool
     ensures stays { IsFalse result → map slot_taken slots.new ≡ map slot_taken slots.old }
     ensures permitted { (pages : List Mapped) → ArePermitted pages slots.old → ArePermitted pages slots.new }
 {
-    slots[slot].enter()
+    let Ok(place) = place_for(&mut slots.places, &mut slots.held, slot) else {
+        return false;
+    };
+    slots.held[place].enter()
 }

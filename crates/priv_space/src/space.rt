@@ -8,8 +8,8 @@ ghost use Rattle.memory_spec.specs.Workspace.{fresh, Takes, Stores};
 ghost use Rattle.record_spec.specs.Delta.{delta_from};
 ghost use Rattle.record_spec.specs.Reads.{reads_from};
 
-use super::slot::{Access, Slot};
-use super::slots;
+use super::slot::Access;
+use super::slots::{self, Slots};
 use memory_spec::{MemoryError, PAGE_SIZE, Size};
 use page_map::{Mem, PageMap, Perm};
 use page_store::PageTable;
@@ -19,14 +19,14 @@ use std::sync::Arc;
 use store_mask::{Delta, Reads};
 
 /// A view that a thread works on, with its own stores laid over it. It shares the view, takes a share of
-/// a page when it first takes a byte of it, and copies a page when it first stores to it; the pages that
+/// a page at the first load from it, and copies a page when it first stores to it; the pages that
 /// it doesn't touch cost it no share. A clause sees a `Workspace` of `memory_spec`.
 #[derive(Drop)]
 pub struct Space {
     alloc: Global,
     view: Arc<PageTable>,
     pages: Arc<PageMap>,
-    slots: Vec<Slot>,
+    slots: Slots,
 }
 
 impl Model for Space {
@@ -39,7 +39,7 @@ impl Model for Space {
 
     ghost view = { workspace_of };
 
-    ghost invariant = { λ s. Fits (workspace_of s).map (workspace_of s).view s.slots.items };
+    ghost invariant = { λ s. Fits (workspace_of s).map (workspace_of s).view s.slots };
 }
 
 /// The slot of an address, and what its page permits. None exactly where no page has it.
@@ -79,7 +79,10 @@ impl Mem for Space {
                     return Err(MemoryError::Access);
                 }
                 let access = access_to(slot, address, Size::Four);
-                Ok(slots::fetch(&self.view, &mut self.slots, access))
+                match slots::fetch(&self.view, &mut self.slots, access) {
+                    Ok(word) => Ok(word),
+                    Err(_) => Err(MemoryError::NoMemory),
+                }
             }
         }
     }
@@ -199,11 +202,7 @@ impl Space {
         requires { length (arc_value view.now) ≡ length (arc_value pages.now) }
         ensures { IfOk result (λ space. space ≡ fresh (arc_value pages.now) (arc_value view.now)) }
     {
-        let count = view.len();
-        let mut slots = Vec::with_capacity(alloc, count)?;
-        for _ in 0..count {
-            slots.push(Slot::new())?;
-        }
+        let slots = Slots::new(alloc, view.len())?;
         Ok(Space {
             alloc,
             view: Arc::try_clone(view)?,
@@ -221,8 +220,10 @@ impl Space {
         ensures { IfOk result (λ reads. reads ≡ reads_from 0 self.now.taken self.now.view) }
     {
         let mut pages = Vec::new(self.alloc);
-        for slot in 0..self.slots.len() {
-            self.slots[slot].add_read(&self.view, slot, &mut pages)?;
+        let mut from = 0;
+        while let Some(slot) = self.slots.next_touched(from) {
+            self.slots.add_read(&self.view, slot, &mut pages)?;
+            from = slot + 1;
         }
         Ok(Reads::new(pages))
     }
@@ -239,13 +240,15 @@ impl Space {
             alloc,
             view,
             pages,
-            slots,
+            mut slots,
         } = self;
         drop(view);
         drop(pages);
         let mut deltas = Vec::new(alloc);
-        for (slot, held) in slots.into_iter().enumerate() {
-            held.give_delta(slot, &mut deltas)?;
+        let mut from = 0;
+        while let Some(slot) = slots.next_touched(from) {
+            slots.give_delta(slot, &mut deltas)?;
+            from = slot + 1;
         }
         Ok(Delta::new(deltas))
     }

@@ -1,9 +1,9 @@
 -- Answers to the goals that the check leaves of `held_number`.
-use Rattle.std.proofs.Common.{map, set, get_or, false, ap, sym, subst, ◌∙◌, arith, ◌<◌, length}
+use Rattle.std.proofs.Common.{map, set, get_or, false, ap, sym, ◌∙◌, arith, ◌<◌, length}
 use Rattle.std.proofs.lemmas.List.{get_or-map, set-get_or}
 use Rattle.memory_spec.specs.Access.{number_in}
 use Rattle.memory_spec.specs.Pages.{page_of, unmapped}
-use Rattle.priv_space.specs.Slots.{slot_shared, slot_bytes, slot_taken, IsPermitted}
+use Rattle.priv_space.specs.Slots.{untouched, slot_shared, slot_bytes, slot_taken}
 use Rattle.priv_space.proofs.Spaces.{if_some}
 use Rattle.priv_space.proofs.Views.{get_or-on_view, fitting-on_view, permitted-get_or}
 use Rattle.priv_space.proofs.slots.held_number.Goals as goal
@@ -11,39 +11,31 @@ use Rattle.priv_space.proofs.slots.held_number.Goals as goal
 pub returns-clause-value : goal.returns-clause-value
 returns-clause-value c view same share =
     let slots = c.args.slots.now in
-    let here = c.index-slots-access.result in
     let i = c.args.access.slot in
     let within : i < length view = omega arith in
+    let held = rw c.at.ensures at c.held_number.ensures in
     if_some c.held_number.result
     (λ n is. is
-    ∙ ap (λ s. number_in (slot_bytes (page_of view i) s) c.args.access.offset c.args.access.size)
-    c.index-slots-access.is
     ∙ ap (λ page. number_in page c.args.access.offset c.args.access.size)
-    (sym (get_or-on_view slot_bytes view slots i here within c.requires.within)))
-    (c.held_number.ensures.value (page_of view i)
-    (ap (slot_shared (page_of view i)) c.index-slots-access.is
-    ∙ fitting-on_view slot_shared view slots i here within c.requires.within share))
+    (sym (get_or-on_view slot_bytes view slots i untouched within c.requires.within)))
+    (held.value (page_of view i) (fitting-on_view slot_shared view slots i untouched within c.requires.within share))
 
 pub returns-clause-taken : goal.returns-clause-taken
 returns-clause-taken c =
     let slots = c.args.slots.now in
-    let here = c.index-slots-access.result in
     let i = c.args.access.slot in
     let flags = map slot_taken slots in
+    let held = rw c.at.ensures at c.held_number.ensures in
     if_some c.held_number.result
-    (λ n is. ap (set flags i)
-    (sym (get_or-map slot_taken slots i here false c.requires.within
-    ∙ ap slot_taken (sym c.index-slots-access.is) ∙ is))
+    (λ n is. ap (set flags i) (sym (get_or-map slot_taken slots i untouched false c.requires.within ∙ is))
     ∙ set-get_or flags i false)
-    c.held_number.ensures.taken
+    held.taken
 
 pub returns-clause-permitted : goal.returns-clause-permitted
 returns-clause-permitted c pages same all =
     let slots = c.args.slots.now in
-    let here = c.index-slots-access.result in
     let i = c.args.access.slot in
     let within : i < length pages = omega arith in
-    let permission = (get_or pages i unmapped).permission in
-    c.held_number.ensures.permitted permission
-    (subst (IsPermitted permission) (sym c.index-slots-access.is)
-    (permitted-get_or pages slots i here within c.requires.within all))
+    let held = rw c.at.ensures at c.held_number.ensures in
+    held.permitted (get_or pages i unmapped).permission
+    (permitted-get_or pages slots i untouched within c.requires.within all)

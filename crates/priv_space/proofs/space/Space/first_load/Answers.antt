@@ -1,10 +1,9 @@
 -- Answers to the goals that the check leaves of `first_load`.
-use Rattle.std.proofs.Common.{◌≡◌, arith, length, subst, sym}
-use Rattle.std.proofs.lemmas.List.{with_items_is}
+use Rattle.std.proofs.Common.{◌≡◌, length, ap, sym, ◌∙◌}
+use Rattle.std.proofs.lemmas.List.{length-map}
 use Rattle.std.specs.Arc.{arc_value}
-use Rattle.std.specs.Vec.{with_items}
 use Rattle.memory_spec.specs.Pages.{read_right}
-use Rattle.priv_space.specs.Slots.{Fits}
+use Rattle.priv_space.specs.Slots.{slot_marks}
 use Rattle.priv_space.proofs.Spaces.{right_in_slot}
 use Rattle.priv_space.proofs.space.Space.first_load.Goals as goal
 
@@ -13,13 +12,15 @@ invariant_of-self c =
     let pages = arc_value c.self.inside.pages in
     let view = arc_value c.self.inside.view in
     let after = c.take.new.slots in
-    let items : (with_items c.self.inside.slots after).items ≡ after =
-    with_items_is c.self.inside.slots after (omega arith) in
-    let done = rw (c.deref_mut.ensures.value, c.deref-in-Some.ensures, c.access_to-access.ensures.value) at
+    let done = rw (c.deref-in-Some.ensures, c.access_to-access.ensures.value) at
     c.take.ensures in
     let found = rw c.deref.ensures at c.in-Some.ensures in
-    let count : length after ≡ length pages = omega (arith, c.self.invariant.count) in
-    subst (Fits pages view) (sym items) record {
+    let count : length after ≡ length pages =
+    sym (length-map after slot_marks)
+    ∙ ap length done.marks
+    ∙ length-map c.self.inside.slots slot_marks
+    ∙ c.self.invariant.count in
+    record {
       pages = c.self.invariant.pages;
       count = count;
       shared = done.shared;

@@ -1,11 +1,10 @@
 -- Answers to the goals that the check leaves of `first_store`.
-use Rattle.std.proofs.Common.{◌≡◌, ◌<◌, ◌%◌, map, length, arith, ap, subst, sym, ◌∙◌, refl}
-use Rattle.std.proofs.lemmas.List.{with_items_is, length-map}
+use Rattle.std.proofs.Common.{◌≡◌, ◌<◌, ◌%◌, map, length, arith, ap, sym, ◌∙◌, refl}
+use Rattle.std.proofs.lemmas.List.{length-map}
 use Rattle.std.specs.Arc.{arc_value}
-use Rattle.std.specs.Vec.{with_items}
 use Rattle.memory_spec.specs.Access.{may_store}
 use Rattle.memory_spec.specs.Pages.{allows, write_right, slot_of, permission_at}
-use Rattle.priv_space.specs.Slots.{Fits, on_view, slot_bytes, slot_marks, slot_taken}
+use Rattle.priv_space.specs.Slots.{on_view, slot_bytes, slot_marks, slot_taken}
 use Rattle.priv_space.proofs.Spaces.{right_in_slot, stored_space}
 use Rattle.priv_space.proofs.Views.{length-on_view}
 use Rattle.priv_space.proofs.space.Space.first_store.Goals as goal
@@ -15,12 +14,10 @@ unfolding may_store
 returns-in-Ok c =
     let pages = arc_value c.self.inside.pages in
     let view = arc_value c.self.inside.view in
-    let slots = c.self.inside.slots.items in
+    let slots = c.self.inside.slots in
     let after = c.store.new.slots in
-    let items : (with_items c.self.inside.slots after).items ≡ after =
-    with_items_is c.self.inside.slots after (omega arith) in
     let done =
-    rw (c.deref_mut.ensures.value, c.deref-in-Some.ensures, c.access_to-access.ensures.value) at c.in-Ok.ensures in
+    rw (c.deref-in-Some.ensures, c.access_to-access.ensures.value) at c.in-Ok.ensures in
     let at_slot : c.in-Some.slot ≡ slot_of pages c.args.address = rw (← c.deref.ensures) c.in-Some.ensures.slot.0 in
     let perm : c.in-Some.perm.0 ≡ permission_at pages c.args.address = rw (← c.deref.ensures) c.in-Some.ensures.perm in
     let under : c.in-Some.slot < length pages = rw (← c.deref.ensures) c.in-Some.ensures.slot.1 in
@@ -30,12 +27,12 @@ returns-in-Ok c =
     rw (← c.self.view_is) (
       ap (allows write_right) (sym perm) ∙ sym c.if-not-writes.ensures,
       stored_space pages view (on_view slot_bytes view slots) (map slot_marks slots) (map slot_taken slots)
-          view (on_view slot_bytes view (with_items c.self.inside.slots after).items)
-          (map slot_marks (with_items c.self.inside.slots after).items)
-          (map slot_taken (with_items c.self.inside.slots after).items)
+          view (on_view slot_bytes view after)
+          (map slot_marks after)
+          (map slot_taken after)
           c.args.address c.args.size c.args.value c.in-Some.slot (c.args.address % 4096)
-          refl (ap (map slot_taken) items ∙ done.taken)
-          (ap (on_view slot_bytes view) items ∙ done.bytes) (ap (map slot_marks) items ∙ done.marks)
+          refl done.taken
+          done.bytes done.marks
           at_slot refl c.requires
           (omega (arith, length-on_view slot_bytes view slots whole)) (omega (arith, length-map slots slot_marks)),
     )
@@ -45,13 +42,15 @@ invariant_of-self-in-Some c =
     let pages = arc_value c.self.inside.pages in
     let view = arc_value c.self.inside.view in
     let after = c.store.new.slots in
-    let items : (with_items c.self.inside.slots after).items ≡ after =
-    with_items_is c.self.inside.slots after (omega arith) in
-    let done = rw (c.deref_mut.ensures.value, c.deref-in-Some.ensures, c.access_to-access.ensures.value) at
+    let done = rw (c.deref-in-Some.ensures, c.access_to-access.ensures.value) at
     c.store.ensures in
     let found = rw c.deref.ensures at c.in-Some.ensures in
-    let count : length after ≡ length pages = omega (arith, c.self.invariant.count) in
-    subst (Fits pages view) (sym items) record {
+    let count : length after ≡ length pages =
+    sym (length-map after slot_taken)
+    ∙ ap length done.taken
+    ∙ length-map c.self.inside.slots slot_taken
+    ∙ c.self.invariant.count in
+    record {
       pages = c.self.invariant.pages;
       count = count;
       shared = done.shared;

@@ -1,80 +1,97 @@
 -- Answers to the goals that the check leaves of `into_delta`.
-use Rattle.std.proofs.Common.{◌≡◌, ◌+◌, ◌++◌, length, map, get_or, arith, sym, ap, ◌∙◌, drop, ◌<◌, ◌≤◌, [], ◌∷◌}
-use Rattle.std.proofs.lemmas.Iterator.Adapters.{YieldsList-from_vec}
-use Rattle.std.proofs.lemmas.Iterator.Consumers.{YieldsList-from_enumerate, YieldsList-turn, YieldsList-end}
-use Rattle.std.proofs.lemmas.List.{length-map, get_or-map, length_push}
-use Rattle.std.proofs.lemmas.List.FromFn.{length-enumerate_from, get_or-enumerate_from}
+use Rattle.std.proofs.Common.{◌≡◌, ◌+◌, ◌<◌, ◌≤◌, ◌++◌, [], length, map, get_or, drop, ap, sym, ◌∙◌, arith}
+use Rattle.std.proofs.lemmas.List.{length-map, length-set, get_or-map, get_or-set_other}
 use Rattle.std.specs.Arc.{arc_value}
 use Rattle.memory_spec.specs.Pages.{page_of}
 use Rattle.record_spec.specs.Delta.{delta_from}
 use Rattle.record_spec.specs.Ascending.{deltas_ascend}
 use Rattle.priv_space.specs.Parts.{delta_part}
-use Rattle.priv_space.specs.Slots.{on_view, slot_bytes, slot_marks}
+use Rattle.priv_space.specs.Slots.{on_view, untouched, slot_bytes, slot_marks}
 use Rattle.priv_space.proofs.Collecting.{delta_step, delta_end, delta_from-ascend}
+use Rattle.priv_space.proofs.Skipping.{delta_between}
 use Rattle.priv_space.proofs.Views.{get_or-on_view, length-on_view}
 use Rattle.priv_space.proofs.space.Space.into_delta.Goals as goal
 
 pub loop-slot-preserved : goal.loop-slot-preserved
 loop-slot-preserved c =
-    let slots = c.self.inside.slots.items in
+    let all = c.self.inside.slots in
     let view = arc_value c.self.inside.view in
-    let n = length c.loop-slot.yielded in
+    let masks = map slot_marks all in
+    let pages = on_view slot_bytes view all in
+    let slots = c.loop-slot.slots in
+    let kept = c.loop-slot.invariant in
     let slot = c.in-Some.slot in
-    let held = c.in-Some.held in
-    let turn = YieldsList-turn (YieldsList-from_enumerate (YieldsList-from_vec slots (cc) (cc)) (cc)) c.loop-slot.yielded
-    c.loop-slot.slot-iterator c.loop-slot.yielded_by c.next.result c.next.new.self (slot, held) c.in-Some.is c.next.ensures.steps in
-    let lt : n < length slots = omega (arith, turn.0, length-enumerate_from 0 slots) in
-    let item = turn.1 ∙ get_or-enumerate_from 0 slots n (slot, held) lt in
-    let slot_is : slot ≡ n = omega (arith, ap (λ p. p.0) item) in
-    let held_is : held ≡ get_or slots n held = ap (λ p. p.1) item in
-    let same : length slots ≡ length view = c.self.invariant.count ∙ sym c.self.invariant.pages in
-    let below : n < length view = omega arith in
-    let within : n < length (on_view slot_bytes view slots) =
-    omega (arith, length-on_view slot_bytes view slots same) in
-    let before = rw (← c.self.view_is) at c.loop-slot.invariant in
+    let found = c.in-Some.ensures in
+    let same : length all ≡ length view = c.self.invariant.count ∙ sym c.self.invariant.pages in
+    let lt : slot < length all = omega (arith, found.found.1, kept.count) in
+    let below : slot < length view = omega arith in
+    let here : get_or slots slot untouched ≡ get_or all slot untouched = kept.rest slot found.found.0 in
+    let held = get_or all slot untouched in
+    let deltas = c.loop-slot.deltas.items in
+    let left = c.give_delta.ensures.left in
+    let before : deltas ++ delta_from c.loop-slot.from (drop c.loop-slot.from masks) (drop c.loop-slot.from pages)
+    ≡ delta_from 0 masks pages = rw (← c.self.view_is) at kept.deltas in
     let more =
-    delta_step (map slot_marks slots) (on_view slot_bytes view slots) n (slot_marks held)
-    (slot_bytes (page_of view n) held) c.loop-slot.deltas.items
-    c.give_delta.new.deltas.items (delta_from 0 (map slot_marks slots) (on_view slot_bytes view slots))
-    (omega (arith, length-map slots slot_marks)) within
-    (ap slot_marks held_is ∙ sym (get_or-map slot_marks slots n held [] lt))
-    (ap (slot_bytes (page_of view n)) held_is ∙ sym (get_or-on_view slot_bytes view slots n held below lt))
-    before
-    (c.in_ok-give_delta.ensures (page_of view n)
-    ∙ ap (λ k. c.loop-slot.deltas.items ++ delta_part k (slot_marks held) (slot_bytes (page_of view n) held)) slot_is) in
-    let next : length (c.loop-slot.yielded ++ (slot, held) ∷ []) ≡ n + 1 = length_push c.loop-slot.yielded (slot, held) in
-    rw (← c.self.view_is)
-    (ap (λ k. c.give_delta.new.deltas.items ++ delta_from k (drop k (map slot_marks slots))
-    (drop k (on_view slot_bytes view slots))) next
-    ∙ more)
+    delta_step masks pages slot (slot_marks held) (slot_bytes (page_of view slot) held) deltas
+    c.give_delta.new.deltas.items (delta_from 0 masks pages)
+    (omega (arith, length-map all slot_marks)) (omega (arith, length-on_view slot_bytes view all same))
+    (sym (get_or-map slot_marks all slot untouched [] lt))
+    (sym (get_or-on_view slot_bytes view all slot untouched below lt))
+    (ap (λ rest. deltas ++ rest)
+    (sym (delta_between view all c.loop-slot.from slot same found.found.0
+    (λ k above under. sym (kept.rest k above) ∙ found.none_before k above under)))
+    ∙ before)
+    (c.in_ok-give_delta.ensures.given (page_of view slot)
+    ∙ ap (λ s. deltas ++ delta_part slot (slot_marks s) (slot_bytes (page_of view slot) s)) here) in
+    record {
+      count = ap length left ∙ length-set slots slot untouched ∙ kept.count;
+      rest = λ k above.
+          ap (λ xs. get_or xs k untouched) left
+          ∙ get_or-set_other slots slot k untouched untouched (λ is. absurd (omega arith))
+          ∙ kept.rest k (omega (arith, found.found.0));
+      deltas = rw (← c.self.view_is) more;
+    }
 
 pub new-requires : goal.new-requires
 new-requires c =
-    let slots = c.self.inside.slots.items in
+    let all = c.self.inside.slots in
     let view = arc_value c.self.inside.view in
-    let n = length c.loop-slot.yielded in
-    let end = YieldsList-end (YieldsList-from_enumerate (YieldsList-from_vec slots (cc) (cc)) (cc)) c.loop-slot.yielded
-    c.loop-slot.slot-iterator c.loop-slot.yielded_by c.next.result c.next.new.self c.in-None.is c.next.ensures.steps in
-    let before = rw (← c.self.view_is) at c.loop-slot.invariant in
-    let le : length (map slot_marks slots) ≤ n =
-    omega (arith, end.1, length-enumerate_from 0 slots, length-map slots slot_marks) in
-    let all =
-    delta_end (map slot_marks slots) (on_view slot_bytes view slots) n c.loop-slot.deltas.items
-    (delta_from 0 (map slot_marks slots) (on_view slot_bytes view slots)) le before in
-    ap (deltas_ascend 0) all
-    ∙ delta_from-ascend 0 0 (map slot_marks slots) (on_view slot_bytes view slots) (omega arith)
+    let masks = map slot_marks all in
+    let pages = on_view slot_bytes view all in
+    let kept = c.loop-slot.invariant in
+    let from = c.loop-slot.from in
+    let deltas = c.loop-slot.deltas.items in
+    let same : length all ≡ length view = c.self.invariant.count ∙ sym c.self.invariant.pages in
+    let end = from + length all in
+    let past : length masks ≤ end = omega (arith, length-map all slot_marks) in
+    let before : deltas ++ delta_from from (drop from masks) (drop from pages) ≡ delta_from 0 masks pages =
+    rw (← c.self.view_is) at kept.deltas in
+    let whole =
+    delta_end masks pages end deltas (delta_from 0 masks pages) past
+    (ap (λ rest. deltas ++ rest)
+    (sym (delta_between view all from end same (omega arith)
+    (λ k above under. sym (kept.rest k above) ∙ c.in_default.ensures.none_left k above)))
+    ∙ before) in
+    ap (deltas_ascend 0) whole ∙ delta_from-ascend 0 0 masks pages (omega arith)
 
 pub returns : goal.returns
 returns c =
-    let slots = c.self.inside.slots.items in
+    let all = c.self.inside.slots in
     let view = arc_value c.self.inside.view in
-    let n = length c.loop-slot.yielded in
-    let end = YieldsList-end (YieldsList-from_enumerate (YieldsList-from_vec slots (cc) (cc)) (cc)) c.loop-slot.yielded
-    c.loop-slot.slot-iterator c.loop-slot.yielded_by c.next.result c.next.new.self c.in-None.is c.next.ensures.steps in
-    let before = rw (← c.self.view_is) at c.loop-slot.invariant in
-    let le : length (map slot_marks slots) ≤ n =
-    omega (arith, end.1, length-enumerate_from 0 slots, length-map slots slot_marks) in
+    let masks = map slot_marks all in
+    let pages = on_view slot_bytes view all in
+    let kept = c.loop-slot.invariant in
+    let from = c.loop-slot.from in
+    let deltas = c.loop-slot.deltas.items in
+    let same : length all ≡ length view = c.self.invariant.count ∙ sym c.self.invariant.pages in
+    let end = from + length all in
+    let past : length masks ≤ end = omega (arith, length-map all slot_marks) in
+    let before : deltas ++ delta_from from (drop from masks) (drop from pages) ≡ delta_from 0 masks pages =
+    rw (← c.self.view_is) at kept.deltas in
     c.new.ensures
     ∙ rw (← c.self.view_is)
-    (delta_end (map slot_marks slots) (on_view slot_bytes view slots) n c.loop-slot.deltas.items
-    (delta_from 0 (map slot_marks slots) (on_view slot_bytes view slots)) le before)
+    (delta_end masks pages end deltas (delta_from 0 masks pages) past
+    (ap (λ rest. deltas ++ rest)
+    (sym (delta_between view all from end same (omega arith)
+    (λ k above under. sym (kept.rest k above) ∙ c.in_default.ensures.none_left k above)))
+    ∙ before))

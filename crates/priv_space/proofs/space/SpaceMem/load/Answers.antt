@@ -9,9 +9,9 @@ pub returns-in-Some-held_number-clause-found : goal.returns-in-Some-held_number-
 returns-in-Some-held_number-clause-found c =
     let pages = arc_value c.self.inside.pages in
     let view = arc_value c.self.inside.view in
-    let slots = c.self.inside.slots.items in
+    let slots = c.self.inside.slots in
     let found = rw c.deref.ensures at c.in-Some.ensures in
-    let held = rw (c.deref-in-Some.ensures.value, c.access_to-access.ensures.value) at c.in-Some-held_number.ensures in
+    let held = rw (c.access_to-access.ensures.value) at c.in-Some-held_number.ensures in
     let same : length slots ≡ length pages = c.self.invariant.count in
     rw (← c.self.view_is)
     (held_space pages view (on_view slot_bytes view slots) (map slot_marks slots) (map slot_taken slots)
