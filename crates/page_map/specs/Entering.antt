@@ -3,8 +3,8 @@ use Rattle.std.specs.Prelude.{◌≡◌, ◌<◌, ℕ, ◌*◌, true, [], ◌∷
 use Rattle.memory_spec.specs.Pages.{allows, execute_right, permission_at, slot_of, page_of}
 use Rattle.memory_spec.specs.Workspace.{Workspace, after_taking}
 
--- The page of an address was entered, to run its instructions: it stands in this slot, may be executed, and has none of
--- the thread's own stores; a byte of it was taken, and nothing else changed.
+-- The page of an address was entered, to run its instructions: it stands in this slot, may be executed, and the memory
+-- has the view's bytes in it; a byte of it was taken, and nothing else changed.
 pub record Enters (before : Workspace) (address slot : ℕ) (after : Workspace) : Type 0 where
   pub slot_is : slot ≡ slot_of before.map address
   pub mapped : slot < length before.view

@@ -6,9 +6,9 @@ use Rattle.memory_spec.specs.Pages.{Mapped, unmapped}
 abbrev pub place_of : List ℕ → List ℕ → ℕ → ℕ
 place_of starts places number = slice_index places (slice_index starts (number / 256) + number % 256)
 
--- A table of these pages. Each block begins at a multiple of 256 among the places that are used, or at 0; no two blocks
--- but those at 0 have the same places, and the first 256 places are 0, as all are that aren't used. Where a place says a
--- slot, the page in it has the number.
+-- A table of these pages. The count of the places that are used is a multiple of 256 (`even`). Each block begins at a
+-- multiple of 256 among them, or at 0; no two blocks but those at 0 have the same places, and the first 256 places are 0,
+-- as all are that aren't used. Where a place says a slot, the page in it has the number.
 pub record IsTable (pages : List Mapped) (starts places : List ℕ) (used : ℕ) : Type 0 where
   pub blocks : length starts ≡ 4096
   pub count : length places ≡ 8192

@@ -37,7 +37,7 @@ use thunk_run::Job;
 pub enum ApplyError {
     /// The machine has ended, or the record doesn't fit: its thread isn't ready at its number of
     /// steps, or has other registers, or its view has other bytes in a read page, or no thunk of this
-    /// fuel ended as its did.
+    /// fuel could have ended as the record's did.
     Stale,
     /// The host's memory ran out.
     NoMemory,

@@ -70,7 +70,7 @@ nothing_stands address word i rd zero known puts =
     (record { rd = omega arith; rs1 = omega arith; rs2 = omega arith; writes = λ e z. cc; inside = λ e. cc })
 
 -- the offset to a target leads there
-leads_there :
+pub leads_there :
     (address target : ℕ) → address < 2 ^ 32 → target < 2 ^ 32 → sum_of address (difference_of target address) ≡ target
 leads_there address target here there = omega arith
 

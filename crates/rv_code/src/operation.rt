@@ -5,10 +5,10 @@ use std::mem::size_of;
 /// What an operation does. The names are those of the instructions of `isa_spec`, and the sections its own.
 #[derive(Clone, Copy, Debug, PartialEq, Eq)]
 pub enum Kind {
-    /// Left to a turn of its own: a call, a word of no instruction, a jump to no multiple of 4, a load to x0, and what
-    /// stands behind the last word of a page.
+    /// Left to a turn of its own: ECALL, EBREAK, a word of no instruction, JAL to no multiple of 4, a branch to what is
+    /// no word of the page, a load to x0, and what stands behind the last word of a page.
     Other,
-    /// Nothing but going on: FENCE, and each operation whose result goes to x0.
+    /// Nothing but going on: FENCE, and what computes on registers and immediates alone and has x0 in rd.
     Nothing,
     /// rd takes imm: LUI, AUIPC at its own address, and ADDI of x0.
     Constant,

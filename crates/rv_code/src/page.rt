@@ -41,7 +41,7 @@ impl Model for CodePage {
 /// The word of a page by its index.
 #[tactic(auto, unfolding(memory_spec::specs::Access::number_in))]
 fn word_at(bytes: &[u8; PAGE_SIZE], index: usize) -> u32
-    requires { index < 1024 }
+    requires { index < WORDS }
     ensures { result ≡ number_in bytes.now (4 * index) Four }
 {
     let offset = 4 * index;

@@ -99,55 +99,15 @@ pub outside-leads :
 outside-leads p r registers target i stands does w =
     rw stands (passed-executes w (at_word p.number p.index r) (with_pc registers target) i (does w))
 
--- an operation that goes on at the next word
-pub next-leads :
-    (p : Placed) (r registers : Registers) (i : Instr)
-    → instr_placed p ≡ Some i
-    → ((w : Workspace) → executed w.map w.memory (at_word p.number p.index r) i
-    ≡ passed (at_word p.number (p.index + 1) registers) [] [])
-    → (w : Workspace) → Leads flow.Next p w r w registers
-next-leads p r registers i stands does w =
-    rw stands (
-      passed-executes w (at_word p.number p.index r) (at_word p.number (p.index + 1) registers) i (does w),
-      λ _ runs. runs,
-    )
-
 -- an offset inside a page leads to its word
 pub offset-leads :
     (number index target : ℕ) → number < 2 ^ 20 → index < 1024 → target < 1024
     → sum_of (word_at number index) (offset_to (word_at number index) target) ≡ word_at number target
 offset-leads number index target few within inside = omega arith
 
--- a difference leads to its target
-pub difference-leads :
-    (address target : ℕ) → address < 2 ^ 32 → target < 2 ^ 32 → sum_of address (difference_of target address) ≡ target
-difference-leads address target a t = omega arith
-
 -- the address of a word is a multiple of 4
 pub word_at-aligned : (number index : ℕ) → (word_at number index % 4 == 0) ≡ true
 word_at-aligned number index = eq-eqb (word_at number index % 4) 0 (omega arith)
-
--- a jump to a multiple of 4
-pub jumped-aligned :
-    (r linked : Registers) (target : ℕ) → (target % 4 == 0) ≡ true
-    → jumped r linked target ≡ passed (with_pc linked target) [] []
-jumped-aligned r linked target aligned = rw aligned refl
-
--- a branch that is taken goes to its word
-pub branched-taken :
-    (r : Registers) (t : BranchTest) (a b number index target : ℕ)
-    → branch_taken t a b ≡ true → number < 2 ^ 20 → index < 1024 → target < 1024
-    → branched (at_word number index r) t a b (offset_to (word_at number index) target)
-    ≡ passed (at_word number target r) [] []
-branched-taken r t a b number index target taken few within inside =
-    rw (taken, offset-leads number index target few within inside, word_at-aligned number target) refl
-
--- a branch that isn't taken goes on
-pub branched-on :
-    (r : Registers) (t : BranchTest) (a b number index offset : ℕ)
-    → branch_taken t a b ≡ false
-    → branched (at_word number index r) t a b offset ≡ passed (at_word number (index + 1) r) [] []
-branched-on r t a b number index offset on = rw (on, word_at-next number index) refl
 
 -- the link of a jump, and its target
 pub linked-pc :

@@ -1,4 +1,4 @@
-//! One turn of a hart: an instruction fetched, decoded and executed
+//! Turns of a hart: an instruction fetched, decoded and executed, one at a time or from decoded pages
 //! (RISC-V unprivileged ISA 20191213, chapter 2).
 #![tactic(auto)]
 

@@ -3,7 +3,8 @@ use Rattle.std.proofs.Common.{◌%◌, refl, eq-eqb, arith}
 use Rattle.isa_spec.specs.declared.Instr.TheVariants as instr
 use Rattle.isa_spec.specs.Words.{difference_of}
 use Rattle.rv_step.specs.Paging.{word_at}
-use Rattle.rv_step.proofs.Words.{outside-leads, difference-leads, linked-pc}
+use Rattle.rv_code.proofs.Standing.{leads_there}
+use Rattle.rv_step.proofs.Words.{outside-leads, linked-pc}
 use Rattle.rv_step.proofs.jumping.jump_far.Goals as goal
 
 pub returns : goal.returns
@@ -13,7 +14,7 @@ returns c =
     (instr.Jal p.rd (difference_of p.imm (word_at p.number p.index))) c.requires
     (λ w.
     rw (
-      difference-leads (word_at p.number p.index) p.imm (omega arith) (omega arith),
+      leads_there (word_at p.number p.index) p.imm (omega arith) (omega arith),
       eq-eqb (p.imm % 4) 0 c.if-target-ne0.false,
       linked-pc c.args.regs.now p.rd p.number p.index p.imm,
       c.set.ensures,
