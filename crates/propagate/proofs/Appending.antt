@@ -1,5 +1,5 @@
 -- When a record may be appended, and what is there after an event.
-use Rattle.std.proofs.Common.{◌≡◌, ◌<◌, ◌≤◌, ℕ, zero, suc, Bool, true, false, not, ◌&&◌, ◌||◌, eqb, List, [], ◌∷◌, length, count_by, Option, Some, None, is_some, is_none, refl, ap, sym, ◌∙◌, arith}
+use Rattle.std.proofs.Common.{◌≡◌, ◌<◌, ◌≤◌, ℕ, zero, suc, Bool, true, false, not, ◌||◌, eqb, List, [], ◌∷◌, length, count_by, Option, Some, None, is_some, is_none, refl, ap, sym, ◌∙◌, arith}
 use Rattle.std.proofs.lemmas.Bool.{and_parts}
 use Rattle.std.proofs.lemmas.Bool.Decides.{nat_tests}
 use Rattle.record_spec.specs.Record.{Record, fits_at}
@@ -10,7 +10,7 @@ use Rattle.machine_spec.specs.Whole.{IsWhole}
 use Rattle.machine_spec.proofs.Harts.{ready-below}
 use Rattle.history_spec.specs.History.{History, threads_of_records}
 use Rattle.history_spec.proofs.Truth.{past-of}
-use Rattle.round_spec.specs.Marks.{record_for, is_fitting, fits_next}
+use Rattle.round_spec.specs.Marks.{record_for, fits_next}
 use Rattle.round_spec.specs.Rounds.{RoundState, is_over, is_out_of, can_begin, can_take, can_reuse}
 use Rattle.round_spec.specs.Keeping.{IsInOrder, IsCounted}
 use Rattle.round_spec.proofs.Happening.{CanBegin, can_begin-parts}
@@ -100,18 +100,6 @@ reusable w t r kept counted can there =
           (of.1 ∙ ap (λ u. (hart_of w.machine u).number) (sym thread));
       thread = thread;
     }
-
--- and there is one
-pub reuses-some : (w : RoundState) (t : ℕ) → can_reuse w t ≡ true → record_for w.past w.machine t ≡ None → ⊥
-reuses-some w t can none =
-    let parts = and_parts (can_begin w t) (fits_next w.past w.machine t) can in
-    let fit : fits_next w.past w.machine t ≡ false = ap (is_fitting w.machine) none in
-    cc
-
-pub reuse-ready : (w : RoundState) (t : ℕ) → can_reuse w t ≡ true → is_ready (hart_of w.machine t).status ≡ true
-reuse-ready w t can =
-    let begins : CanBegin w t = can_begin-parts w t (and_parts (can_begin w t) (fits_next w.past w.machine t) can).0 in
-    begins.ready
 
 pub take-ready : (w : RoundState) (t : ℕ) → can_take w t ≡ true → is_ready (hart_of w.machine t).status ≡ true
 take-ready w t can =

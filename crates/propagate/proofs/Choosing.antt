@@ -311,8 +311,5 @@ picked-by w false (Some u) p over chosen is = by (fits_next w.past w.machine u) 
         let can : can_take w u ≡ true = rw (over, choice-is_free w u chosen, fit) refl in
         (λ t same. cc, λ t same. let is_t : u ≡ t = cc in ap (can_take w) (sym is_t) ∙ can)
 
-pub picked-reuse : (w : RoundState) (t : ℕ) → pick_of w ≡ pick.Reuse t → can_reuse w t ≡ true
-picked-reuse w t is = (picked-by w (is_over w) (choice_by w.past w.machine w.out) (pick_of w) refl refl refl).0 t is
-
 pub picked-run : (w : RoundState) (t : ℕ) → pick_of w ≡ pick.Run t → can_take w t ≡ true
 picked-run w t is = (picked-by w (is_over w) (choice_by w.past w.machine w.out) (pick_of w) refl refl refl).1 t is

@@ -16,7 +16,7 @@ use Rattle.report_spec.specs.Report.{threads_of}
 use Rattle.round_spec.specs.declared.events.Event.{Event}
 use Rattle.round_spec.specs.declared.events.Event.TheVariants.{Take, Reuse, Commit, GiveBack, Stop}
 use Rattle.round_spec.specs.Marks.{record_for, fits_next}
-use Rattle.round_spec.specs.Rounds.{RoundState, opening, is_over, is_out, can_begin, can_take, can_reuse, taken, reused_by, committed, given_back, happens}
+use Rattle.round_spec.specs.Rounds.{RoundState, is_over, is_out, can_begin, can_take, can_reuse, taken, reused_by, committed, given_back, happens}
 use Rattle.round_spec.specs.Choice.{pick_of}
 use Rattle.round_spec.specs.Alone.{one_worker, after_pick, after_picks, lone_round}
 use Rattle.round_spec.specs.Keeping.{IsInOrder, IsCounted, IsHeld, IsFromScratch}
@@ -176,15 +176,6 @@ ok-costs (Err error) n w v e counted nothing is = tt
 
 -- one pick
 
-pub partway-start :
-    (setup : Setup) (past : Option History) (n : ℕ) (w : RoundState) (count : ℕ)
-    → n ≡ setup.limit → w ≡ opening setup past → IsPartWay setup past n w count count
-partway-start setup past n w count limit is =
-    record {
-      rest = ap (after_picks n) is ∙ ap (λ k. after_picks k (opening setup past)) limit;
-      cost = let none : executed_by w ≡ 0 = ap (λ (x : RoundState). executed_by x) is in omega arith;
-    }
-
 picks-more : (n k : ℕ) (w : RoundState) → n ≡ suc k → after_picks k (after_pick w (pick_of w)) ≡ after_picks n w
 picks-more n k w is = rw is refl
 
@@ -218,11 +209,6 @@ partway-over setup past n w v start before now way is same cost = (
       ap (λ (x : RoundState). executed_by x) same in
       omega arith),
 )
-
-pub partway-end :
-    (setup : Setup) (past : Option History) (n : ℕ) (w : RoundState) (start now : ℕ)
-    → IsPartWay setup past n w start now → n ≡ 0 → w ≡ lone_round setup past
-partway-end setup past n w start now way none = ap (λ k. after_picks k w) (sym none) ∙ way.rest
 
 -- the round of one worker
 

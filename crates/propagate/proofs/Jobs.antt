@@ -226,17 +226,6 @@ job-held w jobs t k o job kept have out same at is =
     let flags = kept.flags in let count = have.count in omega arith in
     (have.held t out).own job (ap (λ i. get_or jobs i None) (sym same) ∙ held-at jobs k o below at ∙ is)
 
-pub job-there :
-    (w : RoundState) (jobs : List (Option Job)) (t k : ℕ) (o : Option Job)
-    → IsInOrder w → HaveJobs w jobs → is_out w t ≡ true → k ≡ t → o ≡ get_or jobs k o → o ≡ None → ⊥
-job-there w jobs t k o kept have out same at is =
-    let below : k < length jobs = let b = out-below w.out t out in
-    let flags = kept.flags in let count = have.count in omega arith in
-    let none : get_or jobs t None ≡ None = ap (λ i. get_or jobs i None) (sym same) ∙ held-at jobs k o below at ∙ is in
-    let some : is_some (get_or jobs t None) ≡ true = (have.held t out).there in
-    let no : is_some (get_or jobs t None) ≡ false = ap (λ (x : Option Job). is_some x) none in
-    cc
-
 -- what running the job gave can be committed, while the round isn't over
 pub run-commits :
     (w : RoundState) (t : ℕ) (job : Job) (run : Run)

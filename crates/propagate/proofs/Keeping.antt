@@ -11,6 +11,8 @@ use Rattle.round_spec.specs.Instructions.{executed_instructions}
 use Rattle.round_spec.specs.Keeping.{IsFromScratch, IsInOrder, IsCounted}
 use Rattle.round_spec.proofs.Happening.{opening-kept, happens-kept}
 use Rattle.round_spec.proofs.Counting.{round-counted, happens-counted}
+use Rattle.round_spec.specs.Schedules.{IsBySchedule}
+use Rattle.round_spec.proofs.BySchedule.{by_schedule-opening, by_schedule-happens}
 use Rattle.round_spec.proofs.Leaving.{leaves-honest}
 use Rattle.round_spec.proofs.Executed.{executed-records}
 use Rattle.propagate.specs.Kept.{front_in, IsOnMap, IsKept}
@@ -59,6 +61,7 @@ kept_opening setup past valid =
       valid = valid;
       in_order = opening-kept setup past valid;
       counted = round-counted setup past [] valid;
+      by_schedule = by_schedule-opening setup past;
       on_map = opening-on_map setup past;
       executed = refl;
       few = omega arith;
@@ -78,23 +81,12 @@ kept-happens w v e i f j g kept is setup executed few front =
       valid = subst IsSetup (sym setup) kept.valid;
       in_order = subst IsInOrder is (happens-kept w e kept.in_order);
       counted = subst IsCounted is (happens-counted w e kept.in_order kept.counted);
+      by_schedule = subst IsBySchedule is (by_schedule-happens w e kept.in_order kept.by_schedule);
       on_map = subst IsOnMap is (happens-on_map w e kept.on_map);
       executed = executed;
       few = few;
       front_is = front;
     }
-
--- where no entry is appended
-pub kept-aside :
-    (w v : RoundState) (e : Event) (i f : ℕ)
-    → IsKept w i f → happens w e ≡ v
-    → v.setup ≡ w.setup → v.past ≡ w.past → v.machine ≡ w.machine → v.schedule ≡ w.schedule → v.records ≡ w.records
-    → IsKept v i f
-kept-aside w v e i f kept is setup past machine schedule records =
-    kept-happens w v e i f i f kept is setup
-    (rw (schedule, records) kept.executed)
-    (rw schedule kept.few)
-    (rw (past, machine) kept.front_is)
 
 -- where one is
 pub kept-more :

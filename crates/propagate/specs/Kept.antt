@@ -7,6 +7,7 @@ use Rattle.history_spec.specs.History.{History, IsMappedIn, IsMapped, past_recor
 use Rattle.round_spec.specs.Rounds.{RoundState, history_of}
 use Rattle.round_spec.specs.Due.{is_passed}
 use Rattle.round_spec.specs.Keeping.{IsInOrder, IsCounted}
+use Rattle.round_spec.specs.Schedules.{IsBySchedule}
 use Rattle.round_spec.specs.Instructions.{executed_instructions}
 
 -- How many steps of a history, from the first on, needn't be waited for any more.
@@ -24,12 +25,13 @@ pub record IsOnMap (w : RoundState) : Type 0 where
   pub frame : w.machine.frame.map ≡ map_of w.setup
   pub mapped : All (IsMappedIn (length (map_of w.setup))) (past_records w.past) → IsMapped (history_of w)
 
--- A round that is in order and counts right, on the page map of its setup; with the sum of the counts of its executed
--- entries, and with how many steps of the history, from the first on, are passed.
+-- A round that is in order, counts right and is where its schedule leads, on the page map of its setup; with the sum of
+-- the counts of its executed entries, and with how many steps of the history, from the first on, are passed.
 pub record IsKept (w : RoundState) (instructions front : ℕ) : Type 0 where
   pub valid : IsSetup w.setup
   pub in_order : IsInOrder w
   pub counted : IsCounted w
+  pub by_schedule : IsBySchedule w
   pub on_map : IsOnMap w
   pub executed : instructions ≡ executed_instructions w.schedule w.records
   pub few : instructions ≤ 4294967295 * length w.schedule

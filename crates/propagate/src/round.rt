@@ -9,6 +9,7 @@ ghost use Rattle.report_spec.specs.Report.{instructions_from};
 ghost use Rattle.round_spec.specs.Rounds.{nobody_out, opening, is_over, is_out, history_of};
 ghost use Rattle.round_spec.specs.Instructions.{executed_instructions};
 ghost use Rattle.round_spec.specs.Keeping.{IsInOrder, IsCounted};
+ghost use Rattle.round_spec.specs.Schedules.{IsBySchedule};
 ghost use Rattle.propagate.specs.Kept.{IsOfMap};
 
 use guest_call::THREADS;
@@ -100,6 +101,7 @@ impl Round {
         ensures setup { IsSetup self.now.setup }
         ensures in_order { IsInOrder self.now }
         ensures counted { IsCounted self.now }
+        ensures by_schedule { IsBySchedule self.now }
     {
         let _stopped = &self.stopped;
     }
@@ -229,5 +231,15 @@ impl Round {
         }
         let Round { setup, records, .. } = self;
         Some(History::new(setup, records))
+    }
+
+    /// What it started from and the history that it goes by, for whoever makes the round anew. Takes no
+    /// memory.
+    pub fn into_setup(self) -> (Setup, Option<Arc<History>>)
+        ensures setup { result.0 ≡ self.setup }
+        ensures past { option_map arc_value result.1 ≡ self.past }
+    {
+        let Round { setup, past, .. } = self;
+        (setup, past)
     }
 }

@@ -1,0 +1,47 @@
+-- What workers made of a round.
+use Rattle.std.proofs.Common.{◌≡◌, ◌<◌, ℕ, true, List, length, sum, Option, Some, is_some, ap, sym, ◌∙◌, subst}
+use Rattle.machine_spec.specs.Setup.{Setup, IsSetup}
+use Rattle.history_spec.specs.History.{History}
+use Rattle.round_spec.specs.Rounds.{RoundState}
+use Rattle.round_spec.specs.Schedules.{IsBySchedule}
+use Rattle.round_spec.specs.Alone.{lone_round}
+use Rattle.round_spec.proofs.Leaving.{round-setup, round-past}
+use Rattle.worker_spec.specs.Workers.{IsMadeBy}
+use Rattle.worker_spec.proofs.Events.{picks-events}
+use Rattle.worker_spec.proofs.Workers.{lone-made, ended-made}
+use Rattle.round_spec.specs.Unedited.{IsUnedited}
+use Rattle.worker_spec.specs.Replaying.{IsReplaying}
+
+-- the round of one worker is of its setup, and goes by its history
+
+pub alone-setup :
+    (setup : Setup) (past : Option History) (w : RoundState) → w ≡ lone_round setup past → w.setup ≡ setup
+alone-setup setup past w is =
+    let events = picks-events setup past setup.limit in
+    ap (λ (x : RoundState). x.setup) (is ∙ events.1) ∙ round-setup setup past events.0
+
+pub alone-past :
+    (setup : Setup) (past : Option History) (w : RoundState) → w ≡ lone_round setup past → w.past ≡ past
+alone-past setup past w is =
+    let events = picks-events setup past setup.limit in
+    ap (λ (x : RoundState). x.past) (is ∙ events.1) ∙ round-past setup past events.0
+
+pub alone-made :
+    (workers : ℕ) (setup : Setup) (past : Option History) (w : RoundState) (shares : List ℕ)
+    → w ≡ lone_round setup past → IsSetup setup → length shares ≡ workers → sum shares ≡ length w.schedule
+    → IsMadeBy workers setup past w.schedule shares
+alone-made workers setup past w shares is valid each steps =
+    subst (λ (x : RoundState). IsMadeBy workers setup past x.schedule shares) (sym is)
+    (lone-made workers setup past shares valid each (steps ∙ ap (λ (x : RoundState). length x.schedule) is))
+
+-- and that of several, where it has an end
+pub together-made :
+    (workers : ℕ) (setup : Setup) (past : Option History) (w : RoundState) (shares : List ℕ)
+    → 1 < workers → w.setup ≡ setup → w.past ≡ past → IsBySchedule w → is_some w.machine.ending ≡ true
+    → length shares ≡ workers → sum shares ≡ length w.schedule
+    → ((h : History) → w.past ≡ Some h → IsUnedited h w.setup → IsReplaying h w)
+    → IsMadeBy workers setup past w.schedule shares
+together-made workers setup past w shares many is_setup is_past stands ended each steps replays =
+    subst (λ (s : Setup). IsMadeBy workers s past w.schedule shares) is_setup
+    (subst (λ (p : Option History). IsMadeBy workers w.setup p w.schedule shares) is_past
+    (ended-made workers w shares many stands ended each steps replays))

@@ -1,0 +1,8 @@
+-- What holds at the loop of `passes_of`.
+use Rattle.std.specs.Prelude.{◌≡◌, ◌+◌, vec_len}
+use Rattle.rerun_workers.proofs.board.passes_of.Given as goal
+
+-- a pass for each part that is gone
+abbrev pub invariant-loop-made : goal.invariant-loop-made
+invariant-loop-made g l =
+    (l.all.parts + l.made ≡ l.workers) × (l.all.amount ≡ 0) × (vec_len l.passes ≡ l.made)

@@ -1,0 +1,15 @@
+-- What is left to prove of `Locked::fail`.
+use Rattle.std.proofs.Common.{rules}
+use Rattle.rerun_workers.proofs.Replays.{replays-given_up}
+use Rattle.rerun_workers.proofs.locked.Locked.fail.Goals as goal
+
+pub invariant_of-self : goal.invariant_of-self
+invariant_of-self g c =
+    record {
+      counted = search rules;
+      setup = search rules;
+      past = search rules;
+      replays =
+          replays-given_up g.J.Naming.setup g.J.Naming.past c.args.self.now.round c.give_up.new.round
+          c.args.job.now.thread c.args.self.now.replays c.give_up.ensures.events;
+    }

@@ -1,0 +1,8 @@
+-- What is left to prove of `discard`.
+use Rattle.std.proofs.Common.{sym, ◌∙◌}
+use Rattle.round_spec.proofs.Conditions.{happens-give_back_not}
+use Rattle.rerun_workers.proofs.locked.discard.Goals as goal
+
+pub returns-else-is_out-clause-event : goal.returns-else-is_out-clause-event
+returns-else-is_out-clause-event c =
+    sym (happens-give_back_not c.args.round.now c.args.t (sym c.is_out.ensures ∙ c.if-is_out.false))

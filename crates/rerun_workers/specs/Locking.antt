@@ -1,0 +1,86 @@
+-- What the calls of a worker do to the round under the lock.
+use Rattle.std.specs.Prelude.{◌≡◌, ◌+◌, ℕ, zero, suc, ⊤, length, Option, Some}
+use Rattle.std.specs.Arc.{arc_value}
+use Rattle.machine_spec.specs.Setup.{Setup}
+use Rattle.history_spec.specs.History.{History}
+use Rattle.release_core.specs.Jobs.{IsJobOf}
+use Rattle.thunk_run.specs.declared.job.Run.{Run}
+use Rattle.round_spec.specs.declared.events.Event.TheVariants.{Take, Reuse, Commit, GiveBack, Stop}
+use Rattle.round_spec.specs.declared.events.Pick.{Pick}
+use Rattle.round_spec.specs.declared.events.Pick.TheVariants as pick
+use Rattle.round_spec.specs.Rounds.{RoundState, happens}
+use Rattle.round_spec.specs.Choice.{pick_of}
+use Rattle.round_spec.specs.Unedited.{IsUnedited}
+use Rattle.worker_spec.specs.Replaying.{IsReplaying}
+use Rattle.propagate.specs.Committing.{CanCommit}
+use Rattle.rerun_workers.specs.declared.locked.Task.{Task}
+use Rattle.rerun_workers.specs.declared.locked.Task.TheVariants as task
+use Rattle.rerun_workers.specs.declared.locked.Landed.{Landed}
+use Rattle.rerun_workers.specs.declared.locked.Landed.TheVariants as landed
+
+-- A round after what was picked, where that is to reuse a record; any other pick is left.
+abbrev pub with_reuse : RoundState → Pick → RoundState
+with_reuse w (pick.Reuse t) = happens w (Reuse t)
+with_reuse w (pick.Run t) = w
+with_reuse w pick.Hold = w
+with_reuse w pick.Over = w
+
+-- A round after so many picks, of which those to reuse a record were followed.
+abbrev pub settled : ℕ → RoundState → RoundState
+settled zero w = w
+settled (suc n) w = with_reuse (settled n w) (pick_of (settled n w))
+
+-- What a worker is told to do on a round that was settled, and the round then: a step to begin is the one that is
+-- picked, and was taken; to hold and that it is over it is told where that is picked; and where memory ran out the
+-- round was stopped.
+abbrev pub TellsAfter : RoundState → Task → RoundState → Type 0
+TellsAfter w (task.Begin job) new =
+    (pick_of w ≡ pick.Run job.thread) × IsJobOf w.machine job.thread job × (new ≡ happens w (Take job.thread))
+TellsAfter w task.Hold new = (pick_of w ≡ pick.Hold) × (new ≡ w)
+TellsAfter w task.Over new = (pick_of w ≡ pick.Over) × (new ≡ w)
+TellsAfter w task.Memory new = new ≡ happens w Stop
+
+-- What a worker is told to do: records are reused as long as that is picked, and then comes what is picked.
+abbrev pub Tells : RoundState → Task → RoundState → Type 0
+Tells old told new = (n : ℕ) × TellsAfter (settled n old) told new
+
+-- It isn't to begin a step.
+abbrev pub BeginsNothing : Task → Type 0
+BeginsNothing (task.Begin job) = ⊥
+BeginsNothing task.Hold = ⊤
+BeginsNothing task.Over = ⊤
+BeginsNothing task.Memory = ⊤
+
+-- A round after a step that was taken was discarded, and the round stopped.
+abbrev pub given_up : RoundState → ℕ → RoundState
+given_up w t = happens (happens w (GiveBack t)) Stop
+
+-- What comes of a run that a worker hands in: it is an entry exactly where it can be committed; where it can't, it is
+-- handed back and its thread is no longer out; and where memory ran out, so it is, and the round was stopped.
+abbrev pub Lands : RoundState → Run → Landed → RoundState → Type 0
+Lands old run landed.Done new =
+    CanCommit old (arc_value run.frame) (arc_value run.rec) × (new ≡ happens old (Commit (arc_value run.rec).thread))
+Lands old run (landed.Stale back) new =
+    (CanCommit old (arc_value run.frame) (arc_value run.rec) → ⊥) × (back ≡ run)
+    × (new ≡ happens old (GiveBack (arc_value run.rec).thread))
+Lands old run (landed.Memory back) new = (back ≡ run) × (new ≡ given_up old (arc_value run.rec).thread)
+
+-- How many steps a worker has made by a run that it handed in.
+abbrev pub steps_by : Landed → ℕ
+steps_by landed.Done = 1
+steps_by (landed.Stale back) = 0
+steps_by (landed.Memory back) = 0
+
+-- A run that isn't an entry is handed back as it was.
+abbrev pub HandsBack : Run → Landed → Type 0
+HandsBack run landed.Done = ⊤
+HandsBack run (landed.Stale back) = back ≡ run
+HandsBack run (landed.Memory back) = back ≡ run
+
+-- A worker's steps rose by the entries that came to the round.
+abbrev pub Counts : ℕ → RoundState → ℕ → RoundState → Type 0
+Counts before old now new = now + length old.schedule ≡ before + length new.schedule
+
+-- Without an edit a round replays its history.
+abbrev pub ReplaysUnedited : Setup → Option History → RoundState → Type 0
+ReplaysUnedited setup past w = (h : History) → past ≡ Some h → IsUnedited h setup → IsReplaying h w

@@ -1,0 +1,164 @@
+//! The board: the round under a lock, and the condition on which workers wait.
+
+ghost use Rattle.std.specs.Prelude.{◌≡◌, ◌≢◌, ◌+◌, ◌<◌, ◌≤◌, length, sum, vec_len, vec_capacity, Some, [], IfOk};
+ghost use Rattle.history_spec.specs.History.{History};
+ghost use Rattle.round_spec.specs.Rounds.{opening};
+ghost use Rattle.round_spec.specs.Unedited.{IsUnedited};
+ghost use Rattle.worker_spec.specs.Replaying.{IsReplaying};
+ghost use Rattle.rerun_workers.specs.declared.locked.Task.TheVariants as task;
+ghost use Rattle.rerun_workers.specs.Locking.{BeginsNothing, HandsBack, steps_by};
+
+use super::locked::{Landed, Locked, Task};
+use super::naming::{Naming, Pass};
+use propagate::Round;
+use std::alloc::{AllocError, Global};
+use std::sync::ledger::{Blank, Share};
+use std::sync::{Condvar, Mutex, Wait};
+use thunk_run::{Job, Run};
+
+/// What workers share: the round under a lock, and the condition that there is work or none any more. A worker executes
+/// outside the lock.
+#[derive(Drop)]
+pub struct Board<J: Naming> {
+    lock: Mutex<Locked<J>>,
+    changed: Condvar,
+    shares: Vec<u64>,
+    ghost none: { shares.items ≡ [] },
+    ghost room: { J.workers ≤ vec_capacity shares },
+}
+
+/// A pass for each of so many workers, which has made no step.
+fn passes_of<J: Naming>(
+    alloc: Global,
+    mut all: Share<J>,
+    workers: u32,
+) -> Result<Vec<Pass<J>>, AllocError>
+    requires parts { all.parts ≡ workers }
+    requires amount { all.amount ≡ 0 }
+    ensures { IfOk result (λ passes. vec_len passes ≡ workers) }
+{
+    let mut passes = Vec::new(alloc);
+    for made in 0..workers {
+        let share = all.split_off(1, 0);
+        passes.push(Pass::new(share))?;
+    }
+    Ok(passes)
+}
+
+/// All shares as one, and the steps of each pass in their order.
+fn gather<J: Naming>(mut passes: Vec<Pass<J>>, mut shares: Vec<u64>) -> (Share<J>, Vec<u64>)
+    requires some { 0 < vec_len passes }
+    requires none { shares.items ≡ [] }
+    requires room { vec_len passes ≤ vec_capacity shares }
+    ensures parts { result.0.parts ≡ vec_len passes }
+    ensures amount { result.0.amount ≡ sum result.1.items }
+    ensures each { vec_len result.1 ≡ vec_len passes }
+{
+    let mut all = passes[0].empty();
+    while !passes.is_empty() {
+        let Pass { share, steps } = passes.remove(0);
+        all.merge(share);
+        shares.push_reserved(steps);
+    }
+    (all, shares)
+}
+
+impl<J: Naming> Board<J> {
+    /// The board of a round before its first step, and a pass for each of its workers.
+    ///
+    /// # Errors
+    ///
+    /// An error where the host's memory ran out.
+    pub fn new(
+        alloc: Global,
+        round: Round,
+        workers: u32,
+        blank: Blank,
+    ) -> Result<(Board<J>, Vec<Pass<J>>), AllocError>
+        requires name { blank.name ≡ J.name }
+        requires parts { (blank.parts ≡ J.parts) × (J.parts ≡ workers) }
+        requires workers { workers ≡ J.workers }
+        requires opening { round ≡ opening J.setup J.past }
+        ensures { IfOk result (λ made. vec_len made.1 ≡ workers) }
+    {
+        let shares = Vec::with_capacity(alloc, workers as usize)?;
+        let (book, all) = blank.open::<J>();
+        let passes = passes_of(alloc, all, workers)?;
+        let board = Board {
+            lock: Mutex::new(Locked::new(round, book)),
+            changed: Condvar::new(),
+            shares,
+        };
+        Ok((board, passes))
+    }
+
+    /// What a worker is to do next, as the round under the lock tells it. Where it is told to hold, it
+    /// waits until it is woken, and asks again. Without an edit it is never a step to execute.
+    ///
+    /// Who is told to begin a step wakes another worker if there is more to do, who does the same; and who is
+    /// told that there is nothing any more wakes all.
+    pub fn next<R: Wait>(&self, rt: &R, pass: &mut Pass<J>) -> Task
+        ensures told { result ≢ task.Hold }
+        ensures unedited { (h : History) → J.past ≡ Some h → IsUnedited h J.setup → BeginsNothing result }
+    {
+        let mut locked = self.lock.lock(rt);
+        for _ in rt.forever() {
+            match locked.next(pass) {
+                Task::Hold => locked = self.changed.wait(rt, locked),
+                Task::Begin(job) => {
+                    let is_more = locked.has_more();
+                    drop(locked);
+                    if is_more {
+                        self.changed.notify_one();
+                    }
+                    return Task::Begin(job);
+                }
+                task => {
+                    drop(locked);
+                    self.changed.notify_all();
+                    return task;
+                }
+            }
+        }
+        unreachable!()
+    }
+
+    /// Commits a run to the round under the lock, or says why it can't. Who commits asks for the next step then,
+    /// and so wakes whoever there is work for; where memory ran out nobody has to ask, and all are woken.
+    pub fn commit<R: Wait>(&self, rt: &R, pass: &mut Pass<J>, run: Run) -> Landed
+        ensures back { HandsBack run result }
+        ensures counts { pass.new.steps ≡ pass.old.steps + steps_by result }
+    {
+        let landed = self.lock.lock(rt).commit(pass, run);
+        if matches!(landed, Landed::Memory(_)) {
+            self.changed.notify_all();
+        }
+        landed
+    }
+
+    /// Discards the step of a job that couldn't be executed, and stops the round under the lock.
+    pub fn fail<R: Wait>(&self, rt: &R, pass: &mut Pass<J>, job: Job)
+        ensures { pass.new.steps ≡ pass.old.steps }
+    {
+        self.lock.lock(rt).fail(pass, &job);
+        self.changed.notify_all();
+    }
+
+    /// The round, when all of its passes are back, and how many steps each of them made, in their order.
+    /// Takes no memory.
+    pub fn close(self, passes: Vec<Pass<J>>) -> (Round, Vec<u64>)
+        requires all { vec_len passes ≡ J.parts }
+        requires workers { (vec_len passes ≡ J.workers) × (0 < vec_len passes) }
+        ensures setup { result.0.setup ≡ J.setup }
+        ensures past { result.0.past ≡ J.past }
+        ensures each { vec_len result.1 ≡ vec_len passes }
+        ensures steps { sum result.1.items ≡ length result.0.schedule }
+        ensures unedited { (h : History) → J.past ≡ Some h → IsUnedited h J.setup → IsReplaying h result.0 }
+    {
+        let Board { lock, shares, .. } = self;
+        let Locked { round, mut book } = lock.into_inner();
+        let (mut all, shares) = gather(passes, shares);
+        book.audit(&mut all);
+        (round, shares)
+    }
+}

@@ -1,0 +1,201 @@
+//! The round under the lock: each call does some of its events, and names them.
+
+ghost use Rattle.std.specs.Prelude.{◌≡◌, ◌+◌, ◌≤◌, true, length, Some, is_ok, if◌then◌else◌, OnOk, OnErr};
+ghost use Rattle.history_spec.specs.History.{History};
+ghost use Rattle.round_spec.specs.declared.events.Event.TheVariants as event;
+ghost use Rattle.round_spec.specs.declared.events.Pick.TheVariants as pick;
+ghost use Rattle.round_spec.specs.Rounds.{opening, can_take, can_reuse, happens};
+ghost use Rattle.round_spec.specs.Choice.{pick_of};
+ghost use Rattle.round_spec.specs.Unedited.{IsUnedited};
+ghost use Rattle.worker_spec.specs.Replaying.{IsReplaying};
+ghost use Rattle.propagate.specs.Committing.{GoesOn};
+ghost use Rattle.rerun_workers.specs.Locking.{Tells, TellsAfter, BeginsNothing, given_up, Lands, HandsBack, steps_by, Counts};
+
+use super::naming::{Naming, Pass};
+use propagate::{Committed, Round};
+use round_spec::Pick;
+use std::alloc::AllocError;
+use std::sync::ledger::Book;
+use thunk_run::{Job, Run};
+
+/// What a worker is to do next.
+#[derive(Drop)]
+pub enum Task {
+    /// To execute this step, which was taken for it.
+    Begin(Job),
+    /// To wait until another worker is done.
+    Hold,
+    /// Nothing any more: the round is over.
+    Over,
+    /// Nothing any more: the host's memory ran out, and the round was stopped.
+    Memory,
+}
+
+/// What came of a run that a worker handed in.
+#[derive(Drop)]
+pub enum Landed {
+    /// It is an entry of the schedule, and its thread is no longer out.
+    Done,
+    /// It can't be committed, and is handed back: the round is over, the step ran on another page map
+    /// or with another fuel than the round's, its thread isn't out, or its record doesn't fit. Its
+    /// thread is no longer out; if it was, one step more was discarded.
+    Stale(Run),
+    /// The host's memory ran out, and the run is handed back. Its thread is no longer out; if it was,
+    /// one step more was discarded. The round was stopped.
+    Memory(Run),
+}
+
+/// The round that workers make together, as it lies under their lock, with the book of the ledger, whose total is the
+/// length of the schedule. It is of the setup and of the history that its type names; and without an edit it has
+/// done nothing yet but what the history did.
+#[derive(Drop)]
+pub struct Locked<J: Naming> {
+    pub(super) round: Round,
+    pub(super) book: Book<J>,
+    ghost counted: { length round.schedule ≡ book.total },
+    ghost setup: { round.setup ≡ J.setup },
+    ghost past: { round.past ≡ J.past },
+    ghost replays: { (h : History) → J.past ≡ Some h → IsUnedited h J.setup → IsReplaying h round },
+}
+
+/// Discards the step of thread `t`, if one is out.
+fn discard(round: &mut Round, t: u8)
+    ensures event { round.new ≡ happens round.old (event.GiveBack t) }
+    ensures same { GoesOn 0 round.old round.new }
+{
+    if round.is_out(t) {
+        round.give_back(t);
+    }
+}
+
+/// Discards the step of thread `t`, if one is out, and stops the round.
+fn give_up(round: &mut Round, t: u8)
+    ensures events { round.new ≡ given_up round.old t }
+    ensures same { GoesOn 0 round.old round.new }
+{
+    discard(round, t);
+    round.stop();
+}
+
+impl<J: Naming> Locked<J> {
+    /// A round before its first step, with a book that counts nothing.
+    #[tactic(auto, using(crate::proofs::Replays::replays_opening))]
+    pub(super) fn new(round: Round, book: Book<J>) -> Locked<J>
+        requires opening { round ≡ opening J.setup J.past }
+        requires empty { book.total ≡ 0 }
+    {
+        Locked { round, book }
+    }
+
+    /// Reuses the record that is picked, and counts it as a step of this worker.
+    fn reuse(&mut self, pass: &mut Pass<J>, t: u8) -> Result<(), AllocError>
+        requires picked { pick_of self.old.round ≡ pick.Reuse t }
+        requires can { can_reuse self.old.round t ≡ true }
+        ensures ok { OnOk result (self.new.round ≡ happens self.old.round (event.Reuse t)) }
+        ensures err { OnErr result (self.new.round ≡ self.old.round) }
+        ensures counts { Counts pass.old.steps self.old.round pass.new.steps self.new.round }
+        ensures same { GoesOn (if is_ok result then 1 else 0) self.old.round self.new.round }
+        ensures few { OnOk result (length self.new.round.schedule ≤ 65536) }
+    {
+        let Locked { round, book } = self;
+        let Pass { share, steps } = pass;
+        book.audit(share);
+        round.reuse(t)?;
+        round.keeps();
+        book.add(share, 1);
+        *steps += 1;
+        Ok(())
+    }
+
+    /// Stops the round.
+    fn stop(&mut self)
+        ensures round { self.new.round ≡ happens self.old.round event.Stop }
+        ensures same { GoesOn 0 self.old.round self.new.round }
+    {
+        let Locked { round, .. } = self;
+        round.stop();
+    }
+
+    /// Takes the step that is picked to be executed.
+    fn begin(&mut self, t: u8) -> Task
+        requires picked { pick_of self.old.round ≡ pick.Run t }
+        requires can { can_take self.old.round t ≡ true }
+        ensures does { TellsAfter self.old.round result self.new.round }
+        ensures same { GoesOn 0 self.old.round self.new.round }
+        ensures unedited { (h : History) → J.past ≡ Some h → IsUnedited h J.setup → BeginsNothing result }
+    {
+        let Locked { round, .. } = self;
+        match round.take(t) {
+            Ok(job) => Task::Begin(job),
+            Err(_) => {
+                round.stop();
+                Task::Memory
+            }
+        }
+    }
+
+    /// Reuses records as long as that is picked, each as a step of this worker, and then takes the step
+    /// that is picked to be executed, or tells what is picked in its place. Where memory runs out, what
+    /// was reused stands, and the round is stopped. Without an edit it is never a step to execute.
+    pub fn next(&mut self, pass: &mut Pass<J>) -> Task
+        ensures does { Tells self.old.round result self.new.round }
+        ensures counts { Counts pass.old.steps self.old.round pass.new.steps self.new.round }
+        ensures unedited { (h : History) → J.past ≡ Some h → IsUnedited h J.setup → BeginsNothing result }
+    {
+        loop {
+            match self.round.pick() {
+                Pick::Reuse(t) => {
+                    let Ok(()) = self.reuse(pass, t) else {
+                        self.stop();
+                        return Task::Memory;
+                    };
+                }
+                Pick::Run(t) => return self.begin(t),
+                Pick::Hold => return Task::Hold,
+                Pick::Over => return Task::Over,
+            }
+        }
+    }
+
+    /// Whether another worker has something to do: to reuse records or to execute a step.
+    pub fn has_more(&self) -> bool {
+        match self.round.pick() {
+            Pick::Reuse(_) | Pick::Run(_) => true,
+            Pick::Hold | Pick::Over => false,
+        }
+    }
+
+    /// Commits a run, and counts it as a step of this worker; or says why it can't.
+    pub fn commit(&mut self, pass: &mut Pass<J>, run: Run) -> Landed
+        ensures does { Lands self.old.round run result self.new.round }
+        ensures back { HandsBack run result }
+        ensures made { pass.new.steps ≡ pass.old.steps + steps_by result }
+        ensures counts { Counts pass.old.steps self.old.round pass.new.steps self.new.round }
+    {
+        let Locked { round, book } = self;
+        let Pass { share, steps } = pass;
+        book.audit(share);
+        match round.commit(run) {
+            Committed::Done => {
+                round.keeps();
+                book.add(share, 1);
+                *steps += 1;
+                Landed::Done
+            }
+            Committed::Stale(run) => Landed::Stale(run),
+            Committed::Memory(run) => {
+                give_up(round, run.rec.thread());
+                Landed::Memory(run)
+            }
+        }
+    }
+
+    /// Discards the step of a job that couldn't be executed, if its thread is out, and stops the round.
+    pub fn fail(&mut self, _pass: &mut Pass<J>, job: &Job)
+        ensures does { self.new.round ≡ given_up self.old.round job.now.thread }
+        ensures counts { _pass.new.steps ≡ _pass.old.steps }
+    {
+        let Locked { round, .. } = self;
+        give_up(round, job.thread);
+    }
+}

@@ -1,0 +1,62 @@
+//! Which round workers make together, as the types that they share name it.
+
+ghost use Rattle.std.specs.Prelude.{◌≡◌, ℕ, [], Option, None};
+ghost use Rattle.machine_spec.specs.Setup.{Setup};
+ghost use Rattle.history_spec.specs.History.{History};
+
+use std::marker::Brand;
+use std::sync::ledger::{Ledger, Share};
+
+/// What the round of a board started from, what it goes by, and how many workers make it. The types of the board and
+/// of its passes name it, so nobody can put a round of another setup or of another history in its place.
+pub trait Naming: Ledger {
+    ghost setup: { Setup };
+
+    ghost past: { Option History };
+
+    ghost workers: { ℕ };
+}
+
+impl Naming for Brand {
+    ghost setup = { record { elf = []; input = []; fuel = 0; limit = 0 } };
+
+    ghost past = { None };
+
+    ghost workers = { 0 };
+}
+
+/// What a worker holds of a board: how many steps of the round it has made, and a share of the ledger, which is one
+/// part with as many.
+#[derive(Drop)]
+pub struct Pass<J: Naming> {
+    pub(super) share: Share<J>,
+    pub(super) steps: u64,
+    ghost one: { share.parts ≡ 1 },
+    ghost counted: { steps ≡ share.amount },
+}
+
+impl<J: Naming> Pass<J> {
+    /// A pass of a share that counts nothing.
+    pub(super) fn new(share: Share<J>) -> Pass<J>
+        requires one { share.parts ≡ 1 }
+        requires nothing { share.amount ≡ 0 }
+        ensures { result.steps ≡ 0 }
+    {
+        Pass { share, steps: 0 }
+    }
+
+    /// How many steps of the round its worker has made.
+    pub fn steps(&self) -> u64
+        ensures { result ≡ self.now.steps }
+    {
+        self.steps
+    }
+
+    /// A share of the same ledger with no part.
+    pub(super) fn empty(&mut self) -> Share<J>
+        ensures parts { result.parts ≡ 0 }
+        ensures amount { result.amount ≡ 0 }
+    {
+        self.share.empty()
+    }
+}

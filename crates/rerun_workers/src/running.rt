@@ -1,0 +1,168 @@
+//! A round by so many workers.
+
+ghost use Rattle.std.specs.Prelude.{◌≡◌, ◌<◌, ◌≤◌, length, sum, true, is_some, option_map, Some, IfOk};
+ghost use Rattle.std.specs.Arc.{arc_value};
+ghost use Rattle.history_spec.specs.History.{History as Kept};
+ghost use Rattle.round_spec.specs.Rounds.{opening};
+ghost use Rattle.round_spec.specs.Alone.{lone_round};
+ghost use Rattle.round_spec.specs.Schedules.{IsBySchedule};
+ghost use Rattle.round_spec.specs.Unedited.{IsUnedited, OnlyReuses};
+ghost use Rattle.worker_spec.specs.Replaying.{IsReplaying};
+ghost use Rattle.worker_spec.specs.Workers.{IsMadeBy};
+
+use super::board::Board;
+use super::naming::Naming;
+use super::working::{make_next, work};
+use ith_host::Gate;
+use propagate::{Round, run_alone};
+use release_core::{History, Setup};
+use std::alloc::{AllocError, Global};
+use std::marker::Brand;
+use std::sync::ledger::{Blank, Ledger};
+use std::sync::{Arc, Wait};
+use std::thread;
+use std::thread::Threads;
+use turn_count::Turns;
+
+/// The round of one worker, with a counter that nobody else has.
+fn counted<R: Threads, L: Ledger>(
+    rt: &R,
+    alloc: Global,
+    setup: Setup,
+    past: Option<Arc<History>>,
+    blank: Blank,
+) -> Result<Round, AllocError>
+    requires name { blank.name ≡ L.name }
+    requires parts { blank.parts ≡ L.parts }
+    requires some { 0 < L.parts }
+    ensures alone { IfOk result (λ round. round ≡ lone_round setup (option_map arc_value past)) }
+    ensures ends { IfOk result (λ round. is_some round.machine.ending ≡ true) }
+    ensures unedited { IfOk result (λ round.
+        (h : Kept) → option_map arc_value past ≡ Some h → IsUnedited h setup → OnlyReuses h round) }
+{
+    let mut turns = Turns::<L>::new(rt, blank);
+    run_alone(alloc, setup, past, &mut turns)
+}
+
+/// The shares where the first worker made all steps.
+fn first_makes(alloc: Global, steps: u64, workers: u32) -> Result<Vec<u64>, AllocError>
+    requires { 1 ≤ workers }
+    ensures each { IfOk result (λ shares. length shares.items ≡ workers) }
+    ensures steps { IfOk result (λ shares. sum shares.items ≡ steps) }
+{
+    let mut shares = Vec::new(alloc);
+    shares.push(steps)?;
+    for made in 1..workers {
+        shares.push(0)?;
+    }
+    Ok(shares)
+}
+
+/// A round of which the first of so many workers makes all steps.
+fn run_by_first<R: Threads>(
+    rt: &R,
+    alloc: Global,
+    setup: Setup,
+    past: Option<Arc<History>>,
+    workers: u32,
+) -> Result<(Round, Vec<u64>), AllocError>
+    requires { 1 ≤ workers }
+    ensures setup { IfOk result (λ r. r.0.setup ≡ setup) }
+    ensures past { IfOk result (λ r. r.0.past ≡ option_map arc_value past) }
+    ensures stands { IfOk result (λ r. IsBySchedule r.0) }
+    ensures made { IfOk result (λ r.
+        IsMadeBy workers setup (option_map arc_value past) r.0.schedule r.1.items) }
+    ensures alone { IfOk result (λ r. r.0 ≡ lone_round setup (option_map arc_value past)) }
+    ensures ends { IfOk result (λ r. is_some r.0.machine.ending ≡ true) }
+    ensures unedited { IfOk result (λ r.
+        (h : Kept) → option_map arc_value past ≡ Some h → IsUnedited h setup → OnlyReuses h r.0) }
+{
+    setup.sound();
+    let round = counted::<R, Brand>(rt, alloc, setup, past, Blank::new(1))?;
+    round.keeps();
+    let shares = first_makes(alloc, round.schedule().len() as u64, workers)?;
+    Ok((round, shares))
+}
+
+/// A round that so many workers made together until it was over, or until the host's memory ran out.
+fn run_together<J: Naming + Send + Sync, R: Threads + Wait + Sync, G: Gate + Sync>(
+    rt: &R,
+    alloc: Global,
+    round: Round,
+    workers: u32,
+    gate: &G,
+    blank: Blank,
+) -> Result<(Round, Vec<u64>), AllocError>
+    requires name { blank.name ≡ J.name }
+    requires parts { (blank.parts ≡ J.parts) × (J.parts ≡ workers) }
+    requires workers { (workers ≡ J.workers) × (1 ≤ workers) }
+    requires opening { round ≡ opening J.setup J.past }
+    ensures setup { IfOk result (λ r. r.0.setup ≡ round.setup) }
+    ensures past { IfOk result (λ r. r.0.past ≡ round.past) }
+    ensures each { IfOk result (λ r. length r.1.items ≡ workers) }
+    ensures steps { IfOk result (λ r. sum r.1.items ≡ length r.0.schedule) }
+    ensures unedited { IfOk result (λ r.
+        (h : Kept) → round.past ≡ Some h → IsUnedited h round.setup → IsReplaying h r.0) }
+{
+    let (board, mut passes) = Board::<J>::new(alloc, round, workers, blank)?;
+    let shared = &board;
+    // Until the first step is executed there is nothing to share: a round that only reuses starts no thread.
+    if make_next(rt, alloc, shared, &mut passes[0], gate) {
+        thread::for_each_mut(
+            rt,
+            passes.as_mut_slice(),
+            workers as usize,
+            &|_, pass| { work(rt, alloc, shared, pass, gate) },
+        );
+    }
+    Ok(board.close(passes))
+}
+
+/// A round that so many workers make, and how many of its steps each of them made, in their order. It has an end. One
+/// worker makes it without a lock and without the gate, and discards nothing. Without an edit it is all reuse of the
+/// history, and nothing is discarded, however many the workers are.
+///
+/// # Errors
+///
+/// An error where the host's memory ran out.
+pub fn run_round<R: Threads + Wait + Sync, G: Gate + Sync>(
+    rt: &R,
+    alloc: Global,
+    setup: Setup,
+    past: Option<Arc<History>>,
+    workers: u32,
+    gate: &G,
+) -> Result<(Round, Vec<u64>), AllocError>
+    requires { 1 ≤ workers }
+    ensures setup { IfOk result (λ r. r.0.setup ≡ setup) }
+    ensures past { IfOk result (λ r. r.0.past ≡ option_map arc_value past) }
+    ensures stands { IfOk result (λ r. IsBySchedule r.0) }
+    ensures made { IfOk result (λ r.
+        IsMadeBy workers setup (option_map arc_value past) r.0.schedule r.1.items) }
+    ensures alone { IfOk result (λ r. workers ≡ 1 → r.0 ≡ lone_round setup (option_map arc_value past)) }
+    ensures ends { IfOk result (λ r. is_some r.0.machine.ending ≡ true) }
+    ensures unedited { IfOk result (λ r.
+        (h : Kept) → option_map arc_value past ≡ Some h → IsUnedited h setup → OnlyReuses h r.0) }
+{
+    if workers == 1 {
+        return run_by_first(rt, alloc, setup, past, workers);
+    }
+    let opened = Round::new(alloc, setup, past)?;
+    let (round, shares) = run_together::<Brand, R, G>(
+        rt,
+        alloc,
+        opened,
+        workers,
+        gate,
+        Blank::new(u64::from(workers)),
+    )?;
+    round.keeps();
+    if round.end().is_some() {
+        return Ok((round, shares));
+    }
+    if round.stopped() {
+        return Err(AllocError);
+    }
+    let (setup, past) = round.into_setup();
+    run_by_first(rt, alloc, setup, past, workers)
+}

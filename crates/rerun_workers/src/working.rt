@@ -1,0 +1,90 @@
+//! A worker: it is told what to do, executes, and hands in what came of it.
+
+ghost use Rattle.std.specs.Prelude.{◌≡◌, ◌<◌};
+
+use super::board::Board;
+use super::locked::{Landed, Task};
+use super::naming::{Naming, Pass};
+use ith_host::Gate;
+use std::alloc::{AllocError, Global};
+use std::marker::Brand;
+use std::sync::Wait;
+use std::sync::ledger::{Blank, Ledger};
+use std::thread::Threads;
+use thunk_run::{Job, Run, execute};
+use turn_count::Turns;
+
+/// Runs the thunk of a job with a counter that nobody else has.
+fn counted<R: Threads, L: Ledger>(
+    rt: &R,
+    alloc: Global,
+    job: &Job,
+    blank: Blank,
+) -> Result<Run, AllocError>
+    requires name { blank.name ≡ L.name }
+    requires parts { blank.parts ≡ L.parts }
+    requires some { 0 < L.parts }
+{
+    let mut turns = Turns::<L>::new(rt, blank);
+    execute(alloc, job, &mut turns)
+}
+
+/// Runs the thunk of a job.
+pub(super) fn run_job<R: Threads>(rt: &R, alloc: Global, job: &Job) -> Result<Run, AllocError> {
+    counted::<R, Brand>(rt, alloc, job, Blank::new(1))
+}
+
+/// Executes a job past the gate, and hands in what came of it. The answer is whether the worker goes on.
+fn make_step<J: Naming, R: Threads + Wait, G: Gate>(
+    rt: &R,
+    alloc: Global,
+    board: &Board<J>,
+    pass: &mut Pass<J>,
+    gate: &G,
+    job: Job,
+) -> bool {
+    gate.enter(job.thread, job.number);
+    match run_job(rt, alloc, &job) {
+        Ok(run) => {
+            match board.commit(rt, pass, run) {
+                Landed::Done | Landed::Stale(_) => true,
+                Landed::Memory(_) => false,
+            }
+        }
+        Err(_) => {
+            board.fail(rt, pass, job);
+            false
+        }
+    }
+}
+
+/// Makes the next step of the round on the board that is to be executed, past all that is reused before it: takes what
+/// it is told to, passes the gate, executes it with no lock held, and hands it in. The answer is whether the worker goes
+/// on: it doesn't where the round is over or the host's memory ran out.
+pub(super) fn make_next<J: Naming, R: Threads + Wait, G: Gate>(
+    rt: &R,
+    alloc: Global,
+    board: &Board<J>,
+    pass: &mut Pass<J>,
+    gate: &G,
+) -> bool {
+    match board.next(rt, pass) {
+        Task::Begin(job) => make_step(rt, alloc, board, pass, gate, job),
+        Task::Hold | Task::Over | Task::Memory => false,
+    }
+}
+
+/// Makes steps of the round on the board until it is over or the host's memory runs out.
+pub fn work<J: Naming, R: Threads + Wait, G: Gate>(
+    rt: &R,
+    alloc: Global,
+    board: &Board<J>,
+    pass: &mut Pass<J>,
+    gate: &G,
+) {
+    for _ in rt.forever() {
+        if !make_next(rt, alloc, board, pass, gate) {
+            return;
+        }
+    }
+}
