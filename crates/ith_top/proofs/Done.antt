@@ -1,33 +1,36 @@
 -- How a line ends, from how its rounds did.
-use Rattle.std.proofs.Common.{◌≡◌, Bool, ℕ, true, false, List, ◌++◌, Option, Some, None, length, take, arith, sym, ap, ◌∙◌, inl, inr, subst}
+use Rattle.std.proofs.Common.{◌≡◌, Bool, ℕ, true, false, List, ◌++◌, Option, Some, None, length, take, refl, sym, ap, ◌∙◌, inl, inr, subst}
 use Rattle.std.specs.List.{concat}
 use Rattle.std.specs.Io.KnownBytes.{Appends}
-use Rattle.std.proofs.lemmas.List.{take_all}
 use Rattle.memo_spec.specs.Spelling.{memo}
-use Rattle.rerun_spec.specs.Reports.{all_made_exit}
+use Rattle.history_spec.specs.History.{History}
+use Rattle.rerun_spec.specs.Rounds.{Found}
 use Rattle.ith_host.specs.World.{World, NoneFell, Stays, AsksNothing}
 use Rattle.ith_words.specs.Words.{Text, Line}
 use Rattle.ith_top.specs.declared.status.Status.{Status}
 use Rattle.ith_top.specs.declared.status.Status.TheVariants as status
-use Rattle.ith_top.specs.Rounds.{rounds_of}
 use Rattle.ith_top.specs.Files.{files_named, AsksForFiles}
-use Rattle.ith_top.specs.Contents.{Plan, IsPlan}
+use Rattle.ith_top.specs.Contents.{Plan, IsPlan, workers_of}
 use Rattle.ith_top.specs.Ends.{HasRounds, texts_of, left_of, kept_by, Prints, PrintsAndKeeps, IsKeptWithin, IsDone, RoundsEnd}
 use Rattle.ith_top.specs.Refusals.{Keeps, WhyCutShort, WhyUnkept, WhyUndone}
-use Rattle.ith_top.specs.Playing.{CanBePlayed, CanBeSpelled}
+use Rattle.ith_top.specs.Playing.{CanBePlayed, CanBeSpelled, AreFound, IsPlayed, IsCarriedOut}
 use Rattle.ith_top.proofs.Worlds.{rose_before}
 use Rattle.ith_top.proofs.Going.{prints_after, prints_then}
 use Rattle.ith_top.proofs.Promises.{promised_of, each_kept}
 
--- the rounds of a line's plan
-pub rounds_in : (line : Line) (a : World) (p : Plan) → IsPlan line a p → CanBePlayed p → CanBeSpelled p
-    → HasRounds line a
-rounds_in line a p is playable spelled =
+-- the rounds of a line's plan, as far as they were found
+pub rounds_in :
+    (line : Line) (a : World) (p : Plan) (found : List Found)
+    → IsPlan line a p → CanBePlayed p → CanBeSpelled p → AreFound (workers_of line) p found → HasRounds line a
+rounds_in line a p found is playable spelled are =
     record {
       plan = p;
       is_plan = is;
-      promised = promised_of line a p is playable spelled;
-      kept = each_kept p playable spelled;
+      found = found;
+      few = are.few;
+      made = are.made;
+      promised = promised_of line a p found is playable spelled are;
+      kept = each_kept (workers_of line) p found playable spelled are;
     }
 
 -- a file was kept after all was printed
@@ -65,64 +68,118 @@ kept_after name content a b c bytes stays keeps =
       others = λ other away. keeps.others other away ∙ ap (λ (files : Text → Option (List ℕ)). files other) stays.files;
     }
 
+-- all rounds were made, and the memo of what the last one leaves was written, where it has a name
+pub carried_out :
+    (name : Option Text) (workers : ℕ) (p : Plan) (a b : World) (exits : Bool) (left : History)
+    (played : IsPlayed workers p a b exits left) (c : World)
+    → PrintsAndKeeps name (memo left) a c (concat (texts_of p played.found))
+    → IsKeptWithin name (memo left)
+    → IsCarriedOut name workers p a c exits
+carried_out name workers p a b exits left played c keeps within =
+    record {
+      found = played.found;
+      made = played.made;
+      all = played.all;
+      keeps = subst (λ (h : History). PrintsAndKeeps name (memo h) a c (concat (texts_of p played.found)))
+          played.is_left keeps;
+      within = subst (λ (h : History). IsKeptWithin name (memo h)) played.is_left within;
+      are_exits = played.are_exits;
+    }
+
+-- and it was
+pub carried_and_kept :
+    (name : Text) (workers : ℕ) (p : Plan) (a b c : World) (exits : Bool) (left : History)
+    → IsPlayed workers p a b exits left → Keeps name (memo left) b c → IsKeptWithin (Some name) (memo left)
+    → IsCarriedOut (Some name) workers p a c exits
+carried_and_kept name workers p a b c exits left played keeps within =
+    carried_out (Some name) workers p a b exits left played c
+    (printed_and_kept name (memo left) a b c (concat (texts_of p played.found)) played.prints keeps) within
+
+-- and none was asked for
+pub carried_alone :
+    (workers : ℕ) (p : Plan) (a b : World) (exits : Bool) (left : History)
+    → IsPlayed workers p a b exits left → IsCarriedOut None workers p a b exits
+carried_alone workers p a b exits left played =
+    carried_out None workers p a b exits left played b
+    (printed_alone (memo left) a b (concat (texts_of p played.found)) played.prints) tt
+
+-- and it wasn't
+pub carried_unkept :
+    (name : Text) (workers : ℕ) (p : Plan) (a b c : World) (exits : Bool) (left : History) (why : Status)
+    → IsPlayed workers p a b exits left → NoneFell a b → WhyUnkept name (memo left) b c why
+    → WhyUndone (Some name) workers p a c why
+carried_unkept name workers p a b c exits left why played counts cause =
+    inr
+    (record {
+      found = played.found;
+      made = played.made;
+      all = played.all;
+      between = b;
+      counts = counts;
+      prints = played.prints;
+      kept = name;
+      is_named = refl;
+      why = subst (λ (h : History). WhyUnkept name (memo h) b c why) played.is_left cause;
+    })
+
 done_by :
     (line : Line) (a b c : World) (p : Plan) (exits : Bool)
     → IsPlan line a p → CanBePlayed p → CanBeSpelled p → AsksForFiles (files_named line) a b → AsksNothing b c
     → Stays a b
-    → PrintsAndKeeps (kept_by line) (memo (left_of p)) b c (concat (texts_of line p))
-    → IsKeptWithin (kept_by line) (memo (left_of p))
-    → all_made_exit (rounds_of p) ≡ exits → IsDone line exits a c
+    → IsCarriedOut (kept_by line) (workers_of line) p b c exits → IsDone line exits a c
 unfolding rounds_in
-done_by line a b c p exits is playable spelled asked none stays keeps within ends =
+done_by line a b c p exits is playable spelled asked none stays done =
     record {
       asked = none ∙ asked;
-      has = rounds_in line a p is playable spelled;
-      keeps = kept_after (kept_by line) (memo (left_of p)) a b c (concat (texts_of line p)) stays keeps;
-      within = within;
-      ends = ends;
+      has = rounds_in line a p done.found is playable spelled done.made;
+      all = done.all;
+      keeps = kept_after (kept_by line) (memo (left_of p done.found)) a b c (concat (texts_of p done.found)) stays
+          done.keeps;
+      within = done.within;
+      ends = done.are_exits;
     }
 
 -- all was done, and each round ended by exit
 pub finished :
-    (line : Line) (a b c : World) (p : Plan)
+    (line : Line) (a b c : World) (p : Plan) (exits : Bool)
     → IsPlan line a p → CanBePlayed p → CanBeSpelled p → AsksForFiles (files_named line) a b → AsksNothing b c
     → Stays a b
-    → PrintsAndKeeps (kept_by line) (memo (left_of p)) b c (concat (texts_of line p))
-    → IsKeptWithin (kept_by line) (memo (left_of p))
-    → all_made_exit (rounds_of p) ≡ true → RoundsEnd line a c status.Finished
-finished line a b c p is playable spelled asked none stays keeps within ends =
-    done_by line a b c p true is playable spelled asked none stays keeps within ends
+    → IsCarriedOut (kept_by line) (workers_of line) p b c exits
+    → exits ≡ true → RoundsEnd line a c status.Finished
+finished line a b c p exits is playable spelled asked none stays done ends =
+    done_by line a b c p true is playable spelled asked none stays
+    (subst (IsCarriedOut (kept_by line) (workers_of line) p b c) ends done)
 
 -- all was done, and some round ended otherwise
 pub unfinished :
-    (line : Line) (a b c : World) (p : Plan)
+    (line : Line) (a b c : World) (p : Plan) (exits : Bool)
     → IsPlan line a p → CanBePlayed p → CanBeSpelled p → AsksForFiles (files_named line) a b → AsksNothing b c
     → Stays a b
-    → PrintsAndKeeps (kept_by line) (memo (left_of p)) b c (concat (texts_of line p))
-    → IsKeptWithin (kept_by line) (memo (left_of p))
-    → all_made_exit (rounds_of p) ≡ false → RoundsEnd line a c status.Unfinished
-unfinished line a b c p is playable spelled asked none stays keeps within ends =
-    done_by line a b c p false is playable spelled asked none stays keeps within ends
+    → IsCarriedOut (kept_by line) (workers_of line) p b c exits
+    → exits ≡ false → RoundsEnd line a c status.Unfinished
+unfinished line a b c p exits is playable spelled asked none stays done ends =
+    done_by line a b c p false is playable spelled asked none stays
+    (subst (IsCarriedOut (kept_by line) (workers_of line) p b c) ends done)
 
--- not all texts were printed
+-- not all rounds were made and printed
 cut_short :
-    (line : Line) (a b c : World) (p : Plan) (why : Status)
+    (line : Line) (a b c : World) (p : Plan) (found : List Found) (why : Status)
     → IsPlan line a p → CanBePlayed p → CanBeSpelled p → AsksForFiles (files_named line) a b → AsksNothing b c
-    → Stays a b → NoneFell a b
-    → WhyCutShort (texts_of line p) b c why → RoundsEnd line a c why
+    → Stays a b → NoneFell a b → AreFound (workers_of line) p found
+    → WhyCutShort p found b c why → RoundsEnd line a c why
 unfolding rounds_in
-cut_short line a b c p status.Finished is playable spelled asked none stays fell cause = absurd cause
-cut_short line a b c p status.Unfinished is playable spelled asked none stays fell cause = absurd cause
-cut_short line a b c p status.Words is playable spelled asked none stays fell cause = absurd cause
-cut_short line a b c p status.Image is playable spelled asked none stays fell cause = absurd cause
-cut_short line a b c p status.Memo is playable spelled asked none stays fell cause = absurd cause
-cut_short line a b c p status.EditList is playable spelled asked none stays fell cause = absurd cause
-cut_short line a b c p status.ReadFault is playable spelled asked none stays fell cause = absurd cause
-cut_short line a b c p status.WriteFault is playable spelled asked none stays fell cause =
+cut_short line a b c p found status.Finished is playable spelled asked none stays fell are cause = absurd cause
+cut_short line a b c p found status.Unfinished is playable spelled asked none stays fell are cause = absurd cause
+cut_short line a b c p found status.Words is playable spelled asked none stays fell are cause = absurd cause
+cut_short line a b c p found status.Image is playable spelled asked none stays fell are cause = absurd cause
+cut_short line a b c p found status.Memo is playable spelled asked none stays fell are cause = absurd cause
+cut_short line a b c p found status.EditList is playable spelled asked none stays fell are cause = absurd cause
+cut_short line a b c p found status.ReadFault is playable spelled asked none stays fell are cause = absurd cause
+cut_short line a b c p found status.WriteFault is playable spelled asked none stays fell are cause =
     inl
     (record {
       asked = none ∙ asked;
-      has = rounds_in line a p is playable spelled;
+      has = rounds_in line a p found is playable spelled are;
       part = record {
         cause = rose_before _ _ _ fell.prints cause.cause;
         whole = cause.whole;
@@ -130,83 +187,72 @@ cut_short line a b c p status.WriteFault is playable spelled asked none stays fe
         is_next = cause.is_next;
         count = cause.count;
         prints = prints_after a b c
-            (concat (take cause.whole (texts_of line p)) ++ take cause.count cause.next) stays cause.prints;
+            (concat (take cause.whole (texts_of p found)) ++ take cause.count cause.next) stays cause.prints;
       };
     })
-cut_short line a b c p status.Memory is playable spelled asked none stays fell cause =
+cut_short line a b c p found status.Memory is playable spelled asked none stays fell are cause =
     inr
     (record {
       asked = none ∙ asked;
-      has = rounds_in line a p is playable spelled;
-      rounds = cause.0;
-      prints = prints_after a b c (concat (take cause.0 (texts_of line p))) stays cause.1;
+      has = rounds_in line a p found is playable spelled are;
+      prints = prints_after a b c (concat (texts_of p found)) stays cause;
     })
-cut_short line a b c p status.TooLarge is playable spelled asked none stays fell cause = absurd cause
-
--- how many texts there are
-abbrev all_texts : Line → Plan → ℕ
-all_texts line p = length (texts_of line p)
-
-all_texts-are : (line : Line) (p : Plan) → take (all_texts line p) (texts_of line p) ≡ texts_of line p
-all_texts-are line p = take_all (all_texts line p) (texts_of line p) (omega arith)
+cut_short line a b c p found status.TooLarge is playable spelled asked none stays fell are cause = absurd cause
 
 -- all texts were printed, and the memo wasn't written
 unkept :
-    (line : Line) (a b m c : World) (p : Plan) (name : Text) (why : Status)
+    (line : Line) (a b m c : World) (p : Plan) (found : List Found) (name : Text) (why : Status)
     → IsPlan line a p → CanBePlayed p → CanBeSpelled p → AsksForFiles (files_named line) a b → AsksNothing b c
-    → Stays a b → NoneFell a b → NoneFell b m
-    → kept_by line ≡ Some name → Prints b m (concat (texts_of line p)) → WhyUnkept name (memo (left_of p)) m c why
+    → Stays a b → NoneFell a b → AreFound (workers_of line) p found → length found ≡ length p.inputs → NoneFell b m
+    → kept_by line ≡ Some name → Prints b m (concat (texts_of p found))
+    → WhyUnkept name (memo (left_of p found)) m c why
     → RoundsEnd line a c why
 unfolding rounds_in
-unkept line a b m c p name status.Finished is playable spelled asked none stays fell later named prints cause =
-    absurd cause
-unkept line a b m c p name status.Unfinished is playable spelled asked none stays fell later named prints cause =
-    absurd cause
-unkept line a b m c p name status.Words is playable spelled asked none stays fell later named prints cause =
-    absurd cause
-unkept line a b m c p name status.Image is playable spelled asked none stays fell later named prints cause =
-    absurd cause
-unkept line a b m c p name status.Memo is playable spelled asked none stays fell later named prints cause = absurd cause
-unkept line a b m c p name status.EditList is playable spelled asked none stays fell later named prints cause =
-    absurd cause
-unkept line a b m c p name status.ReadFault is playable spelled asked none stays fell later named prints cause =
-    absurd cause
-unkept line a b m c p name status.WriteFault is playable spelled asked none stays fell later named prints cause =
-    let all : Prints a m (concat (texts_of line p)) = prints_after a b m (concat (texts_of line p)) stays prints in
+unkept line a b m c p found name status.Finished _ _ _ _ _ _ _ _ _ _ _ _ cause = absurd cause
+unkept line a b m c p found name status.Unfinished _ _ _ _ _ _ _ _ _ _ _ _ cause = absurd cause
+unkept line a b m c p found name status.Words _ _ _ _ _ _ _ _ _ _ _ _ cause = absurd cause
+unkept line a b m c p found name status.Image _ _ _ _ _ _ _ _ _ _ _ _ cause = absurd cause
+unkept line a b m c p found name status.Memo _ _ _ _ _ _ _ _ _ _ _ _ cause = absurd cause
+unkept line a b m c p found name status.EditList _ _ _ _ _ _ _ _ _ _ _ _ cause = absurd cause
+unkept line a b m c p found name status.ReadFault _ _ _ _ _ _ _ _ _ _ _ _ cause = absurd cause
+unkept line a b m c p found name status.WriteFault is can spelled asked none stays fell are all later by prints cause =
+    let printed : Prints a m (concat (texts_of p found)) = prints_after a b m (concat (texts_of p found)) stays prints
+    in
     inr
     (record {
       asked = none ∙ asked;
-      has = rounds_in line a p is playable spelled;
+      has = rounds_in line a p found is can spelled are;
+      all = all;
       name = name;
-      is_named = named;
+      is_named = by;
       within = cause.within;
       cause = rose_before _ _ _ (fell.writes name) (rose_before _ _ _ (later.writes name) cause.cause);
-      tells = cause.tells ∙ all.tells;
-      printed = subst (λ (told : Option (List ℕ)). Appends a.printed told (concat (texts_of line p)))
-          (sym cause.printed) all.printed;
+      tells = cause.tells ∙ printed.tells;
+      printed = subst (λ (told : Option (List ℕ)). Appends a.printed told (concat (texts_of p found)))
+          (sym cause.printed) printed.printed;
       untold = cause.untold;
-      others = λ other away. cause.others other away ∙ ap (λ (files : Text → Option (List ℕ)). files other) all.files;
+      others = λ other away. cause.others other away
+          ∙ ap (λ (files : Text → Option (List ℕ)). files other) printed.files;
     })
-unkept line a b m c p name status.Memory is playable spelled asked none stays fell later named prints cause =
+unkept line a b m c p found name status.Memory is can spelled asked none stays fell are all later by prints cause =
     inr
     (record {
       asked = none ∙ asked;
-      has = rounds_in line a p is playable spelled;
-      rounds = all_texts line p;
-      prints = subst (λ (ts : List (List ℕ)). Prints a c (concat ts)) (sym (all_texts-are line p))
-          (prints_then a m c (concat (texts_of line p))
-          (prints_after a b m (concat (texts_of line p)) stays prints) cause);
+      has = rounds_in line a p found is can spelled are;
+      prints = prints_then a m c (concat (texts_of p found))
+          (prints_after a b m (concat (texts_of p found)) stays prints) cause;
     })
-unkept line a b m c p name status.TooLarge is playable spelled asked none stays fell later named prints cause =
+unkept line a b m c p found name status.TooLarge is can spelled asked none stays fell are all later by prints cause =
     inr
     (record {
       asked = none ∙ asked;
-      has = rounds_in line a p is playable spelled;
+      has = rounds_in line a p found is can spelled are;
+      all = all;
       name = name;
-      is_named = named;
+      is_named = by;
       long = cause.long;
-      prints = prints_then a m c (concat (texts_of line p))
-          (prints_after a b m (concat (texts_of line p)) stays prints) cause.stays;
+      prints = prints_then a m c (concat (texts_of p found))
+          (prints_after a b m (concat (texts_of p found)) stays prints) cause.stays;
     })
 
 -- not all was done
@@ -214,10 +260,11 @@ pub undone :
     (line : Line) (a b c : World) (p : Plan) (why : Status)
     → IsPlan line a p → CanBePlayed p → CanBeSpelled p → AsksForFiles (files_named line) a b → AsksNothing b c
     → Stays a b → NoneFell a b
-    → WhyUndone (kept_by line) (texts_of line p) (memo (left_of p)) b c why → RoundsEnd line a c why
+    → WhyUndone (kept_by line) (workers_of line) p b c why → RoundsEnd line a c why
 undone line a b c p why is playable spelled asked none stays fell cause =
     elim cause [
-      | inl short ↦ cut_short line a b c p why is playable spelled asked none stays fell short
-      | inr after ↦ unkept line a b after.between c p after.kept why is playable spelled asked none stays fell
-          after.counts after.is_named after.prints after.why
+      | inl short ↦ cut_short line a b c p short.found why is playable spelled asked none stays fell short.made
+          short.why
+      | inr after ↦ unkept line a b after.between c p after.found after.kept why is playable spelled asked none stays
+          fell after.made after.all after.counts after.is_named after.prints after.why
     ]

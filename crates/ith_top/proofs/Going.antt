@@ -1,6 +1,7 @@
 -- Rounds on their way: those that were made were printed, and the rest is to come.
-use Rattle.std.proofs.Common.{◌≡◌, ◌+◌, ◌≤◌, ℕ, Bool, true, false, ◌&&◌, List, [], ◌∷◌, ◌++◌, length, take, map, slice_get, Option, Some, None, refl, ap, sym, subst, ◌∙◌, append_assoc, arith}
-use Rattle.std.specs.List.{concat, list_all}
+use Rattle.std.proofs.Common.{◌≡◌, ◌+◌, ◌≤◌, ℕ, suc, Bool, true, false, ◌&&◌, List, [], ◌∷◌, ◌++◌, length, take, map, slice_get, Option, Some, None, refl, ap, sym, subst, ◌∙◌, append_assoc, arith}
+use Rattle.std.specs.Prelude.{All}
+use Rattle.std.specs.List.{AllByRecursion, concat, list_all}
 use Rattle.std.specs.Io.KnownBytes.{Appends}
 use Rattle.std.proofs.lemmas.List.{append-nil, map_push, map-append}
 use Rattle.std.proofs.lemmas.List.Folds.{list_all-append}
@@ -8,22 +9,28 @@ use Rattle.std.proofs.lemmas.List.Elements.{All-from_recursion, recursion_from_A
 use Rattle.machine_spec.specs.declared.TheConstants.{MOST_INPUT_BYTES}
 use Rattle.history_spec.specs.History.{History}
 use Rattle.rerun_spec.specs.Inputs.{AreShort}
-use Rattle.rerun_spec.specs.Rounds.{Round, Beginning, round_on, after_round, rounds_after, after_rounds, history_at, last_left}
+use Rattle.rerun_spec.specs.Rounds.{Found, Round, Beginning, IsMade, round_on, after_round, rounds_after, after_rounds, history_at}
 use Rattle.rerun_spec.specs.Reports.{made_report, made_reports, made_exits, all_made_exit}
 use Rattle.ith_host.specs.World.{World, NoneFell, Stays, AsksNothing}
 use Rattle.ith_top.specs.declared.status.Status.{Status}
 use Rattle.ith_top.specs.declared.status.Status.TheVariants as status
 use Rattle.ith_top.specs.Ends.{Prints}
-use Rattle.ith_top.specs.Refusals.{WhyUnprinted, WhyCutShort}
+use Rattle.ith_top.specs.Contents.{Plan}
+use Rattle.ith_top.specs.Refusals.{WhyUnprinted, IsPlayedInPart}
+use Rattle.ith_top.specs.Playing.{AreFound, IsMadeOn, IsPlayed}
 use Rattle.ith_top.proofs.Worlds.{none_fell_trans, rose_before}
 
--- the rounds so far were made and printed, and those to come begin where the last one left off
+-- the rounds so far were made and printed, and those to come, whatever is found of them, begin where the last one left
+-- off
 pub record IsGoing (b : Beginning) (workers : ℕ) (inputs : List (List ℕ)) (a w : World) (now : Beginning)
     (rest : List (List ℕ)) (exit : Bool) : Type 0 where
+  pub found : List Found
   pub done : List Round
-  pub rounds : rounds_after b inputs ≡ done ++ rounds_after now rest
-  pub last : after_rounds b inputs ≡ after_rounds now rest
-  pub prints : Prints a w (concat (map (made_report workers) done))
+  pub count : length found + length rest ≡ length inputs
+  pub rounds : (more : List Found) → rounds_after b inputs (found ++ more) ≡ done ++ rounds_after now rest more
+  pub last : (more : List Found) → after_rounds b inputs (found ++ more) ≡ after_rounds now rest more
+  pub made : AllByRecursion (IsMade workers) done
+  pub prints : Prints a w (concat (map made_report done))
   pub ended : exit ≡ list_all made_exits done
   pub counts : NoneFell a w
   pub asked : AsksNothing a w
@@ -92,149 +99,256 @@ pub none_left : (rest : List (List ℕ)) (place all : ℕ) → place + length re
 none_left [] place all count past = refl
 none_left (input ∷ rest) place all count past = let no : ⊥ = omega arith in absurd no
 
+-- what was found of a line's rounds, and what they come to
+abbrev of_line : Beginning → List (List ℕ) → Plan
+of_line b inputs = record { beginning = b; inputs = inputs }
+
+none-after : (b : Beginning) (inputs : List (List ℕ)) → rounds_after b inputs [] ≡ []
+none-after b [] = refl
+none-after b (input ∷ inputs) = refl
+
+same-after : (b : Beginning) (inputs : List (List ℕ)) → after_rounds b inputs [] ≡ b
+same-after b [] = refl
+same-after b (input ∷ inputs) = refl
+
 -- before the first round
 pub going_start :
     (b now : Beginning) (workers : ℕ) (inputs : List (List ℕ)) (a : World)
     → now ≡ b → NoneFell a a → IsGoing b workers inputs a a now inputs true
 going_start b now workers inputs a first counts =
-    rw first (record {
+    rw first
+    (record {
+      found = [];
       done = [];
-      rounds = refl;
-      last = refl;
+      count = omega arith;
+      rounds = λ more. refl;
+      last = λ more. refl;
+      made = tt;
       prints = prints_none a;
       ended = refl;
-      counts =
-          counts;
+      counts = counts;
       asked = refl;
     })
+
+-- the rounds so far are those of what was found so far
+going-rounds :
+    (b : Beginning) (workers : ℕ) (inputs : List (List ℕ)) (a w : World) (now : Beginning) (rest : List (List ℕ))
+    (exit : Bool) (going : IsGoing b workers inputs a w now rest exit)
+    → rounds_after b inputs going.found ≡ going.done
+going-rounds b workers inputs a w now rest exit going =
+    ap (rounds_after b inputs) (sym (append-nil going.found))
+    ∙ going.rounds []
+    ∙ ap (λ (rs : List Round). going.done ++ rs) (none-after now rest)
+    ∙ append-nil going.done
+
+going-after :
+    (b : Beginning) (workers : ℕ) (inputs : List (List ℕ)) (a w : World) (now : Beginning) (rest : List (List ℕ))
+    (exit : Bool) (going : IsGoing b workers inputs a w now rest exit)
+    → after_rounds b inputs going.found ≡ now
+going-after b workers inputs a w now rest exit going =
+    ap (after_rounds b inputs) (sym (append-nil going.found)) ∙ going.last [] ∙ same-after now rest
+
+-- and so are their texts
+going-texts :
+    (b : Beginning) (workers : ℕ) (inputs : List (List ℕ)) (a w : World) (now : Beginning) (rest : List (List ℕ))
+    (exit : Bool) (going : IsGoing b workers inputs a w now rest exit)
+    → made_reports (rounds_after b inputs going.found) ≡ map made_report going.done
+unfolding made_reports
+going-texts b workers inputs a w now rest exit going =
+    ap (map made_report) (going-rounds b workers inputs a w now rest exit going)
+
+going-found :
+    (b : Beginning) (workers : ℕ) (inputs : List (List ℕ)) (a w : World) (now : Beginning) (rest : List (List ℕ))
+    (exit : Bool) (going : IsGoing b workers inputs a w now rest exit)
+    → AreFound workers (of_line b inputs) going.found
+going-found b workers inputs a w now rest exit going =
+    record {
+      few = let count = going.count in omega arith;
+      made = subst (All (IsMade workers)) (sym (going-rounds b workers inputs a w now rest exit going))
+          (All-from_recursion (IsMade workers) going.done going.made);
+    }
+
+all-more :
+    (fact : Round → Type 0) (rounds : List Round) (r : Round) → AllByRecursion fact rounds → fact r
+    → AllByRecursion fact (rounds ++ r ∷ [])
+all-more fact [] r all one = (one, tt)
+all-more fact (first ∷ rounds) r all one = (all.0, all-more fact rounds r all.1 one)
+
+-- what is known of it, before it is printed
+record HasNext (b : Beginning) (workers : ℕ) (inputs : List (List ℕ)) (now : Beginning) (input : List ℕ)
+    (rest : List (List ℕ)) (found : List Found) (done : List Round) (f : Found) : Type 0 where
+  pub count : length (found ++ f ∷ []) + length rest ≡ length inputs
+  pub rounds : (more : List Found) → rounds_after b inputs ((found ++ f ∷ []) ++ more)
+      ≡ (done ++ round_on now input f ∷ []) ++ rounds_after (after_round now input f) rest more
+  pub last : (more : List Found) → after_rounds b inputs ((found ++ f ∷ []) ++ more)
+      ≡ after_rounds (after_round now input f) rest more
+  pub made : AllByRecursion (IsMade workers) (done ++ round_on now input f ∷ [])
+
+length-more : (found : List Found) (f : Found) (n : ℕ) → length (found ++ f ∷ []) + n ≡ length found + suc n
+length-more [] f n = omega arith
+length-more (g ∷ found) f n = let rest = length-more found f n in omega arith
+
+has-next :
+    (b : Beginning) (workers : ℕ) (inputs : List (List ℕ)) (a w : World) (now : Beginning) (input : List ℕ)
+    (rest : List (List ℕ)) (exit : Bool) (going : IsGoing b workers inputs a w now (input ∷ rest) exit) (f : Found)
+    → IsMade workers (round_on now input f)
+    → HasNext b workers inputs now input rest going.found going.done f
+has-next b workers inputs a w now input rest exit going f made =
+    let more_found = λ (more : List Found). append_assoc going.found (f ∷ []) more in
+    record {
+      count = let more = length-more going.found f (length rest) in let count = going.count in omega arith;
+      rounds = λ more. ap (rounds_after b inputs) (more_found more)
+          ∙ going.rounds (f ∷ more)
+          ∙ sym (append_assoc going.done (round_on now input f ∷ [])
+          (rounds_after (after_round now input f) rest more));
+      last = λ more. ap (after_rounds b inputs) (more_found more) ∙ going.last (f ∷ more);
+      made = all-more (IsMade workers) going.done (round_on now input f) going.made made;
+    }
 
 -- the next round was made and printed
 pub going_next :
     (b : Beginning) (workers : ℕ) (inputs : List (List ℕ)) (a w v : World) (now next : Beginning) (input : List ℕ)
-    (rest : List (List ℕ)) (exit : Bool)
-    (text : List ℕ) (ended : Bool)
+    (rest : List (List ℕ)) (exit : Bool) (text : List ℕ) (ended : Bool) (left : History)
     → IsGoing b workers inputs a w now (input ∷ rest) exit
-    → text ≡ made_report workers (round_on now input)
-    → ended ≡ made_exits (round_on now input)
-    → next ≡ after_round now input
+    → IsMadeOn workers now input text ended left
+    → next ≡ record { number = now.number + 1; past = Some left; setup = now.setup }
     → Prints w v text → NoneFell w v → AsksNothing w v
     → IsGoing b workers inputs a v next rest (exit && ended)
-going_next b workers inputs a w v now next input rest exit text ended going texts ends after prints counts asked =
-    let r = round_on now input in
-    let f = made_report workers in
-    let before = concat (map f going.done) in
+going_next b workers inputs a w v now next input rest exit text ended left going one after prints counts asked =
+    let f = one.found in
+    let r = round_on now input f in
+    let has = has-next b workers inputs a w now input rest exit going f one.made in
+    let before = concat (map made_report going.done) in
     let printed : Prints a v (before ++ text) = prints_both a w v before text going.prints prints in
-    let texts_are : concat (map f (going.done ++ r ∷ [])) ≡ before ++ text =
-    ap concat (map_push f going.done r) ∙ concat-more (map f going.done) (f r)
-    ∙ ap (λ (l : List ℕ). before ++ l) (sym texts) in
+    let texts_are : concat (map made_report (going.done ++ r ∷ [])) ≡ before ++ text =
+    ap concat (map_push made_report going.done r) ∙ concat-more (map made_report going.done) (made_report r)
+    ∙ ap (λ (l : List ℕ). before ++ l) (sym one.is_text) in
     let all : list_all made_exits (going.done ++ r ∷ []) ≡ (exit && ended) =
     list_all-append made_exits going.done (r ∷ [])
-    ∙ ap (λ (c : Bool). list_all made_exits going.done && c) (and-true (made_exits r) ∙ sym ends)
+    ∙ ap (λ (c : Bool). list_all made_exits going.done && c) (and-true (made_exits r) ∙ sym one.is_exit)
     ∙ ap (λ (c : Bool). c && ended) (sym going.ended) in
-    rw after
+    let leads : next ≡ after_round now input f =
+    after ∙ ap (λ (h : History). record { number = now.number + 1; past = Some h; setup = now.setup }) one.is_left in
+    rw leads
     (record {
+      found = going.found ++ f ∷ [];
       done = going.done ++ r ∷ [];
-      rounds = going.rounds ∙ sym (append_assoc going.done (r ∷ []) (rounds_after (after_round now input) rest));
-      last = going.last;
+      count = has.count;
+      rounds = has.rounds;
+      last = has.last;
+      made = has.made;
       prints = subst (Prints a v) (sym texts_are) printed;
       ended = sym all;
       counts = none_fell_trans a w v going.counts counts;
       asked = asked ∙ going.asked;
     })
 
-texts-are :
-    (b : Beginning) (workers : ℕ) (inputs : List (List ℕ)) (done more : List Round)
-    → rounds_after b inputs ≡ done ++ more
-    → made_reports workers (rounds_after b inputs) ≡ map (made_report workers) done ++ map (made_report workers) more
-unfolding made_reports
-texts-are b workers inputs done more are = ap (map (made_report workers)) are
-    ∙ map-append (made_report workers) done more
-
--- all were made and printed
-pub going_printed :
-    (b : Beginning) (workers : ℕ) (inputs : List (List ℕ)) (a w : World) (now : Beginning) (rest : List (List ℕ))
-    (exit : Bool)
-    → rest ≡ [] → IsGoing b workers inputs a w now rest exit
-    → Prints a w (concat (made_reports workers (rounds_after b inputs)))
-going_printed b workers inputs a w now rest exit none going =
-    let last = rw none at going.rounds in
-    let are : made_reports workers (rounds_after b inputs) ≡ map (made_report workers) going.done =
-    texts-are b workers inputs going.done [] last ∙ append-nil (map (made_report workers) going.done) in
-    subst (λ (texts : List (List ℕ)). Prints a w (concat texts)) (sym are) going.prints
-
-pub going_exits :
-    (b : Beginning) (workers : ℕ) (inputs : List (List ℕ)) (a w : World) (now : Beginning) (rest : List (List ℕ))
-    (exit : Bool)
-    → rest ≡ [] → IsGoing b workers inputs a w now rest exit → exit ≡ all_made_exit (rounds_after b inputs)
-unfolding all_made_exit
-going_exits b workers inputs a w now rest exit none going =
-    let last = rw none at going.rounds in
-    going.ended ∙ ap (list_all made_exits) (sym (append-nil going.done) ∙ sym last)
-
--- what the last one left is what the rounds to come would go by
-pub going_left :
+-- all were made and printed, and what the last one left is what the rounds to come would go by
+pub going_played :
     (b : Beginning) (workers : ℕ) (inputs : List (List ℕ)) (a w : World) (now : Beginning) (rest : List (List ℕ))
     (exit : Bool) (left : History)
-    → rest ≡ [] → now.past ≡ Some left → IsGoing b workers inputs a w now rest exit → left ≡ last_left b inputs
-going_left b workers inputs a w now rest exit left none past going =
-    let last : after_rounds b inputs ≡ now = rw none at going.last in
+    → rest ≡ [] → now.past ≡ Some left → IsGoing b workers inputs a w now rest exit
+    → IsPlayed workers (of_line b inputs) a w exit left
+unfolding all_made_exit
+going_played b workers inputs a w now rest exit left none past going =
+    let rounds = going-rounds b workers inputs a w now rest exit going in
     let is : history_at now ≡ left = rw past refl in
-    sym is ∙ ap history_at (sym last)
+    record {
+      found = going.found;
+      made = going-found b workers inputs a w now rest exit going;
+      all = let count = rw none at going.count in omega arith;
+      prints = subst (λ (texts : List (List ℕ)). Prints a w (concat texts))
+          (sym (going-texts b workers inputs a w now rest exit going)) going.prints;
+      are_exits = ap (list_all made_exits) rounds ∙ sym going.ended;
+      is_left = sym is ∙ ap history_at (sym (going-after b workers inputs a w now rest exit going));
+    }
 
 -- no more was made, after a change that leaves files and printed bytes
 pub going_cut :
     (b : Beginning) (workers : ℕ) (inputs : List (List ℕ)) (a w v : World) (now : Beginning) (rest : List (List ℕ))
     (exit : Bool)
     → IsGoing b workers inputs a w now rest exit → Stays w v
-    → (whole : ℕ) × Prints a v (concat (take whole (made_reports workers (rounds_after b inputs))))
+    → IsPlayedInPart workers (of_line b inputs) a v status.Memory
 going_cut b workers inputs a w v now rest exit going stays =
-    let texts = map (made_report workers) going.done in
-    let more = map (made_report workers) (rounds_after now rest) in
-    let are : take (length texts) (made_reports workers (rounds_after b inputs)) ≡ texts =
-    ap (take (length texts)) (texts-are b workers inputs going.done (rounds_after now rest) going.rounds)
-    ∙ take-front texts more in (
-      length texts,
-      subst (λ (ts : List (List ℕ)). Prints a v (concat ts)) (sym are)
-          (prints_then a w v (concat texts) going.prints stays),
-    )
+    record {
+      found = going.found;
+      made = going-found b workers inputs a w now rest exit going;
+      why = subst (λ (texts : List (List ℕ)). Prints a v (concat texts))
+          (sym (going-texts b workers inputs a w now rest exit going))
+          (prints_then a w v (concat (map made_report going.done)) going.prints stays);
+    }
+
+next-rounds :
+    (b : Beginning) (workers : ℕ) (inputs : List (List ℕ)) (now : Beginning) (input : List ℕ)
+    (rest : List (List ℕ)) (found : List Found) (done : List Round) (f : Found)
+    → HasNext b workers inputs now input rest found done f
+    → rounds_after b inputs (found ++ f ∷ []) ≡ done ++ round_on now input f ∷ []
+next-rounds b workers inputs now input rest found done f has =
+    ap (rounds_after b inputs) (sym (append-nil (found ++ f ∷ [])))
+    ∙ has.rounds []
+    ∙ ap (λ (rs : List Round). (done ++ round_on now input f ∷ []) ++ rs)
+    (none-after (after_round now input f) rest)
+    ∙ append-nil (done ++ round_on now input f ∷ [])
+
+texts-are :
+    (b : Beginning) (inputs : List (List ℕ)) (found : List Found) (done : List Round) (r : Round)
+    → rounds_after b inputs found ≡ done ++ r ∷ []
+    → made_reports (rounds_after b inputs found) ≡ map made_report done ++ made_report r ∷ []
+unfolding made_reports
+texts-are b inputs found done r are = ap (map made_report) are ∙ map-append made_report done (r ∷ [])
 
 -- the next text wasn't printed
 pub going_unprinted :
     (b : Beginning) (workers : ℕ) (inputs : List (List ℕ)) (a w v : World) (now : Beginning) (input : List ℕ)
-    (rest : List (List ℕ)) (exit : Bool)
-    (text : List ℕ) (why : Status)
+    (rest : List (List ℕ)) (exit : Bool) (text : List ℕ) (ended : Bool) (left : History) (why : Status)
     → IsGoing b workers inputs a w now (input ∷ rest) exit
-    → text ≡ made_report workers (round_on now input)
-    → WhyUnprinted text w v why → WhyCutShort (made_reports workers (rounds_after b inputs)) a v why
-going_unprinted b workers inputs a w v now input rest exit text status.Finished going is cause = cause
-going_unprinted b workers inputs a w v now input rest exit text status.Unfinished going is cause = cause
-going_unprinted b workers inputs a w v now input rest exit text status.Words going is cause = cause
-going_unprinted b workers inputs a w v now input rest exit text status.Image going is cause = cause
-going_unprinted b workers inputs a w v now input rest exit text status.Memo going is cause = cause
-going_unprinted b workers inputs a w v now input rest exit text status.EditList going is cause = cause
-going_unprinted b workers inputs a w v now input rest exit text status.ReadFault going is cause = cause
-going_unprinted b workers inputs a w v now input rest exit text status.WriteFault going is cause =
-    let r = round_on now input in
-    let texts = map (made_report workers) going.done in
-    let more = map (made_report workers) (rounds_after (after_round now input) rest) in
-    let are : made_reports workers (rounds_after b inputs) ≡ texts ++ made_report workers r ∷ more =
-    texts-are b workers inputs going.done (rounds_after now (input ∷ rest)) going.rounds in
-    let front : take (length texts) (made_reports workers (rounds_after b inputs)) ≡ texts =
-    ap (take (length texts)) are ∙ take-front texts (made_report workers r ∷ more) in
+    → IsMadeOn workers now input text ended left
+    → WhyUnprinted text w v why → IsPlayedInPart workers (of_line b inputs) a v why
+going_unprinted b workers inputs a w v now input rest exit text ended left status.Finished going one cause =
+    absurd cause
+going_unprinted b workers inputs a w v now input rest exit text ended left status.Unfinished going one cause =
+    absurd cause
+going_unprinted b workers inputs a w v now input rest exit text ended left status.Words going one cause = absurd cause
+going_unprinted b workers inputs a w v now input rest exit text ended left status.Image going one cause = absurd cause
+going_unprinted b workers inputs a w v now input rest exit text ended left status.Memo going one cause = absurd cause
+going_unprinted b workers inputs a w v now input rest exit text ended left status.EditList going one cause =
+    absurd cause
+going_unprinted b workers inputs a w v now input rest exit text ended left status.ReadFault going one cause =
+    absurd cause
+going_unprinted b workers inputs a w v now input rest exit text ended left status.WriteFault going one cause =
+    let f = one.found in
+    let r = round_on now input f in
+    let has = has-next b workers inputs a w now input rest exit going f one.made in
+    let texts = map made_report going.done in
+    let rounds : rounds_after b inputs (going.found ++ f ∷ []) ≡ going.done ++ r ∷ [] =
+    next-rounds b workers inputs now input rest going.found going.done f has in
+    let are : made_reports (rounds_after b inputs (going.found ++ f ∷ [])) ≡ texts ++ made_report r ∷ [] =
+    texts-are b inputs (going.found ++ f ∷ []) going.done r rounds in
+    let front : take (length texts) (made_reports (rounds_after b inputs (going.found ++ f ∷ []))) ≡ texts =
+    ap (take (length texts)) are ∙ take-front texts (made_report r ∷ []) in
     let printed : Prints a v (concat texts ++ take cause.1.0 text) =
     prints_both a w v (concat texts) (take cause.1.0 text) going.prints cause.1.1 in
     record {
-      cause = rose_before _ _ _ going.counts.prints cause.0;
-      whole = length texts;
-      next = text;
-      is_next = ap (λ (ts : List (List ℕ)). slice_get ts (length texts)) are
-          ∙ get-next texts (made_report workers r) more ∙ ap (λ (t : List ℕ). Some t) (sym is);
-      count = cause.1.0;
-      prints = subst (λ (ts : List (List ℕ)). Prints a v (concat ts ++ take cause.1.0 text)) (sym front) printed;
+      found = going.found ++ f ∷ [];
+      made = record {
+        few = let count = has.count in omega arith;
+        made = subst (All (IsMade workers)) (sym rounds)
+            (All-from_recursion (IsMade workers) (going.done ++ r ∷ []) has.made);
+      };
+      why = record {
+        cause = rose_before _ _ _ going.counts.prints cause.0;
+        whole = length texts;
+        next = text;
+        is_next = ap (λ (ts : List (List ℕ)). slice_get ts (length texts)) are
+            ∙ get-next texts (made_report r) [] ∙ ap (λ (t : List ℕ). Some t) (sym one.is_text);
+        count = cause.1.0;
+        prints = subst (λ (ts : List (List ℕ)). Prints a v (concat ts ++ take cause.1.0 text)) (sym front) printed;
+      };
     }
-going_unprinted b workers inputs a w v now input rest exit text status.Memory going is cause =
+going_unprinted b workers inputs a w v now input rest exit text ended left status.Memory going one cause =
     going_cut b workers inputs a w v now (input ∷ rest) exit going cause
-going_unprinted b workers inputs a w v now input rest exit text status.TooLarge going is cause = cause
+going_unprinted b workers inputs a w v now input rest exit text ended left status.TooLarge going one cause =
+    absurd cause
 
 -- of short inputs the first is short, and so are the others
 pub short_first : (input : List ℕ) (rest : List (List ℕ)) → AreShort (input ∷ rest) → length input ≤ MOST_INPUT_BYTES

@@ -1,20 +1,93 @@
--- A round as it was made, and the page map of what it goes by and leaves.
-use Rattle.std.proofs.Common.{◌≡◌, ℕ, List, Option, Some, None, ap, sym, ◌∙◌, subst}
+-- A round as its workers made it, and the page map of what it goes by and leaves.
+use Rattle.std.proofs.Common.{◌≡◌, ℕ, Bool, List, Option, Some, None, refl, ap, sym, ◌∙◌, subst}
 use Rattle.elf_spec.specs.Image.{image_pages}
+use Rattle.record_spec.specs.Record.{Record}
+use Rattle.machine_spec.specs.Machine.{Machine}
 use Rattle.machine_spec.specs.Setup.{Setup}
 use Rattle.history_spec.specs.History.{History}
-use Rattle.round_spec.specs.Rounds.{RoundState}
-use Rattle.round_spec.proofs.Leaving.{round-past}
-use Rattle.worker_spec.proofs.Events.{picks-events}
+use Rattle.report_spec.specs.declared.Entry.{Entry}
+use Rattle.report_spec.specs.Report.{Told, report_text}
+use Rattle.round_spec.specs.Rounds.{RoundState, history_of}
+use Rattle.round_spec.specs.Instructions.{executed_instructions}
+use Rattle.round_spec.specs.Schedules.{IsBySchedule, round_by}
+use Rattle.worker_spec.specs.Workers.{IsMadeBy}
 use Rattle.propagate.specs.Kept.{IsOfMap}
 use Rattle.propagate.proofs.Mapped.{same_image}
-use Rattle.rerun_spec.specs.Rounds.{Round, Beginning, made, left_by, round_on}
+use Rattle.rerun_spec.specs.Rounds.{Found, Round, Beginning, made, left_by, round_on, with_input}
+use Rattle.rerun_spec.specs.Reports.{told_as_made, is_exit}
 use Rattle.rerun_spec.proofs.Ending.{left-own}
+use Rattle.ith_top.specs.Playing.{IsMadeOn}
 
-made_past : (r : Round) → (made r).past ≡ r.past
-made_past r =
-    let events = picks-events r.setup r.past r.setup.limit in
-    ap (λ (w : RoundState). w.past) events.1 ∙ round-past r.setup r.past events.0
+-- what is told of a round, part by part
+abbrev told_of : Machine → List Entry → List Record → List ℕ → Told
+told_of m schedule records shares =
+    record {
+      ending = m.ending;
+      schedule = schedule;
+      instructions = executed_instructions schedule records;
+      shares = shares;
+      memory = m.memory;
+      output = m.output;
+    }
+
+-- a round that is where its schedule leads, as it was made
+record IsAlike (r : Round) (w : RoundState) : Type 0 where
+  pub schedule : (made r).schedule ≡ w.schedule
+  pub machine : (made r).machine ≡ w.machine
+  pub records : (made r).records ≡ w.records
+  pub setup : (left_by r).setup ≡ w.setup
+
+alike_of :
+    (r : Round) (w : RoundState)
+    → w.setup ≡ r.setup → w.past ≡ r.past → r.found.entries ≡ w.schedule → IsBySchedule w → IsAlike r w
+alike_of r w setup past entries by =
+    let is : round_by w.setup w.past w.schedule ≡ made r =
+    ap (λ (s : Setup). round_by s w.past w.schedule) setup
+    ∙ ap (λ (p : Option History). round_by r.setup p w.schedule) past
+    ∙ ap (round_by r.setup r.past) (sym entries) in
+    record {
+      schedule = ap (λ (v : RoundState). v.schedule) (sym is) ∙ by.schedule;
+      machine = ap (λ (v : RoundState). v.machine) (sym is) ∙ by.machine;
+      records = ap (λ (v : RoundState). v.records) (sym is) ∙ by.records;
+      setup = left-own r ∙ sym setup;
+    }
+
+alike-told :
+    (r : Round) (w : RoundState) (shares : List ℕ) → IsAlike r w → told_as_made w shares ≡ told_as_made (made r) shares
+alike-told r w shares alike =
+    ap (λ (m : Machine). told_of m w.schedule w.records shares) (sym alike.machine)
+    ∙ ap (λ (es : List Entry). told_of (made r).machine es w.records shares) (sym alike.schedule)
+    ∙ ap (λ (rs : List Record). told_of (made r).machine (made r).schedule rs shares) (sym alike.records)
+
+abbrev the_history : Setup → List Record → History
+the_history s rs = record { setup = s; records = rs }
+
+alike-left : (r : Round) (w : RoundState) → IsAlike r w → history_of w ≡ left_by r
+alike-left r w alike =
+    ap (λ (s : Setup). the_history s w.records) (sym alike.setup)
+    ∙ ap (the_history (left_by r).setup) (sym alike.records)
+
+-- what workers made of a round, its text, its end and what it leaves
+pub made_on :
+    (workers : ℕ) (b : Beginning) (input : List ℕ) (w : RoundState) (shares text : List ℕ) (exit : Bool)
+    (left : History)
+    → w.setup ≡ with_input b.setup input → w.past ≡ b.past → IsBySchedule w
+    → IsMadeBy workers (with_input b.setup input) b.past w.schedule shares
+    → text ≡ report_text b.number (told_as_made w shares)
+    → exit ≡ is_exit w.machine.ending
+    → left ≡ history_of w
+    → IsMadeOn workers b input text exit left
+made_on workers b input w shares text exit left setup past by is texts exits leaves =
+    let f : Found = record { entries = w.schedule; shares = shares } in
+    let r = round_on b input f in
+    let alike : IsAlike r w = alike_of r w setup past refl by in
+    record {
+      found = f;
+      made = is;
+      is_text = texts ∙ ap (report_text b.number) (alike-told r w shares alike);
+      is_exit = exits ∙ ap (λ (m : Machine). is_exit m.ending) (sym alike.machine);
+      is_left = leaves ∙ alike-left r w alike;
+    }
 
 -- a setup of the same executable has the same page map
 of_same_elf : (past : Option History) (s t : Setup) → s.elf ≡ t.elf → IsOfMap past s → IsOfMap past t
@@ -22,20 +95,21 @@ of_same_elf None s t same is = tt
 of_same_elf (Some h) s t same is = is ∙ same_image s t (ap image_pages same)
 
 -- a round that goes by a history of its page map stays on it
-pub round_map : (b : Beginning) (input : List ℕ) → IsOfMap b.past b.setup
-    → IsOfMap (made (round_on b input)).past (made (round_on b input)).setup
-round_map b input is =
-    let r = round_on b input in
-    subst (λ (past : Option History). IsOfMap past (made r).setup) (sym (made_past r))
-    (of_same_elf b.past b.setup (made r).setup (sym (ap (λ (s : Setup). s.elf) (left-own r))) is)
+pub round_map :
+    (b : Beginning) (input : List ℕ) (w : RoundState) → w.setup ≡ with_input b.setup input → w.past ≡ b.past
+    → IsOfMap b.past b.setup → IsOfMap w.past w.setup
+round_map b input w setup past is =
+    subst (λ (p : Option History). IsOfMap p w.setup) (sym past)
+    (of_same_elf b.past b.setup w.setup (sym (ap (λ (s : Setup). s.elf) setup)) is)
 
 -- and leaves a history of it
-pub left_map : (b : Beginning) (input : List ℕ) (left : History) → left ≡ left_by (round_on b input)
-    → IsOfMap (Some left) b.setup
-left_map b input left is =
+pub left_map :
+    (workers : ℕ) (b : Beginning) (input text : List ℕ) (exit : Bool) (left : History)
+    → IsMadeOn workers b input text exit left → IsOfMap (Some left) b.setup
+left_map workers b input text exit left on =
     same_image left.setup b.setup
-    (ap image_pages (ap (λ (h : History). h.setup.elf) is
-    ∙ ap (λ (s : Setup). s.elf) (left-own (round_on b input))))
+    (ap image_pages (ap (λ (h : History). h.setup.elf) on.is_left
+    ∙ ap (λ (s : Setup). s.elf) (left-own (round_on b input on.found))))
 
 -- what is there is one thing
 pub some_is : {A : Type 0} (x y : A) → Some x ≡ Some y → x ≡ y

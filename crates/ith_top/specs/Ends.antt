@@ -11,7 +11,7 @@ use Rattle.memo_spec.specs.Spelling.{memo}
 use Rattle.memo_spec.specs.Reading.{reading}
 use Rattle.memo_listing.specs.Listing.{listing}
 use Rattle.rerun_spec.specs.Inputs.{Refusal, IsFirstRefused}
-use Rattle.rerun_spec.specs.Rounds.{last_left}
+use Rattle.rerun_spec.specs.Rounds.{Found, IsMade, last_left}
 use Rattle.rerun_spec.specs.Reports.{made_reports, all_made_exit}
 use Rattle.ith_words.specs.Words.{Text, Line, Runs, Reruns, Shows, RunLine, RerunLine, ShowLine}
 use Rattle.ith_top.specs.declared.status.Status.{Status}
@@ -21,22 +21,30 @@ use Rattle.ith_top.specs.Contents.{AreLists, Contents, AreContents, WasRead, IsM
 use Rattle.ith_top.specs.Rounds.{rounds_of, BeginsHonestly, ArePromised, CanBeKept}
 use Rattle.ith_top.specs.Statuses.{code_of}
 
--- What a line's rounds come from, and what is promised of them: they are from scratch where they begin with no history
--- or with an honest one; and whatever they begin with, each has an end, and what it leaves can be spelled.
+-- What a line's rounds come from, the schedules that its workers found of the first of them, and what is promised of
+-- these rounds: so many workers made each of them; they are from scratch where they begin with no history or with an
+-- honest one; and whatever they begin with, each has an end, and what it leaves can be spelled.
 pub record HasRounds (line : Line) (before : World) : Type 0 where
   pub plan : Plan
   pub is_plan : IsPlan line before plan
-  pub promised : BeginsHonestly plan.beginning → ArePromised (workers_of line) (rounds_of plan)
-  pub kept : All CanBeKept (rounds_of plan)
+  pub found : List Found
+  pub few : length found ≤ length plan.inputs
+  pub made : All (IsMade (workers_of line)) (rounds_of plan found)
+  pub promised : BeginsHonestly plan.beginning → ArePromised (workers_of line) (rounds_of plan found)
+  pub kept : All CanBeKept (rounds_of plan found)
+
+-- The rounds of a line were all made.
+abbrev pub HasAll : (line : Line) (before : World) → HasRounds line before → Type 0
+HasAll line before has = length has.found ≡ length has.plan.inputs
 
 -- The texts that tell of a plan's rounds as they were made, in order: where it is promised that these are from scratch,
 -- they are the rounds' reports.
-abbrev pub texts_of : Line → Plan → List (List ℕ)
-texts_of line p = made_reports (workers_of line) (rounds_of p)
+abbrev pub texts_of : Plan → List Found → List (List ℕ)
+texts_of p found = made_reports (rounds_of p found)
 
 -- What the last round of a plan leaves.
-abbrev pub left_of : Plan → History
-left_of p = last_left p.beginning p.inputs
+abbrev pub left_of : Plan → List Found → History
+left_of p found = last_left p.beginning p.inputs found
 
 -- The name of the memo that a line asks to write, if it does.
 abbrev pub kept_by : Line → Option Text
@@ -67,9 +75,12 @@ IsKeptWithin name content = IfSome name (λ n. length content ≤ MOST_MEMO_BYTE
 pub record IsDone (line : Line) (exits : Bool) (before after : World) : Type 0 where
   pub asked : AsksForFiles (files_named line) before after
   pub has : HasRounds line before
-  pub keeps : PrintsAndKeeps (kept_by line) (memo (left_of has.plan)) before after (concat (texts_of line has.plan))
-  pub within : IsKeptWithin (kept_by line) (memo (left_of has.plan))
-  pub ends : all_made_exit (rounds_of has.plan) ≡ exits
+  pub all : HasAll line before has
+  pub keeps :
+      PrintsAndKeeps (kept_by line) (memo (left_of has.plan has.found)) before after
+      (concat (texts_of has.plan has.found))
+  pub within : IsKeptWithin (kept_by line) (memo (left_of has.plan has.found))
+  pub ends : all_made_exit (rounds_of has.plan has.found) ≡ exits
 
 -- A fact holds of none of these files.
 abbrev pub OfNone : (Named → Type 0) → List Named → Type 0
@@ -144,10 +155,11 @@ pub record IsTooLarge (line : Line) (before after : World) : Type 0 where
 pub record IsTooLargeToKeep (line : Line) (before after : World) : Type 0 where
   pub asked : AsksForFiles (files_named line) before after
   pub has : HasRounds line before
+  pub all : HasAll line before has
   pub name : Text
   pub is_named : kept_by line ≡ Some name
-  pub long : MOST_MEMO_BYTES < length (memo (left_of has.plan))
-  pub prints : Prints before after (concat (texts_of line has.plan))
+  pub long : MOST_MEMO_BYTES < length (memo (left_of has.plan has.found))
+  pub prints : Prints before after (concat (texts_of has.plan has.found))
 
 -- Printing failed: of some texts the first so many were printed, and the first bytes of the next, any number of them.
 pub record IsPrintedInPart (texts : List (List ℕ)) (before after : World) : Type 0 where
@@ -158,23 +170,24 @@ pub record IsPrintedInPart (texts : List (List ℕ)) (before after : World) : Ty
   pub count : ℕ
   pub prints : Prints before after (concat (take whole texts) ++ take count next)
 
--- Printing failed, and the texts of the first rounds were printed, and of the next one's a part.
+-- Printing failed, and the texts of the first rounds were printed, and of the next one's, which was made, a part.
 pub record IsUnprinted (line : Line) (before after : World) : Type 0 where
   pub asked : AsksForFiles (files_named line) before after
   pub has : HasRounds line before
-  pub part : IsPrintedInPart (texts_of line has.plan) before after
+  pub part : IsPrintedInPart (texts_of has.plan has.found) before after
 
 -- All reports were printed, and writing the memo, which isn't too long, failed: that file isn't told, and of the others
 -- nothing changed.
 pub record IsUnkept (line : Line) (before after : World) : Type 0 where
   pub asked : AsksForFiles (files_named line) before after
   pub has : HasRounds line before
+  pub all : HasAll line before has
   pub name : Text
   pub is_named : kept_by line ≡ Some name
-  pub within : length (memo (left_of has.plan)) ≤ MOST_MEMO_BYTES
+  pub within : length (memo (left_of has.plan has.found)) ≤ MOST_MEMO_BYTES
   pub cause : Rose (before.write_faults name) (after.write_faults name)
   pub tells : after.tells ≡ before.tells
-  pub printed : Appends before.printed after.printed (concat (texts_of line has.plan))
+  pub printed : Appends before.printed after.printed (concat (texts_of has.plan has.found))
   pub untold : after.files name ≡ None
   pub others : (other : Text) → other ≢ name → after.files other ≡ before.files other
 
@@ -183,12 +196,12 @@ pub record IsUnbegun (line : Line) (before after : World) : Type 0 where
   pub asked : AsksForSome (files_named line) before after
   pub stays : Stays before after
 
--- The host's memory ran out, and the first rounds' texts were printed, none to all of them; no file was written.
+-- The host's memory ran out, and the texts of the first rounds, of none to all of them, were printed; no file was
+-- written.
 pub record IsCutShort (line : Line) (before after : World) : Type 0 where
   pub asked : AsksForFiles (files_named line) before after
   pub has : HasRounds line before
-  pub rounds : ℕ
-  pub prints : Prints before after (concat (take rounds (texts_of line has.plan)))
+  pub prints : Prints before after (concat (texts_of has.plan has.found))
 
 -- The memo that a line shows was accepted, and is of this history.
 pub record HasHistory (line : ShowLine) (before : World) : Type 0 where

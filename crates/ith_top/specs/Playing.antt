@@ -1,17 +1,24 @@
 -- The parts of a call that makes rounds.
-use Rattle.std.specs.Prelude.{◌+◌, ◌^◌, ◌<◌, All, length, option_map}
+use Rattle.std.specs.Prelude.{◌≡◌, ℕ, ◌+◌, ◌^◌, ◌<◌, ◌≤◌, Bool, List, All, Option, length, option_map}
 use Rattle.std.specs.Arc.{arc_value}
+use Rattle.std.specs.List.{concat}
 use Rattle.machine_spec.specs.Setup.{Setup, IsSetup}
-use Rattle.memo_spec.specs.Spelling.{AreBytes}
+use Rattle.history_spec.specs.History.{History}
+use Rattle.memo_spec.specs.Spelling.{AreBytes, memo}
 use Rattle.round_memo_spec.specs.Spelled.{IsSpelledPast}
 use Rattle.propagate.specs.Kept.{IsOfMap}
 use Rattle.rerun_spec.specs.Inputs.{AreShort}
-use Rattle.rerun_spec.specs.Rounds.{Beginning, Round, round_on}
+use Rattle.rerun_spec.specs.Rounds.{Found, Beginning, IsMade, left_by, round_on}
+use Rattle.rerun_spec.specs.Reports.{made_report, made_exits, all_made_exit}
+use Rattle.ith_host.specs.World.{World}
+use Rattle.ith_words.specs.Words.{Text}
 use Rattle.ith_top.specs.declared.plan.Start.{Start}
 use Rattle.ith_top.specs.declared.plan.Plan.{Plan as Planned}
 use Rattle.ith_top.specs.declared.rounds.Coming.{Coming}
 use Rattle.ith_top.specs.declared.report.Next.{Next}
 use Rattle.ith_top.specs.Contents.{Plan}
+use Rattle.ith_top.specs.Rounds.{rounds_of}
+use Rattle.ith_top.specs.Ends.{Prints, PrintsAndKeeps, IsKeptWithin, texts_of, left_of}
 
 -- What rounds begin with, in code, as a beginning of the definitions.
 abbrev pub beginning_said : Start → Beginning
@@ -44,6 +51,41 @@ pub record CanBeSpelled (p : Plan) : Type 0 where
   pub inputs : All AreBytes p.inputs
   pub past : IsSpelledPast p.beginning.past p.beginning.setup
 
--- The round that comes next, of a line whose first round has this setup.
-abbrev pub round_ahead : Setup → Next → Round
-round_ahead s n = round_on (record { number = n.number; past = option_map arc_value n.past; setup = s }) n.input.items
+-- What the round that comes next begins with, of a line whose first round has this setup.
+abbrev pub beginning_of : Setup → Next → Beginning
+beginning_of s n = record { number = n.number; past = option_map arc_value n.past; setup = s }
+
+-- So many workers made a round of this beginning, on this input: the text that tells of it, whether it ended by exit,
+-- and what it leaves.
+pub record IsMadeOn (workers : ℕ) (b : Beginning) (input text : List ℕ) (exit : Bool) (left : History) : Type 0 where
+  pub found : Found
+  pub made : IsMade workers (round_on b input found)
+  pub is_text : text ≡ made_report (round_on b input found)
+  pub is_exit : exit ≡ made_exits (round_on b input found)
+  pub is_left : left ≡ left_by (round_on b input found)
+
+-- So many workers found these schedules of the first rounds of a plan, one of each.
+pub record AreFound (workers : ℕ) (p : Plan) (found : List Found) : Type 0 where
+  pub few : length found ≤ length p.inputs
+  pub made : All (IsMade workers) (rounds_of p found)
+
+-- All rounds of a plan were made by so many workers, and exactly their texts were printed; whether each ended by exit,
+-- and what the last one leaves.
+pub record IsPlayed (workers : ℕ) (p : Plan) (before after : World) (exits : Bool) (left : History) : Type 0 where
+  pub found : List Found
+  pub made : AreFound workers p found
+  pub all : length found ≡ length p.inputs
+  pub prints : Prints before after (concat (texts_of p found))
+  pub are_exits : all_made_exit (rounds_of p found) ≡ exits
+  pub is_left : left ≡ left_of p found
+
+-- All rounds of a plan were made by so many workers; exactly their texts were printed, and the memo of what the last
+-- one leaves was written, if it has a name; and whether each ended by exit.
+pub record IsCarriedOut (name : Option Text) (workers : ℕ) (p : Plan) (before after : World) (exits : Bool) : Type 0
+  where
+    pub found : List Found
+    pub made : AreFound workers p found
+    pub all : length found ≡ length p.inputs
+    pub keeps : PrintsAndKeeps name (memo (left_of p found)) before after (concat (texts_of p found))
+    pub within : IsKeptWithin name (memo (left_of p found))
+    pub are_exits : all_made_exit (rounds_of p found) ≡ exits

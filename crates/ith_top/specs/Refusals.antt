@@ -6,12 +6,16 @@ use Rattle.elf_spec.specs.Image.{is_image}
 use Rattle.memo_spec.specs.declared.Refusal.{Refusal as MemoRefusal}
 use Rattle.memo_spec.specs.declared.TheConstants.{MOST_MEMO_BYTES}
 use Rattle.memo_spec.specs.Reading.{reading}
+use Rattle.memo_spec.specs.Spelling.{memo}
 use Rattle.rerun_spec.specs.Inputs.{Refusal, IsFirstRefused}
+use Rattle.rerun_spec.specs.Rounds.{Found}
 use Rattle.ith_words.specs.Words.{Text}
 use Rattle.ith_top.specs.declared.status.Status.{Status}
 use Rattle.ith_top.specs.declared.status.Status.TheVariants as status
 use Rattle.ith_top.specs.Files.{Named, AsksForSome, StopsAt, FailedToRead, IsLong}
-use Rattle.ith_top.specs.Ends.{Prints, IsPrintedInPart}
+use Rattle.ith_top.specs.Contents.{Plan}
+use Rattle.ith_top.specs.Ends.{Prints, IsPrintedInPart, texts_of, left_of}
+use Rattle.ith_top.specs.Playing.{AreFound}
 
 -- Why files weren't all read: which one was refused, and what was asked for.
 abbrev pub WhyUnread : List Named → World → World → Status → Type 0
@@ -38,11 +42,19 @@ WhyUnedited first lists status.EditList = (place : ℕ) × (why : Refusal) × Is
 WhyUnedited first lists status.Memory = ⊤
 WhyUnedited first lists _ = ⊥
 
--- Why of some texts not all were printed, and which were.
-abbrev pub WhyCutShort : List (List ℕ) → World → World → Status → Type 0
-WhyCutShort texts before after status.WriteFault = IsPrintedInPart texts before after
-WhyCutShort texts before after status.Memory = (whole : ℕ) × Prints before after (concat (take whole texts))
-WhyCutShort texts before after _ = ⊥
+-- Why no more was done than to make the rounds of a plan that were found, and what was printed: the texts of these; and
+-- where printing failed, of the last one's a part.
+abbrev pub WhyCutShort : Plan → List Found → World → World → Status → Type 0
+WhyCutShort p found before after status.WriteFault = IsPrintedInPart (texts_of p found) before after
+WhyCutShort p found before after status.Memory = Prints before after (concat (texts_of p found))
+WhyCutShort p found before after _ = ⊥
+
+-- Of the rounds of a plan so many workers made the first ones, from none to all of them; why no more was done, and what
+-- was printed.
+pub record IsPlayedInPart (workers : ℕ) (p : Plan) (before after : World) (s : Status) : Type 0 where
+  pub found : List Found
+  pub made : AreFound workers p found
+  pub why : WhyCutShort p found before after s
 
 -- Why a text wasn't printed whole, and what of it was.
 abbrev pub WhyUnprinted : List ℕ → World → World → Status → Type 0
@@ -79,18 +91,21 @@ WhyUnkept name content before after status.Memory = Stays before after
 WhyUnkept name content before after status.TooLarge = IsTooLong content before after
 WhyUnkept name content before after _ = ⊥
 
--- Why of some texts not all were printed, or, after all were, why the memo of a name, if there is one, wasn't written:
--- what came before, and why.
-pub record IsUnkeptAfter (name : Option Text) (texts : List (List ℕ)) (content : List ℕ) (before after : World)
-    (s : Status) : Type 0 where
-  pub between : World
-  pub counts : NoneFell before between
-  pub prints : Prints before between (concat texts)
-  pub kept : Text
-  pub is_named : name ≡ Some kept
-  pub why : WhyUnkept kept content between after s
+-- All rounds of a plan were made by so many workers, and their texts printed; and why the memo of what the last one
+-- leaves, of this name, wasn't written.
+pub record IsUnkeptAfter (name : Option Text) (workers : ℕ) (p : Plan) (before after : World) (s : Status) : Type 0
+  where
+    pub found : List Found
+    pub made : AreFound workers p found
+    pub all : length found ≡ length p.inputs
+    pub between : World
+    pub counts : NoneFell before between
+    pub prints : Prints before between (concat (texts_of p found))
+    pub kept : Text
+    pub is_named : name ≡ Some kept
+    pub why : WhyUnkept kept (memo (left_of p found)) between after s
 
--- Why not all was done of some texts and of the memo of a name, if there is one.
-abbrev pub WhyUndone : Option Text → List (List ℕ) → List ℕ → World → World → Status → Type 0
-WhyUndone name texts content before after s =
-    WhyCutShort texts before after s ⊎ IsUnkeptAfter name texts content before after s
+-- Why not all was done of the rounds of a plan and of the memo of a name, if there is one.
+abbrev pub WhyUndone : Option Text → ℕ → Plan → World → World → Status → Type 0
+WhyUndone name workers p before after s =
+    IsPlayedInPart workers p before after s ⊎ IsUnkeptAfter name workers p before after s

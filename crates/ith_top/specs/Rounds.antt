@@ -3,10 +3,10 @@ use Rattle.std.specs.Prelude.{◌≡◌, ℕ, true, List, All, IfSome, Some, sli
 use Rattle.machine_spec.specs.Setup.{first, is_permitted, is_complete, records}
 use Rattle.history_spec.specs.History.{History, IsHonest}
 use Rattle.memo_spec.specs.Spelling.{IsSpellable}
-use Rattle.report_spec.specs.Report.{threads_of, instructions_from}
-use Rattle.round_spec.specs.Marks.{marked}
+use Rattle.report_spec.specs.Report.{instructions_from}
+use Rattle.round_spec.specs.Alone.{one_worker}
 use Rattle.round_spec.specs.Unedited.{OnlyReuses}
-use Rattle.rerun_spec.specs.Rounds.{Round, Beginning, made, left_by, schedule_in, entries_of, machine_of, rounds_after, IsRepeated}
+use Rattle.rerun_spec.specs.Rounds.{Found, Round, Beginning, made, left_by, schedule_in, entries_of, machine_of, rounds_after, IsRepeated}
 use Rattle.rerun_spec.specs.Reports.{reports_of, made_reports, all_exit, all_made_exit}
 use Rattle.ith_top.specs.Contents.{Plan}
 
@@ -23,29 +23,31 @@ pub record Repeats (before after : Round) : Type 0 where
   pub schedule : schedule_in after ≡ schedule_in before
   pub machine : machine_of after ≡ machine_of before
 
--- What is promised of a round: the schedule that it prints is the one that was made, permitted and complete; a step is
--- reused exactly where the record of it fits; and what it leaves is of its own setup and honest, its records those of
+-- What is promised of a round, whoever of so many workers made its steps: the schedule that it prints is the one that
+-- was made, permitted and complete; a step is marked as reused exactly where the record of it fits; one worker makes
+-- the schedule that follows the choice; and what the round leaves is of its own setup and honest, its records those of
 -- the machine from scratch, entry by entry.
-pub record IsPromised (r : Round) : Type 0 where
-  pub entries : (made r).schedule ≡ entries_of r
-  pub permitted : is_permitted r.setup (threads_of (entries_of r)) ≡ true
-  pub complete : is_complete r.setup (threads_of (entries_of r)) ≡ true
-  pub marks : entries_of r ≡ marked r.past r.setup (threads_of (entries_of r))
+pub record IsPromised (workers : ℕ) (r : Round) : Type 0 where
+  pub entries : (made r).schedule ≡ r.found.entries
+  pub permitted : is_permitted r.setup (schedule_in r) ≡ true
+  pub complete : is_complete r.setup (schedule_in r) ≡ true
+  pub marks : r.found.entries ≡ entries_of r
+  pub alone : workers ≡ 1 → schedule_in r ≡ one_worker r.setup r.past
   pub setup : (left_by r).setup ≡ r.setup
   pub honest : IsHonest (left_by r)
-  pub records : (left_by r).records ≡ records r.setup (threads_of (entries_of r))
+  pub records : (left_by r).records ≡ records r.setup (schedule_in r)
 
--- The rounds of a plan.
-abbrev pub rounds_of : Plan → List Round
-rounds_of p = rounds_after p.beginning p.inputs
+-- The rounds of a plan, as far as their workers found them.
+abbrev pub rounds_of : Plan → List Found → List Round
+rounds_of p found = rounds_after p.beginning p.inputs found
 
 -- What is promised of rounds, each going by what the one before it leaves: each keeps what is promised of it; the texts
 -- that tell of them as they were made are their reports, which are of the machine from scratch, and so is whether each
 -- ended by exit; one without an edit repeats the round before it; and so does the first, where it goes by a history of
 -- its very setup.
 pub record ArePromised (workers : ℕ) (rounds : List Round) : Type 0 where
-  pub each : All IsPromised rounds
-  pub reports : made_reports workers rounds ≡ reports_of workers rounds
+  pub each : All (IsPromised workers) rounds
+  pub reports : made_reports rounds ≡ reports_of rounds
   pub exits : all_made_exit rounds ≡ all_exit rounds
   pub repeated : (before after : Round) → IsRepeated rounds before after → Repeats before after
   pub unedited : (r : Round) (h : History)

@@ -8,9 +8,11 @@ ghost use Rattle.ith_top.specs.Completing.{Completes};
 
 use ith_host::{Gate, Host};
 use std::alloc::Global;
+use std::sync::Wait;
 use std::thread::Threads;
 
 mod complaints;
+mod crew;
 mod files;
 mod keeping;
 mod outside;
@@ -33,16 +35,17 @@ pub use status::Status;
 /// `rerun MEMO [EDITS].. --workers W --fuel F --memo FILE` goes on from the round that a memo holds: once for each edit
 /// list, or once without an edit; with the memo's fuel where the line names none.
 ///
-/// Each round takes from the round before it the steps whose records fit, and executes the others. The report of each
-/// round is printed before the next round begins; after the last one the memo of what it leaves is written, where the
-/// line names one. The options may be left out.
+/// The line's workers make each round together: it takes from the round before it the steps whose records fit, and
+/// they execute the others, where each comes to the gate before it executes a thunk. The report of each round tells the
+/// schedule that they found and how many steps each of them made, and is printed before the next round begins; after
+/// the last one the memo of what it leaves is written, where the line names one. The options may be left out.
 ///
 /// `show MEMO` lists a memo.
 ///
-/// The files are read in the line's order, each once, and no other is. The runtime is lent for the counter of turns,
-/// which nothing below this call can make of its own.
+/// The files are read in the line's order, each once, and no other is. The runtime is lent for the workers, and for the
+/// counters of their turns, which nothing below this call can make of its own.
 #[tactic(auto, using(crate::proofs::Complete::complete))]
-pub fn top<R: Threads + Sync, H: Host, G: Gate + Sync>(
+pub fn top<R: Threads + Wait + Sync, H: Host, G: Gate + Sync>(
     rt: &R,
     alloc: Global,
     words: &[String],
@@ -52,5 +55,5 @@ pub fn top<R: Threads + Sync, H: Host, G: Gate + Sync>(
     ensures answers { Answers (line_of (map string_bytes words.now)) (H.world host.old) (H.world host.new) result }
     ensures complete { Completes (line_of (map string_bytes words.now)) (H.world host.old) (H.world host.new) result }
 {
-    program::status_of(rt, alloc, words, host).code()
+    program::status_of(rt, alloc, words, host, gate).code()
 }

@@ -1,55 +1,47 @@
 //! What the program does of a line, from the first read to the last write.
 
-ghost use Rattle.std.specs.Prelude.{◌≡◌, ◌≤◌, ⊤, map, option_map, string_bytes, All, IfOk, IfErr};
-ghost use Rattle.std.specs.List.{concat};
+ghost use Rattle.std.specs.Prelude.{option_map, map, string_bytes, IfOk, IfErr};
 ghost use Rattle.ith_host.specs.World.{NoneFell, AsksNothing};
-ghost use Rattle.memo_spec.specs.Spelling.{memo};
-ghost use Rattle.rerun_spec.specs.Reports.{made_reports, all_made_exit};
 ghost use Rattle.ith_words.specs.Words as said;
 ghost use Rattle.ith_words.specs.Words.{Runs, Reruns};
 ghost use Rattle.ith_words.specs.Said.{run_said, rerun_said};
-ghost use Rattle.ith_top.specs.Rounds.{rounds_of, CanBeKept};
-ghost use Rattle.ith_top.specs.Ends.{left_of, IsKeptWithin, PrintsAndKeeps, RoundsEnd, Ends};
+ghost use Rattle.ith_top.specs.Ends.{RoundsEnd, Ends};
 ghost use Rattle.ith_top.specs.Refusals.{WhyUndone};
-ghost use Rattle.ith_top.specs.Playing.{plan_said, CanBePlayed};
+ghost use Rattle.ith_top.specs.Playing.{plan_said, CanBePlayed, CanBeSpelled, IsCarriedOut};
 
 use super::complaints::NO_MEMORY;
+use super::crew::Crew;
 use super::keeping::keep;
 use super::plan::{Plan, prepare, prepare_rerun};
 use super::rounds::{Outcome, play};
 use super::showing::show;
 use super::status::Status;
-use ith_host::Host;
+use ith_host::{Gate, Host};
 use ith_words::{Line, LineFault, RerunLine, RunLine, line_of};
 use std::alloc::Global;
+use std::sync::Wait;
 use std::thread::Threads;
 
 /// Makes the rounds of a plan, prints their texts, and writes the memo of what the last one leaves, if it has a name.
 /// The answer is whether each round ended by exit.
-fn carry_out<R: Threads, H: Host>(
+fn carry_out<R: Threads + Wait + Sync, H: Host, G: Gate + Sync>(
     rt: &R,
     alloc: Global,
     host: &mut H,
     plan: Plan,
-    workers: u32,
+    crew: &Crew<'_, G>,
     kept: Option<&str>,
 ) -> Result<bool, Status>
-    requires some { 1 ≤ workers }
     requires playable { CanBePlayed (plan_said plan) }
-    requires spelled { All CanBeKept (rounds_of (plan_said plan)) }
-    ensures done { IfOk result (λ _. PrintsAndKeeps (option_map (λ name. name.now) kept.entry)
-        (memo (left_of (plan_said plan))) (H.world host.old) (H.world host.new)
-        (concat (made_reports workers (rounds_of (plan_said plan))))) }
-    ensures within { IfOk result (λ _. IsKeptWithin (option_map (λ name. name.now) kept.entry)
-        (memo (left_of (plan_said plan)))) }
-    ensures exits { IfOk result (λ exits. all_made_exit (rounds_of (plan_said plan)) ≡ exits) }
-    ensures refused { IfErr result (λ status. WhyUndone (option_map (λ name. name.now) kept.entry)
-        (made_reports workers (rounds_of (plan_said plan))) (memo (left_of (plan_said plan)))
-        (H.world host.old) (H.world host.new) status) }
+    requires spelled { CanBeSpelled (plan_said plan) }
+    ensures done { IfOk result (λ exits. IsCarriedOut (option_map (λ name. name.now) kept.entry) crew.now.workers
+        (plan_said plan) (H.world host.old) (H.world host.new) exits) }
+    ensures refused { IfErr result (λ status. WhyUndone (option_map (λ name. name.now) kept.entry) crew.now.workers
+        (plan_said plan) (H.world host.old) (H.world host.new) status) }
     ensures asked { AsksNothing (H.world host.old) (H.world host.new) }
     ensures counts { NoneFell (H.world host.old) (H.world host.new) }
 {
-    let Outcome { exits, left } = match play(rt, alloc, host, plan, workers) {
+    let Outcome { exits, left } = match play(rt, alloc, host, plan, crew) {
         Ok(outcome) => outcome,
         Err(status) => return Err(status),
     };
@@ -63,14 +55,24 @@ fn carry_out<R: Threads, H: Host>(
 }
 
 /// All that a line that runs a guest asks for.
-fn run<R: Threads, H: Host>(rt: &R, alloc: Global, host: &mut H, line: &RunLine<'_>) -> Status
+fn run<R: Threads + Wait + Sync, H: Host, G: Gate + Sync>(
+    rt: &R,
+    alloc: Global,
+    host: &mut H,
+    line: &RunLine<'_>,
+    gate: &G,
+) -> Status
     ensures { RoundsEnd (Runs (run_said line.now)) (H.world host.old) (H.world host.new) result }
 {
     let plan = match prepare(alloc, host, line) {
         Ok(plan) => plan,
         Err(status) => return status,
     };
-    match carry_out(rt, alloc, host, plan, line.workers, line.kept) {
+    let crew = Crew {
+        workers: line.workers,
+        gate,
+    };
+    match carry_out(rt, alloc, host, plan, &crew, line.kept) {
         Ok(true) => Status::Finished,
         Ok(false) => Status::Unfinished,
         Err(status) => status,
@@ -78,14 +80,24 @@ fn run<R: Threads, H: Host>(rt: &R, alloc: Global, host: &mut H, line: &RunLine<
 }
 
 /// All that a line that reruns a memo asks for.
-fn rerun<R: Threads, H: Host>(rt: &R, alloc: Global, host: &mut H, line: &RerunLine<'_>) -> Status
+fn rerun<R: Threads + Wait + Sync, H: Host, G: Gate + Sync>(
+    rt: &R,
+    alloc: Global,
+    host: &mut H,
+    line: &RerunLine<'_>,
+    gate: &G,
+) -> Status
     ensures { RoundsEnd (Reruns (rerun_said line.now)) (H.world host.old) (H.world host.new) result }
 {
     let plan = match prepare_rerun(alloc, host, line) {
         Ok(plan) => plan,
         Err(status) => return status,
     };
-    match carry_out(rt, alloc, host, plan, line.workers, line.kept) {
+    let crew = Crew {
+        workers: line.workers,
+        gate,
+    };
+    match carry_out(rt, alloc, host, plan, &crew, line.kept) {
         Ok(true) => Status::Finished,
         Ok(false) => Status::Unfinished,
         Err(status) => status,
@@ -93,17 +105,18 @@ fn rerun<R: Threads, H: Host>(rt: &R, alloc: Global, host: &mut H, line: &RerunL
 }
 
 /// What the words ask for is done.
-pub fn status_of<R: Threads, H: Host>(
+pub fn status_of<R: Threads + Wait + Sync, H: Host, G: Gate + Sync>(
     rt: &R,
     alloc: Global,
     words: &[String],
     host: &mut H,
+    gate: &G,
 ) -> Status
     ensures { Ends (said.line_of (map string_bytes words.now)) (H.world host.old) (H.world host.new) result }
 {
     match line_of(alloc, words) {
-        Ok(Line::Run(line)) => run(rt, alloc, host, &line),
-        Ok(Line::Rerun(line)) => rerun(rt, alloc, host, &line),
+        Ok(Line::Run(line)) => run(rt, alloc, host, &line, gate),
+        Ok(Line::Rerun(line)) => rerun(rt, alloc, host, &line, gate),
         Ok(Line::Show(line)) => show(alloc, host, &line),
         Err(LineFault::Refused(text)) => {
             host.complain(text.as_slice());

@@ -1,26 +1,23 @@
 //! The rounds of a line, one after the other.
 
-ghost use Rattle.std.specs.Prelude.{◌≡◌, ◌≤◌, IfOk, IfErr};
+ghost use Rattle.std.specs.Prelude.{◌≡◌, IfOk, IfErr};
 ghost use Rattle.std.specs.Arc.{arc_value};
-ghost use Rattle.std.specs.List.{concat};
 ghost use Rattle.ith_host.specs.World.{Stays, NoneFell, AsksNothing};
-ghost use Rattle.rerun_spec.specs.Reports.{made_reports, all_made_exit};
-ghost use Rattle.ith_top.specs.Rounds.{rounds_of};
-ghost use Rattle.ith_top.specs.Ends.{Prints, left_of};
-ghost use Rattle.ith_top.specs.Refusals.{WhyCutShort};
-ghost use Rattle.ith_top.specs.Playing.{coming_said, plan_said, CanBePlayed};
+ghost use Rattle.ith_top.specs.Refusals.{IsPlayedInPart};
+ghost use Rattle.ith_top.specs.Playing.{coming_said, plan_said, CanBePlayed, IsPlayed};
 ghost use Rattle.ith_top.specs.declared.status.Status.TheVariants as status;
 
 use super::complaints::NO_MEMORY;
+use super::crew::Crew;
 use super::outside::print_text;
 use super::plan::{Plan, Start};
 use super::report::{Next, Played, make_round};
 use super::status::Status;
-use ith_host::Host;
+use ith_host::{Gate, Host};
 use release_core::{History, Setup};
 use round_inputs::Inputs;
 use std::alloc::Global;
-use std::sync::Arc;
+use std::sync::{Arc, Wait};
 use std::thread::Threads;
 
 /// What the rounds of a line came to.
@@ -56,22 +53,18 @@ pub struct Coming {
 
 /// Makes the rounds of a program that are to come, each going by what the one before it leaves, and prints the text of
 /// each before the next begins.
-fn make_rounds<R: Threads, H: Host>(
+fn make_rounds<R: Threads + Wait + Sync, H: Host, G: Gate + Sync>(
     rt: &R,
     alloc: Global,
     host: &mut H,
     setup: &Setup,
     coming: Coming,
-    workers: u32,
+    crew: &Crew<'_, G>,
 ) -> Result<Outcome, Status>
-    requires some { 1 ≤ workers }
-    requires playable { CanBePlayed (coming_said setup.now coming) }
-    ensures printed { IfOk result (λ outcome. Prints (H.world host.old) (H.world host.new)
-        (concat (made_reports workers (rounds_of (coming_said setup.now coming))))) }
-    ensures exits { IfOk result (λ outcome. outcome.exits ≡ all_made_exit (rounds_of (coming_said setup.now coming))) }
-    ensures left { IfOk result (λ outcome. arc_value outcome.left ≡ left_of (coming_said setup.now coming)) }
-    ensures refused { IfErr result (λ status. WhyCutShort
-        (made_reports workers (rounds_of (coming_said setup.now coming)))
+    requires { CanBePlayed (coming_said setup.now coming) }
+    ensures played { IfOk result (λ outcome. IsPlayed crew.now.workers (coming_said setup.now coming)
+        (H.world host.old) (H.world host.new) outcome.exits (arc_value outcome.left)) }
+    ensures refused { IfErr result (λ status. IsPlayedInPart crew.now.workers (coming_said setup.now coming)
         (H.world host.old) (H.world host.new) status) }
     ensures asked { AsksNothing (H.world host.old) (H.world host.new) }
     ensures counts { NoneFell (H.world host.old) (H.world host.new) }
@@ -95,7 +88,7 @@ fn make_rounds<R: Threads, H: Host>(
             past,
         };
         let Played { text, exited, left } = match make_round(
-            rt, alloc, setup, ahead, workers, &mut last,
+            rt, alloc, setup, ahead, crew, &mut last,
         ) {
             Ok(played) => played,
             Err(_) => return Err(no_memory(host)),
@@ -115,20 +108,17 @@ fn make_rounds<R: Threads, H: Host>(
 
 /// Makes the rounds of a plan, each going by what the one before it leaves, and prints the text of each before the next
 /// begins.
-pub fn play<R: Threads, H: Host>(
+pub fn play<R: Threads + Wait + Sync, H: Host, G: Gate + Sync>(
     rt: &R,
     alloc: Global,
     host: &mut H,
     plan: Plan,
-    workers: u32,
+    crew: &Crew<'_, G>,
 ) -> Result<Outcome, Status>
-    requires some { 1 ≤ workers }
-    requires playable { CanBePlayed (plan_said plan) }
-    ensures printed { IfOk result (λ outcome. Prints (H.world host.old) (H.world host.new)
-        (concat (made_reports workers (rounds_of (plan_said plan))))) }
-    ensures exits { IfOk result (λ outcome. outcome.exits ≡ all_made_exit (rounds_of (plan_said plan))) }
-    ensures left { IfOk result (λ outcome. arc_value outcome.left ≡ left_of (plan_said plan)) }
-    ensures refused { IfErr result (λ status. WhyCutShort (made_reports workers (rounds_of (plan_said plan)))
+    requires { CanBePlayed (plan_said plan) }
+    ensures played { IfOk result (λ outcome. IsPlayed crew.now.workers (plan_said plan)
+        (H.world host.old) (H.world host.new) outcome.exits (arc_value outcome.left)) }
+    ensures refused { IfErr result (λ status. IsPlayedInPart crew.now.workers (plan_said plan)
         (H.world host.old) (H.world host.new) status) }
     ensures asked { AsksNothing (H.world host.old) (H.world host.new) }
     ensures counts { NoneFell (H.world host.old) (H.world host.new) }
@@ -144,5 +134,5 @@ pub fn play<R: Threads, H: Host>(
         past,
         inputs,
     };
-    make_rounds(rt, alloc, host, &setup, coming, workers)
+    make_rounds(rt, alloc, host, &setup, coming, crew)
 }

@@ -4,6 +4,7 @@ use ith_host::{MemHost, OpenGate};
 use machine_spec::MOST_INPUT_BYTES;
 use std::alloc::{AllocError, Global};
 use std::collections::BTreeMap;
+use std::sync::Wait;
 use std::test::Fail;
 use std::thread::Threads;
 
@@ -59,7 +60,7 @@ fn host_with(alloc: Global, failing: &[u64], part: u64) -> Result<MemHost, Alloc
 }
 
 /// The status of a line, whose words stand between spaces.
-fn status_of<R: Threads + Sync>(
+fn status_of<R: Threads + Wait + Sync>(
     rt: &R,
     alloc: Global,
     host: &mut MemHost,
@@ -134,7 +135,7 @@ const REFUSED: [(&str, u8, &str); 26] = [
 ];
 
 /// Whether a line is refused with this status and complaint, and prints nothing.
-fn is_refused<R: Threads + Sync>(
+fn is_refused<R: Threads + Wait + Sync>(
     rt: &R,
     alloc: Global,
     line: &str,
@@ -222,7 +223,7 @@ const FAILING: [Failing; 6] = [
 ];
 
 /// Whether a line ends as told, and leaves no memo.
-fn ends_as_told<R: Threads + Sync>(
+fn ends_as_told<R: Threads + Wait + Sync>(
     rt: &R,
     alloc: Global,
     case: &Failing,

@@ -3,6 +3,8 @@
 #![tactic(auto)]
 
 #[cfg(test)]
+mod faults;
+#[cfg(test)]
 mod lines;
 #[cfg(test)]
 mod memos;
@@ -10,3 +12,7 @@ mod memos;
 mod runs;
 #[cfg(test)]
 mod schedules;
+#[cfg(test)]
+mod told;
+#[cfg(test)]
+mod workers;

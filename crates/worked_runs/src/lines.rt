@@ -1,10 +1,11 @@
 //! Lines of the program, done one after the other at one host, and what each prints.
 
-use ith_host::{MemHost, OpenGate};
+use ith_host::{Gate, MemHost, OpenGate};
 use ith_top::top;
 use std::alloc::{AllocError, Global};
 use std::collections::BTreeMap;
 use std::process::Abort;
+use std::sync::Wait;
 use std::test::Fail;
 use std::thread::Threads;
 use worked_guests::guests::{CREATES, NAMED, PUTS, RESULTS};
@@ -35,16 +36,16 @@ pub(super) fn executable(alloc: Global, guest: Guest) -> Result<Vec<u8>, AllocEr
     }
 }
 
-/// An input of zeros, but for a 5 at its beginning and a 7 at the beginning of its second page.
-fn two_pages(alloc: Global) -> Result<Vec<u8>, AllocError> {
+/// An input of zeros, but for a 5 at its beginning and another byte at the beginning of its second page.
+pub(super) fn two_pages(alloc: Global, second: u8) -> Result<Vec<u8>, AllocError> {
     let mut input = vec![in alloc; 0u8; 4100]?;
     input[0] = 5;
-    input[4096] = 7;
+    input[4096] = second;
     Ok(input)
 }
 
 /// Puts a file under its name.
-fn put(
+pub(super) fn put(
     alloc: Global,
     files: &mut BTreeMap<String, Vec<u8>>,
     name: &str,
@@ -54,8 +55,8 @@ fn put(
     Ok(())
 }
 
-/// A host that has the executable of each guest, and the inputs and edit lists, under their names.
-pub(super) fn host_with_guests(alloc: Global) -> Result<MemHost, AllocError> {
+/// The executable of each guest, and the inputs and edit lists, under their names.
+pub(super) fn guest_files(alloc: Global) -> Result<BTreeMap<String, Vec<u8>>, AllocError> {
     let mut files = BTreeMap::new(alloc);
     for (name, guest) in NAMED {
         put(alloc, &mut files, name, executable(alloc, guest)?)?;
@@ -63,29 +64,45 @@ pub(super) fn host_with_guests(alloc: Global) -> Result<MemHost, AllocError> {
     put(alloc, &mut files, "puts", executable(alloc, PUTS)?)?;
     put(alloc, &mut files, "creates", executable(alloc, CREATES)?)?;
     put(alloc, &mut files, "results", executable(alloc, RESULTS)?)?;
-    put(alloc, &mut files, "pages", two_pages(alloc)?)?;
+    put(alloc, &mut files, "pages", two_pages(alloc, 7)?)?;
     for (name, bytes) in FILES {
         put(alloc, &mut files, name, Vec::from_slice(alloc, bytes)?)?;
     }
-    Ok(MemHost::new(alloc, files, Vec::new(alloc), 0))
+    Ok(files)
 }
 
-/// The status of a line.
-pub(super) fn status_of<R: Threads + Sync>(
+/// A host that has the executable of each guest, and the inputs and edit lists, under their names.
+pub(super) fn host_with_guests(alloc: Global) -> Result<MemHost, AllocError> {
+    Ok(MemHost::new(alloc, guest_files(alloc)?, Vec::new(alloc), 0))
+}
+
+/// The status of a line whose workers come to a gate.
+pub(super) fn status_at<R: Threads + Wait + Sync, G: Gate + Sync>(
     rt: &R,
     alloc: Global,
     host: &mut MemHost,
     line: &str,
+    gate: &G,
 ) -> Result<u8, AllocError> {
     let mut words = Vec::new(alloc);
     for word in line.split_whitespace() {
         words.push(String::from_str(alloc, word)?)?;
     }
-    Ok(top(rt, alloc, &words, host, &OpenGate))
+    Ok(top(rt, alloc, &words, host, gate))
+}
+
+/// The status of a line.
+pub(super) fn status_of<R: Threads + Wait + Sync>(
+    rt: &R,
+    alloc: Global,
+    host: &mut MemHost,
+    line: &str,
+) -> Result<u8, AllocError> {
+    status_at(rt, alloc, host, line, &OpenGate)
 }
 
 /// The bytes from a place on.
-fn bytes_from(bytes: &[u8], place: usize) -> &[u8] {
+pub(super) fn bytes_from(bytes: &[u8], place: usize) -> &[u8] {
     if place <= bytes.len() {
         &bytes[place..]
     } else {
@@ -107,7 +124,7 @@ fn is_told(text: &[u8], told: &str) -> bool {
 }
 
 /// Whether a line has its status, and prints what is told.
-fn is_done<R: Threads + Sync>(
+fn is_done<R: Threads + Wait + Sync>(
     rt: &R,
     alloc: Global,
     host: &mut MemHost,
@@ -119,7 +136,7 @@ fn is_done<R: Threads + Sync>(
 }
 
 /// Does lines, and compares.
-pub(super) fn compare<R: Threads + Sync + Abort>(
+pub(super) fn compare<R: Threads + Wait + Sync + Abort>(
     rt: &R,
     alloc: Global,
     host: &mut MemHost,

@@ -6,6 +6,7 @@ use sha2::{Digest, Sha256};
 use std::alloc::{AllocError, Global};
 use std::collections::BTreeMap;
 use std::process::Abort;
+use std::sync::Wait;
 use std::test::Fail;
 use std::thread::Threads;
 
@@ -181,7 +182,7 @@ fn another_fuel_is_asked_for(rt: HostRuntime) -> Result<(), Fail> {
 }
 
 /// The memo of the guest that puts out `hi`.
-fn memo_of_hi<R: Threads + Sync>(rt: &R, alloc: Global) -> Result<Vec<u8>, AllocError> {
+fn memo_of_hi<R: Threads + Wait + Sync>(rt: &R, alloc: Global) -> Result<Vec<u8>, AllocError> {
     let mut host = host_with_guests(alloc)?;
     let line = "ithreads run hi none --workers 1 --memo m";
     status_of(rt, alloc, &mut host, line)?;
@@ -245,7 +246,7 @@ fn sealed(mut memo: Vec<u8>) -> Result<Vec<u8>, AllocError> {
 }
 
 /// Whether a memo is refused with this complaint, and nothing is printed.
-fn is_refused<R: Threads + Sync>(
+fn is_refused<R: Threads + Wait + Sync>(
     rt: &R,
     alloc: Global,
     memo: Vec<u8>,
@@ -260,7 +261,7 @@ fn is_refused<R: Threads + Sync>(
 }
 
 /// Damages a memo, and compares what is complained of.
-fn compare_damage<R: Threads + Sync + Abort>(
+fn compare_damage<R: Threads + Wait + Sync + Abort>(
     rt: &R,
     alloc: Global,
     memo: &[u8],
@@ -277,7 +278,7 @@ fn compare_damage<R: Threads + Sync + Abort>(
 }
 
 /// Cuts a memo off, and compares what is complained of.
-fn compare_cut<R: Threads + Sync + Abort>(
+fn compare_cut<R: Threads + Wait + Sync + Abort>(
     rt: &R,
     alloc: Global,
     memo: &[u8],

@@ -3,6 +3,7 @@
 use super::lines::{Row, compare, host_with_guests, status_of};
 use ith_host::MemHost;
 use std::alloc::{AllocError, Global};
+use std::sync::Wait;
 use std::test::Fail;
 use std::thread::Threads;
 
@@ -77,7 +78,7 @@ const ANSWERS: [(&str, &str, &[u8]); 3] = [
 ];
 
 /// Whether a run ends with 0, and its report begins and ends with these bytes.
-fn puts_out<R: Threads + Sync>(
+fn puts_out<R: Threads + Wait + Sync>(
     rt: &R,
     alloc: Global,
     line: &str,
@@ -142,21 +143,21 @@ fn edits_execute_what_they_reach(rt: HostRuntime) -> Result<(), Fail> {
 /// Runs under a fuel and a step limit.
 const LIMITS: [Row; 3] = [
     (
-        "ithreads run hi none --fuel 5 --steps 2",
+        "ithreads run hi none --workers 1 --fuel 5 --steps 2",
         0,
-        "round 0\nend exit 0\nsteps 2\nreused 0\nexecuted 2\ninstructions 8\nby 2 0 0 0\nschedule 0+ 0+\n\
+        "round 0\nend exit 0\nsteps 2\nreused 0\nexecuted 2\ninstructions 8\nby 2\nschedule 0+ 0+\n\
          memory *\noutput 3\nhi\n\n",
     ),
     (
-        "ithreads run hi none --fuel 4",
+        "ithreads run hi none --workers 1 --fuel 4",
         1,
-        "round 0\nend spent\nsteps 1\nreused 0\nexecuted 1\ninstructions 4\nby 1 0 0 0\nschedule 0+\n\
+        "round 0\nend spent\nsteps 1\nreused 0\nexecuted 1\ninstructions 4\nby 1\nschedule 0+\n\
          memory *\noutput 0\n\n",
     ),
     (
-        "ithreads run hi none --steps 1",
+        "ithreads run hi none --workers 1 --steps 1",
         1,
-        "round 0\nend spent\nsteps 1\nreused 0\nexecuted 1\ninstructions 5\nby 1 0 0 0\nschedule 0+\n\
+        "round 0\nend spent\nsteps 1\nreused 0\nexecuted 1\ninstructions 5\nby 1\nschedule 0+\n\
          memory *\noutput 3\nhi\n\n",
     ),
 ];

@@ -3,7 +3,7 @@
 ghost use Rattle.std.specs.Prelude.{◌≡◌, ◌<◌};
 
 use super::lines::executable;
-use machine_spec::{End, Limits};
+use machine_spec::{End, Limits, MOST_INPUT_BYTES};
 use page_store::PageTable;
 use propagate::{Round, drive};
 use release_core::Setup;
@@ -20,7 +20,7 @@ use worked_guests::guests::{BYTES, CROSS, PUTS};
 /// The setup of a guest and an input, or none where it is too long or isn't taken.
 fn setup_of(alloc: Global, guest: Guest, input: &[u8]) -> Result<Option<Setup>, AllocError> {
     let file = executable(alloc, guest)?;
-    if file.len() > 4096 || input.len() > 4096 {
+    if file.len() > 4096 || input.len() > MOST_INPUT_BYTES {
         return Ok(None);
     }
     match Limits::new(1_000_000, 4096) {
@@ -59,7 +59,7 @@ fn driven<R: Threads>(
 }
 
 /// The round of a guest in which each step of a schedule is taken and committed before the next.
-fn scheduled<R: Threads>(
+pub(super) fn scheduled<R: Threads>(
     rt: &R,
     alloc: Global,
     guest: Guest,

@@ -7,5 +7,7 @@ use Rattle.ith_top.proofs.program.carry_out.Goals as goal
 
 pub keep-requires : goal.keep-requires
 keep-requires g c =
-    subst IsSpellable (sym (c.deref.ensures ∙ c.in-Ok.ensures.left))
-    (last_spelled (plan_said c.args.plan) c.requires.playable c.requires.spelled)
+    let played = c.in-Ok.ensures.played in
+    subst IsSpellable (sym (c.deref.ensures ∙ played.is_left))
+    (last_spelled c.args.crew.now.workers (plan_said c.args.plan) played.found c.requires.playable c.requires.spelled
+    played.made played.all)

@@ -1,34 +1,28 @@
 -- Answers to the goals that the check leaves of `rerun`.
-use Rattle.std.proofs.Common.{◌∙◌}
 use Rattle.ith_words.specs.Words.{Line, Reruns}
 use Rattle.ith_words.specs.Said.{rerun_said}
 use Rattle.ith_top.specs.Contents.{Plan}
 use Rattle.ith_top.specs.Playing.{plan_said}
 use Rattle.ith_top.proofs.Done.{finished, unfinished, undone}
-use Rattle.ith_top.proofs.Promises.{each_kept}
 use Rattle.ith_top.proofs.program.rerun.Goals as goal
-
-pub carry_out-requires-clause-spelled : goal.carry_out-requires-clause-spelled
-carry_out-requires-clause-spelled g c =
-    each_kept (plan_said c.in-Ok.plan) c.in-Ok.ensures.playable c.in-Ok.ensures.spelled
 
 pub returns-in-Ok-true : goal.returns-in-Ok-true
 returns-in-Ok-true g c =
     let w = g.H.Host.world in
     let done = c.in-Ok-true.ensures in let line : Line = Reruns (rerun_said c.args.line.now) in let p : Plan =
     plan_said c.in-Ok.plan in
-    finished line (w c.args.host.now) (w c.prepare_rerun.new.host) (w c.carry_out.new.host) p
+    finished line (w c.args.host.now) (w c.prepare_rerun.new.host) (w c.carry_out.new.host) p c.in-Ok-true.field-0
     c.in-Ok.ensures.plan c.in-Ok.ensures.playable c.in-Ok.ensures.spelled c.in-Ok.ensures.asked done.asked
-    c.in-Ok.ensures.stays done.done done.within (done.exits ∙ c.in-Ok-true.field-0-test)
+    c.in-Ok.ensures.stays done.done c.in-Ok-true.field-0-test
 
 pub returns-in-Ok-false : goal.returns-in-Ok-false
 returns-in-Ok-false g c =
     let w = g.H.Host.world in
     let done = c.in-Ok-false.ensures in let line : Line = Reruns (rerun_said c.args.line.now) in let p : Plan =
     plan_said c.in-Ok.plan in
-    unfinished line (w c.args.host.now) (w c.prepare_rerun.new.host) (w c.carry_out.new.host) p
+    unfinished line (w c.args.host.now) (w c.prepare_rerun.new.host) (w c.carry_out.new.host) p c.in-Ok-false.field-0
     c.in-Ok.ensures.plan c.in-Ok.ensures.playable c.in-Ok.ensures.spelled c.in-Ok.ensures.asked done.asked
-    c.in-Ok.ensures.stays done.done done.within (done.exits ∙ c.in-Ok-false.field-0-test)
+    c.in-Ok.ensures.stays done.done c.in-Ok-false.field-0-test
 
 pub returns-in-Err-carry_out : goal.returns-in-Err-carry_out
 returns-in-Err-carry_out g c =

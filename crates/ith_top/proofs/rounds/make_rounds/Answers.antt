@@ -1,5 +1,5 @@
 -- Answers to the goals that the check leaves of `make_rounds`.
-use Rattle.std.proofs.Common.{◌≡◌, ◌+◌, ◌∷◌, ℕ, Option, Some, None, length, refl, ap, ◌∙◌, subst, arith}
+use Rattle.std.proofs.Common.{◌≡◌, ◌+◌, ◌∷◌, ℕ, Option, Some, None, length, refl, ap, subst, arith}
 use Rattle.std.specs.Prelude.{option_map}
 use Rattle.std.specs.Arc.{arc_value}
 use Rattle.history_spec.specs.History.{History}
@@ -8,7 +8,7 @@ use Rattle.machine_spec.specs.Setup.{Setup}
 use Rattle.rerun_spec.specs.Rounds.{Beginning}
 use Rattle.ith_top.proofs.Reading.{none_fell_same}
 use Rattle.ith_top.proofs.Making.{left_map}
-use Rattle.ith_top.proofs.Going.{going_start, going_next, going_printed, going_exits, going_left, going_cut, going_unprinted, none_left, short_first, short_rest}
+use Rattle.ith_top.proofs.Going.{going_start, going_next, going_played, going_cut, going_unprinted, none_left, short_first, short_rest}
 use Rattle.ith_top.proofs.rounds.make_rounds.Goals as goal
 
 abbrev begins : ℕ → Option History → Setup → Beginning
@@ -21,12 +21,12 @@ loop-place-init g c =
     record {
       going = going_start (begins coming.number (option_map arc_value coming.past) c.args.setup.now)
           (begins (coming.number + 0) (option_map arc_value coming.past) c.args.setup.now)
-          c.args.workers coming.inputs (w c.args.host.now)
+          c.args.crew.now.workers coming.inputs (w c.args.host.now)
           (ap (λ (n : ℕ). begins n (option_map arc_value coming.past) c.args.setup.now) number)
           (none_fell_same (w c.args.host.now));
       left = omega (arith, c.len-place-end.ensures);
-      short = c.requires.playable.short;
-      map = c.requires.playable.map;
+      short = c.requires.short;
+      map = c.requires.map;
       some = λ none. refl;
     }
 
@@ -34,26 +34,28 @@ pub returns-in-Err-clause-refused : goal.returns-in-Err-clause-refused
 returns-in-Err-clause-refused g c =
     let w = g.H.Host.world in let coming = c.args.coming in
     rw (c.no_memory.ensures.status)
-    (going_cut (begins coming.number (option_map arc_value coming.past) c.args.setup.now) c.args.workers coming.inputs
+    (going_cut (begins coming.number (option_map arc_value coming.past) c.args.setup.now)
+    c.args.crew.now.workers coming.inputs
     (w c.args.host.now) (w c.loop-place.host) (w c.no_memory.new.host)
     (begins (coming.number + c.loop-place.place) (option_map arc_value c.loop-place.past) c.args.setup.now)
     c.loop-place.inputs c.loop-place.exits
     c.loop-place.invariant.going c.no_memory.ensures.stays)
 
 pub make_round-requires-clause-short : goal.make_round-requires-clause-short
-make_round-requires-clause-short g c =
+make_round-requires-clause-short g c = λ lifetimes bounds.
     let taken : c.loop-place.inputs ≡ c.in-Ok-Some.input.items ∷ c.next.new.self =
     rw c.in-Ok-Some.field-0-is at c.in-Ok-Some.ensures.taken in
     short_first c.in-Ok-Some.input.items c.next.new.self (subst AreShort taken c.loop-place.invariant.short)
 
 pub make_round-requires-clause-same : goal.make_round-requires-clause-same
-make_round-requires-clause-same g c = c.loop-place.invariant.map
+make_round-requires-clause-same g c = λ lifetimes bounds. c.loop-place.invariant.map
 
 pub returns-in-Err-make_round-clause-refused : goal.returns-in-Err-make_round-clause-refused
 returns-in-Err-make_round-clause-refused g c =
     let w = g.H.Host.world in let coming = c.args.coming in
     rw (c.no_memory-in-Err-make_round.ensures.status)
-    (going_cut (begins coming.number (option_map arc_value coming.past) c.args.setup.now) c.args.workers coming.inputs
+    (going_cut (begins coming.number (option_map arc_value coming.past) c.args.setup.now)
+    c.args.crew.now.workers coming.inputs
     (w c.args.host.now) (w c.loop-place.host) (w c.no_memory-in-Err-make_round.new.host)
     (begins (coming.number + c.loop-place.place) (option_map arc_value c.loop-place.past) c.args.setup.now)
     c.loop-place.inputs c.loop-place.exits
@@ -64,13 +66,13 @@ returns-in-Err-print_text-clause-refused g c =
     let w = g.H.Host.world in let coming = c.args.coming in
     let taken : c.loop-place.inputs ≡ c.in-Ok-Some.input.items ∷ c.next.new.self =
     rw c.in-Ok-Some.field-0-is at c.in-Ok-Some.ensures.taken in
-    going_unprinted (begins coming.number (option_map arc_value coming.past) c.args.setup.now) c.args.workers
-    coming.inputs (w c.args.host.now) (w c.loop-place.host) (w c.print_text.new.host)
+    going_unprinted (begins coming.number (option_map arc_value coming.past) c.args.setup.now)
+    c.args.crew.now.workers coming.inputs (w c.args.host.now) (w c.loop-place.host) (w c.print_text.new.host)
     (begins (coming.number + c.loop-place.place) (option_map arc_value c.loop-place.past) c.args.setup.now)
     c.in-Ok-Some.input.items c.next.new.self c.loop-place.exits
-    c.in-Ok.played.text.items c.in-Err-print_text.status
+    c.in-Ok.played.text.items c.in-Ok.played.exited (arc_value c.in-Ok.played.left) c.in-Err-print_text.status
     (rw taken at c.loop-place.invariant.going)
-    c.in-Ok.ensures.text
+    c.in-Ok.ensures
     (rw (← c.as_slice.ensures.value) c.in-Err-print_text.ensures.refused)
 
 pub loop-place-preserved : goal.loop-place-preserved
@@ -83,53 +85,30 @@ loop-place-preserved g c =
     let now : Beginning =
     begins (coming.number + c.loop-place.place) (option_map arc_value c.loop-place.past) c.args.setup.now in
     let number : coming.number + (c.loop-place.place + 1) ≡ coming.number + c.loop-place.place + 1 = omega arith in
-    let leaves = c.in-Ok.ensures.left in
     record {
-      going = going_next (begins coming.number (option_map arc_value coming.past) c.args.setup.now) c.args.workers
-          coming.inputs (w c.args.host.now) (w c.loop-place.host) (w c.print_text.new.host)
+      going = going_next (begins coming.number (option_map arc_value coming.past) c.args.setup.now)
+          c.args.crew.now.workers coming.inputs (w c.args.host.now) (w c.loop-place.host) (w c.print_text.new.host)
           now (begins (coming.number + (c.loop-place.place + 1))
           (Some (arc_value c.in-Ok.played.left)) c.args.setup.now)
           c.in-Ok-Some.input.items c.next.new.self c.loop-place.exits
-          c.in-Ok.played.text.items c.in-Ok.played.exited
+          c.in-Ok.played.text.items c.in-Ok.played.exited (arc_value c.in-Ok.played.left)
           (rw taken at c.loop-place.invariant.going)
-          c.in-Ok.ensures.text c.in-Ok.ensures.exits
-          (ap (λ (n : ℕ). begins n (Some (arc_value c.in-Ok.played.left)) c.args.setup.now) number
-          ∙ ap (λ (h : History). begins (coming.number + c.loop-place.place + 1) (Some h) c.args.setup.now) leaves)
+          c.in-Ok.ensures
+          (ap (λ (n : ℕ). begins n (Some (arc_value c.in-Ok.played.left)) c.args.setup.now) number)
           (rw (← c.as_slice.ensures.value) c.in-Ok-print_text.ensures.printed) c.in-Ok-print_text.ensures.counts
           c.in-Ok-print_text.ensures.asked;
       left = omega arith;
       short = short_rest c.in-Ok-Some.input.items c.next.new.self (subst AreShort taken c.loop-place.invariant.short);
-      map = left_map now c.in-Ok-Some.input.items (arc_value c.in-Ok.played.left) leaves;
+      map = left_map c.args.crew.now.workers now c.in-Ok-Some.input.items c.in-Ok.played.text.items
+          c.in-Ok.played.exited (arc_value c.in-Ok.played.left) c.in-Ok.ensures;
       some = λ none. absurd (let no : Some (arc_value c.in-Ok.played.left) ≡ None = none in cc);
     }
 
-pub returns-clause-printed : goal.returns-clause-printed
-returns-clause-printed g c =
+pub returns-clause-played : goal.returns-clause-played
+returns-clause-played g c =
     let w = g.H.Host.world in let coming = c.args.coming in
-    going_printed (begins coming.number (option_map arc_value coming.past) c.args.setup.now) c.args.workers
-    coming.inputs (w c.args.host.now) (w c.loop-place.host)
-    (begins (coming.number + c.loop-place.place) (option_map arc_value c.loop-place.past) c.args.setup.now)
-    c.loop-place.inputs c.loop-place.exits
-    (none_left c.loop-place.inputs c.loop-place.place c.len-place-end.result c.loop-place.invariant.left
-    c.loop-place-test.false)
-    c.loop-place.invariant.going
-
-pub returns-clause-exits : goal.returns-clause-exits
-returns-clause-exits g c =
-    let w = g.H.Host.world in let coming = c.args.coming in
-    going_exits (begins coming.number (option_map arc_value coming.past) c.args.setup.now) c.args.workers coming.inputs
-    (w c.args.host.now) (w c.loop-place.host)
-    (begins (coming.number + c.loop-place.place) (option_map arc_value c.loop-place.past) c.args.setup.now)
-    c.loop-place.inputs c.loop-place.exits
-    (none_left c.loop-place.inputs c.loop-place.place c.len-place-end.result c.loop-place.invariant.left
-    c.loop-place-test.false)
-    c.loop-place.invariant.going
-
-pub returns-clause-left : goal.returns-clause-left
-returns-clause-left g c =
-    let w = g.H.Host.world in let coming = c.args.coming in
-    going_left (begins coming.number (option_map arc_value coming.past) c.args.setup.now) c.args.workers coming.inputs
-    (w c.args.host.now) (w c.loop-place.host)
+    going_played (begins coming.number (option_map arc_value coming.past) c.args.setup.now)
+    c.args.crew.now.workers coming.inputs (w c.args.host.now) (w c.loop-place.host)
     (begins (coming.number + c.loop-place.place) (option_map arc_value c.loop-place.past) c.args.setup.now)
     c.loop-place.inputs c.loop-place.exits (arc_value c.in-Some.left)
     (none_left c.loop-place.inputs c.loop-place.place c.len-place-end.result c.loop-place.invariant.left
@@ -144,5 +123,5 @@ unreachable-requires-in-None g c =
     let left = c.loop-place.invariant.left in
     let over = c.loop-place-test.false in
     let all = c.len-place-end.ensures in
-    let some = c.requires.playable.some in
+    let some = c.requires.some in
     omega arith

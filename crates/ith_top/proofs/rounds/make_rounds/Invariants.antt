@@ -12,7 +12,8 @@ use Rattle.ith_top.proofs.rounds.make_rounds.Given as goal
 -- once there was a round, it left a history
 abbrev pub invariant-loop-place : goal.invariant-loop-place
 invariant-loop-place g l = record {
-  going : IsGoing (coming_said l.setup l.fn.coming).beginning l.workers l.fn.coming.inputs (g.H.Host.world l.fn.host)
+  going : IsGoing (coming_said l.setup l.fn.coming).beginning l.crew.workers l.fn.coming.inputs
+      (g.H.Host.world l.fn.host)
       (g.H.Host.world l.host)
       (record { number = l.first + l.place; past = option_map arc_value l.past; setup = l.setup }) l.inputs l.exits;
   left : l.place + length l.inputs ≡ l.place-end;

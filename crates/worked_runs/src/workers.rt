@@ -1,0 +1,230 @@
+//! Worked runs by several workers: two that execute at once, rounds that execute nothing, and schedules that are
+//! followed again from scratch.
+
+use super::lines::{host_with_guests, status_at, status_of, two_pages};
+use super::schedules::scheduled;
+use super::told::{line_after, schedule, shares, text_from};
+use ith_host::Gate;
+use propagate::Round;
+use round_report::{Told, text};
+use std::alloc::{AllocError, Global};
+use std::process::Abort;
+use std::sync::Wait;
+use std::sync::atomic::{AtomicU64, Ordering};
+use std::test::Fail;
+use std::thread::{Threads, yield_now};
+use worked_guests::Guest;
+use worked_guests::guests::{LENGTH, PAIR, TRY};
+
+/// A gate that notes who comes to it. It holds thunk 1 of thread 0 until thunk 0 of thread 1 came, and the reverse.
+#[derive(Drop)]
+struct Meeting {
+    /// The thunks that came, a bit for each.
+    came: AtomicU64,
+    /// How often a thunk was held, and the other didn't come.
+    given_up: AtomicU64,
+}
+
+/// How many turns a thunk is held at most.
+const MOST_TURNS: u64 = 16_777_216;
+
+/// The bit of a thunk, where both numbers are small.
+fn bit_of(thread: u8, number: u32) -> u64 {
+    let place = u32::from(thread).saturating_mul(8).saturating_add(number);
+    if number < 8 {
+        1u64.checked_shl(place).unwrap_or(0)
+    } else {
+        0
+    }
+}
+
+impl Meeting {
+    /// Holds a thunk until another came.
+    fn hold(&self, other: u64) {
+        for _ in 0..MOST_TURNS {
+            if self.came.load(Ordering::SeqCst) & other != 0 {
+                return;
+            }
+            yield_now();
+        }
+        self.given_up.fetch_add(1, Ordering::SeqCst);
+    }
+}
+
+impl Gate for Meeting {
+    fn enter(&self, thread: u8, number: u32) {
+        self.came.fetch_or(bit_of(thread, number), Ordering::SeqCst);
+        match (thread, number) {
+            (0, 1) => self.hold(bit_of(1, 0)),
+            (1, 0) => self.hold(bit_of(0, 1)),
+            _ => {}
+        }
+    }
+}
+
+/// The thunks of the guest of two adding threads: six of thread 0, and three of each other.
+const OF_PAIR: u64 = 0x07_07_3f;
+
+/// How many steps shares add up to.
+fn total(shares: &[u64]) -> u64 {
+    let mut sum = 0u64;
+    for share in shares {
+        sum = sum.saturating_add(*share);
+    }
+    sum
+}
+
+/// Whether a report of two workers tells twelve steps, of which each of them made one at least.
+fn is_shared(alloc: Global, report: &[u8]) -> Result<bool, AllocError> {
+    let told = shares(alloc, report)?;
+    Ok(told.len() == 2 && !told.contains(&0) && total(&told) == 12)
+}
+
+#[test]
+fn two_workers_execute_at_once(rt: HostRuntime) -> Result<(), Fail> {
+    let alloc = rt.alloc();
+    let mut host = host_with_guests(alloc)?;
+    let gate = Meeting {
+        came: AtomicU64::new(0),
+        given_up: AtomicU64::new(0),
+    };
+    let line = "ithreads run pair pages --workers 2";
+    let status = status_at(&rt, alloc, &mut host, line, &gate)?;
+    assert!(rt; status == 0 && gate.given_up.load(Ordering::SeqCst) == 0);
+    assert!(rt; gate.came.load(Ordering::SeqCst) == OF_PAIR);
+    let begins = b"round 0\nend exit 0\nsteps 12\nreused 0\nexecuted 12\ninstructions 51\nby ";
+    assert!(rt; host.printed().starts_with(begins) && is_shared(alloc, host.printed())?);
+    assert!(rt; host.printed().ends_with(b"\noutput 4\n\x0c\x00\x00\x00\n"));
+    Ok(())
+}
+
+#[test]
+fn a_line_without_the_option_has_four_workers(rt: HostRuntime) -> Result<(), Fail> {
+    let alloc = rt.alloc();
+    let mut host = host_with_guests(alloc)?;
+    assert!(rt; status_of(&rt, alloc, &mut host, "ithreads run hi none")? == 0);
+    let told = shares(alloc, host.printed())?;
+    assert!(rt; told.len() == 4 && total(&told) == 2);
+    Ok(())
+}
+
+/// A gate that counts who comes to it.
+#[derive(Drop)]
+struct Counting {
+    count: AtomicU64,
+}
+
+impl Gate for Counting {
+    fn enter(&self, _thread: u8, _number: u32) {
+        self.count.fetch_add(1, Ordering::SeqCst);
+    }
+}
+
+#[test]
+fn a_rerun_without_an_edit_enters_nothing(rt: HostRuntime) -> Result<(), Fail> {
+    let alloc = rt.alloc();
+    let mut host = host_with_guests(alloc)?;
+    let line = "ithreads run pair pages --workers 4 --memo m";
+    assert!(rt; status_of(&rt, alloc, &mut host, line)? == 0);
+    let gate = Counting {
+        count: AtomicU64::new(0),
+    };
+    let line = "ithreads rerun m --workers 4";
+    let status = status_at(&rt, alloc, &mut host, line, &gate)?;
+    assert!(rt; status == 0 && gate.count.load(Ordering::SeqCst) == 0);
+    let again = text_from(host.printed(), b"round 1\n");
+    let begins = b"round 1\nend exit 0\nsteps 12\nreused 12\nexecuted 0\ninstructions 0\nby ";
+    assert!(rt; again.starts_with(begins));
+    assert!(rt; schedule(alloc, again)? == schedule(alloc, host.printed())?);
+    assert!(rt; line_after(again, b"memory ") == line_after(host.printed(), b"memory "));
+    Ok(())
+}
+
+/// The report of a round in which one worker executed all steps.
+fn report_of(alloc: Global, round: &Round) -> Result<Vec<u8>, AllocError> {
+    let told = Told {
+        ending: round.end(),
+        schedule: round.schedule(),
+        instructions: round.instructions(),
+        shares: &[round.schedule().len() as u64],
+        memory: round.memory(),
+        output: round.output(),
+    };
+    text(alloc, 0, &told, &mut None)
+}
+
+/// Whether two reports tell the same end, memory and output, and as many steps.
+fn is_same(report: &[u8], other: &[u8]) -> bool {
+    line_after(report, b"end ") == line_after(other, b"end ")
+        && line_after(report, b"steps ") == line_after(other, b"steps ")
+        && text_from(report, b"\nmemory ") == text_from(other, b"\nmemory ")
+}
+
+/// Whether the schedule that a report tells leads a guest from scratch to what the report tells.
+fn is_followed<R: Threads>(
+    rt: &R,
+    alloc: Global,
+    guest: Guest,
+    input: &[u8],
+    report: &[u8],
+) -> Result<bool, Fail> {
+    let threads = schedule(alloc, report)?;
+    let round = scheduled(rt, alloc, guest, input, threads.as_slice())?;
+    let again = report_of(alloc, &round)?;
+    Ok(is_same(report, again.as_slice()))
+}
+
+/// Does a line of two rounds, and compares each with its schedule followed from scratch.
+fn compare_rounds<R: Threads + Wait + Sync + Abort>(
+    rt: &R,
+    alloc: Global,
+    guest: Guest,
+    line: &str,
+    inputs: [&[u8]; 2],
+) -> Result<(), Fail> {
+    let mut host = host_with_guests(alloc)?;
+    status_of(rt, alloc, &mut host, line)?;
+    let second = text_from(host.printed(), b"round 1\n");
+    let first = &host.printed()[..host.printed().len().saturating_sub(second.len())];
+    let followed = is_followed(rt, alloc, guest, inputs[0], first)?;
+    assert!(rt; followed, "before the edit at {line}");
+    let followed = is_followed(rt, alloc, guest, inputs[1], second)?;
+    assert!(rt; followed, "after the edit at {line}");
+    Ok(())
+}
+
+/// Does the line of the guest of two adding threads whose edit changes the word that one of them adds.
+fn compare_pair<R: Threads + Wait + Sync + Abort>(
+    rt: &R,
+    alloc: Global,
+    line: &str,
+) -> Result<(), Fail> {
+    let before = two_pages(alloc, 7)?;
+    let after = two_pages(alloc, 8)?;
+    let inputs = [before.as_slice(), after.as_slice()];
+    compare_rounds(rt, alloc, PAIR, line, inputs)
+}
+
+#[test]
+fn the_schedules_of_two_workers_can_be_followed(rt: HostRuntime) -> Result<(), Fail> {
+    let alloc = rt.alloc();
+    compare_pair(&rt, alloc, "ithreads run pair pages eight --workers 2")?;
+    let line = "ithreads run try one cleared --workers 2";
+    compare_rounds(&rt, alloc, TRY, line, [b"\x01", b"\x00"])
+}
+
+#[test]
+fn the_schedules_of_four_workers_can_be_followed(rt: HostRuntime) -> Result<(), Fail> {
+    let alloc = rt.alloc();
+    compare_pair(&rt, alloc, "ithreads run pair pages eight --workers 4")?;
+    let line = "ithreads run try one cleared --workers 4";
+    compare_rounds(&rt, alloc, TRY, line, [b"\x01", b"\x00"])
+}
+
+#[test]
+fn the_schedules_of_sixteen_workers_can_be_followed(rt: HostRuntime) -> Result<(), Fail> {
+    let alloc = rt.alloc();
+    compare_pair(&rt, alloc, "ithreads run pair pages eight --workers 16")?;
+    let line = "ithreads run length five shorter --workers 16";
+    compare_rounds(&rt, alloc, LENGTH, line, [b"\x00\x00\x00\x00\x00", b""])
+}
