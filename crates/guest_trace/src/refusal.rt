@@ -1,0 +1,115 @@
+//! Why a run isn't traced to its end, and the line that says so.
+
+use elf_spec::Refusal as ImageRefusal;
+use std::alloc::{AllocError, AllocFailed};
+use std::io::Eprint;
+use std::process::ExitCode;
+use std::{fmt, io};
+
+/// Why an entry isn't permitted.
+#[derive(Debug, PartialEq, Eq, Clone, Copy)]
+pub enum Why {
+    /// The run has ended before it.
+    Ended,
+    /// No thread has its number.
+    Nobody,
+    /// Its thread waits.
+    Waits,
+    /// Its thread has ended.
+    Gone,
+}
+
+/// Why a run isn't traced to its end.
+#[derive(Debug, PartialEq, Eq, Clone, Copy)]
+pub enum Refusal {
+    /// The words aren't three names.
+    Words,
+    /// The file that this word names can't be read.
+    Unread(usize),
+    /// The file that this word names is too large.
+    TooLarge(usize),
+    /// The executable isn't taken.
+    Image(ImageRefusal),
+    /// This token is no number of a thread.
+    Token(usize),
+    /// This entry isn't permitted.
+    Forbidden(usize, u8, Why),
+    /// No end comes after the last entry.
+    Incomplete,
+    /// The output can't be written.
+    Output,
+    /// There is no memory.
+    NoMemory,
+}
+
+impl From<AllocError> for Refusal {
+    fn from(_error: AllocError) -> Refusal {
+        Refusal::NoMemory
+    }
+}
+
+impl<T: Drop> From<AllocFailed<T>> for Refusal {
+    fn from(_failed: AllocFailed<T>) -> Refusal {
+        Refusal::NoMemory
+    }
+}
+
+impl From<io::Error> for Refusal {
+    fn from(_error: io::Error) -> Refusal {
+        Refusal::Output
+    }
+}
+
+impl fmt::Display for Why {
+    fn fmt<W: fmt::Write>(&self, f: &mut fmt::Formatter<W>) -> fmt::Result {
+        let text = match self {
+            Why::Ended => "the run has ended before it",
+            Why::Nobody => "there is no such thread",
+            Why::Waits => "the thread waits",
+            Why::Gone => "the thread has ended",
+        };
+        f.write_str(text)
+    }
+}
+
+/// The word at a place, or none.
+fn word_at(words: &[String], place: usize) -> &str {
+    if place < words.len() {
+        words[place].as_str()
+    } else {
+        ""
+    }
+}
+
+impl Refusal {
+    /// The exit status.
+    fn status(self) -> u8 {
+        match self {
+            Refusal::Words => 2,
+            Refusal::Image(_) => 3,
+            Refusal::Unread(_) => 6,
+            Refusal::Output => 7,
+            Refusal::NoMemory => 8,
+            Refusal::TooLarge(_) => 9,
+            Refusal::Token(_) | Refusal::Forbidden(_, _, _) | Refusal::Incomplete => 10,
+        }
+    }
+
+    /// Says it on standard error, in one line, and gives the exit status.
+    pub fn told<R: Eprint>(self, rt: &R, words: &[String]) -> ExitCode {
+        let _ = match self {
+            Refusal::Words => eprintln!(rt; "words: ELF INPUT SCHEDULE are wanted"),
+            Refusal::Unread(place) => eprintln!(rt; "read {}", word_at(words, place)),
+            Refusal::TooLarge(place) => eprintln!(rt; "too large {}", word_at(words, place)),
+            Refusal::Image(why) => eprintln!(rt; "image: {why:?}"),
+            Refusal::Token(place) => eprintln!(rt; "schedule: token {place}"),
+            Refusal::Forbidden(place, thread, why) => {
+                eprintln!(rt; "schedule: entry {place}, thread {thread}: {why}")
+            }
+            Refusal::Incomplete => eprintln!(rt; "schedule: incomplete"),
+            Refusal::Output => eprintln!(rt; "write output"),
+            Refusal::NoMemory => eprintln!(rt; "no memory"),
+        };
+        ExitCode::from(self.status())
+    }
+}

@@ -1,0 +1,184 @@
+//! A run, step by step, with a line for each.
+
+use crate::calls::{Answer, Named, cause_name};
+use crate::refusal::{Refusal, Why};
+use crate::waits::{Wait, Waits};
+use call_effect::Effect;
+use guest_call::Fate;
+use machine_spec::{Asked, End, Status};
+use plain_machine::{Made, PlainMachine};
+use release_core::Setup;
+use std::alloc::Global;
+use std::io;
+use std::io::Write;
+use std::sync::ledger::Ledger;
+use turn_count::Turns;
+
+/// Writes what a thread waits for, and who holds it.
+fn write_wait<W: Write>(out: &mut W, waits: &Waits, thread: u8) -> io::Result<()> {
+    let Some(wait) = waits.wait_of(thread) else {
+        return Ok(());
+    };
+    write!(out, "waits for {wait}")?;
+    if let Wait::Mutex(mutex) = wait {
+        if let Some(owner) = waits.owner(mutex) {
+            write!(out, ", held by thread {owner}")?;
+        }
+    }
+    Ok(())
+}
+
+/// Writes what became of the caller.
+fn write_fate<W: Write>(out: &mut W, waits: &Waits, thread: u8, fate: Fate) -> io::Result<()> {
+    match fate {
+        Fate::Returns(a0, told) => {
+            write!(out, " = {}", Answer(a0))?;
+            match told {
+                Some(value) => write!(out, " and {value}"),
+                None => Ok(()),
+            }
+        }
+        Fate::Blocks => {
+            write!(out, " ")?;
+            write_wait(out, waits, thread)
+        }
+        Fate::Ends(_) => write!(out, " ends the thread"),
+        Fate::Exits(_) => write!(out, " ends the run"),
+    }
+}
+
+/// Writes who is woken with which answer, and who begins.
+fn write_others<W: Write>(out: &mut W, effect: &Effect) -> io::Result<()> {
+    let woken = effect.woken();
+    for i in 0..woken.len() {
+        write!(out, ", wakes thread {} with 0", woken.at(i).number())?;
+        if let Some(value) = effect.told() {
+            write!(out, " and {value}")?;
+        }
+    }
+    if let Some((pc, argument)) = effect.created() {
+        write!(out, ", begins at {pc:08x} with {argument}")?;
+    }
+    Ok(())
+}
+
+/// Writes what a step's thunk asked for, and what came of it.
+fn write_made<W: Write>(out: &mut W, waits: &Waits, thread: u8, made: &Made) -> io::Result<()> {
+    match made.asked {
+        Asked::Asks(call) => {
+            write!(out, "{}", Named(call))?;
+            if let Some(effect) = &made.effect {
+                write_fate(out, waits, thread, effect.fate())?;
+                write_others(out, effect)?;
+            }
+        }
+        Asked::Stops(End::Trap { pc, cause, .. }) => {
+            let number = cause.number();
+            write!(
+                out,
+                "trap at {pc:08x}, cause {number}: {}",
+                cause_name(cause)
+            )?;
+        }
+        Asked::Stops(_) => write!(out, "no call within the fuel")?,
+    }
+    writeln!(out)
+}
+
+/// Notes what a step's call tells of mutexes and waits.
+fn note(waits: &mut Waits, thread: u8, made: &Made) {
+    if let Asked::Asks(call) = made.asked {
+        if let Some(effect) = &made.effect {
+            waits.note(thread, call, effect);
+        }
+    }
+}
+
+/// Writes how the run ended, as a report has it.
+fn write_end<W: Write>(out: &mut W, end: End) -> io::Result<()> {
+    match end {
+        End::Exit(code) => writeln!(out, "end exit {code}"),
+        End::Trap { thread, pc, cause } => {
+            let number = cause.number();
+            writeln!(out, "end trap {thread} {pc:08x} {number}")
+        }
+        End::Deadlock => writeln!(out, "end deadlock"),
+        End::Spent => writeln!(out, "end spent"),
+    }
+}
+
+/// Writes who waits for what.
+fn write_waits<W: Write>(out: &mut W, machine: &PlainMachine, waits: &Waits) -> io::Result<()> {
+    machine.whole();
+    for place in 0..machine.threads() {
+        let thread = place as u8;
+        if machine.status(thread) == Status::Blocked {
+            write!(out, "thread {thread} ")?;
+            write_wait(out, waits, thread)?;
+            writeln!(out)?;
+        }
+    }
+    Ok(())
+}
+
+/// Why a thread may not make a step, or how many it has made.
+fn number_of(machine: &PlainMachine, thread: u8) -> Result<u32, Why> {
+    if machine.ended().is_some() {
+        return Err(Why::Ended);
+    }
+    if usize::from(thread) >= machine.threads() {
+        return Err(Why::Nobody);
+    }
+    match machine.status(thread) {
+        Status::Ready => Ok(machine.number(thread)),
+        Status::Blocked => Err(Why::Waits),
+        Status::Ended(_) => Err(Why::Gone),
+    }
+}
+
+/// Runs a setup from scratch under a schedule, and writes a line for each step, then how the run ended, and of a
+/// deadlock who waits for what.
+///
+/// # Errors
+///
+/// The first entry that isn't permitted, or that no end comes after the last; the lines of the steps before it were
+/// written. Or a fault of the output, or want of memory.
+pub fn trace<W: Write, L: Ledger>(
+    alloc: Global,
+    out: &mut W,
+    setup: &Setup,
+    schedule: &[u8],
+    turns: &mut Turns<L>,
+) -> Result<(), Refusal> {
+    let mut machine = PlainMachine::new(alloc, setup)?;
+    let mut waits = Waits::none();
+    for i in 0..schedule.len() {
+        let thread = schedule[i];
+        let number = match number_of(&machine, thread) {
+            Ok(number) => number,
+            Err(why) => return Err(Refusal::Forbidden(i, thread, why)),
+        };
+        if !machine.can_step(thread) {
+            return Err(Refusal::Forbidden(i, thread, Why::Ended));
+        }
+        let (next, made) = machine.step(thread, turns)?;
+        machine = next;
+        note(&mut waits, thread, &made);
+        let count = made.count;
+        write!(
+            out,
+            "step {i} thread {thread} number {number} count {count} "
+        )?;
+        write_made(out, &waits, thread, &made)?;
+    }
+    match machine.ended() {
+        None => Err(Refusal::Incomplete),
+        Some(end) => {
+            write_end(out, end)?;
+            if end == End::Deadlock {
+                write_waits(out, &machine, &waits)?;
+            }
+            Ok(())
+        }
+    }
+}

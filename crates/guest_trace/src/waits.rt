@@ -1,0 +1,177 @@
+//! Who owns which mutex, and who waits for what, as the calls so far tell.
+
+use call_effect::Effect;
+use guest_call::{Call, Fate, OBJECTS, THREADS};
+use std::fmt;
+
+/// What a thread waits for.
+#[derive(Clone, Copy, PartialEq, Eq)]
+pub enum Wait {
+    /// That it gets a mutex.
+    Mutex(u32),
+    /// That a semaphore is posted.
+    Semaphore(u32),
+    /// That others come to a barrier.
+    Barrier(u32),
+    /// That a condition is signalled; after it, the mutex; and how many waits began before this one.
+    Condition(u32, u32, u32),
+    /// That a thread ends.
+    Thread(u32),
+}
+
+impl fmt::Display for Wait {
+    fn fmt<W: fmt::Write>(&self, f: &mut fmt::Formatter<W>) -> fmt::Result {
+        match self {
+            Wait::Mutex(mutex) => write!(f, "mutex {mutex}"),
+            Wait::Semaphore(semaphore) => write!(f, "semaphore {semaphore}"),
+            Wait::Barrier(barrier) => write!(f, "barrier {barrier}"),
+            Wait::Condition(condition, mutex, _) => {
+                write!(f, "condition {condition}, with mutex {mutex}")
+            }
+            Wait::Thread(thread) => write!(f, "the end of thread {thread}"),
+        }
+    }
+}
+
+/// Who owns each mutex, and what each thread waits for.
+#[derive(Drop)]
+pub struct Waits {
+    owners: [Option<u8>; OBJECTS],
+    waits: [Option<Wait>; THREADS],
+    begun: u32,
+}
+
+impl Waits {
+    /// Nobody owns a mutex, and nobody waits.
+    pub fn none() -> Waits {
+        Waits {
+            owners: [None; OBJECTS],
+            waits: [None; THREADS],
+            begun: 0,
+        }
+    }
+
+    /// What a thread waits for.
+    pub fn wait_of(&self, thread: u8) -> Option<Wait> {
+        let place = usize::from(thread);
+        if place < THREADS {
+            self.waits[place]
+        } else {
+            None
+        }
+    }
+
+    /// Who owns a mutex.
+    pub fn owner(&self, mutex: u32) -> Option<u8> {
+        let place = mutex as usize;
+        if place < OBJECTS {
+            self.owners[place]
+        } else {
+            None
+        }
+    }
+
+    /// A mutex has another owner, or none.
+    fn set_owner(&mut self, mutex: u32, owner: Option<u8>) {
+        let place = mutex as usize;
+        if place < OBJECTS {
+            self.owners[place] = owner;
+        }
+    }
+
+    /// A thread waits for something, or for nothing.
+    fn set_wait(&mut self, thread: u8, wait: Option<Wait>) {
+        let place = usize::from(thread);
+        if place < THREADS {
+            self.waits[place] = wait;
+        }
+    }
+
+    /// The thread that has waited longest for a condition, with its mutex.
+    fn longest(&self, condition: u32) -> Option<(usize, u32)> {
+        let mut found: Option<(usize, u32, u32)> = None;
+        for place in 0..THREADS {
+            if let Some(Wait::Condition(here, mutex, begun)) = self.waits[place] {
+                if here == condition && found.is_none_or(|(_, _, first)| begun < first) {
+                    found = Some((place, mutex, begun));
+                }
+            }
+        }
+        match found {
+            Some((place, mutex, _)) => Some((place, mutex)),
+            None => None,
+        }
+    }
+
+    /// The thread that has waited longest for a condition waits for its mutex from now on.
+    fn signal(&mut self, condition: u32) {
+        if let Some((place, mutex)) = self.longest(condition) {
+            if place < THREADS {
+                self.waits[place] = Some(Wait::Mutex(mutex));
+            }
+        }
+    }
+
+    /// All who wait for a condition wait for its mutex from now on.
+    fn broadcast(&mut self, condition: u32) {
+        for place in 0..THREADS {
+            if let Some(Wait::Condition(here, mutex, _)) = self.waits[place] {
+                if here == condition {
+                    self.waits[place] = Some(Wait::Mutex(mutex));
+                }
+            }
+        }
+    }
+
+    /// What a thread whose call blocks waits for.
+    fn begin(&mut self, call: Call) -> Option<Wait> {
+        match call {
+            Call::Lock(mutex) => Some(Wait::Mutex(mutex)),
+            Call::SemWait(semaphore) => Some(Wait::Semaphore(semaphore)),
+            Call::BarrierWait(barrier) => Some(Wait::Barrier(barrier)),
+            Call::Join(thread) => Some(Wait::Thread(thread)),
+            Call::CondWait(condition, mutex) => {
+                self.set_owner(mutex, None);
+                let begun = self.begun;
+                self.begun = begun.saturating_add(1);
+                Some(Wait::Condition(condition, mutex, begun))
+            }
+            _ => None,
+        }
+    }
+
+    /// A call returned to its caller with 0.
+    fn done(&mut self, thread: u8, call: Call) {
+        match call {
+            Call::Lock(mutex) | Call::TryLock(mutex) => self.set_owner(mutex, Some(thread)),
+            Call::Unlock(mutex) => self.set_owner(mutex, None),
+            Call::Signal(condition) => self.signal(condition),
+            Call::Broadcast(condition) => self.broadcast(condition),
+            _ => {}
+        }
+    }
+
+    /// A thread is woken: the mutex that it waited for is its own now.
+    fn wake(&mut self, thread: u8) {
+        if let Some(Wait::Mutex(mutex)) = self.wait_of(thread) {
+            self.set_owner(mutex, Some(thread));
+        }
+        self.set_wait(thread, None);
+    }
+
+    /// A call of a thread had this effect.
+    pub fn note(&mut self, thread: u8, call: Call, effect: &Effect) {
+        match effect.fate() {
+            Fate::Returns(0, _) => self.done(thread, call),
+            Fate::Blocks => {
+                let wait = self.begin(call);
+                self.set_wait(thread, wait);
+            }
+            Fate::Returns(_, _) | Fate::Ends(_) | Fate::Exits(_) => {}
+        }
+        let woken = effect.woken();
+        for i in 0..woken.len() {
+            self.wake(woken.at(i).number());
+        }
+    }
+}

@@ -1,0 +1,151 @@
+-- Turns made one after the other leave what the thunk of them all leaves.
+use Rattle.std.proofs.Common.{◌≡◌, ℕ, ◌+◌, ◌-◌, ◌<◌, suc, List, [], ap, sym, subst, ◌∙◌, refl, arith, add_assoc}
+use Rattle.isa_spec.specs.declared.Cause.{Cause}
+use Rattle.isa_spec.specs.Registers.{Registers}
+use Rattle.memory_spec.specs.Pages.{Mapped, Memory, IsMemory, on_each}
+use Rattle.memory_spec.specs.Stores.{laid}
+use Rattle.memory_spec.specs.Workspace.{Workspace, Masks, no_marks, marked}
+use Rattle.thunk_spec.specs.declared.ends.Outcome.{Outcome}
+use Rattle.thunk_spec.specs.declared.ends.Outcome.TheVariants as outcome
+use Rattle.thunk_spec.specs.declared.ends.ThunkEnd.{ThunkEnd}
+use Rattle.thunk_spec.specs.declared.ends.ThunkEnd.TheVariants as thunk_end
+use Rattle.thunk_spec.specs.Turn.{Turn, turn}
+use Rattle.thunk_spec.specs.Put.{put_addresses, bytes_at}
+use Rattle.thunk_spec.specs.Thunk.{Frame, Thunk, thunk, turns, followed, after_turn, last_turn}
+use Rattle.rv_step.specs.Step.{Makes}
+use Rattle.plain_machine.specs.declared.thunk.Done.{Done}
+use Rattle.plain_machine.specs.Stored.{bytes_of}
+use Rattle.plain_machine.specs.Merging.{merged}
+use Rattle.plain_machine.specs.Turning.{Left, left_by, left_after, counted, IsDone}
+use Rattle.plain_machine.proofs.Laying.{laid-append, marked-append}
+use Rattle.plain_machine.proofs.Merging.{laid-merged}
+
+-- what a turn left, and then the rest of its thunk
+left_by-after_turn :
+    (map : List Mapped) (memory : Memory) (stored : Masks) (t : Turn) (rest : Thunk)
+    → left_by map memory stored (after_turn t rest)
+    ≡ counted 1 (left_by map (laid map memory t.stores) (marked map stored t.stores) rest)
+left_by-after_turn map memory stored t rest =
+    rw (laid-append map memory t.stores rest.stores, marked-append map stored t.stores rest.stores)
+    (ap (λ (n : ℕ). record {
+      regs = rest.regs;
+      end = rest.end;
+      count = n;
+      memory = laid map (laid map memory t.stores) rest.stores;
+      stored = marked map (marked map stored t.stores) rest.stores;
+    }) (omega arith))
+
+followed-next :
+    (o : Outcome) (map : List Mapped) (memory : Memory) (t : Turn) (rest : Memory → Registers → Thunk)
+    → o ≡ outcome.Next → followed o map memory t rest ≡ after_turn t (rest (laid map memory t.stores) t.regs)
+followed-next o map memory t rest e = rw e refl
+
+followed-call :
+    (o : Outcome) (map : List Mapped) (memory : Memory) (t : Turn) (rest : Memory → Registers → Thunk)
+    → o ≡ outcome.Call → followed o map memory t rest ≡ last_turn thunk_end.Call t
+followed-call o map memory t rest e = rw e refl
+
+followed-trap :
+    (o : Outcome) (cause : Cause) (map : List Mapped) (memory : Memory) (t : Turn) (rest : Memory → Registers → Thunk)
+    → o ≡ outcome.Trap cause → followed o map memory t rest ≡ last_turn (thunk_end.Trap cause) t
+followed-trap o cause map memory t rest e = rw e refl
+
+counted-twice : (a b : ℕ) (l : Left) → counted a (counted b l) ≡ counted (a + b) l
+counted-twice a b l = ap (λ (n : ℕ). record l { count = n }) (sym (add_assoc a b l.count))
+
+-- one turn more was made, and its thunk goes on
+pub turns-next :
+    (fuel count : ℕ) (w after : Workspace) (r registers : Registers) (o : Outcome)
+    → count < fuel → Makes (turn w.map w.memory r) w o registers after → o ≡ outcome.Next
+    → counted (count + 1) (left_after after.map (fuel - (count + 1)) after.memory after.stored registers)
+    ≡ counted count (left_after w.map (fuel - count) w.memory w.stored r)
+turns-next fuel count w after r registers o lt made next =
+    let left : fuel - count ≡ suc (fuel - (count + 1)) = omega arith in
+    rw (left, made.workspace_is, made.regs_are)
+    (sym
+    (ap (λ (t : Thunk). counted count (left_by w.map w.memory w.stored t))
+    (followed-next (turn w.map w.memory r).outcome w.map w.memory (turn w.map w.memory r)
+    (turns w.map (fuel - (count + 1))) (sym made.outcome_is ∙ next))
+    ∙ ap (counted count)
+    (left_by-after_turn w.map w.memory w.stored (turn w.map w.memory r)
+    (turns w.map (fuel - (count + 1)) (laid w.map w.memory (turn w.map w.memory r).stores)
+    (turn w.map w.memory r).regs))
+    ∙ counted-twice count 1
+    (left_after w.map (fuel - (count + 1)) (laid w.map w.memory (turn w.map w.memory r).stores)
+    (marked w.map w.stored (turn w.map w.memory r).stores)
+    (turn w.map w.memory r).regs)))
+
+last-turn :
+    (fuel count : ℕ) (w after : Workspace) (r registers : Registers) (o : Outcome) (end : ThunkEnd)
+    → count < fuel → Makes (turn w.map w.memory r) w o registers after
+    → followed (turn w.map w.memory r).outcome w.map w.memory (turn w.map w.memory r) (turns w.map (fuel - (count + 1)))
+    ≡ last_turn end (turn w.map w.memory r)
+    → counted count (left_after w.map (fuel - count) w.memory w.stored r)
+    ≡ record { regs = registers; end = end; count = count + 1; memory = after.memory; stored = after.stored }
+last-turn fuel count w after r registers o end lt made ended =
+    let left : fuel - count ≡ suc (fuel - (count + 1)) = omega arith in
+    rw (left, made.workspace_is, made.regs_are)
+    (ap (λ (t : Thunk). counted count (left_by w.map w.memory w.stored t)) ended)
+
+-- the last turn called
+pub turns-call :
+    (fuel count : ℕ) (w after : Workspace) (r registers : Registers) (o : Outcome)
+    → count < fuel → Makes (turn w.map w.memory r) w o registers after → o ≡ outcome.Call
+    → counted count (left_after w.map (fuel - count) w.memory w.stored r)
+    ≡ record { regs = registers; end = thunk_end.Call; count = count + 1; memory = after.memory; stored = after.stored }
+turns-call fuel count w after r registers o lt made call =
+    last-turn fuel count w after r registers o thunk_end.Call lt made
+    (followed-call (turn w.map w.memory r).outcome w.map w.memory (turn w.map w.memory r)
+    (turns w.map (fuel - (count + 1))) (sym made.outcome_is ∙ call))
+
+-- the last turn trapped
+pub turns-trap :
+    (fuel count : ℕ) (w after : Workspace) (r registers : Registers) (o : Outcome) (cause : Cause)
+    → count < fuel → Makes (turn w.map w.memory r) w o registers after → o ≡ outcome.Trap cause
+    → counted count (left_after w.map (fuel - count) w.memory w.stored r)
+    ≡ record {
+      regs = registers;
+      end = thunk_end.Trap cause;
+      count = count + 1;
+      memory = after.memory;
+      stored = after.stored;
+    }
+turns-trap fuel count w after r registers o cause lt made trap =
+    last-turn fuel count w after r registers o (thunk_end.Trap cause) lt made
+    (followed-trap (turn w.map w.memory r).outcome cause w.map w.memory (turn w.map w.memory r)
+    (turns w.map (fuel - (count + 1))) (sym made.outcome_is ∙ trap))
+
+-- turns on a copy of a view, with the bytes of the put, are the thunk on this view
+pub is-done :
+    (f : Frame) (view : Memory) (start : Registers) (work after : Workspace) (d : Done)
+    → IsMemory f.map view
+    → work ≡ record { map = f.map; view = []; memory = view; stored = on_each no_marks f.map; taken = [] }
+    → after.map ≡ work.map
+    → record { regs = d.regs; end = d.end; count = d.count; memory = after.memory; stored = after.stored }
+    ≡ left_after work.map f.fuel work.memory work.stored start
+    → d.put.items ≡ bytes_at f.map after.memory (put_addresses f.map d.end d.regs)
+    → ((shared : Memory) → IsMemory after.map shared
+    → laid after.map shared (bytes_of d.stores.items) ≡ merged after.stored after.memory shared)
+    → IsDone f view start d
+unfolding thunk
+is-done f view start work after d whole is same left put lays =
+    let map_is : after.map ≡ f.map = same ∙ ap (λ (w : Workspace). w.map) is in
+    let all : record {
+      regs = d.regs;
+      end = d.end;
+      count = d.count;
+      memory = after.memory;
+      stored = after.stored;
+    } ≡ left_after f.map f.fuel view (on_each no_marks f.map) start =
+    left ∙ ap (λ (w : Workspace). left_after w.map f.fuel w.memory w.stored start) is in
+    record {
+      regs = ap (λ (l : Left). l.regs) all;
+      end = ap (λ (l : Left). l.end) all;
+      count = ap (λ (l : Left). l.count) all;
+      put = put ∙ ap (λ (l : Left). bytes_at f.map l.memory (put_addresses f.map l.end l.regs)) all;
+      lays = λ shared also.
+          subst (λ (map : List Mapped). laid map shared (bytes_of d.stores.items) ≡ merged after.stored after.memory shared)
+          map_is (lays shared (subst (λ (map : List Mapped). IsMemory map shared) (sym map_is) also))
+          ∙ ap (λ (l : Left). merged l.stored l.memory shared) all
+          ∙ laid-merged f.map (turns f.map f.fuel view start).stores view shared whole also;
+    }

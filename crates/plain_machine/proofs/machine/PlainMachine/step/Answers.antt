@@ -1,0 +1,208 @@
+-- What is left to prove of `PlainMachine::step`.
+use Rattle.std.proofs.Common.{◌≡◌, ◌+◌, ◌<◌, ◌++◌, true, List, length, refl, ap, sym, subst, ◌∙◌, arith}
+use Rattle.std.proofs.lemmas.Bool.{and_parts}
+use Rattle.std.proofs.lemmas.Grind.{common_steps}
+use Rattle.std.proofs.lemmas.List.{with_items_is}
+use Rattle.std.specs.Arc.{arc_value}
+use Rattle.std.specs.Vec.{with_items}
+use Rattle.isa_spec.specs.Registers.{Registers}
+use Rattle.memory_spec.specs.Pages.{Mapped, Memory, IsMemory}
+use Rattle.memory_spec.specs.Stores.{laid}
+use Rattle.machine_spec.specs.Machine.{Machine, Hart, hart_in}
+use Rattle.machine_spec.specs.Step as step
+use Rattle.machine_spec.specs.Whole.{IsWhole}
+use Rattle.machine_spec.proofs.Harts.{ready-below}
+use Rattle.machine_spec.proofs.Steps.{hart-at}
+use Rattle.machine_spec.proofs.Tied.{tied-written}
+use Rattle.plain_machine.specs.Stored.{bytes_of}
+use Rattle.plain_machine.specs.Turning.{IsDone}
+use Rattle.plain_machine.specs.Doing.{harts_after, objects_after, own_end, effect_made}
+use Rattle.plain_machine.specs.Making.{IsMade}
+use Rattle.plain_machine.proofs.Laying.{laid_count}
+use Rattle.plain_machine.proofs.Stepping.{stepped, told}
+use Rattle.plain_machine.proofs.machine.PlainMachine.step.Goals as goal
+
+pub run-requires : goal.run-requires
+run-requires g c =
+    let map : List Mapped = arc_value c.self.inside.map in
+    let m : Machine = record {
+      frame = record { map = map; fuel = c.self.inside.fuel };
+      limit = c.self.inside.limit;
+      memory = c.self.inside.memory.items;
+      harts = c.self.inside.harts.items;
+      objects = c.self.inside.objects;
+      output = c.self.inside.output.items;
+      steps = c.self.inside.steps;
+      ending = c.self.inside.ending;
+    } in
+    let may : step.can_step m c.args.t ≡ true =
+    subst (λ (x : Machine). step.can_step x c.args.t ≡ true) (sym c.self.view_is) c.requires in
+    let view_is : c.view.result.now ≡ (hart_in c.self.inside.harts.items c.args.t).view =
+    c.view.ensures ∙ ap (λ (h : Hart). h.view) c.hart_at-hart.ensures in
+    let below : c.args.t < length c.self.inside.harts.items =
+    ready-below c.self.inside.harts.items c.args.t (and_parts _ _ may).1 in
+    subst (IsMemory map) (sym view_is)
+    (hart-at map c.self.inside.steps c.self.inside.harts.items c.args.t below c.self.invariant.harts).view
+
+pub do_as_asked-requires-clause-tied : goal.do_as_asked-requires-clause-tied
+do_as_asked-requires-clause-tied g c =
+    rw c.write_back.ensures
+    (tied-written c.self.inside.objects c.self.inside.harts.items c.args.t _ refl c.self.invariant.tied)
+
+pub invariant_of-machine : goal.invariant_of-machine
+invariant_of-machine g c =
+    let map : List Mapped = arc_value c.self.inside.map in
+    let m : Machine = record {
+      frame = record { map = map; fuel = c.self.inside.fuel };
+      limit = c.self.inside.limit;
+      memory = c.self.inside.memory.items;
+      harts = c.self.inside.harts.items;
+      objects = c.self.inside.objects;
+      output = c.self.inside.output.items;
+      steps = c.self.inside.steps;
+      ending = c.self.inside.ending;
+    } in
+    let may : step.can_step m c.args.t ≡ true =
+    subst (λ (x : Machine). step.can_step x c.args.t ≡ true) (sym c.self.view_is) c.requires in
+    let view_is : c.view.result.now ≡ (hart_in c.self.inside.harts.items c.args.t).view =
+    c.view.ensures ∙ ap (λ (h : Hart). h.view) c.hart_at-hart.ensures in
+    let regs_is : c.regs.result.now ≡ (hart_in c.self.inside.harts.items c.args.t).regs =
+    c.regs.ensures ∙ ap (λ (h : Hart). h.regs) c.hart_at-hart.ensures in
+    let is_done : IsDone m.frame (hart_in c.self.inside.harts.items c.args.t).view
+    (hart_in c.self.inside.harts.items c.args.t).regs c.in_ok-done.done =
+    subst (λ (r : Registers). IsDone m.frame (hart_in c.self.inside.harts.items c.args.t).view r c.in_ok-done.done)
+    regs_is
+    (subst (λ (v : Memory). IsDone m.frame v c.regs.result.now c.in_ok-done.done) view_is c.in_ok-done.ensures.done) in
+    let stores = bytes_of c.in_ok-done.done.stores.items in
+    let lay_is : c.lay_all.new.memory ≡ laid map c.self.inside.memory.items stores =
+    c.lay_all.ensures
+    ∙ ap (λ (p : List Mapped). laid p c.as_mut_slice.result.now (bytes_of c.as_slice.result.now)) c.deref.ensures
+    ∙ ap (λ (x : Memory). laid map x (bytes_of c.as_slice.result.now)) c.as_mut_slice.ensures.value
+    ∙ ap (λ x. laid map c.self.inside.memory.items (bytes_of x)) c.as_slice.ensures.value in
+    let same_count : length c.lay_all.new.memory ≡ length c.self.inside.memory.items =
+    ap length lay_is ∙ laid_count map c.self.inside.memory.items stores in
+    let is_memory : (with_items c.self.inside.memory c.lay_all.new.memory).items
+    ≡ laid map c.self.inside.memory.items stores =
+    with_items_is c.self.inside.memory c.lay_all.new.memory (omega (arith, same_count)) ∙ lay_is in
+    let is_output : c.extend_from_slice.new.self.items ≡ c.self.inside.output.items ++ c.in_ok-done.done.put.items =
+    grind (arith, common_steps, c.in_ok-extend_from_slice.ensures.items, c.as_slice-2.ensures.value) in
+    let is_harts : c.do_as_asked.new.harts.items ≡ harts_after map c.self.inside.objects
+    (with_items c.self.inside.memory c.lay_all.new.memory).items c.args.t c.write_back.new.harts.items
+    c.asked-asked.result =
+    c.in_ok-ending.ensures.harts
+    ∙ ap (λ (p : List Mapped). harts_after p c.self.inside.objects c.as_slice-3.result.now c.args.t
+    c.write_back.new.harts.items c.asked-asked.result) c.deref-2.ensures
+    ∙ ap (λ (x : Memory). harts_after map c.self.inside.objects x c.args.t
+    c.write_back.new.harts.items c.asked-asked.result) c.as_slice-3.ensures.value in
+    let is_objects : c.do_as_asked.new.objects ≡ objects_after map c.self.inside.objects c.args.t
+    c.asked-asked.result =
+    c.in_ok-ending.ensures.objects
+    ∙ ap (λ (p : List Mapped). objects_after p c.self.inside.objects c.args.t c.asked-asked.result) c.deref-2.ensures in
+    let is_ending : c.in_ok-ending.field-0.ending ≡ step.end_after
+    (own_end map c.self.inside.objects c.args.t c.asked-asked.result) c.do_as_asked.new.harts.items
+    c.self.inside.limit (c.self.inside.steps + 1) =
+    c.in_ok-ending.ensures.ending
+    ∙ ap (λ (p : List Mapped). step.end_after (own_end p c.self.inside.objects c.args.t c.asked-asked.result)
+    c.do_as_asked.new.harts.items c.self.inside.limit (c.self.inside.steps + 1)) c.deref-2.ensures in
+    subst IsWhole
+    (sym (stepped m c.args.t c.in_ok-done.done (with_items c.self.inside.memory c.lay_all.new.memory).items
+    c.write_back.new.harts.items c.do_as_asked.new.harts.items c.do_as_asked.new.objects
+    c.extend_from_slice.new.self.items c.in_ok-ending.field-0.ending c.asked-asked.result
+    c.self.invariant.memory is_done is_memory c.write_back.ensures c.asked-asked.ensures is_output is_harts is_objects
+    is_ending))
+    (c.step_keeps_whole.ensures m c.args.t c.self.invariant may)
+
+pub returns-clause-machine : goal.returns-clause-machine
+returns-clause-machine g c =
+    let map : List Mapped = arc_value c.self.inside.map in
+    let m : Machine = record {
+      frame = record { map = map; fuel = c.self.inside.fuel };
+      limit = c.self.inside.limit;
+      memory = c.self.inside.memory.items;
+      harts = c.self.inside.harts.items;
+      objects = c.self.inside.objects;
+      output = c.self.inside.output.items;
+      steps = c.self.inside.steps;
+      ending = c.self.inside.ending;
+    } in
+    let view_is : c.view.result.now ≡ (hart_in c.self.inside.harts.items c.args.t).view =
+    c.view.ensures ∙ ap (λ (h : Hart). h.view) c.hart_at-hart.ensures in
+    let regs_is : c.regs.result.now ≡ (hart_in c.self.inside.harts.items c.args.t).regs =
+    c.regs.ensures ∙ ap (λ (h : Hart). h.regs) c.hart_at-hart.ensures in
+    let is_done : IsDone m.frame (hart_in c.self.inside.harts.items c.args.t).view
+    (hart_in c.self.inside.harts.items c.args.t).regs c.in_ok-done.done =
+    subst (λ (r : Registers). IsDone m.frame (hart_in c.self.inside.harts.items c.args.t).view r c.in_ok-done.done)
+    regs_is
+    (subst (λ (v : Memory). IsDone m.frame v c.regs.result.now c.in_ok-done.done) view_is c.in_ok-done.ensures.done) in
+    let stores = bytes_of c.in_ok-done.done.stores.items in
+    let lay_is : c.lay_all.new.memory ≡ laid map c.self.inside.memory.items stores =
+    c.lay_all.ensures
+    ∙ ap (λ (p : List Mapped). laid p c.as_mut_slice.result.now (bytes_of c.as_slice.result.now)) c.deref.ensures
+    ∙ ap (λ (x : Memory). laid map x (bytes_of c.as_slice.result.now)) c.as_mut_slice.ensures.value
+    ∙ ap (λ x. laid map c.self.inside.memory.items (bytes_of x)) c.as_slice.ensures.value in
+    let same_count : length c.lay_all.new.memory ≡ length c.self.inside.memory.items =
+    ap length lay_is ∙ laid_count map c.self.inside.memory.items stores in
+    let is_memory : (with_items c.self.inside.memory c.lay_all.new.memory).items
+    ≡ laid map c.self.inside.memory.items stores =
+    with_items_is c.self.inside.memory c.lay_all.new.memory (omega (arith, same_count)) ∙ lay_is in
+    let is_output : c.extend_from_slice.new.self.items ≡ c.self.inside.output.items ++ c.in_ok-done.done.put.items =
+    grind (arith, common_steps, c.in_ok-extend_from_slice.ensures.items, c.as_slice-2.ensures.value) in
+    let is_harts : c.do_as_asked.new.harts.items ≡ harts_after map c.self.inside.objects
+    (with_items c.self.inside.memory c.lay_all.new.memory).items c.args.t c.write_back.new.harts.items
+    c.asked-asked.result =
+    c.in_ok-ending.ensures.harts
+    ∙ ap (λ (p : List Mapped). harts_after p c.self.inside.objects c.as_slice-3.result.now c.args.t
+    c.write_back.new.harts.items c.asked-asked.result) c.deref-2.ensures
+    ∙ ap (λ (x : Memory). harts_after map c.self.inside.objects x c.args.t
+    c.write_back.new.harts.items c.asked-asked.result) c.as_slice-3.ensures.value in
+    let is_objects : c.do_as_asked.new.objects ≡ objects_after map c.self.inside.objects c.args.t
+    c.asked-asked.result =
+    c.in_ok-ending.ensures.objects
+    ∙ ap (λ (p : List Mapped). objects_after p c.self.inside.objects c.args.t c.asked-asked.result) c.deref-2.ensures in
+    let is_ending : c.in_ok-ending.field-0.ending ≡ step.end_after
+    (own_end map c.self.inside.objects c.args.t c.asked-asked.result) c.do_as_asked.new.harts.items
+    c.self.inside.limit (c.self.inside.steps + 1) =
+    c.in_ok-ending.ensures.ending
+    ∙ ap (λ (p : List Mapped). step.end_after (own_end p c.self.inside.objects c.args.t c.asked-asked.result)
+    c.do_as_asked.new.harts.items c.self.inside.limit (c.self.inside.steps + 1)) c.deref-2.ensures in
+    stepped m c.args.t c.in_ok-done.done (with_items c.self.inside.memory c.lay_all.new.memory).items
+    c.write_back.new.harts.items c.do_as_asked.new.harts.items c.do_as_asked.new.objects
+    c.extend_from_slice.new.self.items c.in_ok-ending.field-0.ending c.asked-asked.result
+    c.self.invariant.memory is_done is_memory c.write_back.ensures c.asked-asked.ensures is_output is_harts is_objects
+    is_ending
+    ∙ ap (λ (x : Machine). step.step x c.args.t) c.self.view_is
+
+pub returns-clause-made : goal.returns-clause-made
+returns-clause-made g c =
+    let map : List Mapped = arc_value c.self.inside.map in
+    let m : Machine = record {
+      frame = record { map = map; fuel = c.self.inside.fuel };
+      limit = c.self.inside.limit;
+      memory = c.self.inside.memory.items;
+      harts = c.self.inside.harts.items;
+      objects = c.self.inside.objects;
+      output = c.self.inside.output.items;
+      steps = c.self.inside.steps;
+      ending = c.self.inside.ending;
+    } in
+    let view_is : c.view.result.now ≡ (hart_in c.self.inside.harts.items c.args.t).view =
+    c.view.ensures ∙ ap (λ (h : Hart). h.view) c.hart_at-hart.ensures in
+    let regs_is : c.regs.result.now ≡ (hart_in c.self.inside.harts.items c.args.t).regs =
+    c.regs.ensures ∙ ap (λ (h : Hart). h.regs) c.hart_at-hart.ensures in
+    let is_done : IsDone m.frame (hart_in c.self.inside.harts.items c.args.t).view
+    (hart_in c.self.inside.harts.items c.args.t).regs c.in_ok-done.done =
+    subst (λ (r : Registers). IsDone m.frame (hart_in c.self.inside.harts.items c.args.t).view r c.in_ok-done.done)
+    regs_is
+    (subst (λ (v : Memory). IsDone m.frame v c.regs.result.now c.in_ok-done.done) view_is c.in_ok-done.ensures.done) in
+    subst (λ (x : Machine). IsMade x c.args.t (record {
+      count = c.in_ok-done.done.count;
+      asked = c.asked-asked.result;
+      effect = c.in_ok-ending.field-0.effect;
+    })) c.self.view_is
+    (told m c.args.t c.in_ok-done.done (record {
+      count = c.in_ok-done.done.count;
+      asked = c.asked-asked.result;
+      effect = c.in_ok-ending.field-0.effect;
+    }) is_done refl c.asked-asked.ensures
+    (c.in_ok-ending.ensures.effect
+    ∙ ap (λ (p : List Mapped). effect_made p c.self.inside.objects c.args.t c.asked-asked.result) c.deref-2.ensures))

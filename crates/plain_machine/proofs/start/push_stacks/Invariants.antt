@@ -1,0 +1,7 @@
+-- What holds at the loop of `push_stacks`.
+use Rattle.std.proofs.Common.{◌≡◌, ◌++◌, replicate}
+use Rattle.memory_spec.specs.Pages.{zero_page}
+use Rattle.plain_machine.proofs.start.push_stacks.Given as goal
+
+abbrev pub invariant-loop : goal.invariant-loop
+invariant-loop l = l.memory.items ≡ l.fn.memory.items ++ replicate l.counter zero_page

@@ -1,0 +1,16 @@
+-- What is left to prove of `Work::new`.
+use Rattle.std.specs.Arc.{arc_value}
+use Rattle.memory_spec.specs.Pages.{IsMemory}
+use Rattle.plain_machine.proofs.Merging.{kept-none}
+use Rattle.plain_machine.proofs.work.Work.new.Goals as goal
+
+pub invariant_of-result : goal.invariant_of-result
+invariant_of-result c =
+    let copied : IsMemory (arc_value c.in_ok-try_clone.field-0) c.in_ok-copy_of.field-0.items =
+    rw (c.in_ok-try_clone.ensures, c.in_ok-copy_of.ensures) c.requires in
+    record {
+      count = copied.count;
+      lays = λ shared whole.
+          kept-none (arc_value c.in_ok-try_clone.field-0) c.in_ok-copy_of.field-0.items c.new.result.items shared copied
+          c.new.ensures.items whole;
+    }

@@ -1,0 +1,8 @@
+-- The files of definitions of this crate.
+pub mod Stored
+pub mod Merging
+pub mod Works
+pub mod Turning
+pub mod Doing
+pub mod Making
+pub mod Replaying

@@ -1,0 +1,17 @@
+-- What is told of a step.
+use Rattle.std.specs.Prelude.{◌≡◌, ℕ}
+use Rattle.thunk_spec.specs.Thunk.{Thunk, thunk}
+use Rattle.machine_spec.specs.Machine.{Machine, hart_of}
+use Rattle.machine_spec.specs.Step.{asked}
+use Rattle.plain_machine.specs.declared.machine.Made.{Made}
+use Rattle.plain_machine.specs.Doing.{effect_made}
+
+-- The thunk of a thread's next step.
+abbrev pub thunk_of : Machine → ℕ → Thunk
+thunk_of m t = thunk m.frame (hart_of m t).view (hart_of m t).regs
+
+-- What was made is the step of a thread: its count of turns, what its thunk asks, and what its call does.
+pub record IsMade (m : Machine) (t : ℕ) (made : Made) : Type 0 where
+  pub count : made.count ≡ (thunk_of m t).count
+  pub asks : made.asked ≡ asked t (thunk_of m t).end (thunk_of m t).regs
+  pub effect : made.effect ≡ effect_made m.frame.map m.objects t (asked t (thunk_of m t).end (thunk_of m t).regs)

@@ -1,0 +1,25 @@
+-- What the memory that a thunk works on means.
+use Rattle.std.specs.Prelude.{◌≡◌, [], length}
+use Rattle.std.specs.Arc.{arc_value}
+use Rattle.memory_spec.specs.Pages.{Memory, IsMemory, on_each}
+use Rattle.memory_spec.specs.Stores.{laid}
+use Rattle.memory_spec.specs.Workspace.{Workspace, Masks, no_marks, marked}
+use Rattle.plain_machine.specs.declared.work.Work.TheInside.{Inside}
+use Rattle.plain_machine.specs.Stored.{bytes_of}
+use Rattle.plain_machine.specs.Merging.{merged}
+
+-- The places that were stored to, which follow from the list of stores.
+abbrev pub stored_of : Inside → Masks
+stored_of w = marked (arc_value w.map) (on_each no_marks (arc_value w.map)) (bytes_of w.stores.items)
+
+-- The workspace: nobody asks for the view again, and no read pages are noted.
+abbrev pub workspace_of : Inside → Workspace
+workspace_of w =
+    record { map = arc_value w.map; view = []; memory = w.memory.items; stored = stored_of w; taken = [] }
+
+-- There is a page for each of the map; and what the stores leave on any memory is what they left on this one at the
+-- places that they stored to.
+pub record Keeps (w : Inside) : Type 0 where
+  pub count : length w.memory.items ≡ length (arc_value w.map)
+  pub lays : (shared : Memory) → IsMemory (arc_value w.map) shared
+      → laid (arc_value w.map) shared (bytes_of w.stores.items) ≡ merged (stored_of w) w.memory.items shared

@@ -1,0 +1,139 @@
+//! One hart, and what the effect of a call makes of it.
+
+ghost use Rattle.std.specs.Prelude.{◌≡◌, ◌<◌, ◌+◌, ◌*◌, ◌-◌, ◌^◌, suc};
+ghost use Rattle.machine_spec.specs.Performing.{answered, returned, first_registers, first_hart};
+ghost use Rattle.machine_spec.specs.Machine.{Hart as HartState};
+
+use guest_call::THREADS;
+use machine_spec::Status;
+use page_store::Page;
+use rv_alu::Regs;
+use std::marker::Model;
+
+/// The stack pointer (RISC-V ELF psABI, Register Convention).
+const SP: u8 = 2;
+
+/// The thread pointer (RISC-V ELF psABI, Register Convention).
+const TP: u8 = 4;
+
+/// The first argument, and what a call answers (RISC-V ELF psABI, Register Convention).
+const A0: u8 = 10;
+
+/// The second argument, and what a call tells beside its answer (RISC-V ELF psABI, Register Convention).
+const A1: u8 = 11;
+
+/// Where the stacks begin.
+const STACKS: u32 = 0xD000_0000;
+
+/// How many bytes each stack has.
+const STACK_SIZE: u32 = 0x1_0000;
+
+/// A hart, as the thread that runs on it has it between two steps. Its view is a copy of its own.
+#[derive(Drop)]
+pub(super) struct Hart {
+    view: Vec<Page>,
+    regs: Regs,
+    number: u32,
+    status: Status,
+}
+
+impl Model for Hart {
+    ghost use Rattle.machine_spec.specs.Machine.{Hart as HartState};
+
+    ghost Value = { HartState };
+
+    ghost view = { λ h. record { view = h.view.items; regs = h.regs; number = h.number; status = h.status } };
+}
+
+/// The registers after an answer.
+fn answer(regs: &mut Regs, a0: u32, a1: Option<u32>)
+    ensures { regs.new ≡ answered regs.old a0 a1 }
+{
+    let next = regs.pc().wrapping_add(4);
+    regs.set(A0, a0);
+    if let Some(value) = a1 {
+        regs.set(A1, value);
+    }
+    regs.set_pc(next);
+}
+
+/// The first registers of thread `t`.
+#[tactic(auto, unfolding(machine_spec::specs::Performing::first_registers, isa_spec::specs::Registers::with_register))]
+fn registers_of(t: u8, pc: u32, argument: u32) -> Regs
+    requires { t < THREADS }
+    ensures { result ≡ first_registers t pc argument }
+{
+    let mut regs = Regs::new(pc);
+    regs.set(SP, STACKS + STACK_SIZE * (u32::from(t) + 1));
+    regs.set(TP, u32::from(t));
+    regs.set(A0, argument);
+    regs
+}
+
+impl Hart {
+    /// A hart at the start of thread `t`.
+    pub(super) fn first(view: Vec<Page>, t: u8, pc: u32, argument: u32) -> Hart
+        requires { t < THREADS }
+        ensures { result ≡ first_hart view.items t pc argument }
+    {
+        Hart {
+            view,
+            regs: registers_of(t, pc, argument),
+            number: 0,
+            status: Status::Ready,
+        }
+    }
+
+    /// Its call returns: it has the answer and a new view, and is ready.
+    pub(super) fn return_with(&mut self, view: Vec<Page>, a0: u32, a1: Option<u32>)
+        ensures { self.new ≡ returned view.items a0 a1 self.old }
+    {
+        self.view = view;
+        answer(&mut self.regs, a0, a1);
+        self.status = Status::Ready;
+    }
+
+    /// It has another status.
+    pub(super) fn set_status(&mut self, status: Status)
+        ensures { self.new ≡ record self.old { status = status } }
+    {
+        self.status = status;
+    }
+
+    /// Its thunk was written: it has these registers, and has made one step more.
+    pub(super) fn write_back(&mut self, regs: Regs)
+        requires { self.old.number < 2 ^ 32 - 1 }
+        ensures { self.new ≡ record self.old { regs = regs; number = suc self.old.number } }
+    {
+        self.regs = regs;
+        self.number += 1;
+    }
+
+    /// Its status.
+    pub(super) fn status(&self) -> Status
+        ensures { result ≡ self.now.status }
+    {
+        self.status
+    }
+
+    /// How many steps it has made.
+    pub(super) fn number(&self) -> u32
+        ensures { result ≡ self.now.number }
+    {
+        self.number
+    }
+
+    /// Its registers.
+    pub(super) fn regs(&self) -> &Regs
+        ensures { result.now ≡ self.now.regs }
+    {
+        &self.regs
+    }
+
+    /// Its view.
+    pub(super) fn view(&self) -> &[Page]
+        ensures { result.now ≡ self.now.view }
+    {
+        self.view.as_slice()
+    }
+}

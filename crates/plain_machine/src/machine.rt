@@ -1,0 +1,296 @@
+//! The plain machine, one step at a time.
+
+ghost use Rattle.std.specs.Prelude.{◌≡◌, ◌<◌, ◌≤◌, ◌+◌, ◌-◌, ◌^◌, true, [], ◌∷◌, length, slice_set, IfOk};
+ghost use Rattle.std.specs.Arc.{arc_value};
+ghost use Rattle.machine_spec.specs.Machine.{Machine, hart_of, hart_in};
+ghost use Rattle.machine_spec.specs.Setup.{first, map_of, start_memory};
+ghost use Rattle.machine_spec.specs.Performing.{first_hart};
+ghost use Rattle.machine_spec.specs.Step as step;
+ghost use Rattle.machine_spec.specs.Whole.{IsWhole};
+ghost use Rattle.plain_machine.specs.Making.{IsMade};
+
+use super::acting::{Acted, Written, asked, do_as_asked};
+use super::hart::Hart;
+use super::start::memory_of;
+use super::stores::lay_all;
+use super::thunk::run;
+use super::work::copy_of;
+use call_effect::Effect;
+use machine_spec::{Asked, End, Status};
+use page_map::PageMap;
+use page_store::{Page, PageTable};
+use release_core::Setup;
+use rv_alu::Regs;
+use std::alloc::{AllocError, Global};
+use std::marker::Model;
+use std::sync::Arc;
+use std::sync::ledger::Ledger;
+use sync_objects::Objects;
+use turn_count::Turns;
+
+/// What a step did.
+#[derive(Drop)]
+pub struct Made {
+    /// How many turns its thunk made.
+    pub count: u32,
+    /// What the thunk asked for at its end: a call, or to end the run.
+    pub asked: Asked,
+    /// What the call did to the threads, if it was one.
+    pub effect: Option<Effect>,
+}
+
+/// The guest machine between two steps, with all memories whole: shared memory, and a view for each thread.
+#[derive(Drop)]
+pub struct PlainMachine {
+    alloc: Global,
+    map: Arc<PageMap>,
+    fuel: u32,
+    limit: u32,
+    memory: Vec<Page>,
+    harts: Vec<Hart>,
+    objects: Objects,
+    output: Vec<u8>,
+    steps: u32,
+    ending: Option<End>,
+}
+
+impl Model for PlainMachine {
+    ghost use Rattle.std.specs.Arc.{arc_value};
+    ghost use Rattle.machine_spec.specs.Machine.{Machine};
+    ghost use Rattle.machine_spec.specs.Whole.{IsWhole};
+
+    ghost Value = { Machine };
+
+    ghost view = { λ m. record {
+      frame = record { map = arc_value m.map; fuel = m.fuel };
+      limit = m.limit;
+      memory = m.memory.items;
+      harts = m.harts.items;
+      objects = m.objects;
+      output = m.output.items;
+      steps = m.steps;
+      ending = m.ending;
+    } };
+
+    ghost invariant = { λ m. IsWhole (view m) };
+}
+
+impl PlainMachine {
+    /// What holds of every machine holds of this one: what a caller learns of any.
+    pub fn whole(&self)
+        ensures { IsWhole self.now }
+    {
+        let _steps = &self.steps;
+    }
+
+    /// How it ended, if it has.
+    pub fn ended(&self) -> Option<End>
+        ensures { result ≡ self.now.ending }
+    {
+        self.ending
+    }
+
+    /// How many threads there are, those that have ended among them.
+    pub fn threads(&self) -> usize
+        ensures { result ≡ length self.now.harts }
+    {
+        self.harts.len()
+    }
+
+    /// The status of thread `t`, which exists.
+    pub fn status(&self, t: u8) -> Status
+        requires { t < length self.now.harts }
+        ensures { result ≡ (hart_of self.now t).status }
+    {
+        let hart = &self.harts[usize::from(t)];
+        hart.status()
+    }
+
+    /// How many steps thread `t`, which exists, has made.
+    pub fn number(&self, t: u8) -> u32
+        requires { t < length self.now.harts }
+        ensures { result ≡ (hart_of self.now t).number }
+    {
+        let hart = &self.harts[usize::from(t)];
+        hart.number()
+    }
+
+    /// Whether thread `t` may make the next step: the machine hasn't ended, and the thread is ready.
+    pub fn can_step(&self, t: u8) -> bool
+        ensures { result ≡ step.can_step self.now t }
+    {
+        if self.ending.is_some() || usize::from(t) >= self.harts.len() {
+            return false;
+        }
+        let hart = &self.harts[usize::from(t)];
+        hart.status() == Status::Ready
+    }
+
+    /// How many steps were made.
+    pub fn steps(&self) -> u32
+        ensures { result ≡ self.now.steps }
+    {
+        self.steps
+    }
+
+    /// The bytes that were put out.
+    pub fn output(&self) -> &[u8]
+        ensures { result.now ≡ self.now.output }
+    {
+        self.output.as_slice()
+    }
+
+    /// A table of the pages of shared memory.
+    ///
+    /// # Errors
+    ///
+    /// An error where the host's memory ran out.
+    pub fn memory(&self) -> Result<PageTable, AllocError>
+        ensures { IfOk result (λ table. table ≡ self.now.memory) }
+    {
+        let mut table = PageTable::empty(self.alloc);
+        for page in &self.memory {
+            table.push(page.copy())?;
+        }
+        Ok(table)
+    }
+
+    /// The bytes that were put out, where the machine is of no more use.
+    pub fn into_output(self) -> Vec<u8>
+        ensures { result.items ≡ self.output }
+    {
+        self.output
+    }
+}
+
+/// Thread 0 alone, at the executable's entry.
+fn first_harts(alloc: Global, memory: &[Page], entry: u32) -> Result<Vec<Hart>, AllocError>
+    ensures { IfOk result (λ harts. harts.items ≡ first_hart memory.now 0 entry 0xC0000000 ∷ []) }
+{
+    let view = copy_of(alloc, memory)?;
+    let mut harts = Vec::new(alloc);
+    harts.push(Hart::first(view, 0, entry, 0xC000_0000))?;
+    Ok(harts)
+}
+
+impl PlainMachine {
+    /// The machine that a setup starts as.
+    ///
+    /// # Errors
+    ///
+    /// An error where the host's memory ran out.
+    #[tactic(auto, unfolding(machine_spec::specs::Setup::first))]
+    pub fn new(alloc: Global, setup: &Setup) -> Result<PlainMachine, AllocError>
+        ensures { IfOk result (λ machine. machine ≡ first setup.now) }
+    {
+        setup.sound();
+        machine_spec::first_is_whole();
+        let map = Arc::new(alloc, setup.page_map(alloc)?)?;
+        let memory = memory_of(alloc, setup)?;
+        let harts = first_harts(alloc, memory.as_slice(), setup.image().entry)?;
+        Ok(PlainMachine {
+            alloc,
+            map,
+            fuel: setup.limits().fuel(),
+            limit: setup.limits().steps(),
+            memory,
+            harts,
+            objects: Objects::new(),
+            output: Vec::new(alloc),
+            steps: 0,
+            ending: None,
+        })
+    }
+}
+
+/// The hart of thread `t`, which exists.
+fn hart_at(harts: &Vec<Hart>, t: u8) -> &Hart
+    requires { t < length harts.now.items }
+    ensures { result.now ≡ hart_in harts.now.items t }
+{
+    &harts[usize::from(t)]
+}
+
+/// Thread `t`'s thunk was written: its hart has the last registers, and has made one step more.
+fn write_back(harts: &mut Vec<Hart>, t: u8, regs: Regs)
+    requires exists { t < length harts.old.items }
+    requires few { (hart_in harts.old.items t).number < 2 ^ 32 - 1 }
+    ensures { harts.new.items ≡ slice_set harts.old.items t (step.advanced (hart_in harts.old.items t) regs) }
+{
+    let hart = &mut harts[usize::from(t)];
+    hart.write_back(regs);
+}
+
+impl PlainMachine {
+    /// Makes a step of thread `t`, which may make one: its thunk is run on its view, its stores are laid on shared
+    /// memory in order, and its call is performed. The counter rises by the number of the thunk's turns.
+    ///
+    /// # Errors
+    ///
+    /// An error where the host's memory ran out; the machine is gone then.
+    #[tactic(auto, using(crate::proofs::Asking::below))]
+    pub fn step<L: Ledger>(
+        self,
+        t: u8,
+        turns: &mut Turns<L>,
+    ) -> Result<(PlainMachine, Made), AllocError>
+        requires { step.can_step self t ≡ true }
+        ensures machine { IfOk result (λ r. r.0 ≡ step.step self t) }
+        ensures made { IfOk result (λ r. IsMade self t r.1) }
+        ensures most { IfOk result (λ r. r.1.count ≤ self.frame.fuel) }
+        ensures cost { IfOk result (λ r. turns.new ≡ turns.old + r.1.count) }
+        ensures never_lower { turns.old ≤ turns.new }
+    {
+        machine_spec::step_keeps_whole();
+        let PlainMachine {
+            alloc,
+            map,
+            fuel,
+            limit,
+            mut memory,
+            mut harts,
+            mut objects,
+            mut output,
+            steps,
+            ending: _,
+        } = self;
+        let hart = hart_at(&harts, t);
+        let done = run(alloc, &map, fuel, hart.view(), *hart.regs(), turns)?;
+        lay_all(&map, memory.as_mut_slice(), done.stores.as_slice());
+        output.extend_from_slice(done.put.as_slice())?;
+        write_back(&mut harts, t, done.regs);
+        let asked = asked(t, done.end, &done.regs);
+        let written = Written {
+            map: &map,
+            memory: memory.as_slice(),
+            limit,
+            steps: steps + 1,
+        };
+        let Acted { ending, effect } = do_as_asked(
+            alloc,
+            &mut harts,
+            &mut objects,
+            &written,
+            t,
+            asked,
+        )?;
+        let machine = PlainMachine {
+            alloc,
+            map,
+            fuel,
+            limit,
+            memory,
+            harts,
+            objects,
+            output,
+            steps: steps + 1,
+            ending,
+        };
+        let made = Made {
+            count: done.count,
+            asked,
+            effect,
+        };
+        Ok((machine, made))
+    }
+}

@@ -1,0 +1,198 @@
+//! The memory that a thunk works on.
+
+ghost use Rattle.std.specs.Prelude.{◌≡◌, ◌+◌, ◌*◌, ◌%◌, ◌^◌, ◌<◌, ◌≤◌, [], length, IfOk, IfSome, IfNone};
+ghost use Rattle.std.specs.Arc.{arc_value};
+ghost use Rattle.memory_spec.specs.Access.{byte_count, number_in};
+ghost use Rattle.memory_spec.specs.Pages.{Memory, IsMemory, on_each, page_of, slot_of, permission_at};
+ghost use Rattle.memory_spec.specs.Stores.{laid};
+ghost use Rattle.memory_spec.specs.Workspace.{no_marks};
+ghost use Rattle.plain_machine.specs.Merging.{merged};
+ghost use Rattle.plain_machine.specs.Stored.{bytes_of};
+
+use super::stores::{Stored, lay};
+use memory_spec::{MemoryError, PAGE_SIZE, Size};
+use page_map::{Mem, PageMap, Perm};
+use page_store::Page;
+use std::alloc::{AllocError, Global};
+use std::marker::Model;
+use std::sync::Arc;
+
+/// A whole copy of a view with the thread's own stores laid on it, and the list of the stores. A clause sees a
+/// `Workspace` of `memory_spec`, in which the view and the read pages are left out.
+#[derive(Drop)]
+pub(super) struct Work {
+    map: Arc<PageMap>,
+    memory: Vec<Page>,
+    stores: Vec<Stored>,
+}
+
+impl Model for Work {
+    ghost use Rattle.memory_spec.specs.Workspace.{Workspace};
+    ghost use Rattle.plain_machine.specs.Works.{workspace_of, Keeps};
+
+    ghost Value = { Workspace };
+
+    ghost view = { workspace_of };
+
+    ghost invariant = { Keeps };
+}
+
+/// A copy of all pages of a memory.
+pub(super) fn copy_of(alloc: Global, memory: &[Page]) -> Result<Vec<Page>, AllocError>
+    ensures { IfOk result (λ copy. copy.items ≡ memory.now) }
+{
+    let mut copy = Vec::with_capacity(alloc, memory.len())?;
+    for page in memory {
+        copy.push(page.copy())?;
+    }
+    Ok(copy)
+}
+
+/// The slot of an address, and what its page permits. None exactly where no page has it.
+#[inline(always)]
+#[tactic(auto, unfolding(memory_spec::specs::Pages::permission_at))]
+fn permitted(map: &PageMap, address: u32) -> Option<(usize, Perm)>
+    ensures slot { IfSome result (λ p. (p.0 ≡ slot_of map.now address) × (p.0 < length map.now)) }
+    ensures perm { IfSome result (λ p. p.1.0 ≡ permission_at map.now address) }
+    ensures missing { IfNone result (permission_at map.now address ≡ 0) }
+{
+    match map.slot_of(address) {
+        Some(slot) => Some((slot, map.perm(slot))),
+        None => None,
+    }
+}
+
+/// The number that stands in a page from an offset on, least byte first.
+#[inline(always)]
+#[tactic(auto, unfolding(memory_spec::specs::Access::number_in))]
+fn number_at(page: &Page, offset: usize, size: Size) -> u32
+    requires { offset + byte_count size ≤ PAGE_SIZE }
+    ensures value { result ≡ number_in page.now offset size }
+    ensures small { result < 2 ^ (8 * byte_count size) }
+{
+    let bytes = page.bytes();
+    match size {
+        Size::One => u32::from(bytes[offset]),
+        Size::Two => u32::from(bytes[offset]) + (u32::from(bytes[offset + 1]) << 8),
+        Size::Four => {
+            u32::from(bytes[offset])
+                + (u32::from(bytes[offset + 1]) << 8)
+                + (u32::from(bytes[offset + 2]) << 16)
+                + (u32::from(bytes[offset + 3]) << 24)
+        }
+    }
+}
+
+/// Where an address lies in its page, for an access that begins there.
+#[inline(always)]
+fn offset_of(address: u32, size: Size) -> usize
+    requires { address % byte_count size ≡ 0 }
+    ensures value { result ≡ address % PAGE_SIZE }
+    ensures inside { result + byte_count size ≤ PAGE_SIZE }
+{
+    let _size = size;
+    (address % PAGE_SIZE as u32) as usize
+}
+
+impl Mem for Work {
+    ghost workspace = { λ w. w };
+
+    #[inline(always)]
+    #[tactic(auto, unfolding(memory_spec::specs::Access::fetched, memory_spec::specs::Access::number_at))]
+    fn fetch(&mut self, address: u32) -> Result<u32, MemoryError> {
+        match permitted(&self.map, address) {
+            None => Err(MemoryError::Access),
+            Some((slot, perm)) => {
+                if !perm.executes() {
+                    return Err(MemoryError::Access);
+                }
+                let offset = offset_of(address, Size::Four);
+                Ok(number_at(&self.memory[slot], offset, Size::Four))
+            }
+        }
+    }
+
+    #[inline(always)]
+    #[tactic(auto, unfolding(memory_spec::specs::Access::loaded, memory_spec::specs::Access::number_at))]
+    fn load(&mut self, address: u32, size: Size) -> Result<u32, MemoryError> {
+        match permitted(&self.map, address) {
+            None => Err(MemoryError::Access),
+            Some((slot, perm)) => {
+                if !perm.reads() {
+                    return Err(MemoryError::Access);
+                }
+                let offset = offset_of(address, size);
+                Ok(number_at(&self.memory[slot], offset, size))
+            }
+        }
+    }
+
+    #[inline(always)]
+    #[tactic(auto, unfolding(memory_spec::specs::Access::may_store), using(crate::proofs::Laying::count_kept))]
+    fn store(&mut self, address: u32, size: Size, value: u32) -> Result<(), MemoryError> {
+        match permitted(&self.map, address) {
+            None => Err(MemoryError::Access),
+            Some((_slot, perm)) => {
+                if !perm.writes() {
+                    return Err(MemoryError::Access);
+                }
+                let stored = Stored::new(address, size, value);
+                let Ok(()) = self.stores.push(stored) else {
+                    return Err(MemoryError::NoMemory);
+                };
+                lay(&self.map, self.memory.as_mut_slice(), stored);
+                Ok(())
+            }
+        }
+    }
+
+    fn enter(&mut self, _address: u32) -> Option<usize> {
+        None
+    }
+
+    fn shows(&self, _slot: usize, _bytes: &[u8; PAGE_SIZE]) -> bool {
+        // No page is entered, so none is asked for.
+        let _memory = &self.memory;
+        unreachable!()
+    }
+}
+
+impl Work {
+    /// A copy of a view, with nothing stored.
+    ///
+    /// # Errors
+    ///
+    /// An error where the host's memory ran out.
+    pub(super) fn new(alloc: Global, map: &Arc<PageMap>, view: &[Page]) -> Result<Work, AllocError>
+        requires { IsMemory (arc_value map.now) view.now }
+        ensures { IfOk result (λ work. work ≡ record {
+          map = arc_value map.now;
+          view = [];
+          memory = view.now;
+          stored = on_each no_marks (arc_value map.now);
+          taken = [];
+        }) }
+    {
+        Ok(Work {
+            map: Arc::try_clone(map)?,
+            memory: copy_of(alloc, view)?,
+            stores: Vec::new(alloc),
+        })
+    }
+
+    /// Its pages, with the stores.
+    pub(super) fn memory(&self) -> &[Page]
+        ensures value { result.now ≡ self.now.memory }
+        ensures count { length self.now.memory ≡ length self.now.map }
+    {
+        self.memory.as_slice()
+    }
+
+    /// The stores, in order.
+    pub(super) fn into_stores(self) -> Vec<Stored>
+        ensures { (shared : Memory) → IsMemory self.map shared
+            → laid self.map shared (bytes_of result.items) ≡ merged self.stored self.memory shared }
+    {
+        self.stores
+    }
+}
