@@ -1,8 +1,8 @@
 """A plain machine of RV32IM for the checks of this folder: it executes each instruction on whole pages, notes the pages that each step reads and
 stores to, and tells the report that the program has to print and the listing that `show` has to give. It shares no code with the program.
 
-It knows the calls exit, put, create, thread_exit, join and yield, and the choice of one worker without an earlier run. Beside it stand the few
-words that its guests are written in, and the writer of an executable of one or more segments.
+It knows the calls exit, put, create, thread_exit, join and yield, and the choice of one worker without an earlier run; plain_calls.py beside it has
+the other calls. Beside it stand the few words that its guests are written in, and the writer of an executable of one or more segments.
 """
 import hashlib
 import struct
@@ -10,6 +10,7 @@ import struct
 PAGE, WORD = 4096, 0xFFFFFFFF
 EXECUTE, WRITE, READ = 1, 2, 4
 HEADER, STACKS = 0xC0000, 0xD0000
+ZEROS = bytes(PAGE)
 
 
 class Trap(Exception):
@@ -92,20 +93,23 @@ class Thread:
 
 
 class Machine:
-    """The machine of an executable on an empty input. `entries` has of each step its thread, end, count, and its read and stored pages."""
+    """The machine of an executable on an input. `entries` has of each step its thread, end, count, and its read and stored pages."""
 
-    def __init__(self, entry, segments, fuel, limit=4096):
+    def __init__(self, entry, segments, fuel, limit=4096, given=b""):
         self.rights, self.shared = {}, {}
         for address, permission, data, size in segments:
             for page in range(address // PAGE, (address + size - 1) // PAGE + 1):
                 self.rights[page] = self.rights.get(page, 0) | permission
-                old = self.shared.get(page, bytes(PAGE))
+                old = self.shared.get(page, ZEROS)
                 low, high = max(address, page * PAGE), min(address + len(data), (page + 1) * PAGE)
                 if low < high:
                     old = old[: low - page * PAGE] + data[low - address : high - address] + old[high - page * PAGE :]
                 self.shared[page] = old
         for page in [HEADER + n for n in range(257)] + [STACKS + n for n in range(512)]:
-            self.rights[page], self.shared[page] = READ | WRITE, bytes(PAGE)
+            self.rights[page], self.shared[page] = READ | WRITE, ZEROS
+        self.shared[HEADER] = struct.pack("<I", len(given)).ljust(PAGE, b"\0")
+        for start in range(0, len(given), PAGE):
+            self.shared[HEADER + 1 + start // PAGE] = given[start : start + PAGE].ljust(PAGE, b"\0")
         self.fuel, self.limit, self.output, self.ended, self.entries = fuel, limit, b"", None, []
         self.threads = [Thread(0, entry, HEADER << 12, dict(self.shared))]
 
@@ -280,12 +284,15 @@ class Machine:
             self.step(min((t.made, n) for n, t in enumerate(self.threads) if t.status == "ready")[1])
         return self
 
+    def digest(self):
+        """The digest of shared memory."""
+        return hashlib.sha256(b"".join(self.shared[page] for page in sorted(self.shared))).hexdigest()
+
     def report(self):
         """The report that a run of one worker prints."""
-        memory = hashlib.sha256(b"".join(self.shared[page] for page in sorted(self.shared))).hexdigest()
         count = len(self.entries)
         lines = ["round 0", f"end {self.ended}", f"steps {count}", "reused 0", f"executed {count}", f"instructions {sum(e[3] for e in self.entries)}",
-                 f"by {count}", "schedule " + " ".join(f"{e[0]}+" for e in self.entries), f"memory {memory}", f"output {len(self.output)}"]
+                 f"by {count}", "schedule " + " ".join(f"{e[0]}+" for e in self.entries), f"memory {self.digest()}", f"output {len(self.output)}"]
         return "\n".join(lines).encode() + b"\n" + self.output + b"\n"
 
     def listing(self):

@@ -53,7 +53,7 @@ REFUSED = [
 # What guests of examples/ end with, of an empty input, and the options for that.
 ENDS = [("perm.elf", [], {"kind": "exit", "code": 4294967295}),
         ("trap.elf", [], {"kind": "trap", "thread": 0, "pc": "0001000c", "cause": 4}),
-        ("cross.elf", [], {"kind": "deadlock"}),
+        ("cross.elf", ["--workers", "1"], {"kind": "deadlock"}),
         ("hi.elf", ["--fuel", "4"], {"kind": "spent"})]
 
 
@@ -244,7 +244,9 @@ def lines_of(printed):
 
 
 def check_run(checks, what, words, status, output, why=""):
-    """The tool has that status and output, and on standard error the reports' lines, and behind them why."""
+    """The tool has that status and output, and on standard error the reports' lines, and behind them why. One worker
+    makes the rounds, so that both runs have the same reports."""
+    words = (*words, "--workers", "1")
     _, printed, _ = program("run", *words)
     got = run(*words)
     right = got[:2] == (status, output) and got[2].startswith(lines_of(printed))
@@ -272,11 +274,24 @@ def check_ends(checks):
     unknown[84 + 12:84 + 16] = (0x06300893).to_bytes(4, "little")  # addi a7, x0, 99
     check_run(checks, "an unknown call", (checks.file("unknown.elf", unknown), empty), 211, b"",
               "round 0 ended by trap 0 00010010 8")
-    check_run(checks, "a deadlock", (cross, empty, "--workers", "1"), 212, b"", "round 0 ended by deadlock")
+    check_run(checks, "a deadlock", (cross, empty), 212, b"", "round 0 ended by deadlock")
     check_run(checks, "fuel", (hi, "--fuel", "4", empty), 213, b"", "round 0 ended by spent: thread 0 went on")
     check_run(checks, "steps", (hi, empty, "--steps=1"), 213, b"hi\n", "round 0 ended by spent: it had 1 steps")
     five = checks.file("five", b"set 0 00\n")
     check_run(checks, "a length as code", (EXAMPLES / "length.elf", EXAMPLES / "pair.in", five), 4100 % 256, b"")
+
+
+def check_workers(checks):
+    """Several workers: as many numbers behind `by`, and the output of one worker, where it is the guest's alone."""
+    pair = [EXAMPLES / f"pair.{word}" for word in ("elf", "in", "edits")]
+    file = checks.folder / "kept"
+    for words, count in (([], 4), (["--workers", "2"], 2), (["--workers=16"], 16)):
+        got = run(*pair, *words, "--report", file)
+        shares = [one.by for one in reports.rounds(file.read_bytes())]
+        checks.expect(f"run pair.elf with {count} workers: {got[0]}, {shares}",
+                      got == (0, bytes([13, 0, 0, 0]), "") and [len(one) for one in shares] == [count, count])
+        made = json.loads(tool("report", file)[1] or b"[]")
+        checks.expect(f"report of pair.elf with {count} workers", [one["by"] for one in made] == shares)
 
 
 def check_failures(checks):
@@ -308,4 +323,5 @@ def check(checks):
     check_words(checks)
     check_guests(checks)
     check_ends(checks)
+    check_workers(checks)
     check_failures(checks)

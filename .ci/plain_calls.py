@@ -1,0 +1,286 @@
+"""The plain machine with all its calls, and of each step the record by which a later round may reuse it. It goes by docs/MACHINE.md and shares no
+code with the program. Which thread makes the next step is said from outside, so that it takes any schedule; `lone_pick` is the choice of one worker,
+also where it goes by an earlier run."""
+import struct
+from dataclasses import dataclass
+
+from plain_machine import ZEROS, Machine, Thread
+
+EPERM, ESRCH, EAGAIN, EBUSY, EINVAL, EDEADLK, EOVERFLOW = -1, -3, -11, -16, -22, -35, -75
+OBJECTS, THREADS, MOST_VALUE = 64, 32, 2**31 - 1
+digests = {}  # by the numbers of all pages, and the pages that aren't zero, so that the same memory isn't digested again
+
+
+def read_executable(file):
+    """The entry and the segments of an ELF file that the program takes."""
+    entry, headers = struct.unpack_from("<II", file, 24)
+    size, count = struct.unpack_from("<HH", file, 42)
+    segments = []
+    for place in range(headers, headers + size * count, size):
+        kind, offset, address, _, length, memory, flags, _ = struct.unpack_from("<8I", file, place)
+        if kind == 1 and memory:
+            segments.append((address, flags & 7, file[offset : offset + length], memory))
+    return entry, segments
+
+
+@dataclass
+class Record:
+    """What is kept of a step: its thread, the registers at its start with the pc, the bytes of its read pages, its turns, and whether fuel ended it."""
+
+    thread: int
+    start: tuple
+    read: dict
+    count: int
+    is_spent: bool
+
+
+class Impossible(Exception):
+    """A step that the machine can't make."""
+
+
+class CallMachine(Machine):
+    """The machine with all calls. `records` has the record of each step."""
+
+    def __init__(self, *given):
+        super().__init__(*given)
+        self.records = []
+        self.owner, self.waiting = {}, {}  # of a mutex its owner; of an object, a kind and a number, who waits
+        self.value, self.needed = [0] * OBJECTS, [0] * OBJECTS  # of semaphores, of barriers
+        self.mutex_of = {}  # of a thread that waits for a condition, its mutex
+
+    def digest(self):
+        key = (tuple(self.shared), tuple((page, data) for page, data in self.shared.items() if data is not ZEROS))
+        if key not in digests:
+            digests[key] = super().digest()
+        return digests[key]
+
+    def is_ready(self, number):
+        return number < len(self.threads) and self.threads[number].status == "ready"
+
+    def make(self, number):
+        """One step of a thread, where it can make one; its record, and whether it was the last."""
+        if self.ended is not None:
+            raise Impossible(f"the run has ended by {self.ended}")
+        if not self.is_ready(number):
+            raise Impossible(f"thread {number} isn't ready")
+        thread = self.threads[number]
+        start, view = (thread.pc, *thread.x), thread.view
+        self.step(number)
+        _, _, end, count, read, _ = self.entries[-1]
+        self.records.append(Record(number, start, {page: view[page] for page in read}, count, end == "fuel"))
+
+    def fits(self, number, record):
+        """Whether a record fits the next step of a thread that is ready."""
+        thread = self.threads[number]
+        return (record is not None and (thread.pc, *thread.x) == record.start
+                and (record.count == self.fuel if record.is_spent else record.count <= self.fuel)
+                and all(thread.view[page] == data for page, data in record.read.items()))
+
+    def queue(self, kind, number):
+        return self.waiting.setdefault((kind, number), [])
+
+    def block(self, number, kind, place):
+        self.queue(kind, place).append(number)
+        self.threads[number].status = "blocked"
+
+    def free(self, mutex):
+        """Gives up a mutex: to the first who waits, if there is one."""
+        queue = self.queue("mutex", mutex)
+        if queue:
+            self.owner[mutex] = queue.pop(0)
+            self.answer(self.threads[self.owner[mutex]], 0)
+        else:
+            del self.owner[mutex]
+
+    def wake(self, condition, most):
+        """So many at most leave a condition, and each comes to its mutex."""
+        queue = self.queue("condition", condition)
+        for number in [queue.pop(0) for _ in range(min(most, len(queue)))]:
+            mutex = self.mutex_of.pop(number)
+            if mutex in self.owner:
+                self.queue("mutex", mutex).append(number)
+            else:
+                self.owner[mutex] = number
+                self.answer(self.threads[number], 0)
+
+    def done(self, t, number, end, put):
+        which, first, second = t.x[17], t.x[10], t.x[11]
+        if not end.startswith("call") or which not in CALLS:
+            return super().done(t, number, end, put)
+        answer = CALLS[which](self, number, first, second)
+        if answer is not None:
+            self.answer(t, answer)
+        return None
+
+    def create(self, number, pc, argument):
+        if pc % 4:
+            return EINVAL
+        if len(self.threads) == THREADS:
+            return EAGAIN
+        self.threads.append(Thread(len(self.threads), pc, argument, dict(self.shared)))
+        return len(self.threads) - 1
+
+    def join(self, number, other, _):
+        if other >= len(self.threads):
+            return ESRCH
+        if other == number:
+            return EDEADLK
+        joined = self.threads[other]
+        if joined.joiner is not None:
+            return EINVAL
+        joined.joiner = number
+        if joined.status == "ended":
+            self.answer(self.threads[number], 0, joined.value)
+        else:
+            self.threads[number].status = "blocked"
+        return None
+
+    def lock(self, number, mutex, _):
+        if mutex >= OBJECTS:
+            return EINVAL
+        if self.owner.get(mutex) == number:
+            return EDEADLK
+        if mutex in self.owner:
+            return self.block(number, "mutex", mutex)
+        self.owner[mutex] = number
+        return 0
+
+    def trylock(self, number, mutex, _):
+        if mutex >= OBJECTS:
+            return EINVAL
+        if mutex in self.owner:
+            return EBUSY
+        self.owner[mutex] = number
+        return 0
+
+    def unlock(self, number, mutex, _):
+        if mutex >= OBJECTS:
+            return EINVAL
+        if self.owner.get(mutex) != number:
+            return EPERM
+        self.free(mutex)
+        return 0
+
+    def sem_wait(self, number, place, _):
+        if place >= OBJECTS:
+            return EINVAL
+        if self.value[place] == 0:
+            return self.block(number, "semaphore", place)
+        self.value[place] -= 1
+        return 0
+
+    def sem_trywait(self, number, place, _):
+        if place >= OBJECTS:
+            return EINVAL
+        return EAGAIN if self.value[place] == 0 else self.sem_wait(number, place, _)
+
+    def sem_post(self, _, place, __):
+        if place >= OBJECTS:
+            return EINVAL
+        if self.queue("semaphore", place):
+            self.answer(self.threads[self.queue("semaphore", place).pop(0)], 0)
+        elif self.value[place] == MOST_VALUE:
+            return EOVERFLOW
+        else:
+            self.value[place] += 1
+        return 0
+
+    def sem_init(self, _, place, value):
+        if place >= OBJECTS or value > MOST_VALUE:
+            return EINVAL
+        if self.queue("semaphore", place):
+            return EBUSY
+        self.value[place] = value
+        return 0
+
+    def barrier_init(self, _, place, count):
+        if place >= OBJECTS or not 0 < count <= THREADS:
+            return EINVAL
+        if self.queue("barrier", place):
+            return EBUSY
+        self.needed[place] = count
+        return 0
+
+    def barrier_wait(self, number, place, _):
+        if place >= OBJECTS or self.needed[place] == 0:
+            return EINVAL
+        queue = self.queue("barrier", place)
+        if len(queue) + 1 < self.needed[place]:
+            return self.block(number, "barrier", place)
+        while queue:
+            self.answer(self.threads[queue.pop(0)], 0)
+        return 1
+
+    def cond_wait(self, number, condition, mutex):
+        if condition >= OBJECTS or mutex >= OBJECTS:
+            return EINVAL
+        if self.owner.get(mutex) != number:
+            return EPERM
+        if any(self.mutex_of[other] != mutex for other in self.queue("condition", condition)):
+            return EINVAL
+        self.mutex_of[number] = mutex
+        self.block(number, "condition", condition)
+        self.free(mutex)
+        return None
+
+    def signal(self, _, condition, __):
+        if condition >= OBJECTS:
+            return EINVAL
+        self.wake(condition, 1)
+        return 0
+
+    def broadcast(self, _, condition, __):
+        if condition >= OBJECTS:
+            return EINVAL
+        self.wake(condition, THREADS)
+        return 0
+
+
+CALLS = {2: CallMachine.create, 4: CallMachine.join, 6: CallMachine.lock, 7: CallMachine.trylock, 8: CallMachine.unlock, 9: CallMachine.sem_wait,
+         10: CallMachine.sem_trywait, 11: CallMachine.sem_post, 12: CallMachine.sem_init, 13: CallMachine.barrier_init, 14: CallMachine.barrier_wait,
+         15: CallMachine.cond_wait, 16: CallMachine.signal, 17: CallMachine.broadcast}
+
+
+class History:
+    """The records of an earlier round, by thread and number, each with its place."""
+
+    def __init__(self, records):
+        self.records, self.place = records, {}
+        made = {}
+        for place, record in enumerate(records):
+            number = made.get(record.thread, 0)
+            self.place[record.thread, number] = place
+            made[record.thread] = number + 1
+
+    def next_place(self, machine, number):
+        """The place of the record of a thread's next step; None where there is none."""
+        return self.place.get((number, machine.threads[number].made))
+
+    def next_record(self, machine, number):
+        place = self.next_place(machine, number)
+        return None if place is None else self.records[place]
+
+
+def is_due(machine, history, place):
+    """Whether each step of the history before a place was made, or is one of a thread that has ended."""
+    made = {}
+    for record in history.records[:place]:
+        number = made.get(record.thread, 0)
+        made[record.thread] = number + 1
+        threads = machine.threads
+        if not (record.thread < len(threads) and (number < threads[record.thread].made or threads[record.thread].status == "ended")):
+            return False
+    return True
+
+
+def lone_pick(machine, history, out=()):
+    """The thread whose step a worker makes next, while these are out; None where a commit must be waited for, or nothing is ready."""
+    ready = [number for number in range(len(machine.threads)) if machine.is_ready(number) and number not in out]
+
+    def rank(number):
+        place = history.next_place(machine, number)
+        return (place is None, place or 0, machine.threads[number].made, number)
+
+    due = [number for number in ready if history.next_place(machine, number) is None or is_due(machine, history, history.next_place(machine, number))]
+    among = due or (() if out else ready)
+    return min(among, key=rank, default=None)
