@@ -1,0 +1,35 @@
+-- Reorderings of a history, as lists of its places, and what it is that records lead to the same as it.
+use Rattle.std.specs.Prelude.{◌≡◌, ℕ, ◌&&◌, ◌||◌, not, nat_lt, Bool, true, List, [], ◌∷◌, length, map, filter_map, slice_get}
+use Rattle.record_spec.specs.Record.{Record}
+use Rattle.machine_spec.specs.Setup.{first, scratch}
+use Rattle.history_spec.specs.History.{History, schedule_of, laid_from, can_lay_from}
+use Rattle.order_spec.specs.Facts.{Fact}
+use Rattle.order_spec.specs.Before.{is_in, fact_at, all_below, before_at}
+
+-- Whether places, where some have come already, are the others of a history, each once, and each comes after all that
+-- must come before it.
+abbrev pub is_order_after : List Fact → List ℕ → List ℕ → Bool
+is_order_after fs come [] = all_below (λ i. is_in i come) (length fs)
+is_order_after fs come (j ∷ places) =
+    (nat_lt j (length fs) && not (is_in j come))
+    && (all_below (λ i. is_in i come || not (before_at fs i j)) j && is_order_after fs (j ∷ come) places)
+
+-- A reordering in which all that must come before does: a list of the places, each once.
+abbrev pub is_order : List Fact → List ℕ → Bool
+is_order fs places = is_order_after fs [] places
+
+-- Its schedule.
+abbrev pub threads_at : List Fact → List ℕ → List ℕ
+threads_at fs places = map (λ j. (fact_at fs j).thread) places
+
+-- The records at some places.
+abbrev pub records_at : List Record → List ℕ → List Record
+records_at records places = filter_map (λ j. slice_get records j) places
+
+-- Records lead to the same as a history does: laid one after the other from its start on, each fits in its turn, and
+-- end, output and memory are those that the history came to.
+pub record LeadToTheSame (h : History) (records : List Record) : Type 0 where
+  pub fits : can_lay_from (first h.setup) records ≡ true
+  pub ending : (laid_from (first h.setup) records).ending ≡ (scratch h.setup (schedule_of h)).ending
+  pub output : (laid_from (first h.setup) records).output ≡ (scratch h.setup (schedule_of h)).output
+  pub memory : (laid_from (first h.setup) records).memory ≡ (scratch h.setup (schedule_of h)).memory
