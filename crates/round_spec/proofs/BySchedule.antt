@@ -1,5 +1,8 @@
 -- A round is where its schedule leads, whatever happens to it.
-use Rattle.std.proofs.Common.{◌≡◌, ◌<◌, ℕ, zero, suc, Bool, true, false, not, cond, List, [], ◌∷◌, ◌++◌, append_assoc, append-nil, length, set, Option, Some, None, is_some, is_none, refl, ap, sym, ◌∙◌, subst, arith}
+use Rattle.std.proofs.Common.{◌≡◌, ◌<◌, ◌≤◌, ◌+◌, ℕ, zero, suc, Bool, true, false, not, cond, List, [], ◌∷◌, ◌++◌, append_assoc, append-nil, length, length-append, get_or, set, Option, Some, None, is_some, is_none, refl, ap, sym, ◌∙◌, subst, inl, inr, arith}
+use Rattle.std.proofs.lemmas.Bool.{cases_lt}
+use Rattle.std.proofs.lemmas.List.{get_or-set_same, length-set}
+use Rattle.std.specs.List.{range_with_len}
 use Rattle.record_spec.specs.Record.{Record}
 use Rattle.machine_spec.specs.declared.states.End.{End}
 use Rattle.machine_spec.specs.Machine.{Machine, hart_of, is_ready}
@@ -12,11 +15,11 @@ use Rattle.report_spec.specs.declared.Entry.{Entry}
 use Rattle.round_spec.specs.declared.events.Event.{Event}
 use Rattle.round_spec.specs.declared.events.Event.TheVariants.{Take, Reuse, Commit, GiveBack, Stop}
 use Rattle.round_spec.specs.Marks.{record_for, is_fitting, fits_next}
-use Rattle.round_spec.specs.Rounds.{RoundState, nobody_out, opening, is_over, is_out, is_out_of, can_begin, can_take, can_reuse, taken, reused_by, committed, given_back, happens, all_happen, round_after}
+use Rattle.round_spec.specs.Rounds.{RoundState, nobody_out, nothing_taken, opening, is_over, is_out, is_out_of, can_begin, can_take, can_reuse, taken, taken_when, reused_by, committed, given_back, happens, all_happen, round_after}
 use Rattle.round_spec.specs.Schedules.{events_of, events_in, round_by, IsBySchedule}
 use Rattle.round_spec.specs.Keeping.{IsHeld, IsInOrder}
 use Rattle.round_spec.proofs.Conditions.{happens-take, happens-take_not, happens-reuse, happens-commit, happens-commit_not}
-use Rattle.round_spec.proofs.Happening.{CanBegin, can_begin-parts, nobody_out-none, nobody_out-length, open-none, opening-kept, happens-kept}
+use Rattle.round_spec.proofs.Happening.{CanBegin, can_begin-parts, nobody_out-none, nobody_out-length, nothing_taken-none, nothing_taken-length, open-none, opening-kept, happens-kept}
 use Rattle.round_spec.proofs.Leaving.{round-past}
 
 -- events one after the other
@@ -42,10 +45,11 @@ round_by-more setup past es e =
 
 -- flags
 
-set-back : (out : List Bool) (t : ℕ) → is_out_of out t ≡ false → set (set out t true) t false ≡ out
-set-back [] t inside = refl
-set-back (b ∷ out) zero inside = ap (λ (x : Bool). x ∷ out) (sym inside)
-set-back (b ∷ out) (suc t) inside = ap (λ (bs : List Bool). b ∷ bs) (set-back out t inside)
+-- what was set is set back
+pub set-back : {A : Type 0} (xs : List A) (t : ℕ) (x none : A) → get_or xs t none ≡ none → set (set xs t x) t none ≡ xs
+set-back [] t x none is = refl
+set-back (y ∷ xs) zero x none is = ap (λ z. z ∷ xs) (sym is)
+set-back (y ∷ xs) (suc t) x none is = ap (λ ys. y ∷ ys) (set-back xs t x none is)
 
 set-out : (out : List Bool) (t : ℕ) → t < length out → is_out_of (set out t true) t ≡ true
 set-out [] t below = absurd (omega arith)
@@ -58,8 +62,21 @@ set-none [] t none = refl
 set-none (b ∷ out) zero none = cc
 set-none (b ∷ out) (suc t) none = ap (λ (bs : List Bool). b ∷ bs) (set-none out t none)
 
+-- nor where there is no length
+set-past : (ns : List ℕ) (t n : ℕ) → length ns ≤ t → set ns t n ≡ ns
+set-past [] t n past = refl
+set-past (m ∷ ns) zero n past = absurd (omega arith)
+set-past (m ∷ ns) (suc t) n past = ap (λ (ms : List ℕ). m ∷ ms) (set-past ns t n (omega arith))
+
+out-past : (out : List Bool) (t : ℕ) → is_out_of (set out t true) t ≡ false → length out ≤ t
+out-past out t none =
+    elim (cases_lt t (length out)) [
+      | inl below ↦ absurd (let is = set-out out t below in cc)
+      | inr past ↦ past
+    ]
+
 -- who is out has a flag
-out-below : (out : List Bool) (t : ℕ) → is_out_of out t ≡ true → t < length out
+pub out-below : (out : List Bool) (t : ℕ) → is_out_of out t ≡ true → t < length out
 out-below [] t is = cc
 out-below (b ∷ out) zero is = omega arith
 out-below (b ∷ out) (suc t) is = let rest = out-below out t is in omega arith
@@ -68,11 +85,35 @@ none-some : (e : Option End) → is_none e ≡ true → is_some e ≡ false
 none-some (Some e) none = cc
 none-some None none = refl
 
--- between its entries a round that is made entry by entry has nobody out, wasn't stopped, and has discarded nothing
+-- between its entries a round that is made entry by entry has nobody out, wasn't stopped, and has discarded nothing;
+-- and
+-- each thread was picked when its turn came
 pub record IsInside (w : RoundState) : Type 0 where
+  pub picked : w.picked ≡ range_with_len 0 (length w.schedule)
   pub out : w.out ≡ nobody_out
+  pub taken_at : w.taken_at ≡ nothing_taken
   pub stopped : w.stopped ≡ false
   pub discarded : w.discarded ≡ 0
+
+-- one more number at the end of a range
+range-more : (k n : ℕ) → range_with_len k n ++ (k + n) ∷ [] ≡ range_with_len k (suc n)
+range-more k zero = let same : k + 0 ≡ k = omega arith in rw same refl
+range-more k (suc n) =
+    let same : k + suc n ≡ k + 1 + n = omega arith in
+    rw same (ap (λ (ns : List ℕ). k ∷ ns) (range-more (k + 1) n))
+
+-- one more thread is picked now
+pub picked-more :
+    {A : Type 0} → (picked : List ℕ) (xs : List A) (x : A) (n : ℕ)
+    → picked ≡ range_with_len 0 (length xs) → n ≡ length xs
+    → picked ++ n ∷ [] ≡ range_with_len 0 (length (xs ++ x ∷ []))
+picked-more picked xs x n picked_is is =
+    let long : length (xs ++ x ∷ []) ≡ suc (length xs) = let more = length-append xs (x ∷ []) in omega arith in
+    let here : n ≡ 0 + length xs = omega arith in
+    ap (λ (ns : List ℕ). ns ++ n ∷ []) picked_is
+    ∙ ap (λ (i : ℕ). range_with_len 0 (length xs) ++ i ∷ []) here
+    ∙ range-more 0 (length xs)
+    ∙ ap (range_with_len 0) (sym long)
 
 pub inside-none : (w : RoundState) (t : ℕ) → IsInside w → is_out w t ≡ false
 inside-none w t inside = ap (λ (out : List Bool). is_out_of out t) inside.out ∙ nobody_out-none t
@@ -86,7 +127,14 @@ inside-over w t inside can =
 inside-reused : (w : RoundState) (t : ℕ) (o : Option Record) → IsInside w → IsInside (reused_by w t o)
 inside-reused w t None inside = inside
 inside-reused w t (Some r) inside =
-    record { out = inside.out; stopped = inside.stopped; discarded = inside.discarded }
+    record {
+      picked =
+          picked-more w.picked w.schedule (record { thread = t; reused = true }) (length w.schedule) inside.picked refl;
+      out = inside.out;
+      taken_at = inside.taken_at;
+      stopped = inside.stopped;
+      discarded = inside.discarded;
+    }
 
 inside-reuse : (w : RoundState) (t : ℕ) → IsInside w → IsInside (happens w (Reuse t))
 unfolding happens
@@ -96,6 +144,26 @@ inside-reuse w t inside = by (can_reuse w t)
     by true = inside-reused w t (record_for w.past w.machine t) inside
     by false = inside
 
+-- a thread that has no flag is taken in vain
+pub taken-none : (w : RoundState) (t : ℕ) → IsInside w → is_out (taken w t) t ≡ false → taken w t ≡ w
+taken-none w t inside is =
+    let flags : length w.out ≡ 32 = ap (λ (out : List Bool). length out) inside.out ∙ nobody_out-length in
+    let lengths : length w.taken_at ≡ 32 = ap (λ (ns : List ℕ). length ns) inside.taken_at ∙ nothing_taken-length in
+    let past = out-past w.out t is in
+    ap (λ (out : List Bool). record w { out = out; taken_at = set w.taken_at t (length w.schedule) })
+    (set-none w.out t is)
+    ∙ ap (λ (ns : List ℕ). record w { taken_at = ns }) (set-past w.taken_at t (length w.schedule) (omega arith))
+
+-- when a thread that has a flag was taken
+taken-now :
+    (w : RoundState) (t : ℕ) → IsInside w → is_out (taken w t) t ≡ true → taken_when (taken w t) t ≡ length w.schedule
+taken-now w t inside is =
+    let below : t < length (set w.out t true) = out-below (set w.out t true) t is in
+    let flags : length (set w.out t true) ≡ 32 =
+    length-set w.out t true ∙ ap (λ (out : List Bool). length out) inside.out ∙ nobody_out-length in
+    let lengths : length w.taken_at ≡ 32 = ap (λ (ns : List ℕ). length ns) inside.taken_at ∙ nothing_taken-length in
+    get_or-set_same w.taken_at t (length w.schedule) 0 (omega arith)
+
 -- a thread that was taken is committed, where there is a flag for it
 inside-commit :
     (w : RoundState) (t : ℕ) (flag : Bool) → is_over w ≡ false → is_out (taken w t) t ≡ flag → IsInside w
@@ -103,13 +171,20 @@ inside-commit :
 inside-commit w t true over is inside =
     subst IsInside (sym (happens-commit (taken w t) t is over))
     (record {
-      out = set-back w.out t (inside-none w t inside) ∙ inside.out;
+      picked =
+          picked-more w.picked w.schedule (record { thread = t; reused = false })
+          (taken_when (taken w t) t) inside.picked
+          (taken-now w t inside is);
+      out = set-back w.out t true false (inside-none w t inside) ∙ inside.out;
+      taken_at =
+          set-back w.taken_at t (length w.schedule) 0
+          (ap (λ (ns : List ℕ). get_or ns t 0) inside.taken_at ∙ nothing_taken-none t)
+          ∙ inside.taken_at;
       stopped = inside.stopped;
       discarded = inside.discarded;
     })
 inside-commit w t false over is inside =
-    subst IsInside (sym (happens-commit_not (taken w t) t is))
-    (record { out = set-none w.out t is ∙ inside.out; stopped = inside.stopped; discarded = inside.discarded })
+    subst IsInside (sym (happens-commit_not (taken w t) t is ∙ taken-none w t inside is)) inside
 
 inside-run : (w : RoundState) (t : ℕ) → IsInside w → IsInside (happens (happens w (Take t)) (Commit t))
 inside-run w t inside = by (can_take w t) refl
@@ -141,7 +216,8 @@ entries-inside w (e ∷ es) inside =
 
 pub round_by-inside : (setup : Setup) (past : Option History) (es : List Entry) → IsInside (round_by setup past es)
 round_by-inside setup past es =
-    entries-inside (opening setup past) es (record { out = refl; stopped = refl; discarded = refl })
+    entries-inside (opening setup past) es
+    (record { picked = refl; out = refl; taken_at = refl; stopped = refl; discarded = refl })
 
 -- where a step can be made that goes by what there is, it can be made with nobody out
 begins-inside :

@@ -9,7 +9,7 @@ use Rattle.machine_spec.proofs.Steps.{lay-step}
 use Rattle.history_spec.proofs.Truth.{fits-record}
 use Rattle.round_spec.specs.declared.events.Event.TheVariants.{Take, Reuse, Commit, GiveBack, Stop}
 use Rattle.round_spec.specs.Marks.{record_for}
-use Rattle.round_spec.specs.Rounds.{RoundState, is_over, is_out, can_take, can_reuse, taken, reused_by, committed, given_back, with_stop, happens}
+use Rattle.round_spec.specs.Rounds.{RoundState, is_over, is_out, can_take, can_reuse, taken, taken_when, reused_by, committed, given_back, with_stop, happens}
 
 pub happens-take : (w : RoundState) (t : ℕ) → can_take w t ≡ true → happens w (Take t) ≡ taken w t
 unfolding happens
@@ -70,14 +70,18 @@ same-commit :
       schedule = w.schedule ++ record { thread = t; reused = false } ∷ [];
       records = w.records
           ++ r ∷ [];
+      picked = w.picked ++ taken_when w t ∷ [];
       out = set w.out t false;
+      taken_at = set w.taken_at t 0;
     }
     ≡ record w {
       machine = n;
       schedule = w.schedule ++ record { thread = t; reused = false } ∷ [];
       records = w.records
           ++ s ∷ [];
+      picked = w.picked ++ taken_when w t ∷ [];
       out = set w.out t false;
+      taken_at = set w.taken_at t 0;
     }
 same-commit w t m n r s machine is = rw (machine, is) refl
 
@@ -91,7 +95,9 @@ pub commit-lays :
       machine = lay w.machine r;
       schedule = w.schedule ++ record { thread = r.thread; reused = false } ∷ [];
       records = w.records ++ r ∷ [];
+      picked = w.picked ++ taken_when w r.thread ∷ [];
       out = set w.out r.thread false;
+      taken_at = set w.taken_at r.thread 0;
     }
 commit-lays w r whole honest out over fit =
     happens-commit w r.thread out over

@@ -1,5 +1,5 @@
 -- A round counts right after each event, by whichever history it goes.
-use Rattle.std.proofs.Common.{◌≡◌, ℕ, suc, ◌+◌, Bool, true, false, cond, eqb, List, [], ◌∷◌, ◌++◌, append_assoc, append-nil, length-append, set, count_by, Option, Some, None, refl, ap, sym, ◌∙◌, arith}
+use Rattle.std.proofs.Common.{◌≡◌, ℕ, suc, ◌+◌, Bool, true, false, cond, eqb, List, [], ◌∷◌, ◌++◌, append_assoc, append-nil, length, length-append, set, count_by, Option, Some, None, refl, ap, sym, ◌∙◌, arith}
 use Rattle.record_spec.specs.Record.{Record}
 use Rattle.machine_spec.specs.Machine.{Machine, hart_of, is_ready}
 use Rattle.machine_spec.specs.Step.{step, lay}
@@ -15,7 +15,7 @@ use Rattle.report_spec.specs.Report.{threads_of}
 use Rattle.round_spec.specs.declared.events.Event.{Event}
 use Rattle.round_spec.specs.declared.events.Event.TheVariants.{Take, Reuse, Commit, GiveBack, Stop}
 use Rattle.round_spec.specs.Marks.{record_for, fits_next}
-use Rattle.round_spec.specs.Rounds.{RoundState, opening, is_over, is_out, can_begin, can_take, can_reuse, taken, reused_by, committed, given_back, happens, all_happen, round_after}
+use Rattle.round_spec.specs.Rounds.{RoundState, opening, is_over, is_out, can_begin, can_take, can_reuse, taken, taken_when, reused_by, committed, given_back, happens, all_happen, round_after}
 use Rattle.round_spec.specs.Keeping.{IsHeld, IsInOrder, IsReusing, IsCounted}
 use Rattle.round_spec.proofs.Fits.{threads-more}
 use Rattle.round_spec.proofs.Happening.{CanBegin, can_begin-parts, opening-kept, happens-kept}
@@ -49,7 +49,8 @@ reusing-more past earlier (x ∷ es) (y ∷ rs) e r all last = (
 
 -- one entry more, with its record
 counted-more :
-    (w : RoundState) (t : ℕ) (reused : Bool) (m : Machine) (r : Record) (out : List Bool)
+    (w : RoundState) (t : ℕ) (reused : Bool) (m : Machine) (r : Record) (picked : List ℕ) (out : List Bool)
+    (taken_at : List ℕ)
     → IsCounted w
     → m.steps ≡ suc w.machine.steps
     → ((u : ℕ) → (hart_of m u).number ≡ (hart_of w.machine u).number + one_for u t)
@@ -62,9 +63,11 @@ counted-more :
       schedule = w.schedule ++ record { thread = t; reused = reused } ∷ [];
       records = w.records
           ++ r ∷ [];
+      picked = picked;
       out = out;
+      taken_at = taken_at;
     })
-counted-more w t reused m r out counted steps numbers thread number there =
+counted-more w t reused m r picked out taken_at counted steps numbers thread number there =
     let e : Entry = record { thread = t; reused = reused } in
     let threads : threads_of (w.schedule ++ e ∷ []) ≡ threads_of w.schedule ++ t ∷ [] = threads-more w.schedule e in
     record {
@@ -117,7 +120,8 @@ reuse-some w t (Some r) there ready counted =
     past-of w.past t (hart_of w.machine t).number r there in
     let ready_r : is_ready (hart_of w.machine r.thread).status ≡ true =
     ap (λ u. is_ready (hart_of w.machine u).status) of.0 ∙ ready in
-    counted-more w t true (lay w.machine r) r w.out counted (lay-steps w.machine r)
+    counted-more w t true (lay w.machine r) r (w.picked ++ length w.schedule ∷ []) w.out w.taken_at counted
+    (lay-steps w.machine r)
     (λ u. lay-number w.machine r u ready_r ∙ ap (λ v. (hart_of w.machine u).number + one_for u v) of.0)
     of.0 of.1
     (λ is. there)
@@ -140,8 +144,8 @@ commit-counted w t false over is kept counted = counted
 commit-counted w t true true is kept counted = given_back-counted w t counted
 commit-counted w t true false is kept counted =
     let held : IsHeld w t = kept.held t is in
-    counted-more w t false (step w.machine t) (record_of w.machine t) (set w.out t false) counted
-    (step-steps w.machine t)
+    counted-more w t false (step w.machine t) (record_of w.machine t) (w.picked ++ taken_when w t ∷ [])
+    (set w.out t false) (set w.taken_at t 0) counted (step-steps w.machine t)
     (λ u. step-number w.machine t u held.ready) refl refl (λ no. cc)
 
 give_back-counted : (w : RoundState) (t : ℕ) (out : Bool) → IsCounted w → IsCounted (cond out (given_back w t) w)

@@ -1,5 +1,5 @@
 -- Worked examples of events, each computed by the checker. Schedules, marks and counts were worked out by hand.
-use Rattle.std.proofs.Common.{◌≡◌, true, false, [], ◌∷◌, Some, None, refl}
+use Rattle.std.proofs.Common.{◌≡◌, true, false, [], ◌∷◌, replicate, Some, None, refl}
 use Rattle.isa_spec.specs.Fields.{i_immediate, s_immediate, u_immediate}
 use Rattle.isa_spec.specs.Registers.{with_register}
 use Rattle.isa_spec.specs.Operations.{immediate_result, shift_result, register_result}
@@ -21,7 +21,7 @@ use Rattle.machine_spec.proofs.Guests.{begins, late}
 use Rattle.history_spec.specs.History.{laid_from, can_lay_from}
 use Rattle.round_spec.specs.declared.events.Event.TheVariants.{Take, Reuse, Commit, GiveBack, Stop}
 use Rattle.round_spec.specs.Marks.{marked_from}
-use Rattle.round_spec.specs.Rounds.{RoundState, nobody_out, happens, all_happen}
+use Rattle.round_spec.specs.Rounds.{RoundState, nobody_out, nothing_taken, happens, all_happen}
 use Rattle.round_spec.proofs.Samples.{past_of, starts, recorded, reuses, executes, seen, forgets}
 
 -- main has created thread 1, and both are ready
@@ -70,6 +70,41 @@ unfolding step finished lay fits fits_at may_end put_of reads_of happens nobody_
     register_result with_register is_readable put_addresses loaded may_store bytes_stored with_byte first_registers
     all_unlocked
 reuse-beside = refl
+
+-- An entry is kept with how long the schedule was when its thread was picked: a reused one with its own place, and one
+-- that was taken with where it was taken, though another came in between.
+pub points-beside :
+    (all_happen goes_by (Reuse 0 ∷ Take 0 ∷ Reuse 1 ∷ Commit 0 ∷ [])).picked ≡ 0 ∷ 1 ∷ 1 ∷ []
+unfolding step finished lay fits fits_at may_end put_of reads_of happens nobody_out nothing_taken thunk turn fetched
+    number_at number_in permission_at decoded reading_of u_immediate i_immediate s_immediate immediate_result
+    shift_result register_result with_register is_readable put_addresses loaded may_store bytes_stored with_byte
+    first_registers all_unlocked
+points-beside = refl
+
+-- What was given back, and is taken again, was picked when it was taken again; then nobody's length is kept.
+pub points-again :
+    (all_happen goes_by (Reuse 0 ∷ Take 0 ∷ Reuse 1 ∷ GiveBack 0 ∷ Take 0 ∷ Commit 0 ∷ [])).picked ≡ 0 ∷ 1 ∷ 2 ∷ []
+unfolding step finished lay fits fits_at may_end put_of reads_of happens nobody_out nothing_taken thunk turn fetched
+    number_at number_in permission_at decoded reading_of u_immediate i_immediate s_immediate immediate_result
+    shift_result register_result with_register is_readable put_addresses loaded may_store bytes_stored with_byte
+    first_registers all_unlocked
+points-again = refl
+
+pub points-out :
+    (all_happen goes_by (Reuse 0 ∷ Take 0 ∷ Reuse 1 ∷ [])).taken_at ≡ 1 ∷ replicate 31 0
+unfolding step finished lay fits fits_at may_end put_of reads_of happens nobody_out nothing_taken thunk turn fetched
+    number_at number_in permission_at decoded reading_of u_immediate i_immediate s_immediate immediate_result
+    shift_result register_result with_register is_readable put_addresses loaded may_store bytes_stored with_byte
+    first_registers all_unlocked
+points-out = refl
+
+pub points-none :
+    (all_happen goes_by (Reuse 0 ∷ Take 0 ∷ Reuse 1 ∷ Commit 0 ∷ [])).taken_at ≡ nothing_taken
+unfolding step finished lay fits fits_at may_end put_of reads_of happens nobody_out nothing_taken thunk turn fetched
+    number_at number_in permission_at decoded reading_of u_immediate i_immediate s_immediate immediate_result
+    shift_result register_result with_register is_readable put_addresses loaded may_store bytes_stored with_byte
+    first_registers all_unlocked
+points-none = refl
 
 -- A stopped round takes and reuses nothing.
 pub fail-stopped : seen (all_happen goes_by (Stop ∷ Take 0 ∷ Reuse 0 ∷ [])) ≡ ([], [], 0, true)

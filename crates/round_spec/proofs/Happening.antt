@@ -19,7 +19,7 @@ use Rattle.report_spec.specs.Report.{threads_of}
 use Rattle.round_spec.specs.declared.events.Event.{Event}
 use Rattle.round_spec.specs.declared.events.Event.TheVariants.{Take, Reuse, Commit, GiveBack, Stop}
 use Rattle.round_spec.specs.Marks.{record_for, is_fitting, fits_next, marked_from, source_of, sourced_from}
-use Rattle.round_spec.specs.Rounds.{RoundState, nobody_out, opening, is_over, is_out, is_out_of, can_begin, can_take, can_reuse, taken, reused_by, committed, given_back, with_stop, happens, all_happen, round_after}
+use Rattle.round_spec.specs.Rounds.{RoundState, nobody_out, nothing_taken, opening, is_over, is_out, is_out_of, can_begin, can_take, can_reuse, taken, taken_when, reused_by, committed, given_back, with_stop, happens, all_happen, round_after}
 use Rattle.round_spec.specs.Keeping.{IsFromScratch, IsHeld, IsInOrder}
 use Rattle.round_spec.proofs.Fits.{fits_next-hart, threads-more, marked-more, sourced-more}
 
@@ -37,6 +37,15 @@ nobody_out-none t = get_or-replicate 32 false t
 pub nobody_out-length : length nobody_out ≡ 32
 unfolding nobody_out
 nobody_out-length = refl
+
+pub nothing_taken-length : length nothing_taken ≡ 32
+unfolding nothing_taken
+nothing_taken-length = refl
+
+-- no thread was taken at the start
+pub nothing_taken-none : (t : ℕ) → get_or nothing_taken t 0 ≡ 0
+unfolding nothing_taken
+nothing_taken-none t = get_or-replicate 32 0 t
 
 -- a flag that was cleared isn't set
 pub cleared : (out : List Bool) (t : ℕ) → is_out_of (set out t false) t ≡ false
@@ -87,7 +96,8 @@ open-none None stopped h = refl
 
 -- a step whose record and mark are right leaves the round at the machine from scratch
 from_scratch-more :
-    (w : RoundState) (t : ℕ) (reused : Bool) (m : Machine) (r : Record) (out : List Bool)
+    (w : RoundState) (t : ℕ) (reused : Bool) (m : Machine) (r : Record) (picked : List ℕ) (out : List Bool)
+    (taken_at : List ℕ)
     → IsFromScratch w
     → can_step w.machine t ≡ true
     → m ≡ step w.machine t
@@ -100,9 +110,11 @@ from_scratch-more :
       schedule = w.schedule ++ record { thread = t; reused = reused } ∷ [];
       records = w.records
           ++ r ∷ [];
+      picked = picked;
       out = out;
+      taken_at = taken_at;
     })
-from_scratch-more w t reused m r out s can is_step is_record is_source is_mark =
+from_scratch-more w t reused m r picked out taken_at s can is_step is_record is_source is_mark =
     let ts : List ℕ = threads_of w.schedule in
     let start : Machine = first w.setup in
     let e : Entry = record { thread = t; reused = reused } in
@@ -151,9 +163,9 @@ held-same w v u past frame same held =
 
 -- who is out, what was discarded and whether the round was stopped are no part of what is from scratch
 aside-scratch :
-    (w : RoundState) (out : List Bool) (discarded : ℕ) (stopped : Bool) → IsFromScratch w
-    → IsFromScratch (record w { out = out; discarded = discarded; stopped = stopped })
-aside-scratch w out discarded stopped s =
+    (w : RoundState) (out : List Bool) (taken_at : List ℕ) (discarded : ℕ) (stopped : Bool) → IsFromScratch w
+    → IsFromScratch (record w { out = out; taken_at = taken_at; discarded = discarded; stopped = stopped })
+aside-scratch w out taken_at discarded stopped s =
     record {
       machine = s.machine;
       permitted = s.permitted;
@@ -172,6 +184,7 @@ take-kept w t true is kept =
     not-true (fits_next w.past w.machine t) (and-right (can_begin w t) (not (fits_next w.past w.machine t)) is) in
     record {
       flags = length-set w.out t true ∙ kept.flags;
+      lengths = length-set w.taken_at t (length w.schedule) ∙ kept.lengths;
       whole = kept.whole;
       held = λ u out.
           elim (cases_eq u t) [
@@ -184,7 +197,9 @@ take-kept w t true is kept =
                 let before : IsHeld w u = kept.held u (sym (get_or-set_other w.out t u true false other) ∙ out) in
                 record { ready = before.ready; unfit = before.unfit }
           ];
-      scratch = λ sound. aside-scratch w (set w.out t true) w.discarded w.stopped (kept.scratch sound);
+      scratch = λ sound.
+          aside-scratch w (set w.out t true) (set w.taken_at t (length w.schedule)) w.discarded w.stopped
+          (kept.scratch sound);
     }
 
 reuse-some :
@@ -200,6 +215,7 @@ reuse-some w t (Some r) there can fit kept =
     let can_r : can_step w.machine r.thread ≡ true = ap (can_step w.machine) of.0 ∙ can_t in
     record {
       flags = kept.flags;
+      lengths = kept.lengths;
       whole = lay-whole w.machine r kept.whole can_r;
       held = λ u out.
           let other : u ≢ r.thread =
@@ -211,7 +227,8 @@ reuse-some w t (Some r) there can fit kept =
           let s : IsFromScratch w = kept.scratch sound in
           let frame : w.machine.frame ≡ (first w.setup).frame =
           ap (λ (m : Machine). m.frame) s.machine ∙ scratch-frame (first w.setup) (threads_of w.schedule) in
-          from_scratch-more w t true (lay w.machine r) r w.out s can_t
+          from_scratch-more w t true (lay w.machine r) r (w.picked ++ length w.schedule ∷ []) w.out w.taken_at s
+          can_t
           (reuse-lay w.setup w.past w.machine t (hart_of w.machine t).number r sound kept.whole frame there fit)
           (reuse-record w.setup w.past w.machine t (hart_of w.machine t).number r sound kept.whole frame there fit)
           (ap (λ (x : Option Record). unwrap_or x (record_of w.machine t)) (sym there))
@@ -232,12 +249,14 @@ given_back-kept : (w : RoundState) (t : ℕ) → IsInOrder w → IsInOrder (give
 given_back-kept w t kept =
     record {
       flags = length-set w.out t false ∙ kept.flags;
+      lengths = length-set w.taken_at t 0 ∙ kept.lengths;
       whole = kept.whole;
       held = λ u out.
           let before : IsHeld w u = kept.held u (still_out w.out t u out).1 in
           record { ready = before.ready; unfit = before.unfit };
       scratch = λ sound.
-          aside-scratch w (set w.out t false) (min (suc w.discarded) 18446744073709551615) w.stopped
+          aside-scratch w (set w.out t false) (set w.taken_at t 0)
+          (min (suc w.discarded) 18446744073709551615) w.stopped
           (kept.scratch sound);
     }
 
@@ -250,6 +269,7 @@ committed-kept w t out over kept =
     let can : can_step w.machine t ≡ true = rw (none, held.ready) refl in
     record {
       flags = length-set w.out t false ∙ kept.flags;
+      lengths = length-set w.taken_at t 0 ∙ kept.lengths;
       whole = step-whole w.machine t kept.whole can;
       held = λ u out_u.
           let still = still_out w.out t u out_u in
@@ -257,8 +277,8 @@ committed-kept w t out over kept =
           held-same w (committed w t) u refl (step-frame w.machine t)
           (step-stays w.machine t u kept.whole can still.0 before.ready) before;
       scratch = λ sound.
-          from_scratch-more w t false (step w.machine t) (record_of w.machine t) (set w.out t false)
-          (kept.scratch sound) can refl refl refl
+          from_scratch-more w t false (step w.machine t) (record_of w.machine t) (w.picked ++ taken_when w t ∷ [])
+          (set w.out t false) (set w.taken_at t 0) (kept.scratch sound) can refl refl refl
           held.unfit;
     }
 
@@ -278,11 +298,12 @@ stop-kept : (w : RoundState) → IsInOrder w → IsInOrder (with_stop w)
 stop-kept w kept =
     record {
       flags = kept.flags;
+      lengths = kept.lengths;
       whole = kept.whole;
       held = λ u out.
           let before : IsHeld w u = kept.held u out in
           record { ready = before.ready; unfit = before.unfit };
-      scratch = λ sound. aside-scratch w w.out w.discarded true (kept.scratch sound);
+      scratch = λ sound. aside-scratch w w.out w.taken_at w.discarded true (kept.scratch sound);
     }
 
 -- what holds of a round holds after an event
@@ -303,6 +324,7 @@ pub opening-kept : (setup : Setup) (past : Option History) → IsSetup setup →
 opening-kept setup past valid =
     record {
       flags = nobody_out-length;
+      lengths = nothing_taken-length;
       whole = IsWhole-first setup valid;
       held = λ u out. absurd (let none = nobody_out-none u in cc);
       scratch = λ sound. record { machine = refl; permitted = refl; records = refl; sources = refl; marks = refl };

@@ -6,6 +6,9 @@ pub mod Fits
 pub mod Happening
 pub mod Leaving
 pub mod Agreeing
+pub mod Placed
+pub mod Clocked
+pub mod Reusing
 pub mod Counting
 pub mod Conditions
 pub mod BySchedule

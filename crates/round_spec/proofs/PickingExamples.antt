@@ -1,9 +1,10 @@
 -- Entries that weren't picked rightly, whatever the machine is.
-use Rattle.std.proofs.Common.{ℕ, List, Option, refl, arith}
+use Rattle.std.proofs.Common.{◌≡◌, ℕ, List, [], ◌∷◌, length, Option, refl, arith}
 use Rattle.machine_spec.specs.Setup.{Setup}
 use Rattle.history_spec.specs.History.{History}
 use Rattle.report_spec.specs.declared.Entry.{Entry}
-use Rattle.round_spec.specs.Picking.{IsPicked}
+use Rattle.round_spec.specs.Rounds.{RoundState, taken_when}
+use Rattle.round_spec.specs.Picking.{IsPicked, ArePicked, IsOutRightly}
 use Rattle.round_spec.proofs.Samples.{reuses}
 
 -- No entry is picked after it was made.
@@ -18,3 +19,15 @@ pub picked-reused :
     → IsPicked setup past schedule 3 (reuses t) 2
     → ⊥
 picked-reused setup past schedule t picked = let now = picked.at_once refl in absurd (omega arith)
+
+not-both : (n : ℕ) → n ≡ 0 → n ≡ 1 → ⊥
+not-both n none one = omega arith
+
+-- There is a point for each entry, and no more.
+pub too_few_points : (setup : Setup) (past : Option History) (e : Entry) → ArePicked setup past (e ∷ []) [] → ⊥
+too_few_points setup past e picked = not-both 0 refl picked.each
+
+-- A thread that is out was taken by now.
+pub taken-later :
+    (w : RoundState) (t : ℕ) → taken_when w t ≡ 5 → length w.schedule ≡ 4 → IsOutRightly w t → ⊥
+taken-later w t when long rightly = let earlier = rightly.earlier in absurd (omega arith)

@@ -9,7 +9,7 @@ use Rattle.machine_spec.specs.Machine.{Machine, hart_of}
 use Rattle.machine_spec.specs.Setup.{Setup}
 use Rattle.history_spec.specs.History.{History}
 use Rattle.report_spec.specs.declared.Entry.{Entry}
-use Rattle.round_spec.specs.Rounds.{RoundState, nobody_out, is_out}
+use Rattle.round_spec.specs.Rounds.{RoundState, nobody_out, nothing_taken, is_out}
 
 -- a setup that nothing of the examples looks at
 abbrev pub some_setup : Setup
@@ -28,7 +28,9 @@ starts m past =
       machine = m;
       schedule = [];
       records = [];
+      picked = [];
       out = nobody_out;
+      taken_at = nothing_taken;
       discarded = 0;
       stopped = false;
     }

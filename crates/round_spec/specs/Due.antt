@@ -1,10 +1,11 @@
--- Which threads are due: those whose next step comes next in the earlier history, or isn't in it.
-use Rattle.std.specs.Prelude.{ℕ, Bool, ◌&&◌, ◌||◌, nat_lt, List, length, take, Option, is_none}
-use Rattle.std.specs.List.{list_all, position_or_len}
-use Rattle.record_spec.specs.Record.{Record}
+-- Which threads are due: those whose next step depends on no step of the earlier history that is still to be made.
+use Rattle.std.specs.Prelude.{ℕ, Bool, ◌==◌, ◌&&◌, ◌||◌, not, nat_lt, List, [], length, Option, Some, None}
+use Rattle.std.specs.List.{position_or_len}
 use Rattle.machine_spec.specs.Machine.{Machine, hart_of, is_ended}
 use Rattle.history_spec.specs.History.{History, is_of, past_records}
-use Rattle.round_spec.specs.Marks.{record_for}
+use Rattle.order_spec.specs.Facts.{Fact, facts}
+use Rattle.order_spec.specs.Before.{fact_at, all_below}
+use Rattle.order_spec.specs.Ancestors.{is_ancestor, number_at}
 
 -- The place of a thread's next step in the history, and the number of its records where it isn't there.
 abbrev pub place_in : Option History → Machine → ℕ → ℕ
@@ -14,15 +15,30 @@ place_in past m t = position_or_len (is_of t (hart_of m t).number) (past_records
 abbrev pub is_gone : Machine → ℕ → Bool
 is_gone m t = nat_lt t (length m.harts) && is_ended (hart_of m t).status
 
--- Whether an earlier step needn't be waited for: it has been made, or its thread has ended.
-abbrev pub is_passed : Machine → Record → Bool
-is_passed m r = nat_lt r.number (hart_of m r.thread).number || is_gone m r.thread
+-- What the steps of the history do, if there is one.
+abbrev pub past_facts : Option History → List Fact
+past_facts None = []
+past_facts (Some h) = facts h
 
--- The steps of a history that must come before the one at a place: all earlier ones.
-abbrev pub must_come_before : List Record → ℕ → List Record
-must_come_before records place = take place records
+-- Whether the step at a place is a thread's at a number of steps made.
+abbrev pub is_step_at : List Fact → ℕ → ℕ → ℕ → Bool
+is_step_at fs t number j = ((fact_at fs j).thread == t) && (number_at fs j == number)
 
--- Whether a thread is due: the history has no record of its next step, or each step that must come first is passed.
+-- Whether the step at a place needn't be waited for: it has been made, or its thread has ended.
+abbrev pub is_passed_at : List Fact → Machine → ℕ → Bool
+is_passed_at fs m a =
+    nat_lt (number_at fs a) (hart_of m (fact_at fs a).thread).number || is_gone m (fact_at fs a).thread
+
+-- Whether each step that must come before the one at a place, directly or through others, is passed.
+abbrev pub are_passed_before : List Fact → Machine → ℕ → Bool
+are_passed_before fs m j = all_below (λ a. not (is_ancestor fs a j) || is_passed_at fs m a) j
+
+-- Whether a thread is due by what the steps of a history do: its next step isn't among them, or each step that must
+-- come before it is passed.
+abbrev pub is_due_by : List Fact → Machine → ℕ → Bool
+is_due_by fs m t =
+    all_below (λ j. not (is_step_at fs t (hart_of m t).number j) || are_passed_before fs m j) (length fs)
+
+-- Whether a thread is due.
 unfoldable pub is_due : Option History → Machine → ℕ → Bool
-is_due past m t =
-    is_none (record_for past m t) || list_all (is_passed m) (must_come_before (past_records past) (place_in past m t))
+is_due past m t = is_due_by (past_facts past) m t

@@ -24,10 +24,11 @@ pub record IsHeld (w : RoundState) (t : ℕ) : Type 0 where
   pub ready : is_ready (hart_of w.machine t).status ≡ true
   pub unfit : fits_next w.past w.machine t ≡ false
 
--- A flag for each of the 32 threads; the machine is one that holds together; who is out is held; and by a sound history
--- the round is at the machine from scratch.
+-- A flag and a length for each of the 32 threads; the machine is one that holds together; who is out is held; and by a
+-- sound history the round is at the machine from scratch.
 pub record IsInOrder (w : RoundState) : Type 0 where
   pub flags : length w.out ≡ 32
+  pub lengths : length w.taken_at ≡ 32
   pub whole : IsWhole w.machine
   pub held : (t : ℕ) → is_out w t ≡ true → IsHeld w t
   pub scratch : IsSound w.past w.setup → IsFromScratch w

@@ -9,3 +9,4 @@ pub mod Picking
 pub mod Keeping
 pub mod Instructions
 pub mod Unedited
+pub mod Reordering

@@ -1,5 +1,5 @@
--- When an entry of a round was picked rightly, whatever happened between its picking and its commit.
-use Rattle.std.specs.Prelude.{◌≡◌, ℕ, ◌≤◌, Bool, true, not, ◌&&◌, ◌||◌, ◌==◌, List, length, take, Option, is_some}
+-- When the entries of a round were picked rightly, whatever happened between the picking of each and its commit.
+use Rattle.std.specs.Prelude.{◌≡◌, ℕ, ◌≤◌, Bool, true, not, ◌&&◌, ◌||◌, ◌==◌, List, length, take, slice_get, slice_index_or, Option, Some, is_some}
 use Rattle.std.specs.List.{list_any, range_with_len}
 use Rattle.machine_spec.specs.Machine.{Machine, hart_of, is_ready}
 use Rattle.machine_spec.specs.Setup.{Setup, scratch}
@@ -7,6 +7,7 @@ use Rattle.history_spec.specs.History.{History, found}
 use Rattle.report_spec.specs.declared.Entry.{Entry}
 use Rattle.report_spec.specs.Report.{threads_of}
 use Rattle.round_spec.specs.Marks.{fits_next}
+use Rattle.round_spec.specs.Rounds.{RoundState, is_out, taken_when}
 use Rattle.round_spec.specs.Due.{is_due}
 
 -- Whether a thread is ready and due.
@@ -40,3 +41,20 @@ pub record IsPicked (setup : Setup) (past : Option History) (schedule : List Ent
       is_picked_on past (machine_after setup schedule length_then) e.thread
       (hart_of (machine_after setup schedule i) e.thread).number
       ≡ true
+
+-- Each entry of a schedule was picked rightly, when the schedule was as long as the entry's number says.
+pub record ArePicked (setup : Setup) (past : Option History) (schedule : List Entry) (picked : List ℕ) : Type 0 where
+  pub each : length picked ≡ length schedule
+  pub rightly :
+      (i : ℕ) (e : Entry) → slice_get schedule i ≡ Some e → IsPicked setup past schedule i e (slice_index_or picked i 0)
+
+-- A thread that is out was picked rightly, when the schedule was as long as it was then.
+pub record IsOutRightly (w : RoundState) (t : ℕ) : Type 0 where
+  pub earlier : taken_when w t ≤ length w.schedule
+  pub rightly :
+      is_picked_on w.past (machine_after w.setup w.schedule (taken_when w t)) t (hart_of w.machine t).number ≡ true
+
+-- All that a round has done so far was picked rightly: its entries, and the steps that are out.
+pub record IsPickedSoFar (w : RoundState) : Type 0 where
+  pub entries : ArePicked w.setup w.past w.schedule w.picked
+  pub held : (t : ℕ) → is_out w t ≡ true → IsOutRightly w t

@@ -1,5 +1,5 @@
 -- What happens to a round, one event after the other.
-use Rattle.std.specs.Prelude.{ℕ, suc, Bool, true, false, not, ◌&&◌, ◌||◌, if◌then◌else◌, min, List, [], ◌∷◌, ◌++◌, replicate, slice_index_or, slice_set, Option, Some, None, is_some}
+use Rattle.std.specs.Prelude.{ℕ, suc, Bool, true, false, not, ◌&&◌, ◌||◌, if◌then◌else◌, min, List, [], ◌∷◌, ◌++◌, length, replicate, slice_index_or, slice_set, Option, Some, None, is_some}
 use Rattle.record_spec.specs.Record.{Record}
 use Rattle.machine_spec.specs.Machine.{Machine, hart_of, is_ready}
 use Rattle.machine_spec.specs.Step.{step, lay}
@@ -11,21 +11,29 @@ use Rattle.round_spec.specs.declared.events.Event.{Event}
 use Rattle.round_spec.specs.declared.events.Event.TheVariants.{Take, Reuse, Commit, GiveBack, Stop}
 use Rattle.round_spec.specs.Marks.{record_for, fits_next}
 
--- A round as it stands: what it started from and goes by, the machine, the schedule with marks and the records of its
--- entries, which threads are out, how many executed steps were discarded, and whether the round was stopped.
+-- A round as it stands: what it started from and goes by, the machine, the schedule with marks, the records of its
+-- entries, and for each entry how long the schedule was when its thread was picked; which threads are out, and for each
+-- of them how long the schedule was when it was taken, which is 0 for the others; how many executed steps were
+-- discarded, and whether the round was stopped.
 pub record RoundState : Type 0 where
   pub setup : Setup
   pub past : Option History
   pub machine : Machine
   pub schedule : List Entry
   pub records : List Record
+  pub picked : List ℕ
   pub out : List Bool
+  pub taken_at : List ℕ
   pub discarded : ℕ
   pub stopped : Bool
 
 -- None of the 32 threads is out.
 unfoldable pub nobody_out : List Bool
 nobody_out = replicate 32 false
+
+-- For none of the 32 threads a length is kept.
+unfoldable pub nothing_taken : List ℕ
+nothing_taken = replicate 32 0
 
 -- A round at its start.
 abbrev pub opening : Setup → Option History → RoundState
@@ -36,7 +44,9 @@ opening setup past =
       machine = first setup;
       schedule = [];
       records = [];
+      picked = [];
       out = nobody_out;
+      taken_at = nothing_taken;
       discarded = 0;
       stopped = false;
     }
@@ -69,7 +79,11 @@ can_reuse w t = can_begin w t && fits_next w.past w.machine t
 
 -- A round after a thread was taken.
 abbrev pub taken : RoundState → ℕ → RoundState
-taken w t = record w { out = slice_set w.out t true }
+taken w t = record w { out = slice_set w.out t true; taken_at = slice_set w.taken_at t (length w.schedule) }
+
+-- How long the schedule was when a thread that is out was taken.
+abbrev pub taken_when : RoundState → ℕ → ℕ
+taken_when w t = slice_index_or w.taken_at t 0
 
 -- A round after the record of a thread's step was laid in the step's place.
 abbrev pub reused_by : RoundState → ℕ → Option Record → RoundState
@@ -79,6 +93,7 @@ reused_by w t (Some r) =
       machine = lay w.machine r;
       schedule = w.schedule ++ record { thread = t; reused = true } ∷ [];
       records = w.records ++ r ∷ [];
+      picked = w.picked ++ length w.schedule ∷ [];
     }
 
 -- A round after the step of a thread that was out.
@@ -88,12 +103,19 @@ committed w t =
       machine = step w.machine t;
       schedule = w.schedule ++ record { thread = t; reused = false } ∷ [];
       records = w.records ++ record_of w.machine t ∷ [];
+      picked = w.picked ++ taken_when w t ∷ [];
       out = slice_set w.out t false;
+      taken_at = slice_set w.taken_at t 0;
     }
 
 -- A round after a step that was taken was discarded; a count of 2 ^ 64 - 1 stays.
 abbrev pub given_back : RoundState → ℕ → RoundState
-given_back w t = record w { out = slice_set w.out t false; discarded = min (suc w.discarded) 18446744073709551615 }
+given_back w t =
+    record w {
+      out = slice_set w.out t false;
+      taken_at = slice_set w.taken_at t 0;
+      discarded = min (suc w.discarded) 18446744073709551615;
+    }
 
 -- A round after it was stopped.
 abbrev pub with_stop : RoundState → RoundState

@@ -1,29 +1,36 @@
 //! Rounds, as definitions: what happens to a round at each event, which steps are reused, which thread
 //! is due, which is chosen, and the schedule of one worker; with the laws that whatever happens, the
 //! round is at the machine from scratch, its records are those of the steps, its marks are exact, and
-//! what it leaves is an honest history; and that with no history one worker does as in a run with no
-//! earlier run. No code but two plain types.
+//! what it leaves is an honest history; that places and clocks tell who is due; that every order which
+//! keeps what must come before what can be reused whole; and that with no history one worker does as in a
+//! run with no earlier run. No code but two plain types.
 #![tactic(auto)]
 
-ghost use Rattle.std.specs.Prelude.{◌≡◌, ℕ, List, [], ◌∷◌, ◌++◌, All, length, slice_set, Option, Some, None, true, false, is_some};
+ghost use Rattle.std.specs.Prelude.{◌≡◌, ◌≢◌, ◌<◌, ◌≤◌, ◌⊎◌, ◌↔◌, ℕ, List, [], ◌∷◌, ◌++◌, All, length, slice_set, Option, Some, None, true, false, is_some};
 ghost use Rattle.record_spec.specs.Record.{Record, IsTrue};
 ghost use Rattle.machine_spec.specs.Step.{lay, fits};
 ghost use Rattle.machine_spec.specs.Whole.{IsWhole};
 ghost use Rattle.report_spec.specs.declared.Entry.{Entry};
 ghost use Rattle.round_spec.specs.declared.events.Event.TheVariants.{Commit};
-ghost use Rattle.machine_spec.specs.Machine.{Machine};
+ghost use Rattle.machine_spec.specs.Machine.{Machine, hart_of};
 ghost use Rattle.machine_spec.specs.Choice.{choice, alone};
 ghost use Rattle.machine_spec.specs.Setup.{Setup, IsSetup, first, map_of, scratch, is_permitted, records};
-ghost use Rattle.history_spec.specs.History.{History, IsHonest, IsSameProgram, IsSound, CanGoBy, IsMappedIn, IsMapped, past_records};
+ghost use Rattle.history_spec.specs.History.{History, IsHonest, IsSameProgram, IsSound, CanGoBy, IsMappedIn, IsMapped, past_records, is_numbered};
 ghost use Rattle.report_spec.specs.Report.{threads_of, instructions_from};
 ghost use Rattle.round_spec.specs.declared.events.Event.{Event};
 ghost use Rattle.round_spec.specs.Marks.{marked, sourced};
-ghost use Rattle.round_spec.specs.Rounds.{RoundState, nobody_out, happens, is_out, is_over, round_after, history_of};
+ghost use Rattle.round_spec.specs.Rounds.{RoundState, nobody_out, happens, is_out, is_over, taken_when, round_after, history_of};
 ghost use Rattle.round_spec.specs.Schedules.{IsBySchedule};
 ghost use Rattle.round_spec.specs.Choice.{choice_by};
 ghost use Rattle.round_spec.specs.Alone.{one_worker};
 ghost use Rattle.round_spec.specs.Instructions.{executed_instructions};
 ghost use Rattle.round_spec.specs.Keeping.{IsCounted, IsHeld, IsInOrder};
+ghost use Rattle.round_spec.specs.Reordering.{reuses_of, ReusesInOrder};
+ghost use Rattle.round_spec.specs.Due.{place_in, is_gone, are_passed_before, is_due};
+ghost use Rattle.order_spec.specs.Facts.{Fact, facts};
+ghost use Rattle.order_spec.specs.Before.{fact_at};
+ghost use Rattle.order_spec.specs.Ancestors.{clock_at, number_at};
+ghost use Rattle.order_spec.specs.Orders.{is_order};
 
 mod events;
 
@@ -56,7 +63,9 @@ pub fn commit_lays_its_record()
           machine = lay w.machine r;
           schedule = w.schedule ++ record { thread = r.thread; reused = false } ∷ [];
           records = w.records ++ r ∷ [];
+          picked = w.picked ++ taken_when w r.thread ∷ [];
           out = slice_set w.out r.thread false;
+          taken_at = slice_set w.taken_at r.thread 0;
         } }
 {}
 
@@ -153,4 +162,44 @@ pub fn rounds_count_instructions()
 pub fn no_history_changes_nothing()
     ensures choice { (m : Machine) → choice_by None m nobody_out ≡ choice m }
     ensures schedule { (setup : Setup) → one_worker setup None ≡ alone setup }
+{}
+
+/// By a history whose records are numbered, a thread whose next step has no place in it is due; and one
+/// whose step has a place, at which that step is, is due where all that must come before it are passed.
+pub fn places_tell_who_is_due()
+    ensures absent { (h : History) (m : Machine) (t : ℕ)
+        → is_numbered h.records ≡ true
+        → place_in (Some h) m t ≡ length h.records
+        → is_due (Some h) m t ≡ true }
+    ensures present { (h : History) (m : Machine) (t : ℕ)
+        → is_numbered h.records ≡ true
+        → place_in (Some h) m t < length h.records
+        → is_due (Some h) m t ≡ are_passed_before (facts h) m (place_in (Some h) m t) }
+    ensures thread { (h : History) (m : Machine) (t : ℕ)
+        → is_numbered h.records ≡ true
+        → place_in (Some h) m t < length h.records
+        → (fact_at (facts h) (place_in (Some h) m t)).thread ≡ t }
+    ensures number { (h : History) (m : Machine) (t : ℕ)
+        → is_numbered h.records ≡ true
+        → place_in (Some h) m t < length h.records
+        → number_at (facts h) (place_in (Some h) m t) ≡ (hart_of m t).number }
+{}
+
+/// All that must come before a thread's next step are passed exactly where each other thread has made as
+/// many steps as the step's clock has for it, or has ended.
+pub fn clocks_tell_who_is_due()
+    ensures { (fs : List Fact) (m : Machine) (j : ℕ)
+        → (hart_of m (fact_at fs j).thread).number ≡ number_at fs j
+        → (are_passed_before fs m j ≡ true)
+        ↔ ((u : ℕ) → u ≢ (fact_at fs j).thread → (clock_at fs j u ≤ (hart_of m u).number) ⊎ (is_gone m u ≡ true)) }
+{}
+
+/// To reuse the steps of an honest history in any order in which each comes after all that must come
+/// before it, in a round of the same setup, reuses all of them, and comes to the same end, output and
+/// memory.
+pub fn every_order_is_reused_whole()
+    ensures { (h : History) (places : List ℕ)
+        → IsHonest h
+        → is_order (facts h) places ≡ true
+        → ReusesInOrder h places (round_after h.setup (Some h) (reuses_of h places)) }
 {}

@@ -1,12 +1,13 @@
--- What holds of the thread that is chosen with nobody out, and that there is one where any is ready.
-use Rattle.std.proofs.Common.{◌≡◌, ◌⊎◌, ◌≤◌, ◌+◌, ℕ, Bool, true, false, ◌&&◌, eqb, List, [], ◌∷◌, length, map, Option, Some, is_some, refl, ap, sym, ◌∙◌, subst, inl, inr, arith}
+-- What holds of the thread that is chosen, and that with nobody out there is one where any is ready.
+use Rattle.std.proofs.Common.{◌≡◌, ◌⊎◌, ◌≤◌, ◌+◌, ℕ, zero, suc, Bool, true, false, not, ◌&&◌, eqb, List, [], ◌∷◌, length, map, Option, Some, is_some, refl, ap, sym, ◌∙◌, subst, inl, inr, arith}
 use Rattle.std.proofs.lemmas.Bool.{eqb-true}
 use Rattle.std.specs.List.{AllByRecursion, filter, list_any, range_with_len}
 use Rattle.machine_spec.specs.Machine.{Hart, Machine, hart_in, hart_of, is_ready}
 use Rattle.machine_spec.specs.Choice.{least}
 use Rattle.machine_spec.proofs.Harts.{ready-below}
 use Rattle.history_spec.specs.History.{History}
-use Rattle.round_spec.specs.Rounds.{nobody_out, is_free_in}
+use Rattle.history_spec.proofs.Scratch.{and-left}
+use Rattle.round_spec.specs.Rounds.{nobody_out, is_out_of, is_free_in}
 use Rattle.round_spec.specs.Due.{place_in, is_due}
 use Rattle.round_spec.specs.Choice.{free_threads, first_of, least_by, best, is_any_out, eligible, choice_by}
 use Rattle.round_spec.proofs.Happening.{nobody_out-none}
@@ -94,77 +95,84 @@ best-none past m u is = cc
 chosen-cases :
     (past : Option History) (m : Machine) (due free : List ℕ) (any : Bool) (u : ℕ)
     → best past m (eligible due free any) ≡ Some u
-    → (best past m due ≡ Some u) ⊎ ((due ≡ []) × (best past m free ≡ Some u))
+    → (best past m due ≡ Some u) ⊎ ((due ≡ []) × (any ≡ false) × (best past m free ≡ Some u))
 chosen-cases past m (t ∷ due) free any u is = inl is
-chosen-cases past m [] free false u is = inr (refl, is)
+chosen-cases past m [] free false u is = inr (refl, refl, is)
 chosen-cases past m [] free true u is = absurd (best-none past m u is)
 
--- the one that is chosen: ready; of the least place among those that are ready and due; and due, where anybody ready is
-pub record IsChosen (past : Option History) (m : Machine) (u : ℕ) : Type 0 where
-  pub ready : is_ready (hart_of m u).status ≡ true
+-- the one that is chosen: free; of the least place among those that are free and due; and due, where anybody ready is
+pub record IsChosen (past : Option History) (m : Machine) (out : List Bool) (u : ℕ) : Type 0 where
+  pub free : is_free_in m out u ≡ true
   pub least :
-      (v : ℕ) → is_ready (hart_of m v).status ≡ true → is_due past m v ≡ true
+      (v : ℕ) → is_free_in m out v ≡ true → is_due past m v ≡ true
       → place_in past m u ≤ place_in past m v
   pub due : (is_due past m u ≡ true) ⊎ ((v : ℕ) → is_ready (hart_of m v).status ≡ true → is_due past m v ≡ false)
 
-all-free : (m : Machine) → AllByRecursion (λ v. is_ready (hart_of m v).status ≡ true) (free_threads m nobody_out)
+pub free-is_ready :
+    (m : Machine) (out : List Bool) (v : ℕ) → is_free_in m out v ≡ true → is_ready (hart_of m v).status ≡ true
+free-is_ready m out v free = and-left (is_ready (hart_of m v).status) (not (is_out_of out v)) free
+
+pub free-of :
+    (m : Machine) (out : List Bool) (v : ℕ) → is_ready (hart_of m v).status ≡ true → is_out_of out v ≡ false
+    → is_free_in m out v ≡ true
+free-of m out v ready inside = rw (ready, inside) refl
+
+-- where no flag is raised nobody is out
+none-out : (out : List Bool) (v : ℕ) → is_any_out out ≡ false → is_out_of out v ≡ false
+none-out [] v none = refl
+none-out (true ∷ out) v none = cc
+none-out (false ∷ out) zero none = refl
+none-out (false ∷ out) (suc v) none = none-out out v none
+
+all-free :
+    (m : Machine) (out : List Bool) → AllByRecursion (λ v. is_free_in m out v ≡ true) (free_threads m out)
 unfolding free_threads
-all-free m =
-    each (filter (is_free_in m nobody_out) (range_with_len 0 (length m.harts)))
-    (all-pass (is_free_in m nobody_out) (range_with_len 0 (length m.harts)))
-  where
-    each :
-        (xs : List ℕ) → AllByRecursion (λ v. is_free_in m nobody_out v ≡ true) xs
-        → AllByRecursion (λ v. is_ready (hart_of m v).status ≡ true) xs
-    each [] all = tt
-    each (x ∷ xs) all = (sym (free-ready m x) ∙ all.0, each xs all.1)
+all-free m out = all-pass (is_free_in m out) (range_with_len 0 (length m.harts))
 
 -- what holds of all free threads that pass a test
 free-due :
-    (P : ℕ → Type 0) (m : Machine) (p : ℕ → Bool) (v : ℕ)
-    → AllByRecursion P (filter p (free_threads m nobody_out)) → is_ready (hart_of m v).status ≡ true → p v ≡ true → P v
+    (P : ℕ → Type 0) (m : Machine) (out : List Bool) (p : ℕ → Bool) (v : ℕ)
+    → AllByRecursion P (filter p (free_threads m out)) → is_free_in m out v ≡ true → p v ≡ true → P v
 unfolding free_threads
-free-due P m p v all ready pass =
-    range-at (λ u. is_free_in m nobody_out u ≡ true → p u ≡ true → P u) (length m.harts) 0 v
-    (all-unfiltered (λ u. p u ≡ true → P u) (is_free_in m nobody_out) (range_with_len 0 (length m.harts))
-    (all-unfiltered P p (filter (is_free_in m nobody_out) (range_with_len 0 (length m.harts))) all))
-    (omega arith) (let below = ready-below m.harts v ready in omega arith) (free-ready m v ∙ ready) pass
+free-due P m out p v all free pass =
+    range-at (λ u. is_free_in m out u ≡ true → p u ≡ true → P u) (length m.harts) 0 v
+    (all-unfiltered (λ u. p u ≡ true → P u) (is_free_in m out) (range_with_len 0 (length m.harts))
+    (all-unfiltered P p (filter (is_free_in m out) (range_with_len 0 (length m.harts))) all))
+    (omega arith) (let below = ready-below m.harts v (free-is_ready m out v free) in omega arith) free pass
 
 pub choice_by-chosen :
-    (past : Option History) (m : Machine) (u : ℕ) → choice_by past m nobody_out ≡ Some u
-    → IsChosen past m u
+    (past : Option History) (m : Machine) (out : List Bool) (u : ℕ) → choice_by past m out ≡ Some u
+    → IsChosen past m out u
 unfolding choice_by
-choice_by-chosen past m u is =
-    elim (chosen-cases past m (filter (is_due past m) (free_threads m nobody_out)) (free_threads m nobody_out)
-    (is_any_out nobody_out) u is) [
+choice_by-chosen past m out u is =
+    elim (chosen-cases past m (filter (is_due past m) (free_threads m out)) (free_threads m out)
+    (is_any_out out) u is) [
       | inl one ↦ record {
-        ready =
-            best-all (λ v. is_ready (hart_of m v).status ≡ true) past m
-            (filter (is_due past m) (free_threads m nobody_out)) u
-            (all-filter (λ v. is_ready (hart_of m v).status ≡ true) (is_due past m) (free_threads m nobody_out)
-            (all-free m)) one;
+        free =
+            best-all (λ v. is_free_in m out v ≡ true) past m (filter (is_due past m) (free_threads m out)) u
+            (all-filter (λ v. is_free_in m out v ≡ true) (is_due past m) (free_threads m out) (all-free m out)) one;
         least =
-            λ v ready due. free-due (λ v. place_in past m u ≤ place_in past m v) m (is_due past m) v
-            (best-least past m (filter (is_due past m) (free_threads m nobody_out)) u one) ready due;
+            λ v free due. free-due (λ v. place_in past m u ≤ place_in past m v) m out (is_due past m) v
+            (best-least past m (filter (is_due past m) (free_threads m out)) u one) free due;
         due =
-            inl (best-all (λ v. is_due past m v ≡ true) past m (filter (is_due past m) (free_threads m nobody_out)) u
-            (all-pass (is_due past m) (free_threads m nobody_out)) one);
+            inl (best-all (λ v. is_due past m v ≡ true) past m (filter (is_due past m) (free_threads m out)) u
+            (all-pass (is_due past m) (free_threads m out)) one);
       }
       | inr none ↦ record {
-        ready =
-            best-all (λ v. is_ready (hart_of m v).status ≡ true) past m (free_threads m nobody_out) u (all-free m)
-            none.1;
-        least = λ v ready due. absurd (not-due none.0 v ready due);
-        due = inr (λ v ready. either (is_due past m v) (not-due none.0 v ready));
+        free = best-all (λ v. is_free_in m out v ≡ true) past m (free_threads m out) u (all-free m out) none.2;
+        least = λ v free due. absurd (not-due none.0 v free due);
+        due =
+            inr (λ v ready.
+            either (is_due past m v) (not-due none.0 v (free-of m out v ready (none-out out v none.1))));
       }
     ]
   where
     not-due :
-        filter (is_due past m) (free_threads m nobody_out) ≡ [] → (v : ℕ)
-        → is_ready (hart_of m v).status ≡ true → is_due past m v ≡ true → ⊥
-    not-due empty v ready due =
-        free-due (λ v. ⊥) m (is_due past m) v (subst (λ (xs : List ℕ). AllByRecursion (λ v. ⊥) xs) (sym empty) tt)
-        ready due
+        filter (is_due past m) (free_threads m out) ≡ [] → (v : ℕ)
+        → is_free_in m out v ≡ true → is_due past m v ≡ true → ⊥
+    not-due empty v free due =
+        free-due (λ v. ⊥) m out (is_due past m) v (subst (λ (xs : List ℕ). AllByRecursion (λ v. ⊥) xs) (sym empty) tt)
+        free due
 
     either : (b : Bool) → (b ≡ true → ⊥) → b ≡ false
     either true never = absurd (never refl)

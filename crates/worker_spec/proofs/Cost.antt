@@ -1,5 +1,6 @@
 -- What one worker executes pick by pick is what the executed entries of its schedule sum up to.
-use Rattle.std.proofs.Common.{◌≡◌, ◌+◌, ℕ, zero, suc, Bool, true, false, cond, List, [], ◌∷◌, ◌++◌, Option, is_some, refl, ap, ◌∙◌, append_assoc, append-nil, arith}
+use Rattle.std.proofs.Common.{◌≡◌, ◌+◌, ℕ, zero, suc, Bool, true, false, cond, List, [], ◌∷◌, ◌++◌, length, Option, is_some, refl, ap, ◌∙◌, append_assoc, append-nil, arith}
+use Rattle.std.specs.List.{range_with_len}
 use Rattle.thunk_spec.specs.Thunk.{thunk}
 use Rattle.machine_spec.specs.declared.states.End.{End}
 use Rattle.machine_spec.specs.Machine.{Machine, hart_of}
@@ -69,6 +70,7 @@ cost-made setup past (suc n) ts valid sound permitted =
         let none : cost_of (made_by setup past ts) (pick_of (made_by setup past ts)) ≡ 0 =
         ap (cost_of (made_by setup past ts))
         (pick-over setup past (scratch setup ts) (marked past setup ts) (records setup ts)
+        (range_with_len 0 (length ts))
         (ap (λ (o : Option End). is_some o) is)) in
         let after = ap (executed_in n) (after-over setup past ts e is) in
         let now = ap (λ (us : List ℕ). sum (ts ++ us)) (guided-over past n (scratch setup ts) e is) in
@@ -78,8 +80,8 @@ cost-made setup past (suc n) ts valid sound permitted =
         let cost : cost_of (made_by setup past ts) (pick_of (made_by setup past ts)) ≡ cond
         (fits_next past (scratch setup ts) t) 0 (count_at (scratch setup ts) t) =
         ap (cost_of (made_by setup past ts))
-        (pick-chosen setup past (scratch setup ts) (marked past setup ts) (records setup ts) t
-        (running (scratch setup ts) none) chosen)
+        (pick-chosen setup past (scratch setup ts) (marked past setup ts) (records setup ts)
+        (range_with_len 0 (length ts)) t (running (scratch setup ts) none) chosen)
         ∙ cost-picked (made_by setup past ts) (fits_next past (scratch setup ts) t) t in
         let after = ap (executed_in n) (after-made setup past ts t sound whole none chosen) in
         let one = marked-instructions past (first setup) ts t in

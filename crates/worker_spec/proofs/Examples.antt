@@ -8,6 +8,8 @@ use Rattle.memory_spec.specs.Pages.{permission_at}
 use Rattle.memory_spec.specs.Stores.{with_byte}
 use Rattle.memory_spec.specs.Access.{number_in, number_at, loaded, fetched, may_store, bytes_stored}
 use Rattle.guest_call.specs.Objects.{all_unlocked}
+use Rattle.elf_spec.specs.Fields.{u32_at}
+use Rattle.elf_spec.specs.Image.{entry_of}
 use Rattle.thunk_spec.specs.Put.{is_readable, put_addresses}
 use Rattle.thunk_spec.specs.Turn.{turn}
 use Rattle.thunk_spec.specs.Thunk.{thunk}
@@ -15,6 +17,7 @@ use Rattle.record_spec.specs.Reads.{reads_of}
 use Rattle.record_spec.specs.Record.{put_of, may_end, fits_at}
 use Rattle.machine_spec.specs.Machine.{Machine}
 use Rattle.machine_spec.specs.Performing.{first_registers}
+use Rattle.machine_spec.specs.Setup.{first}
 use Rattle.machine_spec.specs.Step.{step, finished, lay, fits}
 use Rattle.machine_spec.proofs.Guests.{begins, late}
 use Rattle.history_spec.specs.History.{History}
@@ -57,80 +60,80 @@ was_4 = past_of (recorded (begins 9 9 (forgets 4)) 0 [] ∷ recorded (step (begi
 pub picks-main_first :
     seen (after_picks 9 (starts (begins 9 9 late) main_first))
     ≡ (reuses 0 ∷ reuses 0 ∷ reuses 1 ∷ reuses 0 ∷ [], [], 0, false)
-unfolding nobody_out is_due free_threads least_by best choice_by pick_of happens step finished lay fits fits_at
-    may_end put_of reads_of thunk turn fetched number_at number_in permission_at decoded reading_of u_immediate
-    i_immediate s_immediate immediate_result shift_result register_result with_register is_readable put_addresses loaded
-    may_store bytes_stored with_byte first_registers all_unlocked
+unfolding nobody_out is_due free_threads least_by best choice_by pick_of first entry_of u32_at happens step finished lay
+    fits fits_at may_end put_of reads_of thunk turn fetched number_at number_in permission_at decoded reading_of
+    u_immediate i_immediate s_immediate immediate_result shift_result register_result with_register is_readable
+    put_addresses loaded may_store bytes_stored with_byte first_registers all_unlocked
 picks-main_first = refl
 
 -- Nothing is executed then.
 pub executed-main_first : executed_in 9 (starts (begins 9 9 late) main_first) ≡ 0
-unfolding nobody_out is_due free_threads least_by best choice_by pick_of happens step finished lay fits fits_at
-    may_end put_of reads_of thunk turn fetched number_at number_in permission_at decoded reading_of u_immediate
-    i_immediate s_immediate immediate_result shift_result register_result with_register is_readable put_addresses loaded
-    may_store bytes_stored with_byte first_registers all_unlocked
+unfolding nobody_out is_due free_threads least_by best choice_by pick_of first entry_of u32_at happens step finished lay
+    fits fits_at may_end put_of reads_of thunk turn fetched number_at number_in permission_at decoded reading_of
+    u_immediate i_immediate s_immediate immediate_result shift_result register_result with_register is_readable
+    put_addresses loaded may_store bytes_stored with_byte first_registers all_unlocked
 executed-main_first = refl
 
 -- With nothing to go by all is executed: 5 instructions to create, 5 to store, 4 to load, 2 to end, 6 to exit.
 pub executed-alone : executed_in 9 (starts (begins 9 9 late) None) ≡ 22
-unfolding nobody_out is_due free_threads least_by best choice_by pick_of happens step finished lay fits fits_at
-    may_end put_of reads_of thunk turn fetched number_at number_in permission_at decoded reading_of u_immediate
-    i_immediate s_immediate immediate_result shift_result register_result with_register is_readable put_addresses loaded
-    may_store bytes_stored with_byte first_registers all_unlocked
+unfolding nobody_out is_due free_threads least_by best choice_by pick_of first entry_of u32_at happens step finished lay
+    fits fits_at may_end put_of reads_of thunk turn fetched number_at number_in permission_at decoded reading_of
+    u_immediate i_immediate s_immediate immediate_result shift_result register_result with_register is_readable
+    put_addresses loaded may_store bytes_stored with_byte first_registers all_unlocked
 executed-alone = refl
 
 -- So much in the first two picks.
 pub executed-two : executed_in 2 (starts (begins 9 9 late) None) ≡ 10
-unfolding nobody_out is_due free_threads least_by best choice_by pick_of happens step finished lay fits fits_at
-    may_end put_of reads_of thunk turn fetched number_at number_in permission_at decoded reading_of u_immediate
-    i_immediate s_immediate immediate_result shift_result register_result with_register is_readable put_addresses loaded
-    may_store bytes_stored with_byte first_registers all_unlocked
+unfolding nobody_out is_due free_threads least_by best choice_by pick_of first entry_of u32_at happens step finished lay
+    fits fits_at may_end put_of reads_of thunk turn fetched number_at number_in permission_at decoded reading_of
+    u_immediate i_immediate s_immediate immediate_result shift_result register_result with_register is_readable
+    put_addresses loaded may_store bytes_stored with_byte first_registers all_unlocked
 executed-two = refl
 
 -- After an edit of the byte the first step is executed, of 5 instructions, and the second is reused.
 pub picks-edited :
     seen (after_picks 9 (starts (begins 9 9 (forgets 7)) was_4)) ≡ (executes 0 ∷ reuses 0 ∷ [], [], 0, false)
-unfolding nobody_out is_due free_threads least_by best choice_by pick_of happens step finished lay fits fits_at
-    may_end put_of reads_of thunk turn fetched number_at number_in permission_at decoded reading_of u_immediate
-    i_immediate s_immediate immediate_result shift_result register_result with_register is_readable put_addresses loaded
-    may_store bytes_stored with_byte first_registers all_unlocked
+unfolding nobody_out is_due free_threads least_by best choice_by pick_of first entry_of u32_at happens step finished lay
+    fits fits_at may_end put_of reads_of thunk turn fetched number_at number_in permission_at decoded reading_of
+    u_immediate i_immediate s_immediate immediate_result shift_result register_result with_register is_readable
+    put_addresses loaded may_store bytes_stored with_byte first_registers all_unlocked
 picks-edited = refl
 
 -- These 5 are all.
 pub executed-edited : executed_in 9 (starts (begins 9 9 (forgets 7)) was_4) ≡ 5
-unfolding nobody_out is_due free_threads least_by best choice_by pick_of happens step finished lay fits fits_at
-    may_end put_of reads_of thunk turn fetched number_at number_in permission_at decoded reading_of u_immediate
-    i_immediate s_immediate immediate_result shift_result register_result with_register is_readable put_addresses loaded
-    may_store bytes_stored with_byte first_registers all_unlocked
+unfolding nobody_out is_due free_threads least_by best choice_by pick_of first entry_of u32_at happens step finished lay
+    fits fits_at may_end put_of reads_of thunk turn fetched number_at number_in permission_at decoded reading_of
+    u_immediate i_immediate s_immediate immediate_result shift_result register_result with_register is_readable
+    put_addresses loaded may_store bytes_stored with_byte first_registers all_unlocked
 executed-edited = refl
 
 -- Without an edit no step is begun; with nothing to go by each is, in order; after the edit the first is.
 pub begun-main_first : begun_in 9 (starts (begins 9 9 late) main_first) ≡ []
-unfolding nobody_out is_due free_threads least_by best choice_by pick_of happens step finished lay fits fits_at
-    may_end put_of reads_of thunk turn fetched number_at number_in permission_at decoded reading_of u_immediate
-    i_immediate s_immediate immediate_result shift_result register_result with_register is_readable put_addresses loaded
-    may_store bytes_stored with_byte first_registers all_unlocked
+unfolding nobody_out is_due free_threads least_by best choice_by pick_of first entry_of u32_at happens step finished lay
+    fits fits_at may_end put_of reads_of thunk turn fetched number_at number_in permission_at decoded reading_of
+    u_immediate i_immediate s_immediate immediate_result shift_result register_result with_register is_readable
+    put_addresses loaded may_store bytes_stored with_byte first_registers all_unlocked
 begun-main_first = refl
 
 pub begun-alone : begun_in 9 (starts (begins 9 9 late) None) ≡ 0 ∷ 1 ∷ 0 ∷ 1 ∷ 0 ∷ []
-unfolding nobody_out is_due free_threads least_by best choice_by pick_of happens step finished lay fits fits_at
-    may_end put_of reads_of thunk turn fetched number_at number_in permission_at decoded reading_of u_immediate
-    i_immediate s_immediate immediate_result shift_result register_result with_register is_readable put_addresses loaded
-    may_store bytes_stored with_byte first_registers all_unlocked
+unfolding nobody_out is_due free_threads least_by best choice_by pick_of first entry_of u32_at happens step finished lay
+    fits fits_at may_end put_of reads_of thunk turn fetched number_at number_in permission_at decoded reading_of
+    u_immediate i_immediate s_immediate immediate_result shift_result register_result with_register is_readable
+    put_addresses loaded may_store bytes_stored with_byte first_registers all_unlocked
 begun-alone = refl
 
 pub begun-two : begun_in 2 (starts (begins 9 9 late) None) ≡ 0 ∷ 1 ∷ []
-unfolding nobody_out is_due free_threads least_by best choice_by pick_of happens step finished lay fits fits_at
-    may_end put_of reads_of thunk turn fetched number_at number_in permission_at decoded reading_of u_immediate
-    i_immediate s_immediate immediate_result shift_result register_result with_register is_readable put_addresses loaded
-    may_store bytes_stored with_byte first_registers all_unlocked
+unfolding nobody_out is_due free_threads least_by best choice_by pick_of first entry_of u32_at happens step finished lay
+    fits fits_at may_end put_of reads_of thunk turn fetched number_at number_in permission_at decoded reading_of
+    u_immediate i_immediate s_immediate immediate_result shift_result register_result with_register is_readable
+    put_addresses loaded may_store bytes_stored with_byte first_registers all_unlocked
 begun-two = refl
 
 pub begun-edited : begun_in 9 (starts (begins 9 9 (forgets 7)) was_4) ≡ 0 ∷ []
-unfolding nobody_out is_due free_threads least_by best choice_by pick_of happens step finished lay fits fits_at
-    may_end put_of reads_of thunk turn fetched number_at number_in permission_at decoded reading_of u_immediate
-    i_immediate s_immediate immediate_result shift_result register_result with_register is_readable put_addresses loaded
-    may_store bytes_stored with_byte first_registers all_unlocked
+unfolding nobody_out is_due free_threads least_by best choice_by pick_of first entry_of u32_at happens step finished lay
+    fits fits_at may_end put_of reads_of thunk turn fetched number_at number_in permission_at decoded reading_of
+    u_immediate i_immediate s_immediate immediate_result shift_result register_result with_register is_readable
+    put_addresses loaded may_store bytes_stored with_byte first_registers all_unlocked
 begun-edited = refl
 
 -- The round of the smallest history's own setup is all reuse of it.

@@ -1,9 +1,9 @@
 -- Where a history is honest and its own setup is run again, its next step is due, is the one that is chosen, and its
 -- record fits.
-use Rattle.std.proofs.Common.{◌≡◌, ◌≢◌, ◌<◌, ◌≤◌, ◌+◌, ℕ, zero, suc, Bool, true, false, ◌&&◌, ◌||◌, eqb, ltb, List, [], ◌∷◌, ◌++◌, length, map, take, Option, Some, None, is_some, is_none, find, refl, ap, sym, ◌∙◌, append_assoc, append-nil, inl, inr, arith}
-use Rattle.std.proofs.Math.Seq.{take-append_seam}
-use Rattle.std.proofs.lemmas.Bool.{eq-eqb, ne_eqb, lt-ltb, cases_eq}
-use Rattle.std.specs.List.{AllByRecursion, list_all, position_or_len}
+use Rattle.std.proofs.Common.{◌≡◌, ◌≢◌, ◌<◌, ◌≤◌, ◌+◌, ℕ, zero, suc, Bool, true, false, not, ◌&&◌, ◌||◌, eqb, ltb, List, [], ◌∷◌, ◌++◌, length, length-append, map, take, get_or, Option, Some, None, is_some, is_none, find, refl, ap, sym, ◌∙◌, subst, append_assoc, append-nil, inl, inr, arith}
+use Rattle.std.proofs.lemmas.List.{get_or_append_left}
+use Rattle.std.proofs.lemmas.Bool.{eq-eqb, ne_eqb, cases_eq}
+use Rattle.std.specs.List.{AllByRecursion, position_or_len}
 use Rattle.record_spec.specs.Record.{Record}
 use Rattle.machine_spec.specs.declared.states.End.{End}
 use Rattle.machine_spec.specs.Machine.{Machine, hart_of, is_ready}
@@ -14,17 +14,23 @@ use Rattle.machine_spec.specs.Whole.{IsWhole}
 use Rattle.machine_spec.proofs.Beginning.{IsWhole-first}
 use Rattle.machine_spec.proofs.Alone.{step-limit, step-steps, first-limit}
 use Rattle.machine_spec.proofs.Steps.{can_step-ready}
-use Rattle.history_spec.specs.History.{History, IsHonest, schedule_of, is_of, past_records}
+use Rattle.history_spec.specs.History.{History, IsHonest, schedule_of, is_of, past_records, is_numbered}
 use Rattle.history_spec.proofs.Scratch.{and-left, and-right, scratch-whole, scratch-more}
-use Rattle.history_spec.proofs.Numbers.{first-steps}
+use Rattle.history_spec.proofs.Numbers.{first-steps, honest-numbered}
 use Rattle.history_spec.proofs.Truth.{record-fits}
+use Rattle.order_spec.specs.Facts.{facts}
+use Rattle.order_spec.specs.Before.{fact_at}
+use Rattle.order_spec.specs.Ancestors.{is_ancestor, number_at}
+use Rattle.order_spec.proofs.Lists.{or-in_left}
+use Rattle.order_spec.proofs.Clocks.{lt-bit}
 use Rattle.report_spec.specs.declared.Entry.{Entry}
 use Rattle.round_spec.specs.Marks.{record_for, is_fitting, fits_next, marked_from}
 use Rattle.round_spec.specs.Rounds.{nobody_out}
-use Rattle.round_spec.specs.Due.{place_in, is_passed, must_come_before, is_due}
+use Rattle.round_spec.specs.Due.{place_in, is_passed_at, are_passed_before, is_due}
 use Rattle.round_spec.specs.Choice.{choice_by}
 use Rattle.round_spec.specs.Alone.{guided_from}
-use Rattle.worker_spec.proofs.Choosing.{choice_by-chosen}
+use Rattle.round_spec.proofs.Placed.{all-below-of, not-or, no_record, record-thread, record-number, placed-due}
+use Rattle.worker_spec.proofs.Choosing.{choice_by-chosen, free-ready}
 use Rattle.worker_spec.proofs.Numbers.{IsMadeOn, made-all}
 use Rattle.worker_spec.proofs.Picks.{guided-over, guided-next, Stands, Over, Goes, stands}
 
@@ -70,16 +76,11 @@ made-none_next :
 made-none_next m u [] all = tt
 made-none_next m u (r ∷ rs) all = (made-not_next m u r all.0, made-none_next m u rs all.1)
 
-passed-all : (m : Machine) (rs : List Record) → AllByRecursion (IsMadeOn m) rs → list_all (is_passed m) rs ≡ true
-passed-all m [] all = refl
-passed-all m (r ∷ rs) all =
-    let made : ltb r.number (hart_of m r.thread).number ≡ true = lt-ltb r.number (hart_of m r.thread).number all.0 in
-    rw made (passed-all m rs all.1)
-
 -- the records in front are those of steps that have been made, and then comes the record of a step that can be made
 pub record IsNext (past : Option History) (m : Machine) (front : List Record) (t : ℕ) (back : List Record) : Type 0
   where
     pub split : past_records past ≡ front ++ record_of m t ∷ back
+    pub numbered : is_numbered (past_records past) ≡ true
     pub made : AllByRecursion (IsMadeOn m) front
     pub can : can_step m t ≡ true
 
@@ -142,22 +143,46 @@ pub next-fits :
 next-fits past m front t back next =
     ap (is_fitting m) (next-found past m front t back next) ∙ record-fits m t (can_step-ready m t next.can)
 
+all-at :
+    (P : Record → Type 0) (rs : List Record) (j : ℕ) (d : Record) → AllByRecursion P rs → j < length rs
+    → P (get_or rs j d)
+all-at P [] j d all below = absurd (omega arith)
+all-at P (r ∷ rs) zero d all below = all.0
+all-at P (r ∷ rs) (suc j) d all below = all-at P rs j d all.1 (omega arith)
+
+-- all in front is passed
+next-passed :
+    (h : History) (m : Machine) (front : List Record) (t : ℕ) (back : List Record) (a : ℕ)
+    → IsNext (Some h) m front t back → a < length front → is_passed_at (facts h) m a ≡ true
+next-passed h m front t back a next less =
+    let there : get_or h.records a no_record ≡ get_or front a no_record =
+    ap (λ (rs : List Record). get_or rs a no_record) next.split
+    ∙ get_or_append_left front (record_of m t ∷ back) no_record a less in
+    let made : IsMadeOn m (get_or h.records a no_record) =
+    subst (IsMadeOn m) (sym there) (all-at (IsMadeOn m) front a no_record next.made less) in
+    let long = ap (λ (rs : List Record). length rs) next.split in
+    let parts = length-append front (record_of m t ∷ back) in
+    let below : a < length h.records = omega arith in
+    let thread = ap (λ (u : ℕ). (hart_of m u).number) (record-thread h a below) in
+    let number = record-number h a next.numbered below in
+    or-in_left (ltb (number_at (facts h) a) (hart_of m (fact_at (facts h) a).thread).number) _
+    (lt-bit (number_at (facts h) a) (hart_of m (fact_at (facts h) a).thread).number (omega arith))
+
 pub next-due :
     (past : Option History) (m : Machine) (front : List Record) (t : ℕ) (back : List Record)
     → IsNext past m front t back → is_due past m t ≡ true
 unfolding is_due
-next-due past m front t back next =
-    let before : must_come_before (past_records past) (place_in past m t) ≡ front =
-    ap (must_come_before (past_records past)) (next-place past m front t back next)
-    ∙ ap (take (length front)) next.split ∙ take-append_seam front (record_of m t ∷ back) in
-    let passed : list_all (is_passed m) (must_come_before (past_records past) (place_in past m t)) ≡ true =
-    ap (list_all (is_passed m)) before ∙ passed-all m front next.made in
-    or-right (is_none (record_for past m t))
-    (list_all (is_passed m) (must_come_before (past_records past) (place_in past m t))) passed
-  where
-    or-right : (a b : Bool) → b ≡ true → (a || b) ≡ true
-    or-right true b h = refl
-    or-right false b h = h
+next-due None m front t back next = refl
+next-due (Some h) m front t back next =
+    let place : place_in (Some h) m t ≡ length front = next-place (Some h) m front t back next in
+    let long = ap (λ (rs : List Record). length rs) next.split in
+    let parts = length-append front (record_of m t ∷ back) in
+    placed-due h m t next.numbered (omega arith)
+    ∙ ap (are_passed_before (facts h) m) place
+    ∙ all-below-of (λ a. not (is_ancestor (facts h) a (length front)) || is_passed_at (facts h) m a) (length front)
+    (λ a less.
+    not-or (is_ancestor (facts h) a (length front)) (is_passed_at (facts h) m a)
+    (λ ancestor. next-passed h m front t back a next less))
 
 pub can_step-none : (m : Machine) (t : ℕ) → can_step m t ≡ true → m.ending ≡ None
 can_step-none m t can = none (m.ending) (and-left (is_none m.ending) (is_ready (hart_of m t).status) can)
@@ -179,7 +204,7 @@ next-chosen past m front t back whole next = by (stands past m whole)
           | inl same ↦ chosen ∙ ap (λ (n : ℕ). Some n) same
           | inr other ↦ absurd
               (let least =
-              (choice_by-chosen past m u chosen).least t (can_step-ready m t next.can)
+              (choice_by-chosen past m nobody_out u chosen).least t (free-ready m t ∙ can_step-ready m t next.can)
               (next-due past m front t back next) in
               let own = next-place past m front t back next in
               let far = other-place past m front t back u next other in
@@ -227,6 +252,7 @@ honest-next h xs t ys honest split =
     permitted-back (first h.setup) xs (t ∷ ys) permitted in
     record {
       split = honest.recorded ∙ ap (records h.setup) split ∙ records-both (first h.setup) xs (t ∷ ys);
+      numbered = honest-numbered h honest;
       made = made-all (first h.setup) xs (permitted-front (first h.setup) xs (t ∷ ys) permitted);
       can = and-left (can_step (scratch h.setup xs) t) (is_permitted_from (step (scratch h.setup xs) t) ys) back;
     }

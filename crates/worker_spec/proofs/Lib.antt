@@ -6,6 +6,7 @@ pub mod Picks
 pub mod Lone
 pub mod Ending
 pub mod Picked
+pub mod Rightly
 pub mod Following
 pub mod Unedited
 pub mod Cost

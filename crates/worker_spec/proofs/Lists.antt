@@ -1,5 +1,5 @@
 -- What is needed of lists of thread numbers: the first of them, those that pass a test, and the least of a measure.
-use Rattle.std.proofs.Common.{◌≡◌, ◌<◌, ◌≤◌, ◌+◌, ℕ, zero, suc, Bool, true, false, ◌||◌, eqb, cond, List, [], ◌∷◌, length, map, Some, is_some, replicate, get_or, set, refl, ap, sym, ◌∙◌, subst, inl, inr, arith}
+use Rattle.std.proofs.Common.{◌≡◌, ◌<◌, ◌≤◌, ◌+◌, ℕ, zero, suc, Bool, true, false, ◌||◌, eqb, cond, List, [], ◌∷◌, length, map, Some, is_some, replicate, get_or, set, refl, sym, ◌∙◌, subst, inl, inr, arith}
 use Rattle.std.proofs.lemmas.Bool.{eq-eqb, cases_lt, cases_eq}
 use Rattle.std.specs.List.{AllByRecursion, filter, list_any, range_with_len}
 use Rattle.machine_spec.specs.Machine.{Hart, hart_in}
@@ -105,13 +105,8 @@ some-least_by f [] = refl
 some-least_by f (x ∷ xs) =
     some-filter (λ t. eqb (f t) (least (map f (x ∷ xs)))) (x ∷ xs) ∙ least-there f x xs (least (map f (x ∷ xs))) refl
 
--- a flag that is raised is up, and lowered again all are down
+-- a flag that is raised is up
 pub get-raised : (n v : ℕ) → v < n → get_or (set (replicate n false) v true) v false ≡ true
 get-raised zero v below = absurd (omega arith)
 get-raised (suc n) zero below = refl
 get-raised (suc n) (suc v) below = get-raised n v (omega arith)
-
-pub set-lowered : (n v : ℕ) → set (set (replicate n false) v true) v false ≡ replicate n false
-set-lowered zero v = refl
-set-lowered (suc n) zero = refl
-set-lowered (suc n) (suc v) = ap (λ (bs : List Bool). false ∷ bs) (set-lowered n v)

@@ -1,7 +1,9 @@
 -- Each entry of the round of one worker was picked rightly.
 use Rattle.std.proofs.Common.{◌≡◌, ◌<◌, ◌≤◌, ◌+◌, ℕ, zero, suc, Bool, true, false, not, ◌&&◌, ◌||◌, eqb, cond, List, [], ◌∷◌, length, take, get_or, Option, Some, None, is_some, find, refl, ap, sym, ◌∙◌, subst, inl, inr, arith}
 use Rattle.std.proofs.lemmas.Bool.{eq-eqb}
-use Rattle.std.specs.List.{position_or_len, range_with_len, take-map}
+use Rattle.std.proofs.lemmas.List.FromFn.{length-range_with_len, get_or-range_with_len}
+use Rattle.std.proofs.lemmas.Option.{slice_get_within, get_or_from_slice_get}
+use Rattle.std.specs.List.{position_or_len, range_with_len, slice_get, take-map}
 use Rattle.record_spec.specs.Record.{Record}
 use Rattle.machine_spec.specs.Machine.{Machine, hart_of, is_ready}
 use Rattle.machine_spec.specs.Step.{step, can_step}
@@ -11,17 +13,19 @@ use Rattle.machine_spec.specs.Whole.{IsWhole}
 use Rattle.machine_spec.proofs.Beginning.{IsWhole-first}
 use Rattle.machine_spec.proofs.Steps.{step-whole}
 use Rattle.history_spec.specs.History.{History, IsSound, is_of, past_records, found}
+use Rattle.history_spec.proofs.Scratch.{and-left, and-right}
 use Rattle.report_spec.specs.declared.Entry.{Entry}
 use Rattle.round_spec.specs.Marks.{is_fitting, fits_next, marked_from, marked}
-use Rattle.round_spec.specs.Rounds.{RoundState, nobody_out}
+use Rattle.round_spec.specs.Rounds.{RoundState, nobody_out, is_out_of}
 use Rattle.round_spec.specs.Due.{place_in, is_due}
 use Rattle.round_spec.specs.Choice.{choice_by}
 use Rattle.round_spec.specs.Alone.{guided_from, one_worker, lone_round}
-use Rattle.round_spec.specs.Picking.{is_ready_and_due, any_thread, is_picked_on, machine_after, IsPicked}
+use Rattle.round_spec.specs.Picking.{is_ready_and_due, any_thread, is_picked_on, machine_after, IsPicked, ArePicked}
+use Rattle.round_spec.proofs.Happening.{nobody_out-none}
 use Rattle.worker_spec.proofs.Lists.{none-any, range-all}
-use Rattle.worker_spec.proofs.Choosing.{IsChosen, choice_by-chosen}
+use Rattle.worker_spec.proofs.Choosing.{IsChosen, choice_by-chosen, free-is_ready, free-of}
 use Rattle.worker_spec.proofs.Lone.{rounds-made}
-use Rattle.worker_spec.proofs.Picks.{marked-threads, guided-over, guided-next, Stands, Over, Goes, stands}
+use Rattle.worker_spec.proofs.Picks.{marked-threads, marked-length, guided-over, guided-next, Stands, Over, Goes, stands}
 
 -- each entry is the choice after those before it
 abbrev AllChosen : Option History → Machine → List ℕ → Type 0
@@ -47,10 +51,6 @@ chosen-at :
 chosen-at past m [] i d all below = absurd (omega arith)
 chosen-at past m (t ∷ ts) zero d all below = all.0
 chosen-at past m (t ∷ ts) (suc i) d all below = chosen-at past (step m t) ts i d all.1 (omega arith)
-
-marked-length : (past : Option History) (m : Machine) (ts : List ℕ) → length (marked_from past m ts) ≡ length ts
-marked-length past m [] = refl
-marked-length past m (t ∷ ts) = ap suc (marked-length past (step m t) ts)
 
 marked-at :
     (past : Option History) (m : Machine) (ts : List ℕ) (i d : ℕ) (e : Entry)
@@ -98,9 +98,9 @@ none-thread m p never =
     none-any p (range_with_len 0 (length m.harts)) (range-all (λ v. p v ≡ false) (length m.harts) 0 never)
 
 right-due :
-    (past : Option History) (m : Machine) (u : ℕ) → IsChosen past m u
+    (past : Option History) (m : Machine) (out : List Bool) (u : ℕ) → IsChosen past m out u
     → (is_due past m u || not (any_thread m (is_ready_and_due past m))) ≡ true
-right-due past m u chosen =
+right-due past m out u chosen =
     elim chosen.due [
       | inl due ↦ rw due refl
       | inr nobody ↦
@@ -122,43 +122,45 @@ unfit-past :
 unfit-past past m v far = ap (is_fitting m) (place-none (is_of v (hart_of m v).number) (past_records past) far)
 
 right-fit :
-    (past : Option History) (m : Machine) (u : ℕ) (b : Bool)
-    → IsChosen past m u → is_some (found past u (hart_of m u).number) ≡ b
+    (past : Option History) (m : Machine) (out : List Bool) (u : ℕ) (b : Bool)
+    → ((v : ℕ) → is_out_of out v ≡ true → fits_next past m v ≡ false)
+    → IsChosen past m out u → is_some (found past u (hart_of m u).number) ≡ b
     → (b || not (any_thread m (λ v. is_ready_and_due past m v && fits_next past m v))) ≡ true
-right-fit past m u true chosen is = refl
-right-fit past m u false chosen is =
+right-fit past m out u true held chosen is = refl
+right-fit past m out u false held chosen is =
     let place : place_in past m u ≡ length (past_records past) =
     find-none (is_of u (hart_of m u).number) (past_records past) is in
     let none : any_thread m (λ v. is_ready_and_due past m v && fits_next past m v) ≡ false =
     none-thread m (λ v. is_ready_and_due past m v && fits_next past m v)
     (λ v. and-false (is_ready_and_due past m v) (fits_next past m v)
-    (λ both. unfit-past past m v
-    (let least = chosen.least v (left (is_ready (hart_of m v).status) (is_due past m v) both)
-    (right (is_ready (hart_of m v).status) (is_due past m v) both) in
-    omega arith))) in
+    (λ both. unfit v (is_out_of out v) refl place
+    (and-left (is_ready (hart_of m v).status) (is_due past m v) both)
+    (and-right (is_ready (hart_of m v).status) (is_due past m v) both))) in
     rw none refl
   where
-    left : (x y : Bool) → (x && y) ≡ true → x ≡ true
-    left true y h = refl
-    left false y h = h
+    unfit :
+        (v : ℕ) (b : Bool) → is_out_of out v ≡ b → place_in past m u ≡ length (past_records past)
+        → is_ready (hart_of m v).status ≡ true → is_due past m v ≡ true → fits_next past m v ≡ false
+    unfit v true is_out place ready due = held v is_out
+    unfit v false inside place ready due =
+        unfit-past past m v (let least = chosen.least v (free-of m out v ready inside) due in omega arith)
 
-    right : (x y : Bool) → (x && y) ≡ true → y ≡ true
-    right true y h = h
-    right false y h = cc
-
-chosen-picked :
-    (past : Option History) (m : Machine) (u : ℕ) → IsChosen past m u
+-- who is chosen is picked rightly, where no record of anybody who is out fits
+pub chosen-picked :
+    (past : Option History) (m : Machine) (out : List Bool) (u : ℕ)
+    → ((v : ℕ) → is_out_of out v ≡ true → fits_next past m v ≡ false)
+    → IsChosen past m out u
     → is_picked_on past m u (hart_of m u).number ≡ true
 unfolding is_picked_on
-chosen-picked past m u chosen =
+chosen-picked past m out u held chosen =
     let number : eqb (hart_of m u).number (hart_of m u).number ≡ true =
     eq-eqb (hart_of m u).number (hart_of m u).number refl in
     rw (
-      chosen.ready,
+      free-is_ready m out u chosen.free,
       number,
-      right-due past m u chosen,
-      right-fit past m u
-          (is_some (found past u (hart_of m u).number)) chosen refl,
+      right-due past m out u chosen,
+      right-fit past m out u
+          (is_some (found past u (hart_of m u).number)) held chosen refl,
     ) refl
 
 pub guided-picked :
@@ -181,11 +183,12 @@ guided-picked setup past i e valid below is =
       rightly =
           subst (λ (m : Machine). is_picked_on past m e.thread (hart_of m e.thread).number ≡ true)
           (sym (after-marked setup past (one_worker setup past) i))
-          (chosen-picked past (scratch setup (take i (one_worker setup past))) e.thread
-          (choice_by-chosen past (scratch setup (take i (one_worker setup past))) e.thread chosen));
+          (chosen-picked past (scratch setup (take i (one_worker setup past))) nobody_out e.thread
+          (λ v is_out. absurd (let none = nobody_out-none v in cc))
+          (choice_by-chosen past (scratch setup (take i (one_worker setup past))) nobody_out e.thread chosen));
     }
 
-pub lone-picked :
+lone-picked :
     (setup : Setup) (past : Option History) (i : ℕ) (e : Entry)
     → IsSetup setup → IsSound past setup
     → i < length (lone_round setup past).schedule
@@ -195,3 +198,35 @@ lone-picked setup past i e valid sound =
     subst (λ (w : RoundState). i < length w.schedule → get_or w.schedule i e ≡ e → IsPicked setup past w.schedule i e i)
     (sym (rounds-made setup past setup.limit valid sound))
     (guided-picked setup past i e valid)
+
+-- each of them was picked when its turn came
+pub lone-points :
+    (setup : Setup) (past : Option History) → IsSetup setup → IsSound past setup
+    → (lone_round setup past).picked ≡ range_with_len 0 (length (lone_round setup past).schedule)
+lone-points setup past valid sound =
+    ap (λ (w : RoundState). w.picked) (rounds-made setup past setup.limit valid sound)
+    ∙ ap (range_with_len 0)
+    (sym (ap (λ (w : RoundState). length w.schedule) (rounds-made setup past setup.limit valid sound)
+    ∙ marked-length past (first setup) (one_worker setup past)))
+
+pub lone-all_picked :
+    (setup : Setup) (past : Option History) → IsSetup setup → IsSound past setup
+    → ArePicked setup past (lone_round setup past).schedule (lone_round setup past).picked
+lone-all_picked setup past valid sound =
+    subst (ArePicked setup past (lone_round setup past).schedule) (sym (lone-points setup past valid sound))
+    (record {
+      each = length-range_with_len 0 (length (lone_round setup past).schedule);
+      rightly = λ i e there. at i e (slice_get_within (lone_round setup past).schedule i e there) there;
+    })
+  where
+    at :
+        (i : ℕ) (e : Entry) → i < length (lone_round setup past).schedule
+        → slice_get (lone_round setup past).schedule i ≡ Some e
+        → IsPicked setup past (lone_round setup past).schedule i e
+        (get_or (range_with_len 0 (length (lone_round setup past).schedule)) i 0)
+    at i e below there =
+        let now : i ≡ get_or (range_with_len 0 (length (lone_round setup past).schedule)) i 0 =
+        (let is = get_or-range_with_len 0 (length (lone_round setup past).schedule) i 0 below in omega arith) in
+        subst (λ (n : ℕ). IsPicked setup past (lone_round setup past).schedule i e n) now
+        (lone-picked setup past i e valid sound below
+        (get_or_from_slice_get (lone_round setup past).schedule i e e there))

@@ -52,7 +52,7 @@ pub threads-reused : (ts : List ℕ) → threads_of (map reused_of ts) ≡ ts
 threads-reused [] = refl
 threads-reused (t ∷ ts) = ap (λ (us : List ℕ). t ∷ us) (threads-reused ts)
 
-length-threads : (es : List Entry) → length (threads_of es) ≡ length es
+pub length-threads : (es : List Entry) → length (threads_of es) ≡ length es
 length-threads [] = refl
 length-threads (e ∷ es) = ap suc (length-threads es)
 

@@ -1,6 +1,7 @@
 -- The round of one worker without an edit: the history's own schedule, all of it reused.
-use Rattle.std.proofs.Common.{◌≡◌, ◌≢◌, ℕ, zero, suc, Bool, true, cond, List, [], ◌∷◌, ◌++◌, map, take, drop, Some, refl, ap, sym, ◌∙◌, subst, arith}
+use Rattle.std.proofs.Common.{◌≡◌, ◌≢◌, ℕ, zero, suc, Bool, true, cond, List, [], ◌∷◌, ◌++◌, length, map, take, drop, Some, refl, ap, sym, ◌∙◌, subst, arith}
 use Rattle.std.proofs.lemmas.List.{take_all, take-append-drop}
+use Rattle.std.specs.List.{range_with_len}
 use Rattle.record_spec.specs.Record.{Record}
 use Rattle.machine_spec.specs.Machine.{Machine}
 use Rattle.machine_spec.specs.Step.{step}
@@ -64,13 +65,13 @@ made-not_run :
 made-not_run h xs [] u honest split =
     not-run (pick_of (made_by h.setup (Some h) xs)) u
     (pick-over h.setup (Some h) (scratch h.setup xs) (marked (Some h) h.setup xs) (records h.setup xs)
-    (honest-end h xs honest split))
+    (range_with_len 0 (length xs)) (honest-end h xs honest split))
 made-not_run h xs (t ∷ ys) u honest split =
     let next = honest-next h xs t ys honest split in
     let back : List Record = records_from (step (scratch h.setup xs) t) ys in
     reuse-not_run (pick_of (made_by h.setup (Some h) xs)) t u
-    (pick-chosen h.setup (Some h) (scratch h.setup xs) (marked (Some h) h.setup xs) (records h.setup xs) t
-    (running (scratch h.setup xs) (can_step-none (scratch h.setup xs) t next.can))
+    (pick-chosen h.setup (Some h) (scratch h.setup xs) (marked (Some h) h.setup xs) (records h.setup xs)
+    (range_with_len 0 (length xs)) t (running (scratch h.setup xs) (can_step-none (scratch h.setup xs) t next.can))
     (next-chosen (Some h) (scratch h.setup xs) (records h.setup xs) t back (honest-whole h xs (t ∷ ys) honest split)
     next)
     ∙ ap (λ (b : Bool). cond b (pick.Reuse t) (pick.Run t))

@@ -1,10 +1,11 @@
 -- Rounds that workers make: that of one worker is the one that its schedule makes, entry by entry; by a sound history
 -- it is the one from scratch; and without an edit it is all reuse.
 use Rattle.std.proofs.Common.{◌≡◌, ◌<◌, ℕ, zero, suc, Bool, true, false, not, cond, List, [], ◌∷◌, ◌++◌, length, sum, Option, Some, None, is_some, refl, ap, sym, ◌∙◌, subst, arith}
+use Rattle.std.specs.List.{range_with_len}
 use Rattle.record_spec.specs.Record.{Record}
 use Rattle.machine_spec.specs.Machine.{Machine}
 use Rattle.machine_spec.specs.Setup.{Setup, IsSetup, scratch, is_permitted, is_complete, records}
-use Rattle.history_spec.specs.History.{History, IsHonest, CanGoBy, schedule_of}
+use Rattle.history_spec.specs.History.{History, IsHonest, IsSound, CanGoBy, schedule_of}
 use Rattle.history_spec.proofs.Scratch.{and-left}
 use Rattle.report_spec.specs.declared.Entry.{Entry}
 use Rattle.report_spec.specs.Report.{threads_of}
@@ -17,8 +18,9 @@ use Rattle.round_spec.specs.Schedules.{events_of, events_in, round_by, IsBySched
 use Rattle.round_spec.specs.Choice.{pick_of}
 use Rattle.round_spec.specs.Alone.{after_pick, after_picks, lone_round}
 use Rattle.round_spec.specs.Keeping.{IsFromScratch}
+use Rattle.round_spec.specs.Picking.{IsPickedSoFar}
 use Rattle.round_spec.specs.Unedited.{IsUnedited, all_reused_of, OnlyReuses}
-use Rattle.round_spec.proofs.BySchedule.{IsInside, inside-none, inside-over, set-none, round_by-inside, round_by-more}
+use Rattle.round_spec.proofs.BySchedule.{IsInside, inside-none, inside-over, taken-none, round_by-inside, round_by-more}
 use Rattle.round_spec.proofs.Conditions.{happens-take, happens-take_not, happens-reuse_not, happens-commit, happens-commit_not}
 use Rattle.round_spec.proofs.Leaving.{round-setup, round-past, round-scratch, round-honest}
 use Rattle.worker_spec.specs.OneWorker.{made_by}
@@ -27,7 +29,8 @@ use Rattle.worker_spec.specs.Replaying.{IsReplaying}
 use Rattle.worker_spec.proofs.Picks.{lone_state}
 use Rattle.worker_spec.proofs.Ending.{lone-ends}
 use Rattle.worker_spec.proofs.Unedited.{unedited-reuses}
-use Rattle.worker_spec.proofs.Replay.{threads-reused, replays-end}
+use Rattle.worker_spec.proofs.Picked.{lone-all_picked}
+use Rattle.worker_spec.proofs.Replay.{threads-reused, length-threads, replays-end}
 
 -- the round of one worker
 
@@ -67,7 +70,7 @@ run-makes w t inside = by (can_take w t) refl
         Nothing
         (ap (λ (v : RoundState). happens v (Commit t)) (happens-take w t can)
         ∙ happens-commit_not (taken w t) t is
-        ∙ ap (λ (out : List Bool). record w { out = out }) (set-none w.out t is))
+        ∙ taken-none w t inside is)
 
     by : (b : Bool) → can_take w t ≡ b → Makes w (happens (happens w (Take t)) (Commit t))
     by true is =
@@ -149,6 +152,10 @@ lone-made workers setup past shares valid each steps =
       alone = λ one. refl;
       unedited = λ h by unedited.
           ap (λ (p : Option History). (lone_round setup p).schedule) by ∙ lone-reused h setup unedited;
+      picked = λ sound. (
+        (lone_round setup past).picked,
+        lone-all_picked setup past valid sound,
+      );
     }
 
 pub ended-made :
@@ -159,8 +166,9 @@ pub ended-made :
     → length shares ≡ workers
     → sum shares ≡ length w.schedule
     → ((h : History) → w.past ≡ Some h → IsUnedited h w.setup → IsReplaying h w)
+    → (IsSound w.past w.setup → IsPickedSoFar w)
     → IsMadeBy workers w.setup w.past w.schedule shares
-ended-made workers w shares many is ended each steps replays =
+ended-made workers w shares many is ended each steps replays rightly =
     record {
       stands = is.schedule;
       ended = ap (λ (m : Machine). is_some m.ending) is.machine ∙ ended;
@@ -168,28 +176,43 @@ ended-made workers w shares many is ended each steps replays =
       steps = steps;
       alone = λ one. absurd (omega arith);
       unedited = λ h by unedited. (replays-end h w unedited.honest (replays h by unedited) ended).schedule;
+      picked = λ sound. (w.picked, (rightly sound).entries);
     }
 
 -- a round whose parts are these
 by-parts :
     (w : RoundState) (setup : Setup) (past : Option History) (m : Machine) (es : List Entry) (rs : List Record)
+    (picked : List ℕ)
     → IsInside w
-    → w.setup ≡ setup → w.past ≡ past → w.machine ≡ m → w.schedule ≡ es → w.records ≡ rs
-    → w ≡ lone_state setup past m es rs
-by-parts w setup past m es rs inside is_setup is_past is_machine is_schedule is_records =
+    → w.setup ≡ setup → w.past ≡ past → w.machine ≡ m → w.schedule ≡ es → w.records ≡ rs → w.picked ≡ picked
+    → w ≡ lone_state setup past m es rs picked
+by-parts w setup past m es rs picked inside is_setup is_past is_machine is_schedule is_records is_picked =
     ap (λ (s : Setup). record w { setup = s }) is_setup
     ∙ ap (λ (p : Option History). record w { setup = setup; past = p }) is_past
     ∙ ap (λ (x : Machine). record w { setup = setup; past = past; machine = x }) is_machine
     ∙ ap (λ (x : List Entry). record w { setup = setup; past = past; machine = m; schedule = x }) is_schedule
     ∙ ap (λ (x : List Record). record w { setup = setup; past = past; machine = m; schedule = es; records = x })
     is_records
-    ∙ ap (λ (x : List Bool). record (lone_state setup past m es rs) {
+    ∙ ap (λ (x : List ℕ). record (lone_state setup past m es rs x) {
+      out = w.out;
+      taken_at = w.taken_at;
+      discarded = w.discarded;
+      stopped = w.stopped;
+    }) is_picked
+    ∙ ap (λ (x : List Bool). record (lone_state setup past m es rs picked) {
       out = x;
+      taken_at = w.taken_at;
       discarded = w.discarded;
       stopped = w.stopped;
     }) inside.out
-    ∙ ap (λ (x : ℕ). record (lone_state setup past m es rs) { discarded = x; stopped = w.stopped }) inside.discarded
-    ∙ ap (λ (x : Bool). record (lone_state setup past m es rs) { stopped = x }) inside.stopped
+    ∙ ap (λ (x : List ℕ). record (lone_state setup past m es rs picked) {
+      taken_at = x;
+      discarded = w.discarded;
+      stopped = w.stopped;
+    }) inside.taken_at
+    ∙ ap (λ (x : ℕ). record (lone_state setup past m es rs picked) { discarded = x; stopped = w.stopped })
+    inside.discarded
+    ∙ ap (λ (x : Bool). record (lone_state setup past m es rs picked) { stopped = x }) inside.stopped
 
 workers-scratch :
     (setup : Setup) (past : Option History) (entries : List Entry) → CanGoBy past setup
@@ -203,7 +226,7 @@ pub workers-round :
     → IsMadeBy workers setup past entries shares
     → round_by setup past entries ≡ made_by setup past (threads_of entries)
 workers-round workers setup past entries shares premise made =
-    by-parts v setup past (scratch setup ts) (marked past setup ts) (records setup ts)
+    by-parts v setup past (scratch setup ts) (marked past setup ts) (records setup ts) (range_with_len 0 (length ts))
     (round_by-inside setup past entries) is_setup is_past
     (s.machine ∙ ap (λ (x : Setup). scratch x (threads_of v.schedule)) is_setup ∙ ap (scratch setup) threads)
     (s.marks
@@ -211,6 +234,8 @@ workers-round workers setup past entries shares premise made =
     ∙ ap (λ (p : Option History). marked p setup (threads_of v.schedule)) is_past
     ∙ ap (marked past setup) threads)
     (s.records ∙ ap (λ (x : Setup). records x (threads_of v.schedule)) is_setup ∙ ap (records setup) threads)
+    ((round_by-inside setup past entries).picked
+    ∙ ap (range_with_len 0) (sym (length-threads v.schedule) ∙ ap (λ (xs : List ℕ). length xs) threads))
   where
     ts : List ℕ
     ts = threads_of entries

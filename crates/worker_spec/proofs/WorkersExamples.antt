@@ -24,7 +24,9 @@ again-entries = (lone_round shortest (Some only_step)).schedule
 
 -- One worker makes all steps of a round.
 pub made-alone : IsMadeBy 1 shortest None first-entries (length first-entries ∷ [])
-made-alone = lone-made 1 shortest None (length first-entries ∷ []) shortest-setup refl (let n = length first-entries in omega arith)
+made-alone =
+    lone-made 1 shortest None (length first-entries ∷ []) shortest-setup refl
+    (let n = length first-entries in omega arith)
 
 -- Of three workers one may make them all.
 pub made-by_three : IsMadeBy 3 shortest None first-entries (0 ∷ length first-entries ∷ 0 ∷ [])

@@ -1,6 +1,7 @@
 -- What one worker makes of a round: a round that is known by its schedule alone, and how many instructions were
 -- executed.
-use Rattle.std.specs.Prelude.{ℕ, zero, suc, ◌+◌, false, List, Option}
+use Rattle.std.specs.Prelude.{ℕ, zero, suc, ◌+◌, false, List, length, Option}
+use Rattle.std.specs.List.{range_with_len}
 use Rattle.thunk_spec.specs.Thunk.{thunk}
 use Rattle.machine_spec.specs.Machine.{hart_of}
 use Rattle.machine_spec.specs.Setup.{Setup, scratch, records}
@@ -8,12 +9,13 @@ use Rattle.history_spec.specs.History.{History}
 use Rattle.round_spec.specs.declared.events.Pick.{Pick}
 use Rattle.round_spec.specs.declared.events.Pick.TheVariants as pick
 use Rattle.round_spec.specs.Marks.{marked}
-use Rattle.round_spec.specs.Rounds.{RoundState, nobody_out}
+use Rattle.round_spec.specs.Rounds.{RoundState, nobody_out, nothing_taken}
 use Rattle.round_spec.specs.Choice.{pick_of}
 use Rattle.round_spec.specs.Alone.{after_pick}
 
 -- The round whose steps were made under a schedule, where nobody is out, nothing was discarded and nobody stopped it:
--- its machine and its records are those from scratch, and its marks are exact.
+-- its machine and its records are those from scratch, its marks are exact, and each thread was picked when its turn
+-- came.
 abbrev pub made_by : Setup → Option History → List ℕ → RoundState
 made_by setup past schedule =
     record {
@@ -22,7 +24,9 @@ made_by setup past schedule =
       machine = scratch setup schedule;
       schedule = marked past setup schedule;
       records = records setup schedule;
+      picked = range_with_len 0 (length schedule);
       out = nobody_out;
+      taken_at = nothing_taken;
       discarded = 0;
       stopped = false;
     }

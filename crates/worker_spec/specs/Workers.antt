@@ -1,16 +1,17 @@
 -- What workers make of a round, however they interleave.
 use Rattle.std.specs.Prelude.{◌≡◌, ℕ, true, List, length, sum, Option, Some, is_some}
 use Rattle.machine_spec.specs.Setup.{Setup}
-use Rattle.history_spec.specs.History.{History}
+use Rattle.history_spec.specs.History.{History, IsSound}
 use Rattle.report_spec.specs.declared.Entry.{Entry}
 use Rattle.round_spec.specs.Schedules.{round_by}
 use Rattle.round_spec.specs.Alone.{lone_round}
+use Rattle.round_spec.specs.Picking.{ArePicked}
 use Rattle.round_spec.specs.Unedited.{IsUnedited, all_reused_of}
 
 -- So many workers make a round by this schedule with marks, of which each of them makes so many steps: the schedule is
 -- one that can be made, mark by mark, and comes to an end; there is a share for each worker, and the shares add up to
--- the number of steps; one worker makes the schedule that it picks; and without an edit each step of the history is
--- reused, in the history's order.
+-- the number of steps; one worker makes the schedule that it picks; without an edit each step of the history is reused,
+-- in the history's order; and by a sound history each entry was picked rightly.
 pub record IsMadeBy (workers : ℕ) (setup : Setup) (past : Option History) (entries : List Entry)
     (shares : List ℕ) : Type 0 where
   pub stands : (round_by setup past entries).schedule ≡ entries
@@ -19,3 +20,4 @@ pub record IsMadeBy (workers : ℕ) (setup : Setup) (past : Option History) (ent
   pub steps : sum shares ≡ length entries
   pub alone : workers ≡ 1 → entries ≡ (lone_round setup past).schedule
   pub unedited : (h : History) → past ≡ Some h → IsUnedited h setup → entries ≡ all_reused_of h
+  pub picked : IsSound past setup → (points : List ℕ) × ArePicked setup past entries points

@@ -1,13 +1,14 @@
 //! The round of one worker, the rounds of many, and the round without an edit, as laws over the definitions of
-//! rounds: one worker makes the schedule that follows the choice, which is permitted and complete, and picks each
-//! entry rightly; what it executes is what the executed entries sum up to; and where a setup is run again
-//! by its own honest history, each step is reused and nothing is executed, by one worker or by many. No
-//! code.
+//! rounds: one worker makes the schedule that follows the choice, which is permitted and complete; what it
+//! executes is what the executed entries sum up to; each entry is picked rightly, by one worker or by many;
+//! and where a setup is run again by its own honest history, each step is reused and nothing is executed,
+//! however many they are. No code.
 #![tactic(auto)]
 
-ghost use Rattle.std.specs.Prelude.{◌≡◌, ◌≢◌, ◌<◌, ℕ, true, false, List, length, sum, slice_index_or, Option, Some, is_some};
+ghost use Rattle.std.specs.Prelude.{◌≡◌, ◌≢◌, ◌<◌, ℕ, true, false, List, length, sum, Option, Some, is_some};
+ghost use Rattle.std.specs.List.{range_with_len};
 ghost use Rattle.machine_spec.specs.Setup.{Setup, IsSetup, first, is_permitted, is_complete};
-ghost use Rattle.history_spec.specs.History.{History, IsHonest, CanGoBy, schedule_of};
+ghost use Rattle.history_spec.specs.History.{History, IsHonest, IsSound, CanGoBy, schedule_of};
 ghost use Rattle.report_spec.specs.declared.Entry.{Entry};
 ghost use Rattle.report_spec.specs.Report.{threads_of, instructions_from};
 ghost use Rattle.round_spec.specs.declared.events.Event.{Event};
@@ -16,8 +17,8 @@ ghost use Rattle.round_spec.specs.Rounds.{RoundState, opening, happens, is_over,
 ghost use Rattle.round_spec.specs.Schedules.{IsBySchedule, round_by};
 ghost use Rattle.round_spec.specs.Choice.{pick_of};
 ghost use Rattle.round_spec.specs.Alone.{guided_from, one_worker, after_picks, lone_round};
-ghost use Rattle.round_spec.specs.Keeping.{IsFromScratch};
-ghost use Rattle.round_spec.specs.Picking.{IsPicked};
+ghost use Rattle.round_spec.specs.Keeping.{IsFromScratch, IsInOrder};
+ghost use Rattle.round_spec.specs.Picking.{ArePicked, IsPickedSoFar};
 ghost use Rattle.round_spec.specs.Unedited.{IsUnedited, OnlyReuses};
 ghost use Rattle.worker_spec.specs.OneWorker.{made_by, executed_in};
 ghost use Rattle.round_spec.specs.Marks.{marked};
@@ -80,7 +81,7 @@ pub fn one_worker_makes_its_entries()
 {}
 
 /// A round that has an end was made by the workers who share its steps, where it is where its schedule leads
-/// and, without an edit, replays its history; of one worker more is owed.
+/// and was picked rightly and, without an edit, replays its history; of one worker more is owed.
 pub fn workers_make_what_comes_to_an_end()
     ensures { (workers : ℕ) (w : RoundState) (shares : List ℕ)
         → 1 < workers
@@ -89,6 +90,7 @@ pub fn workers_make_what_comes_to_an_end()
         → length shares ≡ workers
         → sum shares ≡ length w.schedule
         → ((h : History) → w.past ≡ Some h → IsUnedited h w.setup → IsReplaying h w)
+        → (IsSound w.past w.setup → IsPickedSoFar w)
         → IsMadeBy workers w.setup w.past w.schedule shares }
 {}
 
@@ -150,11 +152,27 @@ pub fn one_worker_never_waits()
 
 /// Each entry of the round of one worker was picked rightly, when the schedule was as long as its place.
 pub fn one_worker_picks_rightly()
-    ensures { (setup : Setup) (past : Option History) (i : ℕ) (e : Entry)
+    ensures entries { (setup : Setup) (past : Option History)
         → CanGoBy past setup
-        → i < length (lone_round setup past).schedule
-        → slice_index_or (lone_round setup past).schedule i e ≡ e
-        → IsPicked setup past (lone_round setup past).schedule i e i }
+        → ArePicked setup past (lone_round setup past).schedule (lone_round setup past).picked }
+    ensures points { (setup : Setup) (past : Option History)
+        → CanGoBy past setup
+        → (lone_round setup past).picked ≡ range_with_len 0 (length (lone_round setup past).schedule) }
+{}
+
+/// As long as a step is begun only where it was picked, all that a round by a sound history does is picked
+/// rightly, whatever else happens in between: its entries, each when the schedule was as long as is kept
+/// with it, and the steps that are out. So it is by any number of workers.
+pub fn workers_pick_rightly()
+    ensures start { (setup : Setup) (past : Option History)
+        → CanGoBy past setup
+        → IsPickedSoFar (opening setup past) }
+    ensures event { (w : RoundState) (e : Event)
+        → CanGoBy w.past w.setup
+        → IsInOrder w
+        → IsPickedSoFar w
+        → goes_on_by (pick_of w) e ≡ true
+        → IsPickedSoFar (happens w e) }
 {}
 
 /// What one worker executes, pick by pick, sums up to the instructions of the executed entries of its
