@@ -6,6 +6,7 @@ mod pages;
 mod setup;
 mod whole;
 
+pub use pages::addresses_of;
 pub use whole::listing;
 
 #[cfg(test)]

@@ -9,7 +9,7 @@ use std::alloc::{AllocError, Global};
 use store_mask::{PageDelta, ReadPage};
 
 /// The addresses of the pages of a setup, each at its slot.
-pub(super) fn addresses_of(alloc: Global, setup: &Setup) -> Result<Vec<u32>, AllocError>
+pub fn addresses_of(alloc: Global, setup: &Setup) -> Result<Vec<u32>, AllocError>
     ensures { IfOk result (λ addresses. addresses.items ≡ addresses_of setup.now) }
 {
     setup.sound();

@@ -49,6 +49,7 @@ pub report_lines-hi :
     (record {
       ending = Some (Exit 0);
       schedule = executed 0 ∷ executed 0 ∷ [];
+      reached = None;
       instructions = 8;
       shares = 2 ∷ [];
       memory = memory;
@@ -68,13 +69,14 @@ pub report_lines-hi :
 unfolding digits
 report_lines-hi memory = refl
 
--- A reused entry has the mark =, and four workers have four shares.
+-- A reused entry has the mark =, four workers have four shares, and what is reached is told behind what was executed.
 pub report_lines-reused :
     (memory : Memory)
     → report_lines 12
     (record {
       ending = Some Spent;
       schedule = reused 0 ∷ executed 31 ∷ [];
+      reached = Some 2;
       instructions = 7;
       shares = 1 ∷ 0 ∷ 0 ∷ 1 ∷ [];
       memory = memory;
@@ -85,6 +87,7 @@ pub report_lines-reused :
     ∷ (codes "steps 2" ++ newline)
     ∷ (codes "reused 1" ++ newline)
     ∷ (codes "executed 1" ++ newline)
+    ∷ (codes "reached 2" ++ newline)
     ∷ (codes "instructions 7" ++ newline)
     ∷ (codes "by 1 0 0 1" ++ newline)
     ∷ (codes "schedule 0= 31+" ++ newline)

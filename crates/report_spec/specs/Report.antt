@@ -1,5 +1,5 @@
--- The report of a round, as a function of the round's number, its setup, its schedule with marks, and the workers'
--- shares.
+-- The report of a round, as a function of the round's number, its setup, its schedule with marks, how many old steps it
+-- reaches, where that is told, and the workers' shares.
 use Rattle.std.specs.Prelude.{ℕ, ◌+◌, Bool, true, false, not, if◌then◌else◌, List, [], ◌∷◌, ◌++◌, length, map, codes, count_by, Option, Some, None}
 use Rattle.std.specs.List.{concat}
 use Rattle.std.specs.Fmt.{decimal}
@@ -44,21 +44,23 @@ instructions_from m (e ∷ schedule) =
     (if e.reused then 0 else (thunk m.frame (hart_of m e.thread).view (hart_of m e.thread).regs).count)
     + instructions_from (step m e.thread) schedule
 
--- What a report tells of a round.
+-- What a report tells of a round; how many old steps it reaches only where that is asked for.
 pub record Told : Type 0 where
   pub ending : Option End
   pub schedule : List Entry
+  pub reached : Option ℕ
   pub instructions : ℕ
   pub shares : List ℕ
   pub memory : Memory
   pub output : List ℕ
 
 -- What there is to tell of the machine from scratch under a schedule.
-abbrev pub told_of : Setup → List Entry → List ℕ → Told
-told_of setup schedule shares =
+abbrev pub told_of : Setup → List Entry → Option ℕ → List ℕ → Told
+told_of setup schedule reached shares =
     record {
       ending = (scratch setup (threads_of schedule)).ending;
       schedule = schedule;
+      reached = reached;
       instructions = instructions_from (first setup) schedule;
       shares = shares;
       memory = (scratch setup (threads_of schedule)).memory;
@@ -76,6 +78,11 @@ executed_count schedule = count_by (λ (e : Entry). not e.reused) schedule
 unfoldable pub memory_digest : Memory → List ℕ
 memory_digest memory = encode_lower (sha256 (concat memory))
 
+-- The line that tells how many old steps are reached, where it is told.
+abbrev pub reached_lines : Option ℕ → List (List ℕ)
+reached_lines None = []
+reached_lines (Some n) = line (codes "reached") (decimal n) ∷ []
+
 -- The lines of the report of round n.
 abbrev pub report_lines : ℕ → Told → List (List ℕ)
 report_lines n t =
@@ -84,7 +91,8 @@ report_lines n t =
     ∷ line (codes "steps") (decimal (length t.schedule))
     ∷ line (codes "reused") (decimal (reused_count t.schedule))
     ∷ line (codes "executed") (decimal (executed_count t.schedule))
-    ∷ line (codes "instructions") (decimal t.instructions)
+    ∷ reached_lines t.reached
+    ++ line (codes "instructions") (decimal t.instructions)
     ∷ list_line (codes "by") decimal t.shares
     ∷ list_line (codes "schedule") entry_text t.schedule
     ∷ line (codes "memory") (memory_digest t.memory)
@@ -95,6 +103,7 @@ report_lines n t =
 unfoldable pub report_text : ℕ → Told → List ℕ
 report_text n t = concat (report_lines n t) ++ t.output ++ newline
 
--- The report of round n of a setup, whose schedule has these entries and whose workers had these shares.
-unfoldable pub report : ℕ → Setup → List Entry → List ℕ → List ℕ
-report n setup schedule shares = report_text n (told_of setup schedule shares)
+-- The report of round n of a setup, whose schedule has these entries, which reaches so many old steps, where that is
+-- told, and whose workers had these shares.
+unfoldable pub report : ℕ → Setup → List Entry → Option ℕ → List ℕ → List ℕ
+report n setup schedule reached shares = report_text n (told_of setup schedule reached shares)

@@ -15,6 +15,8 @@ use Rattle.round_spec.specs.Rounds.{RoundState, opening, is_out, is_over, can_ta
 use Rattle.round_spec.specs.Keeping.{IsCounted}
 use Rattle.round_spec.proofs.Counting.{round-counted}
 use Rattle.round_spec.proofs.Leaving.{round-setup}
+use Rattle.reach_spec.specs.Working.{ReexecutesLeast}
+use Rattle.reach_spec.proofs.ByWorkers.{reexecutes-made}
 use Rattle.rerun_spec.specs.Inputs.{AreShort}
 use Rattle.rerun_spec.specs.Rounds.{with_input, Found, Round, made, IsMade, left_by, schedule_in, Beginning, IsOfProgram, round_on, after_round, rounds_after, after_rounds}
 use Rattle.rerun_spec.proofs.Rounds.{EachShort, each-short, with-short}
@@ -36,6 +38,11 @@ round-stands workers r is = is.stands
 pub left-found :
     (workers : ℕ) (r : Round) → IsSetup r.setup → IsMade workers r → schedule_of (left_by r) ≡ schedule_in r
 left-found workers r valid is = (round-counts r valid).threads ∙ ap threads_of is.stands
+
+-- it executes again no more than it must
+pub round-least : (workers : ℕ) (r : Round) → IsSetup r.setup → IsMade workers r → ReexecutesLeast (made r)
+round-least workers r valid is =
+    reexecutes-made workers r.setup r.past r.found.entries r.found.shares valid is
 
 -- a round that has made no step has no end
 abbrev IsYoung : RoundState → Type 0

@@ -1,5 +1,5 @@
 -- Worked examples, on an input of the five bytes 1 to 5. The expected values follow by hand.
-use Rattle.std.proofs.Common.{◌≡◌, ℕ, true, false, List, [], ◌∷◌, ◌++◌, inl, Some, None, Ok, refl, ap, sym, ◌∙◌, subst, lit<}
+use Rattle.std.proofs.Common.{◌≡◌, ℕ, Bool, true, false, List, [], ◌∷◌, ◌++◌, inl, Some, None, Ok, refl, ap, sym, ◌∙◌, subst, lit<}
 use Rattle.std.proofs.lemmas.Option.{same_Some}
 use Rattle.std.specs.Prelude.{codes, decimal}
 use Rattle.std.specs.Fmt.{digits}
@@ -87,70 +87,73 @@ refused-first = inl (half_byte_is_bad, refl)
 
 -- Round 0 goes by nothing, and round 1 by what round 0 leaves.
 pub rounds-two :
-    (s : Setup) (a b : List ℕ) (f g : Found)
-    → rounds_after (from_scratch s) (a ∷ b ∷ []) (f ∷ g ∷ [])
-    ≡ record { number = 0; setup = with_input s a; past = None; found = f }
+    (s : Setup) (reach : Bool) (a b : List ℕ) (f g : Found)
+    → rounds_after (from_scratch s reach) (a ∷ b ∷ []) (f ∷ g ∷ [])
+    ≡ record { number = 0; setup = with_input s a; past = None; reach = reach; found = f }
     ∷ record {
       number = 1;
       setup = with_input s b;
-      past = Some (left_by (record { number = 0; setup = with_input s a; past = None; found = f }));
+      past = Some (left_by (record { number = 0; setup = with_input s a; past = None; reach = reach; found = f }));
+      reach = reach;
       found = g;
     }
     ∷ []
-rounds-two s a b f g = refl
+rounds-two s reach a b f g = refl
 
 -- After a memo, round 1 goes by its history, and round 2 by what round 1 leaves; both have the fuel that is asked for.
 pub reruns-two :
-    (h : History) (fuel : ℕ) (a b : List ℕ) (f g : Found)
-    → rounds_after (after_memo h fuel) (a ∷ b ∷ []) (f ∷ g ∷ [])
-    ≡ record { number = 1; setup = with_input (with_fuel h.setup fuel) a; past = Some h; found = f }
+    (h : History) (fuel : ℕ) (reach : Bool) (a b : List ℕ) (f g : Found)
+    → rounds_after (after_memo h fuel reach) (a ∷ b ∷ []) (f ∷ g ∷ [])
+    ≡ record { number = 1; setup = with_input (with_fuel h.setup fuel) a; past = Some h; reach = reach; found = f }
     ∷ record {
       number = 2;
       setup = with_input (with_fuel h.setup fuel) b;
       past =
           Some (left_by
-          (record { number = 1; setup = with_input (with_fuel h.setup fuel) a; past = Some h; found = f }));
+          (record { number = 1; setup = with_input (with_fuel h.setup fuel) a; past = Some h; reach = reach; found = f }));
+      reach = reach;
       found = g;
     }
     ∷ []
-reruns-two h fuel a b f g = refl
+reruns-two h fuel reach a b f g = refl
 
 -- Where one thing was found so far, there is one round, whatever inputs are to come.
 pub rounds-one_of_two :
-    (s : Setup) (a b : List ℕ) (f : Found)
-    → rounds_after (from_scratch s) (a ∷ b ∷ []) (f ∷ [])
-    ≡ record { number = 0; setup = with_input s a; past = None; found = f } ∷ []
-rounds-one_of_two s a b f = refl
+    (s : Setup) (reach : Bool) (a b : List ℕ) (f : Found)
+    → rounds_after (from_scratch s reach) (a ∷ b ∷ []) (f ∷ [])
+    ≡ record { number = 0; setup = with_input s a; past = None; reach = reach; found = f } ∷ []
+rounds-one_of_two s reach a b f = refl
 
 -- The last of them leaves what round 2 does; and with no round the memo's history is left.
 pub left-two :
-    (h : History) (fuel : ℕ) (a b : List ℕ) (f g : Found)
-    → last_left (after_memo h fuel) (a ∷ b ∷ []) (f ∷ g ∷ [])
+    (h : History) (fuel : ℕ) (reach : Bool) (a b : List ℕ) (f g : Found)
+    → last_left (after_memo h fuel reach) (a ∷ b ∷ []) (f ∷ g ∷ [])
     ≡ left_by (record {
       number = 2;
       setup = with_input (with_fuel h.setup fuel) b;
       past =
           Some (left_by
-          (record { number = 1; setup = with_input (with_fuel h.setup fuel) a; past = Some h; found = f }));
+          (record { number = 1; setup = with_input (with_fuel h.setup fuel) a; past = Some h; reach = reach; found = f }));
+      reach = reach;
       found = g;
     })
-left-two h fuel a b f g = refl
+left-two h fuel reach a b f g = refl
 
-pub left-none : (h : History) (fuel : ℕ) (found : List Found) → last_left (after_memo h fuel) [] found ≡ h
-left-none h fuel found = refl
+pub left-none : (h : History) (fuel : ℕ) (reach : Bool) (found : List Found) → last_left (after_memo h fuel reach) [] found ≡ h
+left-none h fuel reach found = refl
 
 -- From scratch and with no round a history of no steps is left.
 pub left-scratch :
-    (s : Setup) (found : List Found) → last_left (from_scratch s) [] found ≡ record { setup = s; records = [] }
-left-scratch s found = refl
+    (s : Setup) (reach : Bool) (found : List Found) → last_left (from_scratch s reach) [] found ≡ record { setup = s; records = [] }
+left-scratch s reach found = refl
 
 -- The third round is without an edit, though the second isn't.
 pub repeated-third :
-    (s : Setup) (a b : List ℕ) (f g k : Found)
-    → IsRepeated (rounds_after (from_scratch s) (a ∷ b ∷ b ∷ []) (f ∷ g ∷ k ∷ []))
-    (round_on (after_round (from_scratch s) a f) b g)
-    (round_on (after_rounds (from_scratch s) (a ∷ b ∷ []) (f ∷ g ∷ [])) b k)
-repeated-third s a b f g k = record { place = 1; one = refl; next = refl; same = refl }
+    (s : Setup) (reach : Bool) (a b : List ℕ) (f g k : Found)
+    → IsRepeated (rounds_after (from_scratch s reach) (a ∷ b ∷ b ∷ []) (f ∷ g ∷ k ∷ []))
+    (round_on (after_round (from_scratch s reach) a f) b g)
+    (round_on (after_rounds (from_scratch s reach) (a ∷ b ∷ []) (f ∷ g ∷ [])) b k)
+repeated-third s reach a b f g k = record { place = 1; one = refl; next = refl; same = refl }
 
 -- A rerun with a list is on what the list makes alone, and one without is on the input itself.
 pub rerun-emptied : AreRerunInputs five (codes "size 0" ∷ []) ([] ∷ [])
@@ -161,10 +164,10 @@ rerun-unedited = refl
 
 -- A rerun with another fuel than the memo's isn't without an edit.
 pub rerun-fuel :
-    (h : History) (fuel : ℕ) (input : List ℕ) (f : Found) (r : Round)
-    → IsUneditedRerun h fuel (input ∷ []) (f ∷ []) r → fuel ≡ h.setup.fuel
-rerun-fuel h fuel input f r rerun =
-    ap (λ (q : Round). q.setup.fuel) (same_Some (round_on (after_memo h fuel) input f) r rerun.first)
+    (h : History) (fuel : ℕ) (reach : Bool) (input : List ℕ) (f : Found) (r : Round)
+    → IsUneditedRerun h fuel reach (input ∷ []) (f ∷ []) r → fuel ≡ h.setup.fuel
+rerun-fuel h fuel reach input f r rerun =
+    ap (λ (q : Round). q.setup.fuel) (same_Some (round_on (after_memo h fuel reach) input f) r rerun.first)
     ∙ rerun.same_fuel
 
 -- An exit with another code than 0 is an exit; no other end is one.

@@ -90,7 +90,7 @@ after-few b (input ∷ inputs) rest [] few = refl
 after-few b (input ∷ inputs) rest (f ∷ found) few =
     after-few (after_round b input f) inputs rest found (omega arith)
 
--- the number, setup and past of the round that comes next
+-- the number, setup, flag and past of the round that comes next
 pub number-later :
     (b : Beginning) (inputs : List (List ℕ)) (found : List Found)
     → (after_rounds b inputs found).number ≡ b.number + min (length inputs) (length found)
@@ -104,6 +104,12 @@ pub setup-later :
 setup-later b [] found = refl
 setup-later b (input ∷ inputs) [] = refl
 setup-later b (input ∷ inputs) (f ∷ found) = setup-later (after_round b input f) inputs found
+
+pub reach-later :
+    (b : Beginning) (inputs : List (List ℕ)) (found : List Found) → (after_rounds b inputs found).reach ≡ b.reach
+reach-later b [] found = refl
+reach-later b (input ∷ inputs) [] = refl
+reach-later b (input ∷ inputs) (f ∷ found) = reach-later (after_round b input f) inputs found
 
 -- after a round there is a history, which the last round left
 pub past-later :

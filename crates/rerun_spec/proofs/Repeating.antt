@@ -1,5 +1,5 @@
 -- A round on the input of the round before it, or on input and fuel of the memo that it goes by, reuses every step.
-use Rattle.std.proofs.Common.{◌≡◌, ◌≢◌, ℕ, suc, List, [], ◌∷◌, All, Option, Some, None, ap, sym, ◌∙◌, subst}
+use Rattle.std.proofs.Common.{◌≡◌, ◌≢◌, ℕ, suc, Bool, List, [], ◌∷◌, All, Option, Some, None, ap, sym, ◌∙◌, subst}
 use Rattle.std.proofs.lemmas.Option.{same_Some}
 use Rattle.machine_spec.specs.Setup.{Setup, first, scratch}
 use Rattle.history_spec.specs.History.{History, IsHonest, schedule_of}
@@ -60,10 +60,10 @@ repeated-after b inputs found workers before after can short made repeated =
 
 -- so does the first round of a rerun on the memo's input with its fuel
 rerun-round :
-    (h : History) (fuel : ℕ) (r : Round) (input : List ℕ) (f : Found)
-    → round_on (after_memo h fuel) input f ≡ r → r.setup.input ≡ h.setup.input → r.setup.fuel ≡ h.setup.fuel
+    (h : History) (fuel : ℕ) (reach : Bool) (r : Round) (input : List ℕ) (f : Found)
+    → round_on (after_memo h fuel reach) input f ≡ r → r.setup.input ≡ h.setup.input → r.setup.fuel ≡ h.setup.fuel
     → IsHonest h → IsAgain h r
-rerun-round h fuel r input f is same_input same_fuel honest =
+rerun-round h fuel reach r input f is same_input same_fuel honest =
     let made : with_input (with_fuel h.setup fuel) input ≡ r.setup = ap (λ (q : Round). q.setup) is in
     let asked : h.setup.fuel ≡ fuel = sym same_fuel ∙ sym (ap (λ (s : Setup). s.fuel) made) in
     let read : h.setup.input ≡ input = sym same_input ∙ sym (ap (λ (s : Setup). s.input) made) in
@@ -74,12 +74,12 @@ rerun-round h fuel r input f is same_input same_fuel honest =
     }
 
 pub rerun-again :
-    (h : History) (fuel : ℕ) (inputs : List (List ℕ)) (found : List Found) (r : Round)
-    → IsHonest h → IsUneditedRerun h fuel inputs found r → IsAgain h r
-rerun-again h fuel [] found r honest rerun = absurd (let no : None ≡ Some r = rerun.first in cc)
-rerun-again h fuel (input ∷ inputs) [] r honest rerun = absurd (let no : None ≡ Some r = rerun.first in cc)
-rerun-again h fuel (input ∷ inputs) (f ∷ found) r honest rerun =
-    rerun-round h fuel r input f (same_Some (round_on (after_memo h fuel) input f) r rerun.first) rerun.same_input
+    (h : History) (fuel : ℕ) (reach : Bool) (inputs : List (List ℕ)) (found : List Found) (r : Round)
+    → IsHonest h → IsUneditedRerun h fuel reach inputs found r → IsAgain h r
+rerun-again h fuel reach [] found r honest rerun = absurd (let no : None ≡ Some r = rerun.first in cc)
+rerun-again h fuel reach (input ∷ inputs) [] r honest rerun = absurd (let no : None ≡ Some r = rerun.first in cc)
+rerun-again h fuel reach (input ∷ inputs) (f ∷ found) r honest rerun =
+    rerun-round h fuel reach r input f (same_Some (round_on (after_memo h fuel reach) input f) r rerun.first) rerun.same_input
     rerun.same_fuel honest
 
 -- what holds of the history's own setup holds of the round

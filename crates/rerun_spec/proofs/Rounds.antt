@@ -1,5 +1,5 @@
 -- Each round of a beginning that workers make may be made, and follows the one before it.
-use Rattle.std.proofs.Common.{◌≡◌, ◌≢◌, ◌≤◌, ◌+◌, ◌-◌, ℕ, zero, suc, min, true, List, [], ◌∷◌, length, map, take, sum, replicate, slice_get, slice_index_or, fold, All, Option, Some, None, is_some, refl, ap, sym, ◌∙◌, subst, arith}
+use Rattle.std.proofs.Common.{◌≡◌, ◌≢◌, ◌≤◌, ◌+◌, ◌-◌, ℕ, zero, suc, min, Bool, true, List, [], ◌∷◌, length, map, take, sum, replicate, slice_get, slice_index_or, fold, All, Option, Some, None, is_some, refl, ap, sym, ◌∙◌, subst, arith}
 use Rattle.std.specs.List.{AllByRecursion, range_with_len}
 use Rattle.std.proofs.lemmas.Option.{same_Some}
 use Rattle.std.proofs.lemmas.List.{length-replicate}
@@ -18,7 +18,7 @@ use Rattle.worker_spec.proofs.Lone.{rounds-made}
 use Rattle.worker_spec.proofs.Workers.{lone-made, workers-round, workers-permitted, workers-complete, workers-marks, workers-honest, workers-alone}
 use Rattle.worker_spec.proofs.Cost.{rounds-cost}
 use Rattle.rerun_spec.specs.Inputs.{AreInputs, AreShort}
-use Rattle.rerun_spec.specs.Rounds.{with_input, with_fuel, Found, Round, made, IsMade, left_by, Beginning, from_scratch, after_memo, CanBegin, round_on, after_round, rounds_after, after_rounds, last_left, schedule_in, entries_of, machine_of}
+use Rattle.rerun_spec.specs.Rounds.{with_input, with_fuel, Found, Round, made, IsMade, IsPickedRightly, left_by, Beginning, from_scratch, after_memo, CanBegin, round_on, after_round, rounds_after, after_rounds, last_left, schedule_in, entries_of, machine_of}
 
 -- a round that its workers made by a history that its setup can go by
 pub record IsSoundlyMade (workers : ℕ) (r : Round) : Type 0 where
@@ -154,12 +154,13 @@ with-limits s fuel valid limits =
     }
 
 -- what a beginning from scratch, and one after a memo, need
-pub scratch-begins : (s : Setup) → IsSetup s → CanBegin (from_scratch s)
-scratch-begins s valid = record { valid = valid; sound = tt }
+pub scratch-begins : (s : Setup) (reach : Bool) → IsSetup s → CanBegin (from_scratch s reach)
+scratch-begins s reach valid = record { valid = valid; sound = tt }
 
 pub memo-begins :
-    (h : History) (fuel : ℕ) → IsHonest h → AreLimits fuel h.setup.limit → CanBegin (after_memo h fuel)
-memo-begins h fuel honest limits =
+    (h : History) (fuel : ℕ) (reach : Bool) → IsHonest h → AreLimits fuel h.setup.limit
+    → CanBegin (after_memo h fuel reach)
+memo-begins h fuel reach honest limits =
     record {
       valid = with-limits h.setup fuel honest.valid limits;
       sound = (honest, record { elf = refl; limit = refl });
@@ -209,6 +210,9 @@ round-entries workers r is = ap (λ (w : RoundState). w.schedule) (round-made wo
 
 pub round-found : (workers : ℕ) (r : Round) → IsSoundlyMade workers r → r.found.entries ≡ entries_of r
 round-found workers r is = workers-marks workers r.setup r.past r.found.entries r.found.shares is.can is.made
+
+pub round-picked : (workers : ℕ) (r : Round) → IsSoundlyMade workers r → IsPickedRightly r
+round-picked workers r is = is.made.picked is.can.sound
 
 pub round-machine :
     (workers : ℕ) (r : Round) → IsSoundlyMade workers r
@@ -310,7 +314,7 @@ some-made b inputs workers valid short some =
     let is = some-after b inputs workers valid (each-short inputs short) some in
     (is.0, is.1, All-from_recursion (IsMade workers) (rounds_after b inputs is.0) is.2)
 
--- numbers, setups and what was found
+-- numbers, setups, what was found, and whether reach is told
 pub numbers-after :
     (b : Beginning) (inputs : List (List ℕ)) (found : List Found)
     → map (λ (r : Round). r.number) (rounds_after b inputs found)
@@ -339,6 +343,19 @@ founds-after b [] found = refl
 founds-after b (input ∷ inputs) [] = refl
 founds-after b (input ∷ inputs) (f ∷ found) =
     ap (λ (fs : List Found). f ∷ fs) (founds-after (after_round b input f) inputs found)
+
+reach-each :
+    (b : Beginning) (inputs : List (List ℕ)) (found : List Found)
+    → AllByRecursion (λ (r : Round). r.reach ≡ b.reach) (rounds_after b inputs found)
+reach-each b [] found = tt
+reach-each b (input ∷ inputs) [] = tt
+reach-each b (input ∷ inputs) (f ∷ found) = (refl, reach-each (after_round b input f) inputs found)
+
+pub reach-after :
+    (b : Beginning) (inputs : List (List ℕ)) (found : List Found)
+    → All (λ (r : Round). r.reach ≡ b.reach) (rounds_after b inputs found)
+reach-after b inputs found =
+    All-from_recursion (λ (r : Round). r.reach ≡ b.reach) (rounds_after b inputs found) (reach-each b inputs found)
 
 pub count-after :
     (b : Beginning) (inputs : List (List ℕ)) (found : List Found)

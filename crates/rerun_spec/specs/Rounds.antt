@@ -1,6 +1,6 @@
 -- The rounds of a line on some inputs, one after the other, from scratch or by a history that was read, each by the
 -- schedule that its workers found.
-use Rattle.std.specs.Prelude.{ℕ, suc, ◌+◌, ◌≡◌, List, [], ◌∷◌, slice_get, Option, Some, None, unwrap_or, ⊤}
+use Rattle.std.specs.Prelude.{ℕ, suc, ◌+◌, ◌≡◌, Bool, List, [], ◌∷◌, slice_get, Option, Some, None, unwrap_or, ⊤}
 use Rattle.machine_spec.specs.Machine.{Machine}
 use Rattle.machine_spec.specs.Setup.{Setup, scratch}
 use Rattle.history_spec.specs.History.{History, IsSameProgram, CanGoBy}
@@ -9,6 +9,7 @@ use Rattle.report_spec.specs.Report.{threads_of}
 use Rattle.round_spec.specs.Marks.{marked}
 use Rattle.round_spec.specs.Rounds.{RoundState, history_of}
 use Rattle.round_spec.specs.Schedules.{round_by}
+use Rattle.round_spec.specs.Picking.{ArePicked}
 use Rattle.worker_spec.specs.Workers.{IsMadeBy}
 
 -- A setup with another input: the same executable, fuel and limit.
@@ -24,11 +25,13 @@ pub record Found : Type 0 where
   pub entries : List Entry
   pub shares : List ℕ
 
--- A round: its number, what it starts from, the history that it goes by, if there is one, and what its workers found.
+-- A round: its number, what it starts from, the history that it goes by, if there is one, whether its report tells how
+-- many steps of that are reached, and what its workers found.
 pub record Round : Type 0 where
   pub number : ℕ
   pub setup : Setup
   pub past : Option History
+  pub reach : Bool
   pub found : Found
 
 -- A round as it was made, entry by entry of the schedule that its workers found.
@@ -39,25 +42,30 @@ made r = round_by r.setup r.past r.found.entries
 abbrev pub IsMade : ℕ → Round → Type 0
 IsMade workers r = IsMadeBy workers r.setup r.past r.found.entries r.found.shares
 
+-- Each entry of a round was picked rightly, when there were as many entries as the point of it says.
+abbrev pub IsPickedRightly : Round → Type 0
+IsPickedRightly r = (points : List ℕ) × ArePicked r.setup r.past r.found.entries points
+
 -- What a round leaves to the next one.
 abbrev pub left_by : Round → History
 left_by r = history_of (made r)
 
--- What rounds begin with: the number of the first, the history that it goes by, if there is one, and the setup whose
--- program all of them run, each on its own input.
+-- What rounds begin with: the number of the first, the history that it goes by, if there is one, the setup whose
+-- program all of them run, each on its own input, and whether their reports tell what is reached.
 pub record Beginning : Type 0 where
   pub number : ℕ
   pub past : Option History
   pub setup : Setup
+  pub reach : Bool
 
 -- From scratch: round 0 goes by no history.
-abbrev pub from_scratch : Setup → Beginning
-from_scratch setup = record { number = 0; past = None; setup = setup }
+abbrev pub from_scratch : Setup → Bool → Beginning
+from_scratch setup reach = record { number = 0; past = None; setup = setup; reach = reach }
 
 -- After a memo, which holds a round by its history: round 1 goes by this history, and the program is its own; the fuel
 -- is the one that is asked for.
-abbrev pub after_memo : History → ℕ → Beginning
-after_memo h fuel = record { number = 1; past = Some h; setup = with_fuel h.setup fuel }
+abbrev pub after_memo : History → ℕ → Bool → Beginning
+after_memo h fuel reach = record { number = 1; past = Some h; setup = with_fuel h.setup fuel; reach = reach }
 
 -- A beginning of which rounds may be made: its setup can go by its history.
 abbrev pub CanBegin : Beginning → Type 0
@@ -71,12 +79,12 @@ IsOfProgram (Some h) setup = IsSameProgram h.setup setup
 -- The first round of a beginning, on an input, by what its workers found.
 abbrev pub round_on : Beginning → List ℕ → Found → Round
 round_on b input found =
-    record { number = b.number; setup = with_input b.setup input; past = b.past; found = found }
+    record { number = b.number; setup = with_input b.setup input; past = b.past; reach = b.reach; found = found }
 
 -- What the rounds after the first begin with: the next number, and what the first leaves.
 abbrev pub after_round : Beginning → List ℕ → Found → Beginning
 after_round b input found =
-    record { number = b.number + 1; past = Some (left_by (round_on b input found)); setup = b.setup }
+    record { number = b.number + 1; past = Some (left_by (round_on b input found)); setup = b.setup; reach = b.reach }
 
 -- The rounds on the first of some inputs, one for each thing that was found, in order: the first goes by the history of
 -- the beginning, if there is one, and each other by what the round before it leaves.
@@ -119,8 +127,8 @@ pub record IsRepeated (rounds : List Round) (before after : Round) : Type 0 wher
   pub same : after.setup.input ≡ before.setup.input
 
 -- Of rounds that go by a memo, the first, without an edit: its input and its fuel are those of the memo's round.
-pub record IsUneditedRerun (h : History) (fuel : ℕ) (inputs : List (List ℕ)) (found : List Found)
+pub record IsUneditedRerun (h : History) (fuel : ℕ) (reach : Bool) (inputs : List (List ℕ)) (found : List Found)
     (r : Round) : Type 0 where
-  pub first : slice_get (rounds_after (after_memo h fuel) inputs found) 0 ≡ Some r
+  pub first : slice_get (rounds_after (after_memo h fuel reach) inputs found) 0 ≡ Some r
   pub same_input : r.setup.input ≡ h.setup.input
   pub same_fuel : r.setup.fuel ≡ h.setup.fuel

@@ -6,7 +6,7 @@
 //! that follows the choice. No code.
 #![tactic(auto)]
 
-ghost use Rattle.std.specs.Prelude.{◌≡◌, ◌≢◌, ◌≤◌, ◌<◌, ◌+◌, ℕ, suc, min, max, true, ◌&&◌, List, [], ◌∷◌, ◌++◌, All, length, map, take, drop, sum, slice_get, Option, Some, None, is_some, ◌⊎◌};
+ghost use Rattle.std.specs.Prelude.{◌≡◌, ◌≢◌, ◌≤◌, ◌<◌, ◌+◌, ℕ, suc, min, max, Bool, true, ◌&&◌, List, [], ◌∷◌, ◌++◌, All, length, map, take, drop, sum, slice_get, Option, Some, None, is_some, ◌⊎◌};
 ghost use Rattle.std.specs.List.{range_with_len};
 ghost use Rattle.edit_spec.specs.Editing.{longest_input};
 ghost use Rattle.machine_spec.specs.Limits.{AreLimits};
@@ -23,9 +23,10 @@ ghost use Rattle.round_spec.specs.Instructions.{executed_instructions};
 ghost use Rattle.round_spec.specs.Keeping.{IsCounted};
 ghost use Rattle.round_spec.specs.Unedited.{OnlyReuses};
 ghost use Rattle.worker_spec.specs.OneWorker.{executed_in};
+ghost use Rattle.reach_spec.specs.Working.{ReexecutesLeast};
 ghost use Rattle.rerun_spec.specs.Inputs.{Makes, AreInputs, AreRerunInputs, AreShort, Refusal, Refuses, IsFirstRefused};
-ghost use Rattle.rerun_spec.specs.Rounds.{Found, Round, Beginning, with_input, with_fuel, made, IsMade, left_by, from_scratch, after_memo, CanBegin, round_on, after_round, rounds_after, after_rounds, IsOfProgram, last_left, schedule_in, entries_of, machine_of, IsRepeated, IsUneditedRerun};
-ghost use Rattle.rerun_spec.specs.Reports.{all_executed, report_of, reports_of, is_exit, exits, all_exit, made_report, made_reports, made_exits, all_made_exit};
+ghost use Rattle.rerun_spec.specs.Rounds.{Found, Round, Beginning, with_input, with_fuel, made, IsMade, IsPickedRightly, left_by, from_scratch, after_memo, CanBegin, round_on, after_round, rounds_after, after_rounds, IsOfProgram, last_left, schedule_in, entries_of, machine_of, IsRepeated, IsUneditedRerun};
+ghost use Rattle.rerun_spec.specs.Reports.{all_executed, told_reach, reach_in, report_of, reports_of, is_exit, exits, all_exit, made_report, made_reports, made_exits, all_made_exit};
 
 /// For each first input and lists of edits either the inputs of the rounds are there, or a list is the
 /// first that is refused; never both; and there is one answer. The place of the refused list is one of
@@ -119,7 +120,7 @@ pub fn rerun_inputs_fit_their_lists()
 /// There is a round for each thing that was found, as far as there are inputs. The rounds are numbered from the
 /// beginning's number on; each is of the same program, on its own input, by what was found of it, and the first is of
 /// the setup itself where the inputs start with its own; the first goes by the beginning's history, which is none from
-/// scratch, and each other round by what the one before it leaves.
+/// scratch, and each other round by what the one before it leaves. The reports of all tell what is reached, or none does.
 pub fn rounds_follow_each_other()
     ensures numbers { (b : Beginning) (inputs : List (List ℕ)) (found : List Found)
         → map (λ (r : Round). r.number) (rounds_after b inputs found)
@@ -129,6 +130,8 @@ pub fn rounds_follow_each_other()
         ≡ map (with_input b.setup) (take (length found) inputs) }
     ensures found { (b : Beginning) (inputs : List (List ℕ)) (found : List Found)
         → map (λ (r : Round). r.found) (rounds_after b inputs found) ≡ take (length inputs) found }
+    ensures reach { (b : Beginning) (inputs : List (List ℕ)) (found : List Found)
+        → All (λ (r : Round). r.reach ≡ b.reach) (rounds_after b inputs found) }
     ensures at { (b : Beginning) (inputs : List (List ℕ)) (found : List Found) (place : ℕ) (input : List ℕ) (f : Found)
         → slice_get inputs place ≡ Some input
         → slice_get found place ≡ Some f
@@ -141,8 +144,8 @@ pub fn rounds_follow_each_other()
     ensures past { (b : Beginning) (inputs : List (List ℕ)) (found : List Found) (r : Round)
         → slice_get (rounds_after b inputs found) 0 ≡ Some r
         → r.past ≡ b.past }
-    ensures none { (setup : Setup) (inputs : List (List ℕ)) (found : List Found) (r : Round)
-        → slice_get (rounds_after (from_scratch setup) inputs found) 0 ≡ Some r
+    ensures none { (setup : Setup) (reach : Bool) (inputs : List (List ℕ)) (found : List Found) (r : Round)
+        → slice_get (rounds_after (from_scratch setup reach) inputs found) 0 ≡ Some r
         → r.past ≡ None }
     ensures left { (b : Beginning) (inputs : List (List ℕ)) (found : List Found) (place : ℕ) (before after : Round)
         → slice_get (rounds_after b inputs found) place ≡ Some before
@@ -180,6 +183,8 @@ pub fn rounds_go_on()
         → (after_rounds b inputs found).number ≡ b.number + min (length inputs) (length found) }
     ensures setup { (b : Beginning) (inputs : List (List ℕ)) (found : List Found)
         → (after_rounds b inputs found).setup ≡ b.setup }
+    ensures reach { (b : Beginning) (inputs : List (List ℕ)) (found : List Found)
+        → (after_rounds b inputs found).reach ≡ b.reach }
     ensures past { (b : Beginning) (inputs : List (List ℕ)) (found : List Found)
         → inputs ≢ []
         → found ≢ []
@@ -247,11 +252,11 @@ pub fn each_round_comes_to_an_end()
 /// a round that goes by a sound history holds of it. What it leaves is honest. However many workers there are, one or
 /// more, they can make a round of each input.
 pub fn each_round_may_be_made()
-    ensures scratch { (setup : Setup) → IsSetup setup → CanBegin (from_scratch setup) }
-    ensures memo { (h : History) (fuel : ℕ)
+    ensures scratch { (setup : Setup) (reach : Bool) → IsSetup setup → CanBegin (from_scratch setup reach) }
+    ensures memo { (h : History) (fuel : ℕ) (reach : Bool)
         → IsHonest h
         → AreLimits fuel h.setup.limit
-        → CanBegin (after_memo h fuel) }
+        → CanBegin (after_memo h fuel reach) }
     ensures sound { (b : Beginning) (inputs : List (List ℕ)) (found : List Found) (workers : ℕ)
         → CanBegin b
         → AreShort inputs
@@ -281,10 +286,11 @@ pub fn each_round_may_be_made()
         → (found : List Found) × (length found ≡ length inputs) × All (IsMade workers) (rounds_after b inputs found) }
 {}
 
-/// Each round, as its workers make it, is what its report tells: its entries, which they found, have exact marks, and
-/// their threads are the schedule, which is permitted and complete; its machine is the one from scratch under
-/// it, and has an end; its records are the machine's, entry by entry; and what was executed is what the
-/// report says. One worker makes the round that follows the choice, and executes, pick by pick, what its report says.
+/// Each round, as its workers make it, is what its report tells: its entries, which they found, have exact marks and
+/// were picked rightly, and their threads are the schedule, which is permitted and complete; its machine is the
+/// one from scratch under it, and has an end; its records are the machine's, entry by entry; and what was executed is
+/// what the report says. One worker makes the round that follows the choice, and executes, pick by pick, what its
+/// report says.
 pub fn each_round_is_from_scratch()
     ensures threads { (r : Round) → threads_of (entries_of r) ≡ schedule_in r }
     ensures permitted { (b : Beginning) (inputs : List (List ℕ)) (found : List Found) (workers : ℕ)
@@ -313,6 +319,11 @@ pub fn each_round_is_from_scratch()
         → All (IsMade workers) (rounds_after b inputs found)
         → All (λ (r : Round). r.found.entries ≡ marked r.past r.setup (threads_of r.found.entries))
         (rounds_after b inputs found) }
+    ensures picked { (b : Beginning) (inputs : List (List ℕ)) (found : List Found) (workers : ℕ)
+        → CanBegin b
+        → AreShort inputs
+        → All (IsMade workers) (rounds_after b inputs found)
+        → All IsPickedRightly (rounds_after b inputs found) }
     ensures machine { (b : Beginning) (inputs : List (List ℕ)) (found : List Found) (workers : ℕ)
         → CanBegin b
         → AreShort inputs
@@ -341,7 +352,7 @@ pub fn each_round_is_from_scratch()
         → CanBegin b
         → AreShort inputs
         → All (IsMade workers) (rounds_after b inputs found)
-        → All (λ r. report_of r ≡ report r.number r.setup (made r).schedule r.found.shares)
+        → All (λ r. report_of r ≡ report r.number r.setup (made r).schedule (reach_in r) r.found.shares)
         (rounds_after b inputs found) }
     ensures exit { (b : Beginning) (inputs : List (List ℕ)) (found : List Found) (workers : ℕ)
         → CanBegin b
@@ -363,6 +374,15 @@ pub fn each_round_is_from_scratch()
         → All (λ (r : Round).
         executed_in r.setup.limit (opening r.setup r.past) ≡ instructions_from (first r.setup) (entries_of r))
         (rounds_after b inputs found) }
+{}
+
+/// Each round that workers make, by whatever history, executes again no more than it must.
+pub fn each_round_reexecutes_the_least()
+    ensures { (b : Beginning) (inputs : List (List ℕ)) (found : List Found) (workers : ℕ)
+        → IsSetup b.setup
+        → AreShort inputs
+        → All (IsMade workers) (rounds_after b inputs found)
+        → All (λ r. ReexecutesLeast (made r)) (rounds_after b inputs found) }
 {}
 
 /// What is told of a round as it was made, and whether it ended by exit, is what its report says and whether it
@@ -440,33 +460,37 @@ pub fn repeated_round_executes_nothing()
 /// is discarded; and schedule and machine (so its end, output and final memory) are those of the memo's round. One
 /// worker would pick no step to be executed.
 pub fn unedited_rerun_executes_nothing()
-    ensures reuses { (h : History) (fuel : ℕ) (inputs : List (List ℕ)) (found : List Found) (workers : ℕ) (r : Round)
+    ensures reuses { (h : History) (fuel : ℕ) (reach : Bool) (inputs : List (List ℕ)) (found : List Found)
+        (workers : ℕ) (r : Round)
         → IsHonest h
-        → IsUneditedRerun h fuel inputs found r
+        → IsUneditedRerun h fuel reach inputs found r
         → IsMade workers r
         → OnlyReuses h (made r) }
-    ensures schedule { (h : History) (fuel : ℕ) (inputs : List (List ℕ)) (found : List Found) (workers : ℕ) (r : Round)
+    ensures schedule { (h : History) (fuel : ℕ) (reach : Bool) (inputs : List (List ℕ)) (found : List Found)
+        (workers : ℕ) (r : Round)
         → IsHonest h
-        → IsUneditedRerun h fuel inputs found r
+        → IsUneditedRerun h fuel reach inputs found r
         → IsMade workers r
         → schedule_in r ≡ schedule_of h }
-    ensures never_runs { (h : History) (fuel : ℕ) (inputs : List (List ℕ)) (found : List Found) (r : Round) (n t : ℕ)
+    ensures never_runs { (h : History) (fuel : ℕ) (reach : Bool) (inputs : List (List ℕ)) (found : List Found)
+        (r : Round) (n t : ℕ)
         → IsHonest h
-        → IsUneditedRerun h fuel inputs found r
+        → IsUneditedRerun h fuel reach inputs found r
         → pick_of (after_picks n (opening r.setup r.past)) ≢ pick.Run t }
-    ensures executed { (h : History) (fuel : ℕ) (inputs : List (List ℕ)) (found : List Found) (r : Round)
+    ensures executed { (h : History) (fuel : ℕ) (reach : Bool) (inputs : List (List ℕ)) (found : List Found) (r : Round)
         → IsHonest h
-        → IsUneditedRerun h fuel inputs found r
+        → IsUneditedRerun h fuel reach inputs found r
         → executed_in r.setup.limit (opening r.setup r.past) ≡ 0 }
-    ensures instructions { (h : History) (fuel : ℕ) (inputs : List (List ℕ)) (found : List Found) (workers : ℕ)
-        (r : Round)
+    ensures instructions { (h : History) (fuel : ℕ) (reach : Bool) (inputs : List (List ℕ)) (found : List Found)
+        (workers : ℕ) (r : Round)
         → IsHonest h
-        → IsUneditedRerun h fuel inputs found r
+        → IsUneditedRerun h fuel reach inputs found r
         → IsMade workers r
         → instructions_from (first r.setup) (entries_of r) ≡ 0 }
-    ensures machine { (h : History) (fuel : ℕ) (inputs : List (List ℕ)) (found : List Found) (workers : ℕ) (r : Round)
+    ensures machine { (h : History) (fuel : ℕ) (reach : Bool) (inputs : List (List ℕ)) (found : List Found)
+        (workers : ℕ) (r : Round)
         → IsHonest h
-        → IsUneditedRerun h fuel inputs found r
+        → IsUneditedRerun h fuel reach inputs found r
         → IsMade workers r
         → machine_of r ≡ scratch h.setup (schedule_of h) }
 {}
@@ -477,33 +501,34 @@ pub fn unedited_rerun_executes_nothing()
 /// edit.
 pub fn no_edit_list_is_one_round()
     ensures marks { (setup : Setup) (schedule : List ℕ) → marked None setup schedule ≡ all_executed schedule }
-    ensures reports { (setup : Setup) (inputs : List (List ℕ)) (f : Found)
+    ensures reports { (setup : Setup) (reach : Bool) (inputs : List (List ℕ)) (f : Found)
         → AreInputs setup.input [] inputs
-        → reports_of (rounds_after (from_scratch setup) inputs (f ∷ []))
-        ≡ report 0 setup (all_executed (threads_of f.entries)) f.shares ∷ [] }
-    ensures exits { (setup : Setup) (inputs : List (List ℕ)) (f : Found)
+        → reports_of (rounds_after (from_scratch setup reach) inputs (f ∷ []))
+        ≡ report 0 setup (all_executed (threads_of f.entries)) (told_reach reach None setup) f.shares ∷ [] }
+    ensures exits { (setup : Setup) (reach : Bool) (inputs : List (List ℕ)) (f : Found)
         → AreInputs setup.input [] inputs
-        → all_exit (rounds_after (from_scratch setup) inputs (f ∷ []))
+        → all_exit (rounds_after (from_scratch setup reach) inputs (f ∷ []))
         ≡ is_exit (scratch setup (threads_of f.entries)).ending }
-    ensures alone { (setup : Setup) (inputs : List (List ℕ)) (f : Found)
+    ensures alone { (setup : Setup) (reach : Bool) (inputs : List (List ℕ)) (f : Found)
         → IsSetup setup
         → AreInputs setup.input [] inputs
-        → All (IsMade 1) (rounds_after (from_scratch setup) inputs (f ∷ []))
-        → reports_of (rounds_after (from_scratch setup) inputs (f ∷ []))
-        ≡ report 0 setup (all_executed (alone setup)) (length (alone setup) ∷ []) ∷ [] }
-    ensures alone_exits { (setup : Setup) (inputs : List (List ℕ)) (f : Found)
+        → All (IsMade 1) (rounds_after (from_scratch setup reach) inputs (f ∷ []))
+        → reports_of (rounds_after (from_scratch setup reach) inputs (f ∷ []))
+        ≡ report 0 setup (all_executed (alone setup)) (told_reach reach None setup) (length (alone setup) ∷ []) ∷ [] }
+    ensures alone_exits { (setup : Setup) (reach : Bool) (inputs : List (List ℕ)) (f : Found)
         → IsSetup setup
         → AreInputs setup.input [] inputs
-        → All (IsMade 1) (rounds_after (from_scratch setup) inputs (f ∷ []))
-        → all_exit (rounds_after (from_scratch setup) inputs (f ∷ [])) ≡ is_exit (scratch setup (alone setup)).ending }
-    ensures rerun { (h : History) (fuel : ℕ) (inputs : List (List ℕ)) (f : Found)
+        → All (IsMade 1) (rounds_after (from_scratch setup reach) inputs (f ∷ []))
+        → all_exit (rounds_after (from_scratch setup reach) inputs (f ∷ []))
+        ≡ is_exit (scratch setup (alone setup)).ending }
+    ensures rerun { (h : History) (fuel : ℕ) (reach : Bool) (inputs : List (List ℕ)) (f : Found)
         → AreRerunInputs h.setup.input [] inputs
-        → rounds_after (after_memo h fuel) inputs (f ∷ [])
-        ≡ record { number = 1; setup = with_fuel h.setup fuel; past = Some h; found = f } ∷ [] }
-    ensures unedited { (h : History) (inputs : List (List ℕ)) (f : Found)
+        → rounds_after (after_memo h fuel reach) inputs (f ∷ [])
+        ≡ record { number = 1; setup = with_fuel h.setup fuel; past = Some h; reach = reach; found = f } ∷ [] }
+    ensures unedited { (h : History) (reach : Bool) (inputs : List (List ℕ)) (f : Found)
         → AreRerunInputs h.setup.input [] inputs
-        → IsUneditedRerun h h.setup.fuel inputs (f ∷ [])
-        (record { number = 1; setup = h.setup; past = Some h; found = f }) }
+        → IsUneditedRerun h h.setup.fuel reach inputs (f ∷ [])
+        (record { number = 1; setup = h.setup; past = Some h; reach = reach; found = f }) }
 {}
 
 /// There is a report for each round, and so for each input of which something was found; and the shares in the report

@@ -21,7 +21,11 @@ pub fn end_line(alloc: Global, ending: Option<End>, into: &mut Vec<u8>) -> Resul
 }
 
 /// Appends the end in words, where there is one.
-fn append_ending(alloc: Global, ending: Option<End>, into: &mut Vec<u8>) -> Result<(), AllocError>
+pub fn append_ending(
+    alloc: Global,
+    ending: Option<End>,
+    into: &mut Vec<u8>,
+) -> Result<(), AllocError>
     ensures { OnOk result (into.new.items ≡ into.old.items ++ ending_text ending) }
 {
     match ending {

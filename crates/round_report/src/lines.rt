@@ -3,8 +3,9 @@
 //! Where memory is wanting, a part of the line may stand there: the text is then thrown away.
 
 ghost use Rattle.std.specs.Prelude.{◌≡◌, [], ◌∷◌, ◌++◌, codes, OnOk, decimal};
+ghost use Rattle.std.specs.List.{concat};
 ghost use Rattle.report_spec.specs.Text.{space, line, list_line};
-ghost use Rattle.report_spec.specs.Report.{entry_text, reused_count, executed_count};
+ghost use Rattle.report_spec.specs.Report.{entry_text, reused_count, executed_count, reached_lines};
 ghost use Rattle.round_report.specs.Parts.{counts_part};
 
 use ith_text::decimal;
@@ -46,6 +47,20 @@ pub fn count_lines(alloc: Global, schedule: &[Entry], into: &mut Vec<u8>) -> Res
     number_line(alloc, "reused", reused_entries(schedule) as u64, into)?;
     number_line(alloc, "executed", executed_entries(schedule) as u64, into)?;
     Ok(())
+}
+
+/// Appends the line that tells how many old steps are reached, where that is told.
+pub fn reached_line(
+    alloc: Global,
+    reached: Option<u32>,
+    into: &mut Vec<u8>,
+) -> Result<(), AllocError>
+    ensures { OnOk result (into.new.items ≡ into.old.items ++ concat (reached_lines reached)) }
+{
+    match reached {
+        Some(steps) => number_line(alloc, "reached", u64::from(steps), into),
+        None => Ok(()),
+    }
 }
 
 /// How many entries were reused.

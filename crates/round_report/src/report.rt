@@ -6,7 +6,7 @@ ghost use Rattle.round_report.specs.Parts.{steps_part, work_part, outcome_part};
 
 use super::digest::{Digested, memory_line};
 use super::ending::end_line;
-use super::lines::{count_lines, number_line, schedule_line, shares_line};
+use super::lines::{count_lines, number_line, reached_line, schedule_line, shares_line};
 use super::told::Told;
 use std::alloc::{AllocError, Global};
 
@@ -55,12 +55,13 @@ fn text_with(
     Ok(text)
 }
 
-/// Appends the end, and how many steps there were.
+/// Appends the end, how many steps there were, and how many old ones are reached.
 fn append_steps(alloc: Global, told: &Told<'_>, into: &mut Vec<u8>) -> Result<(), AllocError>
     ensures { OnOk result (into.new.items ≡ into.old.items ++ steps_part told.now) }
 {
     end_line(alloc, told.ending, into)?;
-    count_lines(alloc, told.schedule, into)
+    count_lines(alloc, told.schedule, into)?;
+    reached_line(alloc, told.reached, into)
 }
 
 /// Appends the instructions, the shares and the schedule.
@@ -73,7 +74,7 @@ fn append_work(alloc: Global, told: &Told<'_>, into: &mut Vec<u8>) -> Result<(),
 }
 
 /// Appends the memory's digest, the output's length, its bytes, and a line's end.
-fn append_outcome(
+pub(super) fn append_outcome(
     alloc: Global,
     told: &Told<'_>,
     digested: &Digested,

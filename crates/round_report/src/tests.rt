@@ -41,6 +41,7 @@ fn report_of_hi(rt: HostRuntime) -> Result<(), Fail> {
     let told = Told {
         ending: Some(End::Exit(0)),
         schedule: &[executed, executed],
+        reached: None,
         instructions: 8,
         shares: &[2],
         memory: &memory,
@@ -64,5 +65,25 @@ hi
 ";
     assert_eq!(rt; report.as_slice(), expected.as_bytes());
     assert_eq!(rt; again.as_slice(), expected.as_bytes());
+    let told = Told {
+        reached: Some(5),
+        ..told
+    };
+    let with_reach = text(alloc, 0, &told, &mut digested)?;
+    let expected = "round 0
+end exit 0
+steps 2
+reused 0
+executed 2
+reached 5
+instructions 8
+by 2
+schedule 0+ 0+
+memory e067f7df6c32cd794e71b125b718964257c850acbbafd68793e5e4808bcb3984
+output 3
+hi
+
+";
+    assert_eq!(rt; with_reach.as_slice(), expected.as_bytes());
     Ok(())
 }

@@ -12,6 +12,8 @@ pub struct Told<'a> {
     pub ending: Option<End>,
     /// The round's steps in order, each with its mark.
     pub schedule: &'a [Entry],
+    /// How many steps of the history that the round goes by are reached, where that is told.
+    pub reached: Option<u32>,
     /// How many instructions the executed steps made.
     pub instructions: u64,
     /// How many steps each worker made, in the workers' order.
@@ -30,6 +32,7 @@ impl<'a> Model for Told<'a> {
     ghost view = { λ t. record {
       ending = t.ending;
       schedule = t.schedule.now;
+      reached = t.reached;
       instructions = t.instructions;
       shares = t.shares.now;
       memory = t.memory.now;

@@ -7,9 +7,9 @@ use Rattle.round_spec.specs.Rounds.{opening}
 use Rattle.round_spec.specs.Alone.{one_worker}
 use Rattle.round_spec.specs.Instructions.{executed_instructions}
 use Rattle.worker_spec.specs.OneWorker.{executed_in}
-use Rattle.rerun_spec.specs.Rounds.{Round, made, rounds_after, entries_of, schedule_in, machine_of}
-use Rattle.rerun_spec.proofs.Rounds.{each-holds, alone-holds, round-threads, round-permitted, round-complete, round-entries, round-found, round-machine, round-records, round-ends, round-lone, round-alone, round-cost}
-use Rattle.rerun_spec.specs.Reports.{report_of, is_exit, exits}
+use Rattle.rerun_spec.specs.Rounds.{Round, made, IsPickedRightly, rounds_after, entries_of, schedule_in, machine_of}
+use Rattle.rerun_spec.proofs.Rounds.{each-holds, alone-holds, round-threads, round-permitted, round-complete, round-entries, round-found, round-picked, round-machine, round-records, round-ends, round-lone, round-alone, round-cost}
+use Rattle.rerun_spec.specs.Reports.{reach_in, report_of, is_exit, exits}
 use Rattle.rerun_spec.proofs.Reports.{round-instructions, report-entries, exit-made}
 use Rattle.rerun_spec.proofs.each_round_is_from_scratch.Goals as goal
 
@@ -30,6 +30,9 @@ returns-clause-found c = each-holds (λ (r : Round). r.found.entries ≡ entries
 pub returns-clause-marks : goal.returns-clause-marks
 returns-clause-marks c =
     each-holds (λ (r : Round). r.found.entries ≡ marked r.past r.setup (threads_of r.found.entries)) round-found
+
+pub returns-clause-picked : goal.returns-clause-picked
+returns-clause-picked c = each-holds IsPickedRightly round-picked
 
 pub returns-clause-machine : goal.returns-clause-machine
 returns-clause-machine c =
@@ -52,7 +55,7 @@ returns-clause-threads c = round-threads
 
 pub returns-clause-report : goal.returns-clause-report
 returns-clause-report c =
-    each-holds (λ r. report_of r ≡ report r.number r.setup (made r).schedule r.found.shares) report-entries
+    each-holds (λ r. report_of r ≡ report r.number r.setup (made r).schedule (reach_in r) r.found.shares) report-entries
 
 pub returns-clause-exit : goal.returns-clause-exit
 returns-clause-exit c =

@@ -1,0 +1,26 @@
+-- What a replay tells of a run.
+use Rattle.std.specs.Prelude.{ℕ, List, [], ◌∷◌, ◌++◌, length, codes, decimal, None}
+use Rattle.std.specs.List.{concat}
+use Rattle.machine_spec.specs.Setup.{Setup}
+use Rattle.report_spec.specs.Text.{newline, line}
+use Rattle.report_spec.specs.Report.{Told, ending_text, memory_digest, told_of}
+use Rattle.rerun_spec.specs.Reports.{all_executed}
+
+-- The lines that tell of a replay: of a report those that no reuse and no worker can change.
+abbrev pub replay_lines : Told → List (List ℕ)
+replay_lines t =
+    (codes "replay" ++ newline)
+    ∷ line (codes "end") (ending_text t.ending)
+    ∷ line (codes "steps") (decimal (length t.schedule))
+    ∷ line (codes "instructions") (decimal t.instructions)
+    ∷ line (codes "memory") (memory_digest t.memory)
+    ∷ line (codes "output") (decimal (length t.output))
+    ∷ []
+
+-- The text that tells of a replay: its lines, the output's bytes, and a line's end.
+unfoldable pub replay_text : Told → List ℕ
+replay_text t = concat (replay_lines t) ++ t.output ++ newline
+
+-- The text that tells of the machine from scratch under a schedule, of which each step is executed.
+abbrev pub replay_of : Setup → List ℕ → List ℕ
+replay_of setup threads = replay_text (told_of setup (all_executed threads) None [])

@@ -1,0 +1,25 @@
+-- A round in one line: how it ended, and what it put out.
+use Rattle.std.specs.Prelude.{ℕ, false, List, ◌++◌, codes, decimal, None}
+use Rattle.hex.specs.Hex.{encode_lower}
+use Rattle.report_spec.specs.Text.{space, line}
+use Rattle.report_spec.specs.Report.{Told, ending_text, told_of}
+use Rattle.rerun_spec.specs.Rounds.{Round, made, entries_of}
+use Rattle.rerun_spec.specs.Reports.{told_as_made}
+
+-- What the line says behind its first word: the round's number, its end, and its output in lower-case hexadecimal.
+abbrev pub short_words : ℕ → Told → List ℕ
+short_words n t =
+    decimal n ++ space ++ codes "end" ++ space ++ ending_text t.ending ++ space ++ codes "output" ++ space
+    ++ encode_lower t.output
+
+-- The line of round n.
+unfoldable pub short_text : ℕ → Told → List ℕ
+short_text n t = line (codes "round") (short_words n t)
+
+-- The line of a round: that of the machine from scratch under the schedule that its workers found.
+abbrev pub short_of : Round → List ℕ
+short_of r = short_text r.number (told_of r.setup (entries_of r) None r.found.shares)
+
+-- The line of a round as it was made, by whatever history it went.
+abbrev pub made_short : Round → List ℕ
+made_short r = short_text r.number (told_as_made (made r) false r.found.shares)

@@ -1,0 +1,38 @@
+//! What a replay tells.
+
+ghost use Rattle.std.specs.Prelude.{◌≡◌, ◌++◌, IfOk, OnOk};
+ghost use Rattle.round_report.specs.Parts.{run_part};
+ghost use Rattle.round_report.specs.Replay.{replay_text};
+
+use super::digest::Digested;
+use super::ending::end_line;
+use super::lines::number_line;
+use super::report::append_outcome;
+use super::told::Told;
+use std::alloc::{AllocError, Global};
+
+/// Appends how it ended, after how many steps, and how many instructions they made.
+fn append_run(alloc: Global, told: &Told<'_>, into: &mut Vec<u8>) -> Result<(), AllocError>
+    ensures { OnOk result (into.new.items ≡ into.old.items ++ run_part told.now) }
+{
+    end_line(alloc, told.ending, into)?;
+    number_line(alloc, "steps", told.schedule.len() as u64, into)?;
+    number_line(alloc, "instructions", told.instructions, into)
+}
+
+/// The text that tells of a replay: of the report's lines those that no reuse and no worker can change, the output's
+/// bytes, and a line's end.
+///
+/// # Errors
+///
+/// An error where the host's memory ran out.
+pub fn replayed(alloc: Global, told: &Told<'_>) -> Result<Vec<u8>, AllocError>
+    ensures { IfOk result (λ text. text.items ≡ replay_text told.now) }
+{
+    let digested = Digested::of(told.memory)?;
+    let mut text = Vec::new(alloc);
+    text.extend_from_slice(b"replay\n")?;
+    append_run(alloc, told, &mut text)?;
+    append_outcome(alloc, told, &digested, &mut text)?;
+    Ok(text)
+}
