@@ -1,0 +1,12 @@
+-- The first steps are told, and what they leave is kept.
+use Rattle.std.proofs.Common.{◌≡◌, map}
+use Rattle.std.specs.List.{range_with_len}
+use Rattle.reach_spec.specs.Reach.{is_reached}
+use Rattle.depend_graph.specs.Reaching.{slots_of_each, IsReachedPast}
+use Rattle.depend_graph.proofs.reaching.reach.Given as goal
+
+abbrev pub invariant-loop-i : goal.invariant-loop-i
+invariant-loop-i l = record {
+  past : IsReachedPast l.facts (slots_of_each l.reads) l.changed l.i l.past;
+  flags : l.flags.items ≡ map (is_reached l.facts (slots_of_each l.reads) l.changed) (range_with_len 0 l.i);
+}

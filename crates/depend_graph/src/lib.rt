@@ -1,0 +1,18 @@
+//! Which steps of a history must come before which, as a graph: the clock of each step tells which steps come before
+//! it, directly or through others.
+#![tactic(auto)]
+
+mod before;
+mod fact;
+mod graph;
+mod objects;
+mod pages;
+mod past;
+mod reaching;
+mod threads;
+
+pub use fact::Fact;
+pub use graph::{Graph, MOST_FACTS};
+
+#[cfg(test)]
+mod tests;

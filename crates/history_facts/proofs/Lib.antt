@@ -1,0 +1,4 @@
+-- The lemmas of this crate.
+pub mod Laying
+pub mod Coming
+pub mod Mapped

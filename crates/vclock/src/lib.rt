@@ -1,0 +1,97 @@
+//! Vector clocks: how many steps of each thread come up to a point. No call takes memory.
+#![tactic(auto)]
+
+ghost use Rattle.std.specs.Prelude.{◌≡◌, ℕ, ◌+◌, ◌<◌, ◌≤◌, ◌↔◌, max, length, slice_index, slice_set, IsTrue};
+
+use guest_call::THREADS;
+use std::marker::Model;
+
+/// The most steps that a clock counts of one thread.
+pub const MOST_COUNT: u32 = 65_536;
+
+/// A count of steps for each thread. A clause sees the list of the counts.
+#[derive(Clone, Copy, Debug, PartialEq, Eq)]
+pub struct Clock {
+    counts: [u32; THREADS],
+}
+
+impl Model for Clock {
+    ghost use Rattle.std.specs.Prelude.{◌≡◌, ℕ, List, length};
+    ghost use Rattle.std.specs.Coded.{coded_ℕ, coded_list};
+    ghost use Rattle.guest_call.specs.declared.thread_number.TheConstants.{THREADS};
+
+    ghost Value = { List ℕ };
+
+    ghost coded = { coded_list coded_ℕ };
+
+    ghost view = { λ c. c.counts };
+
+    ghost inverse = { λ counts. record { counts = counts } };
+
+    ghost invariant = { λ c. length c.counts ≡ THREADS };
+}
+
+impl Clock {
+    /// The clock of these counts.
+    pub fn new(counts: [u32; THREADS]) -> Clock
+        ensures { result ≡ counts }
+    {
+        Clock { counts }
+    }
+
+    /// The clock that counts no step.
+    pub fn zero() -> Clock
+        ensures { (t : ℕ) → slice_index result t ≡ 0 }
+    {
+        Clock {
+            counts: [0; THREADS],
+        }
+    }
+
+    /// It has a count for each thread, and no more: what a caller learns of any clock.
+    pub fn keeps(&self)
+        ensures { length self.now ≡ THREADS }
+    {
+        let _counts = &self.counts;
+    }
+
+    /// The count of thread `t`.
+    pub fn count(&self, t: u8) -> u32
+        requires { t < THREADS }
+        ensures { result ≡ slice_index self.now t }
+    {
+        self.counts[usize::from(t)]
+    }
+
+    /// The larger of each thread's two counts.
+    pub fn join(&mut self, other: &Clock)
+        ensures count { length self.new ≡ THREADS }
+        ensures larger { (t : ℕ) → slice_index self.new t ≡ max (slice_index self.old t) (slice_index other.now t) }
+    {
+        for (t, count) in self.counts.iter_mut().enumerate() {
+            *count = (*count).max(other.counts[t]);
+        }
+    }
+
+    /// Whether no count of the other is above this clock's.
+    pub fn covers(&self, other: &Clock) -> bool
+        ensures { IsTrue result ↔ ((t : ℕ) → slice_index other.now t ≤ slice_index self.now t) }
+    {
+        self.counts
+            .iter()
+            .zip(&other.counts)
+            .all(|(mine, theirs)| theirs <= mine)
+    }
+
+    /// Thread `t` makes one step more.
+    pub fn tick(&mut self, t: u8)
+        requires thread { t < THREADS }
+        requires room { slice_index self.old t < MOST_COUNT }
+        ensures { self.new ≡ slice_set self.old t (slice_index self.old t + 1) }
+    {
+        self.counts[usize::from(t)] += 1;
+    }
+}
+
+#[cfg(test)]
+mod tests;
