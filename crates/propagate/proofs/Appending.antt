@@ -5,17 +5,15 @@ use Rattle.std.proofs.lemmas.Bool.Decides.{nat_tests}
 use Rattle.record_spec.specs.Record.{Record, fits_at}
 use Rattle.machine_spec.specs.declared.states.End.{End}
 use Rattle.machine_spec.specs.Machine.{Machine, hart_of, is_ready}
-use Rattle.machine_spec.specs.Step.{lay, fits, can_step}
+use Rattle.machine_spec.specs.Step.{fits, can_step}
 use Rattle.machine_spec.specs.Whole.{IsWhole}
 use Rattle.machine_spec.proofs.Harts.{ready-below}
-use Rattle.history_spec.specs.History.{History, threads_of_records}
+use Rattle.history_spec.specs.History.{threads_of_records}
 use Rattle.history_spec.proofs.Truth.{past-of}
 use Rattle.round_spec.specs.Marks.{record_for, fits_next}
 use Rattle.round_spec.specs.Rounds.{RoundState, is_over, is_out_of, can_begin, can_take, can_reuse}
 use Rattle.round_spec.specs.Keeping.{IsInOrder, IsCounted}
 use Rattle.round_spec.proofs.Happening.{CanBegin, can_begin-parts}
-use Rattle.propagate.specs.Kept.{front_in}
-use Rattle.propagate.proofs.Passing.{passed-prefix}
 use Rattle.propagate.proofs.Keeping.{record_count}
 
 pub few-harts : (m : Machine) → IsWhole m → length m.harts ≤ 32
@@ -106,11 +104,3 @@ take-ready w t can =
     let begins : CanBegin w t =
     can_begin-parts w t (and_parts (can_begin w t) (not (fits_next w.past w.machine t)) can).0 in
     begins.ready
-
--- as many steps of the history are passed at least
-pub front-lay :
-    (past : Option History) (m : Machine) (r : Record)
-    → IsWhole m → is_ready (hart_of m r.thread).status ≡ true
-    → front_in past m ≤ front_in past (lay m r)
-front-lay None m r whole ready = omega arith
-front-lay (Some h) m r whole ready = passed-prefix m r h.records whole ready

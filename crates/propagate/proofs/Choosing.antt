@@ -14,7 +14,7 @@ use Rattle.round_spec.specs.Choice.{free_threads, is_any_out, eligible, choice_b
 use Rattle.worker_spec.proofs.Lists.{all-filter, all-pass}
 use Rattle.propagate.specs.declared.picking.Candidate.{Candidate}
 use Rattle.propagate.specs.declared.picking.Leaders.{Leaders}
-use Rattle.propagate.specs.Choosing.{candidate_of, free_below, due_below, leader_of, AreLeadersBelow, comes_before, better}
+use Rattle.propagate.specs.Choosing.{candidate_of, free_below, due_below, leader_of, AreLeadersBelow, comes_before, leads, better}
 use Rattle.propagate.proofs.Best.{filter-more, range-more, best-nobody, best-more, best-first, best-none, best-all}
 
 -- the better of a leader and of one more leads all
@@ -128,25 +128,78 @@ leaders-free w t place number found leads free due is_place is_number = record {
       ∙ ap (leader_of w) (sym (free-more w t free));
 }
 
-pub leaders-due :
+due-more :
     (w : RoundState) (t place number : ℕ) (found : Leaders)
     → AreLeadersBelow w t found
     → is_free_in w.machine w.out t ≡ true → is_due w.past w.machine t ≡ true
     → place ≡ place_in w.past w.machine t → number ≡ (hart_of w.machine t).number
+    → Some (better found.due (record { thread = t; place = place; number = number })) ≡ leader_of w (due_below w (t + 1))
+due-more w t place number found leads free due is_place is_number =
+    leads-below w (due_below w t) found.due t place number leads.due is_place is_number
+    ∙ ap (λ b. leader_of w (due_below w t ++ cond b (t ∷ []) [])) (sym due)
+    ∙ ap (leader_of w) (sym (due-both w t free))
+
+better-leads : (leader : Option Candidate) (next : Candidate) → leads leader next ≡ true → better leader next ≡ next
+better-leads None next is = refl
+better-leads (Some leader) next is = rw is refl
+
+better-stays : (leader : Option Candidate) (next : Candidate) → leads leader next ≡ false → Some (better leader next) ≡ leader
+better-stays None next is = cc
+better-stays (Some leader) next is = rw is refl
+
+-- a thread that is due and leads
+pub leaders-due :
+    (w : RoundState) (t place number : ℕ) (found : Leaders)
+    → AreLeadersBelow w t found
+    → is_free_in w.machine w.out t ≡ true
+    → leads found.due (record { thread = t; place = place; number = number }) ≡ true
+    → is_due w.past w.machine t ≡ true
+    → place ≡ place_in w.past w.machine t → number ≡ (hart_of w.machine t).number
     → AreLeadersBelow w (t + 1)
     (record {
-      due = Some (better found.due (record { thread = t; place = place; number = number }));
+      due = Some (record { thread = t; place = place; number = number });
       free = Some (better found.free (record { thread = t; place = place; number = number }));
     })
-leaders-due w t place number found leads free due is_place is_number = record {
+leaders-due w t place number found below free first due is_place is_number = record {
   due =
-      leads-below w (due_below w t) found.due t place number leads.due is_place is_number
-      ∙ ap (λ b. leader_of w (due_below w t ++ cond b (t ∷ []) [])) (sym due)
-      ∙ ap (leader_of w) (sym (due-both w t free));
+      ap (λ (c : Candidate). Some c)
+      (sym (better-leads found.due (record { thread = t; place = place; number = number }) first))
+      ∙ due-more w t place number found below free due is_place is_number;
   free =
-      leads-below w (free_below w t) found.free t place number leads.free is_place is_number
+      leads-below w (free_below w t) found.free t place number below.free is_place is_number
       ∙ ap (leader_of w) (sym (free-more w t free));
 }
+
+-- one that wouldn't lead, due or not
+pub leaders-behind :
+    (w : RoundState) (t place number : ℕ) (found : Leaders)
+    → AreLeadersBelow w t found
+    → is_free_in w.machine w.out t ≡ true
+    → leads found.due (record { thread = t; place = place; number = number }) ≡ false
+    → place ≡ place_in w.past w.machine t → number ≡ (hart_of w.machine t).number
+    → AreLeadersBelow w (t + 1)
+    (record {
+      due = found.due;
+      free = Some (better found.free (record { thread = t; place = place; number = number }));
+    })
+leaders-behind w t place number found below free behind is_place is_number = by (is_due w.past w.machine t) refl
+  where
+    by :
+        (b : Bool) → is_due w.past w.machine t ≡ b
+        → AreLeadersBelow w (t + 1)
+        (record {
+          due = found.due;
+          free = Some (better found.free (record { thread = t; place = place; number = number }));
+        })
+    by true due = record {
+      due =
+          sym (better-stays found.due (record { thread = t; place = place; number = number }) behind)
+          ∙ due-more w t place number found below free due is_place is_number;
+      free =
+          leads-below w (free_below w t) found.free t place number below.free is_place is_number
+          ∙ ap (leader_of w) (sym (free-more w t free));
+    }
+    by false due = leaders-free w t place number found below free due is_place is_number
 
 -- the choice, by the leaders
 

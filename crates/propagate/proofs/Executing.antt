@@ -20,15 +20,19 @@ use Rattle.round_spec.specs.Rounds.{RoundState, is_over, is_out, can_begin, can_
 use Rattle.round_spec.specs.Choice.{pick_of}
 use Rattle.round_spec.specs.Alone.{one_worker, after_pick, after_picks, lone_round}
 use Rattle.round_spec.specs.Keeping.{IsInOrder, IsCounted, IsHeld, IsFromScratch}
+use Rattle.round_spec.specs.Picking.{ArePicked}
 use Rattle.round_spec.specs.Unedited.{IsUnedited, OnlyReuses}
 use Rattle.round_spec.proofs.Conditions.{happens-take, happens-commit}
 use Rattle.worker_spec.proofs.Lone.{one_worker-permitted, one_worker-complete, lone-threads, lone-scratch}
+use Rattle.worker_spec.proofs.Picked.{lone-all_picked}
 use Rattle.worker_spec.proofs.Ending.{lone-ends, lone-discarded}
 use Rattle.worker_spec.proofs.Unedited.{unedited-reuses}
 use Rattle.thunk_run.specs.declared.job.Job.{Job}
 use Rattle.thunk_run.specs.declared.job.Run.{Run}
 use Rattle.thunk_run.specs.Running.{IsRunOf}
 use Rattle.release_core.specs.Jobs.{IsJobOf}
+use Rattle.reach_spec.specs.Working.{ReexecutesLeast}
+use Rattle.reach_spec.proofs.ByWorkers.{reexecutes-alone}
 use Rattle.propagate.specs.Committing.{CanCommit}
 use Rattle.propagate.specs.Executing.{executed_by, Costs, IsPartWay}
 use Rattle.propagate.proofs.Keeping.{record_count, executed-more}
@@ -235,6 +239,14 @@ pub alone-scratch :
     → IsSetup setup → w ≡ lone_round setup past → IsSound past setup → IsFromScratch w
 alone-scratch setup past w valid is sound = subst IsFromScratch (sym is) (lone-scratch setup past valid sound)
 
+-- each entry was picked when its turn came
+pub alone-picked :
+    (setup : Setup) (past : Option History) (w : RoundState)
+    → IsSetup setup → w ≡ lone_round setup past → IsSound past setup → ArePicked setup past w.schedule w.picked
+alone-picked setup past w valid is sound =
+    subst (λ (x : RoundState). ArePicked setup past x.schedule x.picked) (sym is)
+    (lone-all_picked setup past valid sound)
+
 pub alone-ends :
     (setup : Setup) (past : Option History) (w : RoundState)
     → IsSetup setup → w ≡ lone_round setup past → is_some w.machine.ending ≡ true
@@ -245,6 +257,11 @@ pub alone-discarded :
     → IsSetup setup → w ≡ lone_round setup past → w.discarded ≡ 0
 alone-discarded setup past w valid is =
     ap (λ (x : RoundState). x.discarded) is ∙ lone-discarded setup past setup.limit valid
+
+pub alone-least :
+    (setup : Setup) (past : Option History) (w : RoundState)
+    → IsSetup setup → w ≡ lone_round setup past → ReexecutesLeast w
+alone-least setup past w valid is = subst ReexecutesLeast (sym is) (reexecutes-alone setup past valid)
 
 -- without an edit
 

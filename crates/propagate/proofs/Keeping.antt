@@ -2,7 +2,8 @@
 use Rattle.std.proofs.Common.{◌≡◌, ◌≤◌, ◌+◌, ◌*◌, ℕ, suc, true, cond, List, [], ◌∷◌, ◌++◌, length, length-append, Option, is_some, refl, ap, sym, ◌∙◌, subst, arith}
 use Rattle.record_spec.specs.Record.{Record}
 use Rattle.machine_spec.specs.Setup.{Setup, IsSetup, first}
-use Rattle.history_spec.specs.History.{History, IsHonest, IsSound, threads_of_records}
+use Rattle.history_spec.specs.History.{History, IsHonest, IsSound, threads_of_records, past_records}
+use Rattle.release_core.specs.Records.{AreOfRun}
 use Rattle.report_spec.specs.declared.Entry.{Entry}
 use Rattle.report_spec.specs.Report.{threads_of, instructions_from}
 use Rattle.round_spec.specs.declared.events.Event.{Event}
@@ -12,12 +13,14 @@ use Rattle.round_spec.specs.Keeping.{IsFromScratch, IsInOrder, IsCounted}
 use Rattle.round_spec.proofs.Happening.{opening-kept, happens-kept}
 use Rattle.round_spec.proofs.Counting.{round-counted, happens-counted}
 use Rattle.round_spec.specs.Schedules.{IsBySchedule}
+use Rattle.round_spec.proofs.Mapping.{happens-frame}
 use Rattle.round_spec.proofs.BySchedule.{by_schedule-opening, by_schedule-happens}
 use Rattle.round_spec.proofs.Leaving.{leaves-honest}
 use Rattle.round_spec.proofs.Executed.{executed-records}
-use Rattle.propagate.specs.Kept.{front_in, IsOnMap, IsKept}
+use Rattle.order_spec.specs.Facts.{Fact}
+use Rattle.round_spec.specs.Due.{past_facts}
+use Rattle.propagate.specs.Kept.{IsOnMap, IsKept}
 use Rattle.propagate.proofs.Mapped.{opening-on_map, happens-on_map}
-use Rattle.propagate.proofs.Passing.{front-first}
 
 -- as many records as entries
 
@@ -32,6 +35,11 @@ length-of_records (r ∷ rs) = ap suc (length-of_records rs)
 pub record_count : (w : RoundState) → IsCounted w → length w.records ≡ length w.schedule
 record_count w counted =
     sym (length-of_records w.records) ∙ ap (λ (ts : List ℕ). length ts) counted.threads ∙ length-threads w.schedule
+
+-- a schedule is no longer than a run can be
+pub few_entries : (w : RoundState) → IsInOrder w → IsCounted w → length w.schedule ≤ 65536
+few_entries w kept counted =
+    omega (arith, kept.whole.few_steps, kept.whole.limits.most_steps, counted.steps)
 
 -- the sum of the counts of the executed entries
 
@@ -55,56 +63,67 @@ reported w instructions kept is sound =
 
 -- at the start
 
-pub kept_opening : (setup : Setup) (past : Option History) → IsSetup setup → IsKept (opening setup past) 0 0
-kept_opening setup past valid =
+pub kept_opening :
+    (setup : Setup) (past : Option History)
+    → IsSetup setup → AreOfRun (past_records past) → IsKept (opening setup past) 0 (past_facts past)
+kept_opening setup past valid run =
     record {
       valid = valid;
       in_order = opening-kept setup past valid;
       counted = round-counted setup past [] valid;
       by_schedule = by_schedule-opening setup past;
       on_map = opening-on_map setup past;
+      framed = refl;
+      points = refl;
       executed = refl;
       few = omega arith;
-      front_is = sym (front-first setup past);
+      of_run = run;
+      facts_are = refl;
     }
 
 -- after an event
 
 pub kept-happens :
-    (w v : RoundState) (e : Event) (i f j g : ℕ)
-    → IsKept w i f → happens w e ≡ v → v.setup ≡ w.setup
-    → j ≡ executed_instructions v.schedule v.records → j ≤ 4294967295 * length v.schedule → g
-    ≡ front_in v.past v.machine
-    → IsKept v j g
-kept-happens w v e i f j g kept is setup executed few front =
+    (w v : RoundState) (e : Event) (i j : ℕ) (fs : List Fact)
+    → IsKept w i fs → happens w e ≡ v → v.setup ≡ w.setup → v.past ≡ w.past
+    → length v.picked ≡ length v.schedule
+    → j ≡ executed_instructions v.schedule v.records → j ≤ 4294967295 * length v.schedule
+    → IsKept v j fs
+kept-happens w v e i j fs kept is setup past points executed few =
     record {
       valid = subst IsSetup (sym setup) kept.valid;
       in_order = subst IsInOrder is (happens-kept w e kept.in_order);
       counted = subst IsCounted is (happens-counted w e kept.in_order kept.counted);
       by_schedule = subst IsBySchedule is (by_schedule-happens w e kept.in_order kept.by_schedule);
       on_map = subst IsOnMap is (happens-on_map w e kept.on_map);
+      framed =
+          ap (λ (x : RoundState). x.machine.frame) (sym is) ∙ happens-frame w e ∙ kept.framed
+          ∙ ap (λ (s : Setup). (first s).frame) (sym setup);
+      points = points;
       executed = executed;
       few = few;
-      front_is = front;
+      of_run = subst (λ (p : Option History). AreOfRun (past_records p)) (sym past) kept.of_run;
+      facts_are = kept.facts_are ∙ ap past_facts (sym past);
     }
 
 -- where one is
 pub kept-more :
-    (w v : RoundState) (e : Event) (i f j g : ℕ) (entry : Entry) (r : Record)
-    → IsKept w i f → happens w e ≡ v → v.setup ≡ w.setup
-    → v.schedule ≡ w.schedule ++ entry ∷ [] → v.records ≡ w.records ++ r ∷ []
+    (w v : RoundState) (e : Event) (i j : ℕ) (fs : List Fact) (entry : Entry) (r : Record) (point : ℕ)
+    → IsKept w i fs → happens w e ≡ v → v.setup ≡ w.setup → v.past ≡ w.past
+    → v.schedule ≡ w.schedule ++ entry ∷ [] → v.records ≡ w.records ++ r ∷ [] → v.picked ≡ w.picked ++ point ∷ []
     → j ≡ i + cond entry.reused 0 r.kept.count → cond entry.reused 0 r.kept.count ≤ 4294967295
-    → g ≡ front_in v.past v.machine
-    → IsKept v j g
-kept-more w v e i f j g entry r kept is setup schedule records sum few front =
+    → IsKept v j fs
+kept-more w v e i j fs entry r point kept is setup past schedule records picked sum few =
     let more = executed-more w.schedule w.records entry r (record_count w kept.counted) in
     let executed = kept.executed in
     let before = kept.few in
+    let points = kept.points in
     let longer = length-append w.schedule (entry ∷ []) in
-    kept-happens w v e i f j g kept is setup
+    let one_more = length-append w.picked (point ∷ []) in
+    kept-happens w v e i j fs kept is setup past
+    (rw (schedule, picked) (omega arith))
     (rw (schedule, records) (omega arith))
     (rw schedule (omega arith))
-    front
 
 -- what is left
 

@@ -1,5 +1,5 @@
 -- The files of lemmas of this crate.
-pub mod Passing
+pub mod Due
 pub mod Best
 pub mod Mapped
 pub mod Keeping

@@ -1,10 +1,11 @@
 -- The choice of the next thread, as far as threads were looked at.
-use Rattle.std.specs.Prelude.{◌≡◌, ℕ, Bool, ◌&&◌, ◌||◌, ◌==◌, nat_lt, if◌then◌else◌, List, filter, Option, Some, None, option_map}
+use Rattle.std.specs.Prelude.{◌≡◌, ◌≢◌, ◌<◌, ℕ, Bool, true, ◌&&◌, ◌||◌, ◌==◌, nat_lt, nat_le, if◌then◌else◌, List, filter, slice_index_or, Option, Some, None, option_map}
 use Rattle.std.specs.List.{range_with_len}
+use Rattle.guest_call.specs.declared.thread_number.TheConstants.{THREADS}
 use Rattle.machine_spec.specs.Machine.{Machine, hart_of}
 use Rattle.history_spec.specs.History.{History}
 use Rattle.round_spec.specs.Rounds.{RoundState, is_free_in}
-use Rattle.round_spec.specs.Due.{place_in, is_due}
+use Rattle.round_spec.specs.Due.{place_in, is_due, is_gone}
 use Rattle.round_spec.specs.Choice.{best}
 use Rattle.propagate.specs.declared.picking.Candidate.{Candidate}
 use Rattle.propagate.specs.declared.picking.Leaders.{Leaders}
@@ -34,7 +35,20 @@ abbrev pub comes_before : Candidate → Candidate → Bool
 comes_before next leader =
     nat_lt next.place leader.place || ((next.place == leader.place) && nat_lt next.number leader.number)
 
+-- Whether a thread of a higher number comes before a leader, if there is one.
+abbrev pub leads : Option Candidate → Candidate → Bool
+leads None next = true
+leads (Some leader) next = comes_before next leader
+
 -- The better of a leader, if there is one, and of a thread of a higher number.
 abbrev pub better : Option Candidate → Candidate → Candidate
 better None next = next
 better (Some leader) next = if comes_before next leader then next else leader
+
+-- Whether a thread has made so many steps, or has ended.
+abbrev pub has_made : Machine → ℕ → ℕ → Bool
+has_made m t steps = nat_le steps (hart_of m t).number || is_gone m t
+
+-- Each thread but one has made the steps that a clock counts of it, or has ended.
+pub record HaveMade (m : Machine) (t : ℕ) (clock : List ℕ) : Type 0 where
+  pub each : (u : ℕ) → u < THREADS → u ≢ t → has_made m u (slice_index_or clock u 0) ≡ true

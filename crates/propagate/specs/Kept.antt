@@ -1,18 +1,14 @@
 -- What a round in code keeps beside what is seen of it.
-use Rattle.std.specs.Prelude.{◌≡◌, ◌≤◌, ◌*◌, ℕ, ⊤, All, length, Option, Some, None}
-use Rattle.std.specs.List.{prefix_len}
-use Rattle.machine_spec.specs.Machine.{Machine}
-use Rattle.machine_spec.specs.Setup.{Setup, IsSetup, map_of}
+use Rattle.std.specs.Prelude.{◌≡◌, ◌≤◌, ◌*◌, ℕ, ⊤, List, All, length, Option, Some, None}
+use Rattle.machine_spec.specs.Setup.{Setup, IsSetup, first, map_of}
 use Rattle.history_spec.specs.History.{History, IsMappedIn, IsMapped, past_records}
+use Rattle.order_spec.specs.Facts.{Fact}
+use Rattle.release_core.specs.Records.{AreOfRun}
 use Rattle.round_spec.specs.Rounds.{RoundState, history_of}
-use Rattle.round_spec.specs.Due.{is_passed}
+use Rattle.round_spec.specs.Due.{past_facts}
 use Rattle.round_spec.specs.Keeping.{IsInOrder, IsCounted}
 use Rattle.round_spec.specs.Schedules.{IsBySchedule}
 use Rattle.round_spec.specs.Instructions.{executed_instructions}
-
--- How many steps of a history, from the first on, needn't be waited for any more.
-abbrev pub front_in : Option History → Machine → ℕ
-front_in past m = prefix_len (is_passed m) (past_records past)
 
 -- What a setup goes by has its page map, if it goes by anything.
 abbrev pub IsOfMap : Option History → Setup → Type 0
@@ -25,14 +21,18 @@ pub record IsOnMap (w : RoundState) : Type 0 where
   pub frame : w.machine.frame.map ≡ map_of w.setup
   pub mapped : All (IsMappedIn (length (map_of w.setup))) (past_records w.past) → IsMapped (history_of w)
 
--- A round that is in order, counts right and is where its schedule leads, on the page map of its setup; with the sum of
--- the counts of its executed entries, and with how many steps of the history, from the first on, are passed.
-pub record IsKept (w : RoundState) (instructions front : ℕ) : Type 0 where
+-- A round that is in order, counts right and is where its schedule leads, with the page map and the fuel of its setup;
+-- for each entry it is kept when its thread was picked; and what it goes by are records of a run. With it stand the sum
+-- of the counts of its executed entries, and what the steps of its history do.
+pub record IsKept (w : RoundState) (instructions : ℕ) (facts : List Fact) : Type 0 where
   pub valid : IsSetup w.setup
   pub in_order : IsInOrder w
   pub counted : IsCounted w
   pub by_schedule : IsBySchedule w
   pub on_map : IsOnMap w
+  pub framed : w.machine.frame ≡ (first w.setup).frame
+  pub points : length w.picked ≡ length w.schedule
   pub executed : instructions ≡ executed_instructions w.schedule w.records
   pub few : instructions ≤ 4294967295 * length w.schedule
-  pub front_is : front ≡ front_in w.past w.machine
+  pub of_run : AreOfRun (past_records w.past)
+  pub facts_are : facts ≡ past_facts w.past

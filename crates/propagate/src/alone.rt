@@ -10,7 +10,9 @@ ghost use Rattle.round_spec.specs.Rounds.{can_take};
 ghost use Rattle.round_spec.specs.Choice.{pick_of};
 ghost use Rattle.round_spec.specs.Alone.{one_worker, after_pick, lone_round};
 ghost use Rattle.round_spec.specs.Keeping.{IsFromScratch};
+ghost use Rattle.round_spec.specs.Picking.{ArePicked};
 ghost use Rattle.round_spec.specs.Unedited.{IsUnedited, OnlyReuses};
+ghost use Rattle.reach_spec.specs.Working.{ReexecutesLeast};
 ghost use Rattle.propagate.specs.Executing.{executed_by, Costs};
 
 use super::round::Round;
@@ -94,8 +96,9 @@ fn follow_picks<L: Ledger>(
 /// counter rises by the instructions of the executed steps.
 ///
 /// Where the round goes by a sound history, its schedule is the one of one worker, which is permitted
-/// and complete; it is at the machine from scratch, and its marks are exact. Where the setup is the
-/// history's own, the round is all reuse, and the counter stays as it is.
+/// and complete; it is at the machine from scratch, its marks are exact, and each entry was picked
+/// rightly. Where the setup is the history's own, the round is all reuse, and the counter stays as it is. No round
+/// executes again more than it must: if it works as the history did, it executes no more than its setup reaches.
 ///
 /// # Errors
 ///
@@ -116,6 +119,9 @@ pub fn run_alone<L: Ledger>(
     ensures complete { IfOk result (λ round. IsSound (option_map arc_value past) setup
         → is_complete setup (threads_of round.schedule) ≡ true) }
     ensures scratch { IfOk result (λ round. IsSound (option_map arc_value past) setup → IsFromScratch round) }
+    ensures picked { IfOk result (λ round. IsSound (option_map arc_value past) setup
+        → ArePicked setup (option_map arc_value past) round.schedule round.picked) }
+    ensures least { IfOk result ReexecutesLeast }
     ensures ends { IfOk result (λ round. is_some round.machine.ending ≡ true) }
     ensures discarded { IfOk result (λ round. round.discarded ≡ 0) }
     ensures unedited { IfOk result (λ round.

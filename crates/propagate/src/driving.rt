@@ -1,11 +1,15 @@
 //! A round to which given events happen.
 
-ghost use Rattle.std.specs.Prelude.{◌≡◌, ◌+◌, ◌≤◌, true, option_map, IfOk, OnOk};
+ghost use Rattle.std.specs.Prelude.{◌≡◌, ℕ, ◌+◌, ◌≤◌, true, List, Some, option_map, IfOk, OnOk};
 ghost use Rattle.std.specs.Arc.{arc_value};
-ghost use Rattle.history_spec.specs.History.{IsSound};
+ghost use Rattle.history_spec.specs.History.{History as Kept, IsSound};
+ghost use Rattle.order_spec.specs.Facts.{facts};
+ghost use Rattle.order_spec.specs.Orders.{is_order};
 ghost use Rattle.round_spec.specs.declared.events.Event.TheVariants as event;
 ghost use Rattle.round_spec.specs.Rounds.{nobody_out, opening, is_out, happens, round_after};
 ghost use Rattle.round_spec.specs.Keeping.{IsFromScratch};
+ghost use Rattle.round_spec.specs.Unedited.{IsUnedited};
+ghost use Rattle.round_spec.specs.Reordering.{reuses_of, ReusesInOrder};
 ghost use Rattle.propagate.specs.Jobs.{HaveJobs};
 ghost use Rattle.propagate.specs.Executing.{executed_by, Costs};
 
@@ -146,7 +150,9 @@ impl Driven {
 /// The round of a setup that goes by a history, after some events, one after the other. A step that
 /// is committed is executed then, by the job that was taken; an event whose condition doesn't hold
 /// changes nothing. The counter rises by the instructions of the executed steps. Where the history is
-/// sound, the round is at the machine from scratch, and its marks are exact.
+/// sound, the round is at the machine from scratch, and its marks are exact. Where the setup is the
+/// history's own, and the events reuse its steps in any order in which each comes after all that must
+/// come before it, all of them are reused, and come to the same end, output and memory.
 ///
 /// # Errors
 ///
@@ -162,6 +168,12 @@ pub fn drive<L: Ledger>(
     ensures cost { IfOk result (λ round. turns.new ≡ turns.old + executed_by round) }
     ensures never_lower { turns.old ≤ turns.new }
     ensures scratch { IfOk result (λ round. IsSound (option_map arc_value past) setup → IsFromScratch round) }
+    ensures every_order { IfOk result (λ round. (h : Kept) (places : List ℕ)
+        → option_map arc_value past ≡ Some h
+        → IsUnedited h setup
+        → is_order (facts h) places ≡ true
+        → events.now ≡ reuses_of h places
+        → ReusesInOrder h places round) }
 {
     setup.sound();
     let mut driven = Driven::new(alloc, setup, past)?;

@@ -1,6 +1,6 @@
 //! What happens to a round.
 
-ghost use Rattle.std.specs.Prelude.{◌≡◌, ◌<◌, true, length, count_by, ◌==◌, is_ok, if◌then◌else◌, IfOk, OnOk, OnErr};
+ghost use Rattle.std.specs.Prelude.{◌≡◌, ◌<◌, true, length, count_by, ◌==◌, is_ok, if◌then◌else◌, Decides, IfOk, OnOk, OnErr};
 ghost use Rattle.std.specs.Bool.{OnTrue, OnFalse};
 ghost use Rattle.std.specs.Arc.{arc_value};
 ghost use Rattle.history_spec.specs.History.{threads_of_records};
@@ -11,7 +11,6 @@ ghost use Rattle.round_spec.specs.Rounds.{is_out, can_take, can_reuse, happens};
 ghost use Rattle.propagate.specs.Appending.{trail, Appends};
 ghost use Rattle.propagate.specs.Committing.{CanCommit, Commits, GoesOn, entries_of};
 
-use super::picking::passed_from;
 use super::round::Round;
 use guest_call::THREADS;
 use machine_spec::MOST_STEPS;
@@ -71,6 +70,14 @@ fn append(
 }
 
 impl Round {
+    /// How many entries the schedule has.
+    #[tactic(auto, using(crate::proofs::Keeping::few_entries))]
+    fn entries(&self) -> u32
+        ensures { result ≡ length self.now.schedule }
+    {
+        self.schedule.len() as u32
+    }
+
     /// Reuses the record of the next step of thread `t`, which may be reused.
     ///
     /// # Errors
@@ -86,6 +93,8 @@ impl Round {
             Some(rec) => Arc::try_clone(rec)?,
             None => unreachable!(),
         };
+        self.picked.reserve(1)?;
+        let now = self.entries();
         append(
             &mut self.core,
             &mut self.schedule,
@@ -93,7 +102,7 @@ impl Round {
             &rec,
             true,
         )?;
-        self.front = passed_from(&self.core, &self.past, self.front);
+        self.picked.push_reserved(now);
         Ok(())
     }
 
@@ -110,19 +119,20 @@ impl Round {
         ensures err { OnErr result (self.new ≡ self.old) }
     {
         let job = self.core.start_of(t)?;
+        let now = self.entries();
         self.out[usize::from(t)] = true;
+        self.taken_at[usize::from(t)] = now;
         Ok(job)
     }
 
-    /// Whether an executed step can be committed.
-    fn can_commit(&self, run: &Run) -> bool
+    /// Whether an executed step can be committed, of which it is known whether it ran with the round's page map and
+    /// fuel.
+    fn can_commit(&self, run: &Run, same_frame: bool) -> bool
+        requires { Decides same_frame (arc_value run.now.frame ≡ self.now.machine.frame) }
         ensures yes { OnTrue result (CanCommit self.now (arc_value run.now.frame) (arc_value run.now.rec)) }
         ensures no { OnFalse result (CanCommit self.now (arc_value run.now.frame) (arc_value run.now.rec) → ⊥) }
     {
-        !self.is_over()
-            && self.is_out(run.rec.thread())
-            && *run.frame == *self.core.frame()
-            && self.core.fits(&run.rec)
+        same_frame && !self.is_over() && self.is_out(run.rec.thread()) && self.core.fits(&run.rec)
     }
 
     /// Makes an executed step that can be committed an entry of the schedule.
@@ -136,6 +146,7 @@ impl Round {
         ensures same { GoesOn (if is_ok result then 1 else 0) self.old self.new }
         ensures err { OnErr result (self.new ≡ self.old) }
     {
+        self.picked.reserve(1)?;
         append(
             &mut self.core,
             &mut self.schedule,
@@ -143,9 +154,11 @@ impl Round {
             &run.rec,
             false,
         )?;
-        self.out[usize::from(run.rec.thread())] = false;
+        let t = usize::from(run.rec.thread());
+        self.picked.push_reserved(self.taken_at[t]);
+        self.out[t] = false;
+        self.taken_at[t] = 0;
         self.instructions += u64::from(run.rec.count());
-        self.front = passed_from(&self.core, &self.past, self.front);
         Ok(())
     }
 
@@ -154,7 +167,18 @@ impl Round {
         ensures does { Commits self.old run result self.new }
         ensures same { GoesOn (entries_of result) self.old self.new }
     {
-        if !self.can_commit(&run) {
+        let same_frame = *run.frame == *self.core.frame();
+        self.commit_known(run, same_frame)
+    }
+
+    /// Commits an executed step, or says why it can't, where it is known whether it ran with the round's page map and
+    /// fuel. To look at these takes longest of all.
+    pub fn commit_known(&mut self, run: Run, same_frame: bool) -> Committed
+        requires { Decides same_frame (arc_value run.frame ≡ self.old.machine.frame) }
+        ensures does { Commits self.old run result self.new }
+        ensures same { GoesOn (entries_of result) self.old self.new }
+    {
+        if !self.can_commit(&run, same_frame) {
             self.discard(run.rec.thread());
             return Committed::Stale(run);
         }
@@ -171,6 +195,7 @@ impl Round {
     {
         if self.is_out(t) {
             self.out[usize::from(t)] = false;
+            self.taken_at[usize::from(t)] = 0;
             self.discarded = self.discarded.saturating_add(1);
         }
     }

@@ -8,6 +8,7 @@ mod alone;
 mod driving;
 mod events;
 mod picking;
+mod reaching;
 mod round;
 
 pub use alone::run_alone;

@@ -1,25 +1,23 @@
 //! What a worker may do next.
 
-ghost use Rattle.std.specs.Prelude.{◌≡◌, ◌<◌, ◌≤◌, ◌+◌, ℕ, true, length, option_map};
-ghost use Rattle.std.specs.List.{prefix_len};
+ghost use Rattle.std.specs.Prelude.{◌≡◌, ◌<◌, ◌+◌, ℕ, true, length, option_map, Decides};
 ghost use Rattle.std.specs.Arc.{arc_value};
-ghost use Rattle.machine_spec.specs.Machine.{hart_of};
-ghost use Rattle.history_spec.specs.History.{past_records};
 ghost use Rattle.round_spec.specs.declared.events.Pick.TheVariants as pick;
 ghost use Rattle.round_spec.specs.Marks.{record_for, fits_next};
 ghost use Rattle.round_spec.specs.Rounds.{is_free_in, can_begin, can_take, can_reuse};
-ghost use Rattle.round_spec.specs.Due.{is_passed, is_due, place_in};
+ghost use Rattle.round_spec.specs.Due.{is_due, place_in};
 ghost use Rattle.round_spec.specs.Choice.{is_any_out, choice_by, pick_of};
-ghost use Rattle.propagate.specs.Kept.{front_in};
 ghost use Rattle.propagate.specs.Choosing as choosing;
 ghost use Rattle.propagate.specs.declared.picking.Candidate.{Candidate};
-ghost use Rattle.propagate.specs.Choosing.{comes_before, AreLeadersBelow};
+ghost use Rattle.propagate.specs.Choosing.{comes_before, has_made, HaveMade, AreLeadersBelow};
 
 use super::round::Round;
-use release_core::{Core, History, Records};
+use guest_call::THREADS;
+use release_core::Core;
 use round_spec::Pick;
 use std::sync::Arc;
 use thunk_record::Record;
+use vclock::Clock;
 
 /// What the choice looks at of a thread: the place of its next step in the history, and how many
 /// steps it has made.
@@ -62,37 +60,34 @@ fn thread_of(leader: Option<Candidate>) -> Option<u8>
     leader.map(|leader| leader.thread)
 }
 
-/// Whether a step of the history needn't be waited for: it was made, or its thread has ended.
-fn passes(core: &Core, rec: &Record) -> bool
-    ensures { result ≡ is_passed core.now rec.now }
+/// Whether a thread of a higher number comes before a leader, if there is one.
+fn leads(leader: Option<Candidate>, next: Candidate) -> bool
+    ensures { result ≡ choosing.leads leader next }
 {
-    let t = rec.thread();
-    usize::from(t) < core.threads() && rec.number() < core.number(t) || core.gone(t)
+    match leader {
+        Some(leader) => is_before(next, leader),
+        None => true,
+    }
 }
 
-/// How many records, from the first on, needn't be waited for, where so many are known not to.
-fn passed_in(core: &Core, records: &Records, front: usize) -> usize
-    requires { front ≤ prefix_len (is_passed core.now) records.now }
-    ensures { result ≡ prefix_len (is_passed core.now) records.now }
+/// Whether thread `t` has made so many steps, or has ended.
+fn has_made(core: &Core, t: u8, steps: u32) -> bool
+    ensures { result ≡ has_made core.now t steps }
 {
-    for place in front..records.len() {
-        if !passes(core, records.at(place)) {
-            return place;
+    steps == 0 || usize::from(t) < core.threads() && steps <= core.number(t) || core.gone(t)
+}
+
+/// Whether each thread but `t` has made the steps that a clock counts of it, or has ended.
+fn have_made(core: &Core, clock: &Clock, t: u8) -> bool
+    ensures { Decides result (HaveMade core.now t clock.now) }
+{
+    for other in 0..THREADS {
+        let other = other as u8;
+        if other != t && !has_made(core, other, clock.count(other)) {
+            return false;
         }
     }
-    records.len()
-}
-
-/// How many steps of the history, from the first on, needn't be waited for, where so many are known
-/// not to.
-pub(super) fn passed_from(core: &Core, past: &Option<Arc<History>>, front: usize) -> usize
-    requires { front ≤ front_in (option_map arc_value past.now) core.now }
-    ensures { result ≡ front_in (option_map arc_value past.now) core.now }
-{
-    match past {
-        Some(history) => passed_in(core, history.records(), front),
-        None => 0,
-    }
+    true
 }
 
 impl Round {
@@ -129,23 +124,16 @@ impl Round {
         }
     }
 
-    /// How many records the history has.
-    fn past_len(&self) -> usize
-        ensures { result ≡ length (past_records self.now.past) }
+    /// Whether thread `t`, whose next step has this place in the history, is due: each thread has made the
+    /// steps that the clock of that place counts of it.
+    fn is_due_at(&self, t: u8, place: usize) -> bool
+        requires { place ≡ place_in self.now.past self.now.machine t }
+        ensures { result ≡ is_due self.now.past self.now.machine t }
     {
-        match &self.past {
-            Some(history) => history.records().len(),
-            None => 0,
+        if place >= self.graph.len() {
+            return true;
         }
-    }
-
-    /// Whether a thread whose next step has this place in the history is due.
-    #[tactic(auto, using(crate::proofs::Passing::due_is))]
-    fn is_due_at(&self, place: usize) -> bool
-        ensures { (t : ℕ) → place ≡ place_in self.now.past self.now.machine t
-            → result ≡ is_due self.now.past self.now.machine t }
-    {
-        place == self.past_len() || place <= self.front
+        have_made(&self.core, self.graph.clock(place), t)
     }
 
     /// Whether thread `t` is ready and not out.
@@ -199,19 +187,21 @@ impl Round {
             number: self.core.number(t),
         };
         let free = Some(better(found.free, next));
-        if !self.is_due_at(next.place) {
+        // A clock is looked at only where the thread would lead.
+        if !leads(found.due, next) || !self.is_due_at(t, next.place) {
             return Leaders {
                 due: found.due,
                 free,
             };
         }
         Leaders {
-            due: Some(better(found.due, next)),
+            due: Some(next),
             free,
         }
     }
 
-    /// The leaders of all free threads. Looks at each thread once, and compares no record.
+    /// The leaders of all free threads. Looks at each thread once, at the clock of those alone that come
+    /// before all due ones so far, and compares no record.
     fn leaders(&self) -> Leaders
         ensures { AreLeadersBelow self.now (length self.now.machine.harts) result }
     {

@@ -4,15 +4,19 @@ ghost use Rattle.std.specs.Prelude.{◌≡◌, ◌<◌, true, false, length, is_
 ghost use Rattle.std.specs.Bool.{OnTrue};
 ghost use Rattle.std.specs.Arc.{arc_value};
 ghost use Rattle.machine_spec.specs.Setup.{IsSetup, first};
-ghost use Rattle.history_spec.specs.History.{IsHonest, IsSound, IsMapped};
+ghost use Rattle.history_spec.specs.History.{IsHonest, IsSound, IsMapped, past_records};
 ghost use Rattle.report_spec.specs.Report.{instructions_from};
-ghost use Rattle.round_spec.specs.Rounds.{nobody_out, opening, is_over, is_out, history_of};
+ghost use Rattle.round_spec.specs.Rounds.{nobody_out, nothing_taken, opening, is_over, is_out, history_of};
+ghost use Rattle.round_spec.specs.Due.{past_facts};
 ghost use Rattle.round_spec.specs.Instructions.{executed_instructions};
 ghost use Rattle.round_spec.specs.Keeping.{IsInOrder, IsCounted};
 ghost use Rattle.round_spec.specs.Schedules.{IsBySchedule};
+ghost use Rattle.release_core.specs.Records.{AreOfRun};
 ghost use Rattle.propagate.specs.Kept.{IsOfMap};
 
+use depend_graph::Graph;
 use guest_call::THREADS;
+use history_facts::facts;
 use machine_spec::End;
 use page_store::PageTable;
 use release_core::{Core, History, Records, Setup};
@@ -20,22 +24,25 @@ use report_spec::Entry;
 use std::alloc::{AllocError, Global};
 use std::marker::Model;
 use std::sync::Arc;
-use thunk_record::Record;
+use thunk_record::{Frame, Record};
 
 /// A round as it stands: what it started from and goes by, the machine, the steps so far with their
-/// records, who is out, and what was discarded. A clause sees a `RoundState` of `round_spec`.
+/// records and with when each was picked, who is out and since when, and what was discarded. A clause
+/// sees a `RoundState` of `round_spec`. Beside it stands which steps of the history depend on which.
 #[derive(Drop)]
 pub struct Round {
     pub(super) setup: Setup,
     pub(super) past: Option<Arc<History>>,
+    pub(super) graph: Graph,
     pub(super) core: Core,
     pub(super) schedule: Vec<Entry>,
     pub(super) records: Records,
+    pub(super) picked: Vec<u32>,
     pub(super) out: [bool; THREADS],
+    pub(super) taken_at: [u32; THREADS],
     pub(super) discarded: u64,
     pub(super) stopped: bool,
     pub(super) instructions: u64,
-    pub(super) front: usize,
 }
 
 impl Model for Round {
@@ -52,12 +59,14 @@ impl Model for Round {
       machine = r.core;
       schedule = r.schedule.items;
       records = r.records;
+      picked = r.picked.items;
       out = r.out;
+      taken_at = r.taken_at;
       discarded = r.discarded;
       stopped = r.stopped;
     } };
 
-    ghost invariant = { λ r. IsKept (view r) r.instructions r.front };
+    ghost invariant = { λ r. IsKept (view r) r.instructions r.graph };
 }
 
 /// None of the threads is out.
@@ -66,6 +75,28 @@ fn nobody_out() -> [bool; THREADS]
     ensures { result ≡ nobody_out }
 {
     [false; THREADS]
+}
+
+/// For none of the threads a length is kept.
+#[tactic(auto, unfolding(round_spec::specs::Rounds::nothing_taken))]
+fn nothing_taken() -> [u32; THREADS]
+    ensures { result ≡ nothing_taken }
+{
+    [0; THREADS]
+}
+
+/// Which steps of a history depend on which, if there is one.
+fn graph_of(alloc: Global, past: &Option<Arc<History>>) -> Result<Graph, AllocError>
+    ensures graph { IfOk result (λ graph. graph ≡ past_facts (option_map arc_value past.now)) }
+    ensures of_run { AreOfRun (past_records (option_map arc_value past.now)) }
+{
+    match past {
+        Some(history) => {
+            history.keeps();
+            Graph::of(alloc, facts(alloc, history)?)
+        }
+        None => Graph::of(alloc, Vec::new(alloc)),
+    }
 }
 
 impl Round {
@@ -81,17 +112,20 @@ impl Round {
     {
         setup.sound();
         let core = Core::new(alloc, &setup)?;
+        let graph = graph_of(alloc, &past)?;
         Ok(Round {
             setup,
             past,
+            graph,
             core,
             schedule: Vec::new(alloc),
             records: Records::new(alloc),
+            picked: Vec::new(alloc),
             out: nobody_out(),
+            taken_at: nothing_taken(),
             discarded: 0,
             stopped: false,
             instructions: 0,
-            front: 0,
         })
     }
 
@@ -99,6 +133,7 @@ impl Round {
     /// where it goes by a sound history, it is at the machine from scratch, and its marks are exact.
     pub fn keeps(&self)
         ensures setup { IsSetup self.now.setup }
+        ensures framed { self.now.machine.frame ≡ (first self.now.setup).frame }
         ensures in_order { IsInOrder self.now }
         ensures counted { IsCounted self.now }
         ensures by_schedule { IsBySchedule self.now }
@@ -111,6 +146,20 @@ impl Round {
         ensures { result.now ≡ self.now.setup }
     {
         &self.setup
+    }
+
+    /// The page map and the fuel of its steps.
+    ///
+    /// # Errors
+    ///
+    /// An error where the host's memory ran out.
+    pub fn frame(&self) -> Result<Frame, AllocError>
+        ensures { IfOk result (λ frame. frame ≡ self.now.machine.frame) }
+    {
+        let frame = self.core.frame();
+        let map = Arc::try_clone(frame.shared_map())?;
+        let code = Arc::try_clone(self.setup.code())?;
+        Ok(Frame::new(map, frame.fuel(), code))
     }
 
     /// The history that it goes by, if there is one.
@@ -180,6 +229,14 @@ impl Round {
         ensures { slice_get self.now.records i ≡ Some (arc_value result.now) }
     {
         self.records.at(i)
+    }
+
+    /// How many entries the schedule had when the thread of an entry was picked.
+    pub fn picked(&self, i: usize) -> u32
+        requires { i < length self.now.schedule }
+        ensures { slice_get self.now.picked i ≡ Some result }
+    {
+        self.picked.as_slice()[i]
     }
 
     /// Whether it is over: the machine has an end, or the round was stopped.

@@ -1,3 +1,3 @@
 -- The files of lemmas of this crate.
-pub mod Replays
+pub mod Following
 pub mod Made

@@ -1,7 +1,7 @@
 -- What workers made of a round.
 use Rattle.std.proofs.Common.{◌≡◌, ◌<◌, ℕ, true, List, length, sum, Option, Some, is_some, ap, sym, ◌∙◌, subst}
 use Rattle.machine_spec.specs.Setup.{Setup, IsSetup}
-use Rattle.history_spec.specs.History.{History}
+use Rattle.history_spec.specs.History.{History, IsSound}
 use Rattle.round_spec.specs.Rounds.{RoundState}
 use Rattle.round_spec.specs.Schedules.{IsBySchedule}
 use Rattle.round_spec.specs.Alone.{lone_round}
@@ -9,8 +9,8 @@ use Rattle.round_spec.proofs.Leaving.{round-setup, round-past}
 use Rattle.worker_spec.specs.Workers.{IsMadeBy}
 use Rattle.worker_spec.proofs.Events.{picks-events}
 use Rattle.worker_spec.proofs.Workers.{lone-made, ended-made}
-use Rattle.round_spec.specs.Unedited.{IsUnedited}
-use Rattle.worker_spec.specs.Replaying.{IsReplaying}
+use Rattle.round_spec.specs.Picking.{ArePicked, IsPickedSoFar}
+use Rattle.rerun_workers.specs.Following.{FollowsPicks}
 
 -- the round of one worker is of its setup, and goes by its history
 
@@ -39,9 +39,19 @@ pub together-made :
     (workers : ℕ) (setup : Setup) (past : Option History) (w : RoundState) (shares : List ℕ)
     → 1 < workers → w.setup ≡ setup → w.past ≡ past → IsBySchedule w → is_some w.machine.ending ≡ true
     → length shares ≡ workers → sum shares ≡ length w.schedule
-    → ((h : History) → w.past ≡ Some h → IsUnedited h w.setup → IsReplaying h w)
+    → FollowsPicks w.setup w.past w
     → IsMadeBy workers setup past w.schedule shares
-together-made workers setup past w shares many is_setup is_past stands ended each steps replays =
+together-made workers setup past w shares many is_setup is_past stands ended each steps follows =
     subst (λ (s : Setup). IsMadeBy workers s past w.schedule shares) is_setup
     (subst (λ (p : Option History). IsMadeBy workers w.setup p w.schedule shares) is_past
-    (ended-made workers w shares many stands ended each steps replays))
+    (ended-made workers w shares many stands ended each steps follows.replays follows.picked))
+
+-- what is picked so far was picked rightly, entry by entry
+pub entries-picked :
+    (setup : Setup) (past : Option History) (w : RoundState)
+    → w.setup ≡ setup → w.past ≡ past → FollowsPicks setup past w
+    → IsSound past setup → ArePicked setup past w.schedule w.picked
+entries-picked setup past w setup_is past_is follows sound =
+    let so_far : IsPickedSoFar w = follows.picked sound in
+    subst (λ (s : Setup). ArePicked s past w.schedule w.picked) setup_is
+    (subst (λ (p : Option History). ArePicked w.setup p w.schedule w.picked) past_is so_far.entries)

@@ -1,8 +1,6 @@
 -- What the calls of a worker do to the round under the lock.
-use Rattle.std.specs.Prelude.{◌≡◌, ◌+◌, ℕ, zero, suc, ⊤, length, Option, Some}
+use Rattle.std.specs.Prelude.{◌≡◌, ◌+◌, ℕ, zero, suc, ⊤, length}
 use Rattle.std.specs.Arc.{arc_value}
-use Rattle.machine_spec.specs.Setup.{Setup}
-use Rattle.history_spec.specs.History.{History}
 use Rattle.release_core.specs.Jobs.{IsJobOf}
 use Rattle.thunk_run.specs.declared.job.Run.{Run}
 use Rattle.round_spec.specs.declared.events.Event.TheVariants.{Take, Reuse, Commit, GiveBack, Stop}
@@ -10,8 +8,6 @@ use Rattle.round_spec.specs.declared.events.Pick.{Pick}
 use Rattle.round_spec.specs.declared.events.Pick.TheVariants as pick
 use Rattle.round_spec.specs.Rounds.{RoundState, happens}
 use Rattle.round_spec.specs.Choice.{pick_of}
-use Rattle.round_spec.specs.Unedited.{IsUnedited}
-use Rattle.worker_spec.specs.Replaying.{IsReplaying}
 use Rattle.propagate.specs.Committing.{CanCommit}
 use Rattle.rerun_workers.specs.declared.locked.Task.{Task}
 use Rattle.rerun_workers.specs.declared.locked.Task.TheVariants as task
@@ -80,7 +76,3 @@ HandsBack run (landed.Memory back) = back ≡ run
 -- A worker's steps rose by the entries that came to the round.
 abbrev pub Counts : ℕ → RoundState → ℕ → RoundState → Type 0
 Counts before old now new = now + length old.schedule ≡ before + length new.schedule
-
--- Without an edit a round replays its history.
-abbrev pub ReplaysUnedited : Setup → Option History → RoundState → Type 0
-ReplaysUnedited setup past w = (h : History) → past ≡ Some h → IsUnedited h setup → IsReplaying h w

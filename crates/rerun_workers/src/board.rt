@@ -1,11 +1,12 @@
 //! The board: the round under a lock, and the condition on which workers wait.
 
 ghost use Rattle.std.specs.Prelude.{◌≡◌, ◌≢◌, ◌+◌, ◌<◌, ◌≤◌, length, sum, vec_len, vec_capacity, Some, [], IfOk};
+ghost use Rattle.machine_spec.specs.Setup.{first};
 ghost use Rattle.history_spec.specs.History.{History};
 ghost use Rattle.round_spec.specs.Rounds.{opening};
 ghost use Rattle.round_spec.specs.Unedited.{IsUnedited};
-ghost use Rattle.worker_spec.specs.Replaying.{IsReplaying};
 ghost use Rattle.rerun_workers.specs.declared.locked.Task.TheVariants as task;
+ghost use Rattle.rerun_workers.specs.Following.{FollowsPicks};
 ghost use Rattle.rerun_workers.specs.Locking.{BeginsNothing, HandsBack, steps_by};
 
 use super::locked::{Landed, Locked, Task};
@@ -14,15 +15,18 @@ use propagate::Round;
 use std::alloc::{AllocError, Global};
 use std::sync::ledger::{Blank, Share};
 use std::sync::{Condvar, Mutex, Wait};
+use thunk_record::Frame;
 use thunk_run::{Job, Run};
 
-/// What workers share: the round under a lock, and the condition that there is work or none any more. A worker executes
-/// outside the lock.
+/// What workers share: the round under a lock, the condition that there is work or none any more, and the page map and the
+/// fuel of the round's steps. A worker executes outside the lock.
 #[derive(Drop)]
 pub struct Board<J: Naming> {
     lock: Mutex<Locked<J>>,
     changed: Condvar,
+    frame: Frame,
     shares: Vec<u64>,
+    ghost framed: { frame ≡ (first J.setup).frame },
     ghost none: { shares.items ≡ [] },
     ghost room: { J.workers ≤ vec_capacity shares },
 }
@@ -56,7 +60,7 @@ fn gather<J: Naming>(mut passes: Vec<Pass<J>>, mut shares: Vec<u64>) -> (Share<J
 {
     let mut all = passes[0].empty();
     while !passes.is_empty() {
-        let Pass { share, steps } = passes.remove(0);
+        let Pass { share, steps, .. } = passes.remove(0);
         all.merge(share);
         shares.push_reserved(steps);
     }
@@ -82,11 +86,13 @@ impl<J: Naming> Board<J> {
         ensures { IfOk result (λ made. vec_len made.1 ≡ workers) }
     {
         let shares = Vec::with_capacity(alloc, workers as usize)?;
+        let frame = round.frame()?;
         let (book, all) = blank.open::<J>();
         let passes = passes_of(alloc, all, workers)?;
         let board = Board {
             lock: Mutex::new(Locked::new(round, book)),
             changed: Condvar::new(),
+            frame,
             shares,
         };
         Ok((board, passes))
@@ -123,13 +129,20 @@ impl<J: Naming> Board<J> {
         unreachable!()
     }
 
-    /// Commits a run to the round under the lock, or says why it can't. Who commits asks for the next step then,
-    /// and so wakes whoever there is work for; where memory ran out nobody has to ask, and all are woken.
+    /// Whether another worker has something to do.
+    pub(super) fn has_more<R: Wait>(&self, rt: &R) -> bool {
+        self.lock.lock(rt).has_more()
+    }
+
+    /// Commits a run to the round under the lock, or says why it can't. What takes longest, to look whether it ran with
+    /// the round's page map, is done before. Who commits asks for the next step then, and so wakes whoever there is work
+    /// for; where memory ran out nobody has to ask, and all are woken.
     pub fn commit<R: Wait>(&self, rt: &R, pass: &mut Pass<J>, run: Run) -> Landed
         ensures back { HandsBack run result }
         ensures counts { pass.new.steps ≡ pass.old.steps + steps_by result }
     {
-        let landed = self.lock.lock(rt).commit(pass, run);
+        let same_frame = *run.frame == self.frame;
+        let landed = self.lock.lock(rt).commit(pass, run, same_frame);
         if matches!(landed, Landed::Memory(_)) {
             self.changed.notify_all();
         }
@@ -153,7 +166,7 @@ impl<J: Naming> Board<J> {
         ensures past { result.0.past ≡ J.past }
         ensures each { vec_len result.1 ≡ vec_len passes }
         ensures steps { sum result.1.items ≡ length result.0.schedule }
-        ensures unedited { (h : History) → J.past ≡ Some h → IsUnedited h J.setup → IsReplaying h result.0 }
+        ensures follows { FollowsPicks J.setup J.past result.0 }
     {
         let Board { lock, shares, .. } = self;
         let Locked { round, mut book } = lock.into_inner();

@@ -1,14 +1,16 @@
 //! The round under the lock: each call does some of its events, and names them.
 
-ghost use Rattle.std.specs.Prelude.{◌≡◌, ◌+◌, ◌≤◌, true, length, Some, is_ok, if◌then◌else◌, OnOk, OnErr};
+ghost use Rattle.std.specs.Prelude.{◌≡◌, ◌+◌, ◌≤◌, true, length, Some, is_ok, if◌then◌else◌, Decides, OnOk, OnErr};
+ghost use Rattle.std.specs.Arc.{arc_value};
+ghost use Rattle.machine_spec.specs.Setup.{first};
 ghost use Rattle.history_spec.specs.History.{History};
 ghost use Rattle.round_spec.specs.declared.events.Event.TheVariants as event;
 ghost use Rattle.round_spec.specs.declared.events.Pick.TheVariants as pick;
 ghost use Rattle.round_spec.specs.Rounds.{opening, can_take, can_reuse, happens};
 ghost use Rattle.round_spec.specs.Choice.{pick_of};
 ghost use Rattle.round_spec.specs.Unedited.{IsUnedited};
-ghost use Rattle.worker_spec.specs.Replaying.{IsReplaying};
 ghost use Rattle.propagate.specs.Committing.{GoesOn};
+ghost use Rattle.rerun_workers.specs.Following.{FollowsPicks};
 ghost use Rattle.rerun_workers.specs.Locking.{Tells, TellsAfter, BeginsNothing, given_up, Lands, HandsBack, steps_by, Counts};
 
 use super::naming::{Naming, Pass};
@@ -46,8 +48,9 @@ pub enum Landed {
 }
 
 /// The round that workers make together, as it lies under their lock, with the book of the ledger, whose total is the
-/// length of the schedule. It is of the setup and of the history that its type names; and without an edit it has
-/// done nothing yet but what the history did.
+/// length of the schedule. It is of the setup and of the history that its type names, and nothing was begun in it but
+/// what was picked: by a sound history all of it was picked rightly, and without an edit it has done nothing yet but what
+/// the history did.
 #[derive(Drop)]
 pub struct Locked<J: Naming> {
     pub(super) round: Round,
@@ -55,7 +58,7 @@ pub struct Locked<J: Naming> {
     ghost counted: { length round.schedule ≡ book.total },
     ghost setup: { round.setup ≡ J.setup },
     ghost past: { round.past ≡ J.past },
-    ghost replays: { (h : History) → J.past ≡ Some h → IsUnedited h J.setup → IsReplaying h round },
+    ghost follows: { FollowsPicks J.setup J.past round },
 }
 
 /// Discards the step of thread `t`, if one is out.
@@ -79,7 +82,7 @@ fn give_up(round: &mut Round, t: u8)
 
 impl<J: Naming> Locked<J> {
     /// A round before its first step, with a book that counts nothing.
-    #[tactic(auto, using(crate::proofs::Replays::replays_opening))]
+    #[tactic(auto, using(crate::proofs::Following::follows_opening))]
     pub(super) fn new(round: Round, book: Book<J>) -> Locked<J>
         requires opening { round ≡ opening J.setup J.past }
         requires empty { book.total ≡ 0 }
@@ -98,8 +101,9 @@ impl<J: Naming> Locked<J> {
         ensures few { OnOk result (length self.new.round.schedule ≤ 65536) }
     {
         let Locked { round, book } = self;
-        let Pass { share, steps } = pass;
+        let Pass { share, steps, .. } = pass;
         book.audit(share);
+        round.keeps();
         round.reuse(t)?;
         round.keeps();
         book.add(share, 1);
@@ -113,6 +117,7 @@ impl<J: Naming> Locked<J> {
         ensures same { GoesOn 0 self.old.round self.new.round }
     {
         let Locked { round, .. } = self;
+        round.keeps();
         round.stop();
     }
 
@@ -125,6 +130,7 @@ impl<J: Naming> Locked<J> {
         ensures unedited { (h : History) → J.past ≡ Some h → IsUnedited h J.setup → BeginsNothing result }
     {
         let Locked { round, .. } = self;
+        round.keeps();
         match round.take(t) {
             Ok(job) => Task::Begin(job),
             Err(_) => {
@@ -165,17 +171,20 @@ impl<J: Naming> Locked<J> {
         }
     }
 
-    /// Commits a run, and counts it as a step of this worker; or says why it can't.
-    pub fn commit(&mut self, pass: &mut Pass<J>, run: Run) -> Landed
+    /// Commits a run, and counts it as a step of this worker; or says why it can't. Whether it ran with the page map and
+    /// the fuel of the round's setup is known.
+    pub fn commit(&mut self, pass: &mut Pass<J>, run: Run, same_frame: bool) -> Landed
+        requires { Decides same_frame (arc_value run.frame ≡ (first J.setup).frame) }
         ensures does { Lands self.old.round run result self.new.round }
         ensures back { HandsBack run result }
         ensures made { pass.new.steps ≡ pass.old.steps + steps_by result }
         ensures counts { Counts pass.old.steps self.old.round pass.new.steps self.new.round }
     {
         let Locked { round, book } = self;
-        let Pass { share, steps } = pass;
+        let Pass { share, steps, .. } = pass;
         book.audit(share);
-        match round.commit(run) {
+        round.keeps();
+        match round.commit_known(run, same_frame) {
             Committed::Done => {
                 round.keeps();
                 book.add(share, 1);
@@ -196,6 +205,7 @@ impl<J: Naming> Locked<J> {
         ensures counts { _pass.new.steps ≡ _pass.old.steps }
     {
         let Locked { round, .. } = self;
+        round.keeps();
         give_up(round, job.thread);
     }
 }

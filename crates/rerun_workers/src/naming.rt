@@ -6,6 +6,7 @@ ghost use Rattle.history_spec.specs.History.{History};
 
 use std::marker::Brand;
 use std::sync::ledger::{Ledger, Share};
+use thunk_run::Job;
 
 /// What the round of a board started from, what it goes by, and how many workers make it. The types of the board and
 /// of its passes name it, so nobody can put a round of another setup or of another history in its place.
@@ -25,12 +26,13 @@ impl Naming for Brand {
     ghost workers = { 0 };
 }
 
-/// What a worker holds of a board: how many steps of the round it has made, and a share of the ledger, which is one
-/// part with as many.
+/// What a worker holds of a board: how many steps of the round it has made, a share of the ledger, which is one part
+/// with as many, and the step that it is to execute first, where one was begun for it before it set to work.
 #[derive(Drop)]
 pub struct Pass<J: Naming> {
     pub(super) share: Share<J>,
     pub(super) steps: u64,
+    pub(super) begun: Option<Job>,
     ghost one: { share.parts ≡ 1 },
     ghost counted: { steps ≡ share.amount },
 }
@@ -42,7 +44,11 @@ impl<J: Naming> Pass<J> {
         requires nothing { share.amount ≡ 0 }
         ensures { result.steps ≡ 0 }
     {
-        Pass { share, steps: 0 }
+        Pass {
+            share,
+            steps: 0,
+            begun: None,
+        }
     }
 
     /// How many steps of the round its worker has made.

@@ -2,17 +2,19 @@
 
 ghost use Rattle.std.specs.Prelude.{◌≡◌, ◌<◌, ◌≤◌, length, sum, true, is_some, option_map, Some, IfOk};
 ghost use Rattle.std.specs.Arc.{arc_value};
-ghost use Rattle.history_spec.specs.History.{History as Kept};
+ghost use Rattle.history_spec.specs.History.{History as Kept, IsSound};
 ghost use Rattle.round_spec.specs.Rounds.{opening};
 ghost use Rattle.round_spec.specs.Alone.{lone_round};
 ghost use Rattle.round_spec.specs.Schedules.{IsBySchedule};
+ghost use Rattle.round_spec.specs.Picking.{ArePicked};
 ghost use Rattle.round_spec.specs.Unedited.{IsUnedited, OnlyReuses};
-ghost use Rattle.worker_spec.specs.Replaying.{IsReplaying};
 ghost use Rattle.worker_spec.specs.Workers.{IsMadeBy};
+ghost use Rattle.reach_spec.specs.Working.{ReexecutesLeast};
+ghost use Rattle.rerun_workers.specs.Following.{FollowsPicks};
 
 use super::board::Board;
 use super::naming::Naming;
-use super::working::{make_next, work};
+use super::working::{make_unshared, work};
 use ith_host::Gate;
 use propagate::{Round, run_alone};
 use release_core::{History, Setup};
@@ -36,6 +38,8 @@ fn counted<R: Threads, L: Ledger>(
     requires parts { blank.parts ≡ L.parts }
     requires some { 0 < L.parts }
     ensures alone { IfOk result (λ round. round ≡ lone_round setup (option_map arc_value past)) }
+    ensures picked { IfOk result (λ round. IsSound (option_map arc_value past) setup
+        → ArePicked setup (option_map arc_value past) round.schedule round.picked) }
     ensures ends { IfOk result (λ round. is_some round.machine.ending ≡ true) }
     ensures unedited { IfOk result (λ round.
         (h : Kept) → option_map arc_value past ≡ Some h → IsUnedited h setup → OnlyReuses h round) }
@@ -73,6 +77,9 @@ fn run_by_first<R: Threads>(
     ensures made { IfOk result (λ r.
         IsMadeBy workers setup (option_map arc_value past) r.0.schedule r.1.items) }
     ensures alone { IfOk result (λ r. r.0 ≡ lone_round setup (option_map arc_value past)) }
+    ensures picked { IfOk result (λ r. IsSound (option_map arc_value past) setup
+        → ArePicked setup (option_map arc_value past) r.0.schedule r.0.picked) }
+    ensures least { IfOk result (λ r. ReexecutesLeast r.0) }
     ensures ends { IfOk result (λ r. is_some r.0.machine.ending ≡ true) }
     ensures unedited { IfOk result (λ r.
         (h : Kept) → option_map arc_value past ≡ Some h → IsUnedited h setup → OnlyReuses h r.0) }
@@ -101,13 +108,12 @@ fn run_together<J: Naming + Send + Sync, R: Threads + Wait + Sync, G: Gate + Syn
     ensures past { IfOk result (λ r. r.0.past ≡ round.past) }
     ensures each { IfOk result (λ r. length r.1.items ≡ workers) }
     ensures steps { IfOk result (λ r. sum r.1.items ≡ length r.0.schedule) }
-    ensures unedited { IfOk result (λ r.
-        (h : Kept) → round.past ≡ Some h → IsUnedited h round.setup → IsReplaying h r.0) }
+    ensures follows { IfOk result (λ r. FollowsPicks round.setup round.past r.0) }
 {
     let (board, mut passes) = Board::<J>::new(alloc, round, workers, blank)?;
     let shared = &board;
-    // Until the first step is executed there is nothing to share: a round that only reuses starts no thread.
-    if make_next(rt, alloc, shared, &mut passes[0], gate) {
+    // As long as there is nothing to share no thread is started: never, where a round only reuses.
+    if make_unshared(rt, alloc, shared, &mut passes[0], gate) {
         thread::for_each_mut(
             rt,
             passes.as_mut_slice(),
@@ -119,8 +125,9 @@ fn run_together<J: Naming + Send + Sync, R: Threads + Wait + Sync, G: Gate + Syn
 }
 
 /// A round that so many workers make, and how many of its steps each of them made, in their order. It has an end. One
-/// worker makes it without a lock and without the gate, and discards nothing. Without an edit it is all reuse of the
-/// history, and nothing is discarded, however many the workers are.
+/// worker makes it without a lock and without the gate, and discards nothing. By a sound history each entry was picked
+/// rightly: its thread was due, or nobody was. However many the workers are, they execute again no more than they must;
+/// and without an edit it is all reuse of the history, and nothing is discarded.
 ///
 /// # Errors
 ///
@@ -140,6 +147,9 @@ pub fn run_round<R: Threads + Wait + Sync, G: Gate + Sync>(
     ensures made { IfOk result (λ r.
         IsMadeBy workers setup (option_map arc_value past) r.0.schedule r.1.items) }
     ensures alone { IfOk result (λ r. workers ≡ 1 → r.0 ≡ lone_round setup (option_map arc_value past)) }
+    ensures picked { IfOk result (λ r. IsSound (option_map arc_value past) setup
+        → ArePicked setup (option_map arc_value past) r.0.schedule r.0.picked) }
+    ensures least { IfOk result (λ r. ReexecutesLeast r.0) }
     ensures ends { IfOk result (λ r. is_some r.0.machine.ending ≡ true) }
     ensures unedited { IfOk result (λ r.
         (h : Kept) → option_map arc_value past ≡ Some h → IsUnedited h setup → OnlyReuses h r.0) }

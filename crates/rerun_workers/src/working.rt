@@ -58,23 +58,33 @@ fn make_step<J: Naming, R: Threads + Wait, G: Gate>(
     }
 }
 
-/// Makes the next step of the round on the board that is to be executed, past all that is reused before it: takes what
-/// it is told to, passes the gate, executes it with no lock held, and hands it in. The answer is whether the worker goes
-/// on: it doesn't where the round is over or the host's memory ran out.
-pub(super) fn make_next<J: Naming, R: Threads + Wait, G: Gate>(
+/// Makes steps of the round on the board as long as there is nothing to share. The answer is whether there is: the pass
+/// holds then the step that it is to execute first, and another worker has something to do meanwhile. There never is
+/// where the round is over or the host's memory ran out.
+pub(super) fn make_unshared<J: Naming, R: Threads + Wait, G: Gate>(
     rt: &R,
     alloc: Global,
     board: &Board<J>,
     pass: &mut Pass<J>,
     gate: &G,
 ) -> bool {
-    match board.next(rt, pass) {
-        Task::Begin(job) => make_step(rt, alloc, board, pass, gate, job),
-        Task::Hold | Task::Over | Task::Memory => false,
+    for _ in rt.forever() {
+        let Task::Begin(job) = board.next(rt, pass) else {
+            return false;
+        };
+        if board.has_more(rt) {
+            pass.begun = Some(job);
+            return true;
+        }
+        if !make_step(rt, alloc, board, pass, gate, job) {
+            return false;
+        }
     }
+    false
 }
 
-/// Makes steps of the round on the board until it is over or the host's memory runs out.
+/// Makes steps of the round on the board until it is over or the host's memory runs out: takes what it is told to, passes
+/// the gate, executes it with no lock held, and hands it in. A step that was begun for it comes first.
 pub fn work<J: Naming, R: Threads + Wait, G: Gate>(
     rt: &R,
     alloc: Global,
@@ -82,8 +92,16 @@ pub fn work<J: Naming, R: Threads + Wait, G: Gate>(
     pass: &mut Pass<J>,
     gate: &G,
 ) {
+    if let Some(job) = pass.begun.take() {
+        if !make_step(rt, alloc, board, pass, gate, job) {
+            return;
+        }
+    }
     for _ in rt.forever() {
-        if !make_next(rt, alloc, board, pass, gate) {
+        let Task::Begin(job) = board.next(rt, pass) else {
+            return;
+        };
+        if !make_step(rt, alloc, board, pass, gate, job) {
             return;
         }
     }

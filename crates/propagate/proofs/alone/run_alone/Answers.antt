@@ -2,7 +2,7 @@
 use Rattle.std.proofs.Common.{option_map, arith}
 use Rattle.std.specs.Arc.{arc_value}
 use Rattle.round_spec.specs.Unedited.{OnlyReuses}
-use Rattle.propagate.proofs.Executing.{alone-threads, alone-permitted, alone-complete, alone-scratch, alone-ends, alone-discarded, alone-reuses}
+use Rattle.propagate.proofs.Executing.{alone-threads, alone-permitted, alone-complete, alone-scratch, alone-picked, alone-least, alone-ends, alone-discarded, alone-reuses}
 use Rattle.propagate.proofs.alone.run_alone.Goals as goal
 
 pub returns-clause-threads : goal.returns-clause-threads
@@ -20,6 +20,14 @@ returns-clause-complete g c =
 pub returns-clause-scratch : goal.returns-clause-scratch
 returns-clause-scratch g c =
     alone-scratch c.args.setup (option_map arc_value c.args.past) _ c.sound.ensures c.in_ok-round.ensures.alone
+
+pub returns-clause-picked : goal.returns-clause-picked
+returns-clause-picked g c =
+    alone-picked c.args.setup (option_map arc_value c.args.past) _ c.sound.ensures c.in_ok-round.ensures.alone
+
+pub returns-clause-least : goal.returns-clause-least
+returns-clause-least g c =
+    alone-least c.args.setup (option_map arc_value c.args.past) _ c.sound.ensures c.in_ok-round.ensures.alone
 
 pub returns-clause-ends : goal.returns-clause-ends
 returns-clause-ends g c =

@@ -4,7 +4,7 @@ use Rattle.std.specs.Arc.{arc_value}
 use Rattle.round_spec.specs.declared.events.Event.TheVariants.{Commit}
 use Rattle.round_spec.specs.Rounds.{RoundState, happens}
 use Rattle.propagate.specs.Committing.{CanCommit}
-use Rattle.propagate.proofs.Making.{appended, commit-append, commit-front, commit-happens, commit-kept}
+use Rattle.propagate.proofs.Making.{handed_in, commit-append, commit-happens, commit-kept}
 use Rattle.propagate.proofs.round.Round.make.Goals as goal
 
 pub append-requires-clause-number : goal.append-requires-clause-number
@@ -13,15 +13,8 @@ append-requires-clause-number c =
     (subst (λ (w : RoundState). CanCommit w (arc_value c.args.run.now.frame) (arc_value c.args.run.now.rec))
     (sym c.self.view_is) c.requires)).number
 
-pub passed_from-self-inside-requires : goal.passed_from-self-inside-requires
-passed_from-self-inside-requires c =
-    commit-front _ _ _ _ (arc_value c.args.run.now.rec) c.append.new.core c.self.invariant
-    (subst (λ (w : RoundState). CanCommit w (arc_value c.args.run.now.frame) (arc_value c.args.run.now.rec))
-    (sym c.self.view_is) c.requires)
-    c.in_ok-append.ensures.ok.machine
-
 -- the round before and after, by its parts
-abbrev before : goal.After-self-2-1 → RoundState
+abbrev before : goal.After-self-1 → RoundState
 before c =
     record {
       setup = c.self.inside.setup;
@@ -29,54 +22,57 @@ before c =
       machine = c.self.inside.core;
       schedule = c.self.inside.schedule.items;
       records = c.self.inside.records;
+      picked = c.self.inside.picked.items;
       out = c.self.inside.out;
+      taken_at = c.self.inside.taken_at;
       discarded = c.self.inside.discarded;
       stopped = c.self.inside.stopped;
     }
 
-abbrev after : goal.After-self-2-1 → RoundState
+abbrev after : goal.After-self-1 → RoundState
 after c =
     record (before c) {
       machine = c.append.new.core;
       schedule = c.append.new.schedule.items;
       records = c.append.new.records;
-      out = set c.self.inside.out c.from.result false;
+      picked = c.push_reserved.new.self.items;
+      out = set c.self.inside.out c.from-t.result false;
+      taken_at = set c.self.inside.taken_at c.from-t.result 0;
     }
 
-can : (c : goal.After-self-2-1) → CanCommit (before c) (arc_value c.args.run.now.frame) (arc_value c.args.run.now.rec)
+can : (c : goal.After-self-1) → CanCommit (before c) (arc_value c.args.run.now.frame) (arc_value c.args.run.now.rec)
 can c =
     subst (λ (w : RoundState). CanCommit w (arc_value c.args.run.now.frame) (arc_value c.args.run.now.rec))
     (sym c.self.view_is) c.requires
 
-made :
-    (c : goal.After-self-2-1)
-    → after c ≡ appended (before c) (arc_value c.args.run.now.rec) false
-    (set (before c).out (arc_value c.args.run.now.rec).thread false)
+made : (c : goal.After-self-1) → after c ≡ handed_in (before c) (arc_value c.args.run.now.rec)
 made c =
-    let from_is : c.from.result ≡ (arc_value c.args.run.now.rec).thread =
-    grind (arith, c.from.ensures, c.thread.ensures, c.deref.ensures) in
+    let from_is : c.from-t.result ≡ (arc_value c.args.run.now.rec).thread =
+    grind (arith, c.from-t.ensures, c.thread.ensures, c.deref.ensures) in
     rw (
       c.in_ok-append.ensures.ok.machine,
       c.in_ok-append.ensures.ok.schedule,
       c.in_ok-append.ensures.ok.records,
+      c.push_reserved.ensures.items,
+      c.in_ok-reserve.ensures.items,
       from_is,
     ) refl
 
 pub invariant_of-self-2 : goal.invariant_of-self-2
 invariant_of-self-2 c =
-    let count_is : c.from-2.result ≡ (arc_value c.args.run.now.rec).kept.count =
-    grind (arith, c.from-2.ensures, c.count.ensures, c.deref-2.ensures) in
+    let count_is : c.from.result ≡ (arc_value c.args.run.now.rec).kept.count =
+    grind (arith, c.from.ensures, c.count.ensures, c.deref-2.ensures) in
     let few : (arc_value c.args.run.now.rec).kept.count ≤ 4294967295 = omega (arith, count_is) in
-    commit-kept (before c) (after c) c.self.inside.instructions c.self.inside.front
-    (c.self.inside.instructions + c.from-2.result) c.passed_from-self-inside.result
+    commit-kept (before c) (after c) c.self.inside.instructions
+    (c.self.inside.instructions + c.from.result) c.self.inside.graph
     (arc_value c.args.run.now.frame) (arc_value c.args.run.now.rec) c.self.invariant (can c) c.args.run.now.honest
     (made c)
-    (ap (λ n. c.self.inside.instructions + n) count_is) few c.passed_from-self-inside.ensures
+    (ap (λ n. c.self.inside.instructions + n) count_is) few
 
 pub returns-clause-ok : goal.returns-clause-ok
 returns-clause-ok c =
     made c
-    ∙ sym (commit-happens (before c) c.self.inside.instructions c.self.inside.front (arc_value c.args.run.now.frame)
+    ∙ sym (commit-happens (before c) c.self.inside.instructions c.self.inside.graph (arc_value c.args.run.now.frame)
     (arc_value c.args.run.now.rec)
     c.self.invariant (can c) c.args.run.now.honest)
     ∙ ap (λ (w : RoundState). happens w (Commit (arc_value c.args.run.now.rec).thread)) c.self.view_is

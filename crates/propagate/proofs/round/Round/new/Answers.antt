@@ -6,5 +6,13 @@ use Rattle.propagate.proofs.round.Round.new.Goals as goal
 
 pub invariant_of-result : goal.invariant_of-result
 invariant_of-result c =
-    rw (c.in_ok-core.ensures, c.new-2.ensures.items, c.new-3.ensures, c.nobody_out.ensures)
-    (kept_opening c.args.setup (option_map arc_value c.args.past) c.sound.ensures)
+    rw (
+      c.in_ok-core.ensures,
+      c.in_ok-graph.ensures.graph,
+      c.new-2.ensures.items,
+      c.new-3.ensures,
+      c.new-4.ensures.items,
+      c.nobody_out.ensures,
+      c.nothing_taken.ensures,
+    )
+    (kept_opening c.args.setup (option_map arc_value c.args.past) c.sound.ensures c.in_ok-graph.ensures.of_run)

@@ -1,12 +1,12 @@
 -- What is left to prove of `Round::reuse`.
-use Rattle.std.proofs.Common.{◌≡◌, true, Some, option_map, refl, ap, sym, subst, ◌∙◌}
+use Rattle.std.proofs.Common.{◌≡◌, length, true, Some, option_map, refl, ap, sym, subst, ◌∙◌}
 use Rattle.std.specs.Arc.{arc_value}
 use Rattle.record_spec.specs.Record.{Record}
 use Rattle.round_spec.specs.declared.events.Event.TheVariants.{Reuse}
 use Rattle.round_spec.specs.Marks.{record_for}
 use Rattle.round_spec.specs.Rounds.{RoundState, can_reuse, happens}
 use Rattle.propagate.proofs.Appending.{Reusable}
-use Rattle.propagate.proofs.Making.{appended, reuse-append, reuse-front, reuse-happens, reuse-kept}
+use Rattle.propagate.proofs.Making.{appended, reuse-append, reuse-happens, reuse-kept}
 use Rattle.propagate.proofs.round.Round.reuse.Goals as goal
 
 -- the round before, by its parts; what holds of it; and the record that is reused
@@ -18,7 +18,9 @@ before c =
       machine = c.self.inside.core;
       schedule = c.self.inside.schedule.items;
       records = c.self.inside.records;
+      picked = c.self.inside.picked.items;
       out = c.self.inside.out;
+      taken_at = c.self.inside.taken_at;
       discarded = c.self.inside.discarded;
       stopped = c.self.inside.stopped;
     }
@@ -37,7 +39,7 @@ there c =
 
 reusable : (c : goal.After-rec-2-1) → Reusable (before c) c.args.t (arc_value c.in_ok-rec-in-Some.rec)
 reusable c =
-    reuse-append (before c) c.self.inside.instructions c.self.inside.front c.args.t (arc_value c.in_ok-rec-in-Some.rec)
+    reuse-append (before c) c.self.inside.instructions c.args.t c.self.inside.graph (arc_value c.in_ok-rec-in-Some.rec)
     c.self.invariant (can c) (there c)
 
 pub append-requires-clause-can : goal.append-requires-clause-can
@@ -49,17 +51,6 @@ append-requires-clause-thread c = (reusable c).append.thread
 pub append-requires-clause-number : goal.append-requires-clause-number
 append-requires-clause-number c = (reusable c).append.number
 
-pub passed_from-self-inside-requires : goal.passed_from-self-inside-requires
-passed_from-self-inside-requires c =
-    reuse-front _ c.self.inside.instructions c.self.inside.front c.args.t (arc_value c.in_ok-rec-in-Some.rec)
-    c.append.new.core c.self.invariant
-    (subst (λ (w : RoundState). can_reuse w c.args.t ≡ true) (sym c.self.view_is) c.requires)
-    (ap (λ (w : RoundState). record_for w.past w.machine c.args.t) c.self.view_is
-    ∙ sym c.next_record.ensures
-    ∙ ap (option_map (λ r. arc_value r.now)) c.in-Some.is
-    ∙ ap (λ (r : Record). Some r) (sym c.in_ok-rec-in-Some.ensures))
-    c.in_ok-append.ensures.ok.machine
-
 -- the same after it was appended
 abbrev start : goal.After-drop-rec-2 → RoundState
 start c =
@@ -69,7 +60,9 @@ start c =
       machine = c.self.inside.core;
       schedule = c.self.inside.schedule.items;
       records = c.self.inside.records;
+      picked = c.self.inside.picked.items;
       out = c.self.inside.out;
+      taken_at = c.self.inside.taken_at;
       discarded = c.self.inside.discarded;
       stopped = c.self.inside.stopped;
     }
@@ -80,6 +73,7 @@ after c =
       machine = c.append.new.core;
       schedule = c.append.new.schedule.items;
       records = c.append.new.records;
+      picked = c.push_reserved.new.self.items;
     }
 
 can-2 : (c : goal.After-drop-rec-2) → can_reuse (start c) c.args.t ≡ true
@@ -94,19 +88,26 @@ there-2 c =
     ∙ ap (option_map (λ r. arc_value r.now)) c.in-Some.is
     ∙ ap (λ (r : Record). Some r) (sym c.in_ok-rec-in-Some.ensures)
 
-made : (c : goal.After-drop-rec-2) → after c ≡ appended (start c) (arc_value c.in_ok-rec-in-Some.rec) true (start c).out
-made c = rw (c.in_ok-append.ensures.ok.machine, c.in_ok-append.ensures.ok.schedule, c.in_ok-append.ensures.ok.records)
-    refl
+made :
+    (c : goal.After-drop-rec-2)
+    → after c ≡ appended (start c) (arc_value c.in_ok-rec-in-Some.rec) true (length (start c).schedule)
+made c =
+    rw (
+      c.in_ok-append.ensures.ok.machine,
+      c.in_ok-append.ensures.ok.schedule,
+      c.in_ok-append.ensures.ok.records,
+      c.push_reserved.ensures.items,
+      c.in_ok-reserve.ensures.items,
+      c.entries-now.ensures,
+    ) refl
 
-pub invariant_of-self-2 : goal.invariant_of-self-2
-invariant_of-self-2 c =
-    reuse-kept (start c) (after c) c.self.inside.instructions c.self.inside.front c.passed_from-self-inside.result
-    c.args.t (arc_value c.in_ok-rec-in-Some.rec)
-    c.self.invariant (can-2 c) (there-2 c) (made c) c.passed_from-self-inside.ensures
+pub invariant_of-self-3 : goal.invariant_of-self-3
+invariant_of-self-3 c =
+    reuse-kept (start c) (after c) c.self.inside.instructions c.args.t c.self.inside.graph
+    (arc_value c.in_ok-rec-in-Some.rec) c.self.invariant (can-2 c) (there-2 c) (made c)
 
 pub returns-clause-ok : goal.returns-clause-ok
 returns-clause-ok c =
-    reuse-happens (start c) (after c) c.self.inside.instructions c.self.inside.front c.args.t
-    (arc_value c.in_ok-rec-in-Some.rec)
-    c.self.invariant (can-2 c) (there-2 c) (made c)
+    reuse-happens (start c) (after c) c.self.inside.instructions c.args.t c.self.inside.graph
+    (arc_value c.in_ok-rec-in-Some.rec) c.self.invariant (can-2 c) (there-2 c) (made c)
     ∙ ap (λ (w : RoundState). happens w (Reuse c.args.t)) c.self.view_is

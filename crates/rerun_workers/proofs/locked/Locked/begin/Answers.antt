@@ -1,7 +1,8 @@
 -- What is left to prove of `Locked::begin`.
-use Rattle.std.proofs.Common.{rules, sym, subst}
-use Rattle.rerun_workers.specs.Locking.{ReplaysUnedited}
-use Rattle.rerun_workers.proofs.Replays.{replays-take, replays-stop, never-begins}
+use Rattle.std.proofs.Common.{rules, ap, sym, ◌∙◌}
+use Rattle.round_spec.specs.declared.events.Event.TheVariants.{Stop}
+use Rattle.round_spec.specs.Rounds.{RoundState, happens}
+use Rattle.rerun_workers.proofs.Following.{IsUnder, follows-take, follows-stop, never-begins}
 use Rattle.rerun_workers.proofs.locked.Locked.begin.Goals as goal
 
 pub invariant_of-self : goal.invariant_of-self
@@ -10,9 +11,16 @@ invariant_of-self g c =
       counted = search rules;
       setup = search rules;
       past = search rules;
-      replays =
-          replays-take g.J.Naming.setup g.J.Naming.past c.args.self.now.round c.take.new.self c.args.t
-          c.args.self.now.replays c.requires.picked c.in-Ok.ensures.ok;
+      follows =
+          follows-take g.J.Naming.setup g.J.Naming.past c.args.self.now.round c.take.new.self c.args.t
+          (record {
+            setup_is = c.args.self.now.setup;
+            past_is = c.args.self.now.past;
+            valid = c.keeps.ensures.setup;
+            in_order = c.keeps.ensures.in_order;
+            follows = c.args.self.now.follows;
+          })
+          c.requires.picked c.in-Ok.ensures.ok;
     }
 
 pub invariant_of-self-in-Err : goal.invariant_of-self-in-Err
@@ -21,14 +29,20 @@ invariant_of-self-in-Err g c =
       counted = search rules;
       setup = search rules;
       past = search rules;
-      replays =
-          replays-stop g.J.Naming.setup g.J.Naming.past c.take.new.self c.stop.new.self
-          (subst (ReplaysUnedited g.J.Naming.setup g.J.Naming.past) (sym c.in-Err.ensures.err) c.args.self.now.replays)
-          c.stop.ensures.event;
+      follows =
+          follows-stop g.J.Naming.setup g.J.Naming.past c.args.self.now.round c.stop.new.self
+          (record {
+            setup_is = c.args.self.now.setup;
+            past_is = c.args.self.now.past;
+            valid = c.keeps.ensures.setup;
+            in_order = c.keeps.ensures.in_order;
+            follows = c.args.self.now.follows;
+          })
+          (c.stop.ensures.event ∙ ap (λ (w : RoundState). happens w Stop) c.in-Err.ensures.err);
     }
 
 pub returns-in-Ok-clause-unedited : goal.returns-in-Ok-clause-unedited
 returns-in-Ok-clause-unedited g c =
     λ h past unedited.
     absurd (never-begins g.J.Naming.setup g.J.Naming.past c.args.self.now.round c.args.t h
-    c.args.self.now.replays c.requires.picked past unedited)
+    c.args.self.now.follows c.requires.picked past unedited)

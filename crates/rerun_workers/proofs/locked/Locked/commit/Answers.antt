@@ -1,9 +1,16 @@
 -- What is left to prove of `Locked::commit`.
-use Rattle.std.proofs.Common.{rules, sym, subst}
+use Rattle.std.proofs.Common.{◌≡◌, rules, ap, sym, subst, ◌∙◌}
 use Rattle.std.specs.Arc.{arc_value}
-use Rattle.rerun_workers.specs.Locking.{ReplaysUnedited}
-use Rattle.rerun_workers.proofs.Replays.{replays-commit, replays-give_back, replays-given_up}
+use Rattle.std.specs.Bool.{Decides}
+use Rattle.thunk_spec.specs.Thunk.{Frame}
+use Rattle.machine_spec.specs.Setup.{Setup, first}
+use Rattle.rerun_workers.proofs.Following.{IsUnder, follows-commit, follows-give_back, follows-given_up}
 use Rattle.rerun_workers.proofs.locked.Locked.commit.Goals as goal
+
+pub commit_known-requires : goal.commit_known-requires
+commit_known-requires g c =
+    subst (λ (f : Frame). Decides c.args.same_frame (arc_value c.args.run.frame ≡ f))
+    (sym (c.keeps.ensures.framed ∙ ap (λ (s : Setup). (first s).frame) c.args.self.now.setup)) c.requires
 
 pub invariant_of-self : goal.invariant_of-self
 invariant_of-self g c =
@@ -11,9 +18,17 @@ invariant_of-self g c =
       counted = search rules;
       setup = search rules;
       past = search rules;
-      replays =
-          replays-commit g.J.Naming.setup g.J.Naming.past c.args.self.now.round c.commit.new.self
-          (arc_value c.args.run.rec).thread c.args.self.now.replays c.in-Done.ensures.does.1;
+      follows =
+          follows-commit g.J.Naming.setup g.J.Naming.past c.args.self.now.round c.commit_known.new.self
+          (arc_value c.args.run.rec).thread
+          (record {
+            setup_is = c.args.self.now.setup;
+            past_is = c.args.self.now.past;
+            valid = c.keeps.ensures.setup;
+            in_order = c.keeps.ensures.in_order;
+            follows = c.args.self.now.follows;
+          })
+          c.in-Done.ensures.does.1;
     }
 
 pub invariant_of-self-in-Stale-1 : goal.invariant_of-self-in-Stale-1
@@ -22,9 +37,17 @@ invariant_of-self-in-Stale-1 g c =
       counted = search rules;
       setup = search rules;
       past = search rules;
-      replays =
-          replays-give_back g.J.Naming.setup g.J.Naming.past c.args.self.now.round c.commit.new.self
-          (arc_value c.args.run.rec).thread c.args.self.now.replays c.in-Stale.ensures.does.2;
+      follows =
+          follows-give_back g.J.Naming.setup g.J.Naming.past c.args.self.now.round c.commit_known.new.self
+          (arc_value c.args.run.rec).thread
+          (record {
+            setup_is = c.args.self.now.setup;
+            past_is = c.args.self.now.past;
+            valid = c.keeps.ensures.setup;
+            in_order = c.keeps.ensures.in_order;
+            follows = c.args.self.now.follows;
+          })
+          c.in-Stale.ensures.does.2;
     }
 
 pub invariant_of-self-in-Memory : goal.invariant_of-self-in-Memory
@@ -33,9 +56,15 @@ invariant_of-self-in-Memory g c =
       counted = search rules;
       setup = search rules;
       past = search rules;
-      replays =
-          replays-given_up g.J.Naming.setup g.J.Naming.past c.commit.new.self c.give_up.new.round _
-          (subst (ReplaysUnedited g.J.Naming.setup g.J.Naming.past) (sym c.in-Memory.ensures.does.1)
-          c.args.self.now.replays)
+      follows =
+          follows-given_up g.J.Naming.setup g.J.Naming.past c.commit_known.new.self c.give_up.new.round _
+          (subst (IsUnder g.J.Naming.setup g.J.Naming.past) (sym c.in-Memory.ensures.does.1)
+          (record {
+            setup_is = c.args.self.now.setup;
+            past_is = c.args.self.now.past;
+            valid = c.keeps.ensures.setup;
+            in_order = c.keeps.ensures.in_order;
+            follows = c.args.self.now.follows;
+          }))
           c.give_up.ensures.events;
     }

@@ -1,6 +1,6 @@
 -- What is left to prove of `Locked::fail`.
 use Rattle.std.proofs.Common.{rules}
-use Rattle.rerun_workers.proofs.Replays.{replays-given_up}
+use Rattle.rerun_workers.proofs.Following.{IsUnder, follows-given_up}
 use Rattle.rerun_workers.proofs.locked.Locked.fail.Goals as goal
 
 pub invariant_of-self : goal.invariant_of-self
@@ -9,7 +9,14 @@ invariant_of-self g c =
       counted = search rules;
       setup = search rules;
       past = search rules;
-      replays =
-          replays-given_up g.J.Naming.setup g.J.Naming.past c.args.self.now.round c.give_up.new.round
-          c.args.job.now.thread c.args.self.now.replays c.give_up.ensures.events;
+      follows =
+          follows-given_up g.J.Naming.setup g.J.Naming.past c.args.self.now.round c.give_up.new.round c.args.job.now.thread
+          (record {
+            setup_is = c.args.self.now.setup;
+            past_is = c.args.self.now.past;
+            valid = c.keeps.ensures.setup;
+            in_order = c.keeps.ensures.in_order;
+            follows = c.args.self.now.follows;
+          })
+          c.give_up.ensures.events;
     }

@@ -1,6 +1,6 @@
 -- What is left to prove of `Locked::next`.
 use Rattle.std.proofs.Common.{suc, sym, ◌∙◌, arith}
-use Rattle.rerun_workers.proofs.Replays.{settled-more}
+use Rattle.rerun_workers.proofs.Following.{settled-more}
 use Rattle.rerun_workers.proofs.locked.Locked.next.Goals as goal
 
 pub loop-t-smaller : goal.loop-t-smaller

@@ -1,6 +1,6 @@
 -- What is left to prove of `Locked::reuse`.
 use Rattle.std.proofs.Common.{rules}
-use Rattle.rerun_workers.proofs.Replays.{replays-reuse}
+use Rattle.rerun_workers.proofs.Following.{IsUnder, follows-reuse}
 use Rattle.rerun_workers.proofs.locked.Locked.reuse.Goals as goal
 
 pub invariant_of-self-2 : goal.invariant_of-self-2
@@ -9,7 +9,14 @@ invariant_of-self-2 g c =
       counted = search rules;
       setup = search rules;
       past = search rules;
-      replays =
-          replays-reuse g.J.Naming.setup g.J.Naming.past c.args.self.now.round c.reuse.new.self c.args.t
-          c.args.self.now.replays c.requires.picked c.in_ok-reuse.ensures.ok;
+      follows =
+          follows-reuse g.J.Naming.setup g.J.Naming.past c.args.self.now.round c.reuse.new.self c.args.t
+          (record {
+            setup_is = c.args.self.now.setup;
+            past_is = c.args.self.now.past;
+            valid = c.keeps.ensures.setup;
+            in_order = c.keeps.ensures.in_order;
+            follows = c.args.self.now.follows;
+          })
+          c.requires.picked c.in_ok-reuse.ensures.ok;
     }

@@ -1,6 +1,6 @@
 -- What is left to prove of `Locked::stop`.
 use Rattle.std.proofs.Common.{rules}
-use Rattle.rerun_workers.proofs.Replays.{replays-stop}
+use Rattle.rerun_workers.proofs.Following.{IsUnder, follows-stop}
 use Rattle.rerun_workers.proofs.locked.Locked.stop.Goals as goal
 
 pub invariant_of-self : goal.invariant_of-self
@@ -9,7 +9,14 @@ invariant_of-self g c =
       counted = search rules;
       setup = search rules;
       past = search rules;
-      replays =
-          replays-stop g.J.Naming.setup g.J.Naming.past c.args.self.now.round c.stop.new.self c.args.self.now.replays
+      follows =
+          follows-stop g.J.Naming.setup g.J.Naming.past c.args.self.now.round c.stop.new.self
+          (record {
+            setup_is = c.args.self.now.setup;
+            past_is = c.args.self.now.past;
+            valid = c.keeps.ensures.setup;
+            in_order = c.keeps.ensures.in_order;
+            follows = c.args.self.now.follows;
+          })
           c.stop.ensures.event;
     }
