@@ -9,6 +9,7 @@ mod parser;
 
 pub use apply::ApplyError;
 pub use edits::Edits;
+pub use number::number_of;
 pub use parser::{ParseError, parse};
 
 #[cfg(test)]

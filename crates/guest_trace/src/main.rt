@@ -29,7 +29,8 @@ use ith_host::{Got, Host, OsHost};
 use machine_spec::{Limits, MOST_INPUT_BYTES};
 use refusal::Refusal;
 use release_core::Setup;
-use schedule::{MOST_SCHEDULE_BYTES, entries_of};
+use schedule::tokens_of;
+use schedule_list::{MOST_SCHEDULE_BYTES, parse};
 use std::alloc::Global;
 use std::fs::Files;
 use std::io::{BufWriter, Eprint, Print, Write};
@@ -90,7 +91,7 @@ fn wanted<H: Host>(alloc: Global, host: &mut H, words: &[String]) -> Result<Aske
         Err(LoadError::Refused(why)) => return Err(Refusal::Image(why)),
         Err(LoadError::NoMemory) => return Err(Refusal::NoMemory),
     };
-    let schedule = entries_of(alloc, text.as_slice())?;
+    let schedule = parse(alloc, tokens_of(text.as_slice()))?;
     Ok(Asked { setup, schedule })
 }
 

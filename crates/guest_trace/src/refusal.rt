@@ -1,6 +1,7 @@
 //! Why a run isn't traced to its end, and the line that says so.
 
 use elf_spec::Refusal as ImageRefusal;
+use schedule_list::ParseError;
 use std::alloc::{AllocError, AllocFailed};
 use std::io::Eprint;
 use std::process::ExitCode;
@@ -51,6 +52,15 @@ impl From<AllocError> for Refusal {
 impl<T: Drop> From<AllocFailed<T>> for Refusal {
     fn from(_failed: AllocFailed<T>) -> Refusal {
         Refusal::NoMemory
+    }
+}
+
+impl From<ParseError> for Refusal {
+    fn from(error: ParseError) -> Refusal {
+        match error {
+            ParseError::BadToken(place) => Refusal::Token(place),
+            ParseError::NoMemory => Refusal::NoMemory,
+        }
     }
 }
 

@@ -43,6 +43,16 @@ fn counted<R: Threads, L: Ledger>(
     replay(alloc, setup, schedule, &mut Turns::<L>::new(rt, blank))
 }
 
+/// What a setup comes to under a schedule.
+pub fn outcome_of<R: Threads>(
+    rt: &R,
+    alloc: Global,
+    setup: &Setup,
+    schedule: &[u8],
+) -> Result<Outcome, ReplayError> {
+    counted::<R, Brand>(rt, alloc, setup, schedule, Blank::new(1))
+}
+
 /// What a guest comes to under a schedule.
 fn replayed<R: Threads>(
     rt: &R,
@@ -51,7 +61,7 @@ fn replayed<R: Threads>(
     schedule: &[u8],
 ) -> Result<Result<Outcome, ReplayError>, Fail> {
     match setup_of(alloc, guest)? {
-        Some(setup) => Ok(counted::<R, Brand>(rt, alloc, &setup, schedule, Blank::new(1))),
+        Some(setup) => Ok(outcome_of(rt, alloc, &setup, schedule)),
         None => Err(Fail::new("the guest isn't taken")),
     }
 }

@@ -1,0 +1,6 @@
+-- The files of lemmas and examples of this crate.
+pub mod Spelling
+pub mod Saying
+pub mod Reading
+pub mod Lines
+pub mod Examples

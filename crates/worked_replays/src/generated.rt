@@ -1,0 +1,87 @@
+//! The generated guest under given schedules: what it puts out is the sum of its input's bytes.
+
+use crate::replays::outcome_of;
+use guest_gen::{Generated, inputs_have_one_length, make};
+use machine_spec::{End, Limits};
+use release_core::Setup;
+use std::alloc::{AllocError, Global};
+use std::test::Fail;
+use std::thread::Threads;
+
+/// The schedule in which the first thread waits for each other one, which makes all its steps meanwhile.
+fn one_after_the_other(alloc: Global) -> Result<Vec<u8>, AllocError> {
+    let mut schedule = Vec::new(alloc);
+    schedule.resize(8, 0)?;
+    for thread in 1..9 {
+        schedule.push(0)?;
+        for _ in 0..17 {
+            schedule.push(thread)?;
+        }
+    }
+    schedule.push(0)?;
+    schedule.push(0)?;
+    Ok(schedule)
+}
+
+/// The schedule in which all eight threads ask for the mutex before the first of them unlocks it, block for block, and
+/// are joined after their ends.
+fn side_by_side(alloc: Global) -> Result<Vec<u8>, AllocError> {
+    let mut schedule = Vec::new(alloc);
+    schedule.resize(8, 0)?;
+    for _ in 0..17 {
+        for thread in 1..9 {
+            schedule.push(thread)?;
+        }
+    }
+    for _ in 0..10 {
+        schedule.push(0)?;
+    }
+    Ok(schedule)
+}
+
+/// The setup of what is generated from a number, or none where it isn't taken.
+fn setup_of(alloc: Global, number: u32) -> Result<Option<Setup>, AllocError> {
+    let Generated { elf, input, .. } = make(alloc, number)?;
+    inputs_have_one_length();
+    match Limits::new(1_000_000, 4096) {
+        Some(limits) => Ok(Setup::new(alloc, elf, input, limits).ok()),
+        None => Ok(None),
+    }
+}
+
+/// The sum of bytes, modulo 2^32.
+fn sum_of(bytes: &[u8]) -> u32 {
+    bytes
+        .iter()
+        .fold(0, |sum: u32, byte| sum.wrapping_add(u32::from(*byte)))
+}
+
+/// Whether the guest of a number makes its 154 steps under a schedule, and puts out the sum of its input's bytes.
+fn puts_out_the_sum<R: Threads>(
+    rt: &R,
+    alloc: Global,
+    number: u32,
+    schedule: &[u8],
+) -> Result<bool, Fail> {
+    let Some(setup) = setup_of(alloc, number)? else {
+        return Err(Fail::new("the guest isn't taken"));
+    };
+    match outcome_of(rt, alloc, &setup, schedule) {
+        Ok(outcome) => Ok(
+            outcome.ending == End::Exit(0)
+                && outcome.steps == 154
+                && outcome.output.as_slice() == sum_of(setup.input()).to_le_bytes().as_slice(),
+        ),
+        Err(_) => Ok(false),
+    }
+}
+
+#[test]
+fn the_output_is_the_sum_of_the_input(rt: HostRuntime) -> Result<(), Fail> {
+    let alloc = rt.alloc();
+    let schedules = [one_after_the_other(alloc)?, side_by_side(alloc)?];
+    for schedule in schedules.iter() {
+        assert!(rt; puts_out_the_sum(&rt, alloc, 7, schedule.as_slice())?);
+    }
+    Ok(())
+}
