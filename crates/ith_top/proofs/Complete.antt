@@ -10,18 +10,23 @@ use Rattle.memo_spec.specs.Spelling.{Spells}
 use Rattle.memo_spec.specs.Reading.{reading}
 use Rattle.memo_spec.proofs.Laws.{one_history, spelled_is_read}
 use Rattle.history_spec.specs.History.{History}
+use Rattle.machine_spec.specs.Setup.{Setup, is_permitted, is_complete}
+use Rattle.schedule_list.specs.declared.TheConstants.{MOST_SCHEDULE_BYTES}
+use Rattle.schedule_list.specs.Schedule.{tokens}
+use Rattle.schedule_list.proofs.Saying.{one_thing}
 use Rattle.ith_host.specs.World.{World, Rose}
 use Rattle.elf_spec.specs.Image.{is_image}
 use Rattle.rerun_spec.specs.Inputs.{AreInputs, AreRerunInputs}
 use Rattle.rerun_spec.proofs.Inputs.{inputs-unrefused, rerun-unrefused}
-use Rattle.ith_words.specs.Words.{Text, Line, Runs, Reruns, Shows, RunLine, RerunLine, ShowLine}
+use Rattle.ith_words.specs.Words.{Text, Line, Runs, Reruns, Replays, Shows, Generates, RunLine, RerunLine, ReplayLine, ShowLine, GenerateLine}
 use Rattle.ith_top.specs.declared.status.Status.{Status}
 use Rattle.ith_top.specs.declared.status.Status.TheVariants as status
 use Rattle.ith_top.specs.Statuses.{code_of}
 use Rattle.ith_top.specs.Files.{Named, StopsAt, FailedToRead, IsLong, files_named, lists_named, memo_named}
-use Rattle.ith_top.specs.Contents.{AreLists, IsMemoContent, IsMemoOf}
-use Rattle.ith_top.specs.Ends.{OfNone, IsUnkept, IsUnprinted, RoundsEnd, ShowEnds, Answers}
-use Rattle.ith_top.specs.Completing.{AreTold, HasNoFault, AreAccepted, IsAcceptedMemo, AreRerunAccepted, IsCompleted, Completes}
+use Rattle.ith_top.specs.Contents.{AreLists, ReplayContents, AreReplayContents, replay_setup_of, CanBeReplayed, IsMemoContent, IsMemoOf}
+use Rattle.ith_top.specs.Ends.{OfNone, IsUnkept, IsUnprinted, ScheduleRefusal, Token, Entry, Incomplete, RefusesSchedule, RoundsEnd, ReplayEnds, ShowEnds, GenerateEnds, Answers}
+use Rattle.ith_top.specs.Completing.{AreTold, HasNoFault, AreAccepted, IsAcceptedMemo, AreRerunAccepted, IsReplayAccepted, IsCompleted, IsTold, Completes}
+use Rattle.ith_top.proofs.Permitting.{first-permitted}
 
 none_there : (fact : Named → Type 0) (earlier : List Named) (file : Named) (later : List Named)
     → OfNone fact (earlier ++ file ∷ later) → fact file → ⊥
@@ -140,6 +145,7 @@ run_by line before after answer status.TooLarge is ends are none =
           (run-short line before are) large.stops)
       | inr large ↦ inr (inr (inr (is, large)))
     ]
+run_by line before after answer status.Schedule is ends are none = absurd ends
 
 -- one memo, told, is of one history
 one-memo : (memo other : List ℕ) (h k : History) → memo ≡ other → IsMemoOf memo h → IsMemoOf other k → h ≡ k
@@ -182,6 +188,7 @@ rerun_by line before after answer status.TooLarge is ends are none =
           large.stops)
       | inr large ↦ inr (inr (inr (is, large)))
     ]
+rerun_by line before after answer status.Schedule is ends are none = absurd ends
 
 show_by :
     (line : ShowLine) (before after : World) (answer : ℕ) (s : Status)
@@ -202,6 +209,101 @@ show_by line before after answer status.Memory is ends memo none = inr is
 show_by line before after answer status.TooLarge is ends memo none =
     absurd (none_stops (IsLong before) (files_named (Shows line)) before after
     (memo-short line.memo before memo, tt) ends.stops)
+show_by line before after answer status.Schedule is ends memo none = absurd ends
+
+-- what a schedule to replay says and comes to isn't refused
+schedule-unrefused :
+    (setup : Setup) (text threads : List ℕ) (why : ScheduleRefusal) → CanBeReplayed setup text threads
+    → RefusesSchedule setup text why → ⊥
+schedule-unrefused setup text threads (Token i) can refused =
+    let same : Ok threads ≡ Err i = one_thing (tokens text) (Ok threads) (Err i) can.said refused in absurd (cc)
+schedule-unrefused setup text threads (Entry i) can refused =
+    let same : Ok threads ≡ Ok refused.0 = one_thing (tokens text) (Ok threads) (Ok refused.0) can.said refused.1 in
+    let one : threads ≡ refused.0 = cc in
+    first-permitted setup refused.0 i (subst (λ (ts : List ℕ). is_permitted setup ts ≡ true) one can.permitted) refused.2
+schedule-unrefused setup text threads Incomplete can refused =
+    let same : Ok threads ≡ Ok refused.0 = one_thing (tokens text) (Ok threads) (Ok refused.0) can.said refused.1 in
+    let one : threads ≡ refused.0 = cc in
+    let whole : is_complete setup refused.0 ≡ true =
+    subst (λ (ts : List ℕ). is_complete setup ts ≡ true) one can.complete in
+    let cut : is_complete setup refused.0 ≡ false = refused.3 in
+    absurd (cc)
+
+-- no file of a line that replays a schedule is too long that is told to be within its limit
+replay-short : (line : ReplayLine) (before : World) → IsReplayAccepted line before
+    → OfNone (IsLong before) (files_named (Replays line))
+replay-short line before are = (
+  short-told (before.files line.elf) are.contents.elf MOST_ELF_BYTES are.elf are.read.contents.elf_within,
+  (
+    short-told (before.files line.input) are.contents.input MOST_INPUT_BYTES are.input are.read.contents.input_within,
+    (
+      short-told (before.files line.schedule) are.contents.schedule MOST_SCHEDULE_BYTES are.schedule
+          are.read.contents.schedule_within,
+      tt,
+    ),
+  ),
+)
+
+abbrev with_contents : List ℕ → List ℕ → List ℕ → ReplayContents
+with_contents elf input schedule = record { elf = elf; input = input; schedule = schedule }
+
+-- what was read of such a line is what it is told to be
+replay-same :
+    (line : ReplayLine) (before : World) (are : IsReplayAccepted line before) (c : ReplayContents)
+    → AreReplayContents before line c → are.contents ≡ c
+replay-same line before are c read =
+    let elf : are.contents.elf ≡ c.elf = content-told (before.files line.elf) are.contents.elf c.elf are.elf read.elf in
+    let input : are.contents.input ≡ c.input =
+    content-told (before.files line.input) are.contents.input c.input are.input read.input in
+    let schedule : are.contents.schedule ≡ c.schedule =
+    content-told (before.files line.schedule) are.contents.schedule c.schedule are.schedule read.schedule in
+    ap (λ (l : List ℕ). with_contents l are.contents.input are.contents.schedule) elf
+    ∙ ap (λ (l : List ℕ). with_contents c.elf l are.contents.schedule) input
+    ∙ ap (with_contents c.elf c.input) schedule
+
+replay_by :
+    (line : ReplayLine) (before after : World) (answer : ℕ) (s : Status)
+    → answer ≡ code_of s → ReplayEnds line before after s → IsReplayAccepted line before
+    → HasNoFault (Replays line) before after
+    → IsTold answer
+replay_by line before after answer status.Finished is ends are none = inl is
+replay_by line before after answer status.Unfinished is ends are none = inr (inl is)
+replay_by line before after answer status.Words is ends are none = absurd ends
+replay_by line before after answer status.Image is ends are none =
+    let same : are.contents ≡ ends.contents = replay-same line before are ends.contents ends.read in
+    let taken : is_image are.contents.elf ≡ true = are.read.accepted in
+    let refused : is_image are.contents.elf ≡ false =
+    ap (λ (c : ReplayContents). is_image c.elf) same ∙ ends.refused in
+    absurd (cc)
+replay_by line before after answer status.Memo is ends are none = absurd ends
+replay_by line before after answer status.EditList is ends are none = absurd ends
+replay_by line before after answer status.ReadFault is ends are none =
+    absurd (none_stops (FailedToRead before after) (files_named (Replays line)) before after none.reads ends.stops)
+replay_by line before after answer status.WriteFault is ends are none = absurd (none.prints ends.part.cause)
+replay_by line before after answer status.Memory is ends are none = inr (inr is)
+replay_by line before after answer status.TooLarge is ends are none =
+    absurd (none_stops (IsLong before) (files_named (Replays line)) before after (replay-short line before are) ends.stops)
+replay_by line before after answer status.Schedule is ends are none =
+    let same : are.contents ≡ ends.contents = replay-same line before are ends.contents ends.read.contents in
+    absurd
+    (schedule-unrefused (replay_setup_of line ends.contents) ends.contents.schedule are.threads ends.why
+    (subst (λ (c : ReplayContents). CanBeReplayed (replay_setup_of line c) c.schedule are.threads) same are.can)
+    ends.refused)
+
+generate_by :
+    (line : GenerateLine) (before after : World) (answer : ℕ) (s : Status)
+    → answer ≡ code_of s → GenerateEnds line before after s → HasNoFault (Generates line) before after → IsTold answer
+generate_by line before after answer status.Finished is ends none = inl is
+generate_by line before after answer status.Unfinished is ends none = inr (inl is)
+generate_by line before after answer status.Words is ends none = absurd ends
+generate_by line before after answer status.Image is ends none = absurd ends
+generate_by line before after answer status.Memo is ends none = absurd ends
+generate_by line before after answer status.EditList is ends none = absurd ends
+generate_by line before after answer status.ReadFault is ends none = absurd ends
+generate_by line before after answer status.WriteFault is ends none = absurd (none.prints ends.part.cause)
+generate_by line before after answer status.Memory is ends none = inr (inr is)
+generate_by line before after answer status.TooLarge is ends none = absurd ends
+generate_by line before after answer status.Schedule is ends none = absurd ends
 
 pub complete : (line : Option Line) (before after : World) (answer : ℕ) → Answers line before after answer
     → Completes line before after answer
@@ -210,5 +312,9 @@ complete (Some (Runs line)) before after answer answers =
     λ are none. run_by line before after answer answers.0 answers.1 answers.2 are none
 complete (Some (Reruns line)) before after answer answers =
     λ are none. rerun_by line before after answer answers.0 answers.1 answers.2 are none
+complete (Some (Replays line)) before after answer answers =
+    λ are none. replay_by line before after answer answers.0 answers.1 answers.2 are none
+complete (Some (Generates line)) before after answer answers =
+    λ none. generate_by line before after answer answers.0 answers.1 answers.2 none
 complete (Some (Shows line)) before after answer answers =
     λ memo none. show_by line before after answer answers.0 answers.1 answers.2 memo none

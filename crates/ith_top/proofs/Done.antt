@@ -198,6 +198,7 @@ cut_short line a b c p found status.Memory is playable spelled asked none stays 
       prints = prints_after a b c (concat (texts_of p found)) stays cause;
     })
 cut_short line a b c p found status.TooLarge is playable spelled asked none stays fell are cause = absurd cause
+cut_short line a b c p found status.Schedule is playable spelled asked none stays fell are cause = absurd cause
 
 -- all texts were printed, and the memo wasn't written
 unkept :
@@ -254,6 +255,7 @@ unkept line a b m c p found name status.TooLarge is can spelled asked none stays
       prints = prints_then a m c (concat (texts_of p found))
           (prints_after a b m (concat (texts_of p found)) stays prints) cause.stays;
     })
+unkept line a b m c p found name status.Schedule _ _ _ _ _ _ _ _ _ _ _ _ cause = absurd cause
 
 -- not all was done
 pub undone :

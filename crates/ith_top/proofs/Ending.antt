@@ -13,12 +13,12 @@ use Rattle.history_spec.specs.History.{History}
 use Rattle.ith_words.specs.Words.{Text, Line, Runs, Reruns, Shows, RunLine, RerunLine, ShowLine}
 use Rattle.ith_top.specs.declared.status.Status.{Status}
 use Rattle.ith_top.specs.declared.status.Status.TheVariants as status
-use Rattle.ith_top.specs.Files.{elf_named, input_named, memo_named, lists_named, files_named, AsksForFiles, IsWithin}
+use Rattle.ith_top.specs.Files.{Named, elf_named, input_named, memo_named, lists_named, files_named, AsksForFiles, IsWithin}
 use Rattle.ith_top.specs.Contents.{Contents, AreLists, AreContents, WasRead, IsMemoContent, IsMemoOf}
 use Rattle.ith_top.specs.Ends.{RoundsEnd, ShowEnds, IsUnbegun}
 use Rattle.ith_top.specs.Refusals.{WhyUnread, WhyNoSetup, WhyNoHistory, WhyUnedited}
-use Rattle.ith_top.proofs.Worlds.{content_before, stays_trans, none_fell_trans, within_before}
-use Rattle.ith_top.proofs.Asking.{files_both, within_told, unread_front, unread_more}
+use Rattle.ith_top.proofs.Worlds.{content_before, stays_trans}
+use Rattle.ith_top.proofs.Asking.{within_told, unread_front, unread_more}
 
 -- a file of a given refusal isn't taken
 pub refused_image : (bytes : List ℕ) (refusal : Refusal) → refusal_of bytes ≡ Some refusal → is_image bytes ≡ false
@@ -36,57 +36,58 @@ lists_before a b (name ∷ names) (list ∷ lists) stays are =
 
 -- all files were read
 pub files_read :
-    (line : RunLine) (a b c : World) (elf input : List ℕ) (lists : List (List ℕ))
-    → Stays a b → Stays b c
+    (line : RunLine) (a b : World) (elf input : List ℕ) (lists : List (List ℕ))
+    → Stays a b
     → IsContent a line.elf elf → length elf ≤ MOST_ELF_BYTES
-    → IsContent b line.input input → length input ≤ MOST_INPUT_BYTES
-    → AreLists c line.edits lists
+    → IsContent a line.input input → length input ≤ MOST_INPUT_BYTES
+    → AreLists b line.edits lists
     → AreContents a line (record { elf = elf; input = input; lists = lists })
-files_read line a b c elf input lists stays then first first_within second second_within third =
+files_read line a b elf input lists stays first first_within second second_within third =
     record {
       elf = first;
       elf_within = first_within;
-      input = content_before a b line.input input stays second;
+      input = second;
       input_within = second_within;
-      lists = lists_before a c line.edits lists (stays_trans a b c stays then) third;
+      lists = lists_before a b line.edits lists stays third;
     }
 
--- the executable wasn't read
-pub elf_unread : (line : RunLine) (a b : World) (s : Status) → WhyUnread (elf_named line.elf ∷ []) a b s
-    → WhyUnread (files_named (Runs line)) a b s
-elf_unread line a b s why =
-    unread_front (elf_named line.elf ∷ []) (input_named line.input ∷ lists_named line.edits) a b s why
+-- an executable wasn't read, before an input
+pub elf_unread : (elf input : Text) (a b : World) (s : Status) → WhyUnread (elf_named elf ∷ []) a b s
+    → WhyUnread (elf_named elf ∷ input_named input ∷ []) a b s
+elf_unread elf input a b s why = unread_front (elf_named elf ∷ []) (input_named input ∷ []) a b s why
 
 -- the input wasn't, after the executable was
 pub input_unread :
-    (line : RunLine) (a b c : World) (s : Status) (elf : List ℕ)
-    → Stays a b → NoneFell a b → AsksForFiles (elf_named line.elf ∷ []) a b
-    → IsContent a line.elf elf → length elf ≤ MOST_ELF_BYTES
-    → WhyUnread (input_named line.input ∷ []) b c s → WhyUnread (files_named (Runs line)) a c s
-input_unread line a b c s elf stays fell asked first within why =
-    unread_more (elf_named line.elf ∷ []) (input_named line.input ∷ lists_named line.edits) a b c s stays fell asked
-    (All-cons (IsWithin a) (elf_named line.elf) [] (within_told (a.files line.elf) elf MOST_ELF_BYTES first within)
+    (elf input : Text) (a b c : World) (s : Status) (bytes : List ℕ)
+    → Stays a b → NoneFell a b → AsksForFiles (elf_named elf ∷ []) a b
+    → IsContent a elf bytes → length bytes ≤ MOST_ELF_BYTES
+    → WhyUnread (input_named input ∷ []) b c s → WhyUnread (elf_named elf ∷ input_named input ∷ []) a c s
+input_unread elf input a b c s bytes stays fell asked first within why =
+    unread_more (elf_named elf ∷ []) (input_named input ∷ []) a b c s stays fell asked
+    (All-cons (IsWithin a) (elf_named elf) [] (within_told (a.files elf) bytes MOST_ELF_BYTES first within)
     (All-nil (IsWithin a)))
-    (unread_front (input_named line.input ∷ []) (lists_named line.edits) b c s why)
+    why
 
--- an edit list wasn't, after the executable and the input were
-pub list_unread :
-    (line : RunLine) (a b c d : World) (s : Status) (elf input : List ℕ)
-    → Stays a b → NoneFell a b → Stays b c → NoneFell b c
-    → AsksForFiles (elf_named line.elf ∷ []) a b → AsksForFiles (input_named line.input ∷ []) b c
-    → IsContent a line.elf elf → length elf ≤ MOST_ELF_BYTES
-    → IsContent b line.input input → length input ≤ MOST_INPUT_BYTES
-    → WhyUnread (lists_named line.edits) c d s → WhyUnread (files_named (Runs line)) a d s
-list_unread line a b c d s elf input stays fell then later asked more first within second shorter why =
-    let here : IsWithin a (input_named line.input) =
-    within_before a b (input_named line.input) stays
-    (within_told (b.files line.input) input MOST_INPUT_BYTES second shorter) in
-    unread_more (elf_named line.elf ∷ input_named line.input ∷ []) (lists_named line.edits) a c d s
-    (stays_trans a b c stays then) (none_fell_trans a b c fell later)
-    (files_both (elf_named line.elf ∷ []) (input_named line.input ∷ []) a b c asked more)
-    (All-cons (IsWithin a) (elf_named line.elf) (input_named line.input ∷ [])
-    (within_told (a.files line.elf) elf MOST_ELF_BYTES first within)
-    (All-cons (IsWithin a) (input_named line.input) [] here (All-nil (IsWithin a))))
+-- executable or input weren't read, before other files
+pub guest_unread :
+    (elf input : Text) (more : List Named) (a b : World) (s : Status)
+    → WhyUnread (elf_named elf ∷ input_named input ∷ []) a b s
+    → WhyUnread (elf_named elf ∷ input_named input ∷ more) a b s
+guest_unread elf input more a b s why = unread_front (elf_named elf ∷ input_named input ∷ []) more a b s why
+
+-- other files weren't, after the executable and the input were
+pub others_unread :
+    (elf input : Text) (more : List Named) (a b c : World) (s : Status) (one other : List ℕ)
+    → Stays a b → NoneFell a b → AsksForFiles (elf_named elf ∷ input_named input ∷ []) a b
+    → IsContent a elf one → length one ≤ MOST_ELF_BYTES
+    → IsContent a input other → length other ≤ MOST_INPUT_BYTES
+    → WhyUnread more b c s → WhyUnread (elf_named elf ∷ input_named input ∷ more) a c s
+others_unread elf input more a b c s one other stays fell asked first within second shorter why =
+    unread_more (elf_named elf ∷ input_named input ∷ []) more a b c s stays fell asked
+    (All-cons (IsWithin a) (elf_named elf) (input_named input ∷ [])
+    (within_told (a.files elf) one MOST_ELF_BYTES first within)
+    (All-cons (IsWithin a) (input_named input) []
+    (within_told (a.files input) other MOST_INPUT_BYTES second shorter) (All-nil (IsWithin a))))
     why
 
 -- the memo of a rerun wasn't read
@@ -118,8 +119,9 @@ unread_ends line a b status.ReadFault stays why = record { stops = why; stays = 
 unread_ends line a b status.WriteFault stays why = absurd why
 unread_ends line a b status.Memory stays why = inl (record { asked = why; stays = stays })
 unread_ends line a b status.TooLarge stays why = inl (record { stops = why; stays = stays })
+unread_ends line a b status.Schedule stays why = absurd why
 
-unbegun : (line : Line) (a b : World) → AsksForFiles (files_named line) a b → Stays a b → IsUnbegun line a b
+pub unbegun : (line : Line) (a b : World) → AsksForFiles (files_named line) a b → Stays a b → IsUnbegun line a b
 unbegun line a b asked stays =
     record {
       asked = record {
@@ -161,6 +163,7 @@ refused_ends line a b c contents status.WriteFault asked none stays then are why
 refused_ends line a b c contents status.Memory asked none stays then are why =
     cut_ends (Runs line) a b c asked none stays then
 refused_ends line a b c contents status.TooLarge asked none stays then are why = absurd why
+refused_ends line a b c contents status.Schedule asked none stays then are why = absurd why
 
 -- all files were read, and no history was had from the memo
 pub forgotten_ends :
@@ -189,6 +192,7 @@ forgotten_ends line a b c memo lists status.WriteFault asked none stays then rea
 forgotten_ends line a b c memo lists status.Memory asked none stays then read told why =
     cut_ends (Reruns line) a b c asked none stays then
 forgotten_ends line a b c memo lists status.TooLarge asked none stays then read told why = absurd why
+forgotten_ends line a b c memo lists status.Schedule asked none stays then read told why = absurd why
 
 -- the executable was accepted, and the edit lists made no inputs
 pub unedited_ends :
@@ -216,6 +220,7 @@ unedited_ends line a b c contents status.WriteFault asked none stays then read w
 unedited_ends line a b c contents status.Memory asked none stays then read why =
     cut_ends (Runs line) a b c asked none stays then
 unedited_ends line a b c contents status.TooLarge asked none stays then read why = absurd why
+unedited_ends line a b c contents status.Schedule asked none stays then read why = absurd why
 
 -- the memo was accepted, and the edit lists made no inputs
 pub rerun_unedited_ends :
@@ -247,6 +252,7 @@ rerun_unedited_ends line a b c memo lists h status.WriteFault asked none stays t
 rerun_unedited_ends line a b c memo lists h status.Memory asked none stays then read told is why =
     cut_ends (Reruns line) a b c asked none stays then
 rerun_unedited_ends line a b c memo lists h status.TooLarge asked none stays then read told is why = absurd why
+rerun_unedited_ends line a b c memo lists h status.Schedule asked none stays then read told is why = absurd why
 
 -- the memo to show wasn't read
 pub show_unread : (line : ShowLine) (a b : World) (s : Status) → Stays a b → WhyUnread (files_named (Shows line)) a b s
@@ -261,6 +267,7 @@ show_unread line a b status.ReadFault stays why = record { stops = why; stays = 
 show_unread line a b status.WriteFault stays why = absurd why
 show_unread line a b status.Memory stays why = record { asked = why; stays = stays }
 show_unread line a b status.TooLarge stays why = record { stops = why; stays = stays }
+show_unread line a b status.Schedule stays why = absurd why
 
 -- the memo to show was read, and then the host's memory ran out
 pub show_cut : (line : ShowLine) (a b c : World) → AsksForFiles (files_named (Shows line)) a b → AsksNothing b c
@@ -291,3 +298,4 @@ show_forgotten line a b c memo status.ReadFault asked none stays then read why =
 show_forgotten line a b c memo status.WriteFault asked none stays then read why = absurd why
 show_forgotten line a b c memo status.Memory asked none stays then read why = show_cut line a b c asked none stays then
 show_forgotten line a b c memo status.TooLarge asked none stays then read why = absurd why
+show_forgotten line a b c memo status.Schedule asked none stays then read why = absurd why

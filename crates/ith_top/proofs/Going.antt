@@ -211,7 +211,7 @@ pub going_next :
     (rest : List (List ℕ)) (exit : Bool) (text : List ℕ) (ended : Bool) (left : History)
     → IsGoing b workers inputs a w now (input ∷ rest) exit
     → IsMadeOn workers now input text ended left
-    → next ≡ record { number = now.number + 1; past = Some left; setup = now.setup }
+    → next ≡ record { number = now.number + 1; past = Some left; setup = now.setup; reach = now.reach }
     → Prints w v text → NoneFell w v → AsksNothing w v
     → IsGoing b workers inputs a v next rest (exit && ended)
 going_next b workers inputs a w v now next input rest exit text ended left going one after prints counts asked =
@@ -228,7 +228,7 @@ going_next b workers inputs a w v now next input rest exit text ended left going
     ∙ ap (λ (c : Bool). list_all made_exits going.done && c) (and-true (made_exits r) ∙ sym one.is_exit)
     ∙ ap (λ (c : Bool). c && ended) (sym going.ended) in
     let leads : next ≡ after_round now input f =
-    after ∙ ap (λ (h : History). record { number = now.number + 1; past = Some h; setup = now.setup }) one.is_left in
+    after ∙ ap (λ (h : History). record { number = now.number + 1; past = Some h; setup = now.setup; reach = now.reach }) one.is_left in
     rw leads
     (record {
       found = going.found ++ f ∷ [];
@@ -349,6 +349,7 @@ going_unprinted b workers inputs a w v now input rest exit text ended left statu
     going_cut b workers inputs a w v now (input ∷ rest) exit going cause
 going_unprinted b workers inputs a w v now input rest exit text ended left status.TooLarge going one cause =
     absurd cause
+going_unprinted b workers inputs a w v now input rest exit text ended left status.Schedule going one cause = absurd cause
 
 -- of short inputs the first is short, and so are the others
 pub short_first : (input : List ℕ) (rest : List (List ℕ)) → AreShort (input ∷ rest) → length input ≤ MOST_INPUT_BYTES

@@ -10,3 +10,6 @@ pub mod Going
 pub mod Promises
 pub mod Done
 pub mod Listed
+pub mod Permitting
+pub mod Replayed
+pub mod Generated

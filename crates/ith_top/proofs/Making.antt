@@ -1,5 +1,5 @@
 -- A round as its workers made it, and the page map of what it goes by and leaves.
-use Rattle.std.proofs.Common.{◌≡◌, ℕ, Bool, List, Option, Some, None, refl, ap, sym, ◌∙◌, subst}
+use Rattle.std.proofs.Common.{◌≡◌, ℕ, Bool, false, List, Option, Some, None, refl, ap, sym, ◌∙◌, subst}
 use Rattle.elf_spec.specs.Image.{image_pages}
 use Rattle.record_spec.specs.Record.{Record}
 use Rattle.machine_spec.specs.Machine.{Machine}
@@ -9,21 +9,24 @@ use Rattle.report_spec.specs.declared.Entry.{Entry}
 use Rattle.report_spec.specs.Report.{Told, report_text}
 use Rattle.round_spec.specs.Rounds.{RoundState, history_of}
 use Rattle.round_spec.specs.Instructions.{executed_instructions}
-use Rattle.round_spec.specs.Schedules.{IsBySchedule, round_by}
+use Rattle.round_spec.specs.Schedules.{IsBySchedule, events_in, round_by}
+use Rattle.round_spec.proofs.Leaving.{round-past}
 use Rattle.worker_spec.specs.Workers.{IsMadeBy}
 use Rattle.propagate.specs.Kept.{IsOfMap}
 use Rattle.propagate.proofs.Mapped.{same_image}
 use Rattle.rerun_spec.specs.Rounds.{Found, Round, Beginning, made, left_by, round_on, with_input}
-use Rattle.rerun_spec.specs.Reports.{told_as_made, is_exit}
+use Rattle.rerun_spec.specs.Reports.{told_reach, told_as_made, is_exit}
 use Rattle.rerun_spec.proofs.Ending.{left-own}
-use Rattle.ith_top.specs.Playing.{IsMadeOn}
+use Rattle.round_report.specs.Short.{short_text}
+use Rattle.ith_top.specs.Playing.{IsMadeOn, IsLineOn}
 
 -- what is told of a round, part by part
-abbrev told_of : Machine → List Entry → List Record → List ℕ → Told
-told_of m schedule records shares =
+abbrev told_of : Machine → List Entry → Option ℕ → List Record → List ℕ → Told
+told_of m schedule reached records shares =
     record {
       ending = m.ending;
       schedule = schedule;
+      reached = reached;
       instructions = executed_instructions schedule records;
       shares = shares;
       memory = m.memory;
@@ -35,7 +38,8 @@ record IsAlike (r : Round) (w : RoundState) : Type 0 where
   pub schedule : (made r).schedule ≡ w.schedule
   pub machine : (made r).machine ≡ w.machine
   pub records : (made r).records ≡ w.records
-  pub setup : (left_by r).setup ≡ w.setup
+  pub setup : (made r).setup ≡ w.setup
+  pub past : (made r).past ≡ w.past
 
 alike_of :
     (r : Round) (w : RoundState)
@@ -50,14 +54,22 @@ alike_of r w setup past entries by =
       machine = ap (λ (v : RoundState). v.machine) (sym is) ∙ by.machine;
       records = ap (λ (v : RoundState). v.records) (sym is) ∙ by.records;
       setup = left-own r ∙ sym setup;
+      past = round-past r.setup r.past (events_in r.found.entries) ∙ sym past;
     }
 
 alike-told :
-    (r : Round) (w : RoundState) (shares : List ℕ) → IsAlike r w → told_as_made w shares ≡ told_as_made (made r) shares
-alike-told r w shares alike =
-    ap (λ (m : Machine). told_of m w.schedule w.records shares) (sym alike.machine)
-    ∙ ap (λ (es : List Entry). told_of (made r).machine es w.records shares) (sym alike.schedule)
-    ∙ ap (λ (rs : List Record). told_of (made r).machine (made r).schedule rs shares) (sym alike.records)
+    (r : Round) (w : RoundState) (reach : Bool) (shares : List ℕ)
+    → IsAlike r w → told_as_made w reach shares ≡ told_as_made (made r) reach shares
+alike-told r w reach shares alike =
+    let reached : told_reach reach w.past w.setup ≡ told_reach reach (made r).past (made r).setup =
+    ap (λ (p : Option History). told_reach reach p w.setup) (sym alike.past)
+    ∙ ap (told_reach reach (made r).past) (sym alike.setup) in
+    ap (λ (m : Machine). told_of m w.schedule (told_reach reach w.past w.setup) w.records shares) (sym alike.machine)
+    ∙ ap (λ (es : List Entry). told_of (made r).machine es (told_reach reach w.past w.setup) w.records shares)
+    (sym alike.schedule)
+    ∙ ap (λ (n : Option ℕ). told_of (made r).machine (made r).schedule n w.records shares) reached
+    ∙ ap (λ (rs : List Record). told_of (made r).machine (made r).schedule
+    (told_reach reach (made r).past (made r).setup) rs shares) (sym alike.records)
 
 abbrev the_history : Setup → List Record → History
 the_history s rs = record { setup = s; records = rs }
@@ -73,7 +85,7 @@ pub made_on :
     (left : History)
     → w.setup ≡ with_input b.setup input → w.past ≡ b.past → IsBySchedule w
     → IsMadeBy workers (with_input b.setup input) b.past w.schedule shares
-    → text ≡ report_text b.number (told_as_made w shares)
+    → text ≡ report_text b.number (told_as_made w b.reach shares)
     → exit ≡ is_exit w.machine.ending
     → left ≡ history_of w
     → IsMadeOn workers b input text exit left
@@ -84,7 +96,29 @@ made_on workers b input w shares text exit left setup past by is texts exits lea
     record {
       found = f;
       made = is;
-      is_text = texts ∙ ap (report_text b.number) (alike-told r w shares alike);
+      is_text = texts ∙ ap (report_text b.number) (alike-told r w b.reach shares alike);
+      is_exit = exits ∙ ap (λ (m : Machine). is_exit m.ending) (sym alike.machine);
+      is_left = leaves ∙ alike-left r w alike;
+    }
+
+-- the same of the line that tells of a round
+pub line_on :
+    (workers : ℕ) (b : Beginning) (input : List ℕ) (w : RoundState) (shares text : List ℕ) (exit : Bool)
+    (left : History)
+    → w.setup ≡ with_input b.setup input → w.past ≡ b.past → IsBySchedule w
+    → IsMadeBy workers (with_input b.setup input) b.past w.schedule shares
+    → text ≡ short_text b.number (told_as_made w false shares)
+    → exit ≡ is_exit w.machine.ending
+    → left ≡ history_of w
+    → IsLineOn workers b input text exit left
+line_on workers b input w shares text exit left setup past by is texts exits leaves =
+    let f : Found = record { entries = w.schedule; shares = shares } in
+    let r = round_on b input f in
+    let alike : IsAlike r w = alike_of r w setup past refl by in
+    record {
+      found = f;
+      made = is;
+      is_text = texts ∙ ap (short_text b.number) (alike-told r w false shares alike);
       is_exit = exits ∙ ap (λ (m : Machine). is_exit m.ending) (sym alike.machine);
       is_left = leaves ∙ alike-left r w alike;
     }
@@ -107,6 +141,14 @@ pub left_map :
     (workers : ℕ) (b : Beginning) (input text : List ℕ) (exit : Bool) (left : History)
     → IsMadeOn workers b input text exit left → IsOfMap (Some left) b.setup
 left_map workers b input text exit left on =
+    same_image left.setup b.setup
+    (ap image_pages (ap (λ (h : History). h.setup.elf) on.is_left
+    ∙ ap (λ (s : Setup). s.elf) (left-own (round_on b input on.found))))
+
+pub line_map :
+    (workers : ℕ) (b : Beginning) (input text : List ℕ) (exit : Bool) (left : History)
+    → IsLineOn workers b input text exit left → IsOfMap (Some left) b.setup
+line_map workers b input text exit left on =
     same_image left.setup b.setup
     (ap image_pages (ap (λ (h : History). h.setup.elf) on.is_left
     ∙ ap (λ (s : Setup). s.elf) (left-own (round_on b input on.found))))

@@ -1,5 +1,5 @@
 -- The plan of a line, from what its files hold.
-use Rattle.std.proofs.Common.{◌≡◌, ◌+◌, ◌<◌, ◌≤◌, ◌^◌, ℕ, List, [], ◌∷◌, length, refl, sym, ap, ◌∙◌, subst, arith}
+use Rattle.std.proofs.Common.{◌≡◌, ◌+◌, ◌<◌, ◌≤◌, ◌^◌, ℕ, Bool, List, [], ◌∷◌, length, refl, sym, ap, ◌∙◌, subst, arith}
 use Rattle.std.specs.List.{AllByRecursion}
 use Rattle.std.proofs.lemmas.List.Elements.{All-from_recursion}
 use Rattle.machine_spec.specs.declared.TheConstants.{MOST_INPUT_BYTES}
@@ -44,22 +44,22 @@ rerun_bytes (list ∷ lists) input inputs bytes are = made_bytes (list ∷ lists
 -- a plan from scratch
 pub run_plan :
     (line : RunLine) (a : World) (c : Contents) (s : Setup) (p : Plan)
-    → AreContents a line c → s ≡ setup_of line c → IsSetup s → p.beginning ≡ from_scratch s
+    → AreContents a line c → s ≡ setup_of line c → IsSetup s → p.beginning ≡ from_scratch s line.reach
     → AreInputs s.input c.lists p.inputs
     → IsRunPlan line a p
 run_plan line a c s p are is valid begins edited =
     record {
       contents = c;
       read = record { contents = are; accepted = (subst IsSetup is valid).elf_accepted };
-      beginning = begins ∙ ap from_scratch is;
+      beginning = begins ∙ ap (λ (s : Setup). from_scratch s line.reach) is;
       edited = subst (λ (t : Setup). AreInputs t.input c.lists p.inputs) is edited;
     }
 
 pub run_playable :
-    (s : Setup) (lists : List (List ℕ)) (p : Plan)
-    → IsSetup s → p.beginning ≡ from_scratch s → length p.inputs < 2 ^ 64 → AreInputs s.input lists p.inputs
+    (s : Setup) (reach : Bool) (lists : List (List ℕ)) (p : Plan)
+    → IsSetup s → p.beginning ≡ from_scratch s reach → length p.inputs < 2 ^ 64 → AreInputs s.input lists p.inputs
     → CanBePlayed p
-run_playable s lists p valid begins few edited =
+run_playable s reach lists p valid begins few edited =
     let count = inputs-count s.input lists p.inputs edited in
     record {
       some = omega arith;
@@ -70,10 +70,11 @@ run_playable s lists p valid begins few edited =
     }
 
 pub run_spelled :
-    (s : Setup) (lists : List (List ℕ)) (p : Plan)
-    → IsSetup s → AreBytes s.elf → AreBytes s.input → p.beginning ≡ from_scratch s → AreInputs s.input lists p.inputs
+    (s : Setup) (reach : Bool) (lists : List (List ℕ)) (p : Plan)
+    → IsSetup s → AreBytes s.elf → AreBytes s.input → p.beginning ≡ from_scratch s reach
+    → AreInputs s.input lists p.inputs
     → CanBeSpelled p
-run_spelled s lists p valid elf input begins edited =
+run_spelled s reach lists p valid elf input begins edited =
     record {
       valid = subst (λ (b : Beginning). IsSetup b.setup) (sym begins) valid;
       elf = subst (λ (b : Beginning). AreBytes b.setup.elf) (sym begins) elf;
@@ -85,7 +86,7 @@ run_spelled s lists p valid elf input begins edited =
 pub rerun_plan :
     (line : RerunLine) (a : World) (memo : List ℕ) (lists : List (List ℕ)) (h : History) (p : Plan)
     → IsMemoContent a line.memo memo → AreLists a line.edits lists → IsMemoOf memo h
-    → p.beginning ≡ after_memo h (fuel_of line h)
+    → p.beginning ≡ after_memo h (fuel_of line h) line.reach
     → AreRerunInputs h.setup.input lists p.inputs → IsRerunPlan line a p
 rerun_plan line a memo lists h p read told is begins edited =
     record {
@@ -100,10 +101,10 @@ rerun_plan line a memo lists h p read told is begins edited =
     }
 
 pub rerun_playable :
-    (memo : List ℕ) (lists : List (List ℕ)) (h : History) (fuel : ℕ) (p : Plan)
-    → IsMemoOf memo h → p.beginning ≡ after_memo h fuel → 1 + length p.inputs < 2 ^ 64
+    (memo : List ℕ) (lists : List (List ℕ)) (h : History) (fuel : ℕ) (reach : Bool) (p : Plan)
+    → IsMemoOf memo h → p.beginning ≡ after_memo h fuel reach → 1 + length p.inputs < 2 ^ 64
     → AreRerunInputs h.setup.input lists p.inputs → CanBePlayed p
-rerun_playable memo lists h fuel p is begins few edited =
+rerun_playable memo lists h fuel reach p is begins few edited =
     let count = rerun-count h.setup.input lists p.inputs edited in
     record {
       some = omega arith;
@@ -115,10 +116,10 @@ rerun_playable memo lists h fuel p is begins few edited =
     }
 
 pub rerun_spelled :
-    (memo : List ℕ) (lists : List (List ℕ)) (h : History) (fuel : ℕ) (p : Plan)
-    → IsMemoOf memo h → AreLimits fuel h.setup.limit → p.beginning ≡ after_memo h fuel
+    (memo : List ℕ) (lists : List (List ℕ)) (h : History) (fuel : ℕ) (reach : Bool) (p : Plan)
+    → IsMemoOf memo h → AreLimits fuel h.setup.limit → p.beginning ≡ after_memo h fuel reach
     → AreRerunInputs h.setup.input lists p.inputs → CanBeSpelled p
-rerun_spelled memo lists h fuel p is limits begins edited =
+rerun_spelled memo lists h fuel reach p is limits begins edited =
     let fits = is.spells.fits in
     record {
       valid = subst (λ (b : Beginning). IsSetup b.setup) (sym begins) (with-limits h.setup fuel fits.setup limits);

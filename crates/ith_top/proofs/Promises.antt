@@ -1,5 +1,5 @@
 -- What is promised of the rounds of a plan.
-use Rattle.std.proofs.Common.{◌≡◌, ◌<◌, ◌≤◌, arith, ℕ, List, [], ◌∷◌, Option, Some, None, length, sym, ap, ◌∙◌, subst}
+use Rattle.std.proofs.Common.{◌≡◌, ◌<◌, ◌≤◌, arith, ℕ, Bool, false, List, [], ◌∷◌, Option, Some, None, length, sym, ap, ◌∙◌, subst}
 use Rattle.std.specs.Prelude.{All, slice_get}
 use Rattle.std.specs.List.{AllByRecursion}
 use Rattle.std.proofs.lemmas.List.Elements.{All-from_recursion, recursion_from_All}
@@ -9,6 +9,7 @@ use Rattle.memo_spec.specs.Spelling.{AreBytes, IsSpellable}
 use Rattle.round_spec.specs.Rounds.{RoundState}
 use Rattle.round_spec.specs.Schedules.{events_in}
 use Rattle.worker_spec.proofs.Workers.{workers-permitted, workers-complete}
+use Rattle.reach_spec.proofs.ByWorkers.{reexecutes-made}
 use Rattle.rerun_spec.specs.Inputs.{AreShort}
 use Rattle.rerun_spec.specs.Rounds.{Found, Round, Beginning, IsMade, left_by, with_input, with_fuel, from_scratch, after_memo, CanBegin, round_on, after_round, rounds_after, last_left, IsUneditedRerun}
 use Rattle.rerun_spec.proofs.Rounds.{IsSoundlyMade, each-round, each-made, each-short, at-place, with-short, first-past, scratch-begins, memo-begins, round-made, round-found, round-alone, round-honest}
@@ -18,7 +19,7 @@ use Rattle.rerun_spec.proofs.Ending.{left-own}
 use Rattle.round_memo_spec.specs.Spelled.{IsSpelledPast}
 use Rattle.round_memo_spec.proofs.Events.{round-spelled}
 use Rattle.ith_host.specs.World.{World}
-use Rattle.ith_words.specs.Words.{Line, Runs, Reruns, Shows}
+use Rattle.ith_words.specs.Words.{Line, Runs, Reruns, Replays, Shows, Generates}
 use Rattle.ith_top.specs.Contents.{Plan, IsPlan, setup_of, workers_of, fuel_of}
 use Rattle.ith_top.specs.Rounds.{IsPromised, ArePromised, OnlyRepeats, BeginsHonestly, CanBeKept, rounds_of}
 use Rattle.ith_top.specs.Ends.{left_of}
@@ -33,6 +34,8 @@ promised workers r is =
       complete = workers-complete workers r.setup r.past r.found.entries r.found.shares is.can is.made;
       marks = round-found workers r is;
       alone = λ one. round-alone r (subst (λ (n : ℕ). IsSoundlyMade n r) one is);
+      picked = is.made.picked is.can.sound;
+      least = reexecutes-made workers r.setup r.past r.found.entries r.found.shares is.can.valid is.made;
       setup = left-own r;
       honest = round-honest workers r is;
       records = ap (λ (w : RoundState). w.records) (round-made workers r is);
@@ -75,29 +78,44 @@ promised_after workers b inputs found can short made unedited =
     }
 
 -- from scratch there is no history to go by
-none_unedited : (s : Setup) (inputs : List (List ℕ)) (found : List Found) → Unedited (from_scratch s) inputs found
-none_unedited s inputs found r h first past same =
-    let none : None ≡ Some h = sym (first-past (from_scratch s) inputs found r first) ∙ past in absurd (cc)
+none_unedited :
+    (s : Setup) (reach : Bool) (inputs : List (List ℕ)) (found : List Found)
+    → Unedited (from_scratch s reach) inputs found
+none_unedited s reach inputs found r h first past same =
+    let none : None ≡ Some h = sym (first-past (from_scratch s reach) inputs found r first) ∙ past in absurd (cc)
 
 -- after a memo there is the memo's
 memo_unedited :
-    (workers : ℕ) (h : History) (fuel : ℕ) (inputs : List (List ℕ)) (found : List Found) → IsHonest h
-    → All (IsMade workers) (rounds_after (after_memo h fuel) inputs found)
-    → Unedited (after_memo h fuel) inputs found
-memo_unedited workers h fuel inputs found honest made r k first past same =
-    let is : Some h ≡ Some k = sym (first-past (after_memo h fuel) inputs found r first) ∙ past in
+    (workers : ℕ) (h : History) (fuel : ℕ) (reach : Bool) (inputs : List (List ℕ)) (found : List Found) → IsHonest h
+    → All (IsMade workers) (rounds_after (after_memo h fuel reach) inputs found)
+    → Unedited (after_memo h fuel reach) inputs found
+memo_unedited workers h fuel reach inputs found honest made r k first past same =
+    let is : Some h ≡ Some k = sym (first-past (after_memo h fuel reach) inputs found r first) ∙ past in
     let one : h ≡ k = cc in
     let its : r.setup ≡ h.setup = same ∙ ap (λ (x : History). x.setup) (sym one) in
-    let unedited : IsUneditedRerun h fuel inputs found r =
+    let unedited : IsUneditedRerun h fuel reach inputs found r =
     record {
       first = first;
       same_input = ap (λ (s : Setup). s.input) its;
       same_fuel = ap (λ (s : Setup). s.fuel) its;
     } in
-    let rounds = rounds_after (after_memo h fuel) inputs found in
+    let rounds = rounds_after (after_memo h fuel reach) inputs found in
     let this : IsMade workers r = at-place (IsMade workers) rounds 0 r (each-made workers rounds made) first in
     subst (λ (x : History). OnlyRepeats x r) one
-    (again_repeats workers h r (rerun-again h fuel inputs found r honest unedited) this)
+    (again_repeats workers h r (rerun-again h fuel reach inputs found r honest unedited) this)
+
+-- rounds from scratch
+pub promised_from_scratch :
+    (workers : ℕ) (s : Setup) (reach : Bool) (p : Plan) (found : List Found)
+    → p.beginning ≡ from_scratch s reach → CanBePlayed p → CanBeSpelled p → AreFound workers p found
+    → ArePromised workers (rounds_of p found)
+promised_from_scratch workers s reach p found begins playable spelled are =
+    let valid : IsSetup s = subst (λ (b : Beginning). IsSetup b.setup) begins spelled.valid in
+    let made : All (IsMade workers) (rounds_after (from_scratch s reach) p.inputs found) =
+    subst (λ (b : Beginning). All (IsMade workers) (rounds_after b p.inputs found)) begins are.made in
+    subst (λ (b : Beginning). ArePromised workers (rounds_after b p.inputs found)) (sym begins)
+    (promised_after workers (from_scratch s reach) p.inputs found (scratch-begins s reach valid) playable.short made
+    (none_unedited s reach p.inputs found))
 
 -- the rounds of a line begin with what its plan says
 pub promised_of :
@@ -105,25 +123,22 @@ pub promised_of :
     → IsPlan line a p → CanBePlayed p → CanBeSpelled p → AreFound (workers_of line) p found
     → BeginsHonestly p.beginning → ArePromised (workers_of line) (rounds_of p found)
 promised_of (Runs line) a p found is playable spelled are honest =
-    let s = setup_of line is.contents in
-    let valid : IsSetup s = subst (λ (b : Beginning). IsSetup b.setup) is.beginning spelled.valid in
-    let made : All (IsMade line.workers) (rounds_after (from_scratch s) p.inputs found) =
-    subst (λ (b : Beginning). All (IsMade line.workers) (rounds_after b p.inputs found)) is.beginning are.made in
-    subst (λ (b : Beginning). ArePromised line.workers (rounds_after b p.inputs found)) (sym is.beginning)
-    (promised_after line.workers (from_scratch s) p.inputs found (scratch-begins s valid) playable.short made
-    (none_unedited s p.inputs found))
+    promised_from_scratch line.workers (setup_of line is.contents) line.reach p found is.beginning playable spelled are
 promised_of (Reruns line) a p found is playable spelled are honest =
     let h = is.history in
     let fuel = fuel_of line h in
     let true_of : IsHonest h = subst (λ (b : Beginning). BeginsHonestly b) is.beginning honest in
     let valid : IsSetup (with_fuel h.setup fuel) =
     subst (λ (b : Beginning). IsSetup b.setup) is.beginning spelled.valid in
-    let made : All (IsMade line.workers) (rounds_after (after_memo h fuel) p.inputs found) =
+    let made : All (IsMade line.workers) (rounds_after (after_memo h fuel line.reach) p.inputs found) =
     subst (λ (b : Beginning). All (IsMade line.workers) (rounds_after b p.inputs found)) is.beginning are.made in
     subst (λ (b : Beginning). ArePromised line.workers (rounds_after b p.inputs found)) (sym is.beginning)
-    (promised_after line.workers (after_memo h fuel) p.inputs found (memo-begins h fuel true_of valid.limits)
-    playable.short made (memo_unedited line.workers h fuel p.inputs found true_of made))
+    (promised_after line.workers (after_memo h fuel line.reach) p.inputs found
+    (memo-begins h fuel line.reach true_of valid.limits) playable.short made (memo_unedited line.workers h fuel line.reach p.inputs found true_of made))
+promised_of (Replays line) a p found is playable spelled are honest = absurd is
 promised_of (Shows line) a p found is playable spelled are honest = absurd is
+promised_of (Generates line) a p found is playable spelled are honest =
+    promised_from_scratch line.workers _ false p found is.beginning playable spelled are
 
 any_after :
     (workers : ℕ) (b : Beginning) (inputs : List (List ℕ)) (found : List Found)

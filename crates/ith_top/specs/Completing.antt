@@ -4,10 +4,10 @@ use Rattle.std.specs.List.{AllZip}
 use Rattle.history_spec.specs.History.{History}
 use Rattle.rerun_spec.specs.Inputs.{AreInputs, AreRerunInputs}
 use Rattle.ith_host.specs.World.{World, Rose}
-use Rattle.ith_words.specs.Words.{Text, Line, Runs, Reruns, Shows, RunLine, RerunLine}
+use Rattle.ith_words.specs.Words.{Text, Line, Runs, Reruns, Replays, Shows, Generates, RunLine, RerunLine, ReplayLine}
 use Rattle.ith_top.specs.declared.status.Status.TheVariants as status
 use Rattle.ith_top.specs.Files.{FailedToRead, files_named}
-use Rattle.ith_top.specs.Contents.{AreLists, Contents, WasRead, IsMemoContent, IsMemoOf}
+use Rattle.ith_top.specs.Contents.{AreLists, Contents, WasRead, ReplayContents, WasReplayRead, replay_setup_of, CanBeReplayed, IsMemoContent, IsMemoOf}
 use Rattle.ith_top.specs.Ends.{OfNone, kept_by, IsTooLargeToKeep}
 use Rattle.ith_top.specs.Statuses.{code_of}
 
@@ -49,6 +49,17 @@ pub record AreRerunAccepted (line : RerunLine) (before : World) : Type 0 where
   pub inputs : List (List ℕ)
   pub edited : AreRerunInputs memo.history.setup.input lists inputs
 
+-- The files of a line that replays a schedule are told and within their limits; the executable is accepted; and the
+-- schedule says threads that are permitted from scratch and come to an end.
+pub record IsReplayAccepted (line : ReplayLine) (before : World) : Type 0 where
+  pub contents : ReplayContents
+  pub elf : before.files line.elf ≡ Some contents.elf
+  pub input : before.files line.input ≡ Some contents.input
+  pub schedule : before.files line.schedule ≡ Some contents.schedule
+  pub read : WasReplayRead line before contents
+  pub threads : List ℕ
+  pub can : CanBeReplayed (replay_setup_of line contents) contents.schedule threads
+
 -- A line's rounds were all printed, and the memo that it asks for was written, unless that would be too long; or the
 -- host's memory ran out.
 abbrev pub IsCompleted : Line → World → World → ℕ → Type 0
@@ -58,6 +69,11 @@ IsCompleted line before after answer =
     ⊎ ((answer ≡ code_of status.Memory)
     ⊎ ((answer ≡ code_of status.TooLarge) × IsTooLargeToKeep line before after)))
 
+-- What a line asks for was printed whole, or the host's memory ran out.
+abbrev pub IsTold : ℕ → Type 0
+IsTold answer =
+    (answer ≡ code_of status.Finished) ⊎ ((answer ≡ code_of status.Unfinished) ⊎ (answer ≡ code_of status.Memory))
+
 -- Where nothing stands in its way, a line is done, or the host's memory ran out.
 abbrev pub Completes : Option Line → World → World → ℕ → Type 0
 Completes None before after answer = Unit {0}
@@ -65,6 +81,9 @@ Completes (Some (Runs line)) before after answer =
     AreAccepted line before → HasNoFault (Runs line) before after → IsCompleted (Runs line) before after answer
 Completes (Some (Reruns line)) before after answer =
     AreRerunAccepted line before → HasNoFault (Reruns line) before after → IsCompleted (Reruns line) before after answer
+Completes (Some (Replays line)) before after answer =
+    IsReplayAccepted line before → HasNoFault (Replays line) before after → IsTold answer
+Completes (Some (Generates line)) before after answer = HasNoFault (Generates line) before after → IsTold answer
 Completes (Some (Shows line)) before after answer =
     IsAcceptedMemo line.memo before → HasNoFault (Shows line) before after
     → (answer ≡ code_of status.Finished) ⊎ (answer ≡ code_of status.Memory)

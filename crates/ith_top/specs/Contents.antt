@@ -1,19 +1,25 @@
 -- What the files of a line hold, and the rounds that it asks for with them.
-use Rattle.std.specs.Prelude.{◌≡◌, ℕ, ◌≤◌, true, false, List, length, unwrap_or}
+use Rattle.std.specs.Prelude.{◌≡◌, ℕ, ◌≤◌, true, false, List, [], ◌∷◌, length, unwrap_or, Ok}
 use Rattle.std.specs.List.{AllZip}
 use Rattle.elf_spec.specs.declared.TheConstants.{MOST_ELF_BYTES}
 use Rattle.elf_spec.specs.Image.{is_image}
 use Rattle.edit_spec.specs.declared.TheConstants.{MOST_LIST_BYTES}
 use Rattle.machine_spec.specs.declared.TheConstants.{MOST_INPUT_BYTES}
-use Rattle.machine_spec.specs.Setup.{Setup}
+use Rattle.machine_spec.specs.Setup.{Setup, is_permitted, is_complete}
 use Rattle.history_spec.specs.History.{History, is_coherent}
 use Rattle.memo_spec.specs.declared.TheConstants.{MOST_MEMO_BYTES}
 use Rattle.memo_spec.specs.Spelling.{Spells}
 use Rattle.memo_spec.specs.Old.{is_old}
 use Rattle.rerun_spec.specs.Inputs.{AreInputs, AreRerunInputs}
 use Rattle.rerun_spec.specs.Rounds.{Beginning, from_scratch, after_memo}
+use Rattle.schedule_list.specs.declared.TheConstants.{MOST_SCHEDULE_BYTES}
+use Rattle.schedule_list.specs.Schedule.{Says}
+use Rattle.rv_asm.specs.Items.{items_bytes}
+use Rattle.rv_asm.specs.Guest.{IsGuest}
+use Rattle.guest_gen.specs.declared.guest.TheConstants.{BASE, ITEMS, ZEROS}
+use Rattle.guest_gen.specs.Generated.{input_of, list_of}
 use Rattle.ith_host.specs.World.{World, IsContent}
-use Rattle.ith_words.specs.Words.{Text, Line, Runs, Reruns, Shows, RunLine, RerunLine}
+use Rattle.ith_words.specs.Words.{Text, Line, Runs, Reruns, Replays, Shows, Generates, RunLine, RerunLine, ReplayLine, default_fuel, default_limit}
 
 -- Contents of edit lists, which agree with each that is told, and are within their limit.
 abbrev pub AreLists : World → List Text → List (List ℕ) → Type 0
@@ -43,6 +49,36 @@ pub record WasRead (line : RunLine) (before : World) (c : Contents) : Type 0 whe
 abbrev pub setup_of : RunLine → Contents → Setup
 setup_of line c = record { elf = c.elf; input = c.input; fuel = line.fuel; limit = line.limit }
 
+-- What the files hold that a line names which replays a schedule.
+pub record ReplayContents : Type 0 where
+  pub elf : List ℕ
+  pub input : List ℕ
+  pub schedule : List ℕ
+
+-- Contents of these that agree with each file that is told, and are within their limits.
+pub record AreReplayContents (before : World) (line : ReplayLine) (c : ReplayContents) : Type 0 where
+  pub elf : IsContent before line.elf c.elf
+  pub elf_within : length c.elf ≤ MOST_ELF_BYTES
+  pub input : IsContent before line.input c.input
+  pub input_within : length c.input ≤ MOST_INPUT_BYTES
+  pub schedule : IsContent before line.schedule c.schedule
+  pub schedule_within : length c.schedule ≤ MOST_SCHEDULE_BYTES
+
+-- The files of a line that replays a schedule were read, and the executable is accepted.
+pub record WasReplayRead (line : ReplayLine) (before : World) (c : ReplayContents) : Type 0 where
+  pub contents : AreReplayContents before line c
+  pub accepted : is_image c.elf ≡ true
+
+-- The setup of a line that replays a schedule, and of what its files hold.
+abbrev pub replay_setup_of : ReplayLine → ReplayContents → Setup
+replay_setup_of line c = record { elf = c.elf; input = c.input; fuel = line.fuel; limit = line.limit }
+
+-- A text says the threads of a schedule that is permitted from scratch and comes to an end.
+pub record CanBeReplayed (setup : Setup) (text threads : List ℕ) : Type 0 where
+  pub said : Says text (Ok threads)
+  pub permitted : is_permitted setup threads ≡ true
+  pub complete : is_complete setup threads ≡ true
+
 -- The content of a memo, which agrees with it where it is told, and is within its limit.
 pub record IsMemoContent (before : World) (name : Text) (bytes : List ℕ) : Type 0 where
   pub content : IsContent before name bytes
@@ -65,7 +101,7 @@ pub record Plan : Type 0 where
 pub record IsRunPlan (line : RunLine) (before : World) (p : Plan) : Type 0 where
   pub contents : Contents
   pub read : WasRead line before contents
-  pub beginning : p.beginning ≡ from_scratch (setup_of line contents)
+  pub beginning : p.beginning ≡ from_scratch (setup_of line contents) line.reach
   pub edited : AreInputs contents.input contents.lists p.inputs
 
 -- The fuel of a line that reruns a memo: its own, or the memo's where it has none.
@@ -82,17 +118,30 @@ pub record IsRerunPlan (line : RerunLine) (before : World) (p : Plan) : Type 0 w
   pub lists_read : AreLists before line.edits lists
   pub history : History
   pub accepted : IsMemoOf memo history
-  pub beginning : p.beginning ≡ after_memo history (fuel_of line history)
+  pub beginning : p.beginning ≡ after_memo history (fuel_of line history) line.reach
   pub edited : AreRerunInputs history.setup.input lists p.inputs
 
--- A plan of a line; a line that shows a memo asks for no rounds.
+-- The plan for the guest that is generated from a number: round 0 is from scratch, on the generated input, with the
+-- limits of a line that names none; and round 1 is on this input after the generated edit.
+pub record IsGeneratedPlan (number : ℕ) (p : Plan) : Type 0 where
+  pub elf : List ℕ
+  pub guest : IsGuest BASE (items_bytes ITEMS) ZEROS elf
+  pub beginning : p.beginning ≡ from_scratch
+      (record { elf = elf; input = input_of number; fuel = default_fuel; limit = default_limit }) false
+  pub edited : AreInputs (input_of number) (list_of number ∷ []) p.inputs
+
+-- A plan of a line; lines that replay a schedule or show a memo ask for no rounds.
 abbrev pub IsPlan : Line → World → Plan → Type 0
 IsPlan (Runs line) before p = IsRunPlan line before p
 IsPlan (Reruns line) before p = IsRerunPlan line before p
+IsPlan (Replays line) before p = ⊥
 IsPlan (Shows line) before p = ⊥
+IsPlan (Generates line) before p = IsGeneratedPlan line.number p
 
 -- How many workers a line that asks for rounds has.
 abbrev pub workers_of : Line → ℕ
 workers_of (Runs line) = line.workers
 workers_of (Reruns line) = line.workers
+workers_of (Replays line) = 0
 workers_of (Shows line) = 0
+workers_of (Generates line) = line.workers

@@ -1,9 +1,10 @@
 -- How a call of the program may end: for each status what was read, what was printed, what stays, and what caused it.
-use Rattle.std.specs.Prelude.{◌≡◌, ◌≢◌, ℕ, ◌<◌, ◌≤◌, Bool, true, false, ◌⊎◌, List, [], ◌∷◌, ◌++◌, All, IfSome, length, take, slice_get, Option, Some, None, Err}
+use Rattle.std.specs.Prelude.{◌≡◌, ◌≢◌, ℕ, ◌<◌, ◌≤◌, Bool, true, false, ◌⊎◌, List, [], ◌∷◌, ◌++◌, All, IfSome, length, map, take, slice_get, codes, decimal, Option, Some, None, Ok, Err}
 use Rattle.std.specs.List.{concat}
 use Rattle.std.specs.Io.KnownBytes.{Appends}
 use Rattle.ith_host.specs.World.{World, Rose, Stays, AsksNothing, Holds}
 use Rattle.elf_spec.specs.Image.{is_image}
+use Rattle.machine_spec.specs.Setup.{Setup, scratch, is_permitted, is_complete}
 use Rattle.history_spec.specs.History.{History}
 use Rattle.memo_spec.specs.declared.Refusal.{Refusal as MemoRefusal}
 use Rattle.memo_spec.specs.declared.TheConstants.{MOST_MEMO_BYTES}
@@ -11,13 +12,18 @@ use Rattle.memo_spec.specs.Spelling.{memo}
 use Rattle.memo_spec.specs.Reading.{reading}
 use Rattle.memo_listing.specs.Listing.{listing}
 use Rattle.rerun_spec.specs.Inputs.{Refusal, IsFirstRefused}
-use Rattle.rerun_spec.specs.Rounds.{Found, IsMade, last_left}
-use Rattle.rerun_spec.specs.Reports.{made_reports, all_made_exit}
-use Rattle.ith_words.specs.Words.{Text, Line, Runs, Reruns, Shows, RunLine, RerunLine, ShowLine}
+use Rattle.plain_machine.specs.Replaying.{IsFirstForbidden}
+use Rattle.report_spec.specs.Text.{line as text_line}
+use Rattle.round_report.specs.Replay.{replay_of}
+use Rattle.round_report.specs.Short.{short_of}
+use Rattle.rerun_spec.specs.Rounds.{Found, Round, IsMade, last_left}
+use Rattle.rerun_spec.specs.Reports.{is_exit, all_exit, made_reports, all_made_exit}
+use Rattle.schedule_list.specs.Schedule.{Says}
+use Rattle.ith_words.specs.Words.{Text, Line, Runs, Reruns, Replays, Shows, Generates, RunLine, RerunLine, ReplayLine, ShowLine, GenerateLine}
 use Rattle.ith_top.specs.declared.status.Status.{Status}
 use Rattle.ith_top.specs.declared.status.Status.TheVariants as status
 use Rattle.ith_top.specs.Files.{Named, files_named, AsksForFiles, AsksForSome, StopsAt, FailedToRead, IsLong}
-use Rattle.ith_top.specs.Contents.{AreLists, Contents, AreContents, WasRead, IsMemoContent, IsMemoOf, Plan, IsPlan, workers_of}
+use Rattle.ith_top.specs.Contents.{AreLists, Contents, AreContents, WasRead, ReplayContents, AreReplayContents, WasReplayRead, replay_setup_of, CanBeReplayed, IsMemoContent, IsMemoOf, Plan, IsPlan, workers_of}
 use Rattle.ith_top.specs.Rounds.{rounds_of, BeginsHonestly, ArePromised, CanBeKept}
 use Rattle.ith_top.specs.Statuses.{code_of}
 
@@ -50,7 +56,9 @@ left_of p found = last_left p.beginning p.inputs found
 abbrev pub kept_by : Line → Option Text
 kept_by (Runs line) = line.kept
 kept_by (Reruns line) = line.kept
+kept_by (Replays line) = None
 kept_by (Shows line) = None
+kept_by (Generates line) = None
 
 -- Of the files nothing changed, and these bytes were printed.
 pub record Prints (before after : World) (bytes : List ℕ) : Type 0 where
@@ -222,23 +230,109 @@ pub record IsUnshown (line : ShowLine) (before after : World) : Type 0 where
   pub has : HasHistory line before
   pub part : IsPrintedInPart (listing has.history ∷ []) before after
 
+-- The executable of a line that replays a schedule is refused, and nothing was printed.
+pub record IsReplayImageRefused (line : ReplayLine) (before after : World) : Type 0 where
+  pub asked : AsksForFiles (files_named (Replays line)) before after
+  pub contents : ReplayContents
+  pub read : AreReplayContents before line contents
+  pub refused : is_image contents.elf ≡ false
+  pub stays : Stays before after
+
+-- Why a schedule is refused: a token, numbered from 0, spells no thread; an entry, numbered from 0, isn't permitted; or
+-- no end comes after the last entry.
+pub data ScheduleRefusal : Type 0 where
+  Token : ℕ → ScheduleRefusal
+  Entry : ℕ → ScheduleRefusal
+  Incomplete : ScheduleRefusal
+
+-- A schedule is refused where it is replayed: by the first token of its text that spells no thread; where there is none
+-- by the first entry that isn't permitted from scratch; and where all are permitted since none of them comes to an end.
+abbrev pub RefusesSchedule : Setup → List ℕ → ScheduleRefusal → Type 0
+RefusesSchedule setup text (Token i) = Says text (Err i)
+RefusesSchedule setup text (Entry i) = (threads : List ℕ) × Says text (Ok threads) × IsFirstForbidden setup threads i
+RefusesSchedule setup text Incomplete =
+    (threads : List ℕ) × Says text (Ok threads) × (is_permitted setup threads ≡ true)
+    × (is_complete setup threads ≡ false)
+
+-- The executable is accepted, and the schedule to replay is refused, and nothing was printed.
+pub record IsScheduleRefused (line : ReplayLine) (before after : World) : Type 0 where
+  pub asked : AsksForFiles (files_named (Replays line)) before after
+  pub contents : ReplayContents
+  pub read : WasReplayRead line before contents
+  pub why : ScheduleRefusal
+  pub refused : RefusesSchedule (replay_setup_of line contents) contents.schedule why
+  pub stays : Stays before after
+
+-- What a line replays: its files were read, the executable is accepted, and the schedule's tokens say these threads,
+-- which are permitted from scratch and come to an end.
+pub record HasReplay (line : ReplayLine) (before : World) : Type 0 where
+  pub contents : ReplayContents
+  pub read : WasReplayRead line before contents
+  pub threads : List ℕ
+  pub can : CanBeReplayed (replay_setup_of line contents) contents.schedule threads
+
+-- The text that tells of a replay: what the machine from scratch came to under the schedule that the file says.
+abbrev pub text_of_replay : (line : ReplayLine) (before : World) → HasReplay line before → List ℕ
+text_of_replay line before has = replay_of (replay_setup_of line has.contents) has.threads
+
+-- The schedule is replayed: exactly the text that tells of it was printed; and whether the machine from scratch ended by
+-- exit.
+pub record IsReplayed (line : ReplayLine) (exits : Bool) (before after : World) : Type 0 where
+  pub asked : AsksForFiles (files_named (Replays line)) before after
+  pub has : HasReplay line before
+  pub prints : Prints before after (text_of_replay line before has)
+  pub ends : is_exit (scratch (replay_setup_of line has.contents) has.threads).ending ≡ exits
+
+-- Printing failed, and the first bytes of the text that tells of the replay were printed, any number of them.
+pub record IsUnreplayed (line : ReplayLine) (before after : World) : Type 0 where
+  pub asked : AsksForFiles (files_named (Replays line)) before after
+  pub has : HasReplay line before
+  pub part : IsPrintedInPart (text_of_replay line before has ∷ []) before after
+
+-- The text that tells of the rounds of the generated guest: a line with the number, and a line for each round, of the
+-- machine from scratch.
+abbrev pub generated_text : ℕ → List Round → List ℕ
+generated_text number rounds = text_line (codes "gen") (decimal number) ++ concat (map short_of rounds)
+
+-- The generated guest was run: both rounds were made, and exactly the text that tells of them was printed; and whether
+-- each ended by exit.
+pub record IsGenerated (line : GenerateLine) (exits : Bool) (before after : World) : Type 0 where
+  pub asked : AsksNothing before after
+  pub has : HasRounds (Generates line) before
+  pub all : HasAll (Generates line) before has
+  pub prints : Prints before after (generated_text line.number (rounds_of has.plan has.found))
+  pub ends : all_exit (rounds_of has.plan has.found) ≡ exits
+
+-- Printing failed, and the first bytes of the text that tells of both rounds were printed, any number of them.
+pub record IsUngenerated (line : GenerateLine) (before after : World) : Type 0 where
+  pub asked : AsksNothing before after
+  pub has : HasRounds (Generates line) before
+  pub all : HasAll (Generates line) before has
+  pub part : IsPrintedInPart (generated_text line.number (rounds_of has.plan has.found) ∷ []) before after
+
 -- A line's executable is refused.
 abbrev pub RefusesImage : Line → World → World → Type 0
 RefusesImage (Runs line) before after = IsImageRefused line before after
 RefusesImage (Reruns line) before after = ⊥
+RefusesImage (Replays line) before after = IsReplayImageRefused line before after
 RefusesImage (Shows line) before after = ⊥
+RefusesImage (Generates line) before after = ⊥
 
 -- A line's memo is refused.
 abbrev pub RefusesMemo : Line → World → World → Type 0
 RefusesMemo (Runs line) before after = ⊥
 RefusesMemo (Reruns line) before after = IsRerunMemoRefused line before after
+RefusesMemo (Replays line) before after = ⊥
 RefusesMemo (Shows line) before after = IsMemoRefused line before after
+RefusesMemo (Generates line) before after = ⊥
 
 -- An edit list of a line is refused.
 abbrev pub RefusesList : Line → World → World → Type 0
 RefusesList (Runs line) before after = IsListRefused line before after
 RefusesList (Reruns line) before after = IsRerunListRefused line before after
+RefusesList (Replays line) before after = ⊥
 RefusesList (Shows line) before after = ⊥
+RefusesList (Generates line) before after = ⊥
 
 -- How a line that asks for rounds may end, status by status.
 abbrev pub RoundsEnd : Line → World → World → Status → Type 0
@@ -252,6 +346,7 @@ RoundsEnd line before after status.ReadFault = IsUnread line before after
 RoundsEnd line before after status.WriteFault = IsUnprinted line before after ⊎ IsUnkept line before after
 RoundsEnd line before after status.Memory = IsUnbegun line before after ⊎ IsCutShort line before after
 RoundsEnd line before after status.TooLarge = IsTooLarge line before after ⊎ IsTooLargeToKeep line before after
+RoundsEnd line before after status.Schedule = ⊥
 
 -- How a line that shows a memo may end, status by status.
 abbrev pub ShowEnds : ShowLine → World → World → Status → Type 0
@@ -265,6 +360,35 @@ ShowEnds line before after status.ReadFault = IsUnread (Shows line) before after
 ShowEnds line before after status.WriteFault = IsUnshown line before after
 ShowEnds line before after status.Memory = IsUnbegun (Shows line) before after
 ShowEnds line before after status.TooLarge = IsTooLarge (Shows line) before after
+ShowEnds line before after status.Schedule = ⊥
+
+-- How a line that replays a schedule may end, status by status.
+abbrev pub ReplayEnds : ReplayLine → World → World → Status → Type 0
+ReplayEnds line before after status.Finished = IsReplayed line true before after
+ReplayEnds line before after status.Unfinished = IsReplayed line false before after
+ReplayEnds line before after status.Words = ⊥
+ReplayEnds line before after status.Image = RefusesImage (Replays line) before after
+ReplayEnds line before after status.Memo = ⊥
+ReplayEnds line before after status.EditList = ⊥
+ReplayEnds line before after status.ReadFault = IsUnread (Replays line) before after
+ReplayEnds line before after status.WriteFault = IsUnreplayed line before after
+ReplayEnds line before after status.Memory = IsUnbegun (Replays line) before after
+ReplayEnds line before after status.TooLarge = IsTooLarge (Replays line) before after
+ReplayEnds line before after status.Schedule = IsScheduleRefused line before after
+
+-- How a line that runs the generated guest may end, status by status.
+abbrev pub GenerateEnds : GenerateLine → World → World → Status → Type 0
+GenerateEnds line before after status.Finished = IsGenerated line true before after
+GenerateEnds line before after status.Unfinished = IsGenerated line false before after
+GenerateEnds line before after status.Words = ⊥
+GenerateEnds line before after status.Image = ⊥
+GenerateEnds line before after status.Memo = ⊥
+GenerateEnds line before after status.EditList = ⊥
+GenerateEnds line before after status.ReadFault = ⊥
+GenerateEnds line before after status.WriteFault = IsUngenerated line before after
+GenerateEnds line before after status.Memory = IsUnbegun (Generates line) before after
+GenerateEnds line before after status.TooLarge = ⊥
+GenerateEnds line before after status.Schedule = ⊥
 
 -- Nothing was printed, and no file was asked for.
 pub record DoesNothing (before after : World) : Type 0 where
@@ -276,7 +400,9 @@ abbrev pub Ends : Option Line → World → World → Status → Type 0
 Ends None before after s = ((s ≡ status.Words) ⊎ (s ≡ status.Memory)) × DoesNothing before after
 Ends (Some (Runs line)) before after s = RoundsEnd (Runs line) before after s
 Ends (Some (Reruns line)) before after s = RoundsEnd (Reruns line) before after s
+Ends (Some (Replays line)) before after s = ReplayEnds line before after s
 Ends (Some (Shows line)) before after s = ShowEnds line before after s
+Ends (Some (Generates line)) before after s = GenerateEnds line before after s
 
 -- An answer is the number of a status by which the call may end.
 abbrev pub Answers : Option Line → World → World → ℕ → Type 0

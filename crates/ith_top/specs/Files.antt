@@ -5,7 +5,8 @@ use Rattle.edit_spec.specs.declared.TheConstants.{MOST_LIST_BYTES}
 use Rattle.machine_spec.specs.declared.TheConstants.{MOST_INPUT_BYTES}
 use Rattle.memo_spec.specs.declared.TheConstants.{MOST_MEMO_BYTES}
 use Rattle.ith_host.specs.World.{World, Rose, AsksFor}
-use Rattle.ith_words.specs.Words.{Text, Line, Runs, Reruns, Shows}
+use Rattle.schedule_list.specs.declared.TheConstants.{MOST_SCHEDULE_BYTES}
+use Rattle.ith_words.specs.Words.{Text, Line, Runs, Reruns, Replays, Shows, Generates}
 
 -- A file that a line names to read: its name, and the most bytes that it may have.
 pub record Named : Type 0 where
@@ -24,6 +25,10 @@ input_named name = record { name = name; most = MOST_INPUT_BYTES }
 abbrev pub memo_named : Text → Named
 memo_named name = record { name = name; most = MOST_MEMO_BYTES }
 
+-- The schedule of this name.
+abbrev pub schedule_named : Text → Named
+schedule_named name = record { name = name; most = MOST_SCHEDULE_BYTES }
+
 -- The edit lists of these names.
 abbrev pub lists_named : List Text → List Named
 lists_named names = map (λ name. record { name = name; most = MOST_LIST_BYTES }) names
@@ -32,7 +37,9 @@ lists_named names = map (λ name. record { name = name; most = MOST_LIST_BYTES }
 abbrev pub files_named : Line → List Named
 files_named (Runs line) = elf_named line.elf ∷ input_named line.input ∷ lists_named line.edits
 files_named (Reruns line) = memo_named line.memo ∷ lists_named line.edits
+files_named (Replays line) = elf_named line.elf ∷ input_named line.input ∷ schedule_named line.schedule ∷ []
 files_named (Shows line) = memo_named line.memo ∷ []
+files_named (Generates line) = []
 
 -- These files were asked for, in order, and no other.
 abbrev pub AsksForFiles : List Named → World → World → Type 0

@@ -1,5 +1,5 @@
 -- The parts of a call that makes rounds.
-use Rattle.std.specs.Prelude.{◌≡◌, ℕ, ◌+◌, ◌^◌, ◌<◌, ◌≤◌, Bool, List, All, Option, length, option_map}
+use Rattle.std.specs.Prelude.{◌≡◌, ℕ, ◌+◌, ◌^◌, ◌<◌, ◌≤◌, Bool, List, [], All, Option, Some, None, length, option_map, Ok}
 use Rattle.std.specs.Arc.{arc_value}
 use Rattle.std.specs.List.{concat}
 use Rattle.machine_spec.specs.Setup.{Setup, IsSetup}
@@ -9,20 +9,25 @@ use Rattle.round_memo_spec.specs.Spelled.{IsSpelledPast}
 use Rattle.propagate.specs.Kept.{IsOfMap}
 use Rattle.rerun_spec.specs.Inputs.{AreShort}
 use Rattle.rerun_spec.specs.Rounds.{Found, Beginning, IsMade, left_by, round_on}
-use Rattle.rerun_spec.specs.Reports.{made_report, made_exits, all_made_exit}
+use Rattle.rerun_spec.specs.Reports.{made_report, made_exits, all_exit, all_made_exit, all_executed}
+use Rattle.plain_machine.specs.declared.replaying.Outcome.{Outcome}
+use Rattle.schedule_list.specs.Schedule.{Says}
+use Rattle.round_report.specs.Replay.{replay_text}
+use Rattle.round_report.specs.Short.{made_short}
 use Rattle.ith_host.specs.World.{World}
-use Rattle.ith_words.specs.Words.{Text}
+use Rattle.ith_words.specs.Words.{Text, ReplayLine}
 use Rattle.ith_top.specs.declared.plan.Start.{Start}
 use Rattle.ith_top.specs.declared.plan.Plan.{Plan as Planned}
 use Rattle.ith_top.specs.declared.rounds.Coming.{Coming}
 use Rattle.ith_top.specs.declared.report.Next.{Next}
-use Rattle.ith_top.specs.Contents.{Plan}
+use Rattle.ith_top.specs.Contents.{Plan, ReplayContents, WasReplayRead, replay_setup_of, IsGeneratedPlan}
 use Rattle.ith_top.specs.Rounds.{rounds_of}
-use Rattle.ith_top.specs.Ends.{Prints, PrintsAndKeeps, IsKeptWithin, texts_of, left_of}
+use Rattle.ith_top.specs.Ends.{Prints, PrintsAndKeeps, IsKeptWithin, texts_of, left_of, generated_text}
 
 -- What rounds begin with, in code, as a beginning of the definitions.
 abbrev pub beginning_said : Start → Beginning
-beginning_said s = record { number = s.number; past = option_map arc_value s.past; setup = s.setup }
+beginning_said s =
+    record { number = s.number; past = option_map arc_value s.past; setup = s.setup; reach = s.reach }
 
 -- A plan in code, as one of the definitions.
 abbrev pub plan_said : Planned → Plan
@@ -32,7 +37,7 @@ plan_said p = record { beginning = beginning_said p.start; inputs = p.inputs }
 abbrev pub coming_said : Setup → Coming → Plan
 coming_said s c =
     record {
-      beginning = record { number = c.number; past = option_map arc_value c.past; setup = s };
+      beginning = record { number = c.number; past = option_map arc_value c.past; setup = s; reach = c.reach };
       inputs = c.inputs;
     }
 
@@ -53,7 +58,7 @@ pub record CanBeSpelled (p : Plan) : Type 0 where
 
 -- What the round that comes next begins with, of a line whose first round has this setup.
 abbrev pub beginning_of : Setup → Next → Beginning
-beginning_of s n = record { number = n.number; past = option_map arc_value n.past; setup = s }
+beginning_of s n = record { number = n.number; past = option_map arc_value n.past; setup = s; reach = n.reach }
 
 -- So many workers made a round of this beginning, on this input: the text that tells of it, whether it ended by exit,
 -- and what it leaves.
@@ -89,3 +94,48 @@ pub record IsCarriedOut (name : Option Text) (workers : ℕ) (p : Plan) (before 
     pub keeps : PrintsAndKeeps name (memo (left_of p found)) before after (concat (texts_of p found))
     pub within : IsKeptWithin name (memo (left_of p found))
     pub are_exits : all_made_exit (rounds_of p found) ≡ exits
+
+-- What a line asks for that replays a schedule: its files were read, and the executable is accepted, of which this is
+-- the setup; and the schedule's tokens say these threads.
+pub record IsAskedReplay (line : ReplayLine) (before : World) (setup : Setup) (threads : List ℕ) : Type 0 where
+  pub contents : ReplayContents
+  pub read : WasReplayRead line before contents
+  pub is_setup : setup ≡ replay_setup_of line contents
+  pub said : Says contents.schedule (Ok threads)
+
+-- The text that tells of what a schedule came to.
+abbrev pub TellsOfReplay : List ℕ → Outcome → List ℕ → Type 0
+TellsOfReplay threads o text =
+    text
+    ≡ replay_text
+    (record {
+      ending = Some o.ending;
+      schedule = all_executed threads;
+      reached = None;
+      instructions = o.instructions;
+      shares = [];
+      memory = o.memory;
+      output = o.output.items;
+    })
+
+-- So many workers made a round of this beginning, on this input: the line that tells of it, whether it ended by exit,
+-- and what it leaves.
+pub record IsLineOn (workers : ℕ) (b : Beginning) (input text : List ℕ) (exit : Bool) (left : History) : Type 0 where
+  pub found : Found
+  pub made : IsMade workers (round_on b input found)
+  pub is_text : text ≡ made_short (round_on b input found)
+  pub is_exit : exit ≡ made_exits (round_on b input found)
+  pub is_left : left ≡ left_by (round_on b input found)
+
+-- So many workers made both rounds of the guest that is generated from a number: the text that tells of them, and
+-- whether each ended by exit.
+pub record AreTheGenerated (workers number : ℕ) (text : List ℕ) (exits : Bool) : Type 0 where
+  pub plan : Plan
+  pub is_plan : IsGeneratedPlan number plan
+  pub playable : CanBePlayed plan
+  pub spelled : CanBeSpelled plan
+  pub found : List Found
+  pub made : AreFound workers plan found
+  pub all : length found ≡ length plan.inputs
+  pub is_text : text ≡ generated_text number (rounds_of plan found)
+  pub are_exits : all_exit (rounds_of plan found) ≡ exits

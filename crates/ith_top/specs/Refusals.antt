@@ -1,5 +1,5 @@
 -- Why a part of a call refused, by the status that it gives.
-use Rattle.std.specs.Prelude.{◌≡◌, ◌≢◌, ℕ, ◌<◌, ◌≤◌, false, ◌⊎◌, List, length, take, Option, Some, None, Err, ⊤}
+use Rattle.std.specs.Prelude.{◌≡◌, ◌≢◌, ℕ, ◌<◌, ◌≤◌, true, false, ◌⊎◌, List, length, take, Option, Some, None, Err, ⊤}
 use Rattle.std.specs.List.{concat}
 use Rattle.ith_host.specs.World.{World, Rose, NoneFell, Stays, Holds}
 use Rattle.elf_spec.specs.Image.{is_image}
@@ -7,6 +7,9 @@ use Rattle.memo_spec.specs.declared.Refusal.{Refusal as MemoRefusal}
 use Rattle.memo_spec.specs.declared.TheConstants.{MOST_MEMO_BYTES}
 use Rattle.memo_spec.specs.Reading.{reading}
 use Rattle.memo_spec.specs.Spelling.{memo}
+use Rattle.machine_spec.specs.Setup.{Setup, is_permitted, is_complete}
+use Rattle.plain_machine.specs.Replaying.{IsFirstForbidden}
+use Rattle.schedule_list.specs.Schedule.{Says}
 use Rattle.rerun_spec.specs.Inputs.{Refusal, IsFirstRefused}
 use Rattle.rerun_spec.specs.Rounds.{Found}
 use Rattle.ith_words.specs.Words.{Text}
@@ -41,6 +44,21 @@ abbrev pub WhyUnedited : List ℕ → List (List ℕ) → Status → Type 0
 WhyUnedited first lists status.EditList = (place : ℕ) × (why : Refusal) × IsFirstRefused first lists place why
 WhyUnedited first lists status.Memory = ⊤
 WhyUnedited first lists _ = ⊥
+
+-- Why no threads were had from the text of a schedule: a token is the first that spells none.
+abbrev pub WhyNoThreads : List ℕ → Status → Type 0
+WhyNoThreads text status.Schedule = (number : ℕ) × Says text (Err number)
+WhyNoThreads text status.Memory = ⊤
+WhyNoThreads text _ = ⊥
+
+-- Why a schedule came to no end from scratch: an entry is the first that isn't permitted, or all are and it isn't
+-- complete.
+abbrev pub WhyUnreplayed : Setup → List ℕ → Status → Type 0
+WhyUnreplayed setup threads status.Schedule =
+    ((number : ℕ) × IsFirstForbidden setup threads number)
+    ⊎ ((is_permitted setup threads ≡ true) × (is_complete setup threads ≡ false))
+WhyUnreplayed setup threads status.Memory = ⊤
+WhyUnreplayed setup threads _ = ⊥
 
 -- Why no more was done than to make the rounds of a plan that were found, and what was printed: the texts of these; and
 -- where printing failed, of the last one's a part.

@@ -6,7 +6,8 @@ use Rattle.memo_spec.specs.Spelling.{IsSpellable}
 use Rattle.report_spec.specs.Report.{instructions_from}
 use Rattle.round_spec.specs.Alone.{one_worker}
 use Rattle.round_spec.specs.Unedited.{OnlyReuses}
-use Rattle.rerun_spec.specs.Rounds.{Found, Round, Beginning, made, left_by, schedule_in, entries_of, machine_of, rounds_after, IsRepeated}
+use Rattle.reach_spec.specs.Working.{ReexecutesLeast}
+use Rattle.rerun_spec.specs.Rounds.{Found, Round, Beginning, made, IsPickedRightly, left_by, schedule_in, entries_of, machine_of, rounds_after, IsRepeated}
 use Rattle.rerun_spec.specs.Reports.{reports_of, made_reports, all_exit, all_made_exit}
 use Rattle.ith_top.specs.Contents.{Plan}
 
@@ -25,14 +26,17 @@ pub record Repeats (before after : Round) : Type 0 where
 
 -- What is promised of a round, whoever of so many workers made its steps: the schedule that it prints is the one that
 -- was made, permitted and complete; a step is marked as reused exactly where the record of it fits; one worker makes
--- the schedule that follows the choice; and what the round leaves is of its own setup and honest, its records those of
--- the machine from scratch, entry by entry.
+-- the schedule that follows the choice; each entry was picked rightly, so that none waited for an old step on which it
+-- doesn't depend; if the round works as the one before it did, it executes no more than the edit reaches; and what the
+-- round leaves is of its own setup and honest, its records those of the machine from scratch, entry by entry.
 pub record IsPromised (workers : ℕ) (r : Round) : Type 0 where
   pub entries : (made r).schedule ≡ r.found.entries
   pub permitted : is_permitted r.setup (schedule_in r) ≡ true
   pub complete : is_complete r.setup (schedule_in r) ≡ true
   pub marks : r.found.entries ≡ entries_of r
   pub alone : workers ≡ 1 → schedule_in r ≡ one_worker r.setup r.past
+  pub picked : IsPickedRightly r
+  pub least : ReexecutesLeast (made r)
   pub setup : (left_by r).setup ≡ r.setup
   pub honest : IsHonest (left_by r)
   pub records : (left_by r).records ≡ records r.setup (schedule_in r)

@@ -9,6 +9,9 @@ use std::alloc::{AllocError, Global};
 /// What there is to say where the host's memory ran out.
 pub const NO_MEMORY: &[u8] = b"no memory";
 
+/// What there is to say where no end comes after the last entry of a schedule.
+pub const INCOMPLETE: &[u8] = b"schedule: incomplete";
+
 /// A text and a name after it.
 pub fn name_line(alloc: Global, text: &str, name: &str) -> Vec<u8> {
     let mut line = Vec::new(alloc);
@@ -55,6 +58,13 @@ pub fn edits_line(alloc: Global, name: Option<&&str>, line: usize, why: Why) -> 
     let _ = decimal(alloc, line as u64, &mut text);
     let _ = text.extend_from_slice(cause(why));
     text
+}
+
+/// Which part of a schedule is refused: a token or an entry, and its number.
+pub fn schedule_line(alloc: Global, part: &str, number: usize) -> Vec<u8> {
+    let mut line = name_line(alloc, "schedule: ", part);
+    let _ = append_number(alloc, Some(number as u64), &mut line);
+    line
 }
 
 /// The cause for which a line of an edit list is refused.

@@ -1,12 +1,12 @@
 //! The files that a line names to read.
 
-ghost use Rattle.std.specs.Prelude.{◌≡◌, ◌∷◌, [], map, IfOk, IfErr};
-ghost use Rattle.ith_host.specs.World.{Stays, NoneFell};
+ghost use Rattle.std.specs.Prelude.{◌≡◌, ◌≤◌, ◌∷◌, [], length, map, IfOk, IfErr};
+ghost use Rattle.ith_host.specs.World.{Stays, NoneFell, IsContent};
 ghost use Rattle.round_inputs.specs.Lists.{bytes_of_each};
-ghost use Rattle.ith_words.specs.Words.{Runs, Reruns};
-ghost use Rattle.ith_words.specs.Said.{run_said, rerun_said};
-ghost use Rattle.ith_top.specs.Files.{lists_named, files_named, memo_named, AsksForFiles};
-ghost use Rattle.ith_top.specs.Contents.{AreLists, AreContents, IsMemoContent};
+ghost use Rattle.ith_words.specs.Words.{Runs, Reruns, Replays};
+ghost use Rattle.ith_words.specs.Said.{run_said, rerun_said, replay_said};
+ghost use Rattle.ith_top.specs.Files.{elf_named, input_named, lists_named, files_named, memo_named, AsksForFiles};
+ghost use Rattle.ith_top.specs.Contents.{AreLists, AreContents, AreReplayContents, IsMemoContent};
 ghost use Rattle.ith_top.specs.Refusals.{WhyUnread};
 
 use super::complaints::NO_MEMORY;
@@ -15,9 +15,10 @@ use super::status::Status;
 use edit_spec::MOST_LIST_BYTES;
 use elf_spec::MOST_ELF_BYTES;
 use ith_host::Host;
-use ith_words::{RerunLine, RunLine};
+use ith_words::{ReplayLine, RerunLine, RunLine};
 use machine_spec::MOST_INPUT_BYTES;
 use memo_spec::MOST_MEMO_BYTES;
+use schedule_list::MOST_SCHEDULE_BYTES;
 use std::alloc::Global;
 
 /// What the files of a line that runs a guest hold.
@@ -29,6 +30,17 @@ pub struct Files {
     pub input: Vec<u8>,
     /// The edit lists, in order.
     pub lists: Vec<Vec<u8>>,
+}
+
+/// What the files of a line that replays a schedule hold.
+#[derive(Drop)]
+pub struct ReplayFiles {
+    /// The executable.
+    pub elf: Vec<u8>,
+    /// The input.
+    pub input: Vec<u8>,
+    /// The schedule.
+    pub schedule: Vec<u8>,
 }
 
 /// What the files of a line that reruns a memo hold.
@@ -68,6 +80,41 @@ fn read_lists<H: Host>(alloc: Global, host: &mut H, names: &[&str]) -> Result<Ve
     Ok(lists)
 }
 
+/// An executable and an input.
+#[derive(Drop)]
+struct GuestFiles {
+    elf: Vec<u8>,
+    input: Vec<u8>,
+}
+
+/// Reads an executable, and then an input.
+fn read_guest<H: Host>(
+    alloc: Global,
+    host: &mut H,
+    elf: &str,
+    input: &str,
+) -> Result<GuestFiles, Status>
+    ensures elf { IfOk result (λ files. IsContent (H.world host.old) elf.now files.elf.items) }
+    ensures elf_within { IfOk result (λ files. length files.elf.items ≤ MOST_ELF_BYTES) }
+    ensures input { IfOk result (λ files. IsContent (H.world host.old) input.now files.input.items) }
+    ensures input_within { IfOk result (λ files. length files.input.items ≤ MOST_INPUT_BYTES) }
+    ensures asked { IfOk result (λ _. AsksForFiles (elf_named elf.now ∷ input_named input.now ∷ [])
+        (H.world host.old) (H.world host.new)) }
+    ensures refused { IfErr result (λ status. WhyUnread (elf_named elf.now ∷ input_named input.now ∷ [])
+        (H.world host.old) (H.world host.new) status) }
+    ensures stays { Stays (H.world host.old) (H.world host.new) }
+    ensures counts { NoneFell (H.world host.old) (H.world host.new) }
+{
+    let elf = match read_file(alloc, host, elf, MOST_ELF_BYTES as u64) {
+        Ok(bytes) => bytes,
+        Err(status) => return Err(status),
+    };
+    match read_file(alloc, host, input, MOST_INPUT_BYTES as u64) {
+        Ok(input) => Ok(GuestFiles { elf, input }),
+        Err(status) => Err(status),
+    }
+}
+
 /// Reads the files of a line that runs a guest, in the order in which it names them.
 pub fn read_files<H: Host>(alloc: Global, host: &mut H, line: &RunLine<'_>) -> Result<Files, Status>
     ensures contents { IfOk result (λ files. AreContents (H.world host.old) (run_said line.now)
@@ -79,16 +126,41 @@ pub fn read_files<H: Host>(alloc: Global, host: &mut H, line: &RunLine<'_>) -> R
     ensures stays { Stays (H.world host.old) (H.world host.new) }
     ensures counts { NoneFell (H.world host.old) (H.world host.new) }
 {
-    let elf = match read_file(alloc, host, line.elf, MOST_ELF_BYTES as u64) {
-        Ok(bytes) => bytes,
-        Err(status) => return Err(status),
-    };
-    let input = match read_file(alloc, host, line.input, MOST_INPUT_BYTES as u64) {
-        Ok(bytes) => bytes,
+    let GuestFiles { elf, input } = match read_guest(alloc, host, line.elf, line.input) {
+        Ok(files) => files,
         Err(status) => return Err(status),
     };
     match read_lists(alloc, host, line.edits.as_slice()) {
         Ok(lists) => Ok(Files { elf, input, lists }),
+        Err(status) => Err(status),
+    }
+}
+
+/// Reads the files of a line that replays a schedule, in the order in which it names them.
+pub fn read_replay_files<H: Host>(
+    alloc: Global,
+    host: &mut H,
+    line: &ReplayLine<'_>,
+) -> Result<ReplayFiles, Status>
+    ensures contents { IfOk result (λ files. AreReplayContents (H.world host.old) (replay_said line.now)
+        (record { elf = files.elf.items; input = files.input.items; schedule = files.schedule.items })) }
+    ensures asked { IfOk result (λ _. AsksForFiles (files_named (Replays (replay_said line.now)))
+        (H.world host.old) (H.world host.new)) }
+    ensures refused { IfErr result (λ status. WhyUnread (files_named (Replays (replay_said line.now)))
+        (H.world host.old) (H.world host.new) status) }
+    ensures stays { Stays (H.world host.old) (H.world host.new) }
+    ensures counts { NoneFell (H.world host.old) (H.world host.new) }
+{
+    let GuestFiles { elf, input } = match read_guest(alloc, host, line.elf, line.input) {
+        Ok(files) => files,
+        Err(status) => return Err(status),
+    };
+    match read_file(alloc, host, line.schedule, MOST_SCHEDULE_BYTES as u64) {
+        Ok(schedule) => Ok(ReplayFiles {
+            elf,
+            input,
+            schedule,
+        }),
         Err(status) => Err(status),
     }
 }

@@ -14,10 +14,12 @@ use std::thread::Threads;
 mod complaints;
 mod crew;
 mod files;
+mod generating;
 mod keeping;
 mod outside;
 mod plan;
 mod program;
+mod replaying;
 mod report;
 mod rounds;
 mod showing;
@@ -29,18 +31,24 @@ pub use status::Status;
 
 /// Does what the words ask for, and gives the exit status. The words begin with the program's name.
 ///
-/// `run ELF INPUT [EDITS].. --workers W --fuel F --steps S --memo FILE` runs the executable on the input from scratch,
-/// and then once for each edit list, on the input of the round before after the list's edits.
+/// `run ELF INPUT [EDITS].. --workers W --fuel F --steps S --memo FILE --reach` runs the executable on the input from
+/// scratch, and then once for each edit list, on the input of the round before after the list's edits.
 ///
-/// `rerun MEMO [EDITS].. --workers W --fuel F --memo FILE` goes on from the round that a memo holds: once for each edit
-/// list, or once without an edit; with the memo's fuel where the line names none.
+/// `rerun MEMO [EDITS].. --workers W --fuel F --memo FILE --reach` goes on from the round that a memo holds: once for
+/// each edit list, or once without an edit; with the memo's fuel where the line names none.
 ///
 /// The line's workers make each round together: it takes from the round before it the steps whose records fit, and
 /// they execute the others, where each comes to the gate before it executes a thunk. The report of each round tells the
-/// schedule that they found and how many steps each of them made, and is printed before the next round begins; after
-/// the last one the memo of what it leaves is written, where the line names one. The options may be left out.
+/// schedule that they found and how many steps each of them made, and with `--reach` how many steps of the round before
+/// its edit reaches. It is printed before the next round begins; after the last one the memo of what it leaves is
+/// written, where the line names one. The options may be left out.
+///
+/// `replay ELF INPUT SCHEDULE --fuel F --steps S` executes each instruction of the executable on the input, in the order
+/// of the schedule, from scratch, by a machine that knows no reuse and no workers, and tells what it comes to.
 ///
 /// `show MEMO` lists a memo.
+///
+/// `gen NUMBER --workers W` runs a guest on an input and an edit of it that are generated from the number.
 ///
 /// The files are read in the line's order, each once, and no other is. The runtime is lent for the workers, and for the
 /// counters of their turns, which nothing below this call can make of its own.

@@ -40,6 +40,8 @@ pub struct Start {
     pub past: Option<Arc<History>>,
     /// The program and the limits of all of them, with some input.
     pub setup: Setup,
+    /// Whether their reports tell what is reached.
+    pub reach: bool,
 }
 
 /// What rounds a line asks for.
@@ -53,7 +55,7 @@ pub struct Plan {
 
 /// Makes a setup of what was read, with the limits of a line.
 #[tactic(auto, using(crate::proofs::Ending::refused_image))]
-fn set_up<H: Host>(
+pub fn set_up<H: Host>(
     alloc: Global,
     host: &mut H,
     elf: Vec<u8>,
@@ -185,9 +187,9 @@ fn fuel_of(line: &RerunLine<'_>, history: &History) -> u32
 }
 
 /// What the rounds of this fuel begin with that go by a memo.
-fn start_after(alloc: Global, history: History, fuel: u32) -> Result<Start, AllocError>
+fn start_after(alloc: Global, history: History, fuel: u32, reach: bool) -> Result<Start, AllocError>
     requires { AreLimits fuel history.setup.limit }
-    ensures { IfOk result (λ start. beginning_said start ≡ begin.after_memo history fuel) }
+    ensures { IfOk result (λ start. beginning_said start ≡ begin.after_memo history fuel reach) }
 {
     history.setup().sound();
     let limits = history.setup().limits().with_fuel(fuel);
@@ -198,12 +200,13 @@ fn start_after(alloc: Global, history: History, fuel: u32) -> Result<Start, Allo
         number: 1,
         past: Some(past),
         setup,
+        reach,
     })
 }
 
 /// The plan of rounds from scratch on these inputs.
-fn from_scratch(setup: Setup, inputs: Inputs) -> Plan
-    ensures beginning { beginning_said result.start ≡ begin.from_scratch setup }
+pub fn from_scratch(setup: Setup, inputs: Inputs, reach: bool) -> Plan
+    ensures beginning { beginning_said result.start ≡ begin.from_scratch setup reach }
     ensures inputs { result.inputs ≡ inputs }
     ensures few { length inputs < 2 ^ 64 }
 {
@@ -212,6 +215,7 @@ fn from_scratch(setup: Setup, inputs: Inputs) -> Plan
         number: 0,
         past: None,
         setup,
+        reach,
     };
     Plan { start, inputs }
 }
@@ -244,7 +248,7 @@ pub fn prepare<H: Host>(alloc: Global, host: &mut H, line: &RunLine<'_>) -> Resu
         lists.as_slice(),
         line.edits.as_slice(),
     ) {
-        Ok(inputs) => Ok(from_scratch(setup, inputs)),
+        Ok(inputs) => Ok(from_scratch(setup, inputs, line.reach)),
         Err(status) => Err(status),
     }
 }
@@ -285,7 +289,7 @@ pub fn prepare_rerun<H: Host>(
         Err(status) => return Err(status),
     };
     let fuel = fuel_of(line, &history);
-    match start_after(alloc, history, fuel) {
+    match start_after(alloc, history, fuel, line.reach) {
         Ok(start) => Ok(Plan { start, inputs }),
         Err(_) => {
             host.complain(NO_MEMORY);

@@ -11,8 +11,10 @@ ghost use Rattle.ith_top.specs.Playing.{plan_said, CanBePlayed, CanBeSpelled, Is
 
 use super::complaints::NO_MEMORY;
 use super::crew::Crew;
+use super::generating::generate;
 use super::keeping::keep;
 use super::plan::{Plan, prepare, prepare_rerun};
+use super::replaying::replay;
 use super::rounds::{Outcome, play};
 use super::showing::show;
 use super::status::Status;
@@ -117,7 +119,9 @@ pub fn status_of<R: Threads + Wait + Sync, H: Host, G: Gate + Sync>(
     match line_of(alloc, words) {
         Ok(Line::Run(line)) => run(rt, alloc, host, &line, gate),
         Ok(Line::Rerun(line)) => rerun(rt, alloc, host, &line, gate),
+        Ok(Line::Replay(line)) => replay(rt, alloc, host, &line),
         Ok(Line::Show(line)) => show(alloc, host, &line),
+        Ok(Line::Generate(line)) => generate(rt, alloc, host, &line, gate),
         Err(LineFault::Refused(text)) => {
             host.complain(text.as_slice());
             Status::Words

@@ -31,7 +31,7 @@ pub struct Played {
 }
 
 /// A round that comes next, of a line's program: its number, its input, and the history that it goes by, if there is
-/// one.
+/// one; and whether its report tells what is reached.
 #[derive(Drop)]
 pub struct Next {
     /// How many rounds come before it.
@@ -40,21 +40,27 @@ pub struct Next {
     pub input: Vec<u8>,
     /// What the round before it left.
     pub past: Option<Arc<History>>,
+    /// Whether its report tells what is reached.
+    pub reach: bool,
 }
 
-/// The text that tells of a round and of the shares of its workers. The digest of its memory is kept.
+/// The text that tells of a round, of what it reaches where that is asked for, and of the shares of its workers. The
+/// digest of its memory is kept.
 fn round_text(
     alloc: Global,
     number: u64,
     round: &Round,
+    reach: bool,
     shares: &[u64],
     last: &mut Option<Digested>,
 ) -> Result<Vec<u8>, AllocError>
-    ensures { IfOk result (λ text. text.items ≡ report_text number (reports.told_as_made round.now shares.now)) }
+    ensures { IfOk result (λ text. text.items ≡ report_text number (reports.told_as_made round.now reach shares.now)) }
 {
+    let reached = if reach { Some(round.reached()?) } else { None };
     let told = Told {
         ending: round.end(),
         schedule: round.schedule(),
+        reached,
         instructions: round.instructions(),
         shares,
         memory: round.memory(),
@@ -64,7 +70,7 @@ fn round_text(
 }
 
 /// Whether an end is an exit.
-fn is_exit(ending: Option<End>) -> bool
+pub fn is_exit(ending: Option<End>) -> bool
     ensures { result ≡ reports.is_exit ending }
 {
     matches!(ending, Some(End::Exit(_)))
@@ -93,10 +99,11 @@ pub fn make_round<R: Threads + Wait + Sync, G: Gate + Sync>(
         number,
         input,
         past,
+        reach,
     } = next;
     let start = setup.with(input, setup.limits())?;
     let (round, shares) = run_round(rt, alloc, start, past, crew.workers, crew.gate)?;
-    let text = round_text(alloc, number as u64, &round, shares.as_slice(), last)?;
+    let text = round_text(alloc, number as u64, &round, reach, shares.as_slice(), last)?;
     let exited = is_exit(round.end());
     let Some(left) = round.into_history() else {
         unreachable!()

@@ -49,6 +49,8 @@ pub struct Coming {
     pub past: Option<Arc<History>>,
     /// Their inputs, in order.
     pub inputs: Inputs,
+    /// Whether their reports tell what is reached.
+    pub reach: bool,
 }
 
 /// Makes the rounds of a program that are to come, each going by what the one before it leaves, and prints the text of
@@ -73,6 +75,7 @@ fn make_rounds<R: Threads + Wait + Sync, H: Host, G: Gate + Sync>(
         number: first,
         mut past,
         mut inputs,
+        reach,
     } = coming;
     let mut last = None;
     let mut exits = true;
@@ -86,6 +89,7 @@ fn make_rounds<R: Threads + Wait + Sync, H: Host, G: Gate + Sync>(
             number: first + place,
             input,
             past,
+            reach,
         };
         let Played { text, exited, left } = match make_round(
             rt, alloc, setup, ahead, crew, &mut last,
@@ -128,11 +132,13 @@ pub fn play<R: Threads + Wait + Sync, H: Host, G: Gate + Sync>(
         number,
         past,
         setup,
+        reach,
     } = start;
     let coming = Coming {
         number,
         past,
         inputs,
+        reach,
     };
     make_rounds(rt, alloc, host, &setup, coming, crew)
 }

@@ -6,10 +6,10 @@ ghost use Rattle.ith_top.specs.Statuses.{code_of};
 /// How a call of the program ends. Its number is the program's exit status.
 #[derive(Clone, Copy, Debug, PartialEq, Eq)]
 pub enum Status {
-    /// 0: every report was printed, each round ended by exit, and the memo that was asked for was written; or a memo
-    /// was listed.
+    /// 0: every report was printed, each round ended by exit, and the memo that was asked for was written; or a
+    /// schedule was replayed, or the generated guest run, to an exit; or a memo was listed.
     Finished,
-    /// 1: the same, but some round ended otherwise.
+    /// 1: the same, but some end isn't an exit.
     Unfinished,
     /// 2: the words of the command line aren't accepted.
     Words,
@@ -27,6 +27,8 @@ pub enum Status {
     Memory,
     /// 9: a file that the line names is longer than its limit, or the memo to write would be.
     TooLarge,
+    /// 10: the schedule to replay is refused.
+    Schedule,
 }
 
 impl Status {
@@ -45,6 +47,7 @@ impl Status {
             Status::WriteFault => 7,
             Status::Memory => 8,
             Status::TooLarge => 9,
+            Status::Schedule => 10,
         }
     }
 }

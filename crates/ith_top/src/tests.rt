@@ -33,7 +33,7 @@ const REPORTS: &[u8] =
 const REPORT_BYTES: usize = REPORTS.len() / 2;
 
 /// The files of a host: their names, and parts of which each is made.
-const FILES: [(&str, [&[u8]; 3]); 8] = [
+const FILES: [(&str, [&[u8]; 3]); 12] = [
     ("hi.elf", [HEADER, PROGRAM_HEADER, SEGMENT]),
     ("trap.elf", [HEADER, PROGRAM_HEADER, &[0; 35]]),
     ("cut.elf", [HEADER, b"", b""]),
@@ -42,7 +42,15 @@ const FILES: [(&str, [&[u8]; 3]); 8] = [
     ("inside", [b"set 4 00\n", b"size 2\n", b""]),
     ("behind", [b"\n", b"set 5 00\n", b""]),
     ("odd", [b"set 4 0\n", b"", b""]),
+    ("order", [b"0+ 0=\n", b"", b""]),
+    ("short", [b"0", b"", b""]),
+    ("further", [b"0 0 0", b"", b""]),
+    ("letter", [b"5 x", b"", b""]),
 ];
+
+/// What the replay of its schedule prints: as its report, less what tells of reuse and of workers.
+const REPLAY: &[u8] = b"replay\nend exit 0\nsteps 2\ninstructions 8\n\
+      memory e067f7df6c32cd794e71b125b718964257c850acbbafd68793e5e4808bcb3984\noutput 3\nhi\n\n";
 
 /// A host with these files and one that is too long, of which the calls of these numbers fail.
 fn host_with(alloc: Global, failing: &[u64], part: u64) -> Result<MemHost, AllocError> {
@@ -85,7 +93,7 @@ fn a_trap_is_reported(rt: HostRuntime) -> Result<(), Fail> {
 }
 
 /// Lines that are refused: their words, the status, and how the complaint begins.
-const REFUSED: [(&str, u8, &str); 26] = [
+const REFUSED: [(&str, u8, &str); 38] = [
     ("ithreads run hi.elf", 2, "words: "),
     ("ithreads run hi.elf empty --workers 0", 2, "words: "),
     ("ithreads run hi.elf empty --workers 17", 2, "words: "),
@@ -131,6 +139,34 @@ const REFUSED: [(&str, u8, &str); 26] = [
         "ithreads run hi.elf five inside inside",
         5,
         "edits inside line 1: OutOfRange\n",
+    ),
+    ("ithreads replay hi.elf empty", 2, "words: "),
+    ("ithreads gen", 2, "words: "),
+    ("ithreads gen 4294967296", 2, "words: "),
+    ("ithreads replay absent long order", 6, "read absent\n"),
+    ("ithreads replay hi.elf absent absent", 6, "read absent\n"),
+    ("ithreads replay cut.elf empty absent", 6, "read absent\n"),
+    ("ithreads replay hi.elf long absent", 9, "too large long\n"),
+    ("ithreads replay empty empty long", 9, "too large long\n"),
+    (
+        "ithreads replay cut.elf empty letter",
+        3,
+        "image: ShortTable 0\n",
+    ),
+    (
+        "ithreads replay hi.elf empty letter",
+        10,
+        "schedule: token 1\n",
+    ),
+    (
+        "ithreads replay hi.elf empty further",
+        10,
+        "schedule: entry 2\n",
+    ),
+    (
+        "ithreads replay hi.elf empty short",
+        10,
+        "schedule: incomplete\n",
     ),
 ];
 
@@ -244,6 +280,51 @@ fn a_line_prints_and_complains_as_told(rt: HostRuntime) -> Result<(), Fail> {
     for case in FAILING {
         let told = ends_as_told(&rt, rt.alloc(), &case)?;
         assert!(rt; told, "at {}", case.line);
+    }
+    Ok(())
+}
+
+/// Lines that print one text: the number of the call that prints, the status with which they end, and the text.
+const TEXTS: [(&str, u64, u8, &[u8]); 3] = [
+    ("ithreads replay hi.elf empty order", 3, 0, REPLAY),
+    ("ithreads replay hi.elf empty order --steps 1", 3, 10, b""),
+    (
+        "ithreads gen 7 --workers 1",
+        0,
+        0,
+        b"gen 7\nround 0 end exit 0 output d587fd01\nround 1 end exit 0 output d687fd01\n",
+    ),
+];
+
+/// Whether a line prints its text, and where printing fails a part of it.
+fn prints<R: Threads + Wait + Sync>(
+    rt: &R,
+    alloc: Global,
+    line: &str,
+    call: u64,
+    status: u8,
+    text: &[u8],
+) -> Result<bool, AllocError> {
+    let mut host = host_with(alloc, &[], 0)?;
+    let done = status_of(rt, alloc, &mut host, line)?;
+    let whole = done == status && host.printed() == text;
+    let mut failing = host_with(alloc, &[call], 5)?;
+    let failed = status_of(rt, alloc, &mut failing, line)?;
+    let part = if text.len() < 5 {
+        failed == status
+    } else {
+        failed == 7
+            && failing.printed() == &text[..5]
+            && failing.complained() == b"write output\n".as_slice()
+    };
+    Ok(whole && part)
+}
+
+#[test]
+fn a_text_is_printed_whole_or_in_part(rt: HostRuntime) -> Result<(), Fail> {
+    for (line, call, status, text) in TEXTS {
+        let printed = prints(&rt, rt.alloc(), line, call, status, text)?;
+        assert!(rt; printed, "at {line}");
     }
     Ok(())
 }

@@ -1,3 +1,4 @@
 -- The files of lemmas of this crate.
+pub mod CommandLine
 pub mod NoLine
 pub mod Rows

@@ -3,8 +3,10 @@ use Rattle.std.specs.Prelude.{map, option_map}
 use Rattle.ith_words.specs.declared.line.Line.{Line as line}
 use Rattle.ith_words.specs.declared.line.RunLine.{RunLine as run_line}
 use Rattle.ith_words.specs.declared.line.RerunLine.{RerunLine as rerun_line}
+use Rattle.ith_words.specs.declared.line.ReplayLine.{ReplayLine as replay_line}
 use Rattle.ith_words.specs.declared.line.ShowLine.{ShowLine as show_line}
-use Rattle.ith_words.specs.Words.{Line, Runs, Reruns, Shows, RunLine, RerunLine, ShowLine}
+use Rattle.ith_words.specs.declared.line.GenerateLine.{GenerateLine as generate_line}
+use Rattle.ith_words.specs.Words.{Line, Runs, Reruns, Replays, Shows, Generates, RunLine, RerunLine, ReplayLine, ShowLine, GenerateLine}
 
 -- The line that runs a guest, in code, as a line of the definitions.
 abbrev pub run_said : run_line → RunLine
@@ -16,6 +18,7 @@ run_said l = record {
   fuel = l.limits.fuel;
   limit = l.limits.steps;
   kept = option_map (λ name. name.now) l.kept;
+  reach = l.reach;
 }
 
 -- The line that goes on from a memo, in the same way.
@@ -26,14 +29,31 @@ rerun_said l = record {
   workers = l.workers;
   fuel = l.fuel;
   kept = option_map (λ name. name.now) l.kept;
+  reach = l.reach;
+}
+
+-- The line that replays a schedule, in the same way.
+abbrev pub replay_said : replay_line → ReplayLine
+replay_said l = record {
+  elf = l.elf.now;
+  input = l.input.now;
+  schedule = l.schedule.now;
+  fuel = l.limits.fuel;
+  limit = l.limits.steps;
 }
 
 -- The line that lists a memo, in the same way.
 abbrev pub show_said : show_line → ShowLine
 show_said l = record { memo = l.memo.now }
 
+-- The line that runs the generated guest, in the same way.
+abbrev pub generate_said : generate_line → GenerateLine
+generate_said l = record { number = l.number; workers = l.workers }
+
 -- A line of any kind, in the same way.
 abbrev pub line_said : line → Line
 line_said (line.Run l) = Runs (run_said l)
 line_said (line.Rerun l) = Reruns (rerun_said l)
+line_said (line.Replay l) = Replays (replay_said l)
 line_said (line.Show l) = Shows (show_said l)
+line_said (line.Generate l) = Generates (generate_said l)

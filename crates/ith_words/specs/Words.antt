@@ -1,13 +1,14 @@
 -- What the words of a command line ask for, as the kit's parser of command lines takes them.
-use Rattle.std.specs.Prelude.{ℕ, true, List, [], ◌∷◌, codes, if◌then◌else◌, Option, Some, None, unwrap_or, option_and_then}
+use Rattle.std.specs.Prelude.{ℕ, Bool, true, false, List, [], ◌∷◌, codes, if◌then◌else◌, Option, Some, None, unwrap_or, option_and_then}
+use Rattle.std.specs.Option.{option_map_or}
 use Rattle.std.specs.Str.{bytes_eq}
 use Rattle.std.specs.Str.Parse.{digits_value, without_leading_plus}
 use Rattle.machine_spec.specs.declared.TheConstants.{MOST_FUEL, MOST_STEPS}
-use Rattle.ith_words.specs.declared.line.TheConstants.{MOST_WORKERS}
+use Rattle.ith_words.specs.declared.line.TheConstants.{MOST_WORKERS, MOST_NUMBER}
 use Rattle.clap.specs.Words.{App, Kinds, Row, Rule, all_of, fault_of, first_of, new_app, new_rule, one_of, subcommand_of, with_rule, with_subcommand}
 use Rattle.clap.specs.Simple.{on_top}
 use Rattle.clap.specs.ValueTests.{is_unsigned_in}
-use Rattle.clap.specs.declared.builder.action.ArgAction.TheVariants.{Set, Append}
+use Rattle.clap.specs.declared.builder.action.ArgAction.TheVariants.{Set, Append, SetTrue}
 use Rattle.clap.specs.declared.builder.value_parser.ValueParser.TheVariants as parser
 
 -- A word, by its bytes.
@@ -15,7 +16,8 @@ abbrev pub Text : Type 0
 Text = List ℕ
 
 -- A line that runs a guest: the names of the executable, of the input and of the edit lists, in order, how many
--- workers, the limits, and the name of the memo to write, if there is to be one.
+-- workers, the limits, the name of the memo to write, if there is to be one, and whether the reports tell what an edit
+-- reaches.
 pub record RunLine : Type 0 where
   pub elf : Text
   pub input : Text
@@ -24,25 +26,43 @@ pub record RunLine : Type 0 where
   pub fuel : ℕ
   pub limit : ℕ
   pub kept : Option Text
+  pub reach : Bool
 
 -- A line that goes on from a memo: the names of the memo to read and of the edit lists, in order, how many workers,
--- the fuel, if it isn't to be the memo's, and the name of the memo to write, if there is to be one.
+-- the fuel, if it isn't to be the memo's, the name of the memo to write, if there is to be one, and whether the reports
+-- tell what an edit reaches.
 pub record RerunLine : Type 0 where
   pub memo : Text
   pub edits : List Text
   pub workers : ℕ
   pub fuel : Option ℕ
   pub kept : Option Text
+  pub reach : Bool
+
+-- A line that replays a schedule: the names of the executable, of the input and of the schedule, and the limits.
+pub record ReplayLine : Type 0 where
+  pub elf : Text
+  pub input : Text
+  pub schedule : Text
+  pub fuel : ℕ
+  pub limit : ℕ
 
 -- A line that lists a memo: the name of the memo to read.
 pub record ShowLine : Type 0 where
   pub memo : Text
 
+-- A line that runs the generated guest: the number that it is generated from, and how many workers.
+pub record GenerateLine : Type 0 where
+  pub number : ℕ
+  pub workers : ℕ
+
 -- What a line asks for.
 pub data Line : Type 0 where
   Runs : RunLine → Line
   Reruns : RerunLine → Line
+  Replays : ReplayLine → Line
   Shows : ShowLine → Line
+  Generates : GenerateLine → Line
 
 -- How many workers there are where the line doesn't say.
 abbrev pub default_workers : ℕ
@@ -64,6 +84,10 @@ operand_rule id = record (new_rule id) { required = true }
 abbrev pub operands_rule : Text → Rule
 operands_rule id = record (new_rule id) { action = Some Append }
 
+-- An operand that is a whole number of at most this, which has to be there. (POSIX.1-2017, XBD 12.1)
+abbrev pub number_operand_rule : Text → ℕ → Rule
+number_operand_rule id most = record (new_rule id) { required = true; parser = Some (parser.Unsigned 0 most) }
+
 -- An option whose argument is a whole number, from 1 to the most.
 abbrev pub number_rule : Text → ℕ → Rule
 number_rule id most = record (new_rule id) { long = Some id; action = Some Set; parser = Some (parser.Unsigned 1 most) }
@@ -71,6 +95,10 @@ number_rule id most = record (new_rule id) { long = Some id; action = Some Set; 
 -- An option whose argument is any text.
 abbrev pub text_rule : Text → Rule
 text_rule id = record (new_rule id) { long = Some id; action = Some Set }
+
+-- An option that has no argument.
+abbrev pub flag_rule : Text → Rule
+flag_rule id = record (new_rule id) { long = Some id; action = Some SetTrue }
 
 -- A command with the operand for edit lists more, of which there may be any number.
 abbrev pub with_edits : App → App
@@ -92,46 +120,73 @@ with_limits command = with_rule (with_fuel command) (number_rule (codes "steps")
 abbrev pub with_memo : App → App
 with_memo command = with_rule command (text_rule (codes "memo"))
 
+-- A command with the option to tell what an edit reaches more.
+abbrev pub with_reach : App → App
+with_reach command = with_rule command (flag_rule (codes "reach"))
+
 -- The operands of the command that runs a guest: two, and then any number of edit lists.
 abbrev pub run_operands : App
 run_operands =
     with_edits
     (with_rule (with_rule (new_app (codes "run")) (operand_rule (codes "ELF"))) (operand_rule (codes "INPUT")))
 
--- The command that runs a guest: its operands, and four options.
+-- The command that runs a guest: its operands, and five options.
 abbrev pub run_command : App
-run_command = with_memo (with_limits (with_workers run_operands))
+run_command = with_reach (with_memo (with_limits (with_workers run_operands)))
 
 -- The operands of the command that goes on from a memo: the memo, and then any number of edit lists.
 abbrev pub rerun_operands : App
 rerun_operands = with_edits (with_rule (new_app (codes "rerun")) (operand_rule (codes "MEMO")))
 
--- The command that goes on from a memo: its operands, and three options.
+-- The command that goes on from a memo: its operands, and four options.
 abbrev pub rerun_command : App
-rerun_command = with_memo (with_fuel (with_workers rerun_operands))
+rerun_command = with_reach (with_memo (with_fuel (with_workers rerun_operands)))
+
+-- The operands of the command that replays a schedule: three.
+abbrev pub replay_operands : App
+replay_operands =
+    with_rule
+    (with_rule (with_rule (new_app (codes "replay")) (operand_rule (codes "ELF"))) (operand_rule (codes "INPUT")))
+    (operand_rule (codes "SCHEDULE"))
+
+-- The command that replays a schedule: its operands, and two options.
+abbrev pub replay_command : App
+replay_command = with_limits replay_operands
 
 -- The command that lists a memo: the memo alone.
 abbrev pub show_command : App
 show_command = with_rule (new_app (codes "show")) (operand_rule (codes "MEMO"))
 
+-- The command that runs the generated guest: a number, and an option.
+abbrev pub generate_command : App
+generate_command = with_workers (with_rule (new_app (codes "gen")) (number_operand_rule (codes "NUMBER") MOST_NUMBER))
+
 -- The program, which has to be given one of its commands.
 abbrev pub program : App
 program = on_top (λ s. record s { subcommand_required = true }) (new_app (codes "ithreads"))
 
+-- The program and the commands that run a guest which the line names.
+abbrev pub guest_commands : App
+guest_commands =
+    with_subcommand (with_subcommand (with_subcommand program run_command.top) rerun_command.top) replay_command.top
+
 -- The program's command line: the program and its commands.
-abbrev pub command_line : App
-command_line =
-    with_subcommand (with_subcommand (with_subcommand program run_command.top) rerun_command.top) show_command.top
+unfoldable pub command_line : App
+command_line = with_subcommand (with_subcommand guest_commands show_command.top) generate_command.top
 
--- The number that a text writes where it lies from 1 to the most.
-abbrev pub number_given : ℕ → Option Text → Option ℕ
-number_given most None = None
-number_given most (Some text) =
-    if is_unsigned_in 1 most text then Some (digits_value 10 (without_leading_plus text)) else None
+-- Whether an option that has no argument was given: the parser then has the word true for it.
+abbrev pub flag_given : Option Text → Bool
+flag_given text = option_map_or (λ word. bytes_eq word (codes "true")) text false
 
--- The same, or else the default.
+-- The number that a text writes where it lies from the least to the most.
+abbrev pub number_given : ℕ → ℕ → Option Text → Option ℕ
+number_given least most None = None
+number_given least most (Some text) =
+    if is_unsigned_in least most text then Some (digits_value 10 (without_leading_plus text)) else None
+
+-- The number from 1 to the most that a text writes, or else the default.
 abbrev pub number_or : ℕ → ℕ → Option Text → ℕ
-number_or most default text = unwrap_or (number_given most text) default
+number_or most default text = unwrap_or (number_given 1 most text) default
 
 -- The text of an operand that has to be there.
 abbrev pub operand : Text → List Row → Text
@@ -147,7 +202,7 @@ workers_named rows = number_or MOST_WORKERS default_workers (one_of (codes "work
 
 -- The most turns of a thunk, if the line says.
 abbrev pub fuel_given : List Row → Option ℕ
-fuel_given rows = number_given MOST_FUEL (one_of (codes "fuel") rows)
+fuel_given rows = number_given 1 MOST_FUEL (one_of (codes "fuel") rows)
 
 -- The most turns of a thunk.
 abbrev pub fuel_named : List Row → ℕ
@@ -161,6 +216,14 @@ limit_named rows = number_or MOST_STEPS default_limit (one_of (codes "steps") ro
 abbrev pub memo_named : List Row → Option Text
 memo_named rows = first_of (codes "memo") rows
 
+-- Whether the reports tell what an edit reaches.
+abbrev pub reach_named : List Row → Bool
+reach_named rows = flag_given (one_of (codes "reach") rows)
+
+-- The number to generate from, which has to be there.
+abbrev pub number_named : List Row → ℕ
+number_named rows = unwrap_or (number_given 0 MOST_NUMBER (one_of (codes "NUMBER") rows)) 0
+
 -- The line of what was found for the operands and options of the command that runs a guest.
 abbrev pub run_line : List Row → RunLine
 run_line rows =
@@ -172,6 +235,7 @@ run_line rows =
       fuel = fuel_named rows;
       limit = limit_named rows;
       kept = memo_named rows;
+      reach = reach_named rows;
     }
 
 -- The line of what was found for the operands and options of the command that goes on from a memo.
@@ -183,18 +247,36 @@ rerun_line rows =
       workers = workers_named rows;
       fuel = fuel_given rows;
       kept = memo_named rows;
+      reach = reach_named rows;
+    }
+
+-- The line of what was found for the operands and options of the command that replays a schedule.
+abbrev pub replay_line : List Row → ReplayLine
+replay_line rows =
+    record {
+      elf = operand (codes "ELF") rows;
+      input = operand (codes "INPUT") rows;
+      schedule = operand (codes "SCHEDULE") rows;
+      fuel = fuel_named rows;
+      limit = limit_named rows;
     }
 
 -- The line of what was found for the operand of the command that lists a memo.
 abbrev pub show_line : List Row → ShowLine
 show_line rows = record { memo = operand (codes "MEMO") rows }
 
+-- The line of what was found for the operand and the option of the command that runs the generated guest.
+abbrev pub generate_line : List Row → GenerateLine
+generate_line rows = record { number = number_named rows; workers = workers_named rows }
+
 -- The line of a command's name and of what was found for it.
 abbrev pub line_named : Text × List Row → Option Line
 line_named p =
     if bytes_eq p.0 (codes "run") then Some (Runs (run_line p.1))
     else if bytes_eq p.0 (codes "rerun") then Some (Reruns (rerun_line p.1))
+    else if bytes_eq p.0 (codes "replay") then Some (Replays (replay_line p.1))
     else if bytes_eq p.0 (codes "show") then Some (Shows (show_line p.1))
+    else if bytes_eq p.0 (codes "gen") then Some (Generates (generate_line p.1))
     else None
 
 -- A line, where there is no fault.

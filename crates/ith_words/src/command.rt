@@ -5,7 +5,7 @@ ghost use Rattle.clap.specs.Words.{app_of, rule_of, shape_of, with_rule, with_su
 ghost use Rattle.clap.specs.declared.builder.command.Command.TheViews.{out-Command};
 ghost use Rattle.ith_words.specs.Words as line;
 
-use super::line::MOST_WORKERS;
+use super::line::{MOST_NUMBER, MOST_WORKERS};
 use clap::builder::ValueParser;
 use clap::{Arg, ArgAction, Command};
 use machine_spec::{MOST_FUEL, MOST_STEPS};
@@ -17,6 +17,17 @@ fn operand<'a>(alloc: Global, id: &'a str, help: &'a str) -> Arg<'a>
     ensures local { result.global ≡ false }
 {
     Arg::new(alloc, id).required(true).help(help)
+}
+
+/// An operand that is a whole number of at most this, which has to be there (POSIX.1-2017, XBD 12.1).
+fn number_operand<'a>(alloc: Global, id: &'a str, most: u32, help: &'a str) -> Arg<'a>
+    ensures rule { rule_of result ≡ line.number_operand_rule id.entry.now most }
+    ensures local { result.global ≡ false }
+{
+    Arg::new(alloc, id)
+        .required(true)
+        .value_parser(ValueParser::Unsigned(0, u64::from(most)))
+        .help(help)
 }
 
 /// An operand that may be given any number of times, or not at all (POSIX.1-2017, XBD 12.1).
@@ -47,6 +58,17 @@ fn text<'a>(alloc: Global, id: &'a str, help: &'a str) -> Arg<'a>
     Arg::new(alloc, id)
         .long(id)
         .action(ArgAction::Set)
+        .help(help)
+}
+
+/// An option that has no argument.
+fn flag<'a>(alloc: Global, id: &'a str, help: &'a str) -> Arg<'a>
+    ensures rule { rule_of result ≡ line.flag_rule id.entry.now }
+    ensures local { result.global ≡ false }
+{
+    Arg::new(alloc, id)
+        .long(id)
+        .action(ArgAction::SetTrue)
         .help(help)
 }
 
@@ -105,6 +127,17 @@ fn with_memo<'a>(alloc: Global, command: Command<'a>) -> Result<Command<'a>, All
     )
 }
 
+/// A command with the option to tell what an edit reaches more.
+fn with_reach<'a>(alloc: Global, command: Command<'a>) -> Result<Command<'a>, AllocError>
+    ensures shape { IfOk result (λ c. app_of c ≡ line.with_reach (app_of command.entry)) }
+    ensures local { IfOk result (λ c. (out-Command c).has_globals ≡ (out-Command command.entry).has_globals) }
+{
+    with_arg(
+        command,
+        flag(alloc, "reach", "Tells how many old steps an edit reaches"),
+    )
+}
+
 /// A command with the option for the fuel more.
 fn with_fuel<'a>(
     alloc: Global,
@@ -157,7 +190,8 @@ fn run_command<'a>(alloc: Global) -> Result<Command<'a>, AllocError>
     let command = run_operands(alloc)?;
     let command = with_workers(alloc, command)?;
     let command = with_limits(alloc, command)?;
-    with_memo(alloc, command)
+    let command = with_memo(alloc, command)?;
+    with_reach(alloc, command)
 }
 
 /// The operands of the command that goes on from a memo.
@@ -185,7 +219,33 @@ fn rerun_command<'a>(alloc: Global) -> Result<Command<'a>, AllocError>
         command,
         "The most turns of a thunk, 1 to 16777216 [default: the memo's]",
     )?;
-    with_memo(alloc, command)
+    let command = with_memo(alloc, command)?;
+    with_reach(alloc, command)
+}
+
+/// The operands of the command that replays a schedule.
+fn replay_operands<'a>(alloc: Global) -> Result<Command<'a>, AllocError>
+    ensures shape { IfOk result (λ c. app_of c ≡ line.replay_operands) }
+    ensures local { IfOk result (λ c. (out-Command c).has_globals ≡ false) }
+{
+    let command = Command::new(alloc, "replay").about(
+        "Executes each instruction of a schedule, from scratch",
+    );
+    let command = with_arg(command, operand(alloc, "ELF", "The name of the executable"))?;
+    let command = with_arg(command, operand(alloc, "INPUT", "The name of the input"))?;
+    with_arg(
+        command,
+        operand(alloc, "SCHEDULE", "The name of the schedule"),
+    )
+}
+
+/// The command that replays a schedule.
+fn replay_command<'a>(alloc: Global) -> Result<Command<'a>, AllocError>
+    ensures shape { IfOk result (λ c. app_of c ≡ line.replay_command) }
+    ensures local { IfOk result (λ c. (out-Command c).has_globals ≡ false) }
+{
+    let command = replay_operands(alloc)?;
+    with_limits(alloc, command)
 }
 
 /// The command that lists a memo.
@@ -199,19 +259,43 @@ fn show_command<'a>(alloc: Global) -> Result<Command<'a>, AllocError>
     )
 }
 
+/// The command that runs the generated guest.
+fn generate_command<'a>(alloc: Global) -> Result<Command<'a>, AllocError>
+    ensures shape { IfOk result (λ c. app_of c ≡ line.generate_command) }
+    ensures local { IfOk result (λ c. (out-Command c).has_globals ≡ false) }
+{
+    let command = with_arg(
+        Command::new(alloc, "gen").about("Runs a guest that is generated from a number"),
+        number_operand(alloc, "NUMBER", MOST_NUMBER, "The number, 0 to 4294967295"),
+    )?;
+    with_workers(alloc, command)
+}
+
+/// The program and the commands that run a guest which the line names.
+fn guest_commands<'a>(alloc: Global) -> Result<Command<'a>, AllocError>
+    ensures { IfOk result (λ c. app_of c ≡ line.guest_commands) }
+{
+    let run = run_command(alloc)?;
+    let rerun = rerun_command(alloc)?;
+    let replay = replay_command(alloc)?;
+    let command = Command::new(alloc, "ithreads").subcommand_required(true);
+    let command = with_command(command, run)?;
+    let command = with_command(command, rerun)?;
+    with_command(command, replay)
+}
+
 /// The program's command line.
 ///
 /// # Errors
 ///
 /// An error where the host's memory ran out.
+#[tactic(auto, unfolding(crate::specs::Words::command_line))]
 pub fn command_line<'a>(alloc: Global) -> Result<Command<'a>, AllocError>
     ensures { IfOk result (λ c. app_of c ≡ line.command_line) }
 {
-    let run = run_command(alloc)?;
-    let rerun = rerun_command(alloc)?;
     let show = show_command(alloc)?;
-    let command = Command::new(alloc, "ithreads").subcommand_required(true);
-    let command = with_command(command, run)?;
-    let command = with_command(command, rerun)?;
-    with_command(command, show)
+    let generate = generate_command(alloc)?;
+    let command = guest_commands(alloc)?;
+    let command = with_command(command, show)?;
+    with_command(command, generate)
 }

@@ -4,7 +4,7 @@ ghost use Rattle.std.specs.Prelude.{◌≡◌, ◌≤◌, map, codes, unwrap_or,
 ghost use Rattle.clap.specs.Words.{all_of, first_of, found_of, one_of, rows_of};
 ghost use Rattle.ith_words.specs.Words as line;
 
-use super::line::MOST_WORKERS;
+use super::line::{MOST_NUMBER, MOST_WORKERS};
 use clap::ArgMatches;
 use machine_spec::{Limits, MOST_FUEL, MOST_STEPS};
 use std::alloc::{AllocError, Global};
@@ -41,15 +41,32 @@ pub fn edits_of<'a>(alloc: Global, given: &ArgMatches<'a>) -> Result<Vec<&'a str
     }
 }
 
-/// The number of an option, if the line has the option.
-fn number_of(given: &ArgMatches<'_>, id: &str, most: u32) -> Option<u32>
-    ensures value { result ≡ line.number_given most (one_of id.now (rows_of (found_of given.now))) }
-    ensures within { IfSome result (λ number. (1 ≤ number) × (number ≤ most)) }
+/// The limits of a run where the line names none.
+pub fn default_limits() -> Limits
+    ensures { result ≡ record { fuel = line.default_fuel; steps = line.default_limit } }
+{
+    match Limits::new(DEFAULT_FUEL, DEFAULT_STEPS) {
+        Some(limits) => limits,
+        None => unreachable!(),
+    }
+}
+
+/// The number of an operand or option, if the line has one from the least to the most.
+fn number_of(given: &ArgMatches<'_>, id: &str, least: u32, most: u32) -> Option<u32>
+    ensures value { result ≡ line.number_given least most (one_of id.now (rows_of (found_of given.now))) }
+    ensures within { IfSome result (λ number. (least ≤ number) × (number ≤ most)) }
 {
     match given.get_one::<u32>(id) {
-        Some(number) if 1 <= number && number <= most => Some(number),
+        Some(number) if least <= number && number <= most => Some(number),
         _ => None,
     }
+}
+
+/// The number to generate from.
+pub fn generator_of(given: &ArgMatches<'_>) -> u32
+    ensures { result ≡ line.number_named (rows_of (found_of given.now)) }
+{
+    number_of(given, "NUMBER", 0, MOST_NUMBER).unwrap_or(0)
 }
 
 /// How many workers there are.
@@ -58,7 +75,7 @@ pub fn workers_of(given: &ArgMatches<'_>) -> u32
     ensures least { 1 ≤ result }
     ensures most { result ≤ MOST_WORKERS }
 {
-    number_of(given, "workers", MOST_WORKERS).unwrap_or(DEFAULT_WORKERS)
+    number_of(given, "workers", 1, MOST_WORKERS).unwrap_or(DEFAULT_WORKERS)
 }
 
 /// The most turns of a thunk, if the line says.
@@ -66,7 +83,7 @@ pub fn fuel_of(given: &ArgMatches<'_>) -> Option<u32>
     ensures value { result ≡ line.fuel_given (rows_of (found_of given.now)) }
     ensures within { IfSome result (λ fuel. (1 ≤ fuel) × (fuel ≤ MOST_FUEL)) }
 {
-    number_of(given, "fuel", MOST_FUEL)
+    number_of(given, "fuel", 1, MOST_FUEL)
 }
 
 /// The limits of the run.
@@ -75,7 +92,7 @@ pub fn limits_of(given: &ArgMatches<'_>) -> Limits
     ensures steps { result.steps ≡ line.limit_named (rows_of (found_of given.now)) }
 {
     let fuel = fuel_of(given).unwrap_or(DEFAULT_FUEL);
-    let steps = number_of(given, "steps", MOST_STEPS).unwrap_or(DEFAULT_STEPS);
+    let steps = number_of(given, "steps", 1, MOST_STEPS).unwrap_or(DEFAULT_STEPS);
     match Limits::new(fuel, steps) {
         Some(limits) => limits,
         None => unreachable!(),
@@ -88,4 +105,12 @@ pub fn memo_of<'a>(given: &ArgMatches<'a>) -> Option<&'a str>
     ensures { option_map (λ name. name.now) result ≡ line.memo_named (rows_of (found_of given.now)) }
 {
     given.get_str("memo")
+}
+
+/// Whether the reports tell what an edit reaches.
+pub fn reach_of(given: &ArgMatches<'_>) -> bool
+    ensures { result ≡ line.reach_named (rows_of (found_of given.now)) }
+{
+    // the contract of `get_flag` says nothing of a text that is no `bool`
+    given.get_one::<bool>("reach").unwrap_or(false)
 }

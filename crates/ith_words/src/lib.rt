@@ -6,7 +6,10 @@ mod given;
 mod line;
 mod words;
 
-pub use line::{Line, MOST_WORKERS, RerunLine, RunLine, ShowLine};
+pub use given::default_limits;
+pub use line::{
+    GenerateLine, Line, MOST_NUMBER, MOST_WORKERS, ReplayLine, RerunLine, RunLine, ShowLine,
+};
 pub use words::{LineFault, line_of};
 
 #[cfg(test)]

@@ -10,6 +10,9 @@ use machine_spec::Limits;
 /// The most workers that a line may ask for.
 pub const MOST_WORKERS: u32 = 16;
 
+/// The greatest number that a guest is generated from.
+pub const MOST_NUMBER: u32 = u32::MAX;
+
 /// What a line asks for.
 #[derive(Debug, Drop)]
 pub enum Line<'a> {
@@ -17,8 +20,12 @@ pub enum Line<'a> {
     Run(RunLine<'a>),
     /// A guest is run on from a memo.
     Rerun(RerunLine<'a>),
+    /// A schedule is replayed.
+    Replay(ReplayLine<'a>),
     /// A memo is listed.
     Show(ShowLine<'a>),
+    /// The generated guest is run.
+    Generate(GenerateLine),
 }
 
 /// A line that runs a guest.
@@ -36,6 +43,8 @@ pub struct RunLine<'a> {
     pub limits: Limits,
     /// The name of the memo to write, if there is to be one.
     pub kept: Option<&'a str>,
+    /// Whether the reports tell what an edit reaches.
+    pub reach: bool,
     ghost some_worker: { 1 ≤ workers },
     ghost most_workers: { workers ≤ MOST_WORKERS },
 }
@@ -53,9 +62,24 @@ pub struct RerunLine<'a> {
     pub fuel: Option<u32>,
     /// The name of the memo to write, if there is to be one.
     pub kept: Option<&'a str>,
+    /// Whether the reports tell what an edit reaches.
+    pub reach: bool,
     ghost some_worker: { 1 ≤ workers },
     ghost most_workers: { workers ≤ MOST_WORKERS },
     ghost fuel_within: { IfSome fuel (λ f. (1 ≤ f) × (f ≤ MOST_FUEL)) } by { Prim.hlevel props },
+}
+
+/// A line that replays a schedule.
+#[derive(Debug, Drop)]
+pub struct ReplayLine<'a> {
+    /// The name of the executable.
+    pub elf: &'a str,
+    /// The name of the input.
+    pub input: &'a str,
+    /// The name of the schedule.
+    pub schedule: &'a str,
+    /// The most turns of a thunk, and the most steps of a run.
+    pub limits: Limits,
 }
 
 /// A line that lists a memo.
@@ -63,4 +87,15 @@ pub struct RerunLine<'a> {
 pub struct ShowLine<'a> {
     /// The name of the memo to read.
     pub memo: &'a str,
+}
+
+/// A line that runs the generated guest.
+#[derive(Debug, Clone, Copy)]
+pub struct GenerateLine {
+    /// The number that guest, input and edit are generated from.
+    pub number: u32,
+    /// How many workers there are.
+    pub workers: u32,
+    ghost some_worker: { 1 ≤ workers },
+    ghost most_workers: { workers ≤ MOST_WORKERS },
 }

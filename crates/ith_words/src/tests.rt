@@ -12,6 +12,7 @@ struct Wanted<'a> {
     fuel: Option<u32>,
     limit: u32,
     kept: Option<&'a str>,
+    reach: bool,
 }
 
 /// What a line says that has none of the operands and options that may be left out.
@@ -21,6 +22,7 @@ const PLAIN: Wanted<'static> = Wanted {
     fuel: None,
     limit: 4096,
     kept: None,
+    reach: false,
 };
 
 /// The words of a line: the program's name, and then those between spaces; `''` stands for an empty word.
@@ -44,6 +46,7 @@ fn runs(run: &RunLine<'_>, wanted: &Wanted<'_>) -> bool {
         && run.limits.fuel() == wanted.fuel.unwrap_or(1_000_000)
         && run.limits.steps() == wanted.limit
         && is_kept
+        && run.reach == wanted.reach
 }
 
 /// Whether a line goes on from `m`, as is wanted.
@@ -54,6 +57,7 @@ fn reruns(rerun: &RerunLine<'_>, wanted: &Wanted<'_>) -> bool {
         && rerun.workers == wanted.workers
         && rerun.fuel == wanted.fuel
         && is_kept
+        && rerun.reach == wanted.reach
 }
 
 /// Whether a line says what is wanted.
@@ -61,7 +65,7 @@ fn says(said: &Line<'_>, wanted: &Wanted<'_>) -> bool {
     match said {
         Line::Run(run) => runs(run, wanted),
         Line::Rerun(rerun) => reruns(rerun, wanted),
-        Line::Show(_show) => false,
+        Line::Replay(_) | Line::Show(_) | Line::Generate(_) => false,
     }
 }
 
@@ -123,7 +127,7 @@ fn runs_are_accepted(rt: HostRuntime) -> Result<(), Fail> {
             workers,
             fuel: Some(fuel),
             limit,
-            kept: None,
+            ..PLAIN
         };
         assert!(rt; is_accepted(rt.alloc(), line, &wanted)?, "at {line}");
     }
@@ -184,6 +188,33 @@ fn reruns_have_a_fuel_of_their_own(rt: HostRuntime) -> Result<(), Fail> {
 }
 
 #[test]
+fn what_an_edit_reaches_is_told(rt: HostRuntime) -> Result<(), Fail> {
+    let rows: [(&str, &[&str], bool); 12] = [
+        ("run a b", &[], false),
+        ("run a b --reach", &[], true),
+        ("run --reach a b", &[], true),
+        ("run a --reach b", &[], true),
+        ("run a b c --reach d", &["c", "d"], true),
+        ("run a b -- --reach", &["--reach"], false),
+        ("run --reach -- a b --reach", &["--reach"], true),
+        ("rerun m", &[], false),
+        ("rerun m --reach", &[], true),
+        ("rerun --reach m c", &["c"], true),
+        ("rerun m c --reach --workers 4 d", &["c", "d"], true),
+        ("rerun -- m --reach", &["--reach"], false),
+    ];
+    for (line, edits, reach) in rows {
+        let wanted = Wanted {
+            edits,
+            reach,
+            ..PLAIN
+        };
+        assert!(rt; is_accepted(rt.alloc(), line, &wanted)?, "at {line}");
+    }
+    Ok(())
+}
+
+#[test]
 fn a_memo_is_listed(rt: HostRuntime) -> Result<(), Fail> {
     let alloc = rt.alloc();
     for (line, name) in [("show m", "m"), ("show ''", ""), ("show -- -m", "-m")] {
@@ -191,6 +222,75 @@ fn a_memo_is_listed(rt: HostRuntime) -> Result<(), Fail> {
         let accepted = match line_of(alloc, &words) {
             Ok(Line::Show(show)) => show.memo == name,
             _ => false,
+        };
+        assert!(rt; accepted, "at {line}");
+    }
+    Ok(())
+}
+
+/// Whether a line replays `s` for `a` and `b`, with these limits.
+fn replays(said: &Line<'_>, fuel: u32, steps: u32) -> bool {
+    match said {
+        Line::Replay(replay) => {
+            replay.elf == "a"
+                && replay.input == "b"
+                && replay.schedule == "s"
+                && replay.limits.fuel() == fuel
+                && replay.limits.steps() == steps
+        }
+        _ => false,
+    }
+}
+
+/// Whether a line runs the guest that is generated from this number, by so many workers.
+fn generates(said: &Line<'_>, number: u32, workers: u32) -> bool {
+    match said {
+        Line::Generate(generate) => generate.number == number && generate.workers == workers,
+        _ => false,
+    }
+}
+
+/// What a line has to say that replays a schedule, beside the files `a`, `b` and `s`.
+const REPLAYS: [(&str, u32, u32); 5] = [
+    ("replay a b s", 1_000_000, 4096),
+    ("replay a --fuel 16777216 b s", 16_777_216, 4096),
+    ("replay --steps=1 a b s", 1_000_000, 1),
+    ("replay a b s --steps 65536 --fuel 1", 1, 65_536),
+    ("replay --fuel 7 -- a b s", 7, 4096),
+];
+
+#[test]
+fn a_schedule_is_replayed(rt: HostRuntime) -> Result<(), Fail> {
+    let alloc = rt.alloc();
+    for (line, fuel, steps) in REPLAYS {
+        let words = words_of(alloc, line)?;
+        let accepted = match line_of(alloc, &words) {
+            Ok(said) => replays(&said, fuel, steps),
+            Err(_) => false,
+        };
+        assert!(rt; accepted, "at {line}");
+    }
+    Ok(())
+}
+
+/// Lines that run the generated guest, the number that it is generated from, and how many workers there are.
+const GENERATED: [(&str, u32, u32); 6] = [
+    ("gen 0", 0, 4),
+    ("gen 4294967295", u32::MAX, 4),
+    ("gen 7 --workers 1", 7, 1),
+    ("gen --workers=16 262145", 262_145, 16),
+    ("gen 007", 7, 4),
+    ("gen -- +7", 7, 4),
+];
+
+#[test]
+fn a_guest_is_generated(rt: HostRuntime) -> Result<(), Fail> {
+    let alloc = rt.alloc();
+    for (line, number, workers) in GENERATED {
+        let words = words_of(alloc, line)?;
+        let accepted = match line_of(alloc, &words) {
+            Ok(said) => generates(&said, number, workers),
+            Err(_) => false,
         };
         assert!(rt; accepted, "at {line}");
     }
@@ -210,6 +310,7 @@ fn lines_of_no_command_are_refused(rt: HostRuntime) -> Result<(), Fail> {
         "walk a b",
         "--workers 1 run a b",
         "--memo k rerun m",
+        "--reach run a b",
         "--help",
         "help",
         "help show",
@@ -237,6 +338,10 @@ fn runs_are_refused(rt: HostRuntime) -> Result<(), Fail> {
         "run a b --memo",
         "run a b --memo k --memo k",
         "run a --memo b",
+        "run a b --reach --reach",
+        "run a b --reach=1",
+        "run a b --reach=",
+        "run a --reach",
         "run a b --colour",
         "run -a b",
         "run --help",
@@ -259,6 +364,10 @@ fn lines_about_a_memo_are_refused(rt: HostRuntime) -> Result<(), Fail> {
         "rerun m --fuel four",
         "rerun m --fuel 4 --fuel 4",
         "rerun m --steps 4",
+        "rerun m --reach --reach",
+        "rerun m --reach c --reach",
+        "rerun m --reach=1",
+        "rerun --reach",
         "rerun m --workers 0",
         "rerun m --workers 17",
         "rerun m -c",
@@ -268,7 +377,45 @@ fn lines_about_a_memo_are_refused(rt: HostRuntime) -> Result<(), Fail> {
         "show m --memo n",
         "show m --workers 1",
         "show m --fuel 4",
+        "show m --reach",
         "show --help",
+    ] {
+        assert!(rt; is_refused(rt.alloc(), line)?, "at {line}");
+    }
+    Ok(())
+}
+
+#[test]
+fn replays_and_generated_guests_are_refused(rt: HostRuntime) -> Result<(), Fail> {
+    for line in [
+        "replay",
+        "replay a b",
+        "replay a b s t",
+        "replay a b s --workers 1",
+        "replay a b s --memo m",
+        "replay a b s --reach",
+        "replay a b s --fuel 0",
+        "replay a b s --fuel 16777217",
+        "replay a b s --steps 0",
+        "replay a b s --steps 65537",
+        "replay a b s --steps 1 --steps 1",
+        "replay a b -s",
+        "replay --help",
+        "gen",
+        "gen seven",
+        "gen 7 8",
+        "gen 4294967296",
+        "gen 18446744073709551616",
+        "gen -- -1",
+        "gen 0x7",
+        "gen ''",
+        "gen 7 --workers 0",
+        "gen 7 --workers 17",
+        "gen 7 --fuel 1",
+        "gen 7 --memo m",
+        "gen 7 --reach",
+        "gen --workers 1",
+        "gen --help",
     ] {
         assert!(rt; is_refused(rt.alloc(), line)?, "at {line}");
     }

@@ -3,12 +3,14 @@
 ghost use Rattle.std.specs.Prelude.{◌≡◌, map, string_bytes, [], IfOk, IfErr};
 ghost use Rattle.clap.specs.Words.{fault_of, found_of, rows_of, subcommand_of, subcommand_rows_of};
 ghost use Rattle.ith_words.specs.Words as line;
-ghost use Rattle.ith_words.specs.Said.{run_said, rerun_said, show_said, line_said};
+ghost use Rattle.ith_words.specs.Said.{run_said, rerun_said, replay_said, show_said, generate_said, line_said};
 ghost use Rattle.ith_words.specs.Refusals.{WhyNoLine, WhyFault};
 
 use super::command::command_line;
-use super::given::{edits_of, fuel_of, limits_of, memo_of, operand_of, workers_of};
-use super::line::{Line, RerunLine, RunLine, ShowLine};
+use super::given::{
+    edits_of, fuel_of, generator_of, limits_of, memo_of, operand_of, reach_of, workers_of,
+};
+use super::line::{GenerateLine, Line, ReplayLine, RerunLine, RunLine, ShowLine};
 use clap::error::ErrorKind;
 use clap::{ArgMatches, Error};
 use std::alloc::{AllocError, Global};
@@ -44,7 +46,6 @@ fn fault_by(alloc: Global, error: Error) -> LineFault
 }
 
 /// What the parser finds in the words.
-#[tactic(auto, using(crate::proofs::NoLine::no_line))]
 fn matches_given<'a>(alloc: Global, words: &'a [String]) -> Result<ArgMatches<'a>, LineFault>
     ensures faultless { IfOk result (λ given. fault_of line.command_line (map string_bytes words.entry.now) ≡ []) }
     ensures rows { IfOk result (λ given. subcommand_rows_of given ≡ subcommand_of line.command_line
@@ -76,6 +77,7 @@ fn run_line<'a>(alloc: Global, given: &ArgMatches<'a>) -> Result<RunLine<'a>, Al
         workers: workers_of(given),
         limits: limits_of(given),
         kept: memo_of(given),
+        reach: reach_of(given),
     })
 }
 
@@ -93,7 +95,20 @@ fn rerun_line<'a>(alloc: Global, given: &ArgMatches<'a>) -> Result<RerunLine<'a>
         workers: workers_of(given),
         fuel: fuel_of(given),
         kept: memo_of(given),
+        reach: reach_of(given),
     })
+}
+
+/// The line of what was found for the command that replays a schedule.
+fn replay_line<'a>(given: &ArgMatches<'a>) -> ReplayLine<'a>
+    ensures { replay_said result ≡ line.replay_line (rows_of (found_of given.now)) }
+{
+    ReplayLine {
+        elf: operand_of(given, "ELF"),
+        input: operand_of(given, "INPUT"),
+        schedule: operand_of(given, "SCHEDULE"),
+        limits: limits_of(given),
+    }
 }
 
 /// The line of what was found for the command that lists a memo.
@@ -102,6 +117,16 @@ fn show_line<'a>(given: &ArgMatches<'a>) -> ShowLine<'a>
 {
     ShowLine {
         memo: operand_of(given, "MEMO"),
+    }
+}
+
+/// The line of what was found for the command that runs the generated guest.
+fn generate_line(given: &ArgMatches<'_>) -> GenerateLine
+    ensures { generate_said result ≡ line.generate_line (rows_of (found_of given.now)) }
+{
+    GenerateLine {
+        number: generator_of(given),
+        workers: workers_of(given),
     }
 }
 
@@ -128,7 +153,9 @@ pub fn line_of<'a>(alloc: Global, words: &'a [String]) -> Result<Line<'a>, LineF
             Ok(line) => Ok(Line::Rerun(line)),
             Err(_) => Err(LineFault::Memory),
         },
+        Some((name, below)) if name == "replay" => Ok(Line::Replay(replay_line(below))),
         Some((name, below)) if name == "show" => Ok(Line::Show(show_line(below))),
+        Some((name, below)) if name == "gen" => Ok(Line::Generate(generate_line(below))),
         // the parser takes no other command
         _ => Err(LineFault::Refused(refusal(alloc, "no command"))),
     }

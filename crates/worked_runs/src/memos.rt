@@ -108,7 +108,8 @@ const OTHER_FUEL: [Row; 10] = [
     ),
 ];
 
-/// Memos of a trap and of stored pages, and one that is gone on from after edits; lines that are refused.
+/// Memos of a trap and of stored pages, and one that is gone on from after edits, with what they reach; lines that are
+/// refused.
 const FURTHER: [Row; 10] = [
     (
         "ithreads run trap none --workers 1 --memo m",
@@ -141,15 +142,15 @@ const FURTHER: [Row; 10] = [
          schedule 0+ 1+ 0+ 2+ 1+ 2+ 0+ 1+ 2+ 0+ 0+ 0+\nmemory *\noutput 4\n\x0c\x00\x00\x00\n",
     ),
     (
-        "ithreads rerun m eight --workers 1 --memo m",
+        "ithreads rerun m eight --workers 1 --memo m --reach",
         0,
-        "round 1\nend exit 0\nsteps 12\nreused 8\nexecuted 4\ninstructions 18\nby 12\n\
+        "round 1\nend exit 0\nsteps 12\nreused 8\nexecuted 4\nreached 5\ninstructions 18\nby 12\n\
          schedule 0= 1= 0= 2+ 1= 2+ 0= 1= 2+ 0= 0+ 0=\nmemory *\noutput 4\n\x0d\x00\x00\x00\n",
     ),
     (
-        "ithreads rerun m eight --workers 1",
+        "ithreads rerun m eight --workers 1 --reach",
         0,
-        "round 1\nend exit 0\nsteps 12\nreused 12\nexecuted 0\ninstructions 0\nby 12\n\
+        "round 1\nend exit 0\nsteps 12\nreused 12\nexecuted 0\nreached 0\ninstructions 0\nby 12\n\
          schedule 0= 1= 0= 2= 1= 2= 0= 1= 2= 0= 0= 0=\nmemory *\noutput 4\n\x0d\x00\x00\x00\n",
     ),
     ("ithreads rerun m bad --workers 1", 5, ""),

@@ -6,10 +6,11 @@ use super::lines::executable;
 use machine_spec::{End, Limits, MOST_INPUT_BYTES};
 use page_store::PageTable;
 use propagate::{Round, drive};
-use release_core::Setup;
+use release_core::{History, Setup};
 use round_spec::Event;
 use std::alloc::{AllocError, Global};
 use std::marker::Brand;
+use std::sync::Arc;
 use std::sync::ledger::{Blank, Ledger};
 use std::test::Fail;
 use std::thread::Threads;
@@ -34,6 +35,7 @@ fn counted<R: Threads, L: Ledger>(
     rt: &R,
     alloc: Global,
     setup: Setup,
+    past: Option<Arc<History>>,
     events: &[Event],
     blank: Blank,
 ) -> Result<Round, AllocError>
@@ -41,19 +43,20 @@ fn counted<R: Threads, L: Ledger>(
     requires parts { blank.parts ≡ L.parts }
     requires some { 0 < L.parts }
 {
-    drive(alloc, setup, None, events, &mut Turns::<L>::new(rt, blank))
+    drive(alloc, setup, past, events, &mut Turns::<L>::new(rt, blank))
 }
 
-/// The round of a guest that these events make.
-fn driven<R: Threads>(
+/// The round of a guest that these events make, by a history if there is one.
+pub(super) fn driven<R: Threads>(
     rt: &R,
     alloc: Global,
     guest: Guest,
     input: &[u8],
+    past: Option<Arc<History>>,
     events: &[Event],
 ) -> Result<Round, Fail> {
     match setup_of(alloc, guest, input)? {
-        Some(setup) => Ok(counted::<R, Brand>(rt, alloc, setup, events, Blank::new(1))?),
+        Some(setup) => { Ok(counted::<R, Brand>(rt, alloc, setup, past, events, Blank::new(1))?) }
         None => Err(Fail::new("the guest isn't taken")),
     }
 }
@@ -71,7 +74,7 @@ pub(super) fn scheduled<R: Threads>(
         events.push(Event::Take(thread))?;
         events.push(Event::Commit(thread))?;
     }
-    driven(rt, alloc, guest, input, &events)
+    driven(rt, alloc, guest, input, None, &events)
 }
 
 /// A schedule of the guest whose two threads take two mutexes in opposite order, how many of its steps are permitted,
@@ -148,7 +151,7 @@ fn has_both_bytes(round: &Round) -> bool {
 #[test]
 fn masked_commits_keep_both_bytes(rt: HostRuntime) -> Result<(), Fail> {
     let alloc = rt.alloc();
-    let round = driven(&rt, alloc, BYTES, b"", &INTERLEAVED)?;
+    let round = driven(&rt, alloc, BYTES, b"", None, &INTERLEAVED)?;
     let in_order = scheduled(&rt, alloc, BYTES, b"", &[0, 0, 1, 2, 0, 0, 0, 0])?;
     assert!(rt; is_followed(&round, 8, 35, Some(End::Exit(0))));
     assert!(rt; has_both_bytes(&round));

@@ -145,6 +145,7 @@ fn report_of(alloc: Global, round: &Round) -> Result<Vec<u8>, AllocError> {
     let told = Told {
         ending: round.end(),
         schedule: round.schedule(),
+        reached: None,
         instructions: round.instructions(),
         shares: &[round.schedule().len() as u64],
         memory: round.memory(),

@@ -59,8 +59,8 @@ returns-in-Ok-edit-clause-playable g c =
     rw c.from_scratch.ensures.inputs edited in
     let few : length c.from_scratch.result.inputs < 2 ^ 64 =
     rw c.from_scratch.ensures.inputs c.from_scratch.ensures.few in
-    run_playable c.in-Ok-set_up.setup (bytes_of_each files.lists.items) (plan_said c.from_scratch.result)
-    c.in-Ok-set_up.ensures.sound c.from_scratch.ensures.beginning few made
+    run_playable c.in-Ok-set_up.setup c.args.line.now.reach (bytes_of_each files.lists.items)
+    (plan_said c.from_scratch.result) c.in-Ok-set_up.ensures.sound c.from_scratch.ensures.beginning few made
 
 pub returns-in-Ok-edit-clause-spelled : goal.returns-in-Ok-edit-clause-spelled
 returns-in-Ok-edit-clause-spelled g c =
@@ -69,6 +69,6 @@ returns-in-Ok-edit-clause-spelled g c =
     search rules in
     let made : AreInputs c.in-Ok-set_up.setup.input (bytes_of_each files.lists.items) c.from_scratch.result.inputs =
     rw c.from_scratch.ensures.inputs edited in
-    run_spelled c.in-Ok-set_up.setup (bytes_of_each files.lists.items) (plan_said c.from_scratch.result)
-    c.in-Ok-set_up.ensures.sound c.in-Ok-set_up.ensures.bytes.0 c.in-Ok-set_up.ensures.bytes.1
+    run_spelled c.in-Ok-set_up.setup c.args.line.now.reach (bytes_of_each files.lists.items)
+    (plan_said c.from_scratch.result) c.in-Ok-set_up.ensures.sound c.in-Ok-set_up.ensures.bytes.0 c.in-Ok-set_up.ensures.bytes.1
     c.from_scratch.ensures.beginning made

@@ -1,5 +1,5 @@
 -- How a rerun ends that has no plan, and what holds of its plan.
-use Rattle.std.proofs.Common.{rules, ◌≡◌, ◌∙◌, ap}
+use Rattle.std.proofs.Common.{rules, ◌≡◌, ◌∙◌, ℕ, ap}
 use Rattle.round_inputs.specs.Lists.{bytes_of_each}
 use Rattle.ith_words.specs.Words.{Reruns}
 use Rattle.ith_words.specs.Said.{rerun_said}
@@ -47,8 +47,9 @@ returns-in-Ok-start_after-clause-plan g c =
     let edited : AreRerunInputs c.in-Ok-recall.history.setup.input
     (bytes_of_each files.lists.items) c.in-Ok-edit_again.inputs = search rules in
     let begins : p.beginning ≡ after_memo c.in-Ok-recall.history
-    (fuel_of (rerun_said c.args.line.now) c.in-Ok-recall.history) =
-    c.in-Ok-start_after.ensures ∙ ap (after_memo c.in-Ok-recall.history) c.fuel_of-fuel.ensures.value in
+    (fuel_of (rerun_said c.args.line.now) c.in-Ok-recall.history) c.args.line.now.reach =
+    c.in-Ok-start_after.ensures
+    ∙ ap (λ (fuel : ℕ). after_memo c.in-Ok-recall.history fuel c.args.line.now.reach) c.fuel_of-fuel.ensures.value in
     rerun_plan (rerun_said c.args.line.now) (w c.args.host.now) files.memo.items
     (bytes_of_each files.lists.items) c.in-Ok-recall.history p
     c.in-Ok.ensures.memo c.in-Ok.ensures.lists is begins edited
@@ -63,8 +64,8 @@ returns-in-Ok-start_after-clause-playable g c =
     let edited : AreRerunInputs c.in-Ok-recall.history.setup.input
     (bytes_of_each files.lists.items) c.in-Ok-edit_again.inputs = search rules in
     rerun_playable files.memo.items
-    (bytes_of_each files.lists.items) c.in-Ok-recall.history c.fuel_of-fuel.result p is c.in-Ok-start_after.ensures
-    c.in-Ok-edit_again.ensures.few edited
+    (bytes_of_each files.lists.items) c.in-Ok-recall.history c.fuel_of-fuel.result
+    c.args.line.now.reach p is c.in-Ok-start_after.ensures c.in-Ok-edit_again.ensures.few edited
 
 pub returns-in-Ok-start_after-clause-spelled : goal.returns-in-Ok-start_after-clause-spelled
 returns-in-Ok-start_after-clause-spelled g c =
@@ -76,8 +77,8 @@ returns-in-Ok-start_after-clause-spelled g c =
     let edited : AreRerunInputs c.in-Ok-recall.history.setup.input
     (bytes_of_each files.lists.items) c.in-Ok-edit_again.inputs = search rules in
     rerun_spelled files.memo.items
-    (bytes_of_each files.lists.items) c.in-Ok-recall.history c.fuel_of-fuel.result p is c.fuel_of-fuel.ensures.within
-    c.in-Ok-start_after.ensures edited
+    (bytes_of_each files.lists.items) c.in-Ok-recall.history c.fuel_of-fuel.result
+    c.args.line.now.reach p is c.fuel_of-fuel.ensures.within c.in-Ok-start_after.ensures edited
 
 pub returns-clause-refused : goal.returns-clause-refused
 returns-clause-refused g c =

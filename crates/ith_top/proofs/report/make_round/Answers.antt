@@ -39,7 +39,8 @@ returns g c =
     made_on c.args.crew.now.workers begins c.args.next.input.items w c.in_ok-round.shares.items
     c.in_ok-text.text.items c.is_exit-exited.result (arc_value c.in_ok-left.left)
     setup c.in_ok-round.ensures.past c.in_ok-round.ensures.stands is
-    (c.in_ok-text.ensures ∙ ap (λ (shares : List ℕ). report_text c.args.next.number (told_as_made w shares))
+    (c.in_ok-text.ensures
+    ∙ ap (λ (shares : List ℕ). report_text c.args.next.number (told_as_made w c.args.next.reach shares))
     c.as_slice.ensures.value)
     (c.is_exit-exited.ensures ∙ ap is_exit c.end.ensures)
     (shared ∙ left)

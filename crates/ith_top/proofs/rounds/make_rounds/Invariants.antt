@@ -15,7 +15,12 @@ invariant-loop-place g l = record {
   going : IsGoing (coming_said l.setup l.fn.coming).beginning l.crew.workers l.fn.coming.inputs
       (g.H.Host.world l.fn.host)
       (g.H.Host.world l.host)
-      (record { number = l.first + l.place; past = option_map arc_value l.past; setup = l.setup }) l.inputs l.exits;
+      (record {
+        number = l.first + l.place;
+        past = option_map arc_value l.past;
+        setup = l.setup;
+        reach = l.reach;
+      }) l.inputs l.exits;
   left : l.place + length l.inputs ≡ l.place-end;
   short : AreShort l.inputs;
   map : IsOfMap (option_map arc_value l.past) l.setup;

@@ -6,26 +6,26 @@ use Rattle.ith_words.proofs.given.number_of.Goals as goal
 
 pub returns-in-Some-clause-value : goal.returns-in-Some-clause-value
 returns-in-Some-clause-value c =
-    taken_within c.args.most c.in-Some.number c.if-number-ge1.true c.if-number-most.true
-    ∙ number_read c.args.most (found_of c.args.given.now) c.args.id.now
+    taken_within c.args.least c.args.most c.in-Some.number c.if-least-number.true c.if-number-most.true
+    ∙ number_read c.args.least c.args.most (found_of c.args.given.now) c.args.id.now
     c.in-Some.number c.in-Some.ensures.none
     (λ t is. (c.in-Some.ensures.value t is).0)
 
 pub returns-in_default-clause-value : goal.returns-in_default-clause-value
 returns-in_default-clause-value c =
-    taken_above c.args.most c.in-Some.number c.if-number-ge1.true c.if-number-most.false
-    ∙ number_read c.args.most (found_of c.args.given.now) c.args.id.now
+    taken_above c.args.least c.args.most c.in-Some.number c.if-least-number.true c.if-number-most.false
+    ∙ number_read c.args.least c.args.most (found_of c.args.given.now) c.args.id.now
     c.in-Some.number c.in-Some.ensures.none
     (λ t is. (c.in-Some.ensures.value t is).0)
 
 pub returns-in_default-2-clause-value : goal.returns-in_default-2-clause-value
 returns-in_default-2-clause-value c =
-    taken_below c.args.most c.in-Some.number c.if-number-ge1.false
-    ∙ number_read c.args.most (found_of c.args.given.now) c.args.id.now
+    taken_below c.args.least c.args.most c.in-Some.number c.if-least-number.false
+    ∙ number_read c.args.least c.args.most (found_of c.args.given.now) c.args.id.now
     c.in-Some.number c.in-Some.ensures.none
     (λ t is. (c.in-Some.ensures.value t is).0)
 
 pub returns-in_default-3-clause-value : goal.returns-in_default-3-clause-value
 returns-in_default-3-clause-value c =
-    number_unread c.args.most (found_of c.args.given.now) c.args.id.now (omega arith)
+    number_unread c.args.least c.args.most (found_of c.args.given.now) c.args.id.now (omega arith)
     (λ t is number. let given = c.in_default.ensures.value t is in given.1.0 number)

@@ -1,0 +1,298 @@
+-- How a line that runs the generated guest ends, from how its parts did.
+use Rattle.std.proofs.Common.{◌≡◌, ◌+◌, ◌<◌, ◌≤◌, ◌^◌, ℕ, Bool, true, false, ◌&&◌, List, [], ◌∷◌, ◌++◌, length, map, Option, Some, None, refl, sym, ap, subst, ◌∙◌, append_assoc, arith}
+use Rattle.std.specs.Prelude.{All, if◌then◌else◌, codes, decimal, Ok, Err}
+use Rattle.std.specs.List.{AllByRecursion, concat, list_all}
+use Rattle.std.proofs.lemmas.List.{append-nil}
+use Rattle.std.proofs.lemmas.List.Elements.{All-from_recursion, recursion_from_All}
+use Rattle.machine_spec.specs.declared.TheConstants.{MOST_INPUT_BYTES}
+use Rattle.machine_spec.specs.Machine.{Machine}
+use Rattle.machine_spec.specs.Setup.{Setup, IsSetup}
+use Rattle.history_spec.specs.History.{History}
+use Rattle.report_spec.specs.Text.{line as text_line}
+use Rattle.edit_spec.specs.Editing.{edited}
+use Rattle.guest_gen.specs.declared.making.Generated.{Generated}
+use Rattle.guest_gen.specs.Generated.{IsOf, input_of, list_of, edits_of, next_of}
+use Rattle.guest_gen.proofs.Inputs.{length-input_of, edit-in_range}
+use Rattle.guest_gen.proofs.Lists.{list-says}
+use Rattle.rerun_spec.specs.Inputs.{Refusal, AreInputs, IsFirstRefused}
+use Rattle.rerun_spec.proofs.Inputs.{inputs-unrefused}
+use Rattle.rerun_spec.specs.Rounds.{Found, Round, Beginning, IsMade, made, left_by, from_scratch, round_on, after_round, rounds_after, entries_of}
+use Rattle.rerun_spec.specs.Reports.{made_exits, all_made_exit, all_exit}
+use Rattle.rerun_spec.proofs.Rounds.{IsSoundlyMade, each-round, scratch-begins, round-machine}
+use Rattle.round_report.specs.Short.{short_text, short_of, made_short}
+use Rattle.ith_host.specs.World.{World, NoneFell, Stays, AsksNothing}
+use Rattle.ith_words.specs.Words.{Generates, GenerateLine, default_fuel, default_limit}
+use Rattle.ith_top.specs.declared.status.Status.{Status}
+use Rattle.ith_top.specs.declared.status.Status.TheVariants as status
+use Rattle.ith_top.specs.Contents.{Plan, IsGeneratedPlan}
+use Rattle.ith_top.specs.Ends.{Prints, HasRounds, GenerateEnds, IsGenerated, generated_text}
+use Rattle.ith_top.specs.Rounds.{rounds_of}
+use Rattle.ith_top.specs.Refusals.{WhyUnprinted}
+use Rattle.ith_top.specs.Playing.{AreFound, AreTheGenerated, CanBePlayed, CanBeSpelled, IsLineOn}
+use Rattle.ith_top.proofs.Ending.{unbegun}
+use Rattle.ith_top.proofs.Promises.{promised_from_scratch, promised_of, each_kept}
+
+-- the line of a round that was made soundly is that of the machine from scratch
+short_made : (workers : ℕ) (r : Round) → IsSoundlyMade workers r → made_short r ≡ short_of r
+unfolding short_text
+short_made workers r is = ap (λ (m : Machine). short_text r.number (record {
+  ending = m.ending;
+  schedule = [];
+  reached = None;
+  instructions = 0;
+  shares = [];
+  memory = m.memory;
+  output = m.output;
+})) (round-machine workers r is)
+
+all_short :
+    (workers : ℕ) (rounds : List Round) → AllByRecursion (IsSoundlyMade workers) rounds
+    → map made_short rounds ≡ map short_of rounds
+all_short workers [] each = refl
+all_short workers (r ∷ rounds) each =
+    ap (λ (text : List ℕ). text ∷ map made_short rounds) (short_made workers r each.0)
+    ∙ ap (λ (texts : List (List ℕ)). short_of r ∷ texts) (all_short workers rounds each.1)
+
+-- the lines of rounds from scratch
+shorts_made :
+    (workers : ℕ) (s : Setup) (p : Plan) (found : List Found)
+    → p.beginning ≡ from_scratch s false → CanBePlayed p → CanBeSpelled p → AreFound workers p found
+    → map made_short (rounds_of p found) ≡ map short_of (rounds_of p found)
+shorts_made workers s p found begins playable spelled are =
+    let valid : IsSetup s = subst (λ (b : Beginning). IsSetup b.setup) begins spelled.valid in
+    let made : All (IsMade workers) (rounds_after (from_scratch s false) p.inputs found) =
+    subst (λ (b : Beginning). All (IsMade workers) (rounds_after b p.inputs found)) begins are.made in
+    subst (λ (b : Beginning). map made_short (rounds_after b p.inputs found) ≡ map short_of (rounds_after b p.inputs found))
+    (sym begins)
+    (all_short workers (rounds_after (from_scratch s false) p.inputs found)
+    (each-round (from_scratch s false) p.inputs found workers (scratch-begins s false valid) playable.short made))
+
+-- the generated list of edits makes of the generated input the one after the edit
+pub generated-inputs : (number : ℕ) → AreInputs (input_of number) (list_of number ∷ []) (input_of number ∷ next_of number ∷ [])
+generated-inputs number =
+    let done : edited (edits_of number) (input_of number) ≡ Ok (next_of number) =
+    ap (λ (beyond : Bool). if beyond then Err 1 else Ok (next_of number)) (edit-in_range number) in
+    (refl, (record { edits = edits_of number; said = list-says number; done = done }, tt))
+
+-- so it isn't refused
+pub generated-unrefused :
+    (number : ℕ) (g : Generated) (first : List ℕ) (place : ℕ) (why : Refusal)
+    → IsOf number g → first ≡ g.input.items → IsFirstRefused first (g.edits.items ∷ []) place why → ⊥
+generated-unrefused number g first place why is same refused =
+    let input : first ≡ input_of number = same ∙ is.input in
+    let inputs : AreInputs first (g.edits.items ∷ []) (input_of number ∷ next_of number ∷ []) =
+    subst (λ (i : List ℕ). AreInputs i (g.edits.items ∷ []) (input_of number ∷ next_of number ∷ [])) (sym input)
+    (subst (λ (l : List ℕ). AreInputs (input_of number) (l ∷ []) (input_of number ∷ next_of number ∷ [])) (sym is.edits)
+    (generated-inputs number)) in
+    inputs-unrefused first (g.edits.items ∷ []) (input_of number ∷ next_of number ∷ []) place why inputs refused
+
+pub generated-small : (number : ℕ) (g : Generated) → IsOf number g → length g.input.items ≤ MOST_INPUT_BYTES
+generated-small number g is =
+    let same : length g.input.items ≡ length (input_of number) = ap (λ (l : List ℕ). length l) is.input in
+    let count = length-input_of number in omega arith
+
+-- the plan of what was generated
+pub generated_plan :
+    (number : ℕ) (g : Generated) (s : Setup) (p : Plan)
+    → IsOf number g
+    → s ≡ record { elf = g.elf.items; input = g.input.items; fuel = default_fuel; limit = default_limit }
+    → p.beginning ≡ from_scratch s false → AreInputs g.input.items (g.edits.items ∷ []) p.inputs
+    → IsGeneratedPlan number p
+generated_plan number g s p is same begins edited =
+    record {
+      elf = g.elf.items;
+      guest = is.elf;
+      beginning = begins ∙ ap (λ (t : Setup). from_scratch t false) (same ∙ ap (λ (i : List ℕ). record {
+        elf = g.elf.items;
+        input = i;
+        fuel = default_fuel;
+        limit = default_limit;
+      }) is.input);
+      edited = subst (λ (i : List ℕ). AreInputs i (list_of number ∷ []) p.inputs) is.input
+          (subst (λ (l : List ℕ). AreInputs g.input.items (l ∷ []) p.inputs) is.edits edited);
+    }
+
+-- one list of edits makes one input more
+one_more :
+    (first list input next : List ℕ) (rest inputs : List (List ℕ))
+    → inputs ≡ input ∷ next ∷ rest → AreInputs first (list ∷ []) inputs → inputs ≡ input ∷ next ∷ []
+one_more first list input next [] inputs is are = is
+one_more first list input next (more ∷ rest) inputs is are =
+    let never : AreInputs first (list ∷ []) (input ∷ next ∷ more ∷ rest) = subst (AreInputs first (list ∷ [])) is are in
+    absurd never.1.1
+
+-- there is an input after the first
+pub some_first : (first list : List ℕ) (inputs : List (List ℕ)) → AreInputs first (list ∷ []) inputs → inputs ≡ [] → ⊥
+some_first first list inputs are none =
+    let never : AreInputs first (list ∷ []) [] = subst (AreInputs first (list ∷ [])) none are in never
+
+pub some_second :
+    (first list input : List ℕ) (inputs rest : List (List ℕ)) → AreInputs first (list ∷ []) inputs
+    → inputs ≡ input ∷ rest → rest ≡ [] → ⊥
+some_second first list input inputs rest are is none =
+    let never : AreInputs first (list ∷ []) (input ∷ []) =
+    subst (AreInputs first (list ∷ [])) (is ∙ ap (λ (l : List (List ℕ)). input ∷ l) none) are in
+    never.1
+
+and-true : (b : Bool) → (b && true) ≡ b
+and-true true = refl
+and-true false = refl
+
+-- two rounds, of which the second goes by what the first left
+record TwoRounds (workers : ℕ) (s : Setup) (input next one other : List ℕ) (exit ended : Bool) : Type 0 where
+  pub first : Round
+  pub second : Round
+  pub found : List Found
+  pub count : length found ≡ 2
+  pub are : rounds_after (from_scratch s false) (input ∷ next ∷ []) found ≡ first ∷ second ∷ []
+  pub made_first : IsMade workers first
+  pub made_second : IsMade workers second
+  pub lines : one ++ other ≡ concat (map made_short (first ∷ second ∷ []))
+  pub exits : (exit && ended) ≡ list_all made_exits (first ∷ second ∷ [])
+
+two_rounds :
+    (workers : ℕ) (s : Setup) (input next one other : List ℕ) (exit ended : Bool) (left last : History)
+    → IsLineOn workers (from_scratch s false) input one exit left
+    → IsLineOn workers (record { number = 1; past = Some left; setup = s; reach = false }) next other ended last
+    → TwoRounds workers s input next one other exit ended
+two_rounds workers s input next one other exit ended left last on on_next =
+    let f = on.found in
+    let begins : record { number = 1; past = Some left; setup = s; reach = false }
+    ≡ after_round (from_scratch s false) input f =
+    ap (λ (h : History). record { number = 1; past = Some h; setup = s; reach = false }) on.is_left in
+    let on_second : IsLineOn workers (after_round (from_scratch s false) input f) next other ended last =
+    subst (λ (b : Beginning). IsLineOn workers b next other ended last) begins on_next in
+    let first : Round = round_on (from_scratch s false) input f in
+    let second : Round = round_on (after_round (from_scratch s false) input f) next on_second.found in
+    record {
+      first = first;
+      second = second;
+      found = f ∷ on_second.found ∷ [];
+      count = refl;
+      are = refl;
+      made_first = on.made;
+      made_second = on_second.made;
+      lines = ap (λ (l : List ℕ). l ++ other) on.is_text
+          ∙ ap (λ (l : List ℕ). made_short first ++ l) (on_second.is_text ∙ sym (append-nil (made_short second)));
+      exits = ap (λ (b : Bool). b && ended) on.is_exit
+          ∙ ap (λ (b : Bool). made_exits first && b) (on_second.is_exit ∙ sym (and-true (made_exits second)));
+    }
+
+-- both rounds were made
+pub both_generated :
+    (workers number : ℕ) (p : Plan) (input next : List ℕ) (rest : List (List ℕ)) (one other text : List ℕ)
+    (exit ended exits : Bool) (left last : History)
+    → IsGeneratedPlan number p → CanBePlayed p → CanBeSpelled p → p.inputs ≡ input ∷ next ∷ rest
+    → IsLineOn workers (from_scratch p.beginning.setup false) input one exit left
+    → IsLineOn workers (record { number = 1; past = Some left; setup = p.beginning.setup; reach = false }) next other
+    ended last
+    → text ≡ text_line (codes "gen") (decimal number) ++ one ++ other
+    → exits ≡ (exit && ended)
+    → AreTheGenerated workers number text exits
+unfolding all_made_exit
+both_generated workers number p input next rest one other text exit ended exits left last is playable spelled inputs on on_next told ends =
+    let s : Setup = p.beginning.setup in
+    let begins : p.beginning ≡ from_scratch s false =
+    is.beginning ∙ ap (λ (t : Setup). from_scratch t false) (sym (ap (λ (b : Beginning). b.setup) is.beginning)) in
+    let all : p.inputs ≡ input ∷ next ∷ [] = one_more _ _ input next rest p.inputs inputs is.edited in
+    let two : TwoRounds workers s input next one other exit ended =
+    two_rounds workers s input next one other exit ended left last on on_next in
+    let rounds : rounds_of p two.found ≡ two.first ∷ two.second ∷ [] =
+    ap (λ (l : List (List ℕ)). rounds_after p.beginning l two.found) all
+    ∙ ap (λ (b : Beginning). rounds_after b (input ∷ next ∷ []) two.found) begins
+    ∙ two.are in
+    let count : length p.inputs ≡ 2 = ap (λ (l : List (List ℕ)). length l) all in
+    let are : AreFound workers p two.found =
+    record {
+      few = let found = two.count in omega arith;
+      made = subst (All (IsMade workers)) (sym rounds)
+          (All-from_recursion (IsMade workers) (two.first ∷ two.second ∷ []) (two.made_first, (two.made_second, tt)));
+    } in
+    let promised = promised_from_scratch workers s false p two.found begins playable spelled are in
+    record {
+      plan = p;
+      is_plan = is;
+      playable = playable;
+      spelled = spelled;
+      found = two.found;
+      made = are;
+      all = two.count ∙ sym count;
+      is_text = told
+          ∙ append_assoc (text_line (codes "gen") (decimal number)) one other
+          ∙ ap (λ (l : List ℕ). text_line (codes "gen") (decimal number) ++ l)
+          (two.lines
+          ∙ ap (λ (rs : List Round). concat (map made_short rs)) (sym rounds)
+          ∙ ap (λ (texts : List (List ℕ)). concat texts) (shorts_made workers s p two.found begins playable spelled are));
+      are_exits = sym promised.exits ∙ ap (list_all made_exits) rounds ∙ sym two.exits ∙ sym ends;
+    }
+
+has_generated : (line : GenerateLine) (a : World) (text : List ℕ) (exits : Bool)
+    → AreTheGenerated line.workers line.number text exits → HasRounds (Generates line) a
+has_generated line a text exits is =
+    record {
+      plan = is.plan;
+      is_plan = is.is_plan;
+      found = is.found;
+      few = is.made.few;
+      made = is.made.made;
+      promised = promised_of (Generates line) a is.plan is.found is.is_plan is.playable is.spelled is.made;
+      kept = each_kept line.workers is.plan is.found is.playable is.spelled is.made;
+    }
+
+generated_by :
+    (line : GenerateLine) (a b : World) (text : List ℕ) (exits : Bool)
+    → AsksNothing a b → AreTheGenerated line.workers line.number text exits → Prints a b text
+    → IsGenerated line exits a b
+unfolding has_generated
+generated_by line a b text exits none is prints =
+    record {
+      asked = none;
+      has = has_generated line a text exits is;
+      all = is.all;
+      prints = subst (Prints a b) is.is_text prints;
+      ends = is.are_exits;
+    }
+
+pub generate_finished :
+    (line : GenerateLine) (a b : World) (text : List ℕ) (exits : Bool)
+    → AsksNothing a b → AreTheGenerated line.workers line.number text exits → Prints a b text → exits ≡ true
+    → GenerateEnds line a b status.Finished
+generate_finished line a b text exits none is prints ends =
+    generated_by line a b text true none (subst (AreTheGenerated line.workers line.number text) ends is) prints
+
+pub generate_unfinished :
+    (line : GenerateLine) (a b : World) (text : List ℕ) (exits : Bool)
+    → AsksNothing a b → AreTheGenerated line.workers line.number text exits → Prints a b text → exits ≡ false
+    → GenerateEnds line a b status.Unfinished
+generate_unfinished line a b text exits none is prints ends =
+    generated_by line a b text false none (subst (AreTheGenerated line.workers line.number text) ends is) prints
+
+-- the host's memory ran out
+pub generate_cut : (line : GenerateLine) (a b : World) → AsksNothing a b → Stays a b
+    → GenerateEnds line a b status.Memory
+generate_cut line a b none stays = unbegun (Generates line) a b (none ∙ sym (append-nil a.asked)) stays
+
+-- not all was printed
+pub generate_unprinted :
+    (line : GenerateLine) (a b : World) (text : List ℕ) (exits : Bool) (s : Status)
+    → AsksNothing a b → AreTheGenerated line.workers line.number text exits → WhyUnprinted text a b s
+    → GenerateEnds line a b s
+unfolding has_generated
+generate_unprinted line a b text exits status.WriteFault none is why =
+    let cause : WhyUnprinted (generated_text line.number (rounds_of is.plan is.found)) a b status.WriteFault =
+    subst (λ (l : List ℕ). WhyUnprinted l a b status.WriteFault) is.is_text why in
+    record {
+      asked = none;
+      has = has_generated line a text exits is;
+      all = is.all;
+      part = record {
+        cause = cause.0;
+        whole = 0;
+        next = generated_text line.number (rounds_of is.plan is.found);
+        is_next = refl;
+        count = cause.1.0;
+        prints = cause.1.1;
+      };
+    }
+generate_unprinted line a b text exits status.Memory none is why = generate_cut line a b none why
+generate_unprinted line a b text exits _ none is why = absurd why

@@ -1,0 +1,32 @@
+-- How a line that runs the generated guest ends, from how its parts did.
+use Rattle.ith_words.specs.Said.{generate_said}
+use Rattle.ith_top.specs.Ends.{Prints}
+use Rattle.ith_top.specs.Refusals.{WhyUnprinted}
+use Rattle.ith_top.proofs.Generated.{generate_finished, generate_unfinished, generate_unprinted}
+use Rattle.ith_top.proofs.generating.generate.Goals as goal
+
+pub returns-in-Ok-print_text : goal.returns-in-Ok-print_text
+returns-in-Ok-print_text g c =
+    let w = g.H.Host.world in
+    let prints : Prints (w c.args.host.now) (w c.print_text.new.host) c.in-Ok.lines.text.items =
+    rw (← c.as_slice.ensures.value) c.in-Ok-print_text.ensures.printed in
+    generate_finished (generate_said c.args.line.now) (w c.args.host.now) (w c.print_text.new.host)
+    c.in-Ok.lines.text.items c.in-Ok.lines.exits c.in-Ok-print_text.ensures.asked c.in-Ok.ensures prints c.if-exits.true
+
+pub returns-in-Ok-2 : goal.returns-in-Ok-2
+returns-in-Ok-2 g c =
+    let w = g.H.Host.world in
+    let prints : Prints (w c.args.host.now) (w c.print_text.new.host) c.in-Ok.lines.text.items =
+    rw (← c.as_slice.ensures.value) c.in-Ok-2.ensures.printed in
+    generate_unfinished (generate_said c.args.line.now) (w c.args.host.now) (w c.print_text.new.host)
+    c.in-Ok.lines.text.items c.in-Ok.lines.exits c.in-Ok-2.ensures.asked c.in-Ok.ensures prints c.if-exits.false
+
+pub returns : goal.returns
+returns g c =
+    let w = g.H.Host.world in
+    let why : WhyUnprinted c.in-Ok.lines.text.items (w c.args.host.now) (w c.print_text.new.host)
+    c.in-Err-print_text.status =
+    rw (← c.as_slice.ensures.value) c.in-Err-print_text.ensures.refused in
+    generate_unprinted (generate_said c.args.line.now) (w c.args.host.now) (w c.print_text.new.host)
+    c.in-Ok.lines.text.items c.in-Ok.lines.exits c.in-Err-print_text.status c.in-Err-print_text.ensures.asked
+    c.in-Ok.ensures why

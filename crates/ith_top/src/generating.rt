@@ -1,0 +1,212 @@
+//! What the program does of a line that runs the generated guest.
+
+ghost use Rattle.std.specs.Prelude.{◌≡◌, ◌≤◌, ◌++◌, false, codes, decimal, length, option_map, IfOk, IfErr};
+ghost use Rattle.std.specs.Arc.{arc_value};
+ghost use Rattle.elf_load.specs.Load.{Refuses};
+ghost use Rattle.elf_spec.specs.declared.TheConstants.{MOST_ELF_BYTES};
+ghost use Rattle.machine_spec.specs.declared.TheConstants.{MOST_INPUT_BYTES};
+ghost use Rattle.machine_spec.specs.Setup.{IsSetup};
+ghost use Rattle.memo_spec.specs.Spelling.{AreBytes};
+ghost use Rattle.report_spec.specs.Text.{line as text_line};
+ghost use Rattle.propagate.specs.Kept.{IsOfMap};
+ghost use Rattle.rerun_spec.specs.Reports.{told_as_made};
+ghost use Rattle.round_report.specs.Short.{short_text};
+ghost use Rattle.ith_words.specs.Words.{default_fuel, default_limit};
+ghost use Rattle.ith_words.specs.Said.{generate_said};
+ghost use Rattle.ith_top.specs.Contents.{IsGeneratedPlan};
+ghost use Rattle.ith_top.specs.Ends.{GenerateEnds};
+ghost use Rattle.ith_top.specs.Playing.{plan_said, beginning_of, CanBePlayed, CanBeSpelled, IsLineOn, AreTheGenerated};
+
+use super::crew::Crew;
+use super::outside::print_text;
+use super::plan::{Plan, Start, from_scratch};
+use super::report::{Next, Played, is_exit};
+use super::rounds::no_memory;
+use super::status::Status;
+use elf_load::LoadError;
+use guest_gen::{Generated, make};
+use ith_host::{Gate, Host};
+use ith_text::decimal;
+use ith_words::{GenerateLine, default_limits};
+use propagate::Round;
+use release_core::Setup;
+use rerun_workers::run_round;
+use round_inputs::{InputsError, inputs_of};
+use round_report::{Told, short};
+use std::alloc::{AllocError, Global};
+use std::sync::{Arc, Wait};
+use std::thread::Threads;
+
+/// The setup of an executable and an input, with the limits of a line that names none.
+fn default_setup(alloc: Global, elf: Vec<u8>, input: Vec<u8>) -> Result<Setup, LoadError>
+    requires elf_size { length elf.items ≤ MOST_ELF_BYTES }
+    requires input_size { length input.items ≤ MOST_INPUT_BYTES }
+    ensures setup { IfOk result (λ s. s ≡ record {
+      elf = elf.items;
+      input = input.items;
+      fuel = default_fuel;
+      limit = default_limit;
+    }) }
+    ensures sound { IfOk result (λ s. IsSetup s) }
+    ensures bytes { IfOk result (λ s. AreBytes s.elf × AreBytes s.input) }
+    ensures refused { IfErr result (λ error. Refuses elf.items error) }
+{
+    Setup::new(alloc, elf, input, default_limits())
+}
+
+/// The rounds of the guest that is generated from a number: round 0 on the generated input, and round 1 on it after the
+/// generated edit.
+fn prepare(alloc: Global, number: u32) -> Result<Plan, AllocError>
+    ensures plan { IfOk result (λ plan. IsGeneratedPlan number (plan_said plan)) }
+    ensures playable { IfOk result (λ plan. CanBePlayed (plan_said plan)) }
+    ensures spelled { IfOk result (λ plan. CanBeSpelled (plan_said plan)) }
+{
+    let Generated { elf, input, edits } = make(alloc, number)?;
+    let copy = Vec::from_slice(alloc, &input)?;
+    let setup = match default_setup(alloc, elf, input) {
+        Ok(setup) => setup,
+        Err(LoadError::Refused(_)) => unreachable!(),
+        Err(LoadError::NoMemory) => return Err(AllocError),
+    };
+    match inputs_of(alloc, copy, &[edits]) {
+        Ok(inputs) => Ok(from_scratch(setup, inputs, false)),
+        Err(InputsError::Refused { .. }) => unreachable!(),
+        Err(InputsError::NoMemory) => Err(AllocError),
+    }
+}
+
+/// The line that tells of a round.
+fn round_line(
+    alloc: Global,
+    number: u64,
+    round: &Round,
+    shares: &[u64],
+) -> Result<Vec<u8>, AllocError>
+    ensures { IfOk result (λ text. text.items ≡ short_text number (told_as_made round.now false shares.now)) }
+{
+    let told = Told {
+        ending: round.end(),
+        schedule: round.schedule(),
+        reached: None,
+        instructions: round.instructions(),
+        shares,
+        memory: round.memory(),
+        output: round.output(),
+    };
+    short(alloc, number, &told)
+}
+
+/// The next round of the generated guest, made by the line's workers, with its line.
+fn make_line<R: Threads + Wait + Sync, G: Gate + Sync>(
+    rt: &R,
+    alloc: Global,
+    setup: &Setup,
+    next: Next,
+    crew: &Crew<'_, G>,
+) -> Result<Played, AllocError>
+    requires short { length next.input.items ≤ MOST_INPUT_BYTES }
+    requires same { IsOfMap (option_map arc_value next.past) setup.now }
+    ensures { IfOk result (λ played. IsLineOn crew.now.workers (beginning_of setup.now next) next.input.items
+        played.text.items played.exited (arc_value played.left)) }
+{
+    let Next {
+        number,
+        input,
+        past,
+        ..
+    } = next;
+    let start = setup.with(input, setup.limits())?;
+    let (round, shares) = run_round(rt, alloc, start, past, crew.workers, crew.gate)?;
+    let text = round_line(alloc, number as u64, &round, shares.as_slice())?;
+    let exited = is_exit(round.end());
+    let Some(left) = round.into_history() else {
+        unreachable!()
+    };
+    let left = Arc::new(alloc, left)?;
+    Ok(Played { text, exited, left })
+}
+
+/// The line of the number that a guest is generated from, and the lines of its rounds.
+fn text_of(alloc: Global, number: u32, first: &[u8], second: &[u8]) -> Result<Vec<u8>, AllocError>
+    ensures { IfOk result (λ text. text.items ≡ text_line (codes "gen") (decimal number) ++ first.now ++ second.now) }
+{
+    let mut text = Vec::new(alloc);
+    text.extend_from_slice(b"gen ")?;
+    decimal(alloc, u64::from(number), &mut text)?;
+    text.push(b'\n')?;
+    text.extend_from_slice(first)?;
+    text.extend_from_slice(second)?;
+    Ok(text)
+}
+
+/// What there is to print of the generated guest.
+#[derive(Drop)]
+struct Lines {
+    /// The text that tells of both rounds.
+    text: Vec<u8>,
+    /// Whether each ended by exit.
+    exits: bool,
+}
+
+/// Makes both rounds of the guest that is generated from a number, by the line's workers.
+fn make_both<R: Threads + Wait + Sync, G: Gate + Sync>(
+    rt: &R,
+    alloc: Global,
+    number: u32,
+    crew: &Crew<'_, G>,
+) -> Result<Lines, AllocError>
+    ensures { IfOk result (λ lines. AreTheGenerated crew.now.workers number lines.text.items lines.exits) }
+{
+    let Plan { start, mut inputs } = prepare(alloc, number)?;
+    let Start { setup, .. } = start;
+    let Some(input) = inputs.next()? else {
+        unreachable!()
+    };
+    let Some(edited) = inputs.next()? else {
+        unreachable!()
+    };
+    let next = Next {
+        number: 0,
+        input,
+        past: None,
+        reach: false,
+    };
+    let first = make_line(rt, alloc, &setup, next, crew)?;
+    let next = Next {
+        number: 1,
+        input: edited,
+        past: Some(first.left),
+        reach: false,
+    };
+    let second = make_line(rt, alloc, &setup, next, crew)?;
+    let text = text_of(alloc, number, first.text.as_slice(), second.text.as_slice())?;
+    Ok(Lines {
+        text,
+        exits: first.exited && second.exited,
+    })
+}
+
+/// All that a line that runs the generated guest asks for.
+pub fn generate<R: Threads + Wait + Sync, H: Host, G: Gate + Sync>(
+    rt: &R,
+    alloc: Global,
+    host: &mut H,
+    line: &GenerateLine,
+    gate: &G,
+) -> Status
+    ensures { GenerateEnds (generate_said line.now) (H.world host.old) (H.world host.new) result }
+{
+    let crew = Crew {
+        workers: line.workers,
+        gate,
+    };
+    let Lines { text, exits } = match make_both(rt, alloc, line.number, &crew) {
+        Ok(lines) => lines,
+        Err(_) => return no_memory(host),
+    };
+    match print_text(alloc, host, text.as_slice()) {
+        Ok(()) if exits => Status::Finished,
+        Ok(()) => Status::Unfinished,
+        Err(status) => status,
+    }
+}

@@ -1,0 +1,195 @@
+//! What the program does of a line that replays a schedule.
+
+ghost use Rattle.std.specs.Prelude.{◌≡◌, ◌<◌, Ok, IfOk, IfErr};
+ghost use Rattle.ith_host.specs.World.{Stays, NoneFell, AsksNothing};
+ghost use Rattle.plain_machine.specs.Replaying.{IsOutcomeOf, IsCauseOf};
+ghost use Rattle.rerun_spec.specs.Reports as reports;
+ghost use Rattle.schedule_list.specs.Schedule.{Says};
+ghost use Rattle.ith_words.specs.Words.{Replays};
+ghost use Rattle.ith_words.specs.Said.{replay_said};
+ghost use Rattle.ith_top.specs.Files.{files_named, AsksForFiles};
+ghost use Rattle.ith_top.specs.Ends.{ReplayEnds};
+ghost use Rattle.ith_top.specs.Refusals.{WhyNoThreads, WhyUnreplayed};
+ghost use Rattle.ith_top.specs.Playing.{IsAskedReplay, TellsOfReplay};
+
+use super::complaints::{INCOMPLETE, NO_MEMORY, schedule_line};
+use super::files::{ReplayFiles, read_replay_files};
+use super::outside::print_text;
+use super::plan::set_up;
+use super::report::is_exit;
+use super::rounds::no_memory;
+use super::status::Status;
+use ith_host::Host;
+use ith_words::ReplayLine;
+use plain_machine::{Outcome, ReplayError, replay as replay_from_scratch};
+use release_core::Setup;
+use report_spec::Entry;
+use round_report::{Told, replayed};
+use schedule_list::{ParseError, parse};
+use std::alloc::{AllocError, Global};
+use std::marker::Brand;
+use std::sync::ledger::{Blank, Ledger};
+use std::thread::Threads;
+use turn_count::Turns;
+
+/// The threads that the text of a schedule says.
+fn threads_of<H: Host>(alloc: Global, host: &mut H, text: &[u8]) -> Result<Vec<u8>, Status>
+    ensures threads { IfOk result (λ threads. Says text.now (Ok threads.items)) }
+    ensures refused { IfErr result (λ status. WhyNoThreads text.now status) }
+    ensures asked { AsksNothing (H.world host.old) (H.world host.new) }
+    ensures stays { Stays (H.world host.old) (H.world host.new) }
+    ensures counts { NoneFell (H.world host.old) (H.world host.new) }
+{
+    match parse(alloc, text) {
+        Ok(threads) => Ok(threads),
+        Err(ParseError::BadToken(number)) => {
+            host.complain(&schedule_line(alloc, "token", number));
+            Err(Status::Schedule)
+        }
+        Err(ParseError::NoMemory) => Err(no_memory(host)),
+    }
+}
+
+/// What is to be replayed.
+#[derive(Drop)]
+pub struct Asked {
+    /// The executable, the input, and the limits.
+    pub setup: Setup,
+    /// The threads of the schedule, in order.
+    pub threads: Vec<u8>,
+}
+
+/// What a line asks for that replays a schedule: its files are read, the executable is looked at, and then the
+/// schedule's tokens are.
+fn prepare<H: Host>(alloc: Global, host: &mut H, line: &ReplayLine<'_>) -> Result<Asked, Status>
+    ensures replay { IfOk result (λ asked. IsAskedReplay (replay_said line.now) (H.world host.old)
+        asked.setup asked.threads.items) }
+    ensures asked { IfOk result (λ _. AsksForFiles (files_named (Replays (replay_said line.now)))
+        (H.world host.old) (H.world host.new)) }
+    ensures refused { IfErr result (λ status. ReplayEnds (replay_said line.now)
+        (H.world host.old) (H.world host.new) status) }
+    ensures stays { Stays (H.world host.old) (H.world host.new) }
+    ensures counts { NoneFell (H.world host.old) (H.world host.new) }
+{
+    let ReplayFiles {
+        elf,
+        input,
+        schedule,
+    } = match read_replay_files(alloc, host, line) {
+        Ok(files) => files,
+        Err(status) => return Err(status),
+    };
+    let setup = match set_up(alloc, host, elf, input, line.limits) {
+        Ok(setup) => setup,
+        Err(status) => return Err(status),
+    };
+    match threads_of(alloc, host, schedule.as_slice()) {
+        Ok(threads) => Ok(Asked { setup, threads }),
+        Err(status) => Err(status),
+    }
+}
+
+/// What a schedule comes to from scratch, with a counter of turns that nobody else has.
+fn counted<R: Threads, L: Ledger>(
+    rt: &R,
+    alloc: Global,
+    setup: &Setup,
+    threads: &[u8],
+    blank: Blank,
+) -> Result<Outcome, ReplayError>
+    requires name { blank.name ≡ L.name }
+    requires parts { blank.parts ≡ L.parts }
+    requires some { 0 < L.parts }
+    ensures outcome { IfOk result (λ outcome. IsOutcomeOf setup.now threads.now outcome) }
+    ensures cause { IfErr result (λ cause. IsCauseOf setup.now threads.now cause) }
+{
+    let mut turns = Turns::<L>::new(rt, blank);
+    replay_from_scratch(alloc, setup, threads, &mut turns)
+}
+
+/// What a schedule comes to from scratch.
+fn outcome_of<R: Threads, H: Host>(
+    rt: &R,
+    alloc: Global,
+    host: &mut H,
+    setup: &Setup,
+    threads: &[u8],
+) -> Result<Outcome, Status>
+    ensures outcome { IfOk result (λ outcome. IsOutcomeOf setup.now threads.now outcome) }
+    ensures refused { IfErr result (λ status. WhyUnreplayed setup.now threads.now status) }
+    ensures asked { AsksNothing (H.world host.old) (H.world host.new) }
+    ensures stays { Stays (H.world host.old) (H.world host.new) }
+    ensures counts { NoneFell (H.world host.old) (H.world host.new) }
+{
+    match counted::<R, Brand>(rt, alloc, setup, threads, Blank::new(1)) {
+        Ok(outcome) => Ok(outcome),
+        Err(ReplayError::Forbidden(number)) => {
+            host.complain(&schedule_line(alloc, "entry", number));
+            Err(Status::Schedule)
+        }
+        Err(ReplayError::Incomplete) => {
+            host.complain(INCOMPLETE);
+            Err(Status::Schedule)
+        }
+        Err(ReplayError::NoMemory) => Err(no_memory(host)),
+    }
+}
+
+/// The entries of a schedule of which each step is executed.
+fn all_executed(alloc: Global, threads: &[u8]) -> Result<Vec<Entry>, AllocError>
+    ensures { IfOk result (λ entries. entries.items ≡ reports.all_executed threads.now) }
+{
+    let mut entries = Vec::new(alloc);
+    for thread in threads {
+        entries.push(Entry {
+            thread: *thread,
+            reused: false,
+        })?;
+    }
+    Ok(entries)
+}
+
+/// The text that tells what a schedule came to.
+fn text_of(alloc: Global, threads: &[u8], outcome: &Outcome) -> Result<Vec<u8>, AllocError>
+    ensures { IfOk result (λ text. TellsOfReplay threads.now outcome.now text.items) }
+{
+    let entries = all_executed(alloc, threads)?;
+    let told = Told {
+        ending: Some(outcome.ending),
+        schedule: entries.as_slice(),
+        reached: None,
+        instructions: outcome.instructions,
+        shares: &[],
+        memory: &outcome.memory,
+        output: outcome.output.as_slice(),
+    };
+    replayed(alloc, &told)
+}
+
+/// All that a line that replays a schedule asks for.
+pub fn replay<R: Threads, H: Host>(
+    rt: &R,
+    alloc: Global,
+    host: &mut H,
+    line: &ReplayLine<'_>,
+) -> Status
+    ensures { ReplayEnds (replay_said line.now) (H.world host.old) (H.world host.new) result }
+{
+    let Asked { setup, threads } = match prepare(alloc, host, line) {
+        Ok(asked) => asked,
+        Err(status) => return status,
+    };
+    let outcome = match outcome_of(rt, alloc, host, &setup, threads.as_slice()) {
+        Ok(outcome) => outcome,
+        Err(status) => return status,
+    };
+    let text = match text_of(alloc, threads.as_slice(), &outcome) {
+        Ok(text) => text,
+        Err(_) => return no_memory(host),
+    };
+    match print_text(alloc, host, text.as_slice()) {
+        Ok(()) if is_exit(Some(outcome.ending)) => Status::Finished,
+        Ok(()) => Status::Unfinished,
+        Err(status) => status,
+    }
+}
