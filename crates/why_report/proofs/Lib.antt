@@ -1,0 +1,7 @@
+-- The files of lemmas of this crate.
+pub mod Finding
+pub mod Entries
+pub mod Alike
+pub mod Steps
+pub mod Told
+pub mod Searches

@@ -1,0 +1,18 @@
+-- What holds at the loop of `reasons`.
+use Rattle.std.proofs.Common.{◌≡◌, map}
+use Rattle.why_report.specs.declared.reason.Reason.{Reason}
+use Rattle.why_report.specs.Reasons.{GoesByOldRun}
+use Rattle.why_report.specs.Walking.{IsBefore}
+use Rattle.why_report.specs.Searching.{AreOf}
+use Rattle.why_report.proofs.Told.{told_so_far, executed_so_far}
+use Rattle.why_report.proofs.walking.reasons.Given as goal
+
+-- the machine is that before the next entry, and the reasons so far are told
+abbrev pub invariant-loop-step : goal.invariant-loop-step
+invariant-loop-step l = record {
+  pages : AreOf l.round l.pages;
+  before : IsBefore l.round l.core l.since l.step;
+  told : l.reasons.items ≡ told_so_far l.round l.step;
+  each : GoesByOldRun l.round.past l.round.setup
+      → map (λ (r : Reason). r.step) l.reasons.items ≡ executed_so_far l.round l.step;
+}
