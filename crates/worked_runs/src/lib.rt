@@ -9,6 +9,8 @@ mod lines;
 #[cfg(test)]
 mod memos;
 #[cfg(test)]
+mod orders;
+#[cfg(test)]
 mod replays;
 #[cfg(test)]
 mod runs;
