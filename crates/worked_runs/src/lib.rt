@@ -9,8 +9,6 @@ mod lines;
 #[cfg(test)]
 mod memos;
 #[cfg(test)]
-mod orders;
-#[cfg(test)]
 mod replays;
 #[cfg(test)]
 mod runs;
