@@ -1,8 +1,8 @@
 """Checks what `./ithreads` says while the program is built, with an `rt` that proves nothing and prints recorded lines.
 
-A copy of the script stands in a folder of its own beside crates.txt. It says of each crate that it is proved, and how
-many are of how many: that number is found here in another way. Where building fails it says so, the last lines of `rt
-run` are shown, and the status is 125; so it is where there is no `rt`.
+Copies of the script and of tools/launch stand in a folder of their own beside crates.txt. It says of each crate that it
+is proved, and how many are of how many: that number is found here in another way. Where building fails it says so, the
+last lines of `rt run` are shown, and the status is 125; so it is where there is no `rt`.
 """
 import os
 import pathlib
@@ -50,7 +50,9 @@ def tried(checks, what, lines, made, path=None):
     """The script in its folder: its status, what was printed, the lines on standard error, and the words of `rt`."""
     place = checks.folder / what.replace(" ", "-")
     (place / "crates/ithreads_cli").mkdir(parents=True)
+    (place / "tools").mkdir()
     shutil.copy(ROOT / "ithreads", place)
+    shutil.copy(ROOT / "tools/launch", place / "tools")
     shutil.copy(ROOT / "crates.txt", place)
     files = {"rt": FAKE, "all": lines, "run": "".join(f"line {number}\n" for number in range(1, 31)), "words": ""}
     for name, text in [*files.items(), *([("program", PROGRAM)] if made else [])]:

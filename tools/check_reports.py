@@ -43,6 +43,8 @@ REFUSED = [
     ("end exit 0", "end trap 0 000100000 2", 19), ("end exit 0", "end deadlock ", 12),
     ("steps 2", "steps 0", 6), ("steps 2", "steps 65537", 6), ("steps 2", "steps 02", 7), ("reused 0", "reused 3", 7),
     ("reused 0", "reused 0 ", 8), ("executed 2", "executed 1", 9), ("executed 2", "executed", 8),
+    ("executed 2", "executed 2\nreached 65537", 19), ("executed 2", "executed 2\nreached", 18),
+    ("executed 2", "executed 2\nreaches 2", 17), ("executed 2", "executed 2\nreached 2\nreached 2", 21),
     ("instructions 8", "instructions x", 13), ("by 2", "by 1", 2), ("by 2", "by", 2), ("by 2", "by 2 ", 5),
     ("by 2", "by 2" + " 0" * 16, 2), ("schedule 0+ 0+", "schedule 0+ 0=", 8), ("schedule 0+ 0+", "schedule 0+", 11),
     ("schedule 0+ 0+", "schedule 0+ 0+ 0+", 14), ("schedule 0+ 0+", "schedule 0+ 32+", 13),
@@ -83,13 +85,16 @@ def some_round(draw, number):
     output = draw.choice([*TRICKY, draw.randbytes(5000)])
     told = {"round": number, "end": end, "steps": steps, "reused": reused, "executed": steps - reused, "by": shares,
             "instructions": draw.randrange(10**12), "schedule": schedule, "memory": draw.randbytes(32).hex()}
+    if draw.randrange(2):
+        told["reached"] = draw.choice([0, steps, 65_536])
     return report_of(told, said, output), told, output
 
 
 def report_of(told, end, output):
     """The bytes of a report: the lines of docs/FORMATS.md, the output, and a newline."""
     entries = " ".join(f"{thread}{mark}" for thread, mark in told["schedule"])
-    counts = "".join(f"{word} {told[word]}\n" for word in ("steps", "reused", "executed", "instructions"))
+    words = ("steps", "reused", "executed", "reached", "instructions")
+    counts = "".join(f"{word} {told[word]}\n" for word in words if told.get(word) is not None)
     lines = (f"round {told['round']}\nend {end}\n{counts}by {' '.join(map(str, told['by']))}\nschedule {entries}\n"
              f"memory {told['memory']}\noutput {len(output)}\n")
     return lines.encode() + output + b"\n"

@@ -2,6 +2,7 @@
 
 It goes by the lengths that the lines say, since a guest's output may have any bytes, also those of a report.
 `rounds(bytes)` gives round after round, and raises `NotReports` with the first byte that can't be one of a report.
+`replay(bytes)` does so of what `ithreads replay` prints.
 """
 import re
 from dataclasses import dataclass
@@ -18,13 +19,14 @@ class NotReports(Exception):
 
     def __init__(self, data, at, wanted):
         there = repr(data[at:at + 20])[1:] if at < len(data) else "the end"
-        super().__init__(f"it stops being reports of rounds at byte {at}: {wanted} is wanted, and there stands {there}")
+        super().__init__(f"it stops being a report at byte {at}: {wanted} is wanted, and there stands {there}")
         self.at = at
 
 
 @dataclass
 class Round:
-    """What one report says. `end` has its kind, and what comes with it; `lines` are the report without the output."""
+    """What one report says. `end` has its kind, and what comes with it; `lines` are the report without the output;
+    `reached` is None where the report has no such line."""
 
     number: int
     end: dict
@@ -37,6 +39,27 @@ class Round:
     memory: str
     output: bytes
     lines: bytes
+    reached: int | None = None
+
+    def tokens(self):
+        """The schedule as a line by itself, without its word."""
+        return " ".join(f"{thread}{mark}" for thread, mark in self.schedule) + "\n"
+
+
+@dataclass
+class Replay:
+    """What `ithreads replay` says; `instructions` are those of all steps."""
+
+    end: dict
+    steps: int
+    instructions: int
+    memory: str
+    output: bytes
+
+
+def end_text(end):
+    """How a run ended, as its line has it behind the word."""
+    return " ".join(map(str, end.values()))
 
 
 class Reader:
@@ -123,17 +146,33 @@ class Reader:
         steps = self.line(b"steps", 1, MOST_STEPS)
         reused = self.line(b"reused", 0, steps, f"at most {steps}")
         executed = self.line(b"executed", steps - reused, steps - reused, f"{steps - reused}, which weren't reused")
+        reached = self.line(b"reached", 0, MOST_STEPS) if self.data.startswith(b"r", self.place) else None
         instructions, shares = self.line(b"instructions"), self.shares(steps)
-        schedule = self.schedule(steps, reused)
+        schedule, memory, length = self.schedule(steps, reused), self.digest(), self.line(b"output")
+        lines = self.data[start:self.place]
+        return Round(number, end, steps, reused, executed, instructions, shares, schedule, memory, self.output(length),
+                     lines, reached)
+
+    def digest(self):
         self.text(b"memory ")
-        memory = self.digits(64)
+        digits = self.digits(64)
         self.text(b"\n")
-        length = self.line(b"output")
-        lines, output = self.data[start:self.place], self.data[self.place:self.place + length]
+        return digits
+
+    def output(self, length):
+        output = self.data[self.place:self.place + length]
         self.place += len(output)
         self.rule(len(output) == length, f"an output of {length} bytes, of which {len(output)} are there,")
         self.text(b"\n")
-        return Round(number, end, steps, reused, executed, instructions, shares, schedule, memory, output, lines)
+        return output
+
+    def replay(self):
+        self.text(b"replay\n")
+        end, steps = self.end(), self.line(b"steps", 1, MOST_STEPS)
+        instructions, memory = self.line(b"instructions"), self.digest()
+        output = self.output(self.line(b"output"))
+        self.rule(self.place == len(self.data), "the end")
+        return Replay(end, steps, instructions, memory, output)
 
 
 def rounds(data):
@@ -143,3 +182,8 @@ def rounds(data):
         made = reader.round(before)
         before = made.number
         yield made
+
+
+def replay(data):
+    """What a replay printed."""
+    return Reader(data).replay()

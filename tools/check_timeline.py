@@ -1,0 +1,289 @@
+"""Checks `tools/timeline`.
+
+  - Its picture is well-formed XML, and has a box for each step that says which it is: of drawn reports, and of guests
+    of examples/ with all that is known of them. Boxes stand in the order of the schedule, and are the wider the more
+    instructions there are; there is a line for each step that waits, that wakes, or whose reason is known.
+  - Rounds of 65,536 steps have few boxes, whose steps are all steps, in time.
+  - What it says of pair.elf is what ./trace, `show` and `why` say. Its table is that of README.
+  - A file of reports, a listing, a trace or the lines of `why` that is cut at any byte is refused, and a line says
+    where.
+  - Where there is Chromium, it draws the picture as large as that says it is.
+"""
+import re
+import shutil
+import time
+import xml.etree.ElementTree as xml
+
+import check_reports
+import reports
+import steps
+from checking import EXAMPLES, ROOT, program, ran, ran_whole, tool
+
+DRAWN = 12  # files of reports
+LONG_SECONDS = 60  # for two rounds of 65,536 steps
+PAIR = [EXAMPLES / f"pair.{word}" for word in ("elf", "in", "edits")]
+NAMESPACE = "{http://www.w3.org/2000/svg}"
+WHY = """\
+why 4
+step 3 thread 2 number 0 page c0002000 at 0 now 8 was 7 by start
+step 5 thread 2 number 1 register 8 now 8 was 7
+step 8 thread 2 number 2 register 6 now 13 was 12
+step 10 thread 0 number 4 page 00011000 at 0 now 13 was 12 by 5
+"""
+WAKES = {(0, 1), (2, 2), (4, 2), (7, 0)}  # of pair.elf: which step wakes or begins which thread
+
+
+# The picture, taken apart.
+
+
+def rounds_of(printed):
+    """The groups of the rounds of a picture."""
+    return [one for one in xml.fromstring(printed).findall(f"{NAMESPACE}g") if one.get("class") == "round"]
+
+
+def boxes_of(one):
+    """The boxes of a round, by place: how many steps, how many of them executed, what is said, and left and right."""
+    boxes = []
+    for group in one.findall(f"{NAMESPACE}g"):
+        title, rect = group.find(f"{NAMESPACE}title").text, group.find(f"{NAMESPACE}rect")
+        place = int(re.match(r"steps? ([0-9]+)", title).group(1))
+        left = float(rect.get("x"))
+        kinds = [it.get("class") for it in group.findall(f"{NAMESPACE}rect")]
+        counts = int(group.get("data-count")), int(group.get("data-executed"))
+        boxes.append((place, counts, title, left, left + float(rect.get("width")), kinds))
+    return sorted(boxes)
+
+
+def titles(one, kind):
+    """What is said of the lines of a kind."""
+    return [it.find(f"{NAMESPACE}title").text for it in one.findall(f"{NAMESPACE}path") if it.get("class") == kind]
+
+
+def has_steps(one, report):
+    """Whether a round has a box for each step, that says so, in the schedule's order."""
+    boxes, made = boxes_of(one), {}
+    for (place, counts, title, left, right, kinds), (at, (thread, mark)) in zip(boxes, enumerate(report.schedule)):
+        number, word = made.get(thread, 0), "reused" if mark == "=" else "executed"
+        made[thread] = number + 1
+        said = f"step {at}: thread {thread}, number {number}, {word}"
+        right_box = (place, counts, kinds) == (at, (1, mark == "+"), [word]) and left < right
+        if not right_box or title.split("\n")[0] != said:
+            return False
+    ordered = all(box[4] <= other[3] + 0.11 for box, other in zip(boxes, boxes[1:]))  # they are rounded to tenths
+    return len(boxes) == report.steps and ordered
+
+
+def has_all(one, report):
+    """Whether all steps of a round are in its boxes, which are few."""
+    counts = [counts for _, counts, *_ in boxes_of(one)]
+    return [sum(some) for some in zip(*counts)] == [report.steps, report.executed]
+
+
+# Reports that are drawn here.
+
+
+def check_drawn(checks, number):
+    made = [check_reports.some_round(checks.random, k)[0] for k in range(checks.random.choice([1, 2, 5]))]
+    data = b"".join(made)
+    status, printed, said = tool("timeline", checks.file("reports", data))
+    if checks.expect(f"timeline of reports {number}: {status} {said}", status == 0 and not said):
+        told = list(zip(rounds_of(printed), reports.rounds(data)))
+        checks.expect(f"timeline of reports {number}: a box for each step",
+                      len(told) == len(made) and all(has_steps(*pair) for pair in told))
+
+
+def long_round(draw, number, kind):
+    """A round of the most steps: threads in turn, or each for a long time, or drawn."""
+    threads = [{"turns": at % 32, "runs": at // 999 % 32, "drawn": draw.randrange(32)}[kind] for at in range(65_536)]
+    marks = [{"turns": "=+"[at // 32 % 2], "runs": "=+"[at // 5000 % 2], "drawn": draw.choice("=+")}[kind]
+             for at in range(65_536)]
+    schedule = [[thread, mark if number else "+"] for thread, mark in zip(threads, marks)]
+    executed = sum(mark == "+" for _, mark in schedule)
+    told = {"round": number, "steps": 65_536, "reused": 65_536 - executed, "executed": executed, "instructions": 10**9,
+            "by": [65_536], "schedule": schedule, "memory": "0" * 64}
+    return check_reports.report_of(told, "exit 0", b"")
+
+
+def check_long(checks, kind):
+    data = b"".join(long_round(checks.random, number, kind) for number in (0, 1))
+    began = time.monotonic()
+    status, printed, said = tool("timeline", checks.file("reports", data))
+    seconds = time.monotonic() - began
+    if not checks.expect(f"timeline of 65,536 steps, {kind}: {status} {said}", status == 0):
+        return
+    told = list(zip(rounds_of(printed), reports.rounds(data)))
+    count = sum(len(boxes_of(one)) for one, _ in told)
+    checks.expect(f"timeline of 65,536 steps, {kind}: all steps are in {count} boxes of {len(printed)} bytes",
+                  all(has_all(*pair) for pair in told) and count <= 8000 and len(printed) < 4_000_000)
+    checks.expect(f"timeline of 65,536 steps, {kind}: it takes {seconds:.0f} s", seconds < LONG_SECONDS)
+
+
+# Guests.
+
+
+def with_all(checks, words, workers, *more):
+    """The reports of a guest, and its timeline with all that is known but reasons."""
+    memo = checks.folder / "memo"
+    _, printed, _ = program("run", *words, "--workers", workers, "--memo", memo)
+    file = checks.file("reports", printed)
+    return list(reports.rounds(printed)), tool("timeline", file, "--memo", memo, *more, "--guest", *words)
+
+
+def check_guest(checks, words, workers):
+    made, (status, printed, said) = with_all(checks, words, workers)
+    what = f"timeline of {words[0].name} with {workers} workers"
+    if checks.expect(f"{what}: {status} {said}", status == 0):
+        drawn = rounds_of(printed)
+        checks.expect(f"{what}: a box for each step", all(map(has_steps, drawn, made)) and len(drawn) == len(made))
+        waits = [len(titles(one, "waits")) + len(titles(one, "forever")) for one in drawn]
+        traced = [trace_of(checks, words, one).count(b" waits for ") for one in made[:1]]
+        if made[0].end["kind"] == "deadlock":
+            traced[0] //= 2  # those that wait at the end are told once more
+        checks.expect(f"{what}: {waits} lines of who waits, and {traced} such steps of round 0", waits[:1] == traced)
+
+
+def trace_of(checks, words, report):
+    """What ./trace prints of round 0."""
+    return ran(str(ROOT / "trace"), *map(str, words[:2]), str(checks.file("schedule", report.tokens().encode())))[1]
+
+
+def check_pair(checks):
+    """All that is said of the two rounds of pair.elf, by one worker, with the reasons."""
+    made, (status, printed, said) = with_all(checks, PAIR, "1", "--why", checks.file("why", WHY.encode()))
+    if not checks.expect(f"timeline of pair.elf with reasons: {status} {said}", status == 0):
+        return
+    for number, one in enumerate(rounds_of(printed)):
+        wakes = {tuple(map(int, re.match(r"step ([0-9]+), .* (?:wakes|begins) thread ([0-9]+)$", it).groups()))
+                 for it in titles(one, "wakes")}
+        checks.expect(f"round {number}: who wakes whom, {wakes}", wakes == WAKES)
+        checks.expect(f"round {number}: who waits", sorted(titles(one, "waits")) ==
+                      ["thread 0 waits for the end of thread 1", "thread 2 waits for mutex 0, held by thread 1"])
+        widths = [right - left for _, _, _, left, right, _ in boxes_of(one)]
+        counts = [5, 4, 5, 4, 7, 7, 3, 3, 3, 3, 4, 3]
+        order = all(widths[i] < widths[j] for i in range(12) for j in range(12) if counts[i] < counts[j])
+        checks.expect(f"round {number}: the more instructions, the wider", order)
+    later = rounds_of(printed)[1]
+    said = [title for _, _, title, *_ in boxes_of(later)]
+    checks.expect(f"step 3 of round 1: {said[3]}", said[3].split("\n") == [
+        "step 3: thread 2, number 0, executed", "lock(0) waits for mutex 0, held by thread 1", "4 instructions",
+        "reads 00010000, c0002000; writes nothing", "executed, since: page c0002000 at 0 now 8 was 7 by start"])
+    causes = [re.search(r"step ([0-9]+) is executed for what step ([0-9]+) did", it).groups()
+              for it in titles(later, "why")]
+    checks.expect(f"what changed for which step: {causes}", causes == [("5", "3"), ("8", "5"), ("10", "5")])
+    edited = titles(later, "edit")
+    checks.expect("what reads edited input", edited == ["step 3: page c0002000 at 0 now 8 was 7 by start"])
+    check_browser(checks, printed)
+
+
+def check_rerun(checks):
+    """A rerun, with the memo that it went on from: what is reused has that memo's pages, and what is executed none."""
+    memo = checks.folder / "before"
+    program("run", *PAIR[:2], "--workers", "1", "--memo", memo)
+    _, printed, _ = program("rerun", memo, PAIR[2], "--workers", "1")
+    file = checks.file("reports", printed)
+    status, printed, said = tool("timeline", file, "--memo", f"0:{memo}", "--guest", *PAIR)
+    if checks.expect(f"timeline of a rerun: {status} {said}", status == 0):
+        made, drawn = next(reports.rounds(file.read_bytes())), rounds_of(printed)
+        checks.expect("timeline of a rerun: a box for each step", len(drawn) == 1 and has_steps(drawn[0], made))
+        have = [("reads 00010000" in title, kinds == ["reused"]) for _, _, title, _, _, kinds in boxes_of(drawn[0])]
+        checks.expect("timeline of a rerun: pages of what is reused", all(has == reused for has, reused in have))
+
+
+def check_table(checks):
+    """The table is README's, but for its first line, and for what is said behind arrows."""
+    _, (status, printed, said) = with_all(checks, PAIR, "1", "--text")
+    table = re.search(r"^step +thread 0 .*?^```$", (ROOT / "README.md").read_text(), flags=re.S | re.M)
+    wanted = [re.sub(r" *<-.*", "", line).rstrip() for line in table.group().split("\n")[:-1]] if table else []
+    told = printed.decode().split("\n")[1:-1]
+    checks.expect(f"README has the table: {status} {said} {told}", status == 0 and told == wanted)
+    _, (_, printed, _) = with_all(checks, PAIR, "1", "--text", "--columns", "60")
+    heads = [line for line in printed.decode().split("\n") if line.startswith("        round ")]
+    checks.expect(f"rounds beneath each other in 60 columns: {heads}", len(heads) == 2)
+
+
+def check_browser(checks, printed):
+    """The picture as the browser draws it: a PNG of that width and height, that isn't empty."""
+    browser = shutil.which("chromium") or shutil.which("chromium-browser") or shutil.which("google-chrome")
+    if not browser:
+        print("skipped: drawing the picture in a browser, since there is no Chromium")
+        return
+    size = re.search(rb'width="([0-9]+)" height="([0-9]+)"', printed).groups()
+    png, file = checks.folder / "picture.png", checks.file("picture.svg", printed)
+    options = ["--headless", "--no-sandbox", "--disable-gpu", "--hide-scrollbars", f"--screenshot={png}",
+               f"--user-data-dir={checks.folder}/browser", f"--window-size={size[0].decode()},{size[1].decode()}"]
+    ran_whole(browser, *options, f"file://{file}")
+    data = png.read_bytes() if png.exists() else b""
+    drawn = int.from_bytes(data[16:20], "big"), int.from_bytes(data[20:24], "big")
+    checks.expect(f"Chromium draws {drawn}, {len(data)} bytes", drawn == tuple(map(int, size)) and len(data) > 10_000)
+
+
+# What isn't as it should be.
+
+
+def taken(adding, text):
+    """The places at which a text is cut and not refused."""
+    wrong = []
+    for at in range(len(text)):
+        try:
+            adding(text[:at])
+            wrong.append(at)
+        except steps.Refused:
+            pass
+    return wrong
+
+
+def check_cut(checks):
+    memo = checks.folder / "memo"
+    _, printed, _ = program("run", *PAIR, "--workers", "1", "--memo", memo)
+    made = list(reports.rounds(printed))
+    listing, trace = program("show", memo)[1].decode(), trace_of(checks, PAIR, made[0]).decode()
+    for what, text, adding in (("listing", listing, "add_listing"), ("trace", trace, "add_trace"),
+                               ("file of reasons", WHY, "add_reasons")):
+        wrong = taken(lambda part, name=adding: getattr(steps.Rounds(made), name)(1, part), text)
+        checks.expect(f"a {what} that is cut is refused, but at {wrong}", not wrong)
+        getattr(steps.Rounds(made), adding)(1, text)
+    for at in (0, 1, 50, 99, len(printed) // 2, len(printed) - 1):
+        status, told, said = tool("timeline", checks.file("cut", printed[:at]))
+        checks.expect(f"timeline of reports cut at {at}: {status} {said}",
+                      status == 1 and not told and f" at byte {at}: " in said)
+
+
+def check_words(checks):
+    memo, none = checks.folder / "memo", checks.folder / "none"
+    _, printed, _ = program("run", *PAIR, "--workers", "1", "--memo", memo)
+    file, why = checks.file("reports", printed), checks.file("why", WHY.encode())
+    other = checks.file("other", WHY.replace("step 3 thread 2", "step 4 thread 2").encode())
+    for words, wanted, begun in (
+            ((), 2, "usage"), ((none,), 2, "can't be read"), ((file, "--why", none), 2, "can't be read"),
+            ((file, "--why", other), 1, "other: line 2: round 1 has no step 4 of thread 2, number 0"),
+            ((file, "--why", f"0:{why}"), 1, "line 1: round 0 has 12 executed steps"),
+            ((file, "--why", f"7:{why}"), 1, "have no round 7"), ((file, "--trace", why), 1, "line 1: "),
+            ((file, "--memo", file), 2, "ithreads ended with status 4"), ((file, "--guest", PAIR[0]), 2, "usage"),
+            ((file, "--guest", *PAIR[:2]), 2, "there are 2 rounds"), ((file, "--columns", "x"), 2, "usage"),
+            ((file, "--guest", *PAIR, none), 2, "can't be read"),
+            ((file, "--guest", PAIR[1], *PAIR[1:]), 2, "trace ended with status 3")):
+        status, told, said = tool("timeline", *words)
+        checks.expect(f"timeline {words}: {status} {said}", status == wanted and not told and begun in said)
+    noted = checks.file("noted", WHY.replace("was 7 by start\n", "was 7 by start\n    it is <odd> & \"so\"\n").encode())
+    status, told, said = tool("timeline", file, "--why", noted)
+    titles = [title for _, _, title, *_ in boxes_of(rounds_of(told)[1])] if status == 0 else ["", "", "", ""]
+    checks.expect(f"timeline with notes: {said} {titles[3]}", titles[3].endswith('by start\nit is <odd> & "so"'))
+    status, told, said = tool("timeline", file, "--memo", memo, "--why", why)
+    right = status == 0 and b"5 instructions\nreads 00010000" in told
+    checks.expect(f"timeline without a trace: {status} {said}", right)
+
+
+def check(checks):
+    for number in range(DRAWN):
+        check_drawn(checks, number)
+    for kind in ("turns", "runs", "drawn"):
+        check_long(checks, kind)
+    for name in ("hi", "cross", "trap", "late", "bytes"):
+        check_guest(checks, [EXAMPLES / f"{name}.elf", EXAMPLES / "empty"], "1")
+    for workers in ("1", "4"):
+        check_guest(checks, PAIR, workers)
+    check_pair(checks)
+    check_rerun(checks)
+    check_table(checks)
+    check_cut(checks)
+    check_words(checks)

@@ -1,0 +1,308 @@
+"""Draws the steps of rounds as an SVG that needs nothing else: rounds beneath each other, a lane for each thread, and
+in it a box for each step, in the order of the schedule from left to right.
+
+A box is the wider the more instructions its step has, where that is known, by one scale for all rounds. Executed steps
+are orange and hatched, reused ones light blue and plain, which eyes that see fewer colours can tell too. Where there
+are too many steps, those of a kind that follow each other in a lane are one box; where that isn't enough, steps of both
+kinds are, and the hatched part of such a box is as high as its share of executed steps.
+"""
+from dataclasses import dataclass
+from xml.sax.saxutils import escape
+
+import reports
+
+MOST_BOXES = 8000  # of a picture
+LEAST_BOXES = 200  # that a round may have, however many rounds there are
+MARGIN, LABELS = 16, 78  # beside the picture, and for the names of lanes
+LANE, BOX, HEAD, GAP = 36, 22, 30, 26  # heights: of a lane, a box, a round's heading, and between rounds
+INSIDE, MOST_INSIDE = 1000, 8000  # the widths that all steps of a round may take
+STEP = 7  # the least width of a box, where there is room
+SHARE = 0.45  # of the width goes by instructions
+STYLE = """
+text { font: 12px system-ui, 'DejaVu Sans', sans-serif; fill: #222; }
+.head { font-weight: bold; }
+.call { font-size: 10.5px; text-anchor: middle; paint-order: stroke; stroke: #fff; stroke-width: 3px; }
+.lane { stroke: #bbb; }
+.reused { fill: #cfe6f7; stroke: #0072b2; }
+.executed { fill: url(#hatch); stroke: #6b4500; }
+.waits, .forever { stroke: #555; stroke-width: 2; stroke-dasharray: 2 4; }
+.forever { marker-end: url(#never); }
+.wakes { stroke: #333; stroke-width: 1.3; fill: none; marker-end: url(#woken); }
+.why { stroke: #b3123a; stroke-width: 2; stroke-linejoin: round; fill: none; marker-end: url(#cause); }
+.edit { fill: #b3123a; }
+g:hover > rect { stroke-width: 3; }
+"""
+DEFINITIONS = """<defs>
+<pattern id="hatch" patternUnits="userSpaceOnUse" width="6" height="6" patternTransform="rotate(45)">
+<rect width="6" height="6" fill="#f5b942"/><path d="M1 0V6" stroke="#a86a00" stroke-width="2"/></pattern>
+<marker id="woken" viewBox="0 0 8 8" refX="7" refY="4" markerWidth="7" markerHeight="7" orient="auto">
+<path d="M0 0L8 4L0 8z" fill="#333"/></marker>
+<marker id="never" viewBox="0 0 8 8" refX="4" refY="4" markerWidth="5" markerHeight="5">
+<path d="M1 1L7 7M7 1L1 7" stroke="#333" stroke-width="2"/></marker>
+<marker id="cause" viewBox="0 0 8 8" refX="7" refY="4" markerWidth="5" markerHeight="5" orient="auto">
+<path d="M0 0L8 4L0 8z" fill="#b3123a"/></marker>
+</defs>
+"""
+
+
+@dataclass
+class Box:
+    """Steps of one lane that are drawn as one: where, and how many of them were executed."""
+
+    steps: list
+    left: float
+    right: float
+
+    def executed(self):
+        return sum(not step.is_reused for step in self.steps)
+
+
+# Texts.
+
+
+def clean(text):
+    """A text as XML may have it."""
+    return escape("".join(one if one.isprintable() or one == "\n" else "?" for one in text), {'"': "&quot;"})
+
+
+def listed(pages):
+    return ", ".join(pages) if pages else "nothing"
+
+
+def said_of_step(step):
+    """All that is known of a step, in lines."""
+    lines = [f"step {step.place}: thread {step.thread}, number {step.number}, "
+             f"{'reused' if step.is_reused else 'executed'}", step.text]
+    lines += [None if step.count is None else f"{step.count:,} instructions"]
+    lines += [None if step.reads is None else f"reads {listed(step.reads)}; writes {listed(step.writes)}"]
+    lines += [None if step.reason is None else f"executed, since: {step.reason}", *step.notes]
+    return "\n".join(line for line in lines if line)
+
+
+def said_of_steps(box):
+    """What is told of several steps together."""
+    first, last, executed = box.steps[0], box.steps[-1], box.executed()
+    counts = [step.count for step in box.steps]
+    known = [] if None in counts else [f"{sum(counts):,} instructions"]
+    lines = [f"steps {first.place} to {last.place} of thread {first.thread}, its numbers {first.number} to "
+             f"{last.number}: {len(box.steps) - executed} reused, {executed} executed"]
+    return "\n".join(lines + known)
+
+
+def heading(report):
+    end, counts = reports.end_text(report.end), f"{report.reused:,} reused and {report.executed:,} executed"
+    counts += "" if report.reached is None else f", {report.reached:,} reached"
+    return (f"round {report.number}: {end}, {report.steps:,} steps, {counts}, {report.instructions:,} instructions, "
+            f"output of {len(report.output):,} bytes")
+
+
+# Where things stand.
+
+
+class Scale:
+    """How wide steps are, by the most steps and the most instructions of a round."""
+
+    def __init__(self, rounds):
+        count = max(map(len, rounds))
+        known = max(sum(step.count or 0 for step in steps) for steps in rounds)
+        inside = min(MOST_INSIDE, max(INSIDE, STEP * count / (1 - SHARE)))
+        self.least = inside * (1 - SHARE if known else 1) / count
+        self.scale = inside * SHARE / known if known else 0
+        self.average = known / count
+
+    def edges(self, steps):
+        """The left edges of the steps of a round, and the right one of the last."""
+        made = [float(MARGIN + LABELS)]
+        for step in steps:
+            count = self.average if step.count is None else step.count
+            made.append(made[-1] + self.least + self.scale * count)
+        return made
+
+
+def boxes_of(steps, places, most):
+    """The boxes of a round, by lanes: one for each step, where there aren't too many."""
+    lanes = {}
+    for step in steps:
+        lanes.setdefault(step.thread, []).append(Box([step], places[step.place], places[step.place + 1]))
+    for may_join in ways_to_join():
+        if sum(map(len, lanes.values())) <= most:
+            return lanes
+        lanes = {thread: joined(boxes, may_join) for thread, boxes in lanes.items()}
+
+
+def ways_to_join():
+    """When two boxes that follow each other may be one: first those of a kind with little room between them, then any
+    that are narrow together; each time somewhat more."""
+    for room in (1, 2, 4, 8, 16, 32):
+        yield lambda box, other: (box.steps[-1].is_reused == other.steps[0].is_reused
+                                  and other.left - box.right < room)
+    width = 2
+    while True:
+        yield lambda box, other: other.right - box.left < width
+        width *= 2
+
+
+def joined(boxes, may_join):
+    """The boxes of a lane, of which those that follow each other and may are one."""
+    made = boxes[:1]
+    for box in boxes[1:]:
+        if may_join(made[-1], box):
+            made[-1].steps += box.steps
+            made[-1].right = box.right
+        else:
+            made.append(box)
+    return made
+
+
+# What is drawn.
+
+
+def element(name, said, **attributes):
+    """An element, with a text for who points at it."""
+    written = "".join(f' {key}="{round(value, 1) if isinstance(value, float) else value}"' for key, value in
+                      attributes.items())
+    return f"<{name}{written}><title>{clean(said)}</title></{name}>\n" if said else f"<{name}{written}/>\n"
+
+
+def label(x, y, text, kind):
+    return f'<text class="{kind}" x="{x:.1f}" y="{y:.1f}">{clean(text)}</text>\n'
+
+
+class Drawing:
+    """A round: its steps, where they stand, and its lanes from a height on."""
+
+    def __init__(self, report, steps, places, top):
+        self.report, self.steps, self.places, self.top = report, steps, places, top
+        threads = sorted({step.thread for step in steps} | {step.begins for step in steps if step.begins is not None})
+        self.lanes = {thread: top + HEAD + LANE * row + LANE / 2 for row, thread in enumerate(threads)}
+        self.bottom = top + HEAD + LANE * len(threads)
+
+    def lane_lines(self):
+        """A line for each thread, from where it begins to its last step."""
+        begun = {step.begins: self.places[step.place + 1] for step in self.steps if step.begins is not None}
+        for thread, y in self.lanes.items():
+            own = [step.place for step in self.steps if step.thread == thread]
+            left = begun.get(thread, self.places[own[0] if own else 0])
+            right = self.places[own[-1] + 1] if own else self.places[-1]
+            yield label(MARGIN, y + 4, f"thread {thread}", "name")
+            yield element("path", "", **{"class": "lane"}, d=f"M{left:.1f} {y}H{right:.1f}")
+
+    def box(self, box):
+        """A box, and in it the name of its call, where there is room."""
+        y, width, executed = self.lanes[box.steps[0].thread] - BOX / 2, box.right - box.left, box.executed()
+        said = said_of_step(box.steps[0]) if len(box.steps) == 1 else said_of_steps(box)
+        high = BOX * executed / len(box.steps)
+        made = (f'<g class="steps" data-count="{len(box.steps)}" data-executed="{executed}">'
+                f"<title>{clean(said)}</title>\n")
+        for kind, at, height in (("reused", y, BOX), ("executed", y + BOX - high, high)):
+            if height and (kind == "executed" or executed < len(box.steps)):
+                made += element("rect", "", **{"class": kind}, x=box.left, y=at, width=width, height=height)
+        name = box.steps[0].call if len(box.steps) == 1 else None
+        if name and width > 5.9 * len(name) + 4:
+            made += label(box.left + width / 2, y + BOX / 2 + 4, name, "call")
+        return made + "</g>\n"
+
+    def boxes(self, most):
+        for boxes in boxes_of(self.steps, self.places, most).values():
+            yield from map(self.box, boxes)
+
+    def waits(self):
+        """For each step that waits, a line up to where its thread is woken; to a cross, where it never is."""
+        woken = {}
+        for step in reversed(self.steps):
+            if step.waits:
+                y, left, place = self.lanes[step.thread], self.places[step.place + 1], woken.pop(step.thread, None)
+                right, kind = (self.places[-1] + 7, "forever") if place is None else (self.places[place + 1], "waits")
+                yield element("path", f"thread {step.thread} {step.waits}", **{"class": kind},
+                              d=f"M{left:.1f} {y}H{right:.1f}")
+            woken.update({thread: step.place for thread in step.wakes})
+
+    def wakes(self):
+        """For each step that wakes or begins threads, an arrow to each."""
+        for step in self.steps:
+            x = self.places[step.place + 1]
+            for thread in [*step.wakes, *([] if step.begins is None else [step.begins])]:
+                start, end = self.lanes[step.thread], self.lanes.get(thread, self.lanes[step.thread])
+                start += BOX / 2 if end > start else -BOX / 2
+                what = "begins" if thread == step.begins else "wakes"
+                yield element("path", f"step {step.place}, of thread {step.thread}, {what} thread {thread}",
+                              **{"class": "wakes"}, d=f"M{x:.1f} {start}V{end}")
+
+    def reasons(self):
+        """For each executed step whose reason is known, an arrow from the step that changed something for it."""
+        before = {}
+        for step in self.steps:
+            cause = before.get(step.thread) if (step.reason or "").startswith("register") else step.stored_by
+            before[step.thread] = step.place
+            if cause is not None:
+                yield self.cause(self.steps[cause], step)
+            elif (step.reason or "").startswith("page c0"):
+                x, y = self.middle(step), self.lanes[step.thread] - BOX / 2 - 1
+                yield element("path", f"step {step.place}: {step.reason}", **{"class": "edit"},
+                              d=f"M{x:.1f} {y}l-5 -8h10z")
+
+    def middle(self, step):
+        return (self.places[step.place] + self.places[step.place + 1]) / 2
+
+    def cause(self, step, later):
+        """An arrow from a step to a later one that was executed for it: in its lane, or beside that, and then in the
+        column of the later one, where no other box is."""
+        x, end, y, there = self.middle(step), self.middle(later), self.lanes[step.thread], self.lanes[later.thread]
+        if (step.thread, step.number + 1) == (later.thread, later.number):
+            path = f"M{self.places[step.place + 1]:.1f} {y + 5}H{self.places[later.place]:.1f}"
+        else:
+            side = 1 if there > y else -1
+            there += side * BOX / 2 if there == y else -side * BOX / 2
+            path = f"M{x:.1f} {y + side * BOX / 2}V{y + side * LANE / 2}H{end:.1f}V{there}"
+        return element("path", f"step {later.place} is executed for what step {step.place} did: {later.reason}",
+                       **{"class": "why"}, d=path)
+
+    def round(self, most):
+        """All of the round."""
+        return f'<g class="round" data-number="{self.report.number}">\n{"".join(self.parts(most))}</g>\n'
+
+    def parts(self, most):
+        """The parts of the round, what lies below first."""
+        yield label(MARGIN, self.top + 14, heading(self.report), "head")
+        yield from self.lane_lines()
+        lines = len(self.steps) <= most
+        yield from self.waits() if lines else ()
+        yield from self.boxes(most)
+        yield from self.wakes() if lines else ()
+        yield from self.reasons() if lines else ()
+
+
+SIGNS = [("reused", '<rect class="reused" x="0" y="-10" width="22" height="14"/>', "reused"),
+         ("executed", '<rect class="executed" x="0" y="-10" width="22" height="14"/>', "executed"),
+         ("waits", '<path class="waits" d="M0 -4H22"/>', "waits"),
+         ("forever", '<path class="forever" d="M0 -4H18"/>', "waits for ever"),
+         ("wakes", '<path class="wakes" d="M0 -4H22"/>', "wakes, or begins"),
+         ("edit", '<path class="edit" d="M11 2l-5 -8h10z"/>', "reads what was edited"),
+         ("why", '<path class="why" d="M0 -4H22"/>', "changed what the other reads")]
+
+
+def legend(drawn, x, y):
+    """What the signs mean that were drawn."""
+    for kind, sign, text in SIGNS:
+        if f'class="{kind}"' in drawn:
+            yield f'<g transform="translate({x} {y})">{sign}<text x="28" y="1">{text}</text></g>\n'
+            x += 52 + 7 * len(text)
+
+
+def picture(known):
+    """The SVG of some rounds."""
+    numbers = sorted(known.reports)
+    scale, most = Scale([known.steps[number] for number in numbers]), max(LEAST_BOXES, MOST_BOXES // len(numbers))
+    drawings, top, right = [], MARGIN + 30, 0.0
+    for number in numbers:
+        places = scale.edges(known.steps[number])
+        drawings.append(Drawing(known.reports[number], known.steps[number], places, top))
+        top, right = drawings[-1].bottom + GAP, max(right, places[-1])
+    drawn = "".join(drawing.round(most) for drawing in drawings)
+    width, height = round(right + MARGIN), round(top - GAP + MARGIN)
+    size = f'width="{width}" height="{height}"'
+    yield (f'<svg xmlns="http://www.w3.org/2000/svg" {size} viewBox="0 0 {width} {height}">\n'
+           f"<title>Steps of {len(numbers)} rounds</title>\n<style>{STYLE}</style>\n{DEFINITIONS}"
+           f'<rect {size} fill="#fff"/>\n')
+    yield from legend(drawn, MARGIN, MARGIN + 12)
+    yield f"{drawn}</svg>\n"
