@@ -7,6 +7,7 @@ import sys
 
 sys.path.insert(1, os.path.join(os.path.dirname(os.path.dirname(os.path.abspath(__file__))), "tools"))
 import reports  # noqa: E402
+from reports import end_text  # noqa: E402
 from plain_calls import CallMachine, History, Impossible, lone_pick, read_executable  # noqa: E402
 
 
@@ -22,15 +23,16 @@ def edited(data, edits):
     return data
 
 
-def end_text(end):
-    return " ".join(map(str, end.values()))
+def changed_pages(machine, other):
+    """The pages where the memories of two machines differ."""
+    return {page for page, content in machine.shared.items() if other.shared[page] != content}
 
 
 class Judge:
     """The rounds of a line, one after the other: `refuse` has what is wrong with one."""
 
-    def __init__(self, elf, workers, fuel=1_000_000, limit=4096):
-        self.image, self.workers, self.fuel, self.limit = read_executable(elf), workers, fuel, limit
+    def __init__(self, elf, workers, fuel=1_000_000, limit=4096, reach=False):
+        self.image, self.workers, self.fuel, self.limit, self.reach = read_executable(elf), workers, fuel, limit, reach
         self.past, self.machine, self.data = History([]), None, None
 
     def start(self, data):
@@ -42,8 +44,14 @@ class Judge:
         if len(printed.by) != self.workers or sum(printed.by) != printed.steps:
             told.append(f"its shares are {printed.by}, of {self.workers} workers and {printed.steps} steps")
         machine = self.start(data)
+        reached = self.past.reached(changed_pages(machine, self.start(self.data)) if self.machine else set())
+        wanted = sum(reached) if self.reach else None
+        if printed.reached != wanted:
+            told.append(f"reached is {printed.reached}, and should be {wanted}")
         told += self.made(machine, printed)
         told += self.compared(machine, printed)
+        if self.machine is not None and self.machine.fuel == self.fuel:
+            told += self.bounded(machine, printed, reached)
         if self.machine is not None and self.data == data and self.machine.fuel == self.fuel:
             told += self.repeated(printed)
         if self.workers == 1:
@@ -73,6 +81,18 @@ class Judge:
                 ("output", printed.output, machine.output), ("instructions", printed.instructions, sum(executed)),
                 ("executed", printed.executed, len(executed)))
         return [f"{name} is {said}, and should be {right}" for name, said, right in rows if said != right]
+
+    def bounded(self, machine, printed, reached):
+        """Whether a step was executed that isn't reached, where each that was does the same work as the old one of its thread and number."""
+        made, olds = {}, []
+        for record, (thread, mark) in zip(machine.records, printed.schedule):
+            place = self.past.place.get((thread, made.get(thread, 0)))
+            made[thread] = made.get(thread, 0) + 1
+            if mark == "+":
+                if place is None or not record.works_as(self.past.records[place]):
+                    return []
+                olds.append(place)
+        return [f"step {place} of the round before is executed again, and isn't reached" for place in olds if not reached[place]]
 
     def repeated(self, printed):
         """What isn't as it has to be of a round without an edit."""
@@ -116,8 +136,9 @@ def text_of(printed):
     """A report as it is printed."""
     entries = " ".join(f"{thread}{mark}" for thread, mark in printed.schedule)
     lines = [f"round {printed.number}", f"end {end_text(printed.end)}", f"steps {printed.steps}", f"reused {printed.reused}",
-             f"executed {printed.executed}", f"instructions {printed.instructions}", f"by {' '.join(map(str, printed.by))}",
-             f"schedule {entries}", f"memory {printed.memory}", f"output {len(printed.output)}"]
+             f"executed {printed.executed}", *([] if printed.reached is None else [f"reached {printed.reached}"]),
+             f"instructions {printed.instructions}", f"by {' '.join(map(str, printed.by))}", f"schedule {entries}",
+             f"memory {printed.memory}", f"output {len(printed.output)}"]
     return "\n".join(lines).encode() + b"\n" + printed.output + b"\n"
 
 
@@ -128,15 +149,16 @@ def end_of(text):
     return {"kind": kind, **{name: value if name == "pc" else int(value) for name, value in zip(names, values)}}
 
 
-def drawn_rounds(elf, inputs, workers, draw, fuel=1_000_000, limit=4096):
-    """The reports of rounds on some inputs, one behind the other, as drawn workers make them."""
-    past, made = History([]), []
+def drawn_rounds(elf, inputs, workers, draw, reach=False):
+    """The reports of rounds on some inputs, one behind the other, as drawn workers make them; and whether they tell what is reached."""
+    past, made, before = History([]), [], None
     for number, data in enumerate(inputs):
-        machine = CallMachine(*read_executable(elf), fuel, limit, data)
+        machine, again = (CallMachine(*read_executable(elf), 1_000_000, 4096, data) for _ in range(2))
+        changed, before = changed_pages(again, before) if before else set(), again
         schedule, shares = drawn_round(machine, past, workers, draw)
         counts = [entry[3] for entry, (_, mark) in zip(machine.entries, schedule) if mark == "+"]
         made.append(reports.Round(number, end_of(machine.ended), len(schedule), len(schedule) - len(counts), len(counts), sum(counts), shares, schedule,
-                                  machine.digest(), machine.output, b""))
+                                  machine.digest(), machine.output, b"", sum(past.reached(changed)) if reach else None))
         past = History(machine.records)
     return made
 
@@ -193,3 +215,8 @@ def falsified(first, later, again):
     yield "one instruction more", 1, remade(later, instructions=later.instructions + 1)
     yield "instructions without an edit", 2, remade(again, instructions=1)
     yield "another round's number", 1, remade(later, number=later.number + 1)
+    yield "one step reached more", 1, remade(later, reached=later.reached + 1)
+    yield "all old steps reached", 1, remade(later, reached=later.steps)
+    yield "steps reached from scratch", 0, remade(first, reached=first.steps)
+    yield "steps reached without an edit", 2, remade(again, reached=later.reached)
+    yield "what is reached untold", 1, remade(later, reached=None)

@@ -25,13 +25,24 @@ def read_executable(file):
 
 @dataclass
 class Record:
-    """What is kept of a step: its thread, the registers at its start with the pc, the bytes of its read pages, its turns, and whether fuel ended it."""
+    """What is kept of a step: its thread, the registers at its start with the pc, the bytes of its read pages, its turns, and whether fuel ended it; and
+    by what other steps can depend on it: the objects on which its call acted, the threads to which it gave a view, the pages to which it stored, and
+    whether it ended the run. And by what it tells whether another step does the same work: what ended it, with the call and its arguments."""
 
     thread: int
     start: tuple
     read: dict
     count: int
     is_spent: bool
+    objects: set
+    given: set
+    stored: list
+    is_last: bool
+    end: tuple
+
+    def works_as(self, old):
+        """Whether it does the same work as an old step: it reads and stores to the same pages, and ends in the same way."""
+        return self.read.keys() == old.read.keys() and self.stored == old.stored and self.end == old.end
 
 
 class Impossible(Exception):
@@ -47,6 +58,7 @@ class CallMachine(Machine):
         self.owner, self.waiting = {}, {}  # of a mutex its owner; of an object, a kind and a number, who waits
         self.value, self.needed = [0] * OBJECTS, [0] * OBJECTS  # of semaphores, of barriers
         self.mutex_of = {}  # of a thread that waits for a condition, its mutex
+        self.objects, self.given, self.call = set(), set(), ()  # of the step that is made
 
     def digest(self):
         key = (tuple(self.shared), tuple((page, data) for page, data in self.shared.items() if data is not ZEROS))
@@ -65,9 +77,11 @@ class CallMachine(Machine):
             raise Impossible(f"thread {number} isn't ready")
         thread = self.threads[number]
         start, view = (thread.pc, *thread.x), thread.view
+        self.objects, self.given, self.call = set(), set(), ()
         self.step(number)
-        _, _, end, count, read, _ = self.entries[-1]
-        self.records.append(Record(number, start, {page: view[page] for page in read}, count, end == "fuel"))
+        _, _, end, count, read, stored = self.entries[-1]
+        self.records.append(Record(number, start, {page: view[page] for page in read}, count, end == "fuel", self.objects, self.given, stored,
+                                   self.ended is not None, (end, self.call)))
 
     def fits(self, number, record):
         """Whether a record fits the next step of a thread that is ready."""
@@ -103,8 +117,28 @@ class CallMachine(Machine):
                 self.owner[mutex] = number
                 self.answer(self.threads[number], 0)
 
+    def acts_on(self, which, first, second, put):
+        """The objects on which a call acts, each a kind and a number."""
+        if which == 1:
+            return {("output", 0)} if put else set()
+        if which in (3, 4) or (which == 2 and first % 4 == 0):
+            return {("threads", 0)}
+        if first >= OBJECTS or (which == 12 and second > MOST_VALUE) or (which == 13 and not 0 < second <= THREADS):
+            return set()
+        if which == 15:
+            return {("condition", first), ("mutex", second)} if second < OBJECTS else set()
+        if which in (16, 17):
+            return {("condition", first)} | {("mutex", self.mutex_of[other]) for other in self.queue("condition", first)}
+        return {(kind, first) for kind, calls in KINDS.items() if which in calls}
+
+    def answer(self, t, first, second=None):
+        self.given.add(self.threads.index(t))
+        super().answer(t, first, second)
+
     def done(self, t, number, end, put):
         which, first, second = t.x[17], t.x[10], t.x[11]
+        if end.startswith("call"):
+            self.objects, self.call = self.acts_on(which, first, second, put), (which, first, second)
         if not end.startswith("call") or which not in CALLS:
             return super().done(t, number, end, put)
         answer = CALLS[which](self, number, first, second)
@@ -118,6 +152,7 @@ class CallMachine(Machine):
         if len(self.threads) == THREADS:
             return EAGAIN
         self.threads.append(Thread(len(self.threads), pc, argument, dict(self.shared)))
+        self.given.add(len(self.threads) - 1)
         return len(self.threads) - 1
 
     def join(self, number, other, _):
@@ -240,17 +275,66 @@ CALLS = {2: CallMachine.create, 4: CallMachine.join, 6: CallMachine.lock, 7: Cal
          10: CallMachine.sem_trywait, 11: CallMachine.sem_post, 12: CallMachine.sem_init, 13: CallMachine.barrier_init, 14: CallMachine.barrier_wait,
          15: CallMachine.cond_wait, 16: CallMachine.signal, 17: CallMachine.broadcast}
 
+KINDS = {"mutex": (6, 7, 8), "semaphore": (9, 10, 11, 12), "barrier": (13, 14)}
+
 
 class History:
-    """The records of an earlier round, by thread and number, each with its place."""
+    """The records of an earlier round, by thread and number, each with its place and with its clock: how many steps of each thread are that step or must
+    come before it, directly or through others."""
 
     def __init__(self, records):
-        self.records, self.place = records, {}
-        made = {}
+        self.records, self.place, self.clocks = records, {}, []
+        made = [0] * THREADS
         for place, record in enumerate(records):
-            number = made.get(record.thread, 0)
-            self.place[record.thread, number] = place
-            made[record.thread] = number + 1
+            self.place[record.thread, made[record.thread]] = place
+            made[record.thread] += 1
+        self.count()
+
+    def count(self):
+        """The clocks. What a step must come behind is covered by the last step of its thread, the one that gave its view, the last that acted on an
+        object, the last that stored to a page, and those that opened it since; a step opens the pages that the next steps of those read to whom it
+        gave a view. The step that ends the run comes behind all."""
+        made, own, giver, actor, writer, openers = [0] * THREADS, {}, {}, {}, {}, {}
+        for record in self.records:
+            thread = record.thread
+            made[thread] += 1
+            opened = {page for other in record.given if (other, made[other]) in self.place for page in self.records[self.place[other, made[other]]].read}
+            before = [own.get(thread), giver.pop(thread, None), *(actor.get(one) for one in record.objects)]
+            before += [writer.get(page) for page in opened.union(record.stored)]
+            before += [clock for page in record.stored for clock in openers.get(page, ())]
+            before += own.values() if record.is_last else ()
+            clock = [max(counts) for counts in zip([0] * THREADS, *(clock for clock in before if clock))]
+            clock[thread] = made[thread]
+            self.clocks.append(clock)
+            own[thread] = clock
+            giver.update((other, clock) for other in record.given)
+            actor.update((one, clock) for one in record.objects)
+            for page in record.stored:
+                writer[page], openers[page] = clock, []
+            for page in opened:
+                openers.setdefault(page, []).append(clock)
+
+    def giver(self, place):
+        """The place of the step that gave a step its view; none where the start did."""
+        thread = self.records[place].thread
+        for earlier in range(place - 1, -1, -1):
+            if thread in self.records[earlier].given:
+                return earlier
+            if self.records[earlier].thread == thread:
+                return None
+        return None
+
+    def reached(self, changed):
+        """For each step whether changed pages reach it: it reads one of them; or a step before it is reached, and is the last before it of its thread,
+        or stored to a page that it reads, no later than its view was given."""
+        reached, last = [], {}
+        for place, record in enumerate(self.records):
+            giver, earlier = self.giver(place), last.get(record.thread)
+            writers = range(giver + 1) if giver is not None else ()
+            reached.append(not changed.isdisjoint(record.read) or (earlier is not None and reached[earlier])
+                           or any(reached[other] and not record.read.keys().isdisjoint(self.records[other].stored) for other in writers))
+            last[record.thread] = place
+        return reached
 
     def next_place(self, machine, number):
         """The place of the record of a thread's next step; None where there is none."""
@@ -262,15 +346,10 @@ class History:
 
 
 def is_due(machine, history, place):
-    """Whether each step of the history before a place was made, or is one of a thread that has ended."""
-    made = {}
-    for record in history.records[:place]:
-        number = made.get(record.thread, 0)
-        made[record.thread] = number + 1
-        threads = machine.threads
-        if not (record.thread < len(threads) and (number < threads[record.thread].made or threads[record.thread].status == "ended")):
-            return False
-    return True
+    """Whether each step of the history that must come before the one at a place was made, or is one of a thread that has ended."""
+    own, threads = history.records[place].thread, machine.threads
+    return all(other == own or count == 0 or (other < len(threads) and (count <= threads[other].made or threads[other].status == "ended"))
+               for other, count in enumerate(history.clocks[place]))
 
 
 def lone_pick(machine, history, out=()):
