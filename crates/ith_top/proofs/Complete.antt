@@ -18,14 +18,14 @@ use Rattle.ith_host.specs.World.{World, Rose}
 use Rattle.elf_spec.specs.Image.{is_image}
 use Rattle.rerun_spec.specs.Inputs.{AreInputs, AreRerunInputs}
 use Rattle.rerun_spec.proofs.Inputs.{inputs-unrefused, rerun-unrefused}
-use Rattle.ith_words.specs.Words.{Text, Line, Runs, Reruns, Replays, Shows, Generates, RunLine, RerunLine, ReplayLine, ShowLine, GenerateLine}
+use Rattle.ith_words.specs.Words.{Text, Line, Runs, Reruns, Replays, Shows, Explains, Generates, RunLine, RerunLine, ReplayLine, ShowLine, ExplainLine, GenerateLine}
 use Rattle.ith_top.specs.declared.status.Status.{Status}
 use Rattle.ith_top.specs.declared.status.Status.TheVariants as status
 use Rattle.ith_top.specs.Statuses.{code_of}
 use Rattle.ith_top.specs.Files.{Named, StopsAt, FailedToRead, IsLong, files_named, lists_named, memo_named}
-use Rattle.ith_top.specs.Contents.{AreLists, ReplayContents, AreReplayContents, replay_setup_of, CanBeReplayed, IsMemoContent, IsMemoOf}
-use Rattle.ith_top.specs.Ends.{OfNone, IsUnkept, IsUnprinted, ScheduleRefusal, Token, Entry, Incomplete, RefusesSchedule, RoundsEnd, ReplayEnds, ShowEnds, GenerateEnds, Answers}
-use Rattle.ith_top.specs.Completing.{AreTold, HasNoFault, AreAccepted, IsAcceptedMemo, AreRerunAccepted, IsReplayAccepted, IsCompleted, IsTold, Completes}
+use Rattle.ith_top.specs.Contents.{AreLists, ReplayContents, AreReplayContents, replay_setup_of, CanBeReplayed, IsMemoContent, IsMemoOf, as_rerun}
+use Rattle.ith_top.specs.Ends.{OfNone, IsUnkept, IsUnprinted, ScheduleRefusal, Token, Entry, Incomplete, RefusesSchedule, IsRerunListRefused, RoundsEnd, ReplayEnds, ShowEnds, ExplainEnds, GenerateEnds, Answers}
+use Rattle.ith_top.specs.Completing.{AreTold, HasNoFault, AreAccepted, IsAcceptedMemo, AreRerunAccepted, IsReplayAccepted, IsCompleted, IsTold, IsListed, Completes}
 use Rattle.ith_top.proofs.Permitting.{first-permitted}
 
 none_there : (fact : Named → Type 0) (earlier : List Named) (file : Named) (later : List Named)
@@ -152,6 +152,29 @@ one-memo : (memo other : List ℕ) (h k : History) → memo ≡ other → IsMemo
 one-memo memo other h k same is also =
     one_history memo h k is.spells (subst (λ (m : List ℕ). Spells m k) (sym same) also.spells)
 
+-- edit lists that are accepted aren't refused
+rerun-unlisted :
+    (line : RerunLine) (before after : World) → AreRerunAccepted line before → IsRerunListRefused line before after → ⊥
+rerun-unlisted line before after are ends =
+    let same : are.memo.memo ≡ ends.memo =
+    content-told (before.files line.memo) are.memo.memo ends.memo are.memo.told ends.read.content in
+    let one : are.memo.history ≡ ends.history =
+    one-memo are.memo.memo ends.memo are.memo.history ends.history same are.memo.accepted ends.accepted in
+    let lists : are.lists ≡ ends.lists =
+    lists-told before line.edits are.lists ends.lists are.lists_told ends.lists_read in
+    let edited : AreRerunInputs ends.history.setup.input ends.lists are.inputs =
+    subst (λ (h : History). AreRerunInputs h.setup.input ends.lists are.inputs) one
+    (subst (λ (ls : List (List ℕ)). AreRerunInputs are.memo.history.setup.input ls are.inputs) lists are.edited) in
+    rerun-unrefused ends.history.setup.input ends.lists are.inputs ends.place ends.why edited ends.refused
+
+-- none of its files is too long that is told to be within its limit
+rerun-short : (line : RerunLine) (before : World) → AreRerunAccepted line before
+    → OfNone (IsLong before) (files_named (Reruns line))
+rerun-short line before are = (
+  memo-short line.memo before are.memo,
+  lists-short before line.edits are.lists are.lists_told are.lists_read,
+)
+
 rerun_by :
     (line : RerunLine) (before after : World) (answer : ℕ) (s : Status)
     → answer ≡ code_of s → RoundsEnd (Reruns line) before after s → AreRerunAccepted line before
@@ -164,16 +187,7 @@ rerun_by line before after answer status.Image is ends are none = absurd ends
 rerun_by line before after answer status.Memo is ends are none =
     absurd (unrefused line.memo before ends.memo ends.why are.memo ends.read ends.refused)
 rerun_by line before after answer status.EditList is ends are none =
-    let same : are.memo.memo ≡ ends.memo =
-    content-told (before.files line.memo) are.memo.memo ends.memo are.memo.told ends.read.content in
-    let one : are.memo.history ≡ ends.history =
-    one-memo are.memo.memo ends.memo are.memo.history ends.history same are.memo.accepted ends.accepted in
-    let lists : are.lists ≡ ends.lists =
-    lists-told before line.edits are.lists ends.lists are.lists_told ends.lists_read in
-    let edited : AreRerunInputs ends.history.setup.input ends.lists are.inputs =
-    subst (λ (h : History). AreRerunInputs h.setup.input ends.lists are.inputs) one
-    (subst (λ (ls : List (List ℕ)). AreRerunInputs are.memo.history.setup.input ls are.inputs) lists are.edited) in
-    absurd (rerun-unrefused ends.history.setup.input ends.lists are.inputs ends.place ends.why edited ends.refused)
+    absurd (rerun-unlisted line before after are ends)
 rerun_by line before after answer status.ReadFault is ends are none =
     absurd (none_stops (FailedToRead before after) (files_named (Reruns line)) before after none.reads ends.stops)
 rerun_by line before after answer status.WriteFault is ends are none =
@@ -181,11 +195,8 @@ rerun_by line before after answer status.WriteFault is ends are none =
 rerun_by line before after answer status.Memory is ends are none = inr (inr (inl is))
 rerun_by line before after answer status.TooLarge is ends are none =
     elim ends [
-      | inl large ↦
-          absurd
-          (none_stops (IsLong before) (files_named (Reruns line)) before after
-          (memo-short line.memo before are.memo, lists-short before line.edits are.lists are.lists_told are.lists_read)
-          large.stops)
+      | inl large ↦ absurd
+          (none_stops (IsLong before) (files_named (Reruns line)) before after (rerun-short line before are) large.stops)
       | inr large ↦ inr (inr (inr (is, large)))
     ]
 rerun_by line before after answer status.Schedule is ends are none = absurd ends
@@ -193,8 +204,7 @@ rerun_by line before after answer status.Schedule is ends are none = absurd ends
 show_by :
     (line : ShowLine) (before after : World) (answer : ℕ) (s : Status)
     → answer ≡ code_of s → ShowEnds line before after s → IsAcceptedMemo line.memo before
-    → HasNoFault (Shows line) before after
-    → (answer ≡ code_of status.Finished) ⊎ (answer ≡ code_of status.Memory)
+    → HasNoFault (Shows line) before after → IsListed answer
 show_by line before after answer status.Finished is ends memo none = inl is
 show_by line before after answer status.Unfinished is ends memo none = absurd ends
 show_by line before after answer status.Words is ends memo none = absurd ends
@@ -305,6 +315,25 @@ generate_by line before after answer status.Memory is ends none = inr (inr is)
 generate_by line before after answer status.TooLarge is ends none = absurd ends
 generate_by line before after answer status.Schedule is ends none = absurd ends
 
+explain_by :
+    (line : ExplainLine) (before after : World) (answer : ℕ) (s : Status)
+    → answer ≡ code_of s → ExplainEnds line before after s → AreRerunAccepted (as_rerun line) before
+    → HasNoFault (Explains line) before after → IsListed answer
+explain_by line before after answer status.Finished is ends are none = inl is
+explain_by line before after answer status.Memo is ends are none =
+    absurd (unrefused line.memo before ends.memo ends.why are.memo ends.read ends.refused)
+explain_by line before after answer status.EditList is ends are none =
+    absurd (rerun-unlisted (as_rerun line) before after are ends)
+explain_by line before after answer status.ReadFault is ends are none =
+    absurd (none_stops (FailedToRead before after) (files_named (Explains line)) before after none.reads ends.stops)
+explain_by line before after answer status.WriteFault is ends are none = absurd (none.prints ends.part.cause)
+explain_by line before after answer status.Memory is ends are none = inr is
+explain_by line before after answer status.TooLarge is ends are none =
+    absurd
+    (none_stops (IsLong before) (files_named (Explains line)) before after (rerun-short (as_rerun line) before are)
+    ends.stops)
+explain_by line before after answer _ is ends are none = absurd ends
+
 pub complete : (line : Option Line) (before after : World) (answer : ℕ) → Answers line before after answer
     → Completes line before after answer
 complete None before after answer answers = tt
@@ -316,5 +345,7 @@ complete (Some (Replays line)) before after answer answers =
     λ are none. replay_by line before after answer answers.0 answers.1 answers.2 are none
 complete (Some (Generates line)) before after answer answers =
     λ none. generate_by line before after answer answers.0 answers.1 answers.2 none
+complete (Some (Explains line)) before after answer answers =
+    λ are none. explain_by line before after answer answers.0 answers.1 answers.2 are none
 complete (Some (Shows line)) before after answer answers =
     λ memo none. show_by line before after answer answers.0 answers.1 answers.2 memo none

@@ -16,7 +16,7 @@ use Rattle.ith_top.specs.declared.status.Status.TheVariants as status
 use Rattle.ith_top.specs.Files.{Named, elf_named, input_named, memo_named, lists_named, files_named, AsksForFiles, IsWithin}
 use Rattle.ith_top.specs.Contents.{Contents, AreLists, AreContents, WasRead, IsMemoContent, IsMemoOf}
 use Rattle.ith_top.specs.Ends.{RoundsEnd, ShowEnds, IsUnbegun}
-use Rattle.ith_top.specs.Refusals.{WhyUnread, WhyNoSetup, WhyNoHistory, WhyUnedited}
+use Rattle.ith_top.specs.Refusals.{WhyUnread, WhyNoSetup, WhyNoHistory, WhyUnedited, WhyUnplanned}
 use Rattle.ith_top.proofs.Worlds.{content_before, stays_trans}
 use Rattle.ith_top.proofs.Asking.{within_told, unread_front, unread_more}
 
@@ -106,9 +106,19 @@ rerun_list_unread line a b c s memo stays fell asked read why =
     (within_told (a.files line.memo) memo MOST_MEMO_BYTES read.content read.within) (All-nil (IsWithin a)))
     why
 
+-- a line that has no plan of rounds ends so
+pub unplanned_ends : (line : Line) (a b : World) (s : Status) → WhyUnplanned line a b s → RoundsEnd line a b s
+unplanned_ends line a b status.Image why = why
+unplanned_ends line a b status.Memo why = why
+unplanned_ends line a b status.EditList why = why
+unplanned_ends line a b status.ReadFault why = why
+unplanned_ends line a b status.Memory why = inl why
+unplanned_ends line a b status.TooLarge why = inl why
+unplanned_ends line a b _ why = absurd why
+
 -- files of a line that asks for rounds weren't all read
 pub unread_ends : (line : Line) (a b : World) (s : Status) → Stays a b → WhyUnread (files_named line) a b s
-    → RoundsEnd line a b s
+    → WhyUnplanned line a b s
 unread_ends line a b status.Finished stays why = absurd why
 unread_ends line a b status.Unfinished stays why = absurd why
 unread_ends line a b status.Words stays why = absurd why
@@ -117,8 +127,8 @@ unread_ends line a b status.Memo stays why = absurd why
 unread_ends line a b status.EditList stays why = absurd why
 unread_ends line a b status.ReadFault stays why = record { stops = why; stays = stays }
 unread_ends line a b status.WriteFault stays why = absurd why
-unread_ends line a b status.Memory stays why = inl (record { asked = why; stays = stays })
-unread_ends line a b status.TooLarge stays why = inl (record { stops = why; stays = stays })
+unread_ends line a b status.Memory stays why = record { asked = why; stays = stays }
+unread_ends line a b status.TooLarge stays why = record { stops = why; stays = stays }
 unread_ends line a b status.Schedule stays why = absurd why
 
 pub unbegun : (line : Line) (a b : World) → AsksForFiles (files_named line) a b → Stays a b → IsUnbegun line a b
@@ -136,14 +146,14 @@ unbegun line a b asked stays =
 
 -- all files were asked for, and then the host's memory ran out
 pub cut_ends : (line : Line) (a b c : World) → AsksForFiles (files_named line) a b → AsksNothing b c → Stays a b
-    → Stays b c → RoundsEnd line a c status.Memory
-cut_ends line a b c asked none stays then = inl (unbegun line a c (none ∙ asked) (stays_trans a b c stays then))
+    → Stays b c → WhyUnplanned line a c status.Memory
+cut_ends line a b c asked none stays then = unbegun line a c (none ∙ asked) (stays_trans a b c stays then)
 
 -- all files were read, and no setup was made of the executable
 pub refused_ends :
     (line : RunLine) (a b c : World) (contents : Contents) (s : Status)
     → AsksForFiles (files_named (Runs line)) a b → AsksNothing b c → Stays a b → Stays b c
-    → AreContents a line contents → WhyNoSetup contents.elf s → RoundsEnd (Runs line) a c s
+    → AreContents a line contents → WhyNoSetup contents.elf s → WhyUnplanned (Runs line) a c s
 refused_ends line a b c contents status.Finished asked none stays then are why = absurd why
 refused_ends line a b c contents status.Unfinished asked none stays then are why = absurd why
 refused_ends line a b c contents status.Words asked none stays then are why = absurd why
@@ -169,7 +179,7 @@ refused_ends line a b c contents status.Schedule asked none stays then are why =
 pub forgotten_ends :
     (line : RerunLine) (a b c : World) (memo : List ℕ) (lists : List (List ℕ)) (s : Status)
     → AsksForFiles (files_named (Reruns line)) a b → AsksNothing b c → Stays a b → Stays b c
-    → IsMemoContent a line.memo memo → AreLists a line.edits lists → WhyNoHistory memo s → RoundsEnd (Reruns line) a c s
+    → IsMemoContent a line.memo memo → AreLists a line.edits lists → WhyNoHistory memo s → WhyUnplanned (Reruns line) a c s
 forgotten_ends line a b c memo lists status.Finished asked none stays then read told why = absurd why
 forgotten_ends line a b c memo lists status.Unfinished asked none stays then read told why = absurd why
 forgotten_ends line a b c memo lists status.Words asked none stays then read told why = absurd why
@@ -198,7 +208,7 @@ forgotten_ends line a b c memo lists status.Schedule asked none stays then read 
 pub unedited_ends :
     (line : RunLine) (a b c : World) (contents : Contents) (s : Status)
     → AsksForFiles (files_named (Runs line)) a b → AsksNothing b c → Stays a b → Stays b c
-    → WasRead line a contents → WhyUnedited contents.input contents.lists s → RoundsEnd (Runs line) a c s
+    → WasRead line a contents → WhyUnedited contents.input contents.lists s → WhyUnplanned (Runs line) a c s
 unedited_ends line a b c contents status.Finished asked none stays then read why = absurd why
 unedited_ends line a b c contents status.Unfinished asked none stays then read why = absurd why
 unedited_ends line a b c contents status.Words asked none stays then read why = absurd why
@@ -227,7 +237,7 @@ pub rerun_unedited_ends :
     (line : RerunLine) (a b c : World) (memo : List ℕ) (lists : List (List ℕ)) (h : History) (s : Status)
     → AsksForFiles (files_named (Reruns line)) a b → AsksNothing b c → Stays a b → Stays b c
     → IsMemoContent a line.memo memo → AreLists a line.edits lists → IsMemoOf memo h → WhyUnedited h.setup.input lists s
-    → RoundsEnd (Reruns line) a c s
+    → WhyUnplanned (Reruns line) a c s
 rerun_unedited_ends line a b c memo lists h status.Finished asked none stays then read told is why = absurd why
 rerun_unedited_ends line a b c memo lists h status.Unfinished asked none stays then read told is why = absurd why
 rerun_unedited_ends line a b c memo lists h status.Words asked none stays then read told is why = absurd why

@@ -19,8 +19,8 @@ use Rattle.rerun_spec.proofs.Ending.{left-own}
 use Rattle.round_memo_spec.specs.Spelled.{IsSpelledPast}
 use Rattle.round_memo_spec.proofs.Events.{round-spelled}
 use Rattle.ith_host.specs.World.{World}
-use Rattle.ith_words.specs.Words.{Line, Runs, Reruns, Replays, Shows, Generates}
-use Rattle.ith_top.specs.Contents.{Plan, IsPlan, setup_of, workers_of, fuel_of}
+use Rattle.ith_words.specs.Words.{Line, Runs, Reruns, Replays, Shows, Explains, Generates, RerunLine}
+use Rattle.ith_top.specs.Contents.{Plan, IsRerunPlan, IsPlan, setup_of, as_rerun, workers_of, fuel_of}
 use Rattle.ith_top.specs.Rounds.{IsPromised, ArePromised, OnlyRepeats, BeginsHonestly, CanBeKept, rounds_of}
 use Rattle.ith_top.specs.Ends.{left_of}
 use Rattle.ith_top.specs.Playing.{AreFound, CanBePlayed, CanBeSpelled}
@@ -117,14 +117,12 @@ promised_from_scratch workers s reach p found begins playable spelled are =
     (promised_after workers (from_scratch s reach) p.inputs found (scratch-begins s reach valid) playable.short made
     (none_unedited s reach p.inputs found))
 
--- the rounds of a line begin with what its plan says
-pub promised_of :
-    (line : Line) (a : World) (p : Plan) (found : List Found)
-    → IsPlan line a p → CanBePlayed p → CanBeSpelled p → AreFound (workers_of line) p found
-    → BeginsHonestly p.beginning → ArePromised (workers_of line) (rounds_of p found)
-promised_of (Runs line) a p found is playable spelled are honest =
-    promised_from_scratch line.workers (setup_of line is.contents) line.reach p found is.beginning playable spelled are
-promised_of (Reruns line) a p found is playable spelled are honest =
+-- rounds that go by a memo
+promised_rerun :
+    (line : RerunLine) (a : World) (p : Plan) (found : List Found)
+    → IsRerunPlan line a p → CanBePlayed p → CanBeSpelled p → AreFound line.workers p found
+    → BeginsHonestly p.beginning → ArePromised line.workers (rounds_of p found)
+promised_rerun line a p found is playable spelled are honest =
     let h = is.history in
     let fuel = fuel_of line h in
     let true_of : IsHonest h = subst (λ (b : Beginning). BeginsHonestly b) is.beginning honest in
@@ -135,8 +133,20 @@ promised_of (Reruns line) a p found is playable spelled are honest =
     subst (λ (b : Beginning). ArePromised line.workers (rounds_after b p.inputs found)) (sym is.beginning)
     (promised_after line.workers (after_memo h fuel line.reach) p.inputs found
     (memo-begins h fuel line.reach true_of valid.limits) playable.short made (memo_unedited line.workers h fuel line.reach p.inputs found true_of made))
+
+-- the rounds of a line begin with what its plan says
+pub promised_of :
+    (line : Line) (a : World) (p : Plan) (found : List Found)
+    → IsPlan line a p → CanBePlayed p → CanBeSpelled p → AreFound (workers_of line) p found
+    → BeginsHonestly p.beginning → ArePromised (workers_of line) (rounds_of p found)
+promised_of (Runs line) a p found is playable spelled are honest =
+    promised_from_scratch line.workers (setup_of line is.contents) line.reach p found is.beginning playable spelled are
+promised_of (Reruns line) a p found is playable spelled are honest =
+    promised_rerun line a p found is playable spelled are honest
 promised_of (Replays line) a p found is playable spelled are honest = absurd is
 promised_of (Shows line) a p found is playable spelled are honest = absurd is
+promised_of (Explains line) a p found is playable spelled are honest =
+    promised_rerun (as_rerun line) a p found is playable spelled are honest
 promised_of (Generates line) a p found is playable spelled are honest =
     promised_from_scratch line.workers _ false p found is.beginning playable spelled are
 

@@ -4,10 +4,10 @@ use Rattle.std.specs.List.{AllZip}
 use Rattle.history_spec.specs.History.{History}
 use Rattle.rerun_spec.specs.Inputs.{AreInputs, AreRerunInputs}
 use Rattle.ith_host.specs.World.{World, Rose}
-use Rattle.ith_words.specs.Words.{Text, Line, Runs, Reruns, Replays, Shows, Generates, RunLine, RerunLine, ReplayLine}
+use Rattle.ith_words.specs.Words.{Text, Line, Runs, Reruns, Replays, Shows, Explains, Generates, RunLine, RerunLine, ReplayLine}
 use Rattle.ith_top.specs.declared.status.Status.TheVariants as status
 use Rattle.ith_top.specs.Files.{FailedToRead, files_named}
-use Rattle.ith_top.specs.Contents.{AreLists, Contents, WasRead, ReplayContents, WasReplayRead, replay_setup_of, CanBeReplayed, IsMemoContent, IsMemoOf}
+use Rattle.ith_top.specs.Contents.{AreLists, Contents, WasRead, ReplayContents, WasReplayRead, replay_setup_of, CanBeReplayed, IsMemoContent, IsMemoOf, as_rerun}
 use Rattle.ith_top.specs.Ends.{OfNone, kept_by, IsTooLargeToKeep}
 use Rattle.ith_top.specs.Statuses.{code_of}
 
@@ -74,6 +74,10 @@ abbrev pub IsTold : ℕ → Type 0
 IsTold answer =
     (answer ≡ code_of status.Finished) ⊎ ((answer ≡ code_of status.Unfinished) ⊎ (answer ≡ code_of status.Memory))
 
+-- All was printed that a line asks for which runs nothing to an end, or the host's memory ran out.
+abbrev pub IsListed : ℕ → Type 0
+IsListed answer = (answer ≡ code_of status.Finished) ⊎ (answer ≡ code_of status.Memory)
+
 -- Where nothing stands in its way, a line is done, or the host's memory ran out.
 abbrev pub Completes : Option Line → World → World → ℕ → Type 0
 Completes None before after answer = Unit {0}
@@ -85,5 +89,6 @@ Completes (Some (Replays line)) before after answer =
     IsReplayAccepted line before → HasNoFault (Replays line) before after → IsTold answer
 Completes (Some (Generates line)) before after answer = HasNoFault (Generates line) before after → IsTold answer
 Completes (Some (Shows line)) before after answer =
-    IsAcceptedMemo line.memo before → HasNoFault (Shows line) before after
-    → (answer ≡ code_of status.Finished) ⊎ (answer ≡ code_of status.Memory)
+    IsAcceptedMemo line.memo before → HasNoFault (Shows line) before after → IsListed answer
+Completes (Some (Explains line)) before after answer =
+    AreRerunAccepted (as_rerun line) before → HasNoFault (Explains line) before after → IsListed answer

@@ -1,5 +1,5 @@
 -- What the files of a line hold, and the rounds that it asks for with them.
-use Rattle.std.specs.Prelude.{◌≡◌, ℕ, ◌≤◌, true, false, List, [], ◌∷◌, length, unwrap_or, Ok}
+use Rattle.std.specs.Prelude.{◌≡◌, ℕ, ◌≤◌, true, false, List, [], ◌∷◌, length, unwrap_or, None, Ok}
 use Rattle.std.specs.List.{AllZip}
 use Rattle.elf_spec.specs.declared.TheConstants.{MOST_ELF_BYTES}
 use Rattle.elf_spec.specs.Image.{is_image}
@@ -19,7 +19,7 @@ use Rattle.rv_asm.specs.Guest.{IsGuest}
 use Rattle.guest_gen.specs.declared.guest.TheConstants.{BASE, ITEMS, ZEROS}
 use Rattle.guest_gen.specs.Generated.{input_of, list_of}
 use Rattle.ith_host.specs.World.{World, IsContent}
-use Rattle.ith_words.specs.Words.{Text, Line, Runs, Reruns, Replays, Shows, Generates, RunLine, RerunLine, ReplayLine, default_fuel, default_limit}
+use Rattle.ith_words.specs.Words.{Text, Line, Runs, Reruns, Replays, Shows, Explains, Generates, RunLine, RerunLine, ReplayLine, ExplainLine, default_fuel, default_limit}
 
 -- Contents of edit lists, which agree with each that is told, and are within their limit.
 abbrev pub AreLists : World → List Text → List (List ℕ) → Type 0
@@ -121,6 +121,11 @@ pub record IsRerunPlan (line : RerunLine) (before : World) (p : Plan) : Type 0 w
   pub beginning : p.beginning ≡ after_memo history (fuel_of line history) line.reach
   pub edited : AreRerunInputs history.setup.input lists p.inputs
 
+-- The rerun that a line explains: one round after the edit list, by one worker and with the memo's fuel.
+abbrev pub as_rerun : ExplainLine → RerunLine
+as_rerun line =
+    record { memo = line.memo; edits = line.edits ∷ []; workers = 1; fuel = None; kept = None; reach = false }
+
 -- The plan for the guest that is generated from a number: round 0 is from scratch, on the generated input, with the
 -- limits of a line that names none; and round 1 is on this input after the generated edit.
 pub record IsGeneratedPlan (number : ℕ) (p : Plan) : Type 0 where
@@ -136,6 +141,7 @@ IsPlan (Runs line) before p = IsRunPlan line before p
 IsPlan (Reruns line) before p = IsRerunPlan line before p
 IsPlan (Replays line) before p = ⊥
 IsPlan (Shows line) before p = ⊥
+IsPlan (Explains line) before p = IsRerunPlan (as_rerun line) before p
 IsPlan (Generates line) before p = IsGeneratedPlan line.number p
 
 -- How many workers a line that asks for rounds has.
@@ -144,4 +150,5 @@ workers_of (Runs line) = line.workers
 workers_of (Reruns line) = line.workers
 workers_of (Replays line) = 0
 workers_of (Shows line) = 0
+workers_of (Explains line) = 1
 workers_of (Generates line) = line.workers

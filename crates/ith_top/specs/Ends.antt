@@ -19,12 +19,13 @@ use Rattle.round_report.specs.Short.{short_of}
 use Rattle.rerun_spec.specs.Rounds.{Found, Round, IsMade, last_left}
 use Rattle.rerun_spec.specs.Reports.{is_exit, all_exit, made_reports, all_made_exit}
 use Rattle.schedule_list.specs.Schedule.{Says}
-use Rattle.ith_words.specs.Words.{Text, Line, Runs, Reruns, Replays, Shows, Generates, RunLine, RerunLine, ReplayLine, ShowLine, GenerateLine}
+use Rattle.ith_words.specs.Words.{Text, Line, Runs, Reruns, Replays, Shows, Explains, Generates, RunLine, RerunLine, ReplayLine, ShowLine, ExplainLine, GenerateLine}
 use Rattle.ith_top.specs.declared.status.Status.{Status}
 use Rattle.ith_top.specs.declared.status.Status.TheVariants as status
 use Rattle.ith_top.specs.Files.{Named, files_named, AsksForFiles, AsksForSome, StopsAt, FailedToRead, IsLong}
-use Rattle.ith_top.specs.Contents.{AreLists, Contents, AreContents, WasRead, ReplayContents, AreReplayContents, WasReplayRead, replay_setup_of, CanBeReplayed, IsMemoContent, IsMemoOf, Plan, IsPlan, workers_of}
+use Rattle.ith_top.specs.Contents.{AreLists, Contents, AreContents, WasRead, ReplayContents, AreReplayContents, WasReplayRead, replay_setup_of, CanBeReplayed, IsMemoContent, IsMemoOf, Plan, IsPlan, as_rerun, workers_of}
 use Rattle.ith_top.specs.Rounds.{rounds_of, BeginsHonestly, ArePromised, CanBeKept}
+use Rattle.ith_top.specs.Explaining.{explained_round, AreTheReasons, why_of}
 use Rattle.ith_top.specs.Statuses.{code_of}
 
 -- What a line's rounds come from, the schedules that its workers found of the first of them, and what is promised of
@@ -58,6 +59,7 @@ kept_by (Runs line) = line.kept
 kept_by (Reruns line) = line.kept
 kept_by (Replays line) = None
 kept_by (Shows line) = None
+kept_by (Explains line) = None
 kept_by (Generates line) = None
 
 -- Of the files nothing changed, and these bytes were printed.
@@ -289,6 +291,31 @@ pub record IsUnreplayed (line : ReplayLine) (before after : World) : Type 0 wher
   pub has : HasReplay line before
   pub part : IsPrintedInPart (text_of_replay line before has ∷ []) before after
 
+-- The round that a line explains: the memo and the edit list were read and accepted, which makes the plan of a rerun;
+-- the list makes the one input of it; and what is promised of the reasons for which its steps were executed.
+pub record HasReasons (line : ExplainLine) (before : World) : Type 0 where
+  pub plan : Plan
+  pub is_plan : IsPlan (Explains line) before plan
+  pub input : List ℕ
+  pub one : plan.inputs ≡ input ∷ []
+  pub are : AreTheReasons plan.beginning input
+
+-- The text that tells of these reasons.
+abbrev pub text_of_reasons : (line : ExplainLine) (before : World) → HasReasons line before → List ℕ
+text_of_reasons line before has = why_of (explained_round has.plan.beginning has.input)
+
+-- It is told why steps were executed: exactly the text of the reasons was printed.
+pub record IsExplained (line : ExplainLine) (before after : World) : Type 0 where
+  pub asked : AsksForFiles (files_named (Explains line)) before after
+  pub has : HasReasons line before
+  pub prints : Prints before after (text_of_reasons line before has)
+
+-- Printing failed, and the first bytes of the text of the reasons were printed, any number of them.
+pub record IsUnexplained (line : ExplainLine) (before after : World) : Type 0 where
+  pub asked : AsksForFiles (files_named (Explains line)) before after
+  pub has : HasReasons line before
+  pub part : IsPrintedInPart (text_of_reasons line before has ∷ []) before after
+
 -- The text that tells of the rounds of the generated guest: a line with the number, and a line for each round, of the
 -- machine from scratch.
 abbrev pub generated_text : ℕ → List Round → List ℕ
@@ -316,6 +343,7 @@ RefusesImage (Runs line) before after = IsImageRefused line before after
 RefusesImage (Reruns line) before after = ⊥
 RefusesImage (Replays line) before after = IsReplayImageRefused line before after
 RefusesImage (Shows line) before after = ⊥
+RefusesImage (Explains line) before after = ⊥
 RefusesImage (Generates line) before after = ⊥
 
 -- A line's memo is refused.
@@ -324,6 +352,7 @@ RefusesMemo (Runs line) before after = ⊥
 RefusesMemo (Reruns line) before after = IsRerunMemoRefused line before after
 RefusesMemo (Replays line) before after = ⊥
 RefusesMemo (Shows line) before after = IsMemoRefused line before after
+RefusesMemo (Explains line) before after = IsRerunMemoRefused (as_rerun line) before after
 RefusesMemo (Generates line) before after = ⊥
 
 -- An edit list of a line is refused.
@@ -332,6 +361,7 @@ RefusesList (Runs line) before after = IsListRefused line before after
 RefusesList (Reruns line) before after = IsRerunListRefused line before after
 RefusesList (Replays line) before after = ⊥
 RefusesList (Shows line) before after = ⊥
+RefusesList (Explains line) before after = IsRerunListRefused (as_rerun line) before after
 RefusesList (Generates line) before after = ⊥
 
 -- How a line that asks for rounds may end, status by status.
@@ -361,6 +391,20 @@ ShowEnds line before after status.WriteFault = IsUnshown line before after
 ShowEnds line before after status.Memory = IsUnbegun (Shows line) before after
 ShowEnds line before after status.TooLarge = IsTooLarge (Shows line) before after
 ShowEnds line before after status.Schedule = ⊥
+
+-- How a line that tells why steps were executed may end, status by status; however the round ended.
+abbrev pub ExplainEnds : ExplainLine → World → World → Status → Type 0
+ExplainEnds line before after status.Finished = IsExplained line before after
+ExplainEnds line before after status.Unfinished = ⊥
+ExplainEnds line before after status.Words = ⊥
+ExplainEnds line before after status.Image = ⊥
+ExplainEnds line before after status.Memo = RefusesMemo (Explains line) before after
+ExplainEnds line before after status.EditList = RefusesList (Explains line) before after
+ExplainEnds line before after status.ReadFault = IsUnread (Explains line) before after
+ExplainEnds line before after status.WriteFault = IsUnexplained line before after
+ExplainEnds line before after status.Memory = IsUnbegun (Explains line) before after
+ExplainEnds line before after status.TooLarge = IsTooLarge (Explains line) before after
+ExplainEnds line before after status.Schedule = ⊥
 
 -- How a line that replays a schedule may end, status by status.
 abbrev pub ReplayEnds : ReplayLine → World → World → Status → Type 0
@@ -402,6 +446,7 @@ Ends (Some (Runs line)) before after s = RoundsEnd (Runs line) before after s
 Ends (Some (Reruns line)) before after s = RoundsEnd (Reruns line) before after s
 Ends (Some (Replays line)) before after s = ReplayEnds line before after s
 Ends (Some (Shows line)) before after s = ShowEnds line before after s
+Ends (Some (Explains line)) before after s = ExplainEnds line before after s
 Ends (Some (Generates line)) before after s = GenerateEnds line before after s
 
 -- An answer is the number of a status by which the call may end.

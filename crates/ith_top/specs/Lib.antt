@@ -3,6 +3,7 @@ pub mod Statuses
 pub mod Files
 pub mod Contents
 pub mod Rounds
+pub mod Explaining
 pub mod Ends
 pub mod Completing
 pub mod Refusals

@@ -1,14 +1,16 @@
 -- The parts of a call that makes rounds.
-use Rattle.std.specs.Prelude.{◌≡◌, ℕ, ◌+◌, ◌^◌, ◌<◌, ◌≤◌, Bool, List, [], All, Option, Some, None, length, option_map, Ok}
+use Rattle.std.specs.Prelude.{◌≡◌, ℕ, ◌+◌, ◌^◌, ◌<◌, ◌≤◌, Bool, List, [], ◌∷◌, All, Option, Some, None, length, map, option_map, Ok}
 use Rattle.std.specs.Arc.{arc_value}
 use Rattle.std.specs.List.{concat}
 use Rattle.machine_spec.specs.Setup.{Setup, IsSetup}
-use Rattle.history_spec.specs.History.{History}
+use Rattle.history_spec.specs.History.{History, IsSound}
+use Rattle.why_report.specs.declared.reason.Reason.{Reason}
+use Rattle.why_report.specs.Reasons.{reasons_of, reasons_by, scratch_before, executed_places, GoesByOldRun}
 use Rattle.memo_spec.specs.Spelling.{AreBytes, memo}
 use Rattle.round_memo_spec.specs.Spelled.{IsSpelledPast}
 use Rattle.propagate.specs.Kept.{IsOfMap}
 use Rattle.rerun_spec.specs.Inputs.{AreShort}
-use Rattle.rerun_spec.specs.Rounds.{Found, Beginning, IsMade, left_by, round_on}
+use Rattle.rerun_spec.specs.Rounds.{Found, Beginning, IsMade, left_by, round_on, with_input}
 use Rattle.rerun_spec.specs.Reports.{made_report, made_exits, all_exit, all_made_exit, all_executed}
 use Rattle.plain_machine.specs.declared.replaying.Outcome.{Outcome}
 use Rattle.schedule_list.specs.Schedule.{Says}
@@ -22,6 +24,7 @@ use Rattle.ith_top.specs.declared.rounds.Coming.{Coming}
 use Rattle.ith_top.specs.declared.report.Next.{Next}
 use Rattle.ith_top.specs.Contents.{Plan, ReplayContents, WasReplayRead, replay_setup_of, IsGeneratedPlan}
 use Rattle.ith_top.specs.Rounds.{rounds_of}
+use Rattle.ith_top.specs.Explaining.{explained_round, why_of}
 use Rattle.ith_top.specs.Ends.{Prints, PrintsAndKeeps, IsKeptWithin, texts_of, left_of, generated_text}
 
 -- What rounds begin with, in code, as a beginning of the definitions.
@@ -117,6 +120,23 @@ TellsOfReplay threads o text =
       memory = o.memory;
       output = o.output.items;
     })
+
+-- A text tells why the executed steps were executed of the one round of a plan, as one worker makes it: each of them
+-- has a reason, and no other step has, where the round goes by a run that holds together; and where it goes by a sound
+-- history, the reasons are told by the machine from scratch.
+pub record TellsReasons (p : Plan) (text : List ℕ) : Type 0 where
+  pub input : List ℕ
+  pub later : List (List ℕ)
+  pub first : p.inputs ≡ input ∷ later
+  pub is_text : text ≡ why_of (explained_round p.beginning input)
+  pub each :
+      GoesByOldRun p.beginning.past (with_input p.beginning.setup input)
+      → map (λ (r : Reason). r.step) (reasons_of (explained_round p.beginning input))
+      ≡ executed_places (explained_round p.beginning input).schedule
+  pub scratch :
+      IsSound p.beginning.past (with_input p.beginning.setup input)
+      → reasons_of (explained_round p.beginning input)
+      ≡ reasons_by (scratch_before (explained_round p.beginning input)) (explained_round p.beginning input)
 
 -- So many workers made a round of this beginning, on this input: the line that tells of it, whether it ended by exit,
 -- and what it leaves.

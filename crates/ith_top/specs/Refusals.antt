@@ -12,12 +12,12 @@ use Rattle.plain_machine.specs.Replaying.{IsFirstForbidden}
 use Rattle.schedule_list.specs.Schedule.{Says}
 use Rattle.rerun_spec.specs.Inputs.{Refusal, IsFirstRefused}
 use Rattle.rerun_spec.specs.Rounds.{Found}
-use Rattle.ith_words.specs.Words.{Text}
+use Rattle.ith_words.specs.Words.{Text, Line}
 use Rattle.ith_top.specs.declared.status.Status.{Status}
 use Rattle.ith_top.specs.declared.status.Status.TheVariants as status
 use Rattle.ith_top.specs.Files.{Named, AsksForSome, StopsAt, FailedToRead, IsLong}
 use Rattle.ith_top.specs.Contents.{Plan}
-use Rattle.ith_top.specs.Ends.{Prints, IsPrintedInPart, texts_of, left_of}
+use Rattle.ith_top.specs.Ends.{Prints, IsPrintedInPart, texts_of, left_of, RefusesImage, RefusesMemo, RefusesList, IsUnread, IsUnbegun, IsTooLarge}
 use Rattle.ith_top.specs.Playing.{AreFound}
 
 -- Why files weren't all read: which one was refused, and what was asked for.
@@ -44,6 +44,16 @@ abbrev pub WhyUnedited : List ℕ → List (List ℕ) → Status → Type 0
 WhyUnedited first lists status.EditList = (place : ℕ) × (why : Refusal) × IsFirstRefused first lists place why
 WhyUnedited first lists status.Memory = ⊤
 WhyUnedited first lists _ = ⊥
+
+-- Why a line has no plan of rounds: a file wasn't read or is refused, and nothing was printed.
+abbrev pub WhyUnplanned : Line → World → World → Status → Type 0
+WhyUnplanned line before after status.Image = RefusesImage line before after
+WhyUnplanned line before after status.Memo = RefusesMemo line before after
+WhyUnplanned line before after status.EditList = RefusesList line before after
+WhyUnplanned line before after status.ReadFault = IsUnread line before after
+WhyUnplanned line before after status.Memory = IsUnbegun line before after
+WhyUnplanned line before after status.TooLarge = IsTooLarge line before after
+WhyUnplanned line before after _ = ⊥
 
 -- Why no threads were had from the text of a schedule: a token is the first that spells none.
 abbrev pub WhyNoThreads : List ℕ → Status → Type 0

@@ -11,8 +11,8 @@ use Rattle.rerun_spec.specs.Rounds.{Found, Round, Beginning, made, IsPickedRight
 use Rattle.rerun_spec.specs.Reports.{reports_of, made_reports, all_exit, all_made_exit}
 use Rattle.ith_top.specs.Contents.{Plan}
 
--- A round is all reuse of a history: no thunk is begun and no instruction executed, and its schedule and its machine
--- are those that the history left.
+-- A round is all reuse of a history: its schedule and its machine are those that the history left, its report tells of
+-- no executed instruction, and one worker that goes by this history would begin no step.
 pub record OnlyRepeats (h : History) (r : Round) : Type 0 where
   pub reuses : OnlyReuses h (made r)
   pub instructions : instructions_from (first r.setup) (entries_of r) ≡ 0
@@ -26,8 +26,8 @@ pub record Repeats (before after : Round) : Type 0 where
 
 -- What is promised of a round, whoever of so many workers made its steps: the schedule that it prints is the one that
 -- was made, permitted and complete; a step is marked as reused exactly where the record of it fits; one worker makes
--- the schedule that follows the choice; each entry was picked rightly, so that none waited for an old step on which it
--- doesn't depend; if the round works as the one before it did, it executes no more than the edit reaches; and what the
+-- the schedule that follows the choice; each entry was picked rightly: its thread was due then, or nobody who was ready
+-- was; if the round works as the one before it did, it executes no more than the edit reaches; and what the
 -- round leaves is of its own setup and honest, its records those of the machine from scratch, entry by entry.
 pub record IsPromised (workers : ℕ) (r : Round) : Type 0 where
   pub entries : (made r).schedule ≡ r.found.entries

@@ -13,6 +13,7 @@ use std::thread::Threads;
 
 mod complaints;
 mod crew;
+mod explaining;
 mod files;
 mod generating;
 mod keeping;
@@ -24,8 +25,6 @@ mod report;
 mod rounds;
 mod showing;
 mod status;
-#[cfg(test)]
-mod tests;
 
 pub use status::Status;
 
@@ -47,6 +46,9 @@ pub use status::Status;
 /// of the schedule, from scratch, by a machine that knows no reuse and no workers, and tells what it comes to.
 ///
 /// `show MEMO` lists a memo.
+///
+/// `why MEMO EDITS` makes the round of one worker that goes by a memo after an edit list, and tells why each of its
+/// executed steps was executed: which register or which byte of a page isn't as it was, and which step stored it.
 ///
 /// `gen NUMBER --workers W` runs a guest on an input and an edit of it that are generated from the number.
 ///

@@ -13,8 +13,7 @@ ghost use Rattle.ith_words.specs.Words.{Runs, Reruns};
 ghost use Rattle.ith_words.specs.Said.{run_said, rerun_said};
 ghost use Rattle.ith_top.specs.Files.{files_named, AsksForFiles};
 ghost use Rattle.ith_top.specs.Contents.{IsMemoOf, IsRunPlan, IsRerunPlan, fuel_of};
-ghost use Rattle.ith_top.specs.Ends.{RoundsEnd};
-ghost use Rattle.ith_top.specs.Refusals.{WhyNoSetup, WhyNoHistory, WhyUnedited};
+ghost use Rattle.ith_top.specs.Refusals.{WhyNoSetup, WhyNoHistory, WhyUnedited, WhyUnplanned};
 ghost use Rattle.ith_top.specs.Playing.{beginning_said, plan_said, CanBePlayed, CanBeSpelled};
 
 use super::complaints::{NO_MEMORY, edits_line, image_line, memo_line};
@@ -228,7 +227,7 @@ pub fn prepare<H: Host>(alloc: Global, host: &mut H, line: &RunLine<'_>) -> Resu
     ensures spelled { IfOk result (λ plan. CanBeSpelled (plan_said plan)) }
     ensures asked { IfOk result (λ _. AsksForFiles (files_named (Runs (run_said line.now)))
         (H.world host.old) (H.world host.new)) }
-    ensures refused { IfErr result (λ status. RoundsEnd (Runs (run_said line.now))
+    ensures refused { IfErr result (λ status. WhyUnplanned (Runs (run_said line.now))
         (H.world host.old) (H.world host.new) status) }
     ensures stays { Stays (H.world host.old) (H.world host.new) }
     ensures counts { NoneFell (H.world host.old) (H.world host.new) }
@@ -265,7 +264,7 @@ pub fn prepare_rerun<H: Host>(
     ensures spelled { IfOk result (λ plan. CanBeSpelled (plan_said plan)) }
     ensures asked { IfOk result (λ _. AsksForFiles (files_named (Reruns (rerun_said line.now)))
         (H.world host.old) (H.world host.new)) }
-    ensures refused { IfErr result (λ status. RoundsEnd (Reruns (rerun_said line.now))
+    ensures refused { IfErr result (λ status. WhyUnplanned (Reruns (rerun_said line.now))
         (H.world host.old) (H.world host.new) status) }
     ensures stays { Stays (H.world host.old) (H.world host.new) }
     ensures counts { NoneFell (H.world host.old) (H.world host.new) }

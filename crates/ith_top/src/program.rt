@@ -11,6 +11,7 @@ ghost use Rattle.ith_top.specs.Playing.{plan_said, CanBePlayed, CanBeSpelled, Is
 
 use super::complaints::NO_MEMORY;
 use super::crew::Crew;
+use super::explaining::explain;
 use super::generating::generate;
 use super::keeping::keep;
 use super::plan::{Plan, prepare, prepare_rerun};
@@ -121,6 +122,7 @@ pub fn status_of<R: Threads + Wait + Sync, H: Host, G: Gate + Sync>(
         Ok(Line::Rerun(line)) => rerun(rt, alloc, host, &line, gate),
         Ok(Line::Replay(line)) => replay(rt, alloc, host, &line),
         Ok(Line::Show(line)) => show(alloc, host, &line),
+        Ok(Line::Explain(line)) => explain(rt, alloc, host, &line),
         Ok(Line::Generate(line)) => generate(rt, alloc, host, &line, gate),
         Err(LineFault::Refused(text)) => {
             host.complain(text.as_slice());

@@ -7,7 +7,8 @@ ghost use Rattle.ith_top.specs.Statuses.{code_of};
 #[derive(Clone, Copy, Debug, PartialEq, Eq)]
 pub enum Status {
     /// 0: every report was printed, each round ended by exit, and the memo that was asked for was written; or a
-    /// schedule was replayed, or the generated guest run, to an exit; or a memo was listed.
+    /// schedule was replayed, or the generated guest run, to an exit; or a memo was listed, or it was told why steps
+    /// were executed.
     Finished,
     /// 1: the same, but some end isn't an exit.
     Unfinished,

@@ -51,6 +51,11 @@ pub record ReplayLine : Type 0 where
 pub record ShowLine : Type 0 where
   pub memo : Text
 
+-- A line that tells why steps were executed: the names of the memo to read and of the edit list.
+pub record ExplainLine : Type 0 where
+  pub memo : Text
+  pub edits : Text
+
 -- A line that runs the generated guest: the number that it is generated from, and how many workers.
 pub record GenerateLine : Type 0 where
   pub number : ℕ
@@ -62,6 +67,7 @@ pub data Line : Type 0 where
   Reruns : RerunLine → Line
   Replays : ReplayLine → Line
   Shows : ShowLine → Line
+  Explains : ExplainLine → Line
   Generates : GenerateLine → Line
 
 -- How many workers there are where the line doesn't say.
@@ -157,6 +163,11 @@ replay_command = with_limits replay_operands
 abbrev pub show_command : App
 show_command = with_rule (new_app (codes "show")) (operand_rule (codes "MEMO"))
 
+-- The command that tells why steps were executed: the memo, and an edit list.
+abbrev pub explain_command : App
+explain_command =
+    with_rule (with_rule (new_app (codes "why")) (operand_rule (codes "MEMO"))) (operand_rule (codes "EDITS"))
+
 -- The command that runs the generated guest: a number, and an option.
 abbrev pub generate_command : App
 generate_command = with_workers (with_rule (new_app (codes "gen")) (number_operand_rule (codes "NUMBER") MOST_NUMBER))
@@ -170,9 +181,13 @@ abbrev pub guest_commands : App
 guest_commands =
     with_subcommand (with_subcommand (with_subcommand program run_command.top) rerun_command.top) replay_command.top
 
+-- The same, and the commands that look at a memo.
+abbrev pub memo_commands : App
+memo_commands = with_subcommand (with_subcommand guest_commands show_command.top) explain_command.top
+
 -- The program's command line: the program and its commands.
 unfoldable pub command_line : App
-command_line = with_subcommand (with_subcommand guest_commands show_command.top) generate_command.top
+command_line = with_subcommand memo_commands generate_command.top
 
 -- Whether an option that has no argument was given: the parser then has the word true for it.
 abbrev pub flag_given : Option Text → Bool
@@ -265,6 +280,10 @@ replay_line rows =
 abbrev pub show_line : List Row → ShowLine
 show_line rows = record { memo = operand (codes "MEMO") rows }
 
+-- The line of what was found for the operands of the command that tells why steps were executed.
+abbrev pub explain_line : List Row → ExplainLine
+explain_line rows = record { memo = operand (codes "MEMO") rows; edits = operand (codes "EDITS") rows }
+
 -- The line of what was found for the operand and the option of the command that runs the generated guest.
 abbrev pub generate_line : List Row → GenerateLine
 generate_line rows = record { number = number_named rows; workers = workers_named rows }
@@ -276,6 +295,7 @@ line_named p =
     else if bytes_eq p.0 (codes "rerun") then Some (Reruns (rerun_line p.1))
     else if bytes_eq p.0 (codes "replay") then Some (Replays (replay_line p.1))
     else if bytes_eq p.0 (codes "show") then Some (Shows (show_line p.1))
+    else if bytes_eq p.0 (codes "why") then Some (Explains (explain_line p.1))
     else if bytes_eq p.0 (codes "gen") then Some (Generates (generate_line p.1))
     else None
 

@@ -259,6 +259,22 @@ fn show_command<'a>(alloc: Global) -> Result<Command<'a>, AllocError>
     )
 }
 
+/// The command that tells why steps were executed.
+fn explain_command<'a>(alloc: Global) -> Result<Command<'a>, AllocError>
+    ensures shape { IfOk result (λ c. app_of c ≡ line.explain_command) }
+    ensures local { IfOk result (λ c. (out-Command c).has_globals ≡ false) }
+{
+    let command = Command::new(alloc, "why").about("Tells why steps of a rerun are executed");
+    let command = with_arg(
+        command,
+        operand(alloc, "MEMO", "The name of the memo to read"),
+    )?;
+    with_arg(
+        command,
+        operand(alloc, "EDITS", "The name of the edit list"),
+    )
+}
+
 /// The command that runs the generated guest.
 fn generate_command<'a>(alloc: Global) -> Result<Command<'a>, AllocError>
     ensures shape { IfOk result (λ c. app_of c ≡ line.generate_command) }
@@ -284,6 +300,17 @@ fn guest_commands<'a>(alloc: Global) -> Result<Command<'a>, AllocError>
     with_command(command, replay)
 }
 
+/// The same, and the commands that look at a memo.
+fn memo_commands<'a>(alloc: Global) -> Result<Command<'a>, AllocError>
+    ensures { IfOk result (λ c. app_of c ≡ line.memo_commands) }
+{
+    let show = show_command(alloc)?;
+    let explain = explain_command(alloc)?;
+    let command = guest_commands(alloc)?;
+    let command = with_command(command, show)?;
+    with_command(command, explain)
+}
+
 /// The program's command line.
 ///
 /// # Errors
@@ -293,9 +320,7 @@ fn guest_commands<'a>(alloc: Global) -> Result<Command<'a>, AllocError>
 pub fn command_line<'a>(alloc: Global) -> Result<Command<'a>, AllocError>
     ensures { IfOk result (λ c. app_of c ≡ line.command_line) }
 {
-    let show = show_command(alloc)?;
     let generate = generate_command(alloc)?;
-    let command = guest_commands(alloc)?;
-    let command = with_command(command, show)?;
+    let command = memo_commands(alloc)?;
     with_command(command, generate)
 }

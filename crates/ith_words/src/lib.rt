@@ -8,9 +8,7 @@ mod words;
 
 pub use given::default_limits;
 pub use line::{
-    GenerateLine, Line, MOST_NUMBER, MOST_WORKERS, ReplayLine, RerunLine, RunLine, ShowLine,
+    ExplainLine, GenerateLine, Line, MOST_NUMBER, MOST_WORKERS, ReplayLine, RerunLine, RunLine,
+    ShowLine,
 };
 pub use words::{LineFault, line_of};
-
-#[cfg(test)]
-mod tests;

@@ -24,6 +24,8 @@ pub enum Line<'a> {
     Replay(ReplayLine<'a>),
     /// A memo is listed.
     Show(ShowLine<'a>),
+    /// It is told why steps were executed.
+    Explain(ExplainLine<'a>),
     /// The generated guest is run.
     Generate(GenerateLine),
 }
@@ -87,6 +89,15 @@ pub struct ReplayLine<'a> {
 pub struct ShowLine<'a> {
     /// The name of the memo to read.
     pub memo: &'a str,
+}
+
+/// A line that tells why steps were executed.
+#[derive(Debug, Drop)]
+pub struct ExplainLine<'a> {
+    /// The name of the memo to read.
+    pub memo: &'a str,
+    /// The name of the edit list.
+    pub edits: &'a str,
 }
 
 /// A line that runs the generated guest.

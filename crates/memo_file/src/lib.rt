@@ -18,6 +18,3 @@ mod writing;
 pub use error::ReadError;
 pub use reading::read;
 pub use writing::{WriteError, write};
-
-#[cfg(test)]
-mod tests;

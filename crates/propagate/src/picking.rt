@@ -96,10 +96,7 @@ impl Round {
         requires { t < length self.now.machine.harts }
         ensures { option_map (λ r. arc_value r.now) result ≡ record_for self.now.past self.now.machine t }
     {
-        match &self.past {
-            Some(history) => history.find(t, self.core.number(t)),
-            None => None,
-        }
+        self.old_record(t, self.core.number(t))
     }
 
     /// Whether the record of the next step of thread `t`, which exists, fits.

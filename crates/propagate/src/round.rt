@@ -4,7 +4,7 @@ ghost use Rattle.std.specs.Prelude.{◌≡◌, ◌<◌, true, false, length, is_
 ghost use Rattle.std.specs.Bool.{OnTrue};
 ghost use Rattle.std.specs.Arc.{arc_value};
 ghost use Rattle.machine_spec.specs.Setup.{IsSetup, first};
-ghost use Rattle.history_spec.specs.History.{IsHonest, IsSound, IsMapped, past_records};
+ghost use Rattle.history_spec.specs.History.{History as Kept, IsHonest, IsSound, IsMapped, found, past_records};
 ghost use Rattle.report_spec.specs.Report.{instructions_from};
 ghost use Rattle.round_spec.specs.Rounds.{nobody_out, nothing_taken, opening, is_over, is_out, history_of};
 ghost use Rattle.round_spec.specs.Due.{past_facts};
@@ -167,6 +167,21 @@ impl Round {
         ensures { option_map (λ h. arc_value h.now) result ≡ self.now.past }
     {
         self.past.as_ref()
+    }
+
+    /// The record of thread `t` at a number of steps made in the history that it goes by, if there is one. The records
+    /// of this history have their pages in its own map.
+    pub fn old_record(&self, t: u8, number: u32) -> Option<&Arc<Record>>
+        ensures record { option_map (λ r. arc_value r.now) result ≡ found self.now.past t number }
+        ensures mapped { (h : Kept) → self.now.past ≡ Some h → IsMapped h }
+    {
+        match &self.past {
+            Some(history) => {
+                history.keeps();
+                history.find(t, number)
+            }
+            None => None,
+        }
     }
 
     /// The steps so far, with their marks.

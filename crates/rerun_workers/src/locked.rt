@@ -11,7 +11,7 @@ ghost use Rattle.round_spec.specs.Choice.{pick_of};
 ghost use Rattle.round_spec.specs.Unedited.{IsUnedited};
 ghost use Rattle.propagate.specs.Committing.{GoesOn};
 ghost use Rattle.rerun_workers.specs.Following.{FollowsPicks};
-ghost use Rattle.rerun_workers.specs.Locking.{Tells, TellsAfter, BeginsNothing, given_up, Lands, HandsBack, steps_by, Counts};
+ghost use Rattle.rerun_workers.specs.Locking.{Tells, TellsAfter, BeginsNothing, is_something, given_up, Lands, HandsBack, steps_by, Counts};
 
 use super::naming::{Naming, Pass};
 use propagate::{Committed, Round};
@@ -164,7 +164,9 @@ impl<J: Naming> Locked<J> {
     }
 
     /// Whether another worker has something to do: to reuse records or to execute a step.
-    pub fn has_more(&self) -> bool {
+    pub fn has_more(&self) -> bool
+        ensures { result ≡ is_something (pick_of self.now.round) }
+    {
         match self.round.pick() {
             Pick::Reuse(_) | Pick::Run(_) => true,
             Pick::Hold | Pick::Over => false,

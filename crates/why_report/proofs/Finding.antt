@@ -142,8 +142,9 @@ none_gives P (Some a) is has = cc is
 
 -- the same of the history that a round goes by
 pub past-mapped :
-    (past : Option History) (h : History) (setup : Setup) (t number : ℕ) (r : Record) → Some h ≡ past → IsMapped h
-    → found (Some h) t number ≡ Some r → GoesByOldRun past setup
+    (past : Option History) (setup : Setup) (t number : ℕ) (r : Record)
+    → ((h : History) → past ≡ Some h → IsMapped h) → found past t number ≡ Some r → GoesByOldRun past setup
     → All (λ (p : ReadPage). p.slot < length (map_of setup)) r.kept.reads
-past-mapped past h setup t number r is mapped there old =
-    found-mapped h setup t number r mapped (subst (λ (p : Option History). GoesByOldRun p setup) (sym is) old) there
+past-mapped None setup t number r mapped there old = absurd (cc)
+past-mapped (Some h) setup t number r mapped there old =
+    found-mapped h setup t number r (mapped h refl) old there

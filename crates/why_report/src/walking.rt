@@ -82,13 +82,7 @@ fn record_of(round: &Round, thread: u8, number: u32) -> Option<&Arc<Record>>
     ensures mapped { IfSome result (λ r. GoesByOldRun round.now.past round.now.setup
         → All (λ (p : Read). p.slot < length (map_of round.now.setup)) (arc_value r.now).kept.reads) }
 {
-    match round.past() {
-        Some(history) => {
-            history.keeps();
-            history.find(thread, number)
-        }
-        None => None,
-    }
+    round.old_record(thread, number)
 }
 
 /// Why a record doesn't stand for the next step of a thread, if it doesn't.

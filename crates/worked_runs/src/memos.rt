@@ -10,9 +10,9 @@ use std::sync::Wait;
 use std::test::Fail;
 use std::thread::Threads;
 
-/// The memo of the guest that puts out `hi`: written, gone on from twice, and listed. The digest was computed by
-/// Python's hashlib, over the pages written out by hand.
-const HI: [Row; 4] = [
+/// The memo of the guest that puts out `hi`: written, gone on from twice, listed, and explained. The digest was computed
+/// by Python's hashlib, over the pages written out by hand.
+const HI: [Row; 5] = [
     (
         "ithreads run hi none --workers 1 --memo m",
         0,
@@ -38,6 +38,7 @@ const HI: [Row; 4] = [
          entry 0 thread 0 number 0 end call 1 count 5 reads 00010000 writes -\n\
          entry 1 thread 0 number 1 end call 0 count 3 reads 00010000 writes -\n",
     ),
+    ("ithreads why m none", 0, "why 0\n"),
 ];
 
 /// Memos of the guest that puts out `hi`, gone on from with another fuel: its first step takes 5 instructions, and its
@@ -108,9 +109,9 @@ const OTHER_FUEL: [Row; 10] = [
     ),
 ];
 
-/// Memos of a trap and of stored pages, and one that is gone on from after edits, with what they reach; lines that are
-/// refused.
-const FURTHER: [Row; 10] = [
+/// Memos of a trap and of stored pages, and one that is gone on from after edits, with what they reach, and why what is
+/// executed is; lines that are refused.
+const FURTHER: [Row; 11] = [
     (
         "ithreads run trap none --workers 1 --memo m",
         1,
@@ -140,6 +141,15 @@ const FURTHER: [Row; 10] = [
         0,
         "round 0\nend exit 0\nsteps 12\nreused 0\nexecuted 12\ninstructions 51\nby 12\n\
          schedule 0+ 1+ 0+ 2+ 1+ 2+ 0+ 1+ 2+ 0+ 0+ 0+\nmemory *\noutput 4\n\x0c\x00\x00\x00\n",
+    ),
+    (
+        "ithreads why m eight",
+        0,
+        "why 4\n\
+         step 3 thread 2 number 0 page c0002000 at 0 now 8 was 7 by start\n\
+         step 5 thread 2 number 1 register 8 now 8 was 7\n\
+         step 8 thread 2 number 2 register 6 now 13 was 12\n\
+         step 10 thread 0 number 4 page 00011000 at 0 now 13 was 12 by 5\n",
     ),
     (
         "ithreads rerun m eight --workers 1 --memo m --reach",

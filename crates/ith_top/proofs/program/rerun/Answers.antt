@@ -4,7 +4,14 @@ use Rattle.ith_words.specs.Said.{rerun_said}
 use Rattle.ith_top.specs.Contents.{Plan}
 use Rattle.ith_top.specs.Playing.{plan_said}
 use Rattle.ith_top.proofs.Done.{finished, unfinished, undone}
+use Rattle.ith_top.proofs.Ending.{unplanned_ends}
 use Rattle.ith_top.proofs.program.rerun.Goals as goal
+
+pub returns-in-Err : goal.returns-in-Err
+returns-in-Err g c =
+    let w = g.H.Host.world in
+    unplanned_ends (Reruns (rerun_said c.args.line.now)) (w c.args.host.now) (w c.prepare_rerun.new.host) c.in-Err.status
+    c.in-Err.ensures.refused
 
 pub returns-in-Ok-true : goal.returns-in-Ok-true
 returns-in-Ok-true g c =

@@ -1,7 +1,7 @@
 //! What no clause says: that the memo of a small run is read, and which refusals damaged ones get.
 
-use crate::{ReadError, read};
 use ith_fields::Out;
+use memo_file::{ReadError, read};
 use memo_spec::{Limit, Refusal};
 use sha2::{Digest, Sha256};
 use std::alloc::{AllocError, Global};

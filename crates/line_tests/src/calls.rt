@@ -1,6 +1,6 @@
 //! What no clause says: that a call succeeds, and the lines on the standard error.
-use crate::top;
 use ith_host::{MemHost, OpenGate};
+use ith_top::top;
 use machine_spec::MOST_INPUT_BYTES;
 use std::alloc::{AllocError, Global};
 use std::collections::BTreeMap;
@@ -93,7 +93,7 @@ fn a_trap_is_reported(rt: HostRuntime) -> Result<(), Fail> {
 }
 
 /// Lines that are refused: their words, the status, and how the complaint begins.
-const REFUSED: [(&str, u8, &str); 38] = [
+const REFUSED: [(&str, u8, &str); 44] = [
     ("ithreads run hi.elf", 2, "words: "),
     ("ithreads run hi.elf empty --workers 0", 2, "words: "),
     ("ithreads run hi.elf empty --workers 17", 2, "words: "),
@@ -108,6 +108,12 @@ const REFUSED: [(&str, u8, &str); 38] = [
     ("ithreads show five", 4, "memo: Short\n"),
     ("ithreads show absent", 6, "read absent\n"),
     ("ithreads rerun five absent", 6, "read absent\n"),
+    ("ithreads why five", 2, "words: "),
+    ("ithreads why absent long", 6, "read absent\n"),
+    ("ithreads why five absent", 6, "read absent\n"),
+    ("ithreads why five long", 9, "too large long\n"),
+    ("ithreads why empty odd", 4, "memo: Short\n"),
+    ("ithreads why five odd", 4, "memo: Short\n"),
     ("ithreads rerun five long", 9, "too large long\n"),
     (
         "ithreads run cut.elf empty --workers 1",

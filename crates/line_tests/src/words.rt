@@ -1,5 +1,5 @@
 //! Lines that are accepted, with what they say, and lines that aren't.
-use super::{Line, LineFault, RerunLine, RunLine, line_of};
+use ith_words::{Line, LineFault, RerunLine, RunLine, line_of};
 use std::alloc::{AllocError, Global};
 use std::test::Fail;
 
@@ -65,7 +65,7 @@ fn says(said: &Line<'_>, wanted: &Wanted<'_>) -> bool {
     match said {
         Line::Run(run) => runs(run, wanted),
         Line::Rerun(rerun) => reruns(rerun, wanted),
-        Line::Replay(_) | Line::Show(_) | Line::Generate(_) => false,
+        Line::Replay(_) | Line::Show(_) | Line::Explain(_) | Line::Generate(_) => false,
     }
 }
 
@@ -228,6 +228,24 @@ fn a_memo_is_listed(rt: HostRuntime) -> Result<(), Fail> {
     Ok(())
 }
 
+#[test]
+fn it_is_told_why(rt: HostRuntime) -> Result<(), Fail> {
+    let alloc = rt.alloc();
+    for (line, memo, edits) in [
+        ("why m e", "m", "e"),
+        ("why '' m", "", "m"),
+        ("why -- -m --edits", "-m", "--edits"),
+    ] {
+        let words = words_of(alloc, line)?;
+        let accepted = match line_of(alloc, &words) {
+            Ok(Line::Explain(explain)) => explain.memo == memo && explain.edits == edits,
+            _ => false,
+        };
+        assert!(rt; accepted, "at {line}");
+    }
+    Ok(())
+}
+
 /// Whether a line replays `s` for `a` and `b`, with these limits.
 fn replays(said: &Line<'_>, fuel: u32, steps: u32) -> bool {
     match said {
@@ -379,6 +397,15 @@ fn lines_about_a_memo_are_refused(rt: HostRuntime) -> Result<(), Fail> {
         "show m --fuel 4",
         "show m --reach",
         "show --help",
+        "why",
+        "why m",
+        "why m e f",
+        "why m -e",
+        "why m e --workers 1",
+        "why m e --fuel 4",
+        "why m e --memo n",
+        "why m e --reach",
+        "why --help",
     ] {
         assert!(rt; is_refused(rt.alloc(), line)?, "at {line}");
     }

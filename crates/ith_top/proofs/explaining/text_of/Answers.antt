@@ -1,0 +1,35 @@
+-- The text of the reasons is that of the plan's round.
+use Rattle.std.proofs.Common.{rules, ◌≡◌, ◌∷◌, [], ◌<◌, ◌≤◌, ◌∙◌, ℕ, ap, List, length, subst, arith}
+use Rattle.std.specs.Prelude.{option_map}
+use Rattle.std.specs.Arc.{arc_value}
+use Rattle.rerun_spec.specs.Inputs.{AreShort}
+use Rattle.rerun_spec.specs.Rounds.{with_input}
+use Rattle.why_report.specs.Text.{why_text}
+use Rattle.ith_top.specs.Contents.{Plan}
+use Rattle.ith_top.specs.Playing.{plan_said}
+use Rattle.ith_top.proofs.Going.{short_first}
+use Rattle.ith_top.proofs.Explained.{reasons_told}
+use Rattle.ith_top.proofs.explaining.text_of.Goals as goal
+
+pub unreachable-requires : goal.unreachable-requires
+unreachable-requires g c =
+    let none : c.args.plan.inputs ≡ [] = search rules in
+    let some : 0 < length c.args.plan.inputs = c.requires.some in
+    omega (arith, ap (length {A = List ℕ}) none)
+
+pub with-requires : goal.with-requires
+with-requires g c =
+    let first : c.args.plan.inputs ≡ c.in-Some.input.items ∷ c.next.new.self =
+    rw c.in-Some.is at c.in_ok-input.ensures.taken in
+    short_first c.in-Some.input.items c.next.new.self (subst AreShort first c.requires.short)
+
+pub returns : goal.returns
+returns g c =
+    let p : Plan = plan_said c.args.plan in
+    let first : p.inputs ≡ c.in-Some.input.items ∷ c.next.new.self =
+    rw c.in-Some.is at c.in_ok-input.ensures.taken in
+    let setup : c.in_ok-edited.edited ≡ with_input p.beginning.setup c.in-Some.input.items = search rules in
+    reasons_told p c.in-Some.input.items c.next.new.self c.in_ok-edited.edited c.in_ok-round.round
+    c.in_ok-reasons.reasons.items c.in_ok-told.told.items first setup c.in_ok-round.ensures
+    c.in_ok-reasons.ensures.reasons c.in_ok-reasons.ensures.each c.in_ok-reasons.ensures.scratch
+    (c.in_ok-told.ensures ∙ ap why_text c.as_slice.ensures.value)

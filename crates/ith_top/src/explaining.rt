@@ -1,0 +1,122 @@
+//! What the program does of a line that tells why steps were executed.
+
+ghost use Rattle.std.specs.Prelude.{◌≡◌, ◌<◌, option_map, IfOk, IfErr};
+ghost use Rattle.std.specs.Arc.{arc_value};
+ghost use Rattle.ith_host.specs.World.{Stays, NoneFell, AsksNothing};
+ghost use Rattle.round_spec.specs.Alone.{lone_round};
+ghost use Rattle.ith_words.specs.Words.{Explains};
+ghost use Rattle.ith_words.specs.Said.{rerun_said, explain_said};
+ghost use Rattle.ith_top.specs.Files.{files_named, AsksForFiles};
+ghost use Rattle.ith_top.specs.Contents.{IsPlan, as_rerun};
+ghost use Rattle.ith_top.specs.Ends.{ExplainEnds};
+ghost use Rattle.ith_top.specs.Playing.{plan_said, CanBePlayed, TellsReasons};
+
+use super::outside::print_text;
+use super::plan::{Plan, Start, prepare_rerun};
+use super::rounds::no_memory;
+use super::status::Status;
+use ith_host::Host;
+use ith_words::{ExplainLine, RerunLine};
+use propagate::{Round, run_alone};
+use release_core::{History, Setup};
+use std::alloc::{AllocError, Global};
+use std::marker::Brand;
+use std::sync::Arc;
+use std::sync::ledger::{Blank, Ledger};
+use std::thread::Threads;
+use turn_count::Turns;
+use why_report::{reasons, text};
+
+/// The rerun that a line explains: one round after the edit list, by one worker and with the memo's fuel.
+fn as_rerun<'a>(alloc: Global, line: &ExplainLine<'a>) -> Result<RerunLine<'a>, AllocError>
+    ensures { IfOk result (λ rerun. rerun_said rerun ≡ as_rerun (explain_said line.now)) }
+{
+    let mut edits = Vec::new(alloc);
+    edits.push(line.edits)?;
+    Ok(RerunLine {
+        memo: line.memo,
+        edits,
+        workers: 1,
+        fuel: None,
+        kept: None,
+        reach: false,
+    })
+}
+
+/// The plan of the round that a line explains: its files are read, the memo is looked at, and then the edit list is.
+fn prepare<H: Host>(alloc: Global, host: &mut H, line: &ExplainLine<'_>) -> Result<Plan, Status>
+    ensures plan { IfOk result (λ plan. IsPlan (Explains (explain_said line.now)) (H.world host.old) (plan_said plan)) }
+    ensures playable { IfOk result (λ plan. CanBePlayed (plan_said plan)) }
+    ensures asked { IfOk result (λ _. AsksForFiles (files_named (Explains (explain_said line.now)))
+        (H.world host.old) (H.world host.new)) }
+    ensures refused { IfErr result (λ status. ExplainEnds (explain_said line.now)
+        (H.world host.old) (H.world host.new) status) }
+    ensures stays { Stays (H.world host.old) (H.world host.new) }
+    ensures counts { NoneFell (H.world host.old) (H.world host.new) }
+{
+    let rerun = match as_rerun(alloc, line) {
+        Ok(rerun) => rerun,
+        Err(_) => return Err(no_memory(host)),
+    };
+    match prepare_rerun(alloc, host, &rerun) {
+        Ok(plan) => Ok(plan),
+        Err(status) => Err(status),
+    }
+}
+
+/// The round of one worker, with a counter of turns that nobody else has.
+fn counted<R: Threads, L: Ledger>(
+    rt: &R,
+    alloc: Global,
+    setup: Setup,
+    past: Option<Arc<History>>,
+    blank: Blank,
+) -> Result<Round, AllocError>
+    requires name { blank.name ≡ L.name }
+    requires parts { blank.parts ≡ L.parts }
+    requires some { 0 < L.parts }
+    ensures { IfOk result (λ round. round ≡ lone_round setup (option_map arc_value past)) }
+{
+    let mut turns = Turns::<L>::new(rt, blank);
+    run_alone(alloc, setup, past, &mut turns)
+}
+
+/// The text that tells why the executed steps of a plan's round were executed.
+fn text_of<R: Threads>(rt: &R, alloc: Global, plan: Plan) -> Result<Vec<u8>, AllocError>
+    requires { CanBePlayed (plan_said plan) }
+    ensures { IfOk result (λ text. TellsReasons (plan_said plan) text.items) }
+{
+    let Plan { start, mut inputs } = plan;
+    let Some(input) = inputs.next()? else {
+        unreachable!()
+    };
+    let Start { past, setup, .. } = start;
+    let edited = setup.with(input, setup.limits())?;
+    let round = counted::<R, Brand>(rt, alloc, edited, past, Blank::new(1))?;
+    let reasons = reasons(alloc, &round)?;
+    let told = text(alloc, reasons.as_slice())?;
+    Ok(told)
+}
+
+/// All that a line asks for that tells why steps were executed.
+pub fn explain<R: Threads, H: Host>(
+    rt: &R,
+    alloc: Global,
+    host: &mut H,
+    line: &ExplainLine<'_>,
+) -> Status
+    ensures { ExplainEnds (explain_said line.now) (H.world host.old) (H.world host.new) result }
+{
+    let plan = match prepare(alloc, host, line) {
+        Ok(plan) => plan,
+        Err(status) => return status,
+    };
+    let text = match text_of(rt, alloc, plan) {
+        Ok(text) => text,
+        Err(_) => return no_memory(host),
+    };
+    match print_text(alloc, host, text.as_slice()) {
+        Ok(()) => Status::Finished,
+        Err(status) => status,
+    }
+}

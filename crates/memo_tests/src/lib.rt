@@ -1,0 +1,5 @@
+//! Memos, tried through the public call that reads them.
+#![tactic(auto)]
+
+#[cfg(test)]
+mod reading;
