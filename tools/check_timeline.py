@@ -9,12 +9,15 @@
     where.
   - Where there is Chromium, it draws the picture as large as that says it is.
 """
+import contextlib
+import io
 import re
 import shutil
 import time
 import xml.etree.ElementTree as xml
 
 import check_reports
+import command
 import reports
 import steps
 from checking import EXAMPLES, ROOT, program, ran, ran_whole, tool
@@ -232,6 +235,18 @@ def taken(adding, text):
     return wrong
 
 
+def ends_where(file, at):
+    """Whether the reading of a file of reports, as the tool does it, ends with 1 and one line, which says this byte."""
+    said = io.StringIO()
+    try:
+        with contextlib.redirect_stderr(said):
+            command.Command("timeline").rounds(str(file))
+    except SystemExit as ended:
+        line = said.getvalue()
+        return ended.code == 1 and line.count("\n") == 1 and line.endswith("\n") and f" at byte {at}: " in line
+    return False
+
+
 def check_cut(checks):
     memo = checks.folder / "memo"
     _, printed, _ = program("run", *PAIR, "--workers", "1", "--memo", memo)
@@ -242,6 +257,9 @@ def check_cut(checks):
         wrong = taken(lambda part, name=adding: getattr(steps.Rounds(made), name)(1, part), text)
         checks.expect(f"a {what} that is cut is refused, but at {wrong}", not wrong)
         getattr(steps.Rounds(made), adding)(1, text)
+    taken_at = [at for at in range(len(printed)) if not ends_where(checks.file("cut", printed[:at]), at)]
+    whole = len(made[0].lines) + len(made[0].output) + 1  # the first report, which is one by itself
+    checks.expect(f"reports that are cut are refused in a line that says where, but at {taken_at}", taken_at == [whole])
     for at in (0, 1, 50, 99, len(printed) // 2, len(printed) - 1):
         status, told, said = tool("timeline", checks.file("cut", printed[:at]))
         checks.expect(f"timeline of reports cut at {at}: {status} {said}",

@@ -302,7 +302,7 @@ def picture(known):
     width, height = round(right + MARGIN), round(top - GAP + MARGIN)
     size = f'width="{width}" height="{height}"'
     yield (f'<svg xmlns="http://www.w3.org/2000/svg" {size} viewBox="0 0 {width} {height}">\n'
-           f"<title>Steps of {len(numbers)} rounds</title>\n<style>{STYLE}</style>\n{DEFINITIONS}"
+           f"<title>Steps of {f'{len(numbers)} rounds' if numbers[1:] else 'a round'}</title>\n<style>{STYLE}</style>\n{DEFINITIONS}"
            f'<rect {size} fill="#fff"/>\n')
     yield from legend(drawn, MARGIN, MARGIN + 12)
     yield f"{drawn}</svg>\n"

@@ -1,0 +1,190 @@
+/* What orders come to, in each region: first.c, after what `ithreads why` said of three edits, as docs/GUESTS.md tells.
+   It puts out the same, of the same input.
+
+   What is found out of a block stands on a page of the block, and the main thread adds it up at the end: so no counter
+   changes beside the tables, and no sum goes from block to block. How many lines a block has stands there too, so that
+   no worker asks for the input's length. */
+#include "ithreads.h"
+
+enum { WORKERS = 4, REGIONS = 4, LINE = 16, LINES = IT_PAGE / LINE, ITEMS = LINES, MOST = 100 };
+enum { NONE = 1000000 }; /* more than five digits make */
+enum { BLOCKS = IT_INPUT_MOST / IT_PAGE - 1 };
+
+struct order {
+    unsigned item, quantity, region;
+};
+
+struct region {
+    unsigned orders, total, largest;
+};
+
+struct IT_PAGE_ALIGNED block {
+    unsigned lines; /* 0 behind the input's end */
+    unsigned taken, refused;
+    struct region sums[REGIONS];
+};
+
+static const char names[REGIONS][8] = {"north", "south", "east", "west"};
+
+static unsigned prices[ITEMS];  /* 0 where there is no such item */
+static unsigned rates[MOST];    /* how many 64ths of the price are paid, by how many are ordered */
+static unsigned taken, refused; /* orders and other lines, of all blocks */
+static struct region totals[REGIONS];
+static struct block blocks[BLOCKS];
+static char text[REGIONS * 48];
+
+/* ---- lines of the input ---- */
+
+/* the number that so many digits make; NONE where one isn't a digit */
+static unsigned number(const unsigned char *digits, unsigned count)
+{
+    unsigned value = 0;
+    for (unsigned k = 0; k < count; k++) {
+        unsigned digit = digits[k] - '0';
+        if (digit > 9)
+            return NONE;
+        value = value * 10 + digit;
+    }
+    return value;
+}
+
+/* the region of this name, which a space follows; REGIONS where it is none */
+static unsigned region_of(const unsigned char *name)
+{
+    for (unsigned region = 0; region < REGIONS; region++) {
+        unsigned k = 0;
+        while (names[region][k] && name[k] == (unsigned char)names[region][k])
+            k++;
+        if (!names[region][k] && name[k] == ' ')
+            return region;
+    }
+    return REGIONS;
+}
+
+/* whether a line is an order of something that is sold, and which */
+static int is_order(const unsigned char *line, struct order *order)
+{
+    order->item = number(line, 3);
+    order->quantity = number(line + 5, 2);
+    order->region = region_of(line + 8);
+    return line[3] == ' ' && line[4] == 'x' && line[7] == ' ' && order->item < ITEMS && prices[order->item] != 0 &&
+           order->quantity > 0 && order->quantity < MOST && order->region < REGIONS;
+}
+
+/* ---- tables ---- */
+
+static void read_prices(void)
+{
+    for (unsigned k = 0; k < ITEMS; k++) {
+        const unsigned char *line = it_input() + k * LINE;
+        unsigned item = number(line, 3), price = number(line + 4, 5);
+        if (item < ITEMS && price < NONE)
+            prices[item] = price;
+    }
+}
+
+static void make_rates(void)
+{
+    for (unsigned quantity = 0; quantity < MOST; quantity++)
+        rates[quantity] = quantity < 10 ? 64 : quantity < 50 ? 61 : 58;
+}
+
+static unsigned cost(const struct order *order)
+{
+    return order->quantity * prices[order->item] * rates[order->quantity] / 64;
+}
+
+/* ---- counting ---- */
+
+static void add(struct region *region, unsigned money)
+{
+    region->orders++;
+    region->total += money;
+    if (money > region->largest)
+        region->largest = money;
+}
+
+static void add_up(const struct region *sums)
+{
+    for (unsigned region = 0; region < REGIONS; region++) {
+        totals[region].orders += sums[region].orders;
+        totals[region].total += sums[region].total;
+        if (sums[region].largest > totals[region].largest)
+            totals[region].largest = sums[region].largest;
+    }
+}
+
+/* tells each block how many lines it has */
+static IT_NOINLINE void deal(void)
+{
+    unsigned length = it_input_length();
+    for (unsigned b = 0, at = IT_PAGE; at < length; b++, at += IT_PAGE)
+        blocks[b].lines = length - at < IT_PAGE ? (length - at + LINE - 1) / LINE : LINES;
+}
+
+/* whether there was something to count */
+static IT_NOINLINE int count(unsigned b)
+{
+    struct block *block = &blocks[b];
+    const unsigned char *line = it_input() + (b + 1) * IT_PAGE, *end = line + block->lines * LINE;
+    for (; line < end; line += LINE) {
+        struct order order;
+        if (is_order(line, &order)) {
+            add(&block->sums[order.region], cost(&order));
+            block->taken++;
+        } else {
+            block->refused++;
+        }
+    }
+    return block->lines != 0;
+}
+
+static unsigned work(unsigned worker)
+{
+    for (unsigned b = worker; b < BLOCKS && count(b); b += WORKERS)
+        it_yield();
+    return 0;
+}
+
+/* ---- output ---- */
+
+static char *put_number(char *end, char before, unsigned value)
+{
+    *end++ = before;
+    return it_decimal(end, value);
+}
+
+static IT_NOINLINE unsigned write_text(void)
+{
+    char *end = text;
+    for (unsigned b = 0; b < BLOCKS && blocks[b].lines; b++) {
+        taken += blocks[b].taken;
+        refused += blocks[b].refused;
+        add_up(blocks[b].sums);
+    }
+    for (unsigned region = 0; region < REGIONS; region++) {
+        end = it_text(end, names[region]);
+        end = put_number(end, ' ', totals[region].orders);
+        end = put_number(end, ' ', totals[region].total);
+        end = put_number(end, ' ', totals[region].largest);
+        *end++ = '\n';
+    }
+    end = put_number(it_text(end, "taken"), ' ', taken);
+    end = put_number(it_text(end, " refused"), ' ', refused);
+    *end++ = '\n';
+    return (unsigned)(end - text);
+}
+
+int main(void)
+{
+    read_prices();
+    make_rates();
+    it_yield();
+    deal();
+    for (unsigned worker = 0; worker < WORKERS; worker++)
+        it_thread_create(work, worker);
+    for (unsigned worker = 0; worker < WORKERS; worker++)
+        it_thread_join(worker + 1, 0);
+    it_put(text, write_text());
+    return 0;
+}

@@ -1,0 +1,226 @@
+"""Checks `tools/why`, with recorded lines of `ithreads why` for the memo of pair.elf, and a symbol table that is put
+behind that guest here.
+
+  - Without --symbols it prints those lines, and where the program refuses, it ends as the program does.
+  - With --symbols it names functions, calls, variables, registers, bytes of the input and of stacks.
+  - An executable that is cut, has no symbols, or other code, is refused with a line.
+  - Where there is clang with lld and llvm-symbolizer, lines of a C file are named.
+  - What docs/GUESTS.md shows of three edits is what the program prints for the committed executable, and the tool
+    where the guest that is built here is that one.
+"""
+import re
+import shutil
+import struct
+
+import symbols
+from checking import EXAMPLES, ROOT, program, ran_whole, tool
+
+WALK = EXAMPLES / "guest/orders"
+WHY = """\
+why 7
+step 3 thread 2 number 0 page c0002000 at 0 now 8 was 7 by start
+step 5 thread 2 number 1 register 8 now 8 was 7
+step 7 thread 1 number 2 page d001fff0 at 12 now 8 was 7 by 4
+step 8 thread 2 number 2 register 0 now 65540 was 65656
+step 9 thread 0 number 3 page 00011000 at 2 now 13 was 12 by 5
+step 10 thread 0 number 4 page 00011000 at 16 now 1 was 0 by 8
+step 12 thread 0 number 6 none
+"""
+EXPLAINED = """\
+why 7
+step 3 thread 2 number 0 page c0002000 at 0 now 8 was 7 by start
+    from worker to lock in worker
+    c0002000 is byte 4096 of the input
+step 5 thread 2 number 1 register 8 now 8 was 7
+    from worker to unlock in worker
+    register 8 is s0
+step 7 thread 1 number 2 page d001fff0 at 12 now 8 was 7 by 4
+    from worker to thread_exit in worker
+    d001fffc is on the stack of thread 1, 4 bytes below its top
+step 8 thread 2 number 2 register 0 now 65540 was 65656
+    from worker to thread_exit in worker
+    register 0 is the pc: now main, and was worker
+step 9 thread 0 number 3 page 00011000 at 2 now 13 was 12 by 5
+    from main to join in main
+    00011002 is total + 2
+    beside it: most, turns
+    stored by step 5, of thread 2, from worker on
+step 10 thread 0 number 4 page 00011000 at 16 now 1 was 0 by 8
+    from main to put in main
+    00011010 is of nothing that has a name
+    stored by step 8, of thread 2, from main on
+step 12 thread 0 number 6 none
+"""
+# What stands in the place of the program: it prints the file `lines`, and ends with the status in `status`.
+FAKE = """#!/bin/sh
+echo "$*" >"$(dirname "$0")/words"
+cat "$(dirname "$0")/lines"
+[ -s "$(dirname "$0")/said" ] && cat "$(dirname "$0")/said" >&2
+exit "$(cat "$(dirname "$0")/status")"
+"""
+C_FILE = b"""#include "ithreads.h"
+static unsigned total;
+__attribute__((noinline)) static void add(unsigned more) {
+    it_mutex_lock(0);
+    total += more;
+    it_mutex_unlock(0);
+}
+int main(void) {
+    add(5);
+    it_put(&total, 4);
+    return 0;
+}
+"""
+
+
+def with_symbols(elf, named):
+    """An executable with a symbol table behind it: names with their addresses, sizes and kinds."""
+    names, table = b"\0", bytes(16)
+    for name, address, size, kind in named:
+        table += struct.pack("<IIIBBH", len(names), address, size, kind, 0, 1)
+        names += name.encode() + b"\0"
+    start = len(elf)
+    sections = [(0,) * 10, (0, 1, 6, 0x10000, 84, 148, 0, 0, 4, 0),
+                (0, symbols.TABLE, 0, 0, start, len(table), 3, 1, 4, 16),
+                (0, 3, 0, 0, start + len(table), len(names), 0, 0, 1, 0)]
+    behind = elf + table + names
+    made = bytearray(behind + b"".join(struct.pack("<10I", *one) for one in sections))
+    struct.pack_into("<I", made, 32, len(behind))
+    struct.pack_into("<HHH", made, 46, 40, len(sections), 0)
+    return bytes(made)
+
+
+def guest_with_symbols():
+    named = [("main", 0x10000, 0x5C, symbols.FUNCTION), ("worker", 0x1005C, 0x38, symbols.FUNCTION),
+             ("total", 0x11000, 4, symbols.OBJECT), ("most", 0x11004, 4, symbols.OBJECT),
+             ("turns", 0x11800, 4096, symbols.OBJECT), ("next", 0x13000, 4, symbols.OBJECT),
+             ("$x", 0x10000, 0, symbols.PLAIN)]
+    return with_symbols((EXAMPLES / "pair.elf").read_bytes(), named)
+
+
+class Place:
+    """A folder with a copy of the tools, and the fake program beside it."""
+
+    def __init__(self, folder):
+        self.folder = folder / "with-recorded-lines"
+        shutil.copytree(ROOT / "tools", self.folder / "tools")
+        (self.folder / "ithreads").write_text(FAKE)
+        (self.folder / "ithreads").chmod(0o755)
+
+    def ran(self, lines, status, said, *words):
+        """What the tool does where the program prints these lines, ends with this status, and says this."""
+        for name, text in (("lines", lines), ("status", str(status)), ("said", said)):
+            (self.folder / name).write_text(text)
+        return ran_whole(str(self.folder / "tools/why"), *map(str, words))
+
+    def words(self):
+        return (self.folder / "words").read_text()
+
+
+def check_lines(checks, place, memo, guest):
+    """What is printed, with symbols and without."""
+    for lines in (WHY, "why 0\n"):
+        got = place.ran(lines, 0, "", memo, "e")
+        checks.expect(f"why without symbols: {got}", got == (0, lines.encode(), ""))
+        checks.expect(f"what the program is asked: {place.words()}", place.words() == f"why -- {memo} e\n")
+    got = place.ran(WHY, 0, "", memo, "e", "--symbols", guest)
+    checks.expect(f"why with symbols: {got[0]}, {got[2]}, {got[1].decode()}", got == (0, EXPLAINED.encode(), ""))
+    got = place.ran("why 0\n", 0, "", memo, "e", "--symbols", guest)
+    checks.expect(f"why with symbols and no step: {got}", got == (0, b"why 0\n", ""))
+    for status, said in ((4, "memo: Digest\n"), (5, "edits e line 1: BadLine\n"), (6, "read e\n"), (125, "no rt\n")):
+        for more in ([], ["--symbols", guest]):
+            got = place.ran("", status, said, memo, "e", *more)
+            checks.expect(f"why where the program refuses: {got}", got == (status, b"", said))
+
+
+def check_refused(checks, place, memo, guest):
+    pair, whole = EXAMPLES / "pair.elf", guest.read_bytes()
+    changed = bytearray(whole)
+    changed[84 + 0x60] ^= 1
+    for what, file, why in (
+            ("no symbols", pair, "has no symbol table"), ("no file", checks.folder / "none", "can't be read"),
+            ("no executable", EXAMPLES / "empty", "can't be read"),
+            ("a cut file", checks.file("cut", whole[:-41]), "can't be read"),
+            ("other code", checks.file("other", bytes(changed)), "isn't the memo's guest"),
+            ("another guest", checks.file("length", with_symbols((EXAMPLES / "length.elf").read_bytes(), [])),
+             "isn't the memo's guest")):
+        got = place.ran(WHY, 0, "", memo, "e", "--symbols", file)
+        right = got[:2] == (2, b"") and got[2].startswith("tools/why: ") and got[2].count("\n") == 1
+        checks.expect(f"why with {what}: {got}", right and why in got[2])
+    for lines in ("why 1\nstep 3\n", "why 2\n" + WHY.split("\n")[1] + "\n", "", "why 0"):
+        got = place.ran(lines, 0, "", memo, "e", "--symbols", guest)
+        checks.expect(f"lines that aren't understood: {got}", got[:2] == (2, b"") and "isn't understood" in got[2])
+    taken = []
+    for at in range(len(whole)):
+        try:
+            symbols.Symbols("cut", whole[:at])
+            taken.append(at)
+        except symbols.NoSymbols:
+            pass
+    checks.expect(f"an executable that is cut has no symbols, but at {taken}", not taken)
+
+
+def check_source(checks):
+    """The functions, lines and variables of a C file."""
+    if not (shutil.which("clang") and shutil.which("ld.lld") and shutil.which("llvm-symbolizer")):
+        print("skipped: naming the lines of a C file, since there is no clang with lld and llvm-symbolizer")
+        return
+    source, elf = checks.file("source.c", C_FILE), checks.folder / "source.elf"
+    ran_whole(str(ROOT / "guest/build"), "--symbols", str(source), str(elf))
+    if not checks.expect("a guest is built with symbols", elf.exists()):
+        return
+    found = symbols.Symbols(str(elf), elf.read_bytes())
+    places = {symbol.name: symbol for symbol in found.found}
+    add = places["add"]
+    calls = [at for at in range(add.address, add.address + add.size, 4)]
+    found.read_lines(calls)
+    lines = {found.code(at) for at in calls}
+    wanted = {"add, source.c:4", "add, source.c:5", "add, source.c:6"}
+    checks.expect(f"the lines of a function: {sorted(lines)}", wanted <= lines and
+                  all(line.startswith("add, source.c:") for line in lines))
+    total = places["total"]
+    names = [found.data(total.address + place) for place in (0, 3)]
+    checks.expect(f"a variable's bytes: {names}", names == ["total", "total + 3"])
+
+
+def is_shown(printed, block):
+    """Whether a block of the guide has these lines, up to a line of two dots where there is one."""
+    lines, wanted = printed.decode().split("\n"), block.split("\n")
+    if ".." in wanted:
+        wanted = wanted[:wanted.index("..")]
+        lines = lines[:len(wanted)]
+    return lines == wanted
+
+
+def check_guide(checks):
+    """The edits of the guide's walk: with the committed executable, and built as it says."""
+    memo, built = checks.folder / "orders.memo", checks.folder / "orders.elf"
+    told = re.findall(r"^tools/why orders\.memo (\S+) --symbols orders\.elf\n```\n.*?^```\n(why [0-9]+\n.*?)^```$",
+                      (ROOT / "docs/GUESTS.md").read_text(), flags=re.S | re.M)
+    checks.expect(f"docs/GUESTS.md has the reasons of three edits, {len(told)}", len(told) == 3)
+    program("run", WALK / "first.elf", WALK / "orders.in", "--workers", "1", "--memo", memo)
+    for edits, block in told:
+        _, printed, said = program("why", memo, ROOT / edits)
+        plain = "".join(line for line in block.splitlines(True) if not line.startswith("    "))
+        checks.expect(f"docs/GUESTS.md has the reasons of {edits}: {said}", is_shown(printed, plain))
+    if not (shutil.which("clang") and shutil.which("ld.lld") and shutil.which("llvm-symbolizer")):
+        print("skipped: the names that docs/GUESTS.md shows, since there is no clang with lld and llvm-symbolizer")
+        return
+    ran_whole(str(ROOT / "guest/build"), "--symbols", str(WALK / "first.c"), str(built))
+    for edits, block in told:
+        status, printed, said = tool("why", memo, ROOT / edits, "--symbols", built)
+        if status == 2 and "isn't the memo's guest" in said:
+            print(f"skipped: the names that docs/GUESTS.md shows of {edits}: clang writes another guest here")
+        else:
+            checks.expect(f"docs/GUESTS.md has the names of {edits}: {status} {said}", is_shown(printed, block))
+
+
+def check(checks):
+    memo, guest = checks.folder / "pair.memo", checks.file("guest.elf", guest_with_symbols())
+    program("run", EXAMPLES / "pair.elf", EXAMPLES / "pair.in", "--workers", "1", "--memo", memo)
+    if checks.expect("pair.elf: a memo is written", memo.exists()):
+        place = Place(checks.folder)
+        check_lines(checks, place, memo, guest)
+        check_refused(checks, place, memo, guest)
+    check_source(checks)
+    check_guide(checks)

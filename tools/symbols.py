@@ -1,0 +1,120 @@
+"""What an executable with symbols says of addresses: functions and variables by its symbol table, which is read here,
+and lines by llvm-symbolizer, where that is installed and the executable has them."""
+import bisect
+import json
+import shutil
+import struct
+import subprocess
+from dataclasses import dataclass
+
+TABLE, FUNCTION, OBJECT, PLAIN = 2, 2, 1, 0  # types of a section, and of symbols
+PAGE = 4096
+IN_HEADER = "ithreads.h"  # whose functions are inlined, so that a line of it says little
+AT_ONCE = 500  # addresses
+
+
+class NoSymbols(Exception):
+    """The executable has no symbols that can be read."""
+
+
+@dataclass
+class Symbol:
+    """A name of `size` bytes from an address on."""
+
+    address: int
+    size: int
+    name: str
+    kind: int
+
+
+def segments(elf):
+    """What an executable loads: of each part where it stands, its sizes and its rights; and its bytes, without the
+    header, which has also what isn't loaded."""
+    try:
+        table, count = struct.unpack_from("<I", elf, 28)[0], struct.unpack_from("<H", elf, 44)[0]
+        headers = [struct.unpack_from("<8I", elf, table + 32 * number) for number in range(count)]
+    except struct.error as why:
+        raise NoSymbols("it is no executable") from why
+    loads = [header for header in headers if header[0] == 1]
+    return [(header[2], header[4:7], elf[max(header[1], 52):header[1] + header[4]]) for header in loads]
+
+
+def text_at(data, place):
+    return data[place:data.find(b"\0", place)].decode("utf-8", "replace")
+
+
+def symbols_of(elf):
+    """The functions, variables and labels of the symbol table."""
+    try:
+        place, size, count = struct.unpack_from("<I", elf, 32)[0], *struct.unpack_from("<HH", elf, 46)
+        sections = [struct.unpack_from("<10I", elf, place + size * number) for number in range(count)]
+        table = next((one for one in sections if one[1] == TABLE), None)
+        if place == 0 or table is None:
+            raise NoSymbols("it has no symbol table; guest/build --symbols keeps one")
+        names, found = sections[table[6]][4], []
+        for at in range(table[4], table[4] + table[5], 16):
+            name, address, length, kind, _, section = struct.unpack_from("<IIIBBH", elf, at)
+            symbol = Symbol(address, length, text_at(elf, names + name), kind & 15)
+            if section and symbol.kind in (PLAIN, OBJECT, FUNCTION) and symbol.name and symbol.name[0] not in "$.":
+                found.append(symbol)
+    except (struct.error, IndexError) as why:
+        raise NoSymbols("its symbol table can't be read") from why
+    return sorted(found, key=lambda symbol: (symbol.address, symbol.kind))
+
+
+class Symbols:
+    """The symbols of an executable, by their addresses."""
+
+    def __init__(self, name, elf):
+        self.name, self.found, self.segments = name, symbols_of(elf), segments(elf)
+        self.starts, self.lines, self.pages = [symbol.address for symbol in self.found], {}, {}
+
+    def at(self, address):
+        """The symbol that an address is of: one whose bytes it is among, or else a label before it."""
+        place = bisect.bisect_right(self.starts, address)
+        before = self.found[max(0, place - 20):place][::-1]
+        inside = (symbol for symbol in before if address < symbol.address + symbol.size)
+        label = (symbol for symbol in before[:1] if symbol.kind == PLAIN and not symbol.size)
+        return next(inside, next(label, None))
+
+    def on_page(self, address):
+        """The variables that have a byte on the page of an address."""
+        page = address - address % PAGE
+        if page not in self.pages:
+            self.pages[page] = [symbol for symbol in self.found if symbol.kind == OBJECT
+                                and symbol.address < page + PAGE and symbol.address + symbol.size > page]
+        return self.pages[page]
+
+    def read_lines(self, addresses):
+        """Asks for the lines of these addresses of code."""
+        tool, wanted = shutil.which("llvm-symbolizer"), sorted(set(addresses))
+        for start in range(0, len(wanted) if tool else 0, AT_ONCE):
+            words = [tool, "--output-style=JSON", f"--obj={self.name}", *map(hex, wanted[start:start + AT_ONCE])]
+            ran = subprocess.run(words, stdin=subprocess.DEVNULL, capture_output=True, check=False)
+            try:
+                told = json.loads(ran.stdout or b"[]")
+            except json.JSONDecodeError:
+                told = []
+            self.lines.update({int(one["Address"], 16): line_of(one.get("Symbol", [])) for one in told})
+
+    def code(self, address):
+        """The function that an address is in, with its line where it is known."""
+        line, symbol = self.lines.get(address), self.at(address)
+        if line:
+            return f"{line[0]}, {line[1]}"
+        return symbol.name if symbol else f"{address:08x}"
+
+    def data(self, address):
+        """The variable that an address is in; None where it is in none."""
+        symbol = self.at(address)
+        if symbol is None or symbol.kind != OBJECT and symbol.size == 0:
+            return None
+        return symbol.name + (f" + {address - symbol.address}" if address > symbol.address else "")
+
+
+def line_of(frames):
+    """The function and the line, in the innermost of the files of the guest itself; None where none is known."""
+    known = [(one["FunctionName"], one["FileName"].rpartition("/")[2], one["Line"]) for one in frames
+             if one.get("Line") and one.get("FunctionName")]
+    own = [one for one in known if one[1] != IN_HEADER]
+    return next(((name, f"{file}:{line}") for name, file, line in own or known), None)
