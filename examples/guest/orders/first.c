@@ -8,7 +8,9 @@
 
    A block is one page of orders, or 256. Worker w takes the blocks w, w + 4, .., adds up in an array of its own, and
    says behind each block how many orders it took and how many lines it refused. At its end it adds what it has to the
-   totals of all. */
+   totals of all.
+
+   reuse: fewer, since each step asks for the input's length. */
 #include "ithreads.h"
 
 enum { WORKERS = 4, REGIONS = 4, LINE = 16, LINES = IT_PAGE / LINE, ITEMS = LINES, MOST = 100 };
