@@ -48,6 +48,7 @@ step 9 thread 0 number 3 page 00011000 at 2 now 13 was 12 by 5
 step 10 thread 0 number 4 page 00011000 at 16 now 1 was 0 by 8
     from main to put in main
     00011010 is of nothing that has a name
+    beside it: total, most, turns
     stored by step 8, of thread 2, from main on
 step 12 thread 0 number 6 none
 """
