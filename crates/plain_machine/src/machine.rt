@@ -1,19 +1,20 @@
 //! The plain machine, one step at a time.
 
-ghost use Rattle.std.specs.Prelude.{◌≡◌, ◌<◌, ◌≤◌, ◌+◌, ◌-◌, ◌^◌, true, [], ◌∷◌, length, slice_set, IfOk};
+ghost use Rattle.std.specs.Prelude.{◌≡◌, ◌<◌, ◌≤◌, ◌+◌, ◌-◌, ◌^◌, true, [], ◌∷◌, length, slice_set, IfOk, OnOk};
 ghost use Rattle.std.specs.Arc.{arc_value};
-ghost use Rattle.machine_spec.specs.Machine.{Machine, hart_of, hart_in};
+ghost use Rattle.machine_spec.specs.Machine.{Machine, hart_of, hart_in, is_ready};
 ghost use Rattle.machine_spec.specs.Setup.{first, map_of, start_memory};
 ghost use Rattle.machine_spec.specs.Performing.{first_hart};
 ghost use Rattle.machine_spec.specs.Step as step;
-ghost use Rattle.machine_spec.specs.Whole.{IsWhole};
-ghost use Rattle.plain_machine.specs.Making.{IsMade};
+ghost use Rattle.machine_spec.specs.Whole.{IsTied, IsWhole};
+ghost use Rattle.plain_machine.specs.Doing.{harts_after, objects_after, own_end, effect_made};
+ghost use Rattle.plain_machine.specs.Making.{IsMade, asked_by};
 
-use super::acting::{Acted, Written, asked, do_as_asked};
+use super::acting::{Written, asked, do_as_asked};
 use super::hart::Hart;
 use super::start::memory_of;
 use super::stores::lay_all;
-use super::thunk::run;
+use super::thunk::{Done, run};
 use super::work::copy_of;
 use call_effect::Effect;
 use machine_spec::{Asked, End, Status};
@@ -221,6 +222,43 @@ fn write_back(harts: &mut Vec<Hart>, t: u8, regs: Regs)
     hart.write_back(regs);
 }
 
+/// Does what thread `t`'s thunk asks, after it was written, and looks for the end: what the step did, and how the run
+/// ended, if it has.
+///
+/// # Errors
+///
+/// An error where the host's memory ran out.
+fn finish(
+    alloc: Global,
+    harts: &mut Vec<Hart>,
+    objects: &mut Objects,
+    written: &Written<'_>,
+    t: u8,
+    done: &Done,
+) -> Result<(Made, Option<End>), AllocError>
+    requires tied { IsTied objects.old harts.old.items }
+    requires ready { is_ready (hart_in harts.old.items t).status ≡ true }
+    ensures harts { OnOk result (harts.new.items
+        ≡ harts_after written.now.map.now objects.old written.now.memory.now t harts.old.items (asked_by t done.now)) }
+    ensures objects { OnOk result (objects.new ≡ objects_after written.now.map.now objects.old t (asked_by t done.now)) }
+    ensures ending { IfOk result (λ r. r.1
+        ≡ step.end_after (own_end written.now.map.now objects.old t (asked_by t done.now)) harts.new.items
+        written.now.limit written.now.steps) }
+    ensures count { IfOk result (λ r. r.0.count ≡ done.now.count) }
+    ensures asks { IfOk result (λ r. r.0.asked ≡ asked_by t done.now) }
+    ensures effect { IfOk result (λ r. r.0.effect
+        ≡ effect_made written.now.map.now objects.old t (asked_by t done.now)) }
+{
+    let asked = asked(t, done.end, &done.regs);
+    let acted = do_as_asked(alloc, harts, objects, written, t, asked)?;
+    let made = Made {
+        count: done.count,
+        asked,
+        effect: acted.effect,
+    };
+    Ok((made, acted.ending))
+}
+
 impl PlainMachine {
     /// Makes a step of thread `t`, which may make one: its thunk is run on its view, its stores are laid on shared
     /// memory in order, and its call is performed. The counter rises by the number of the thunk's turns.
@@ -259,21 +297,13 @@ impl PlainMachine {
         lay_all(&map, memory.as_mut_slice(), done.stores.as_slice());
         output.extend_from_slice(done.put.as_slice())?;
         write_back(&mut harts, t, done.regs);
-        let asked = asked(t, done.end, &done.regs);
         let written = Written {
             map: &map,
             memory: memory.as_slice(),
             limit,
             steps: steps + 1,
         };
-        let Acted { ending, effect } = do_as_asked(
-            alloc,
-            &mut harts,
-            &mut objects,
-            &written,
-            t,
-            asked,
-        )?;
+        let (made, ending) = finish(alloc, &mut harts, &mut objects, &written, t, &done)?;
         let machine = PlainMachine {
             alloc,
             map,
@@ -285,11 +315,6 @@ impl PlainMachine {
             output,
             steps: steps + 1,
             ending,
-        };
-        let made = Made {
-            count: done.count,
-            asked,
-            effect,
         };
         Ok((machine, made))
     }

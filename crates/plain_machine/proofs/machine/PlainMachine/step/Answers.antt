@@ -8,6 +8,7 @@ use Rattle.std.specs.Vec.{with_items}
 use Rattle.isa_spec.specs.Registers.{Registers}
 use Rattle.memory_spec.specs.Pages.{Mapped, Memory, IsMemory}
 use Rattle.memory_spec.specs.Stores.{laid}
+use Rattle.machine_spec.specs.declared.states.Asked.{Asked}
 use Rattle.machine_spec.specs.Machine.{Machine, Hart, hart_in}
 use Rattle.machine_spec.specs.Step as step
 use Rattle.machine_spec.specs.Whole.{IsWhole}
@@ -17,7 +18,7 @@ use Rattle.machine_spec.proofs.Tied.{tied-written}
 use Rattle.plain_machine.specs.Stored.{bytes_of}
 use Rattle.plain_machine.specs.Turning.{IsDone}
 use Rattle.plain_machine.specs.Doing.{harts_after, objects_after, own_end, effect_made}
-use Rattle.plain_machine.specs.Making.{IsMade}
+use Rattle.plain_machine.specs.Making.{IsMade, asked_by}
 use Rattle.plain_machine.proofs.Laying.{laid_count}
 use Rattle.plain_machine.proofs.Stepping.{stepped, told}
 use Rattle.plain_machine.proofs.machine.PlainMachine.step.Goals as goal
@@ -44,8 +45,8 @@ run-requires g c =
     subst (IsMemory map) (sym view_is)
     (hart-at map c.self.inside.steps c.self.inside.harts.items c.args.t below c.self.invariant.harts).view
 
-pub do_as_asked-requires-clause-tied : goal.do_as_asked-requires-clause-tied
-do_as_asked-requires-clause-tied g c =
+pub finish-requires-clause-tied : goal.finish-requires-clause-tied
+finish-requires-clause-tied g c =
     rw c.write_back.ensures
     (tied-written c.self.inside.objects c.self.inside.harts.items c.args.t _ refl c.self.invariant.tied)
 
@@ -74,6 +75,7 @@ invariant_of-machine g c =
     regs_is
     (subst (λ (v : Memory). IsDone m.frame v c.regs.result.now c.in_ok-done.done) view_is c.in_ok-done.ensures.done) in
     let stores = bytes_of c.in_ok-done.done.stores.items in
+    let asks : Asked = asked_by c.args.t c.in_ok-done.done in
     let lay_is : c.lay_all.new.memory ≡ laid map c.self.inside.memory.items stores =
     c.lay_all.ensures
     ∙ ap (λ (p : List Mapped). laid p c.as_mut_slice.result.now (bytes_of c.as_slice.result.now)) c.deref.ensures
@@ -86,29 +88,29 @@ invariant_of-machine g c =
     with_items_is c.self.inside.memory c.lay_all.new.memory (omega (arith, same_count)) ∙ lay_is in
     let is_output : c.extend_from_slice.new.self.items ≡ c.self.inside.output.items ++ c.in_ok-done.done.put.items =
     grind (arith, common_steps, c.in_ok-extend_from_slice.ensures.items, c.as_slice-2.ensures.value) in
-    let is_harts : c.do_as_asked.new.harts.items ≡ harts_after map c.self.inside.objects
+    let is_harts : c.finish.new.harts.items ≡ harts_after map c.self.inside.objects
     (with_items c.self.inside.memory c.lay_all.new.memory).items c.args.t c.write_back.new.harts.items
-    c.asked-asked.result =
-    c.in_ok-ending.ensures.harts
+    asks =
+    c.in_ok-made.ensures.harts
     ∙ ap (λ (p : List Mapped). harts_after p c.self.inside.objects c.as_slice-3.result.now c.args.t
-    c.write_back.new.harts.items c.asked-asked.result) c.deref-2.ensures
+    c.write_back.new.harts.items asks) c.deref-2.ensures
     ∙ ap (λ (x : Memory). harts_after map c.self.inside.objects x c.args.t
-    c.write_back.new.harts.items c.asked-asked.result) c.as_slice-3.ensures.value in
-    let is_objects : c.do_as_asked.new.objects ≡ objects_after map c.self.inside.objects c.args.t
-    c.asked-asked.result =
-    c.in_ok-ending.ensures.objects
-    ∙ ap (λ (p : List Mapped). objects_after p c.self.inside.objects c.args.t c.asked-asked.result) c.deref-2.ensures in
-    let is_ending : c.in_ok-ending.field-0.ending ≡ step.end_after
-    (own_end map c.self.inside.objects c.args.t c.asked-asked.result) c.do_as_asked.new.harts.items
+    c.write_back.new.harts.items asks) c.as_slice-3.ensures.value in
+    let is_objects : c.finish.new.objects ≡ objects_after map c.self.inside.objects c.args.t
+    asks =
+    c.in_ok-made.ensures.objects
+    ∙ ap (λ (p : List Mapped). objects_after p c.self.inside.objects c.args.t asks) c.deref-2.ensures in
+    let is_ending : c.in_ok-made.ending ≡ step.end_after
+    (own_end map c.self.inside.objects c.args.t asks) c.finish.new.harts.items
     c.self.inside.limit (c.self.inside.steps + 1) =
-    c.in_ok-ending.ensures.ending
-    ∙ ap (λ (p : List Mapped). step.end_after (own_end p c.self.inside.objects c.args.t c.asked-asked.result)
-    c.do_as_asked.new.harts.items c.self.inside.limit (c.self.inside.steps + 1)) c.deref-2.ensures in
+    c.in_ok-made.ensures.ending
+    ∙ ap (λ (p : List Mapped). step.end_after (own_end p c.self.inside.objects c.args.t asks)
+    c.finish.new.harts.items c.self.inside.limit (c.self.inside.steps + 1)) c.deref-2.ensures in
     subst IsWhole
     (sym (stepped m c.args.t c.in_ok-done.done (with_items c.self.inside.memory c.lay_all.new.memory).items
-    c.write_back.new.harts.items c.do_as_asked.new.harts.items c.do_as_asked.new.objects
-    c.extend_from_slice.new.self.items c.in_ok-ending.field-0.ending c.asked-asked.result
-    c.self.invariant.memory is_done is_memory c.write_back.ensures c.asked-asked.ensures is_output is_harts is_objects
+    c.write_back.new.harts.items c.finish.new.harts.items c.finish.new.objects
+    c.extend_from_slice.new.self.items c.in_ok-made.ending asks
+    c.self.invariant.memory is_done is_memory c.write_back.ensures refl is_output is_harts is_objects
     is_ending))
     (c.step_keeps_whole.ensures m c.args.t c.self.invariant may)
 
@@ -135,6 +137,7 @@ returns-clause-machine g c =
     regs_is
     (subst (λ (v : Memory). IsDone m.frame v c.regs.result.now c.in_ok-done.done) view_is c.in_ok-done.ensures.done) in
     let stores = bytes_of c.in_ok-done.done.stores.items in
+    let asks : Asked = asked_by c.args.t c.in_ok-done.done in
     let lay_is : c.lay_all.new.memory ≡ laid map c.self.inside.memory.items stores =
     c.lay_all.ensures
     ∙ ap (λ (p : List Mapped). laid p c.as_mut_slice.result.now (bytes_of c.as_slice.result.now)) c.deref.ensures
@@ -147,28 +150,28 @@ returns-clause-machine g c =
     with_items_is c.self.inside.memory c.lay_all.new.memory (omega (arith, same_count)) ∙ lay_is in
     let is_output : c.extend_from_slice.new.self.items ≡ c.self.inside.output.items ++ c.in_ok-done.done.put.items =
     grind (arith, common_steps, c.in_ok-extend_from_slice.ensures.items, c.as_slice-2.ensures.value) in
-    let is_harts : c.do_as_asked.new.harts.items ≡ harts_after map c.self.inside.objects
+    let is_harts : c.finish.new.harts.items ≡ harts_after map c.self.inside.objects
     (with_items c.self.inside.memory c.lay_all.new.memory).items c.args.t c.write_back.new.harts.items
-    c.asked-asked.result =
-    c.in_ok-ending.ensures.harts
+    asks =
+    c.in_ok-made.ensures.harts
     ∙ ap (λ (p : List Mapped). harts_after p c.self.inside.objects c.as_slice-3.result.now c.args.t
-    c.write_back.new.harts.items c.asked-asked.result) c.deref-2.ensures
+    c.write_back.new.harts.items asks) c.deref-2.ensures
     ∙ ap (λ (x : Memory). harts_after map c.self.inside.objects x c.args.t
-    c.write_back.new.harts.items c.asked-asked.result) c.as_slice-3.ensures.value in
-    let is_objects : c.do_as_asked.new.objects ≡ objects_after map c.self.inside.objects c.args.t
-    c.asked-asked.result =
-    c.in_ok-ending.ensures.objects
-    ∙ ap (λ (p : List Mapped). objects_after p c.self.inside.objects c.args.t c.asked-asked.result) c.deref-2.ensures in
-    let is_ending : c.in_ok-ending.field-0.ending ≡ step.end_after
-    (own_end map c.self.inside.objects c.args.t c.asked-asked.result) c.do_as_asked.new.harts.items
+    c.write_back.new.harts.items asks) c.as_slice-3.ensures.value in
+    let is_objects : c.finish.new.objects ≡ objects_after map c.self.inside.objects c.args.t
+    asks =
+    c.in_ok-made.ensures.objects
+    ∙ ap (λ (p : List Mapped). objects_after p c.self.inside.objects c.args.t asks) c.deref-2.ensures in
+    let is_ending : c.in_ok-made.ending ≡ step.end_after
+    (own_end map c.self.inside.objects c.args.t asks) c.finish.new.harts.items
     c.self.inside.limit (c.self.inside.steps + 1) =
-    c.in_ok-ending.ensures.ending
-    ∙ ap (λ (p : List Mapped). step.end_after (own_end p c.self.inside.objects c.args.t c.asked-asked.result)
-    c.do_as_asked.new.harts.items c.self.inside.limit (c.self.inside.steps + 1)) c.deref-2.ensures in
+    c.in_ok-made.ensures.ending
+    ∙ ap (λ (p : List Mapped). step.end_after (own_end p c.self.inside.objects c.args.t asks)
+    c.finish.new.harts.items c.self.inside.limit (c.self.inside.steps + 1)) c.deref-2.ensures in
     stepped m c.args.t c.in_ok-done.done (with_items c.self.inside.memory c.lay_all.new.memory).items
-    c.write_back.new.harts.items c.do_as_asked.new.harts.items c.do_as_asked.new.objects
-    c.extend_from_slice.new.self.items c.in_ok-ending.field-0.ending c.asked-asked.result
-    c.self.invariant.memory is_done is_memory c.write_back.ensures c.asked-asked.ensures is_output is_harts is_objects
+    c.write_back.new.harts.items c.finish.new.harts.items c.finish.new.objects
+    c.extend_from_slice.new.self.items c.in_ok-made.ending asks
+    c.self.invariant.memory is_done is_memory c.write_back.ensures refl is_output is_harts is_objects
     is_ending
     ∙ ap (λ (x : Machine). step.step x c.args.t) c.self.view_is
 
@@ -194,15 +197,10 @@ returns-clause-made g c =
     subst (λ (r : Registers). IsDone m.frame (hart_in c.self.inside.harts.items c.args.t).view r c.in_ok-done.done)
     regs_is
     (subst (λ (v : Memory). IsDone m.frame v c.regs.result.now c.in_ok-done.done) view_is c.in_ok-done.ensures.done) in
-    subst (λ (x : Machine). IsMade x c.args.t (record {
-      count = c.in_ok-done.done.count;
-      asked = c.asked-asked.result;
-      effect = c.in_ok-ending.field-0.effect;
-    })) c.self.view_is
-    (told m c.args.t c.in_ok-done.done (record {
-      count = c.in_ok-done.done.count;
-      asked = c.asked-asked.result;
-      effect = c.in_ok-ending.field-0.effect;
-    }) is_done refl c.asked-asked.ensures
-    (c.in_ok-ending.ensures.effect
-    ∙ ap (λ (p : List Mapped). effect_made p c.self.inside.objects c.args.t c.asked-asked.result) c.deref-2.ensures))
+    let asks : c.in_ok-made.made.asked ≡ asked_by c.args.t c.in_ok-done.done = c.in_ok-made.ensures.asks in
+    subst (λ (x : Machine). IsMade x c.args.t c.in_ok-made.made) c.self.view_is
+    (told m c.args.t c.in_ok-done.done c.in_ok-made.made is_done c.in_ok-made.ensures.count asks
+    (c.in_ok-made.ensures.effect
+    ∙ ap (λ (p : List Mapped). effect_made p c.self.inside.objects c.args.t (asked_by c.args.t c.in_ok-done.done))
+    c.deref-2.ensures
+    ∙ ap (effect_made map c.self.inside.objects c.args.t) (sym asks)))
