@@ -1,7 +1,9 @@
 -- The files of lemmas of this crate.
 mod Asking
+mod Fetching
 mod Laying
 mod Merging
+mod Placing
 mod Putting
 mod Schedules
 mod Stepping

@@ -7,6 +7,7 @@ use Rattle.memory_spec.specs.Workspace.{Workspace, Masks, no_marks, marked}
 use Rattle.plain_machine.specs.declared.work.Work.TheInside.{Inside}
 use Rattle.plain_machine.specs.Stored.{bytes_of}
 use Rattle.plain_machine.specs.Merging.{merged}
+use Rattle.plain_machine.specs.Fetching.{IsLast}
 
 -- The places that were stored to, which follow from the list of stores.
 abbrev pub stored_of : Inside → Masks
@@ -17,9 +18,10 @@ abbrev pub workspace_of : Inside → Workspace
 workspace_of w =
     record { map = arc_value w.map; view = []; memory = w.memory.items; stored = stored_of w; taken = [] }
 
--- There is a page for each of the map; and what the stores leave on any memory is what they left on this one at the
--- places that they stored to.
+-- There is a page for each of the map; what the stores leave on any memory is what they left on this one at the places
+-- that they stored to; and the page that was fetched from last is where it is said to be.
 pub record Keeps (w : Inside) : Type 0 where
   pub count : length w.memory.items ≡ length (arc_value w.map)
   pub lays : (shared : Memory) → IsMemory (arc_value w.map) shared
       → laid (arc_value w.map) shared (bytes_of w.stores.items) ≡ merged (stored_of w) w.memory.items shared
+  pub last : IsLast (arc_value w.map) w.last

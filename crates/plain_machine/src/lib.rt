@@ -10,6 +10,7 @@
 mod acting;
 mod hart;
 mod machine;
+mod pages;
 mod performing;
 mod put;
 mod replaying;

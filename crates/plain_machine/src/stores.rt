@@ -1,10 +1,11 @@
 //! Stores, listed in order, and laid on a memory one after the other.
 
-ghost use Rattle.std.specs.Prelude.{◌≡◌, ◌+◌, ◌*◌, ◌/◌, ◌%◌, ◌^◌, ◌<◌, length};
+ghost use Rattle.std.specs.Prelude.{◌≡◌, ◌+◌, ◌%◌, ◌<◌, ◌≤◌, length};
 ghost use Rattle.memory_spec.specs.Access.{byte_count, bytes_stored};
-ghost use Rattle.memory_spec.specs.Stores.{with_byte, laid};
-ghost use Rattle.plain_machine.specs.Stored.{bytes_of};
+ghost use Rattle.memory_spec.specs.Stores.{laid};
+ghost use Rattle.plain_machine.specs.Stored.{bytes_of, byte_of, with_number};
 
+use super::pages::offset_of;
 use memory_spec::{PAGE_SIZE, Size};
 use page_map::PageMap;
 use page_store::Page;
@@ -52,41 +53,39 @@ impl Stored {
 #[inline(always)]
 fn byte_at(value: u32, k: u32) -> u8
     requires { k < 4 }
-    ensures { result ≡ value / 2 ^ (8 * k) % 256 }
+    ensures { result ≡ byte_of value k }
 {
     ((value >> (8 * k)) & 0xff) as u8
 }
 
-/// Writes a byte at an address; one that no page has changes nothing.
+/// Writes the lowest bytes of a value into a page, byte after byte.
 #[inline(always)]
-#[tactic(auto, unfolding(memory_spec::specs::Stores::with_byte), using(crate::proofs::Laying::unmapped_byte))]
-fn write_byte(map: &PageMap, memory: &mut [Page], address: u32, byte: u8)
-    requires { length memory.old ≡ length map.now }
-    ensures { memory.new ≡ with_byte map.now memory.old (record { address = address; byte = byte }) }
+#[tactic(auto, unfolding(crate::specs::Stored::with_number))]
+fn write_number(page: &mut Page, offset: usize, size: Size, value: u32)
+    requires { offset + byte_count size ≤ PAGE_SIZE }
+    ensures { page.new ≡ with_number page.old offset size value }
 {
-    if let Some(slot) = map.slot_of(address) {
-        memory[slot].set((address % PAGE_SIZE as u32) as usize, byte);
+    page.set(offset, byte_at(value, 0));
+    match size {
+        Size::One => {}
+        Size::Two => page.set(offset + 1, byte_at(value, 1)),
+        Size::Four => {
+            page.set(offset + 1, byte_at(value, 1));
+            page.set(offset + 2, byte_at(value, 2));
+            page.set(offset + 3, byte_at(value, 3));
+        }
     }
 }
 
-/// Lays a store on a memory, byte after byte.
+/// Lays a store on a memory, in the page that has all its bytes; one that no page has changes nothing.
 #[inline(always)]
-#[tactic(auto, unfolding(memory_spec::specs::Access::bytes_stored), using(crate::proofs::Laying::count_kept))]
 pub(super) fn lay(map: &PageMap, memory: &mut [Page], stored: Stored)
     requires { length memory.old ≡ length map.now }
     ensures { memory.new ≡ laid map.now memory.old (bytes_stored stored.address stored.size stored.value) }
 {
-    let address = stored.address;
-    let value = stored.value;
-    write_byte(map, memory, address, byte_at(value, 0));
-    match stored.size {
-        Size::One => {}
-        Size::Two => write_byte(map, memory, address + 1, byte_at(value, 1)),
-        Size::Four => {
-            write_byte(map, memory, address + 1, byte_at(value, 1));
-            write_byte(map, memory, address + 2, byte_at(value, 2));
-            write_byte(map, memory, address + 3, byte_at(value, 3));
-        }
+    if let Some(slot) = map.slot_of(stored.address) {
+        let offset = offset_of(stored.address, stored.size);
+        write_number(&mut memory[slot], offset, stored.size, stored.value);
     }
 }
 

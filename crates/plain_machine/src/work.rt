@@ -1,29 +1,31 @@
 //! The memory that a thunk works on.
 
-ghost use Rattle.std.specs.Prelude.{◌≡◌, ◌+◌, ◌*◌, ◌%◌, ◌^◌, ◌<◌, ◌≤◌, [], length, IfOk, IfSome, IfNone};
+ghost use Rattle.std.specs.Prelude.{◌≡◌, ◌+◌, ◌*◌, ◌^◌, ◌<◌, ◌≤◌, [], length, IfOk};
 ghost use Rattle.std.specs.Arc.{arc_value};
 ghost use Rattle.memory_spec.specs.Access.{byte_count, number_in};
-ghost use Rattle.memory_spec.specs.Pages.{Memory, IsMemory, on_each, page_of, slot_of, permission_at};
+ghost use Rattle.memory_spec.specs.Pages.{Memory, IsMemory, on_each};
 ghost use Rattle.memory_spec.specs.Stores.{laid};
 ghost use Rattle.memory_spec.specs.Workspace.{no_marks};
 ghost use Rattle.plain_machine.specs.Merging.{merged};
 ghost use Rattle.plain_machine.specs.Stored.{bytes_of};
 
+use super::pages::{LastPage, code_slot, offset_of, permitted};
 use super::stores::{Stored, lay};
 use memory_spec::{MemoryError, PAGE_SIZE, Size};
-use page_map::{Mem, PageMap, Perm};
+use page_map::{Mem, PageMap};
 use page_store::Page;
 use std::alloc::{AllocError, Global};
 use std::marker::Model;
 use std::sync::Arc;
 
-/// A whole copy of a view with the thread's own stores laid on it, and the list of the stores. A clause sees a
-/// `Workspace` of `memory_spec`, in which the view and the read pages are left out.
+/// A whole copy of a view with the thread's own stores laid on it, the list of the stores, and the page that was fetched
+/// from last. A clause sees a `Workspace` of `memory_spec`, in which the view and the read pages are left out.
 #[derive(Drop)]
 pub(super) struct Work {
     map: Arc<PageMap>,
     memory: Vec<Page>,
     stores: Vec<Stored>,
+    last: LastPage,
 }
 
 impl Model for Work {
@@ -48,18 +50,20 @@ pub(super) fn copy_of(alloc: Global, memory: &[Page]) -> Result<Vec<Page>, Alloc
     Ok(copy)
 }
 
-/// The slot of an address, and what its page permits. None exactly where no page has it.
-#[inline(always)]
-#[tactic(auto, unfolding(memory_spec::specs::Pages::permission_at))]
-fn permitted(map: &PageMap, address: u32) -> Option<(usize, Perm)>
-    ensures slot { IfSome result (λ p. (p.0 ≡ slot_of map.now address) × (p.0 < length map.now)) }
-    ensures perm { IfSome result (λ p. p.1.0 ≡ permission_at map.now address) }
-    ensures missing { IfNone result (permission_at map.now address ≡ 0) }
+/// The word that stands in a page from an offset on, least byte first.
+///
+/// It isn't forced into its callers: so it is simplified by itself first, and its four reads become one.
+#[inline]
+#[tactic(auto, unfolding(memory_spec::specs::Access::number_in))]
+fn word_at(page: &Page, offset: usize) -> u32
+    requires { offset + 4 ≤ PAGE_SIZE }
+    ensures { result ≡ number_in page.now offset Size.Four }
 {
-    match map.slot_of(address) {
-        Some(slot) => Some((slot, map.perm(slot))),
-        None => None,
-    }
+    let bytes = page.bytes();
+    u32::from(bytes[offset])
+        + (u32::from(bytes[offset + 1]) << 8)
+        + (u32::from(bytes[offset + 2]) << 16)
+        + (u32::from(bytes[offset + 3]) << 24)
 }
 
 /// The number that stands in a page from an offset on, least byte first.
@@ -74,24 +78,8 @@ fn number_at(page: &Page, offset: usize, size: Size) -> u32
     match size {
         Size::One => u32::from(bytes[offset]),
         Size::Two => u32::from(bytes[offset]) + (u32::from(bytes[offset + 1]) << 8),
-        Size::Four => {
-            u32::from(bytes[offset])
-                + (u32::from(bytes[offset + 1]) << 8)
-                + (u32::from(bytes[offset + 2]) << 16)
-                + (u32::from(bytes[offset + 3]) << 24)
-        }
+        Size::Four => word_at(page, offset),
     }
-}
-
-/// Where an address lies in its page, for an access that begins there.
-#[inline(always)]
-fn offset_of(address: u32, size: Size) -> usize
-    requires { address % byte_count size ≡ 0 }
-    ensures value { result ≡ address % PAGE_SIZE }
-    ensures inside { result + byte_count size ≤ PAGE_SIZE }
-{
-    let _size = size;
-    (address % PAGE_SIZE as u32) as usize
 }
 
 impl Mem for Work {
@@ -100,14 +88,11 @@ impl Mem for Work {
     #[inline(always)]
     #[tactic(auto, unfolding(memory_spec::specs::Access::fetched, memory_spec::specs::Access::number_at))]
     fn fetch(&mut self, address: u32) -> Result<u32, MemoryError> {
-        match permitted(&self.map, address) {
+        match code_slot(&self.map, &mut self.last, address) {
             None => Err(MemoryError::Access),
-            Some((slot, perm)) => {
-                if !perm.executes() {
-                    return Err(MemoryError::Access);
-                }
+            Some(slot) => {
                 let offset = offset_of(address, Size::Four);
-                Ok(number_at(&self.memory[slot], offset, Size::Four))
+                Ok(word_at(&self.memory[slot], offset))
             }
         }
     }
@@ -177,6 +162,7 @@ impl Work {
             map: Arc::try_clone(map)?,
             memory: copy_of(alloc, view)?,
             stores: Vec::new(alloc),
+            last: LastPage::none(),
         })
     }
 

@@ -13,4 +13,5 @@ invariant_of-result c =
       lays = λ shared whole.
           kept-none (arc_value c.in_ok-try_clone.field-0) c.in_ok-copy_of.field-0.items c.new.result.items shared copied
           c.new.ensures.items whole;
+      last = c.none.ensures (arc_value c.in_ok-try_clone.field-0);
     }

@@ -56,6 +56,7 @@ invariant_of-self-in-Some c =
           (kept-more (arc_value c.self.inside.map) c.self.inside.stores.items (number c) c.self.inside.memory.items
           shared
           (c.self.invariant.lays shared whole));
+      last = c.self.invariant.last;
     }
 
 pub returns-in-Ok : goal.returns-in-Ok

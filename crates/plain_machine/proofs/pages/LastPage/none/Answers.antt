@@ -1,0 +1,7 @@
+-- What is left to prove of `LastPage::none`.
+use Rattle.std.proofs.Common.{arith}
+use Rattle.plain_machine.proofs.pages.LastPage.none.Goals as goal
+
+-- no address has that number
+pub returns : goal.returns
+returns c = λ map address small same. absurd (omega (arith, small, same))
