@@ -28,9 +28,12 @@ struct Ended {
 /// Makes turns, one at a time, up to the first that calls or traps, or as many as the fuel allows. The counter rises by
 /// the number of turns.
 ///
+/// It isn't put into its callers, whose values would take registers from the loop.
+///
 /// # Errors
 ///
 /// An error where the host's memory ran out.
+#[inline(never)]
 fn make_turns<L: Ledger>(
     fuel: u32,
     regs: &mut Regs,
