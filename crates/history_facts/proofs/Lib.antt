@@ -2,3 +2,4 @@
 pub mod Laying
 pub mod Coming
 pub mod Mapped
+pub mod Outlining

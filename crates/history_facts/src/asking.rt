@@ -53,6 +53,7 @@ pub fn act(map: &PageMap, objects: &mut Objects, t: u8, call: Call) -> Done
     ensures acts_on { objects_in result.objects ≡ rows.acts_on (is_readable map.now) objects.old call }
     ensures effect { (n : ℕ) → order.served result.effect t n
         ≡ order.served (rows.act (is_readable map.now) objects.old t call).0 t n }
+    ensures created { result.effect.created ≡ (rows.act (is_readable map.now) objects.old t call).0.created }
     ensures objects { objects.new ≡ (rows.act (is_readable map.now) objects.old t call).1 }
 {
     match call {

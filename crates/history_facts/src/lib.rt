@@ -1,15 +1,18 @@
 //! The facts of a history: what each of its steps does, as far as other steps can depend on it.
 #![tactic(auto)]
 
-ghost use Rattle.std.specs.Prelude.{◌≡◌, IfOk};
+ghost use Rattle.std.specs.Prelude.{◌≡◌, true, IfOk};
+ghost use Rattle.history_spec.specs.History.{is_coherent};
 ghost use Rattle.order_spec.specs.Facts as order;
 
 mod asking;
+mod outline;
 mod replay;
 mod serving;
 mod slots;
 
 use depend_graph::Fact;
+use outline::Outline;
 use release_core::History;
 use replay::Replay;
 use std::alloc::{AllocError, Global};
@@ -30,13 +33,8 @@ fn bare_fact(alloc: Global, rec: &Record) -> Result<Fact, AllocError>
     })
 }
 
-/// The facts of a history's records, in order. From the first record on that doesn't fit, or that follows an end, the
-/// facts name thread and written pages alone.
-///
-/// # Errors
-///
-/// An error where the host's memory ran out.
-pub fn facts(alloc: Global, history: &History) -> Result<Vec<Fact>, AllocError>
+/// The facts of a history of which nothing is known: each record is laid, as far as it fits.
+fn found(alloc: Global, history: &History) -> Result<Vec<Fact>, AllocError>
     ensures { IfOk result (λ facts. facts.items ≡ order.facts history.now) }
 {
     let records = history.records();
@@ -47,13 +45,46 @@ pub fn facts(alloc: Global, history: &History) -> Result<Vec<Fact>, AllocError>
         let rec = records.at(place);
         fits = fits && replay.fits(rec);
         let fact = if fits {
-            replay.lay(alloc, records, rec)?
+            replay.lay(alloc, history, place, rec)?
         } else {
             bare_fact(alloc, rec)?
         };
         facts.push(fact)?;
     }
     Ok(facts)
+}
+
+/// The facts of a history that holds together: no record has to be compared, and no page to be written.
+fn known(alloc: Global, history: &History) -> Result<Vec<Fact>, AllocError>
+    requires { is_coherent history.now ≡ true }
+    ensures { IfOk result (λ facts. facts.items ≡ order.facts history.now) }
+{
+    history.setup().sound();
+    let records = history.records();
+    let mut outline = Outline::new(alloc, history.setup())?;
+    let mut facts = Vec::with_capacity(alloc, records.len())?;
+    for place in 0..records.len() {
+        let last = place + 1 == records.len();
+        let fact = outline.next(alloc, history, place, records.at(place), last)?;
+        facts.push(fact)?;
+    }
+    Ok(facts)
+}
+
+/// The facts of a history's records, in order. From the first record on that doesn't fit, or that follows an end, the
+/// facts name thread and written pages alone.
+///
+/// # Errors
+///
+/// An error where the host's memory ran out.
+pub fn facts(alloc: Global, history: &History) -> Result<Vec<Fact>, AllocError>
+    ensures { IfOk result (λ facts. facts.items ≡ order.facts history.now) }
+{
+    if history.is_known_coherent() {
+        known(alloc, history)
+    } else {
+        found(alloc, history)
+    }
 }
 
 #[cfg(test)]

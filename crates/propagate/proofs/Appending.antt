@@ -10,7 +10,8 @@ use Rattle.machine_spec.specs.Whole.{IsWhole}
 use Rattle.machine_spec.proofs.Harts.{ready-below}
 use Rattle.history_spec.specs.History.{threads_of_records}
 use Rattle.history_spec.proofs.Truth.{past-of}
-use Rattle.round_spec.specs.Marks.{record_for, fits_next}
+use Rattle.release_core.specs.Applying.{can_apply}
+use Rattle.round_spec.specs.Marks.{record_for, is_fitting, fits_next}
 use Rattle.round_spec.specs.Rounds.{RoundState, is_over, is_out_of, can_begin, can_take, can_reuse}
 use Rattle.round_spec.specs.Keeping.{IsInOrder, IsCounted}
 use Rattle.round_spec.proofs.Happening.{CanBegin, can_begin-parts}
@@ -31,7 +32,7 @@ none-is : (e : Option End) → is_none e ≡ true → e ≡ None
 none-is (Some e) h = cc
 none-is None h = refl
 
-going-none : (e : Option End) (stopped : Bool) → (is_some e || stopped) ≡ false → is_none e ≡ true
+pub going-none : (e : Option End) (stopped : Bool) → (is_some e || stopped) ≡ false → is_none e ≡ true
 going-none (Some e) stopped h = cc
 going-none None stopped h = refl
 
@@ -98,6 +99,20 @@ reusable w t r kept counted can there =
           (of.1 ∙ ap (λ u. (hart_of w.machine u).number) (sym thread));
       thread = thread;
     }
+
+-- it may be laid
+
+pub can-apply : (w : RoundState) (r : Record) → is_none w.machine.ending ≡ true → fits w.machine r ≡ true
+    → can_apply w.machine r ≡ true
+can-apply w r none fit = rw (none, fit) refl
+
+pub reuse-can :
+    (w : RoundState) (t : ℕ) (r : Record) → can_reuse w t ≡ true → record_for w.past w.machine t ≡ Some r
+    → can_apply w.machine r ≡ true
+reuse-can w t r can there =
+    let parts = and_parts (can_begin w t) (fits_next w.past w.machine t) can in
+    let begins : CanBegin w t = can_begin-parts w t parts.0 in
+    can-apply w r begins.none (ap (is_fitting w.machine) (sym there) ∙ parts.1)
 
 pub take-ready : (w : RoundState) (t : ℕ) → can_take w t ≡ true → is_ready (hart_of w.machine t).status ≡ true
 take-ready w t can =

@@ -1,8 +1,11 @@
 -- What a round keeps beside what is seen of it, after each event.
-use Rattle.std.proofs.Common.{◌≡◌, ◌≤◌, ◌+◌, ◌*◌, ℕ, suc, true, cond, List, [], ◌∷◌, ◌++◌, length, length-append, Option, is_some, refl, ap, sym, ◌∙◌, subst, arith}
+use Rattle.std.proofs.Common.{◌≡◌, ◌≤◌, ◌+◌, ◌*◌, ℕ, suc, true, cond, ◌&&◌, List, [], ◌∷◌, ◌++◌, length, length-append, Option, is_some, is_none, refl, ap, sym, ◌∙◌, subst, arith}
+use Rattle.std.proofs.lemmas.Bool.{and_parts}
 use Rattle.record_spec.specs.Record.{Record}
+use Rattle.machine_spec.specs.Machine.{Machine}
 use Rattle.machine_spec.specs.Setup.{Setup, IsSetup, first}
-use Rattle.history_spec.specs.History.{History, IsHonest, IsSound, threads_of_records, past_records}
+use Rattle.machine_spec.specs.Step.{lay, fits}
+use Rattle.history_spec.specs.History.{History, IsHonest, IsSound, threads_of_records, past_records, laid_from, can_lay_from, is_coherent}
 use Rattle.release_core.specs.Records.{AreOfRun}
 use Rattle.report_spec.specs.declared.Entry.{Entry}
 use Rattle.report_spec.specs.Report.{threads_of, instructions_from}
@@ -19,7 +22,8 @@ use Rattle.round_spec.proofs.Leaving.{leaves-honest}
 use Rattle.round_spec.proofs.Executed.{executed-records}
 use Rattle.order_spec.specs.Facts.{Fact}
 use Rattle.round_spec.specs.Due.{past_facts}
-use Rattle.propagate.specs.Kept.{IsOnMap, IsKept}
+use Rattle.release_core.specs.Applying.{can_apply}
+use Rattle.propagate.specs.Kept.{IsLaid, IsOnMap, IsKept}
 use Rattle.propagate.proofs.Mapped.{opening-on_map, happens-on_map}
 
 -- as many records as entries
@@ -72,6 +76,7 @@ kept_opening setup past valid run =
       in_order = opening-kept setup past valid;
       counted = round-counted setup past [] valid;
       by_schedule = by_schedule-opening setup past;
+      laid = record { machine = refl; can = refl };
       on_map = opening-on_map setup past;
       framed = refl;
       points = refl;
@@ -81,20 +86,57 @@ kept_opening setup past valid run =
       facts_are = refl;
     }
 
+-- records laid one after the other, and one more
+
+laid-more :
+    (m : Machine) (rs : List Record) (r : Record)
+    → can_lay_from m rs ≡ true → can_apply (laid_from m rs) r ≡ true
+    → (laid_from m (rs ++ r ∷ []) ≡ lay (laid_from m rs) r) × (can_lay_from m (rs ++ r ∷ []) ≡ true)
+laid-more m [] r can fit = (refl, rw fit refl)
+laid-more m (x ∷ rs) r can fit =
+    let parts = and_parts (is_none m.ending && fits m x) (can_lay_from (lay m x) rs) can in
+    let rest = laid-more (lay m x) rs r parts.1 fit in
+    (rest.0, rw (parts.0, rest.1) refl)
+
+pub laid-round :
+    (w v : RoundState) (r : Record)
+    → IsLaid w → can_apply w.machine r ≡ true → v.setup ≡ w.setup
+    → v.machine ≡ lay w.machine r → v.records ≡ w.records ++ r ∷ []
+    → IsLaid v
+laid-round w v r laid fit setup machine records =
+    let more =
+    laid-more (first w.setup) w.records r laid.can
+    (subst (λ (m : Machine). can_apply m r ≡ true) laid.machine fit) in
+    record {
+      machine = machine ∙ ap (λ (m : Machine). lay m r) laid.machine ∙ sym more.0
+          ∙ ap (λ (rs : List Record). laid_from (first w.setup) rs) (sym records)
+          ∙ ap (λ (s : Setup). laid_from (first s) v.records) (sym setup);
+      can = ap (λ (s : Setup). can_lay_from (first s) v.records) setup
+          ∙ ap (λ (rs : List Record). can_lay_from (first w.setup) rs) records ∙ more.1;
+    }
+
+-- what a round with an end leaves holds together
+pub laid-coherent : (w : RoundState) → IsLaid w → is_some w.machine.ending ≡ true → is_coherent (history_of w) ≡ true
+laid-coherent w laid ended =
+    let ends : is_some (laid_from (first w.setup) w.records).ending ≡ true =
+    subst (λ (m : Machine). is_some m.ending ≡ true) laid.machine ended in
+    rw (laid.can, ends) refl
+
 -- after an event
 
 pub kept-happens :
     (w v : RoundState) (e : Event) (i j : ℕ) (fs : List Fact)
     → IsKept w i fs → happens w e ≡ v → v.setup ≡ w.setup → v.past ≡ w.past
-    → length v.picked ≡ length v.schedule
+    → IsLaid v → length v.picked ≡ length v.schedule
     → j ≡ executed_instructions v.schedule v.records → j ≤ 4294967295 * length v.schedule
     → IsKept v j fs
-kept-happens w v e i j fs kept is setup past points executed few =
+kept-happens w v e i j fs kept is setup past laid points executed few =
     record {
       valid = subst IsSetup (sym setup) kept.valid;
       in_order = subst IsInOrder is (happens-kept w e kept.in_order);
       counted = subst IsCounted is (happens-counted w e kept.in_order kept.counted);
       by_schedule = subst IsBySchedule is (by_schedule-happens w e kept.in_order kept.by_schedule);
+      laid = laid;
       on_map = subst IsOnMap is (happens-on_map w e kept.on_map);
       framed =
           ap (λ (x : RoundState). x.machine.frame) (sym is) ∙ happens-frame w e ∙ kept.framed
@@ -111,16 +153,16 @@ pub kept-more :
     (w v : RoundState) (e : Event) (i j : ℕ) (fs : List Fact) (entry : Entry) (r : Record) (point : ℕ)
     → IsKept w i fs → happens w e ≡ v → v.setup ≡ w.setup → v.past ≡ w.past
     → v.schedule ≡ w.schedule ++ entry ∷ [] → v.records ≡ w.records ++ r ∷ [] → v.picked ≡ w.picked ++ point ∷ []
-    → j ≡ i + cond entry.reused 0 r.kept.count → cond entry.reused 0 r.kept.count ≤ 4294967295
+    → IsLaid v → j ≡ i + cond entry.reused 0 r.kept.count → cond entry.reused 0 r.kept.count ≤ 4294967295
     → IsKept v j fs
-kept-more w v e i j fs entry r point kept is setup past schedule records picked sum few =
+kept-more w v e i j fs entry r point kept is setup past schedule records picked laid sum few =
     let more = executed-more w.schedule w.records entry r (record_count w kept.counted) in
     let executed = kept.executed in
     let before = kept.few in
     let points = kept.points in
     let longer = length-append w.schedule (entry ∷ []) in
     let one_more = length-append w.picked (point ∷ []) in
-    kept-happens w v e i j fs kept is setup past
+    kept-happens w v e i j fs kept is setup past laid
     (rw (schedule, picked) (omega arith))
     (rw (schedule, records) (omega arith))
     (rw schedule (omega arith))

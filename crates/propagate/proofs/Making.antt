@@ -10,8 +10,8 @@ use Rattle.round_spec.specs.Rounds.{RoundState, can_reuse, happens, taken_when}
 use Rattle.round_spec.proofs.Conditions.{happens-reuse, commit-lays}
 use Rattle.propagate.specs.Kept.{IsKept}
 use Rattle.propagate.specs.Committing.{CanCommit}
-use Rattle.propagate.proofs.Keeping.{kept-more}
-use Rattle.propagate.proofs.Appending.{CanAppend, fitting-append, Reusable, reusable}
+use Rattle.propagate.proofs.Keeping.{kept-more, laid-round}
+use Rattle.propagate.proofs.Appending.{CanAppend, fitting-append, Reusable, reusable, going-none, can-apply, reuse-can}
 
 -- a round with an entry, its record and when it was picked
 abbrev pub appended : RoundState → Record → Bool → ℕ → RoundState
@@ -58,6 +58,9 @@ commit-kept w v i j fs frame r kept can honest is sum few =
     (ap (λ (x : RoundState). x.setup) is) (ap (λ (x : RoundState). x.past) is)
     (ap (λ (x : RoundState). x.schedule) is) (ap (λ (x : RoundState). x.records) is)
     (ap (λ (x : RoundState). x.picked) is)
+    (laid-round w v r kept.laid (can-apply w r (going-none w.machine.ending w.stopped can.going) can.fit)
+    (ap (λ (x : RoundState). x.setup) is) (ap (λ (x : RoundState). x.machine) is)
+    (ap (λ (x : RoundState). x.records) is))
     sum few
 
 -- a record that is reused
@@ -95,4 +98,7 @@ reuse-kept w v i t fs r kept can there is =
     (ap (λ (x : RoundState). x.setup) is) (ap (λ (x : RoundState). x.past) is)
     (ap (λ (x : RoundState). x.schedule) is) (ap (λ (x : RoundState). x.records) is)
     (ap (λ (x : RoundState). x.picked) is)
+    (laid-round w v r kept.laid (reuse-can w t r can there)
+    (ap (λ (x : RoundState). x.setup) is) (ap (λ (x : RoundState). x.machine) is)
+    (ap (λ (x : RoundState). x.records) is))
     (omega arith) (omega arith)

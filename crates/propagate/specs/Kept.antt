@@ -1,7 +1,7 @@
 -- What a round in code keeps beside what is seen of it.
-use Rattle.std.specs.Prelude.{◌≡◌, ◌≤◌, ◌*◌, ℕ, ⊤, List, All, length, Option, Some, None}
+use Rattle.std.specs.Prelude.{◌≡◌, ◌≤◌, ◌*◌, ℕ, ⊤, true, List, All, length, Option, Some, None}
 use Rattle.machine_spec.specs.Setup.{Setup, IsSetup, first, map_of}
-use Rattle.history_spec.specs.History.{History, IsMappedIn, IsMapped, past_records}
+use Rattle.history_spec.specs.History.{History, laid_from, can_lay_from, IsMappedIn, IsMapped, past_records}
 use Rattle.order_spec.specs.Facts.{Fact}
 use Rattle.release_core.specs.Records.{AreOfRun}
 use Rattle.round_spec.specs.Rounds.{RoundState, history_of}
@@ -21,14 +21,20 @@ pub record IsOnMap (w : RoundState) : Type 0 where
   pub frame : w.machine.frame.map ≡ map_of w.setup
   pub mapped : All (IsMappedIn (length (map_of w.setup))) (past_records w.past) → IsMapped (history_of w)
 
--- A round that is in order, counts right and is where its schedule leads, with the page map and the fuel of its setup;
--- for each entry it is kept when its thread was picked; and what it goes by are records of a run. With it stand the sum
--- of the counts of its executed entries, and what the steps of its history do.
+-- The machine of a round is the one that the records of its entries leave, each of which fits where it is laid.
+pub record IsLaid (w : RoundState) : Type 0 where
+  pub machine : w.machine ≡ laid_from (first w.setup) w.records
+  pub can : can_lay_from (first w.setup) w.records ≡ true
+
+-- A round that is in order, counts right and is where its schedule and its records lead, with the page map and the fuel
+-- of its setup; for each entry it is kept when its thread was picked; and what it goes by are records of a run. With it
+-- stand the sum of the counts of its executed entries, and what the steps of its history do.
 pub record IsKept (w : RoundState) (instructions : ℕ) (facts : List Fact) : Type 0 where
   pub valid : IsSetup w.setup
   pub in_order : IsInOrder w
   pub counted : IsCounted w
   pub by_schedule : IsBySchedule w
+  pub laid : IsLaid w
   pub on_map : IsOnMap w
   pub framed : w.machine.frame ≡ (first w.setup).frame
   pub points : length w.picked ≡ length w.schedule

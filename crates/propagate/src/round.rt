@@ -301,8 +301,14 @@ impl Round {
         if !self.has_same_map() {
             return None;
         }
+        let has_end = self.core.ended().is_some();
         let Round { setup, records, .. } = self;
-        Some(History::new(setup, records))
+        let history = History::new(setup, records);
+        if has_end {
+            Some(history.known_coherent())
+        } else {
+            Some(history)
+        }
     }
 
     /// What it started from and the history that it goes by, for whoever makes the round anew. Takes no

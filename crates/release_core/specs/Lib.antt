@@ -4,4 +4,5 @@ pub mod Setups
 pub mod Jobs
 pub mod Doing
 pub mod Records
+pub mod Histories
 pub mod Applying

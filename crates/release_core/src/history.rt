@@ -1,8 +1,8 @@
 //! What is kept of a finished run.
 
-ghost use Rattle.std.specs.Prelude.{◌≡◌, option_map, Some};
+ghost use Rattle.std.specs.Prelude.{◌≡◌, true, option_map, Some};
 ghost use Rattle.std.specs.Arc.{arc_value};
-ghost use Rattle.history_spec.specs.History.{found, IsMapped};
+ghost use Rattle.history_spec.specs.History.{found, is_coherent, IsMapped};
 ghost use Rattle.release_core.specs.Records.{AreOfRun};
 
 use super::records::Records;
@@ -12,21 +12,24 @@ use std::sync::Arc;
 use thunk_record::Record;
 
 /// What a run started from, and the records of its steps in order, whose slots are in the page map of
-/// what it started from. A clause sees a `History` of `history_spec`.
+/// what it started from. A clause sees a `History` of `history_spec`. Beside it stands whether it is known to hold
+/// together, so that nobody has to lay its records again to find out.
 #[derive(Drop)]
 pub struct History {
     setup: Setup,
     records: Records,
+    coherent: bool,
 }
 
 impl Model for History {
-    ghost use Rattle.history_spec.specs.History.{History as Kept, IsMapped};
+    ghost use Rattle.history_spec.specs.History.{History as Kept};
+    ghost use Rattle.release_core.specs.Histories.{IsKept};
 
     ghost Value = { Kept };
 
     ghost view = { λ h. record { setup = h.setup; records = h.records } };
 
-    ghost invariant = { λ h. IsMapped (view h) };
+    ghost invariant = { λ h. IsKept h.coherent (view h) };
 }
 
 impl History {
@@ -35,7 +38,31 @@ impl History {
         requires { IsMapped (record { setup = setup; records = records }) }
         ensures { result ≡ record { setup = setup; records = records } }
     {
-        History { setup, records }
+        History {
+            setup,
+            records,
+            coherent: false,
+        }
+    }
+
+    /// The same history, which holds together: from then on that is known. Takes no memory.
+    pub fn known_coherent(self) -> History
+        requires { is_coherent self ≡ true }
+        ensures { result ≡ self }
+    {
+        let History { setup, records, .. } = self;
+        History {
+            setup,
+            records,
+            coherent: true,
+        }
+    }
+
+    /// Whether it is known to hold together. One that isn't may do so too.
+    pub fn is_known_coherent(&self) -> bool
+        ensures { result ≡ true → is_coherent self.now ≡ true }
+    {
+        self.coherent
     }
 
     /// Its records are as a run makes them, and their slots are in the page map of its setup: what a

@@ -4,4 +4,4 @@ use Rattle.history_spec.specs.History.{IsMapped}
 use Rattle.release_core.proofs.history.History.keeps.Goals as goal
 
 pub returns-clause-mapped : goal.returns-clause-mapped
-returns-clause-mapped c = subst IsMapped c.self.view_is c.self.invariant
+returns-clause-mapped c = subst IsMapped c.self.view_is c.self.invariant.mapped

@@ -1,4 +1,4 @@
--- What is left to prove of `facts`.
+-- What is left to prove of `found`.
 use Rattle.std.proofs.Common.{◌≡◌, sym, ap, ◌∙◌, arith}
 use Rattle.std.specs.Prelude.{◌&&◌}
 use Rattle.std.specs.Arc.{arc_value}
@@ -6,8 +6,8 @@ use Rattle.machine_spec.specs.Step as step
 use Rattle.release_core.specs.Applying.{can_apply}
 use Rattle.order_spec.specs.Facts as order
 use Rattle.history_facts.proofs.Coming.{follows-laid, follows-bare, all-came}
-use Rattle.history_facts.proofs.facts.Goals as goal
-use Rattle.history_facts.proofs.facts.Goals.{then-fits, else-fits, then-fits-2+in_ok-fact, else-fits-2+in_ok-fact-2}
+use Rattle.history_facts.proofs.found.Goals as goal
+use Rattle.history_facts.proofs.found.Goals.{then-fits, else-fits, then-fits-2+in_ok-fact, else-fits-2+in_ok-fact-2}
 
 -- whether the record was laid is whether it may be, while all before it were
 fits_is : (c : goal.In_ok-push)

@@ -1,0 +1,143 @@
+-- The machines before and after the records of a history, and what facts need of them.
+use Rattle.std.proofs.Common.{◌≡◌, ◌<◌, ◌≤◌, ◌+◌, ℕ, zero, suc, Bool, true, false, List, [], ◌∷◌, Some, None, is_none, is_some, length, take, set, get_or, eqb, refl, sym, ap, subst, ◌∙◌, inl, inr, arith}
+use Rattle.std.proofs.lemmas.Bool.{and_parts, cases_eq, eq-eqb}
+use Rattle.std.proofs.lemmas.Bool.Decides.{nat_tests}
+use Rattle.std.proofs.lemmas.List.{get_or-set_same, get_or-set_other}
+use Rattle.std.proofs.lemmas.Option.{slice_get_within}
+use Rattle.std.specs.List.{slice_get}
+use Rattle.std.specs.Prelude.{◌&&◌}
+use Rattle.memory_spec.specs.Pages.{Mapped}
+use Rattle.guest_call.specs.Objects.{Objects, created_count}
+use Rattle.record_spec.specs.Record.{Record}
+use Rattle.machine_spec.specs.declared.states.End.{End}
+use Rattle.machine_spec.specs.Machine.{Machine, hart_of, is_ready}
+use Rattle.machine_spec.specs.Whole.{IsWhole}
+use Rattle.machine_spec.specs.Setup.{IsSetup, first}
+use Rattle.machine_spec.specs.Step.{lay, fits, can_step}
+use Rattle.machine_spec.proofs.Beginning.{IsWhole-first}
+use Rattle.machine_spec.proofs.Harts.{ready-below}
+use Rattle.history_spec.specs.History.{History, laid_from, can_lay_from, is_coherent}
+use Rattle.history_spec.proofs.Laying.{lay-whole}
+use Rattle.history_spec.proofs.Numbers.{one_for, lay-number}
+use Rattle.order_spec.specs.Facts.{ask_of, acted, effect_of}
+use Rattle.order_spec.proofs.After.{lay-length, lay-objects}
+use Rattle.release_core.specs.Applying.{can_apply}
+use Rattle.history_facts.specs.declared.outline.Outline.{Outline}
+use Rattle.history_facts.specs.Outlining.{machine_at, IsOutlineOf}
+use Rattle.history_facts.proofs.Laying.{ready, can-make, laid-frame}
+
+-- the machine after a record that stands at a place
+laid-more :
+    (m : Machine) (rs : List Record) (k : ℕ) (r : Record) → slice_get rs k ≡ Some r
+    → laid_from m (take (suc k) rs) ≡ lay (laid_from m (take k rs)) r
+laid-more m [] k r at = cc
+laid-more m (x ∷ rs) zero r at = let same : x ≡ r = cc in ap (lay m) same
+laid-more m (x ∷ rs) (suc k) r at = laid-more (lay m x) rs k r at
+
+pub machine-more :
+    (h : History) (k : ℕ) (r : Record) → slice_get h.records k ≡ Some r
+    → machine_at h (k + 1) ≡ lay (machine_at h k) r
+machine-more h k r at =
+    let next : k + 1 ≡ suc k = omega arith in
+    ap (machine_at h) next ∙ laid-more (first h.setup) h.records k r at
+
+-- where each record can be laid, so can the one at a place, on a machine that holds together
+can-at :
+    (m : Machine) (rs : List Record) (k : ℕ) (r : Record) → can_lay_from m rs ≡ true → slice_get rs k ≡ Some r
+    → can_apply (laid_from m (take k rs)) r ≡ true
+can-at m [] k r can at = cc
+can-at m (x ∷ rs) zero r can at =
+    let same : x ≡ r = cc in subst (λ (y : Record). can_apply m y ≡ true) same (and_parts _ _ can).0
+can-at m (x ∷ rs) (suc k) r can at = can-at (lay m x) rs k r (and_parts _ _ can).1 at
+
+whole-at :
+    (m : Machine) (rs : List Record) (k : ℕ) → IsWhole m → can_lay_from m rs ≡ true
+    → IsWhole (laid_from m (take k rs))
+whole-at m [] zero whole can = whole
+whole-at m [] (suc k) whole can = whole
+whole-at m (x ∷ rs) zero whole can = whole
+whole-at m (x ∷ rs) (suc k) whole can =
+    let parts = and_parts (is_none m.ending && fits m x) (can_lay_from (lay m x) rs) can in
+    whole-at (lay m x) rs k (lay-whole m x whole (can-make m x parts.0)) parts.1
+
+none-some : (e : Option End) → is_none e ≡ true → is_some e ≡ false
+none-some None none = refl
+none-some (Some e) none = cc
+
+-- the end comes after the last of them, and only then
+last-at :
+    (m : Machine) (rs : List Record) (k : ℕ) (r : Record) → can_lay_from m rs ≡ true
+    → is_some (laid_from m rs).ending ≡ true → slice_get rs k ≡ Some r
+    → eqb (k + 1) (length rs) ≡ is_some (lay (laid_from m (take k rs)) r).ending
+last-at m [] k r can ended at = cc
+last-at m (x ∷ []) zero r can ended at =
+    let same : x ≡ r = cc in sym (subst (λ (y : Record). is_some (lay m y).ending ≡ true) same ended)
+last-at m (x ∷ []) (suc k) r can ended at = cc
+last-at m (x ∷ y ∷ rs) zero r can ended at =
+    let same : x ≡ r = cc in
+    let next = (and_parts _ _ (and_parts _ _ (and_parts (is_none m.ending && fits m x) _ can).1).0).0 in
+    let later : eqb (0 + 1) (length (x ∷ y ∷ rs)) ≡ false = grind (arith, nat_tests) in
+    later ∙ sym (subst (λ (z : Record). is_some (lay m z).ending ≡ false) same (none-some (lay m x).ending next))
+last-at m (x ∷ y ∷ rs) (suc k) r can ended at =
+    let same : eqb (suc k + 1) (length (x ∷ y ∷ rs)) ≡ eqb (k + 1) (length (y ∷ rs)) = grind (arith, nat_tests) in
+    same ∙ last-at (lay m x) (y ∷ rs) k r (and_parts (is_none m.ending && fits m x) _ can).1 ended at
+
+pub coherent-can :
+    (h : History) (k : ℕ) (r : Record) → is_coherent h ≡ true → slice_get h.records k ≡ Some r
+    → can_apply (machine_at h k) r ≡ true
+coherent-can h k r coherent at = can-at (first h.setup) h.records k r (and_parts _ _ coherent).0 at
+
+pub coherent-whole : (h : History) (k : ℕ) → IsSetup h.setup → is_coherent h ≡ true → IsWhole (machine_at h k)
+coherent-whole h k valid coherent =
+    whole-at (first h.setup) h.records k (IsWhole-first h.setup valid) (and_parts _ _ coherent).0
+
+pub coherent-last :
+    (h : History) (k : ℕ) (r : Record) → is_coherent h ≡ true → slice_get h.records k ≡ Some r
+    → eqb (k + 1) (length h.records) ≡ is_some (lay (machine_at h k) r).ending
+coherent-last h k r coherent at =
+    let parts = and_parts (can_lay_from (first h.setup) h.records) _ coherent in
+    last-at (first h.setup) h.records k r parts.0 parts.1 at
+
+-- after a record was laid
+
+few : (m : Machine) → IsWhole m → length m.harts ≤ 32
+few m whole = omega (arith, whole.tied.threads, whole.tied.kept.few_threads)
+
+pub below-32 : (m : Machine) (r : Record) → IsWhole m → can_apply m r ≡ true → r.thread < 32
+below-32 m r whole can = omega (arith, few m whole, ready-below m.harts r.thread (ready m r can))
+
+number-more :
+    (m : Machine) (r : Record) (numbers : List ℕ) (u : ℕ)
+    → ((t : ℕ) → get_or numbers t 0 ≡ (hart_of m t).number)
+    → r.thread < length numbers → is_ready (hart_of m r.thread).status ≡ true
+    → get_or (set numbers r.thread (get_or numbers r.thread 0 + 1)) u 0 ≡ (hart_of (lay m r) u).number
+number-more m r numbers u are inside able =
+    let after = lay-number m r u able in
+    let at = are u in
+    elim (cases_eq u r.thread) [
+      | inl same ↦
+          let is : eqb r.thread r.thread ≡ true = eq-eqb r.thread r.thread refl in
+          rw same (get_or-set_same numbers r.thread (get_or numbers r.thread 0 + 1) 0 inside
+          ∙ ap (λ n. n + 1) (are r.thread)
+          ∙ sym (lay-number m r r.thread able ∙ rw is refl))
+      | inr other ↦
+          let is : eqb r.thread u ≡ false = grind (arith, nat_tests) in
+          get_or-set_other numbers r.thread u (get_or numbers r.thread 0 + 1) 0 other
+          ∙ at ∙ sym (after ∙ rw is (omega arith))
+    ]
+
+pub outline-more :
+    (m : Machine) (r : Record) (o : Outline) (objects : Objects) (threads : ℕ) (numbers : List ℕ)
+    → IsOutlineOf m o → IsWhole m → can_apply m r ≡ true → length o.numbers ≡ 32
+    → objects ≡ (acted m r.thread (ask_of r)).1
+    → threads ≡ o.threads + created_count (effect_of m r).created
+    → numbers ≡ set o.numbers r.thread (get_or o.numbers r.thread 0 + 1)
+    → IsOutlineOf (lay m r) (record { map = o.map; objects = objects; threads = threads; numbers = numbers })
+outline-more m r o objects threads numbers is whole can count is_objects is_threads is_numbers = record {
+  map = is.map ∙ sym (ap (λ f. f.map) (laid-frame m r));
+  objects = is_objects ∙ sym (lay-objects m r);
+  threads = is_threads ∙ ap (λ n. n + created_count (effect_of m r).created) is.threads ∙ sym (lay-length m r);
+  numbers = λ u.
+      ap (λ ns. get_or ns u 0) is_numbers
+      ∙ number-more m r o.numbers u is.numbers (let inside = below-32 m r whole can in omega arith) (ready m r can);
+}

@@ -1,0 +1,14 @@
+-- What holds at the loop of `known`.
+use Rattle.std.proofs.Common.{◌≡◌, ◌++◌, true, drop}
+use Rattle.order_spec.specs.Facts as order
+use Rattle.history_facts.specs.Coming.{facts_to_come}
+use Rattle.history_facts.specs.Outlining.{machine_at, IsOutlineOf}
+use Rattle.history_facts.proofs.known.Given as goal
+
+-- the facts so far, with those that are still to come, are all; and the outline is of the machine before a place
+abbrev pub invariant-loop-place : goal.invariant-loop-place
+invariant-loop-place l = record {
+  come : l.facts.items ++ facts_to_come true (order.reads_in l.records) (machine_at l.fn.history l.place)
+      (drop l.place l.records) ≡ order.facts l.fn.history;
+  outline : IsOutlineOf (machine_at l.fn.history l.place) l.outline;
+}

@@ -1,0 +1,22 @@
+-- What the facts of steps need of the machine that the records before them leave.
+use Rattle.std.specs.Prelude.{◌≡◌, ℕ, List, [], ◌∷◌, ◌++◌, length, take, slice_index}
+use Rattle.machine_spec.specs.Machine.{Machine, hart_of}
+use Rattle.machine_spec.specs.Setup.{first}
+use Rattle.history_spec.specs.History.{History, laid_from}
+use Rattle.history_facts.specs.declared.outline.Outline.{Outline}
+
+-- The machine that the records of a history before a place leave.
+abbrev pub machine_at : History → ℕ → Machine
+machine_at h place = laid_from (first h.setup) (take place h.records)
+
+-- The page map and the objects of a machine, how many threads it has, and how many steps each of them has made.
+pub record IsOutlineOf (m : Machine) (outline : Outline) : Type 0 where
+  pub map : outline.map ≡ m.frame.map
+  pub objects : outline.objects ≡ m.objects
+  pub threads : outline.threads ≡ length m.harts
+  pub numbers : (t : ℕ) → slice_index outline.numbers t ≡ (hart_of m t).number
+
+-- The slots that the next thunks of some threads read, by how many steps each thread has made.
+abbrev pub numbered : (ℕ → ℕ → List ℕ) → List ℕ → List ℕ → List ℕ
+numbered reads numbers [] = []
+numbered reads numbers (t ∷ threads) = reads t (slice_index numbers t) ++ numbered reads numbers threads

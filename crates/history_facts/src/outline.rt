@@ -1,0 +1,132 @@
+//! What the facts of steps need of the machine on which their records are laid: no page, and no register.
+
+ghost use Rattle.std.specs.Prelude.{◌≡◌, ◌+◌, ℕ, true, slice_index, is_some, IfOk, OnOk};
+ghost use Rattle.sync_objects.specs.Acting.{objects_in};
+ghost use Rattle.machine_spec.specs.Setup.{first};
+ghost use Rattle.machine_spec.specs.Step as step;
+ghost use Rattle.machine_spec.specs.Whole.{IsWhole};
+ghost use Rattle.release_core.specs.Applying.{can_apply};
+ghost use Rattle.order_spec.specs.Facts as order;
+ghost use Rattle.history_facts.specs.Outlining.{machine_at, numbered, IsOutlineOf};
+
+use super::asking::{Done, act, call_of};
+use super::serving::served;
+use super::slots::{push_read, written};
+use call_effect::Effect;
+use depend_graph::Fact;
+use guest_call::THREADS;
+use page_map::PageMap;
+use release_core::{History, Records, Setup};
+use std::alloc::{AllocError, Global};
+use sync_objects::{ActedOn, Objects};
+use thunk_record::Record;
+
+/// What the facts of steps need of a machine: its page map and its objects, how many threads it has, and how many steps
+/// each of them has made.
+#[derive(Drop)]
+pub struct Outline {
+    map: PageMap,
+    objects: Objects,
+    threads: u8,
+    numbers: [u32; THREADS],
+}
+
+/// The slots of the pages that the next thunks of some threads have read, where the records have these thunks, by how
+/// many steps each thread has made.
+fn opened(
+    alloc: Global,
+    records: &Records,
+    numbers: &[u32],
+    threads: &[u8],
+) -> Result<Vec<usize>, AllocError>
+    ensures { IfOk result (λ slots. slots.items
+        ≡ numbered (order.reads_in records.now) numbers.now threads.now) }
+{
+    let mut slots = Vec::new(alloc);
+    for t in threads {
+        let number = numbers.get(usize::from(*t)).copied().unwrap_or(0);
+        if let Some(rec) = records.find(*t, number) {
+            push_read(&mut slots, rec)?;
+        }
+    }
+    Ok(slots)
+}
+
+impl Outline {
+    /// That of the machine that a setup starts as.
+    ///
+    /// # Errors
+    ///
+    /// An error where the host's memory ran out.
+    pub fn new(alloc: Global, setup: &Setup) -> Result<Outline, AllocError>
+        ensures { IfOk result (IsOutlineOf (first setup.now)) }
+    {
+        Ok(Outline {
+            map: setup.page_map(alloc)?,
+            objects: Objects::new(),
+            threads: 1,
+            numbers: [0; THREADS],
+        })
+    }
+
+    /// Does what a record asks for, which may be laid on the machine before a place of a history, and says what its call
+    /// does.
+    fn perform(&mut self, _history: &History, _place: usize, rec: &Record) -> Done
+        requires outline { IsOutlineOf (machine_at _history.now _place) self.old }
+        requires whole { IsWhole (machine_at _history.now _place) }
+        requires can { can_apply (machine_at _history.now _place) rec.now ≡ true }
+        ensures outline { IsOutlineOf (step.lay (machine_at _history.now _place) rec.now) self.new }
+        ensures objects { objects_in result.objects ≡ order.objects_of (machine_at _history.now _place) rec.now }
+        ensures effect { (n : ℕ) → order.served result.effect rec.now.thread n
+            ≡ order.served (order.effect_of (machine_at _history.now _place) rec.now) rec.now.thread n }
+    {
+        let done = match call_of(rec) {
+            Some(call) => act(&self.map, &mut self.objects, rec.thread(), call),
+            None => Done {
+                objects: ActedOn::Nothing,
+                effect: Effect::exits(0),
+            },
+        };
+        self.numbers[usize::from(rec.thread())] += 1;
+        if done.effect.created().is_some() {
+            self.threads += 1;
+        }
+        done
+    }
+
+    /// The fact of the step of a record that may be laid on the machine before a place of a history, by the thunks of
+    /// that history, where it is known whether an end comes after it. From then on it is the outline of the machine after it.
+    ///
+    /// # Errors
+    ///
+    /// An error where the host's memory ran out.
+    pub fn next(
+        &mut self,
+        alloc: Global,
+        history: &History,
+        place: usize,
+        rec: &Record,
+        last: bool,
+    ) -> Result<Fact, AllocError>
+        requires outline { IsOutlineOf (machine_at history.now place) self.old }
+        requires whole { IsWhole (machine_at history.now place) }
+        requires can { can_apply (machine_at history.now place) rec.now ≡ true }
+        requires last { last ≡ is_some (step.lay (machine_at history.now place) rec.now).ending }
+        ensures outline { OnOk result (IsOutlineOf (step.lay (machine_at history.now place) rec.now) self.new) }
+        ensures says { IfOk result (λ fact. fact
+            ≡ order.fact_of (order.reads_in history.now.records) (machine_at history.now place) rec.now) }
+    {
+        let next = self.threads;
+        let done = self.perform(history, place, rec);
+        let given = served(alloc, &done.effect, rec.thread(), next)?;
+        let opened = opened(alloc, history.records(), &self.numbers, given.as_slice())?;
+        Ok(Fact {
+            thread: rec.thread(),
+            objects: done.objects,
+            given,
+            written: written(alloc, rec)?,
+            opened,
+            last,
+        })
+    }
+}
