@@ -1,29 +1,32 @@
 -- The machines before and after the records of a history, and what facts need of them.
-use Rattle.std.proofs.Common.{◌≡◌, ◌<◌, ◌≤◌, ◌+◌, ℕ, zero, suc, Bool, true, false, List, [], ◌∷◌, Some, None, is_none, is_some, length, take, set, get_or, eqb, refl, sym, ap, subst, ◌∙◌, inl, inr, arith}
+use Rattle.std.proofs.Common.{◌≡◌, ◌<◌, ◌≤◌, ◌+◌, ℕ, zero, suc, Bool, true, false, List, [], ◌∷◌, Option, Some, None, is_none, is_some, ◌++◌, length, take, replicate, cond, set, get_or, eqb, ap₂, refl, sym, ap, subst, ◌∙◌, inl, inr, arith}
 use Rattle.std.proofs.lemmas.Bool.{and_parts, cases_eq, eq-eqb}
 use Rattle.std.proofs.lemmas.Bool.Decides.{nat_tests}
-use Rattle.std.proofs.lemmas.List.{get_or-set_same, get_or-set_other}
+use Rattle.std.proofs.lemmas.List.{get_or-set_same, get_or-set_other, length-set}
 use Rattle.std.proofs.lemmas.Option.{slice_get_within}
 use Rattle.std.specs.List.{slice_get}
 use Rattle.std.specs.Prelude.{◌&&◌}
 use Rattle.memory_spec.specs.Pages.{Mapped}
-use Rattle.guest_call.specs.Objects.{Objects, created_count}
+use Rattle.guest_call.specs.declared.Object.{Object}
+use Rattle.guest_call.specs.Objects.{Objects, opening, created_count}
 use Rattle.record_spec.specs.Record.{Record}
 use Rattle.machine_spec.specs.declared.states.End.{End}
 use Rattle.machine_spec.specs.Machine.{Machine, hart_of, is_ready}
 use Rattle.machine_spec.specs.Whole.{IsWhole}
-use Rattle.machine_spec.specs.Setup.{IsSetup, first}
+use Rattle.machine_spec.specs.Setup.{Setup, IsSetup, first, map_of}
 use Rattle.machine_spec.specs.Step.{lay, fits, can_step}
 use Rattle.machine_spec.proofs.Beginning.{IsWhole-first}
 use Rattle.machine_spec.proofs.Harts.{ready-below}
 use Rattle.history_spec.specs.History.{History, laid_from, can_lay_from, is_coherent}
 use Rattle.history_spec.proofs.Laying.{lay-whole}
-use Rattle.history_spec.proofs.Numbers.{one_for, lay-number}
-use Rattle.order_spec.specs.Facts.{ask_of, acted, effect_of}
+use Rattle.history_spec.proofs.Mapped.{first-map}
+use Rattle.history_spec.proofs.Numbers.{one_for, first-number, lay-number}
+use Rattle.order_spec.specs.Facts.{Fact, ask_of, acted, effect_of, objects_of, served_by, written_slots, read_by, fact_of}
 use Rattle.order_spec.proofs.After.{lay-length, lay-objects}
 use Rattle.release_core.specs.Applying.{can_apply}
+use Rattle.release_core.proofs.Asking.{few_numbers}
 use Rattle.history_facts.specs.declared.outline.Outline.{Outline}
-use Rattle.history_facts.specs.Outlining.{machine_at, IsOutlineOf}
+use Rattle.history_facts.specs.Outlining.{machine_at, numbered, IsOutlineOf}
 use Rattle.history_facts.proofs.Laying.{ready, can-make, laid-frame}
 
 -- the machine after a record that stands at a place
@@ -75,7 +78,9 @@ last-at m (x ∷ []) zero r can ended at =
 last-at m (x ∷ []) (suc k) r can ended at = cc
 last-at m (x ∷ y ∷ rs) zero r can ended at =
     let same : x ≡ r = cc in
-    let next = (and_parts _ _ (and_parts _ _ (and_parts (is_none m.ending && fits m x) _ can).1).0).0 in
+    let rest : can_lay_from (lay m x) (y ∷ rs) ≡ true = (and_parts (is_none m.ending && fits m x) _ can).1 in
+    let fit : (is_none (lay m x).ending && fits (lay m x) y) ≡ true = (and_parts _ (can_lay_from (lay (lay m x) y) rs) rest).0 in
+    let next : is_none (lay m x).ending ≡ true = (and_parts _ _ fit).0 in
     let later : eqb (0 + 1) (length (x ∷ y ∷ rs)) ≡ false = grind (arith, nat_tests) in
     later ∙ sym (subst (λ (z : Record). is_some (lay m z).ending ≡ false) same (none-some (lay m x).ending next))
 last-at m (x ∷ y ∷ rs) (suc k) r can ended at =
@@ -128,16 +133,84 @@ number-more m r numbers u are inside able =
 
 pub outline-more :
     (m : Machine) (r : Record) (o : Outline) (objects : Objects) (threads : ℕ) (numbers : List ℕ)
-    → IsOutlineOf m o → IsWhole m → can_apply m r ≡ true → length o.numbers ≡ 32
+    → IsOutlineOf m o → IsWhole m → can_apply m r ≡ true
     → objects ≡ (acted m r.thread (ask_of r)).1
     → threads ≡ o.threads + created_count (effect_of m r).created
     → numbers ≡ set o.numbers r.thread (get_or o.numbers r.thread 0 + 1)
     → IsOutlineOf (lay m r) (record { map = o.map; objects = objects; threads = threads; numbers = numbers })
-outline-more m r o objects threads numbers is whole can count is_objects is_threads is_numbers = record {
+outline-more m r o objects threads numbers is whole can is_objects is_threads is_numbers = record {
   map = is.map ∙ sym (ap (λ f. f.map) (laid-frame m r));
   objects = is_objects ∙ sym (lay-objects m r);
   threads = is_threads ∙ ap (λ n. n + created_count (effect_of m r).created) is.threads ∙ sym (lay-length m r);
+  each = ap (λ (ns : List ℕ). length ns) is_numbers
+      ∙ length-set o.numbers r.thread (get_or o.numbers r.thread 0 + 1) ∙ is.each;
   numbers = λ u.
       ap (λ ns. get_or ns u 0) is_numbers
-      ∙ number-more m r o.numbers u is.numbers (let inside = below-32 m r whole can in omega arith) (ready m r can);
+      ∙ number-more m r o.numbers u is.numbers (let inside = below-32 m r whole can in let each = is.each in omega arith)
+      (ready m r can);
 }
+
+pub created-one : (c : Option (ℕ × ℕ)) → cond (is_some c) 1 0 ≡ created_count c
+created-one None = refl
+created-one (Some c) = refl
+
+-- a machine's threads and steps are few
+pub few-steps :
+    (m : Machine) (r : Record) → IsWhole m → can_apply m r ≡ true → (hart_of m r.thread).number ≤ 65536
+few-steps m r whole can = few_numbers m r.thread whole (ready m r can)
+
+pub few-threads : (m : Machine) → IsWhole m → length m.harts ≤ 32
+few-threads m whole = few m whole
+
+-- that of the machine at the start
+zeros-none : (n u : ℕ) → get_or {A = ℕ} (replicate {A = ℕ} n 0) u 0 ≡ 0
+zeros-none zero u = refl
+zeros-none (suc n) zero = refl
+zeros-none (suc n) (suc u) = zeros-none n u
+
+first-threads : (s : Setup) → length (first s).harts ≡ 1
+unfolding first
+first-threads s = refl
+
+first-objects : (s : Setup) → (first s).objects ≡ opening
+unfolding first
+first-objects s = refl
+
+pub outline-first :
+    (s : Setup) (map : List Mapped) (objects : Objects) → map ≡ map_of s → objects ≡ opening
+    → IsOutlineOf (first s) (record { map = map; objects = objects; threads = 1; numbers = replicate 32 0 })
+outline-first s map objects is_map is_objects = record {
+  map = is_map ∙ sym (first-map s);
+  objects = is_objects ∙ sym (first-objects s);
+  threads = sym (first-threads s);
+  each = refl;
+  numbers = λ u. zeros-none 32 u ∙ sym (first-number s u);
+}
+
+-- the slots that the threads' next thunks read
+pub numbered-read :
+    (reads : ℕ → ℕ → List ℕ) (m : Machine) (numbers ts : List ℕ)
+    → ((t : ℕ) → get_or numbers t 0 ≡ (hart_of m t).number)
+    → numbered reads numbers ts ≡ read_by reads m ts
+numbered-read reads m numbers [] are = refl
+numbered-read reads m numbers (t ∷ ts) are =
+    ap₂ (λ (n : ℕ) (rest : List ℕ). reads t n ++ rest) (are t) (numbered-read reads m numbers ts are)
+
+-- a fact by its parts
+pub fact-is :
+    (reads : ℕ → ℕ → List ℕ) (m : Machine) (r : Record) (thread : ℕ) (objects : List Object)
+    (given written opened : List ℕ) (last : Bool)
+    → thread ≡ r.thread → objects ≡ objects_of m r → given ≡ served_by m r → written ≡ written_slots r
+    → opened ≡ read_by reads (lay m r) (served_by m r) → last ≡ is_some (lay m r).ending
+    → (let f : Fact =
+    record {
+      thread = thread;
+      objects = objects;
+      given = given;
+      written = written;
+      opened = opened;
+      last = last;
+    } in f)
+    ≡ fact_of reads m r
+fact-is reads m r thread objects given written opened last is_thread is_objects is_given is_written is_opened is_last =
+    rw (is_thread, is_objects, is_given, is_written, is_opened, is_last) refl

@@ -1,5 +1,6 @@
 -- What the facts of steps need of the machine that the records before them leave.
 use Rattle.std.specs.Prelude.{◌≡◌, ℕ, List, [], ◌∷◌, ◌++◌, length, take, slice_index}
+use Rattle.guest_call.specs.declared.thread_number.TheConstants.{THREADS}
 use Rattle.machine_spec.specs.Machine.{Machine, hart_of}
 use Rattle.machine_spec.specs.Setup.{first}
 use Rattle.history_spec.specs.History.{History, laid_from}
@@ -14,6 +15,7 @@ pub record IsOutlineOf (m : Machine) (outline : Outline) : Type 0 where
   pub map : outline.map ≡ m.frame.map
   pub objects : outline.objects ≡ m.objects
   pub threads : outline.threads ≡ length m.harts
+  pub each : length outline.numbers ≡ THREADS
   pub numbers : (t : ℕ) → slice_index outline.numbers t ≡ (hart_of m t).number
 
 -- The slots that the next thunks of some threads read, by how many steps each thread has made.

@@ -1,6 +1,6 @@
 //! What the facts of steps need of the machine on which their records are laid: no page, and no register.
 
-ghost use Rattle.std.specs.Prelude.{◌≡◌, ◌+◌, ℕ, true, slice_index, is_some, IfOk, OnOk};
+ghost use Rattle.std.specs.Prelude.{◌≡◌, ◌<◌, ◌≤◌, ◌+◌, ℕ, true, if◌then◌else◌, slice_index, slice_set, is_some, IfOk};
 ghost use Rattle.sync_objects.specs.Acting.{objects_in};
 ghost use Rattle.machine_spec.specs.Setup.{first};
 ghost use Rattle.machine_spec.specs.Step as step;
@@ -15,6 +15,7 @@ use super::slots::{push_read, written};
 use call_effect::Effect;
 use depend_graph::Fact;
 use guest_call::THREADS;
+use machine_spec::MOST_STEPS;
 use page_map::PageMap;
 use release_core::{History, Records, Setup};
 use std::alloc::{AllocError, Global};
@@ -69,33 +70,61 @@ impl Outline {
         })
     }
 
-    /// Does what a record asks for, which may be laid on the machine before a place of a history, and says what its call
-    /// does.
-    fn perform(&mut self, _history: &History, _place: usize, rec: &Record) -> Done
+    /// Does the call of a record that may be laid on the machine before a place of a history.
+    fn call(&mut self, _history: &History, _place: usize, rec: &Record) -> Done
         requires outline { IsOutlineOf (machine_at _history.now _place) self.old }
         requires whole { IsWhole (machine_at _history.now _place) }
         requires can { can_apply (machine_at _history.now _place) rec.now ≡ true }
-        ensures outline { IsOutlineOf (step.lay (machine_at _history.now _place) rec.now) self.new }
+        ensures stays { self.new ≡ record self.old {
+          objects = (order.acted (machine_at _history.now _place) rec.now.thread (order.ask_of rec.now)).1;
+        } }
         ensures objects { objects_in result.objects ≡ order.objects_of (machine_at _history.now _place) rec.now }
+        ensures created { result.effect.created ≡ (order.effect_of (machine_at _history.now _place) rec.now).created }
         ensures effect { (n : ℕ) → order.served result.effect rec.now.thread n
             ≡ order.served (order.effect_of (machine_at _history.now _place) rec.now) rec.now.thread n }
     {
-        let done = match call_of(rec) {
+        match call_of(rec) {
             Some(call) => act(&self.map, &mut self.objects, rec.thread(), call),
             None => Done {
                 objects: ActedOn::Nothing,
                 effect: Effect::exits(0),
             },
-        };
-        self.numbers[usize::from(rec.thread())] += 1;
-        if done.effect.created().is_some() {
-            self.threads += 1;
         }
+    }
+
+    /// Counts a step of a thread, by which another began or none.
+    fn count(&mut self, t: u8, begins: bool)
+        requires exists { t < THREADS }
+        requires few { slice_index self.old.numbers t ≤ MOST_STEPS }
+        requires room { self.old.threads ≤ THREADS }
+        ensures { self.new ≡ record self.old {
+          threads = self.old.threads + (if begins then 1 else 0);
+          numbers = slice_set self.old.numbers t (slice_index self.old.numbers t + 1);
+        } }
+    {
+        self.threads += u8::from(begins);
+        self.numbers[usize::from(t)] += 1;
+    }
+
+    /// Does what a record asks for that may be laid on the machine before a place of a history: from then on this is the
+    /// outline of the machine after it.
+    fn perform(&mut self, history: &History, place: usize, rec: &Record) -> Done
+        requires outline { IsOutlineOf (machine_at history.now place) self.old }
+        requires whole { IsWhole (machine_at history.now place) }
+        requires can { can_apply (machine_at history.now place) rec.now ≡ true }
+        ensures outline { IsOutlineOf (step.lay (machine_at history.now place) rec.now) self.new }
+        ensures objects { objects_in result.objects ≡ order.objects_of (machine_at history.now place) rec.now }
+        ensures effect { (n : ℕ) → order.served result.effect rec.now.thread n
+            ≡ order.served (order.effect_of (machine_at history.now place) rec.now) rec.now.thread n }
+    {
+        let done = self.call(history, place, rec);
+        self.count(rec.thread(), done.effect.created().is_some());
         done
     }
 
     /// The fact of the step of a record that may be laid on the machine before a place of a history, by the thunks of
-    /// that history, where it is known whether an end comes after it. From then on it is the outline of the machine after it.
+    /// that history, where it is known whether an end comes after it. From then on this is the outline of the machine
+    /// after it, also after an error.
     ///
     /// # Errors
     ///
@@ -112,7 +141,7 @@ impl Outline {
         requires whole { IsWhole (machine_at history.now place) }
         requires can { can_apply (machine_at history.now place) rec.now ≡ true }
         requires last { last ≡ is_some (step.lay (machine_at history.now place) rec.now).ending }
-        ensures outline { OnOk result (IsOutlineOf (step.lay (machine_at history.now place) rec.now) self.new) }
+        ensures outline { IsOutlineOf (step.lay (machine_at history.now place) rec.now) self.new }
         ensures says { IfOk result (λ fact. fact
             ≡ order.fact_of (order.reads_in history.now.records) (machine_at history.now place) rec.now) }
     {
