@@ -157,5 +157,6 @@ pub fn read(alloc: Global, bytes: &[u8]) -> Result<History, ReadError>
 {
     memo_spec::taken_is_spelled(bytes);
     memo_spec::spelled_is_taken();
-    all(alloc, bytes)
+    let history = all(alloc, bytes)?;
+    Ok(history.known_coherent())
 }

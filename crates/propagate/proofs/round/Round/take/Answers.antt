@@ -6,3 +6,6 @@ use Rattle.propagate.proofs.round.Round.take.Goals as goal
 
 pub returns-clause-ok : goal.returns-clause-ok
 returns-clause-ok c = rw (happens-take c.args.self.now c.args.t c.requires) (grind (arith, common_steps))
+
+pub invariant_of-self : goal.invariant_of-self
+invariant_of-self c = ?
