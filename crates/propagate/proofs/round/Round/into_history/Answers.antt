@@ -1,7 +1,8 @@
 -- What is left to prove of `Round::into_history`.
-use Rattle.std.proofs.Common.{sym, subst}
-use Rattle.history_spec.specs.History.{IsMapped}
+use Rattle.std.proofs.Common.{◌≡◌, true, is_some, sym, ap, subst, ◌∙◌}
+use Rattle.history_spec.specs.History.{History, is_coherent, IsMapped}
 use Rattle.round_spec.specs.Rounds.{RoundState, history_of}
+use Rattle.propagate.proofs.Keeping.{laid-coherent}
 use Rattle.propagate.proofs.round.Round.into_history.Goals as goal
 
 pub new-history-requires : goal.new-history-requires
@@ -9,4 +10,7 @@ new-history-requires c =
     subst (λ (w : RoundState). IsMapped (history_of w)) (sym c.self.view_is) c.if-not-has_same_map.ensures.mapped
 
 pub known_coherent-requires : goal.known_coherent-requires
-known_coherent-requires c = ?
+known_coherent-requires c =
+    subst (λ (h : History). is_coherent h ≡ true) (sym c.new-history.ensures)
+    (laid-coherent _ c.self.invariant.laid
+    (sym (ap is_some c.ended.ensures) ∙ sym c.is_some-has_end.ensures ∙ c.if-has_end.true))

@@ -1,11 +1,46 @@
 -- What is left to prove of `Round::take`.
-use Rattle.std.proofs.Common.{arith}
+use Rattle.std.proofs.Common.{◌≡◌, true, length, set, option_map, refl, ap, sym, subst, ◌∙◌, arith}
 use Rattle.std.proofs.lemmas.Grind.{common_steps}
+use Rattle.std.specs.Arc.{arc_value}
+use Rattle.round_spec.specs.declared.events.Event.TheVariants.{Take}
+use Rattle.round_spec.specs.Rounds.{RoundState, can_take, happens}
 use Rattle.round_spec.proofs.Conditions.{happens-take}
+use Rattle.propagate.proofs.Keeping.{kept-happens}
 use Rattle.propagate.proofs.round.Round.take.Goals as goal
 
 pub returns-clause-ok : goal.returns-clause-ok
 returns-clause-ok c = rw (happens-take c.args.self.now c.args.t c.requires) (grind (arith, common_steps))
 
+-- the round before and after, by its parts
+abbrev before : goal.After-from-2 → RoundState
+before c =
+    record {
+      setup = c.self.inside.setup;
+      past = option_map arc_value c.self.inside.past;
+      machine = c.self.inside.core;
+      schedule = c.self.inside.schedule.items;
+      records = c.self.inside.records;
+      picked = c.self.inside.picked.items;
+      out = c.self.inside.out;
+      taken_at = c.self.inside.taken_at;
+      discarded = c.self.inside.discarded;
+      stopped = c.self.inside.stopped;
+    }
+
 pub invariant_of-self : goal.invariant_of-self
-invariant_of-self c = ?
+invariant_of-self c =
+    let w : RoundState = before c in
+    let v : RoundState =
+    record w {
+      out = set w.out c.from.result true;
+      taken_at = set w.taken_at c.from-2.result c.entries-now.result;
+    } in
+    let now : c.entries-now.result ≡ length w.schedule =
+    c.entries-now.ensures ∙ ap (λ (x : RoundState). length x.schedule) (sym c.self.view_is) in
+    let is : happens w (Take c.args.t) ≡ v =
+    happens-take w c.args.t (subst (λ (x : RoundState). can_take x c.args.t ≡ true) (sym c.self.view_is) c.requires)
+    ∙ sym (rw (c.from.ensures, c.from-2.ensures, now) refl) in
+    kept-happens w v (Take c.args.t) c.self.inside.instructions c.self.inside.instructions c.self.inside.graph
+    c.self.invariant is refl refl
+    (record { machine = c.self.invariant.laid.machine; can = c.self.invariant.laid.can })
+    c.self.invariant.points c.self.invariant.executed c.self.invariant.few
