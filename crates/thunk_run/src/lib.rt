@@ -6,10 +6,12 @@ mod pages;
 mod put;
 mod running;
 mod turns;
+mod watch;
 
 pub use job::{Job, Run};
 pub use put::{Range, appends_all, put_range};
-pub use running::execute;
+pub use running::{execute, execute_watched};
+pub use watch::{LONG_TURNS, Unwatched, Watch};
 
 #[cfg(test)]
 mod random_guests;

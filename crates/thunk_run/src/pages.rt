@@ -15,7 +15,7 @@ use std::sync::ledger::Ledger;
 use turn_count::Turns;
 
 /// How many turns there must be room for before a page is run from.
-const PAGE_TURNS: u32 = 1024;
+pub(super) const PAGE_TURNS: u32 = 1024;
 
 /// What was seen of the view's page in a slot.
 #[derive(Clone, Copy, Debug, PartialEq, Eq)]
@@ -98,7 +98,7 @@ fn enter_page<'a, M: Mem>(
 }
 
 /// Makes turns from decoded pages while there is room and one after the other can be run from. How many they were; the
-/// counter rises by their number.
+/// counter rises by their number. They are the first turns of any fuel that is as much as the room at least.
 ///
 /// # Errors
 ///
@@ -117,9 +117,9 @@ pub(super) fn run_pages<M: Mem, L: Ledger>(
     ensures cost { IfOk result (λ count. turns.new ≡ turns.old + count) }
     ensures never_lower { turns.old ≤ turns.new }
     ensures seen { IfOk result (λ count. AreSeen code.now (M.workspace mem.new).view seen.new) }
-    ensures left { IfOk result (λ count.
-        counted count (left_after (room - count) (M.workspace mem.new) regs.new)
-        ≡ left_after room (M.workspace mem.old) regs.old) }
+    ensures left { IfOk result (λ count. (fuel : ℕ) → room ≤ fuel
+        → counted count (left_after (fuel - count) (M.workspace mem.new) regs.new)
+        ≡ left_after fuel (M.workspace mem.old) regs.old) }
 {
     let mut count = 0;
     while room - count >= PAGE_TURNS {

@@ -7,6 +7,7 @@ ghost use Rattle.thunk_run.specs.Running.{IsRunOf, IsWithinFuel};
 
 use super::job::{Job, Run};
 use super::turns::make_thunk;
+use super::watch::{Unwatched, Watch};
 use page_store::PageTable;
 use priv_space::Space;
 use rv_alu::Regs;
@@ -38,12 +39,17 @@ impl Job {
     }
 }
 
-/// Runs the thunk of a job, and gives what is kept of it.
+/// Runs the thunk of a job, and gives what is kept of it. The watch is told where it runs long.
 ///
 /// # Errors
 ///
 /// An error where the host's memory ran out.
-fn run_thunk<L: Ledger>(alloc: Global, job: &Job, turns: &mut Turns<L>) -> Result<Kept, AllocError>
+fn run_thunk<L: Ledger, W: Watch>(
+    alloc: Global,
+    job: &Job,
+    turns: &mut Turns<L>,
+    watch: &W,
+) -> Result<Kept, AllocError>
     ensures cost { IfOk result (λ kept. turns.new ≡ turns.old + kept.count) }
     ensures never_lower { turns.old ≤ turns.new }
     ensures kept { IfOk result (λ kept.
@@ -51,7 +57,7 @@ fn run_thunk<L: Ledger>(alloc: Global, job: &Job, turns: &mut Turns<L>) -> Resul
 {
     let mut space = Space::new(alloc, &job.view, job.frame.shared_map())?;
     let mut regs = job.regs;
-    let turned = make_thunk(alloc, &job.frame, &mut regs, &mut space, turns)?;
+    let turned = make_thunk(alloc, &job.frame, &mut regs, &mut space, turns, watch)?;
     let reads = space.reads()?;
     let delta = space.into_delta()?;
     Ok(Kept {
@@ -70,14 +76,33 @@ fn run_thunk<L: Ledger>(alloc: Global, job: &Job, turns: &mut Turns<L>) -> Resul
 /// # Errors
 ///
 /// An error where the host's memory ran out; the counter may have risen, and is never lower.
-#[tactic(auto, using(crate::proofs::Counting::kept_within))]
 pub fn execute<L: Ledger>(alloc: Global, job: &Job, turns: &mut Turns<L>) -> Result<Run, AllocError>
     ensures run { IfOk result (λ run. IsRunOf job.now run) }
     ensures within { IfOk result (λ run. IsWithinFuel (arc_value job.now.frame).fuel (arc_value run.rec).kept.count) }
     ensures cost { IfOk result (λ run. turns.new ≡ turns.old + (arc_value run.rec).kept.count) }
     ensures never_lower { turns.old ≤ turns.new }
 {
-    let kept = run_thunk(alloc, job, turns)?;
+    execute_watched(alloc, job, turns, &Unwatched)
+}
+
+/// Runs the thunk of a job as `execute` does, and tells a watch where it runs long.
+///
+/// # Errors
+///
+/// An error where the host's memory ran out; the counter may have risen, and is never lower.
+#[tactic(auto, using(crate::proofs::Counting::kept_within))]
+pub fn execute_watched<L: Ledger, W: Watch>(
+    alloc: Global,
+    job: &Job,
+    turns: &mut Turns<L>,
+    watch: &W,
+) -> Result<Run, AllocError>
+    ensures run { IfOk result (λ run. IsRunOf job.now run) }
+    ensures within { IfOk result (λ run. IsWithinFuel (arc_value job.now.frame).fuel (arc_value run.rec).kept.count) }
+    ensures cost { IfOk result (λ run. turns.new ≡ turns.old + (arc_value run.rec).kept.count) }
+    ensures never_lower { turns.old ≤ turns.new }
+{
+    let kept = run_thunk(alloc, job, turns, watch)?;
     let rec = Record::new(job.thread, job.number, job.regs, kept);
     let rec = Arc::new(alloc, rec)?;
     let frame = Arc::try_clone(&job.frame)?;

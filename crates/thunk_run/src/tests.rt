@@ -1,8 +1,8 @@
-//! Two small guests, run for one thunk. The values were worked out by hand from the ISA's text.
+//! Three small guests, run for one thunk. The values were worked out by hand from the ISA's text.
 
 ghost use Rattle.std.specs.Prelude.{◌≡◌, ◌<◌};
 
-use crate::{Job, Run, execute};
+use crate::{Job, LONG_TURNS, Run, Watch, execute, execute_watched};
 use page_map::{MappedPage, PageMap, Perm};
 use page_store::{Page, PageTable};
 use rv_alu::Regs;
@@ -10,6 +10,7 @@ use rv_code::Code;
 use std::alloc::{AllocError, Global};
 use std::marker::Brand;
 use std::sync::Arc;
+use std::sync::atomic::{AtomicU64, Ordering};
 use std::sync::ledger::{Blank, Ledger};
 use std::thread::Threads;
 use thunk_record::{Frame, fits};
@@ -29,6 +30,9 @@ const SELF: [u8; 28] = [
     0xb7, 0x02, 0x01, 0x00, 0x03, 0xa3, 0x82, 0x01, 0x23, 0xa8, 0x62, 0x00, 0x93, 0x08, 0x00, 0x00,
     0x13, 0x05, 0x10, 0x00, 0x73, 0x00, 0x00, 0x00, 0x13, 0x05, 0x90, 0x00,
 ];
+
+/// jal x0,0: a loop of one instruction.
+const LOOP: [u8; 4] = [0x6f, 0x00, 0x00, 0x00];
 
 /// The first thunk of a guest with this code at 0x10000 and a page of zeros behind it.
 fn job_of(alloc: Global, code: &[u8], fuel: u32) -> Result<Job, AllocError> {
@@ -107,6 +111,64 @@ fn stores_into_code_are_seen_and_kept(rt: HostRuntime) -> Result<(), AllocError>
     if let Some(page) = delta.first() {
         assert_eq!(rt; page.slot(), 0);
         assert_eq!(rt; page.written(&Page::zero()).get(0x12), 0x90);
+    }
+    Ok(())
+}
+
+/// A watch that counts what it is told.
+#[derive(Drop)]
+struct Told {
+    times: AtomicU64,
+}
+
+impl Watch for Told {
+    fn runs_long(&self) {
+        self.times.fetch_add(1, Ordering::SeqCst);
+    }
+}
+
+/// A job run under a watch, with a counter that the runtime made.
+fn watched<R: Threads, L: Ledger>(
+    rt: &R,
+    alloc: Global,
+    job: &Job,
+    told: &Told,
+    blank: Blank,
+) -> Result<Run, AllocError>
+    requires name { blank.name ≡ L.name }
+    requires parts { blank.parts ≡ L.parts }
+    requires some { 0 < L.parts }
+{
+    execute_watched(alloc, job, &mut Turns::<L>::new(rt, blank), told)
+}
+
+/// How often a watch is told by the first thunk of a guest with this code, which makes so many turns.
+fn times_told<R: Threads>(
+    rt: &R,
+    alloc: Global,
+    code: &[u8],
+    fuel: u32,
+) -> Result<(u32, u64), AllocError> {
+    let told = Told {
+        times: AtomicU64::new(0),
+    };
+    let job = job_of(alloc, code, fuel)?;
+    let run = watched::<R, Brand>(rt, alloc, &job, &told, Blank::new(1))?;
+    Ok((run.rec.count(), told.times.load(Ordering::SeqCst)))
+}
+
+#[test]
+fn a_long_thunk_tells_its_watch_once(rt: HostRuntime) -> Result<(), AllocError> {
+    let alloc = rt.alloc();
+    assert!(&rt; times_told(&rt, alloc, &HI, 1_000_000)? == (5, 0));
+    for (fuel, times) in [
+        (1, 0),
+        (LONG_TURNS, 0),
+        (LONG_TURNS + 1, 1),
+        (5_000, 1),
+        (1_000_000, 1),
+    ] {
+        assert!(&rt; times_told(&rt, alloc, &LOOP, fuel)? == (fuel, times));
     }
     Ok(())
 }

@@ -3,8 +3,9 @@
 ghost use Rattle.std.specs.Prelude.{◌≡◌, ◌+◌, ◌≤◌, IfOk};
 ghost use Rattle.thunk_run.specs.Left.{Left, left_after, with_put_taken};
 
-use super::pages::{Seen, run_pages};
+use super::pages::{PAGE_TURNS, Seen, run_pages};
 use super::put::{put_range, take_range};
+use super::watch::{LONG_TURNS, Watch};
 use page_map::Mem;
 use rv_alu::Regs;
 use rv_step::step;
@@ -23,18 +24,23 @@ pub(super) struct Turned {
     pub count: u32,
 }
 
+/// How many turns pages may be run for before it is looked whether the thunk runs long: past `LONG_TURNS` by as much
+/// room as a page needs, since a page is left where there is less.
+const FIRST_TURNS: u32 = LONG_TURNS + PAGE_TURNS;
+
 /// Makes turns up to the first that calls or traps, or as many as the fuel allows: from decoded pages where they can be
-/// run from, else one at a time. The counter rises by the number of turns.
+/// run from, else one at a time. The counter rises by the number of turns. The watch is told where they are many.
 ///
 /// # Errors
 ///
 /// An error where the host's memory ran out.
-pub(super) fn make_turns<M: Mem, L: Ledger>(
+pub(super) fn make_turns<M: Mem, L: Ledger, W: Watch>(
     alloc: Global,
     frame: &Frame,
     regs: &mut Regs,
     mem: &mut M,
     turns: &mut Turns<L>,
+    watch: &W,
 ) -> Result<Turned, AllocError>
     ensures cost { IfOk result (λ turned. turns.new ≡ turns.old + turned.count) }
     ensures never_lower { turns.old ≤ turns.new }
@@ -46,11 +52,18 @@ pub(super) fn make_turns<M: Mem, L: Ledger>(
     let code = frame.code();
     let mut slots = vec![in alloc; Seen::Nothing; frame.map().len()]?;
     let seen = slots.as_mut_slice();
+    let mut until = fuel.min(FIRST_TURNS);
+    let mut told = false;
     let mut count = 0;
     while count < fuel {
-        count += run_pages(regs, mem, code, seen, fuel - count, turns)?;
+        count += run_pages(regs, mem, code, seen, until - count, turns)?;
         if count == fuel {
             break;
+        }
+        if count >= LONG_TURNS && !told {
+            watch.runs_long();
+            told = true;
+            until = fuel;
         }
         count += 1;
         match step(regs, mem, turns)? {
@@ -80,12 +93,13 @@ pub(super) fn make_turns<M: Mem, L: Ledger>(
 /// # Errors
 ///
 /// An error where the host's memory ran out.
-pub(super) fn make_thunk<M: Mem, L: Ledger>(
+pub(super) fn make_thunk<M: Mem, L: Ledger, W: Watch>(
     alloc: Global,
     frame: &Frame,
     regs: &mut Regs,
     mem: &mut M,
     turns: &mut Turns<L>,
+    watch: &W,
 ) -> Result<Turned, AllocError>
     requires { (M.workspace mem.old).map ≡ frame.now.map }
     ensures cost { IfOk result (λ turned. turns.new ≡ turns.old + turned.count) }
@@ -94,7 +108,7 @@ pub(super) fn make_thunk<M: Mem, L: Ledger>(
         record { regs = regs.new; end = turned.end; count = turned.count; workspace = M.workspace mem.new }
         ≡ with_put_taken (left_after frame.now.fuel (M.workspace mem.old) regs.old)) }
 {
-    let turned = make_turns(alloc, frame, regs, mem, turns)?;
+    let turned = make_turns(alloc, frame, regs, mem, turns, watch)?;
     let range = put_range(frame.map(), turned.end, regs);
     take_range(mem, range)?;
     Ok(turned)

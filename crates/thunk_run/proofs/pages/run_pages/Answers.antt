@@ -11,12 +11,12 @@ returns-then-eq-clause-seen g c slot page same at =
     (c.in-Some.ensures.seen slot page same at)
 
 pub returns-then-eq-clause-left : goal.returns-then-eq-clause-left
-returns-then-eq-clause-left g c =
-    follow-left c.in_ok-ran.ran.count c.args.room c.loop-count.count (c.loop-count.count + c.in_ok-ran.ran.count)
+returns-then-eq-clause-left g c = λ fuel most.
+    follow-left c.in_ok-ran.ran.count fuel c.loop-count.count (c.loop-count.count + c.in_ok-ran.ran.count)
     (g.M.Mem.workspace c.enter_page.new.mem) (g.M.Mem.workspace c.run_page.new.mem) c.loop-count.regs
-    c.run_page.new.regs c.in_ok-ran.ensures.turns (omega (arith, c.in_ok-ran.ensures.few)) refl
-    ∙ ap (counted c.loop-count.count) (c.in-Some.ensures.left (c.args.room - c.loop-count.count) (omega arith))
-    ∙ c.loop-count.invariant.left
+    c.run_page.new.regs c.in_ok-ran.ensures.turns (omega (arith, most, c.in_ok-ran.ensures.few)) refl
+    ∙ ap (counted c.loop-count.count) (c.in-Some.ensures.left (fuel - c.loop-count.count) (omega (arith, most)))
+    ∙ c.loop-count.invariant.left fuel most
 
 pub loop-count-preserved : goal.loop-count-preserved
 loop-count-preserved g c =
@@ -27,10 +27,10 @@ loop-count-preserved g c =
           rw (follow-view c.in_ok-ran.ran.count (g.M.Mem.workspace c.enter_page.new.mem)
           (g.M.Mem.workspace c.run_page.new.mem) c.loop-count.regs c.run_page.new.regs c.in_ok-ran.ensures.turns)
           (c.in-Some.ensures.seen slot page same at);
-      left =
-          follow-left c.in_ok-ran.ran.count c.args.room c.loop-count.count (c.loop-count.count + c.in_ok-ran.ran.count)
+      left = λ fuel most.
+          follow-left c.in_ok-ran.ran.count fuel c.loop-count.count (c.loop-count.count + c.in_ok-ran.ran.count)
           (g.M.Mem.workspace c.enter_page.new.mem) (g.M.Mem.workspace c.run_page.new.mem) c.loop-count.regs
-          c.run_page.new.regs c.in_ok-ran.ensures.turns (omega (arith, c.in_ok-ran.ensures.few)) refl
-          ∙ ap (counted c.loop-count.count) (c.in-Some.ensures.left (c.args.room - c.loop-count.count) (omega arith))
-          ∙ c.loop-count.invariant.left;
+          c.run_page.new.regs c.in_ok-ran.ensures.turns (omega (arith, most, c.in_ok-ran.ensures.few)) refl
+          ∙ ap (counted c.loop-count.count) (c.in-Some.ensures.left (fuel - c.loop-count.count) (omega (arith, most)))
+          ∙ c.loop-count.invariant.left fuel most;
     }

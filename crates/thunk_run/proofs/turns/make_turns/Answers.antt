@@ -1,9 +1,24 @@
 -- What is left to prove of `make_turns`.
-use Rattle.std.proofs.Common.{◌+◌, ◌<◌, ◌∙◌, sym, arith}
+use Rattle.std.proofs.Common.{◌≡◌, ℕ, ◌+◌, ◌-◌, ◌<◌, ◌≤◌, ◌⊎◌, Bool, true, false, ◌∙◌, sym, inl, inr, arith}
 use Rattle.thunk_run.proofs.Leaving.{turns-next, turns-call, turns-trap}
 use Rattle.thunk_run.proofs.Entering.{turn-view, left-more}
 use Rattle.thunk_run.specs.Left.{left_after}
 use Rattle.thunk_run.proofs.turns.make_turns.Goals as goal
+use Rattle.thunk_run.proofs.turns.make_turns.Goals.{then-count-ge-LONG_TURNS+then-not-told, else-count-ge-LONG_TURNS}
+use Rattle.thunk_run.proofs.turns.make_turns.Goals.{else-count-ge-LONG_TURNS-via-then-count-ge-LONG_TURNS+else-not-told}
+use Rattle.thunk_run.proofs.turns.make_turns.Goals.{else-count-ge-LONG_TURNS-via-else-count-ge-LONG_TURNS}
+
+-- there is room for one turn more, where the watch was told or there were few
+one-more :
+    (told : Bool) (made before until fuel : ℕ)
+    → made < fuel → until ≡ before → before ≤ fuel
+    → (before ≡ fuel) ⊎ ((told ≡ false) × (3072 ≤ before))
+    → (told ≡ true) ⊎ (made < 2048)
+    → (made + 1 ≤ until) × (until ≤ fuel)
+one-more told made before until fuel few same most (inl all) seldom = (omega arith, omega arith)
+one-more told made before until fuel few same most (inr far) (inl long) =
+    let both : false ≡ true = sym far.0 ∙ long in cc
+one-more told made before until fuel few same most (inr far) (inr short) = (omega arith, omega arith)
 
 pub loop-count-preserved : goal.loop-count-preserved
 loop-count-preserved g c =
@@ -15,6 +30,22 @@ loop-count-preserved g c =
     let few : made < fuel = omega (arith, c.in_ok-count.ensures.few) in
     record {
       few = omega arith;
+      room =
+          elim c.if-count-ge-LONG_TURNS.branch [
+            | then-count-ge-LONG_TURNS+then-not-told w ↦ (omega arith, omega arith)
+            | else-count-ge-LONG_TURNS w ↦
+                one-more c.loop-count.told made c.loop-count.until c.if-count-ge-LONG_TURNS.until fuel few w.until-is
+                c.loop-count.invariant.room.1 c.loop-count.invariant.until
+                (elim w.else-count-ge-LONG_TURNS.branch [
+                  | else-count-ge-LONG_TURNS-via-then-count-ge-LONG_TURNS+else-not-told v ↦ inl v.if-not-told.false
+                  | else-count-ge-LONG_TURNS-via-else-count-ge-LONG_TURNS v ↦ inr v.if-count-ge-LONG_TURNS.false
+                ])
+          ];
+      until =
+          elim c.if-count-ge-LONG_TURNS.branch [
+            | then-count-ge-LONG_TURNS+then-not-told w ↦ inl w.until-is
+            | else-count-ge-LONG_TURNS w ↦ rw (w.until-is, w.told-is) c.loop-count.invariant.until
+          ];
       counter = omega (arith, c.in_ok-count.ensures.cost, c.step.ensures.count);
       seen = λ slot page same at.
           rw (turn-view w after c.in_ok-step.field-0 c.step.new.regs c.in_ok-step.ensures.ok)
@@ -24,7 +55,7 @@ loop-count-preserved g c =
           c.in_ok-step.ensures.ok c.in-Next.is
           ∙ left-more fuel c.loop-count.count more (g.M.Mem.workspace c.loop-count.mem) w c.loop-count.regs
           c.run_pages.new.regs (left_after fuel (g.M.Mem.workspace c.args.mem.now) c.args.regs.now)
-          c.in_ok-count.ensures.left c.loop-count.invariant.left;
+          (c.in_ok-count.ensures.left (fuel - c.loop-count.count) (omega arith)) c.loop-count.invariant.left;
     }
 
 pub returns-in-Call-clause-left : goal.returns-in-Call-clause-left
@@ -39,8 +70,8 @@ returns-in-Call-clause-left g c =
     (turns-call fuel made w (g.M.Mem.workspace c.step.new.mem) c.run_pages.new.regs c.step.new.regs c.in_ok-step.field-0
     few c.in_ok-step.ensures.ok c.in-Call.is)
     ∙ left-more fuel c.loop-count.count more (g.M.Mem.workspace c.loop-count.mem) w c.loop-count.regs
-    c.run_pages.new.regs (left_after fuel (g.M.Mem.workspace c.args.mem.now) c.args.regs.now) c.in_ok-count.ensures.left
-    c.loop-count.invariant.left)
+    c.run_pages.new.regs (left_after fuel (g.M.Mem.workspace c.args.mem.now) c.args.regs.now)
+    (c.in_ok-count.ensures.left (fuel - c.loop-count.count) (omega arith)) c.loop-count.invariant.left)
 
 pub returns-in-Trap-clause-left : goal.returns-in-Trap-clause-left
 returns-in-Trap-clause-left g c =
@@ -54,5 +85,5 @@ returns-in-Trap-clause-left g c =
     (turns-trap fuel made w (g.M.Mem.workspace c.step.new.mem) c.run_pages.new.regs c.step.new.regs c.in_ok-step.field-0
     c.in-Trap.cause few c.in_ok-step.ensures.ok c.in-Trap.is)
     ∙ left-more fuel c.loop-count.count more (g.M.Mem.workspace c.loop-count.mem) w c.loop-count.regs
-    c.run_pages.new.regs (left_after fuel (g.M.Mem.workspace c.args.mem.now) c.args.regs.now) c.in_ok-count.ensures.left
-    c.loop-count.invariant.left)
+    c.run_pages.new.regs (left_after fuel (g.M.Mem.workspace c.args.mem.now) c.args.regs.now)
+    (c.in_ok-count.ensures.left (fuel - c.loop-count.count) (omega arith)) c.loop-count.invariant.left)

@@ -1,5 +1,5 @@
 -- What holds at the loop of `make_turns`.
-use Rattle.std.proofs.Common.{◌≡◌, ◌+◌, ◌-◌, ◌≤◌}
+use Rattle.std.proofs.Common.{◌≡◌, ◌+◌, ◌-◌, ◌≤◌, ◌⊎◌, false}
 use Rattle.thunk_run.specs.Left.{left_after, counted}
 use Rattle.thunk_run.specs.Seeing.{AreSeen}
 use Rattle.thunk_run.proofs.turns.make_turns.Given as goal
@@ -7,6 +7,8 @@ use Rattle.thunk_run.proofs.turns.make_turns.Given as goal
 abbrev pub invariant-loop-count : goal.invariant-loop-count
 invariant-loop-count g l = record {
   few : l.count ≤ l.fuel;
+  room : (l.count ≤ l.until) × (l.until ≤ l.fuel);
+  until : (l.until ≡ l.fuel) ⊎ ((l.told ≡ false) × (3072 ≤ l.until));
   counter : l.turns ≡ l.fn.turns + l.count;
   seen : AreSeen l.code (g.M.Mem.workspace l.mem).view l.seen;
   left : counted l.count (left_after (l.fuel - l.count) (g.M.Mem.workspace l.mem) l.regs)
