@@ -10,7 +10,6 @@ use Rattle.round_spec.specs.declared.events.Pick.TheVariants as pick
 use Rattle.round_spec.specs.Rounds.{RoundState, opening, is_over, happens}
 use Rattle.round_spec.specs.Choice.{pick_of}
 use Rattle.round_spec.specs.Keeping.{IsInOrder}
-use Rattle.round_spec.specs.Picking.{IsPickedSoFar}
 use Rattle.round_spec.specs.Unedited.{IsUnedited}
 use Rattle.round_spec.proofs.Happening.{happens-kept}
 use Rattle.round_spec.proofs.Leaving.{same-happens}

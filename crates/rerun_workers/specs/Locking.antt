@@ -1,6 +1,7 @@
 -- What the calls of a worker do to the round under the lock.
 use Rattle.std.specs.Prelude.{◌≡◌, ◌+◌, ℕ, zero, suc, ⊤, Bool, true, false, length}
 use Rattle.std.specs.Arc.{arc_value}
+use Rattle.thunk_spec.specs.Thunk.{Frame}
 use Rattle.release_core.specs.Jobs.{IsJobOf}
 use Rattle.thunk_run.specs.declared.job.Run.{Run}
 use Rattle.round_spec.specs.declared.events.Event.TheVariants.{Take, Reuse, Commit, GiveBack, Stop}
@@ -53,6 +54,13 @@ BeginsNothing (task.Begin job) = ⊥
 BeginsNothing task.Hold = ⊤
 BeginsNothing task.Over = ⊤
 BeginsNothing task.Memory = ⊤
+
+-- A step to begin has this page map and this fuel.
+abbrev pub BeginsIn : Frame → Task → Type 0
+BeginsIn f (task.Begin job) = arc_value job.frame ≡ f
+BeginsIn f task.Hold = ⊤
+BeginsIn f task.Over = ⊤
+BeginsIn f task.Memory = ⊤
 
 -- A round after a step that was taken was discarded, and the round stopped.
 abbrev pub given_up : RoundState → ℕ → RoundState

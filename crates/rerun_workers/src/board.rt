@@ -1,13 +1,21 @@
 //! The board: the round under a lock, and the condition on which workers wait.
+//!
+//! Nothing that can be done is left while a worker sleeps, but for as long as a short step takes. Only a call under the
+//! lock changes what there is to do, and a worker that is told to hold found nothing then. Whoever else was the last
+//! under the lock is awake: it is on its way to ask again, or it executes a step. If that is a short one, it asks when it
+//! is done; if it runs long, the worker looks then, and wakes one of those who wait if there is something for it, who
+//! asks in its turn, and is the last. To hold, a worker lets go of the lock and waits in one: so it misses nobody who
+//! wakes it for what came after it looked. A worker that is held at its gate asks and looks only past it.
 
-ghost use Rattle.std.specs.Prelude.{◌≡◌, ◌≢◌, ◌+◌, ◌<◌, ◌≤◌, length, sum, vec_len, vec_capacity, Some, [], IfOk};
+ghost use Rattle.std.specs.Prelude.{◌≡◌, ◌≢◌, ◌+◌, ◌<◌, ◌≤◌, length, sum, vec_len, vec_capacity, Some, [], IfOk, Decides};
+ghost use Rattle.std.specs.Arc.{arc_value};
 ghost use Rattle.machine_spec.specs.Setup.{first};
 ghost use Rattle.history_spec.specs.History.{History};
 ghost use Rattle.round_spec.specs.Rounds.{opening};
 ghost use Rattle.round_spec.specs.Unedited.{IsUnedited};
 ghost use Rattle.rerun_workers.specs.declared.locked.Task.TheVariants as task;
 ghost use Rattle.rerun_workers.specs.Following.{FollowsPicks};
-ghost use Rattle.rerun_workers.specs.Locking.{BeginsNothing, HandsBack, steps_by};
+ghost use Rattle.rerun_workers.specs.Locking.{BeginsIn, BeginsNothing, HandsBack, steps_by};
 
 use super::locked::{Landed, Locked, Task};
 use super::naming::{Naming, Pass};
@@ -98,27 +106,22 @@ impl<J: Naming> Board<J> {
         Ok((board, passes))
     }
 
-    /// What a worker is to do next, as the round under the lock tells it. Where it is told to hold, it
-    /// waits until it is woken, and asks again. Without an edit it is never a step to execute.
+    /// What a worker is to do next, as the round under the lock tells it. Where it is told to hold, it waits until it is
+    /// woken, and asks again. A step to execute has the page map and the fuel of the round's setup. Without an edit it is
+    /// never one.
     ///
-    /// Who is told to begin a step wakes another worker if there is more to do, who does the same; and who is
-    /// told that there is nothing any more wakes all.
+    /// Who is told to begin a step wakes nobody: most steps are done before another worker could begin what is left, and
+    /// who has done one asks again (`Board::share`). Who is told that there is nothing any more wakes all.
     pub fn next<R: Wait>(&self, rt: &R, pass: &mut Pass<J>) -> Task
         ensures told { result ≢ task.Hold }
+        ensures own { BeginsIn (first J.setup).frame result }
         ensures unedited { (h : History) → J.past ≡ Some h → IsUnedited h J.setup → BeginsNothing result }
     {
         let mut locked = self.lock.lock(rt);
         for _ in rt.forever() {
             match locked.next(pass) {
                 Task::Hold => locked = self.changed.wait(rt, locked),
-                Task::Begin(job) => {
-                    let is_more = locked.has_more();
-                    drop(locked);
-                    if is_more {
-                        self.changed.notify_one();
-                    }
-                    return Task::Begin(job);
-                }
+                Task::Begin(job) => return Task::Begin(job),
                 task => {
                     drop(locked);
                     self.changed.notify_all();
@@ -134,14 +137,47 @@ impl<J: Naming> Board<J> {
         self.lock.lock(rt).has_more()
     }
 
-    /// Commits a run to the round under the lock, or says why it can't. What takes longest, to look whether it ran with
-    /// the round's page map, is done before. Who commits asks for the next step then, and so wakes whoever there is work
-    /// for; where memory ran out nobody has to ask, and all are woken.
+    /// Wakes one of those who wait, if there is something for it to do. Whose step runs long does it once.
+    pub(super) fn share<R: Wait>(&self, rt: &R) {
+        if self.has_more(rt) {
+            self.changed.notify_one();
+        }
+    }
+
+    /// Commits a run of a step of the round to the round under the lock, or says why it can't: whether it ran with the
+    /// round's page map and fuel need not be asked. Who commits asks for the next step then; where memory ran out nobody
+    /// has to ask, and all are woken.
+    pub(super) fn commit_own<R: Wait>(&self, rt: &R, pass: &mut Pass<J>, run: Run) -> Landed
+        requires own { arc_value run.frame ≡ (first J.setup).frame }
+        ensures back { HandsBack run result }
+        ensures counts { pass.new.steps ≡ pass.old.steps + steps_by result }
+    {
+        self.commit_known(rt, pass, run, true)
+    }
+
+    /// Commits any run to the round under the lock, or says why it can't. What takes longest, to look whether it ran with
+    /// the round's page map, is done before. Where memory ran out nobody has to ask any more, and all are woken.
     pub fn commit<R: Wait>(&self, rt: &R, pass: &mut Pass<J>, run: Run) -> Landed
         ensures back { HandsBack run result }
         ensures counts { pass.new.steps ≡ pass.old.steps + steps_by result }
     {
         let same_frame = *run.frame == self.frame;
+        self.commit_known(rt, pass, run, same_frame)
+    }
+
+    /// Commits a run to the round under the lock, or says why it can't, where it is known whether it ran with the round's
+    /// page map and fuel.
+    fn commit_known<R: Wait>(
+        &self,
+        rt: &R,
+        pass: &mut Pass<J>,
+        run: Run,
+        same_frame: bool,
+    ) -> Landed
+        requires { Decides same_frame (arc_value run.frame ≡ (first J.setup).frame) }
+        ensures back { HandsBack run result }
+        ensures counts { pass.new.steps ≡ pass.old.steps + steps_by result }
+    {
         let landed = self.lock.lock(rt).commit(pass, run, same_frame);
         if matches!(landed, Landed::Memory(_)) {
             self.changed.notify_all();

@@ -11,7 +11,7 @@ ghost use Rattle.round_spec.specs.Choice.{pick_of};
 ghost use Rattle.round_spec.specs.Unedited.{IsUnedited};
 ghost use Rattle.propagate.specs.Committing.{GoesOn};
 ghost use Rattle.rerun_workers.specs.Following.{FollowsPicks};
-ghost use Rattle.rerun_workers.specs.Locking.{Tells, TellsAfter, BeginsNothing, is_something, given_up, Lands, HandsBack, steps_by, Counts};
+ghost use Rattle.rerun_workers.specs.Locking.{Tells, TellsAfter, BeginsIn, BeginsNothing, is_something, given_up, Lands, HandsBack, steps_by, Counts};
 
 use super::naming::{Naming, Pass};
 use propagate::{Committed, Round};
@@ -127,6 +127,7 @@ impl<J: Naming> Locked<J> {
         requires can { can_take self.old.round t ≡ true }
         ensures does { TellsAfter self.old.round result self.new.round }
         ensures same { GoesOn 0 self.old.round self.new.round }
+        ensures own { BeginsIn (first J.setup).frame result }
         ensures unedited { (h : History) → J.past ≡ Some h → IsUnedited h J.setup → BeginsNothing result }
     {
         let Locked { round, .. } = self;
@@ -142,9 +143,11 @@ impl<J: Naming> Locked<J> {
 
     /// Reuses records as long as that is picked, each as a step of this worker, and then takes the step
     /// that is picked to be executed, or tells what is picked in its place. Where memory runs out, what
-    /// was reused stands, and the round is stopped. Without an edit it is never a step to execute.
+    /// was reused stands, and the round is stopped. A step to execute has the page map and the fuel of the round's
+    /// setup. Without an edit it is never one.
     pub fn next(&mut self, pass: &mut Pass<J>) -> Task
         ensures does { Tells self.old.round result self.new.round }
+        ensures own { BeginsIn (first J.setup).frame result }
         ensures counts { Counts pass.old.steps self.old.round pass.new.steps self.new.round }
         ensures unedited { (h : History) → J.past ≡ Some h → IsUnedited h J.setup → BeginsNothing result }
     {

@@ -1,8 +1,10 @@
 //! Which round workers make together, as the types that they share name it.
 
-ghost use Rattle.std.specs.Prelude.{◌≡◌, ℕ, [], Option, None};
-ghost use Rattle.machine_spec.specs.Setup.{Setup};
+ghost use Rattle.std.specs.Prelude.{◌≡◌, ℕ, [], Option, None, Some};
+ghost use Rattle.std.specs.Arc.{arc_value};
+ghost use Rattle.machine_spec.specs.Setup.{Setup, first};
 ghost use Rattle.history_spec.specs.History.{History};
+ghost use Rattle.thunk_run.specs.declared.job.Job.{Job as Begun};
 
 use std::marker::Brand;
 use std::sync::ledger::{Ledger, Share};
@@ -27,7 +29,7 @@ impl Naming for Brand {
 }
 
 /// What a worker holds of a board: how many steps of the round it has made, a share of the ledger, which is one part
-/// with as many, and the step that it is to execute first, where one was begun for it before it set to work.
+/// with as many, and the step of the round that it is to execute first, where one was begun for it before it set to work.
 #[derive(Drop)]
 pub struct Pass<J: Naming> {
     pub(super) share: Share<J>,
@@ -35,6 +37,7 @@ pub struct Pass<J: Naming> {
     pub(super) begun: Option<Job>,
     ghost one: { share.parts ≡ 1 },
     ghost counted: { steps ≡ share.amount },
+    ghost own: { (job : Begun) → begun ≡ Some job → arc_value job.frame ≡ (first J.setup).frame },
 }
 
 impl<J: Naming> Pass<J> {

@@ -21,7 +21,7 @@ use std::sync::ledger::Blank;
 use std::sync::{Arc, Wait};
 use std::test::Fail;
 use std::thread::Threads;
-use thunk_run::{Job, Run};
+use thunk_run::{Job, Run, Unwatched};
 
 /// lui a0,0x10; addi a0,a0,0x20; addi a1,x0,3; addi a7,x0,1; ecall; addi a0,x0,0; addi a7,x0,0;
 /// ecall; and "hi\n", in one segment at 0x10000.
@@ -79,7 +79,7 @@ fn first_run<J: Naming, R: Threads + Wait>(
 {
     let (board, mut passes) = Board::<J>::new(alloc, round, 1, blank)?;
     let job = begun(rt, &board, &mut passes[0])?;
-    Ok(run_job(rt, alloc, &job)?)
+    Ok(run_job(rt, alloc, &job, &Unwatched)?)
 }
 
 /// Hands in a run that can't be committed, and takes it back.
@@ -103,7 +103,7 @@ fn make_next<J: Naming, R: Threads + Wait>(
     pass: &mut Pass<J>,
 ) -> Result<(), Fail> {
     let job = begun(rt, board, pass)?;
-    let run = run_job(rt, alloc, &job)?;
+    let run = run_job(rt, alloc, &job, &Unwatched)?;
     match board.commit(rt, pass, run) {
         Landed::Done => Ok(()),
         _ => Err(Fail::new("the run isn't committed")),

@@ -1,6 +1,9 @@
 //! A worker: it is told what to do, executes, and hands in what came of it.
 
-ghost use Rattle.std.specs.Prelude.{◌≡◌, ◌<◌};
+ghost use Rattle.std.specs.Prelude.{◌≡◌, ◌<◌, IfOk};
+ghost use Rattle.std.specs.Arc.{arc_value};
+ghost use Rattle.machine_spec.specs.Setup.{first};
+ghost use Rattle.thunk_run.specs.Running.{IsRunOf};
 
 use super::board::Board;
 use super::locked::{Landed, Task};
@@ -11,30 +14,52 @@ use std::marker::Brand;
 use std::sync::Wait;
 use std::sync::ledger::{Blank, Ledger};
 use std::thread::Threads;
-use thunk_run::{Job, Run, execute};
+use thunk_run::{Job, Run, Watch, execute_watched};
 use turn_count::Turns;
 
+/// Who looks while a worker's step runs long whether there is something for another worker, and wakes it.
+#[derive(Drop)]
+struct Sharing<'a, J: Naming, R: Wait> {
+    rt: &'a R,
+    board: &'a Board<J>,
+}
+
+impl<'a, J: Naming, R: Wait> Watch for Sharing<'a, J, R> {
+    fn runs_long(&self) {
+        self.board.share(self.rt);
+    }
+}
+
 /// Runs the thunk of a job with a counter that nobody else has.
-fn counted<R: Threads, L: Ledger>(
+fn counted<R: Threads, L: Ledger, W: Watch>(
     rt: &R,
     alloc: Global,
     job: &Job,
+    watch: &W,
     blank: Blank,
 ) -> Result<Run, AllocError>
     requires name { blank.name ≡ L.name }
     requires parts { blank.parts ≡ L.parts }
     requires some { 0 < L.parts }
+    ensures { IfOk result (λ run. IsRunOf job.now run) }
 {
     let mut turns = Turns::<L>::new(rt, blank);
-    execute(alloc, job, &mut turns)
+    execute_watched(alloc, job, &mut turns, watch)
 }
 
-/// Runs the thunk of a job.
-pub(super) fn run_job<R: Threads>(rt: &R, alloc: Global, job: &Job) -> Result<Run, AllocError> {
-    counted::<R, Brand>(rt, alloc, job, Blank::new(1))
+/// Runs the thunk of a job, under a watch.
+pub(super) fn run_job<R: Threads, W: Watch>(
+    rt: &R,
+    alloc: Global,
+    job: &Job,
+    watch: &W,
+) -> Result<Run, AllocError>
+    ensures { IfOk result (λ run. IsRunOf job.now run) }
+{
+    counted::<R, Brand, W>(rt, alloc, job, watch, Blank::new(1))
 }
 
-/// Executes a job past the gate, and hands in what came of it. The answer is whether the worker goes on.
+/// Executes a job of the round past the gate, and hands in what came of it. The answer is whether the worker goes on.
 fn make_step<J: Naming, R: Threads + Wait, G: Gate>(
     rt: &R,
     alloc: Global,
@@ -42,11 +67,13 @@ fn make_step<J: Naming, R: Threads + Wait, G: Gate>(
     pass: &mut Pass<J>,
     gate: &G,
     job: Job,
-) -> bool {
+) -> bool
+    requires { arc_value job.frame ≡ (first J.setup).frame }
+{
     gate.enter(job.thread, job.number);
-    match run_job(rt, alloc, &job) {
+    match run_job(rt, alloc, &job, &Sharing { rt, board }) {
         Ok(run) => {
-            match board.commit(rt, pass, run) {
+            match board.commit_own(rt, pass, run) {
                 Landed::Done | Landed::Stale(_) => true,
                 Landed::Memory(_) => false,
             }

@@ -1,8 +1,9 @@
 -- What is left to prove of `Locked::begin`.
-use Rattle.std.proofs.Common.{rules, ap, sym, ◌∙◌}
+use Rattle.std.proofs.Common.{rules, ap, ◌∙◌}
+use Rattle.machine_spec.specs.Setup.{Setup, first}
 use Rattle.round_spec.specs.declared.events.Event.TheVariants.{Stop}
 use Rattle.round_spec.specs.Rounds.{RoundState, happens}
-use Rattle.rerun_workers.proofs.Following.{IsUnder, follows-take, follows-stop, never-begins}
+use Rattle.rerun_workers.proofs.Following.{follows-take, follows-stop, never-begins}
 use Rattle.rerun_workers.proofs.locked.Locked.begin.Goals as goal
 
 pub invariant_of-self : goal.invariant_of-self
@@ -46,3 +47,7 @@ returns-in-Ok-clause-unedited g c =
     λ h past unedited.
     absurd (never-begins g.J.Naming.setup g.J.Naming.past c.args.self.now.round c.args.t h
     c.args.self.now.follows c.requires.picked past unedited)
+
+pub returns-in-Ok-clause-own : goal.returns-in-Ok-clause-own
+returns-in-Ok-clause-own g c =
+    c.in-Ok.ensures.job.frame ∙ c.keeps.ensures.framed ∙ ap (λ (s : Setup). (first s).frame) c.args.self.now.setup

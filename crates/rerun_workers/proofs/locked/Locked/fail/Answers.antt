@@ -1,6 +1,6 @@
 -- What is left to prove of `Locked::fail`.
 use Rattle.std.proofs.Common.{rules}
-use Rattle.rerun_workers.proofs.Following.{IsUnder, follows-given_up}
+use Rattle.rerun_workers.proofs.Following.{follows-given_up}
 use Rattle.rerun_workers.proofs.locked.Locked.fail.Goals as goal
 
 pub invariant_of-self : goal.invariant_of-self

@@ -1,6 +1,6 @@
 -- What is left to prove of `Locked::reuse`.
 use Rattle.std.proofs.Common.{rules}
-use Rattle.rerun_workers.proofs.Following.{IsUnder, follows-reuse}
+use Rattle.rerun_workers.proofs.Following.{follows-reuse}
 use Rattle.rerun_workers.proofs.locked.Locked.reuse.Goals as goal
 
 pub invariant_of-self-2 : goal.invariant_of-self-2

@@ -1,6 +1,6 @@
 -- What is left to prove of `Locked::stop`.
 use Rattle.std.proofs.Common.{rules}
-use Rattle.rerun_workers.proofs.Following.{IsUnder, follows-stop}
+use Rattle.rerun_workers.proofs.Following.{follows-stop}
 use Rattle.rerun_workers.proofs.locked.Locked.stop.Goals as goal
 
 pub invariant_of-self : goal.invariant_of-self
