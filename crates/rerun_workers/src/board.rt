@@ -1,11 +1,12 @@
 //! The board: the round under a lock, and the condition on which workers wait.
 //!
-//! Nothing that can be done is left while a worker sleeps, but for as long as a short step takes. Only a call under the
-//! lock changes what there is to do, and a worker that is told to hold found nothing then. Whoever else was the last
-//! under the lock is awake: it is on its way to ask again, or it executes a step. If that is a short one, it asks when it
-//! is done; if it runs long, the worker looks then, and wakes one of those who wait if there is something for it, who
-//! asks in its turn, and is the last. To hold, a worker lets go of the lock and waits in one: so it misses nobody who
-//! wakes it for what came after it looked. A worker that is held at its gate asks and looks only past it.
+//! Nothing that can be done is left while a worker sleeps, but for as long as a short step takes. Only a call under
+//! the lock changes what there is to do. Whoever made the last such call was told to hold, and then there is nothing to
+//! do; or that the round is over, and then all are woken; or else it is awake: it is on its way to ask again, or it
+//! executes a step. If that is a short one, it asks when it is done; if it runs long, it looks then whether there is
+//! something for another worker, and wakes one of those who wait, who asks in its turn, and made the last call then. To
+//! hold, a worker lets go of the lock and waits in one: so it misses nobody who wakes it for what came after it asked.
+//! A worker that is held at its gate asks and looks only when it is past it.
 
 ghost use Rattle.std.specs.Prelude.{◌≡◌, ◌≢◌, ◌+◌, ◌<◌, ◌≤◌, length, sum, vec_len, vec_capacity, Some, [], IfOk, Decides};
 ghost use Rattle.std.specs.Arc.{arc_value};
@@ -106,12 +107,13 @@ impl<J: Naming> Board<J> {
         Ok((board, passes))
     }
 
-    /// What a worker is to do next, as the round under the lock tells it. Where it is told to hold, it waits until it is
-    /// woken, and asks again. A step to execute has the page map and the fuel of the round's setup. Without an edit it is
-    /// never one.
+    /// What a worker is to do next, as the round under the lock tells it. Where it is told to hold, it waits until it
+    /// is woken, and asks again. A step to execute has the page map and the fuel of the round's setup. Without an edit
+    /// it is never one.
     ///
-    /// Who is told to begin a step wakes nobody: most steps are done before another worker could begin what is left, and
-    /// who has done one asks again (`Board::share`). Who is told that there is nothing any more wakes all.
+    /// Who is told to begin a step wakes nobody, since a short one is done before another worker could begin what else
+    /// there is to do, and whoever has done it asks again. Whose step runs long wakes another worker then, if there is
+    /// something for it. Who is told that there is nothing any more wakes all.
     pub fn next<R: Wait>(&self, rt: &R, pass: &mut Pass<J>) -> Task
         ensures told { result ≢ task.Hold }
         ensures own { BeginsIn (first J.setup).frame result }
@@ -144,9 +146,9 @@ impl<J: Naming> Board<J> {
         }
     }
 
-    /// Commits a run of a step of the round to the round under the lock, or says why it can't: whether it ran with the
-    /// round's page map and fuel need not be asked. Who commits asks for the next step then; where memory ran out nobody
-    /// has to ask, and all are woken.
+    /// Commits a run of one of the round's own steps to the round under the lock, or says why it can't. It ran with the
+    /// round's page map and fuel, so that isn't asked. Who commits asks for the next step then; where memory ran out
+    /// nobody has to ask, and all are woken.
     pub(super) fn commit_own<R: Wait>(&self, rt: &R, pass: &mut Pass<J>, run: Run) -> Landed
         requires own { arc_value run.frame ≡ (first J.setup).frame }
         ensures back { HandsBack run result }
@@ -155,8 +157,8 @@ impl<J: Naming> Board<J> {
         self.commit_known(rt, pass, run, true)
     }
 
-    /// Commits any run to the round under the lock, or says why it can't. What takes longest, to look whether it ran with
-    /// the round's page map, is done before. Where memory ran out nobody has to ask any more, and all are woken.
+    /// Commits any run to the round under the lock, or says why it can't. What takes longest, to look whether it ran
+    /// with the round's page map, is done before. Where memory ran out nobody has to ask any more, and all are woken.
     pub fn commit<R: Wait>(&self, rt: &R, pass: &mut Pass<J>, run: Run) -> Landed
         ensures back { HandsBack run result }
         ensures counts { pass.new.steps ≡ pass.old.steps + steps_by result }
@@ -165,8 +167,8 @@ impl<J: Naming> Board<J> {
         self.commit_known(rt, pass, run, same_frame)
     }
 
-    /// Commits a run to the round under the lock, or says why it can't, where it is known whether it ran with the round's
-    /// page map and fuel.
+    /// Commits a run to the round under the lock, or says why it can't, where it is known whether it ran with the
+    /// round's page map and fuel.
     fn commit_known<R: Wait>(
         &self,
         rt: &R,

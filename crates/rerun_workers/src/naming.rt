@@ -29,7 +29,8 @@ impl Naming for Brand {
 }
 
 /// What a worker holds of a board: how many steps of the round it has made, a share of the ledger, which is one part
-/// with as many, and the step of the round that it is to execute first, where one was begun for it before it set to work.
+/// with as many, and the step of the round that it is to execute first, where one was begun for it before it set to
+/// work.
 #[derive(Drop)]
 pub struct Pass<J: Naming> {
     pub(super) share: Share<J>,
