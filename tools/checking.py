@@ -42,6 +42,12 @@ def ran(*words):
     return status, printed, said.partition("\n")[0]
 
 
+def is_built(name):
+    """Whether a proved program is there, or can be had: where it isn't, it is proved and built first, however long that takes."""
+    quiet = {"stdin": subprocess.DEVNULL, "stdout": subprocess.DEVNULL, "stderr": subprocess.DEVNULL}
+    return subprocess.run([str(ROOT / name), "--help"], check=False, **quiet).returncode != 125
+
+
 def program(*words):
     return ran(str(ROOT / "ithreads"), *map(str, words))
 
