@@ -3,6 +3,7 @@
 
 mod group;
 mod page;
+mod shelf;
 mod table;
 
 pub use memory_spec::PAGE_SIZE;
