@@ -3,6 +3,7 @@
 
 mod group;
 mod page;
+mod parts;
 mod shelf;
 mod table;
 
