@@ -1,26 +1,11 @@
 /* A pipeline of four stages, for bench/workers. The input's words: how many items there are, at most 64; how many numbers a stage draws for an item, of
    eight turns each; and a number that the first stage begins with. A stage takes an item from the one before it by a semaphore, and hands it on by
    another; only neighbours have one in common, and each item lies on a page of its own at each stage. Main puts out the sum of what the last stage drew. */
-#include "ithreads.h"
+#include "drawing.h"
 
 enum { STAGES = 4, MOST = 64, WORDS = 1024 };
 
 static unsigned drawn_at[STAGES][MOST][WORDS] IT_PAGE_ALIGNED;
-
-static IT_NOINLINE unsigned drawn(unsigned x, unsigned numbers)
-{
-    while (numbers--) {
-        x ^= x << 13;
-        x ^= x >> 17;
-        x ^= x << 5;
-    }
-    return x;
-}
-
-static const unsigned *asked(void)
-{
-    return (const unsigned *)it_input();
-}
 
 static unsigned items(void)
 {

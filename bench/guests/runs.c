@@ -2,7 +2,11 @@
    byte) into the block's own page, and note its length; main joins them and puts the blocks out, in order. */
 #include "ithreads.h"
 
-enum { BLOCK = 2048, BLOCKS = 32, WORKERS = 3, COUNTER = 4 };
+#ifndef BLOCKS
+#define BLOCKS 32
+#endif
+
+enum { BLOCK = 2048, WORKERS = 3, COUNTER = 4 };
 
 static unsigned next;
 static unsigned lengths[BLOCKS];

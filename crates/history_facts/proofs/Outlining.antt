@@ -18,7 +18,7 @@ use Rattle.machine_spec.specs.Step.{lay, fits, can_step}
 use Rattle.machine_spec.proofs.Beginning.{IsWhole-first}
 use Rattle.machine_spec.proofs.Harts.{ready-below}
 use Rattle.history_spec.specs.History.{History, laid_from, can_lay_from, is_coherent}
-use Rattle.history_spec.proofs.Laying.{lay-whole}
+use Rattle.history_spec.proofs.Laying.{lay-frame, lay-whole}
 use Rattle.history_spec.proofs.Mapped.{first-map}
 use Rattle.history_spec.proofs.Numbers.{one_for, first-number, lay-number}
 use Rattle.order_spec.specs.Facts.{Fact, ask_of, acted, effect_of, objects_of, served_by, written_slots, read_by, fact_of}
@@ -27,7 +27,7 @@ use Rattle.release_core.specs.Applying.{can_apply}
 use Rattle.release_core.proofs.Asking.{few_numbers}
 use Rattle.history_facts.specs.declared.outline.Outline.{Outline}
 use Rattle.history_facts.specs.Outlining.{machine_at, numbered, IsOutlineOf}
-use Rattle.history_facts.proofs.Laying.{ready, can-make, laid-frame}
+use Rattle.history_facts.proofs.Laying.{ready, can-make}
 
 -- the machine after a record that stands at a place
 laid-more :
@@ -139,7 +139,7 @@ pub outline-more :
     → numbers ≡ set o.numbers r.thread (get_or o.numbers r.thread 0 + 1)
     → IsOutlineOf (lay m r) (record { map = o.map; objects = objects; threads = threads; numbers = numbers })
 outline-more m r o objects threads numbers is whole can is_objects is_threads is_numbers = record {
-  map = is.map ∙ sym (ap (λ f. f.map) (laid-frame m r));
+  map = is.map ∙ sym (ap (λ f. f.map) (lay-frame m r));
   objects = is_objects ∙ sym (lay-objects m r);
   threads = is_threads ∙ ap (λ n. n + created_count (effect_of m r).created) is.threads ∙ sym (lay-length m r);
   each = ap (λ (ns : List ℕ). length ns) is_numbers

@@ -34,7 +34,7 @@ fn bare_fact(alloc: Global, rec: &Record) -> Result<Fact, AllocError>
 }
 
 /// The facts of a history of which nothing is known: each record is laid, as far as it fits.
-fn found(alloc: Global, history: &History) -> Result<Vec<Fact>, AllocError>
+fn by_laying(alloc: Global, history: &History) -> Result<Vec<Fact>, AllocError>
     ensures { IfOk result (λ facts. facts.items ≡ order.facts history.now) }
 {
     let records = history.records();
@@ -83,7 +83,7 @@ pub fn facts(alloc: Global, history: &History) -> Result<Vec<Fact>, AllocError>
     if history.is_known_coherent() {
         known(alloc, history)
     } else {
-        found(alloc, history)
+        by_laying(alloc, history)
     }
 }
 

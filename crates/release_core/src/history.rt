@@ -23,13 +23,13 @@ pub struct History {
 
 impl Model for History {
     ghost use Rattle.history_spec.specs.History.{History as Kept};
-    ghost use Rattle.release_core.specs.Histories.{IsKept};
+    ghost use Rattle.release_core.specs.Histories.{IsAsKnown};
 
     ghost Value = { Kept };
 
     ghost view = { λ h. record { setup = h.setup; records = h.records } };
 
-    ghost invariant = { λ h. IsKept h.coherent (view h) };
+    ghost invariant = { λ h. IsAsKnown h.coherent (view h) };
 }
 
 impl History {

@@ -1,8 +1,7 @@
 -- What is left to prove of `Outline::call`.
-use Rattle.std.proofs.Common.{refl, sym, ap, ◌∙◌}
-use Rattle.machine_spec.specs.Step as step
+use Rattle.std.proofs.Common.{sym, ◌∙◌}
 use Rattle.history_facts.specs.Outlining.{machine_at}
-use Rattle.history_facts.proofs.Laying.{acts-exists, acts-free, called-served, laid-frame}
+use Rattle.history_facts.proofs.Laying.{acts-exists, acts-free, called-served}
 use Rattle.history_facts.proofs.outline.Outline.call.Goals as goal
 
 pub act-requires-clause-exists : goal.act-requires-clause-exists
@@ -17,13 +16,11 @@ act-requires-clause-free c =
 
 pub returns-in-Some-clause-effect : goal.returns-in-Some-clause-effect
 returns-in-Some-clause-effect c n =
-    let m = machine_at c.args._history.now c.args._place in
-    called-served m (step.lay m c.args.rec.now) c.args.rec.now c.args.self.now.objects c.args.self.now.map
-    c.thread.result c.in-Some.call c.act.result.effect n
+    called-served (machine_at c.args._history.now c.args._place) c.args.rec.now c.args.self.now.objects
+    c.args.self.now.map c.thread.result c.in-Some.call c.act.result.effect n
     (record {
-      laid = refl;
       objects = c.requires.outline.objects;
-      map_is = c.requires.outline.map ∙ sym (ap (λ f. f.map) (laid-frame m c.args.rec.now));
+      map_is = c.requires.outline.map;
       thread = c.thread.ensures;
       asks = sym c.call_of.ensures ∙ c.in-Some.is;
     })

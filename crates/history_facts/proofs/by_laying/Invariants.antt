@@ -1,9 +1,9 @@
--- What holds at the loop of `found`.
+-- What holds at the loop of `by_laying`.
 use Rattle.std.proofs.Common.{◌≡◌, ◌++◌, true, drop}
 use Rattle.order_spec.specs.Facts as order
 use Rattle.history_facts.specs.Coming.{facts_to_come}
 use Rattle.history_facts.specs.Outlining.{machine_at}
-use Rattle.history_facts.proofs.found.Given as goal
+use Rattle.history_facts.proofs.by_laying.Given as goal
 
 -- the facts so far, with those that are still to come, are all; and as long as each record fits, all before a place are
 -- laid

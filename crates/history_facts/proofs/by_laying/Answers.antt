@@ -1,4 +1,4 @@
--- What is left to prove of `found`.
+-- What is left to prove of `by_laying`.
 use Rattle.std.proofs.Common.{◌≡◌, ◌+◌, true, false, Some, sym, ap, ◌∙◌, arith}
 use Rattle.std.proofs.lemmas.Bool.{and_parts}
 use Rattle.std.specs.List.{slice_get}
@@ -10,8 +10,8 @@ use Rattle.order_spec.specs.Facts as order
 use Rattle.history_facts.specs.Outlining.{machine_at}
 use Rattle.history_facts.proofs.Coming.{follows-laid, follows-bare, all-came}
 use Rattle.history_facts.proofs.Outlining.{machine-more}
-use Rattle.history_facts.proofs.found.Goals as goal
-use Rattle.history_facts.proofs.found.Goals.{then-fits, else-fits, then-fits-2+in_ok-fact, else-fits-2+in_ok-fact-2}
+use Rattle.history_facts.proofs.by_laying.Goals as goal
+use Rattle.history_facts.proofs.by_laying.Goals.{then-fits, else-fits, then-fits-2+in_ok-fact, else-fits-2+in_ok-fact-2}
 
 -- whether the record was laid is whether it may be, while all before it were
 fits_is : (c : goal.In_ok-push)
