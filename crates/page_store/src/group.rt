@@ -1,4 +1,4 @@
-//! A group of pages, which tables share as a whole.
+//! A group of pages, which shelves share as a whole.
 
 ghost use Rattle.std.specs.Prelude.{◌≡◌, ◌<◌, [], ◌∷◌, ◌++◌, length, map, slice_set, IfOk};
 ghost use Rattle.std.specs.Arc.{arc_value};
@@ -9,8 +9,8 @@ use std::alloc::{AllocError, Global};
 use std::marker::Model;
 use std::sync::Arc;
 
-/// How many pages a full group has: a power of two, so that a slot's group is a shift and its place a mask.
-pub const GROUP_SIZE: usize = 32;
+/// How many pages a full group has: a power of two, so that a page's group is a shift and its place a mask.
+pub const GROUP_SIZE: usize = 8;
 
 /// Some pages that follow one another. It never changes: another group is made in its place. A clause sees the list of
 /// their bytes.
@@ -78,7 +78,7 @@ impl Group {
         requires { place < length self.now }
         ensures { IfOk result (λ group. group ≡ slice_set self.now place (arc_value page)) }
     {
-        let mut pages = shared_pages(alloc, &self.pages, self.pages.len())?;
+        let mut pages = shared(alloc, &self.pages, self.pages.len())?;
         pages[place] = page;
         Ok(Group { pages })
     }
@@ -91,23 +91,23 @@ impl Group {
     pub fn with_one_more(&self, alloc: Global, page: Arc<Page>) -> Result<Group, AllocError>
         ensures { IfOk result (λ group. group ≡ self.now ++ arc_value page ∷ []) }
     {
-        let mut pages = shared_pages(alloc, &self.pages, self.pages.len() + 1)?;
+        let mut pages = shared(alloc, &self.pages, self.pages.len() + 1)?;
         pages.push(page)?;
         Ok(Group { pages })
     }
 }
 
-/// These pages again, in a list with room for so many.
-fn shared_pages(
+/// These again, in a list with room for so many.
+pub(super) fn shared<T: Drop>(
     alloc: Global,
-    pages: &[Arc<Page>],
+    items: &[Arc<T>],
     room: usize,
-) -> Result<Vec<Arc<Page>>, AllocError>
-    ensures { IfOk result (λ shared. map arc_value shared.items ≡ map arc_value pages.now) }
+) -> Result<Vec<Arc<T>>, AllocError>
+    ensures { IfOk result (λ shared. map arc_value shared.items ≡ map arc_value items.now) }
 {
     let mut shared = Vec::with_capacity(alloc, room)?;
-    for page in pages {
-        shared.push(Arc::try_clone(page)?)?;
+    for item in items {
+        shared.push(Arc::try_clone(item)?)?;
     }
     Ok(shared)
 }

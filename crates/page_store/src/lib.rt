@@ -3,6 +3,8 @@
 
 mod group;
 mod page;
+mod parts;
+mod shelf;
 mod table;
 
 pub use memory_spec::PAGE_SIZE;

@@ -7,8 +7,9 @@ ghost use Rattle.std.specs.Str.{bytes_eq};
 ghost use Rattle.std.specs.Arc.{arc_value};
 ghost use Rattle.memory_spec.specs.Pages.{page_of};
 
-use super::group::{GROUP_SIZE, Group};
+use super::group::shared;
 use super::page::Page;
+use super::shelf::{SHELF_SIZE, Shelf};
 use memory_spec::PAGE_SIZE;
 use std::alloc::{AllocError, Global};
 use std::marker::Model;
@@ -16,13 +17,15 @@ use std::sync::Arc;
 
 /// Pages by slot, which several tables may share. A clause sees the list of their bytes.
 ///
-/// The pages stand in groups of 32, all full but the last, and the tables share whole groups: a snapshot copies one
-/// pointer a group; a change of a page makes the group anew that has it, and one page more the last group.
+/// The pages stand in groups of eight, and these on shelves of eight, all full but the last. The tables share whole
+/// shelves: a snapshot copies one pointer a shelf; a change of a page makes the group anew that has it and that group's
+/// shelf, and one page more the last ones. A pointer that is shared is counted, which several processors see, so that
+/// few of them are what makes both cheap.
 #[derive(Drop)]
 pub struct PageTable {
     alloc: Global,
     count: usize,
-    groups: Vec<Arc<Group>>,
+    shelves: Vec<Arc<Shelf>>,
 }
 
 impl Model for PageTable {
@@ -45,7 +48,7 @@ impl PageTable {
         PageTable {
             alloc,
             count: 0,
-            groups: Vec::new(alloc),
+            shelves: Vec::new(alloc),
         }
     }
 
@@ -53,7 +56,7 @@ impl PageTable {
     ///
     /// # Errors
     ///
-    /// An error where the host's memory ran out, or a page has as many holders as can be counted.
+    /// An error where the host's memory ran out, or what is shared has as many holders as can be counted.
     pub fn new(alloc: Global, pages: Vec<Arc<Page>>) -> Result<PageTable, AllocError>
         ensures { IfOk result (λ table. table ≡ map arc_value pages.items) }
     {
@@ -77,7 +80,7 @@ impl PageTable {
     pub fn whole(&self)
         ensures { All (λ page. length page ≡ PAGE_SIZE) self.now }
     {
-        let _groups = &self.groups;
+        let _shelves = &self.shelves;
     }
 
     /// The page in a slot.
@@ -86,7 +89,7 @@ impl PageTable {
         requires { slot < length self.now }
         ensures { result.now ≡ page_of self.now slot }
     {
-        self.groups[slot / GROUP_SIZE].page(slot % GROUP_SIZE)
+        self.shelves[slot / SHELF_SIZE].page(slot % SHELF_SIZE)
     }
 
     /// The page in a slot, to be kept beside this table. No byte is copied.
@@ -99,14 +102,14 @@ impl PageTable {
         requires { slot < length self.now }
         ensures { IfOk result (λ page. arc_value page ≡ page_of self.now slot) }
     {
-        self.groups[slot / GROUP_SIZE].share(slot % GROUP_SIZE)
+        self.shelves[slot / SHELF_SIZE].share(slot % SHELF_SIZE)
     }
 
     /// Puts a page into the next slot.
     ///
     /// # Errors
     ///
-    /// An error where the host's memory ran out, or a page has as many holders as can be counted; the table is then as
+    /// An error where the host's memory ran out, or what is shared has as many holders as can be counted; the table is then as
     /// before.
     pub fn push(&mut self, page: Page) -> Result<(), AllocError>
         ensures ok { OnOk result (self.new ≡ self.old ++ page ∷ []) }
@@ -120,7 +123,7 @@ impl PageTable {
     ///
     /// # Errors
     ///
-    /// An error where the host's memory ran out, or a page has as many holders as can be counted; the table is then as
+    /// An error where the host's memory ran out, or what is shared has as many holders as can be counted; the table is then as
     /// before.
     pub fn push_shared(&mut self, page: &Arc<Page>) -> Result<(), AllocError>
         ensures ok { OnOk result (self.new ≡ self.old ++ arc_value page.now ∷ []) }
@@ -134,18 +137,15 @@ impl PageTable {
     ///
     /// # Errors
     ///
-    /// An error where the host's memory ran out, or a group has as many holders as can be counted.
+    /// An error where the host's memory ran out, or a shelf has as many holders as can be counted.
     pub fn snapshot(&self) -> Result<PageTable, AllocError>
         ensures { IfOk result (λ table. table ≡ self.now) }
     {
-        let mut groups = Vec::with_capacity(self.alloc, self.groups.len())?;
-        for group in &self.groups {
-            groups.push(Arc::try_clone(group)?)?;
-        }
+        let shelves = shared(self.alloc, &self.shelves, self.shelves.len())?;
         Ok(PageTable {
             alloc: self.alloc,
             count: self.count,
-            groups,
+            shelves,
         })
     }
 
@@ -153,7 +153,7 @@ impl PageTable {
     ///
     /// # Errors
     ///
-    /// An error where the host's memory ran out, or a page has as many holders as can be counted; the table is then as
+    /// An error where the host's memory ran out, or what is shared has as many holders as can be counted; the table is then as
     /// before.
     pub fn replace(&mut self, slot: usize, page: Page) -> Result<(), AllocError>
         requires { slot < length self.old }
@@ -162,14 +162,14 @@ impl PageTable {
     {
         page.bytes();
         let shared = Arc::new(self.alloc, page)?;
-        let number = slot / GROUP_SIZE;
-        let group = self.groups[number].with_page(self.alloc, slot % GROUP_SIZE, shared)?;
-        let group = Arc::new(self.alloc, group)?;
-        self.groups[number] = group;
+        let number = slot / SHELF_SIZE;
+        let shelf = self.shelves[number].with_page(self.alloc, slot % SHELF_SIZE, shared)?;
+        let shelf = Arc::new(self.alloc, shelf)?;
+        self.shelves[number] = shelf;
         Ok(())
     }
 
-    /// Puts a page into the next slot: the last group with one more, or a group of its own.
+    /// Puts a page into the next slot: onto the last shelf, or onto one of its own.
     fn push_owned(&mut self, page: Arc<Page>) -> Result<(), AllocError>
         ensures ok { OnOk result (self.new ≡ self.old ++ arc_value page ∷ []) }
         ensures err { OnErr result (self.new ≡ self.old) }
@@ -177,14 +177,15 @@ impl PageTable {
         page.bytes();
         // No host has the memory for so many pointers that their number is no `usize`.
         let count = self.count.checked_add(1).ok_or(AllocError)?;
-        if self.count % GROUP_SIZE == 0 {
-            let group = Arc::new(self.alloc, Group::of_one(self.alloc, page)?)?;
-            self.groups.push(group)?;
+        let place = self.count % SHELF_SIZE;
+        if place == 0 {
+            let shelf = Arc::new(self.alloc, Shelf::of_one(self.alloc, page)?)?;
+            self.shelves.push(shelf)?;
         } else {
-            let last = self.count / GROUP_SIZE;
-            let group = self.groups[last].with_one_more(self.alloc, page)?;
-            let group = Arc::new(self.alloc, group)?;
-            self.groups[last] = group;
+            let last = self.count / SHELF_SIZE;
+            let shelf = self.shelves[last].with_one_more(self.alloc, place, page)?;
+            let shelf = Arc::new(self.alloc, shelf)?;
+            self.shelves[last] = shelf;
         }
         self.count = count;
         Ok(())

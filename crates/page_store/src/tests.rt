@@ -20,7 +20,7 @@ fn snapshot_keeps_the_old_page(rt: HostRuntime) -> Result<(), AllocError> {
     Ok(())
 }
 
-/// A table of 100 pages, each filled with its slot: three groups of 32 and one of 4.
+/// A table of 100 pages, each filled with its slot: a full shelf, and one of four full groups and four pages.
 fn numbered(alloc: Global) -> Result<PageTable, AllocError> {
     let mut table = PageTable::empty(alloc);
     for slot in 0..100u8 {
@@ -30,22 +30,25 @@ fn numbered(alloc: Global) -> Result<PageTable, AllocError> {
 }
 
 #[test]
-fn replace_in_each_group_leaves_the_snapshot(rt: HostRuntime) -> Result<(), AllocError> {
+fn replace_on_each_shelf_leaves_the_snapshot(rt: HostRuntime) -> Result<(), AllocError> {
     let mut table = numbered(rt.alloc())?;
     let before = table.snapshot()?;
     assert!(rt; table.len() == 100);
-    // The first and the last place of a full group, the first of the next, and the last page of all.
+    // The first and the last place of a full group, the last of a full shelf, the first of the next, and the last page
+    // of all.
     table.replace(0, Page::new([200; PAGE_SIZE]))?;
-    table.replace(31, Page::new([201; PAGE_SIZE]))?;
-    table.replace(32, Page::new([202; PAGE_SIZE]))?;
-    table.replace(99, Page::new([203; PAGE_SIZE]))?;
+    table.replace(7, Page::new([201; PAGE_SIZE]))?;
+    table.replace(63, Page::new([202; PAGE_SIZE]))?;
+    table.replace(64, Page::new([203; PAGE_SIZE]))?;
+    table.replace(99, Page::new([204; PAGE_SIZE]))?;
     assert_eq!(rt; before.len(), 100);
     for slot in 0..100usize {
         let now = match slot {
             0 => 200,
-            31 => 201,
-            32 => 202,
-            99 => 203,
+            7 => 201,
+            63 => 202,
+            64 => 203,
+            99 => 204,
             _ => slot as u8,
         };
         assert!(rt; slot < table.len());

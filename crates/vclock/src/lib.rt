@@ -5,6 +5,7 @@ ghost use Rattle.std.specs.Prelude.{◌≡◌, ℕ, ◌+◌, ◌<◌, ◌≤◌,
 
 use guest_call::THREADS;
 use std::marker::Model;
+use std::simd::prelude::*;
 
 /// The most steps that a clock counts of one thread.
 pub const MOST_COUNT: u32 = 65_536;
@@ -68,19 +69,17 @@ impl Clock {
         ensures count { length self.new ≡ THREADS }
         ensures larger { (t : ℕ) → slice_index self.new t ≡ max (slice_index self.old t) (slice_index other.now t) }
     {
-        for (t, count) in self.counts.iter_mut().enumerate() {
-            *count = (*count).max(other.counts[t]);
-        }
+        let theirs = u32x32::from_array(other.counts);
+        self.counts = u32x32::from_array(self.counts).simd_max(theirs).to_array();
     }
 
     /// Whether no count of the other is above this clock's.
     pub fn covers(&self, other: &Clock) -> bool
         ensures { IsTrue result ↔ ((t : ℕ) → slice_index other.now t ≤ slice_index self.now t) }
     {
-        self.counts
-            .iter()
-            .zip(&other.counts)
-            .all(|(mine, theirs)| theirs <= mine)
+        let theirs = u32x32::from_array(other.counts);
+        let mine = u32x32::from_array(self.counts);
+        theirs.simd_le(mine).all()
     }
 
     /// Thread `t` makes one step more.

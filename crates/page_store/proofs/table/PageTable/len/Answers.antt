@@ -1,4 +1,5 @@
 -- Answers to the goals that the check leaves of `len`.
+use Rattle.std.proofs.Common.{arith}
 use Rattle.std.specs.Arc.{arc_value}
 use Rattle.page_store.proofs.Places.{count_is}
 use Rattle.page_store.proofs.table.PageTable.len.Goals as goal
@@ -6,4 +7,4 @@ use Rattle.page_store.proofs.table.PageTable.len.Goals as goal
 pub returns : goal.returns
 returns c =
     let t = c.self.inside in
-    count_is arc_value t.count t.groups.items c.args.self.now c.self.invariant.grouped c.self.view_is
+    count_is 64 (omega arith) arc_value t.count t.shelves.items c.args.self.now c.self.invariant.shelved c.self.view_is

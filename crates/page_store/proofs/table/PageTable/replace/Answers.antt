@@ -10,16 +10,16 @@ index-requires c =
     let t = c.self.inside in
     omega (
       arith,
-      group_of arc_value t.count c.args.slot t.groups.items c.args.self.now c.self.invariant.grouped
+      group_of 64 (omega arith) arc_value t.count c.args.slot t.shelves.items c.args.self.now c.self.invariant.shelved
           c.self.view_is c.requires,
-      t.groups.ok,
+      t.shelves.ok,
     )
 
 pub with_page-requires : goal.with_page-requires
 with_page-requires c =
     let t = c.self.inside in
     rw c.deref.ensures
-    (place_of arc_value t.count c.args.slot t.groups.items c.args.self.now c.index.result.now c.self.invariant.grouped
+    (place_of 64 (omega arith) arc_value t.count c.args.slot t.shelves.items c.args.self.now c.index.result.now c.self.invariant.shelved
     c.self.view_is c.requires c.index.ensures)
 
 pub index_mut-requires : goal.index_mut-requires
@@ -27,23 +27,23 @@ index_mut-requires c =
     let t = c.self.inside in
     omega (
       arith,
-      group_of arc_value t.count c.args.slot t.groups.items c.args.self.now c.self.invariant.grouped
+      group_of 64 (omega arith) arc_value t.count c.args.slot t.shelves.items c.args.self.now c.self.invariant.shelved
           c.self.view_is c.requires,
-      t.groups.ok,
+      t.shelves.ok,
     )
 
 pub invariant_of-self : goal.invariant_of-self
 invariant_of-self c =
     let t = c.self.inside in
-    let made : arc_value c.in_ok-group-2.group ≡ set (arc_value c.index.result.now) (c.args.slot % 32) c.args.page =
-    c.in_ok-group-2.ensures.ok ∙ c.in_ok-group.ensures ∙ rw (c.deref.ensures, c.in_ok-shared.ensures.ok) refl in
+    let made : arc_value c.in_ok-shelf-2.shelf ≡ set (arc_value c.index.result.now) (c.args.slot % 64) c.args.page =
+    c.in_ok-shelf-2.ensures.ok ∙ c.in_ok-shelf.ensures ∙ rw (c.deref.ensures, c.in_ok-shared.ensures.ok) refl in
     let pages =
-    pages-set arc_value t.count c.args.slot t.groups.items c.args.self.now c.index.result.now c.in_ok-group-2.group
-    c.args.page c.self.invariant.grouped c.self.view_is c.requires c.index.ensures made in
+    pages-set 64 (omega arith) arc_value t.count c.args.slot t.shelves.items c.args.self.now c.index.result.now c.in_ok-shelf-2.shelf
+    c.args.page c.self.invariant.shelved c.self.view_is c.requires c.index.ensures made in
     record {
-      grouped =
-          groups-set arc_value t.count c.args.slot t.groups.items c.args.self.now c.index.result.now
-          c.in_ok-group-2.group c.args.page c.self.invariant.grouped c.self.view_is c.requires c.index.ensures made;
+      shelved =
+          groups-set 64 (omega arith) arc_value t.count c.args.slot t.shelves.items c.args.self.now c.index.result.now
+          c.in_ok-shelf-2.shelf c.args.page c.self.invariant.shelved c.self.view_is c.requires c.index.ensures made;
       pages =
           rw (pages, ← c.self.view_is)
           (All-set (λ (page : List ℕ). length page ≡ 4096) _ c.args.slot c.args.page c.bytes.ensures.whole
@@ -53,7 +53,7 @@ invariant_of-self c =
 pub returns-clause-ok : goal.returns-clause-ok
 returns-clause-ok c =
     let t = c.self.inside in
-    let made : arc_value c.in_ok-group-2.group ≡ set (arc_value c.index.result.now) (c.args.slot % 32) c.args.page =
-    c.in_ok-group-2.ensures.ok ∙ c.in_ok-group.ensures ∙ rw (c.deref.ensures, c.in_ok-shared.ensures.ok) refl in
-    pages-set arc_value t.count c.args.slot t.groups.items c.args.self.now c.index.result.now c.in_ok-group-2.group
-    c.args.page c.self.invariant.grouped c.self.view_is c.requires c.index.ensures made
+    let made : arc_value c.in_ok-shelf-2.shelf ≡ set (arc_value c.index.result.now) (c.args.slot % 64) c.args.page =
+    c.in_ok-shelf-2.ensures.ok ∙ c.in_ok-shelf.ensures ∙ rw (c.deref.ensures, c.in_ok-shared.ensures.ok) refl in
+    pages-set 64 (omega arith) arc_value t.count c.args.slot t.shelves.items c.args.self.now c.index.result.now c.in_ok-shelf-2.shelf
+    c.args.page c.self.invariant.shelved c.self.view_is c.requires c.index.ensures made

@@ -9,22 +9,22 @@ index-requires c =
     let t = c.self.inside in
     omega (
       arith,
-      group_of arc_value t.count c.args.slot t.groups.items c.args.self.now c.self.invariant.grouped
+      group_of 64 (omega arith) arc_value t.count c.args.slot t.shelves.items c.args.self.now c.self.invariant.shelved
           c.self.view_is c.requires,
-      t.groups.ok,
+      t.shelves.ok,
     )
 
 pub share-requires : goal.share-requires
 share-requires c =
     let t = c.self.inside in
     rw c.deref.ensures
-    (place_of arc_value t.count c.args.slot t.groups.items c.args.self.now c.index.result.now c.self.invariant.grouped
+    (place_of 64 (omega arith) arc_value t.count c.args.slot t.shelves.items c.args.self.now c.index.result.now c.self.invariant.shelved
     c.self.view_is c.requires c.index.ensures)
 
 pub returns : goal.returns
 returns c =
     let t = c.self.inside in
     let at =
-    page_at arc_value t.count c.args.slot t.groups.items c.args.self.now c.index.result.now [] c.self.invariant.grouped
+    page_at 64 (omega arith) arc_value t.count c.args.slot t.shelves.items c.args.self.now c.index.result.now [] c.self.invariant.shelved
     c.self.view_is c.requires c.index.ensures in
     rw (← at, ← c.deref.ensures) c.share.ensures
