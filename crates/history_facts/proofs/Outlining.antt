@@ -26,7 +26,7 @@ use Rattle.order_spec.proofs.After.{lay-length, lay-objects}
 use Rattle.release_core.specs.Applying.{can_apply}
 use Rattle.release_core.proofs.Asking.{few_numbers}
 use Rattle.history_facts.specs.declared.outline.Outline.{Outline}
-use Rattle.history_facts.specs.Outlining.{machine_at, numbered, IsOutlineOf}
+use Rattle.history_facts.specs.Outlining.{machine_at, numbered, IsOutlineOf, MayBeLaid}
 use Rattle.history_facts.proofs.Laying.{ready, can-make}
 
 -- the machine after a record that stands at a place
@@ -92,9 +92,19 @@ pub coherent-can :
     → can_apply (machine_at h k) r ≡ true
 coherent-can h k r coherent at = can-at (first h.setup) h.records k r (and_parts _ _ coherent).0 at
 
-pub coherent-whole : (h : History) (k : ℕ) → IsSetup h.setup → is_coherent h ≡ true → IsWhole (machine_at h k)
+coherent-whole : (h : History) (k : ℕ) → IsSetup h.setup → is_coherent h ≡ true → IsWhole (machine_at h k)
 coherent-whole h k valid coherent =
     whole-at (first h.setup) h.records k (IsWhole-first h.setup valid) (and_parts _ _ coherent).0
+
+pub coherent-laid :
+    (h : History) (k : ℕ) (r : Record) (o : Outline)
+    → IsSetup h.setup → is_coherent h ≡ true → slice_get h.records k ≡ Some r → IsOutlineOf (machine_at h k) o
+    → MayBeLaid (machine_at h k) o r
+coherent-laid h k r o valid coherent at is = record {
+  outline = is;
+  whole = coherent-whole h k valid coherent;
+  can = coherent-can h k r coherent at;
+}
 
 pub coherent-last :
     (h : History) (k : ℕ) (r : Record) → is_coherent h ≡ true → slice_get h.records k ≡ Some r

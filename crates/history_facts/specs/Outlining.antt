@@ -1,9 +1,12 @@
 -- What the facts of steps need of the machine that the records before them leave.
-use Rattle.std.specs.Prelude.{◌≡◌, ℕ, List, [], ◌∷◌, ◌++◌, length, take, slice_index}
+use Rattle.std.specs.Prelude.{◌≡◌, ℕ, true, List, [], ◌∷◌, ◌++◌, length, take, slice_index}
 use Rattle.guest_call.specs.declared.thread_number.TheConstants.{THREADS}
+use Rattle.record_spec.specs.Record.{Record}
 use Rattle.machine_spec.specs.Machine.{Machine, hart_of}
 use Rattle.machine_spec.specs.Setup.{first}
+use Rattle.machine_spec.specs.Whole.{IsWhole}
 use Rattle.history_spec.specs.History.{History, laid_from}
+use Rattle.release_core.specs.Applying.{can_apply}
 use Rattle.history_facts.specs.declared.outline.Outline.{Outline}
 
 -- The machine that the records of a history before a place leave.
@@ -17,6 +20,12 @@ pub record IsOutlineOf (m : Machine) (outline : Outline) : Type 0 where
   pub threads : outline.threads ≡ length m.harts
   pub each : length outline.numbers ≡ THREADS
   pub numbers : (t : ℕ) → slice_index outline.numbers t ≡ (hart_of m t).number
+
+-- A record that may be laid on a machine which holds together, with the machine's outline.
+pub record MayBeLaid (m : Machine) (o : Outline) (r : Record) : Type 0 where
+  pub outline : IsOutlineOf m o
+  pub whole : IsWhole m
+  pub can : can_apply m r ≡ true
 
 -- The slots that the next thunks of some threads read, by how many steps each thread has made.
 abbrev pub numbered : (ℕ → ℕ → List ℕ) → List ℕ → List ℕ → List ℕ

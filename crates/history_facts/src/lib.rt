@@ -45,7 +45,7 @@ fn by_laying(alloc: Global, history: &History) -> Result<Vec<Fact>, AllocError>
         let rec = records.at(place);
         fits = fits && replay.fits(rec);
         let fact = if fits {
-            replay.lay(alloc, history, place, rec)?
+            replay.lay(alloc, records, rec)?
         } else {
             bare_fact(alloc, rec)?
         };
@@ -65,7 +65,7 @@ fn known(alloc: Global, history: &History) -> Result<Vec<Fact>, AllocError>
     let mut facts = Vec::with_capacity(alloc, records.len())?;
     for place in 0..records.len() {
         let last = place + 1 == records.len();
-        let fact = outline.next(alloc, history, place, records.at(place), last)?;
+        let fact = outline.next(alloc, records, records.at(place), last)?;
         facts.push(fact)?;
     }
     Ok(facts)

@@ -1,13 +1,12 @@
 //! What the facts of steps need of the machine on which their records are laid: no page, and no register.
 
-ghost use Rattle.std.specs.Prelude.{◌≡◌, ◌<◌, ◌≤◌, ◌+◌, ℕ, true, if◌then◌else◌, slice_index, slice_set, is_some, IfOk};
+ghost use Rattle.std.specs.Prelude.{◌≡◌, ◌<◌, ◌≤◌, ◌+◌, ℕ, if◌then◌else◌, slice_index, slice_set, is_some, IfOk};
 ghost use Rattle.sync_objects.specs.Acting.{objects_in};
+ghost use Rattle.machine_spec.specs.Machine.{Machine};
 ghost use Rattle.machine_spec.specs.Setup.{first};
 ghost use Rattle.machine_spec.specs.Step as step;
-ghost use Rattle.machine_spec.specs.Whole.{IsWhole};
-ghost use Rattle.release_core.specs.Applying.{can_apply};
 ghost use Rattle.order_spec.specs.Facts as order;
-ghost use Rattle.history_facts.specs.Outlining.{machine_at, numbered, IsOutlineOf};
+ghost use Rattle.history_facts.specs.Outlining.{numbered, IsOutlineOf, MayBeLaid};
 
 use super::asking::{Done, act, call_of};
 use super::serving::served;
@@ -17,7 +16,7 @@ use depend_graph::Fact;
 use guest_call::THREADS;
 use machine_spec::MOST_STEPS;
 use page_map::PageMap;
-use release_core::{History, Records, Setup};
+use release_core::{Records, Setup};
 use std::alloc::{AllocError, Global};
 use sync_objects::{ActedOn, Objects};
 use thunk_record::Record;
@@ -70,18 +69,18 @@ impl Outline {
         })
     }
 
-    /// Does the call of a record that may be laid on the machine before a place of a history.
-    fn call(&mut self, _history: &History, _place: usize, rec: &Record) -> Done
-        requires outline { IsOutlineOf (machine_at _history.now _place) self.old }
-        requires whole { IsWhole (machine_at _history.now _place) }
-        requires can { can_apply (machine_at _history.now _place) rec.now ≡ true }
-        ensures stays { self.new ≡ record self.old {
-          objects = (order.acted (machine_at _history.now _place) rec.now.thread (order.ask_of rec.now)).1;
+    /// Does the call of a record that may be laid on a machine of which this is the outline.
+    fn call(&mut self, rec: &Record) -> Done
+        requires { (m : Machine) × MayBeLaid m self.old rec.now }
+        ensures stays { (m : Machine) → MayBeLaid m self.old rec.now → self.new ≡ record self.old {
+          objects = (order.acted m rec.now.thread (order.ask_of rec.now)).1;
         } }
-        ensures objects { objects_in result.objects ≡ order.objects_of (machine_at _history.now _place) rec.now }
-        ensures created { result.effect.created ≡ (order.effect_of (machine_at _history.now _place) rec.now).created }
-        ensures effect { (n : ℕ) → order.served result.effect rec.now.thread n
-            ≡ order.served (order.effect_of (machine_at _history.now _place) rec.now) rec.now.thread n }
+        ensures objects { (m : Machine) → MayBeLaid m self.old rec.now →
+            objects_in result.objects ≡ order.objects_of m rec.now }
+        ensures created { (m : Machine) → MayBeLaid m self.old rec.now →
+            result.effect.created ≡ (order.effect_of m rec.now).created }
+        ensures effect { (m : Machine) → MayBeLaid m self.old rec.now → (n : ℕ) →
+            order.served result.effect rec.now.thread n ≡ order.served (order.effect_of m rec.now) rec.now.thread n }
     {
         match call_of(rec) {
             Some(call) => act(&self.map, &mut self.objects, rec.thread(), call),
@@ -106,25 +105,24 @@ impl Outline {
         self.numbers[usize::from(t)] += 1;
     }
 
-    /// Does what a record asks for that may be laid on the machine before a place of a history: from then on this is the
-    /// outline of the machine after it.
-    fn perform(&mut self, history: &History, place: usize, rec: &Record) -> Done
-        requires outline { IsOutlineOf (machine_at history.now place) self.old }
-        requires whole { IsWhole (machine_at history.now place) }
-        requires can { can_apply (machine_at history.now place) rec.now ≡ true }
-        ensures outline { IsOutlineOf (step.lay (machine_at history.now place) rec.now) self.new }
-        ensures objects { objects_in result.objects ≡ order.objects_of (machine_at history.now place) rec.now }
-        ensures effect { (n : ℕ) → order.served result.effect rec.now.thread n
-            ≡ order.served (order.effect_of (machine_at history.now place) rec.now) rec.now.thread n }
+    /// Does what a record asks for that may be laid on a machine of which this is the outline: from then on it is that of
+    /// the machine after the record.
+    fn perform(&mut self, rec: &Record) -> Done
+        requires { (m : Machine) × MayBeLaid m self.old rec.now }
+        ensures outline { (m : Machine) → MayBeLaid m self.old rec.now → IsOutlineOf (step.lay m rec.now) self.new }
+        ensures objects { (m : Machine) → MayBeLaid m self.old rec.now →
+            objects_in result.objects ≡ order.objects_of m rec.now }
+        ensures effect { (m : Machine) → MayBeLaid m self.old rec.now → (n : ℕ) →
+            order.served result.effect rec.now.thread n ≡ order.served (order.effect_of m rec.now) rec.now.thread n }
     {
-        let done = self.call(history, place, rec);
+        let done = self.call(rec);
         self.count(rec.thread(), done.effect.created().is_some());
         done
     }
 
-    /// The fact of the step of a record that may be laid on the machine before a place of a history, by the thunks of
-    /// that history, where it is known whether an end comes after it. From then on this is the outline of the machine
-    /// after it, also after an error.
+    /// The fact of the step of a record that may be laid on a machine of which this is the outline, by the thunks of a
+    /// history, where it is known whether an end comes after it. From then on this is the outline of the machine after it,
+    /// also after an error.
     ///
     /// # Errors
     ///
@@ -132,23 +130,19 @@ impl Outline {
     pub fn next(
         &mut self,
         alloc: Global,
-        history: &History,
-        place: usize,
+        records: &Records,
         rec: &Record,
         last: bool,
     ) -> Result<Fact, AllocError>
-        requires outline { IsOutlineOf (machine_at history.now place) self.old }
-        requires whole { IsWhole (machine_at history.now place) }
-        requires can { can_apply (machine_at history.now place) rec.now ≡ true }
-        requires last { last ≡ is_some (step.lay (machine_at history.now place) rec.now).ending }
-        ensures outline { IsOutlineOf (step.lay (machine_at history.now place) rec.now) self.new }
-        ensures says { IfOk result (λ fact. fact
-            ≡ order.fact_of (order.reads_in history.now.records) (machine_at history.now place) rec.now) }
+        requires { (m : Machine) × MayBeLaid m self.old rec.now }
+        ensures outline { (m : Machine) → MayBeLaid m self.old rec.now → IsOutlineOf (step.lay m rec.now) self.new }
+        ensures says { IfOk result (λ fact. (m : Machine) → MayBeLaid m self.old rec.now →
+            last ≡ is_some (step.lay m rec.now).ending → fact ≡ order.fact_of (order.reads_in records.now) m rec.now) }
     {
         let next = self.threads;
-        let done = self.perform(history, place, rec);
+        let done = self.perform(rec);
         let given = served(alloc, &done.effect, rec.thread(), next)?;
-        let opened = opened(alloc, history.records(), &self.numbers, given.as_slice())?;
+        let opened = opened(alloc, records, &self.numbers, given.as_slice())?;
         Ok(Fact {
             thread: rec.thread(),
             objects: done.objects,

@@ -5,11 +5,10 @@ ghost use Rattle.machine_spec.specs.Setup.{first};
 ghost use Rattle.machine_spec.specs.Step as step;
 ghost use Rattle.release_core.specs.Applying.{can_apply};
 ghost use Rattle.order_spec.specs.Facts as order;
-ghost use Rattle.history_facts.specs.Outlining.{machine_at};
 
 use super::outline::Outline;
 use depend_graph::Fact;
-use release_core::{Core, History, Setup};
+use release_core::{Core, Records, Setup};
 use std::alloc::{AllocError, Global};
 use std::marker::Model;
 use thunk_record::Record;
@@ -54,8 +53,7 @@ impl Replay {
         self.core.ended().is_none() && self.core.fits(rec)
     }
 
-    /// Lays a record that may be laid, on the machine before a place of a history, and gives the fact of its step, by
-    /// the thunks of that history.
+    /// Lays a record that may be laid, and gives the fact of its step, by the thunks of a history.
     ///
     /// # Errors
     ///
@@ -63,19 +61,17 @@ impl Replay {
     pub fn lay(
         &mut self,
         alloc: Global,
-        history: &History,
-        place: usize,
+        records: &Records,
         rec: &Record,
     ) -> Result<Fact, AllocError>
-        requires before { self.old ≡ machine_at history.now place }
-        requires can { can_apply self.old rec.now ≡ true }
+        requires { can_apply self.old rec.now ≡ true }
         ensures laid { OnOk result (self.new ≡ step.lay self.old rec.now) }
         ensures says { IfOk result (λ fact.
-            fact ≡ order.fact_of (order.reads_in history.now.records) self.old rec.now) }
+            fact ≡ order.fact_of (order.reads_in records.now) self.old rec.now) }
     {
         self.core.whole();
         self.core.lay(rec)?;
         let last = self.core.ended().is_some();
-        self.outline.next(alloc, history, place, rec, last)
+        self.outline.next(alloc, records, rec, last)
     }
 }

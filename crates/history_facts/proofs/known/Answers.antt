@@ -2,56 +2,53 @@
 use Rattle.std.proofs.Common.{◌≡◌, ◌+◌, true, Some, eqb, List, length, refl, sym, ap, subst, ◌∙◌, arith}
 use Rattle.std.specs.List.{slice_get}
 use Rattle.record_spec.specs.Record.{Record}
-use Rattle.machine_spec.specs.Setup.{Setup, IsSetup}
+use Rattle.machine_spec.specs.Setup.{IsSetup}
 use Rattle.machine_spec.specs.Machine.{Machine}
 use Rattle.order_spec.specs.Facts as order
 use Rattle.history_facts.specs.Outlining.{machine_at, IsOutlineOf}
 use Rattle.history_facts.proofs.Coming.{follows-laid, all-came}
-use Rattle.history_facts.proofs.Outlining.{machine-more, coherent-can, coherent-whole, coherent-last}
+use Rattle.history_facts.proofs.Outlining.{machine-more, coherent-can, coherent-laid, coherent-last}
 use Rattle.history_facts.proofs.known.Goals as goal
 
-at_place : (c : goal.After-deref) → slice_get c.args.history.now.records c.loop-place.place ≡ Some c.deref.result.now
-at_place c =
+pub next-requires : goal.next-requires
+next-requires c =
+    let h = c.args.history.now in
+    let at : slice_get h.records c.loop-place.place ≡ Some c.deref.result.now =
     ap (λ rs. slice_get rs c.loop-place.place) (sym c.records-records.ensures) ∙ c.at.ensures
-    ∙ ap (λ (r : Record). Some r) (sym c.deref.ensures)
-
-pub next-requires-clause-whole : goal.next-requires-clause-whole
-next-requires-clause-whole c =
-    coherent-whole c.args.history.now c.loop-place.place
-    (subst IsSetup c.setup.ensures c.sound.ensures) c.requires
-
-pub next-requires-clause-can : goal.next-requires-clause-can
-next-requires-clause-can c = coherent-can c.args.history.now c.loop-place.place c.deref.result.now c.requires (at_place c)
-
-pub next-requires-clause-last : goal.next-requires-clause-last
-next-requires-clause-last c =
-    ap (λ n. eqb (c.loop-place.place + 1) n)
-    (c.len-in-loop-place.ensures ∙ ap (λ (rs : List Record). length rs) c.records-records.ensures)
-    ∙ coherent-last c.args.history.now c.loop-place.place c.deref.result.now c.requires (at_place c)
+    ∙ ap (λ (r : Record). Some r) (sym c.deref.ensures) in
+    let laid =
+    coherent-laid h c.loop-place.place c.deref.result.now c.loop-place.outline
+    (subst IsSetup c.setup.ensures c.sound.ensures) c.requires at c.loop-place.invariant.outline in
+    (machine_at h c.loop-place.place, laid)
 
 pub loop-place-preserved : goal.loop-place-preserved
 loop-place-preserved c =
-    let m = machine_at c.args.history.now c.loop-place.place in
+    let h = c.args.history.now in
+    let m = machine_at h c.loop-place.place in
     let r = c.deref.result.now in
-    let at : slice_get c.args.history.now.records c.loop-place.place ≡ Some r =
+    let at : slice_get h.records c.loop-place.place ≡ Some r =
     ap (λ rs. slice_get rs c.loop-place.place) (sym c.records-records.ensures) ∙ c.at.ensures
     ∙ ap (λ (x : Record). Some x) (sym c.deref.ensures) in
-    let more = machine-more c.args.history.now c.loop-place.place r at in
+    let laid =
+    coherent-laid h c.loop-place.place r c.loop-place.outline (subst IsSetup c.setup.ensures c.sound.ensures)
+    c.requires at c.loop-place.invariant.outline in
+    let last =
+    ap (λ n. eqb (c.loop-place.place + 1) n)
+    (c.len-in-loop-place.ensures ∙ ap (λ (rs : List Record). length rs) c.records-records.ensures)
+    ∙ coherent-last h c.loop-place.place r c.requires at in
+    let more = machine-more h c.loop-place.place r at in
     record {
       come =
           follows-laid (order.reads_in c.records-records.result.now) c.records-records.result.now c.loop-place.place
-          m (machine_at c.args.history.now (c.loop-place.place + 1)) r true true
+          m (machine_at h (c.loop-place.place + 1)) r true true
           c.loop-place.facts.items c.push.new.self.items _ _
           (record {
             at_place = c.at.ensures ∙ ap (λ (x : Record). Some x) (sym c.deref.ensures);
-            fits = sym (coherent-can c.args.history.now c.loop-place.place r c.requires at);
+            fits = sym (coherent-can h c.loop-place.place r c.requires at);
             more = c.in_ok-push.ensures.items;
           })
-          refl
-          (c.in_ok-fact.ensures.says ∙ ap (λ rs. order.fact_of (order.reads_in rs) m r) (sym c.records-records.ensures))
-          more
-          c.loop-place.invariant.come;
-      outline = subst (λ (n : Machine). IsOutlineOf n c.next.new.self) (sym more) c.in_ok-fact.ensures.outline;
+          refl (c.in_ok-fact.ensures.says m laid last) more c.loop-place.invariant.come;
+      outline = subst (λ (n : Machine). IsOutlineOf n c.next.new.self) (sym more) (c.in_ok-fact.ensures.outline m laid);
     }
 
 pub returns : goal.returns

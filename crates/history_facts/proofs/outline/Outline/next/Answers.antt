@@ -2,25 +2,23 @@
 use Rattle.std.proofs.Common.{◌≡◌, ap, ◌∙◌}
 use Rattle.order_spec.specs.Facts as order
 use Rattle.machine_spec.specs.Step as step
-use Rattle.history_facts.specs.Outlining.{machine_at, numbered}
+use Rattle.history_facts.specs.Outlining.{numbered}
 use Rattle.history_facts.proofs.Outlining.{numbered-read, fact-is}
 use Rattle.history_facts.proofs.outline.Outline.next.Goals as goal
 
 pub returns-clause-says : goal.returns-clause-says
-returns-clause-says c =
-    let m = machine_at c.args.history.now c.args.place in
+returns-clause-says c m laid last =
     let r = c.args.rec.now in
+    let reads = order.reads_in c.args.records.now in
     let given : c.in_ok-given.given.items ≡ order.served_by m r =
     c.in_ok-given.ensures
     ∙ ap (λ t. order.served c.perform-done.result.effect t c.args.self.now.threads) c.thread.ensures
-    ∙ c.perform-done.ensures.effect c.args.self.now.threads
-    ∙ ap (λ n. order.served (order.effect_of m r) r.thread n) c.requires.outline.threads in
-    fact-is (order.reads_in c.args.history.now.records) m r _ _ _ _ _ _ c.thread-2.ensures
-    c.perform-done.ensures.objects given c.in_ok-written.ensures
+    ∙ c.perform-done.ensures.effect m laid c.args.self.now.threads
+    ∙ ap (λ n. order.served (order.effect_of m r) r.thread n) laid.outline.threads in
+    fact-is reads m r _ _ _ _ _ _ c.thread-2.ensures
+    (c.perform-done.ensures.objects m laid) given c.in_ok-written.ensures
     (c.in_ok-opened.ensures
-    ∙ ap (λ rs. numbered (order.reads_in rs) c.perform-done.new.self.numbers c.as_slice.result.now) c.records.ensures
-    ∙ ap (λ ts. numbered (order.reads_in c.args.history.now.records) c.perform-done.new.self.numbers ts)
-    (c.as_slice.ensures.value ∙ given)
-    ∙ numbered-read (order.reads_in c.args.history.now.records) (step.lay m r) c.perform-done.new.self.numbers
-    (order.served_by m r) c.perform-done.ensures.outline.numbers)
-    c.requires.last
+    ∙ ap (λ ts. numbered reads c.perform-done.new.self.numbers ts) (c.as_slice.ensures.value ∙ given)
+    ∙ numbered-read reads (step.lay m r) c.perform-done.new.self.numbers (order.served_by m r)
+    (c.perform-done.ensures.outline m laid).numbers)
+    last

@@ -4,38 +4,42 @@ use Rattle.guest_call.specs.Objects.{created_count}
 use Rattle.machine_spec.specs.Step as step
 use Rattle.order_spec.specs.Facts as order
 use Rattle.history_facts.specs.declared.outline.Outline.{Outline}
-use Rattle.history_facts.specs.Outlining.{machine_at, IsOutlineOf}
+use Rattle.history_facts.specs.Outlining.{IsOutlineOf}
 use Rattle.history_facts.proofs.Outlining.{below-32, few-steps, few-threads, created-one, outline-more}
 use Rattle.history_facts.proofs.outline.Outline.perform.Goals as goal
 
 pub count-requires-clause-exists : goal.count-requires-clause-exists
 count-requires-clause-exists c =
-    let below = below-32 (machine_at c.args.history.now c.args.place) c.args.rec.now c.requires.whole c.requires.can in
+    let laid = c.requires.1 in
+    let below = below-32 c.requires.0 c.args.rec.now laid.whole laid.can in
     omega arith
 
 pub count-requires-clause-few : goal.count-requires-clause-few
 count-requires-clause-few c =
-    let few = few-steps (machine_at c.args.history.now c.args.place) c.args.rec.now c.requires.whole c.requires.can in
+    let m = c.requires.0 in
+    let laid = c.requires.1 in
+    let few = few-steps m c.args.rec.now laid.whole laid.can in
     let is =
-    ap (λ (o : Outline). get_or o.numbers c.thread.result 0) c.call-done.ensures.stays
+    ap (λ (o : Outline). get_or o.numbers c.thread.result 0) (c.call-done.ensures.stays m laid)
     ∙ ap (λ t. get_or c.args.self.now.numbers t 0) c.thread.ensures
-    ∙ c.requires.outline.numbers c.args.rec.now.thread in
+    ∙ laid.outline.numbers c.args.rec.now.thread in
     omega (arith, few, is)
 
 pub count-requires-clause-room : goal.count-requires-clause-room
 count-requires-clause-room c =
-    let few = few-threads (machine_at c.args.history.now c.args.place) c.requires.whole in
-    let is = ap (λ (o : Outline). o.threads) c.call-done.ensures.stays ∙ c.requires.outline.threads in
+    let m = c.requires.0 in
+    let laid = c.requires.1 in
+    let few = few-threads m laid.whole in
+    let is = ap (λ (o : Outline). o.threads) (c.call-done.ensures.stays m laid) ∙ laid.outline.threads in
     omega (arith, few, is)
 
 pub returns-clause-outline : goal.returns-clause-outline
-returns-clause-outline c =
-    let m = machine_at c.args.history.now c.args.place in
+returns-clause-outline c m laid =
     let r = c.args.rec.now in
     let o = c.args.self.now in
     let threads : o.threads + cond c.is_some.result 1 0 ≡ o.threads + created_count (order.effect_of m r).created =
     ap (λ n. o.threads + n)
-    (ap (λ b. cond b 1 0) (c.is_some.ensures ∙ ap is_some (c.created.ensures ∙ c.call-done.ensures.created))
+    (ap (λ b. cond b 1 0) (c.is_some.ensures ∙ ap is_some (c.created.ensures ∙ c.call-done.ensures.created m laid))
     ∙ created-one (order.effect_of m r).created) in
     subst (λ (x : Outline). IsOutlineOf (step.lay m r) x)
     (sym
@@ -46,6 +50,6 @@ returns-clause-outline c =
       threads = x.threads + cond c.is_some.result 1 0;
       numbers = set x.numbers c.thread.result (get_or x.numbers c.thread.result 0 + 1);
     })
-    c.call-done.ensures.stays))
-    (outline-more m r o _ _ _ c.requires.outline c.requires.whole c.requires.can refl threads
+    (c.call-done.ensures.stays m laid)))
+    (outline-more m r o _ _ _ laid.outline laid.whole laid.can refl threads
     (ap (λ t. set o.numbers t (get_or o.numbers t 0 + 1)) c.thread.ensures))
