@@ -223,3 +223,141 @@ pub best-all :
 unfolding best
 best-all P past m xs u all is =
     first-all P _ u (least_by-all P (λ t. (hart_of m t).number) _ (least_by-all P (place_in past m) xs all)) is
+
+-- where some of the threads are left out
+
+abbrev precedes : Option History → Machine → ℕ → ℕ → Bool
+precedes past m t u = comes_before (place_in past m t) (hart_of m t).number (place_in past m u) (hart_of m u).number
+
+-- The best of those that are left doesn't come before the best of all, and is the same where that one is left; where
+-- there are none, none are left.
+pub record IsAhead (past : Option History) (m : Machine) (p : ℕ → Bool) (xs ys : List ℕ) : Type 0 where
+  pub kept : (u : ℕ) → best past m xs ≡ Some u → p u ≡ true → best past m ys ≡ Some u
+  pub behind : (u v : ℕ) → best past m xs ≡ Some u → best past m ys ≡ Some v → precedes past m v u ≡ false
+  pub none : best past m xs ≡ None → ys ≡ []
+
+-- what comes before what
+
+never-itself : (a b : ℕ) → comes_before a b a b ≡ false
+never-itself a b = grind (arith, nat_tests)
+
+before-behind :
+    (a b c d e f : ℕ)
+    → comes_before a b c d ≡ true → comes_before e f c d ≡ false → comes_before a b e f ≡ true
+before-behind a b c d e f first behind = grind (arith, nat_tests, first, behind)
+
+not-before :
+    (a b c d e f : ℕ)
+    → comes_before a b c d ≡ true → comes_before e f c d ≡ false → comes_before e f a b ≡ false
+not-before a b c d e f first behind = grind (arith, nat_tests, first, behind)
+
+-- one thread more, left or not
+
+ahead-of :
+    (past : Option History) (m : Machine) (p : ℕ → Bool) (xs ys : List ℕ) (u : ℕ)
+    → best past m xs ≡ Some u
+    → (p u ≡ true → best past m ys ≡ Some u)
+    → ((v : ℕ) → best past m ys ≡ Some v → precedes past m v u ≡ false)
+    → IsAhead past m p xs ys
+ahead-of past m p xs ys u is kept behind = record {
+  kept = λ w same passes.
+      let one : w ≡ u = cc in
+      kept (ap p (sym one) ∙ passes) ∙ ap (λ (n : ℕ). Some n) (sym one);
+  behind = λ w v same has. let one : w ≡ u = cc in ap (precedes past m v) one ∙ behind v has;
+  none = λ none. cc;
+}
+
+ahead-first :
+    (past : Option History) (m : Machine) (p : ℕ → Bool) (t : ℕ) (b : Bool)
+    → p t ≡ b → IsAhead past m p (t ∷ []) (cond b (t ∷ []) [])
+ahead-first past m p t true is =
+    ahead-of past m p (t ∷ []) (t ∷ []) t (best-single past m t) (λ passes. best-single past m t)
+    (λ v has.
+    let single = best-single past m t in
+    let one : v ≡ t = cc in
+    ap (λ n. precedes past m n t) one ∙ never-itself (place_in past m t) (hart_of m t).number)
+ahead-first past m p t false is =
+    ahead-of past m p (t ∷ []) [] t (best-single past m t) (λ passes. cc)
+    (λ v has. let nobody = best-nobody past m in cc)
+
+-- where the new one is the best of all
+ahead-new :
+    (past : Option History) (m : Machine) (p : ℕ → Bool) (xs ys : List ℕ) (t u : ℕ) (b : Bool) (o : Option ℕ)
+    → IsAhead past m p xs ys → best past m xs ≡ Some u → precedes past m t u ≡ true → p t ≡ b → best past m ys ≡ o
+    → IsAhead past m p (xs ++ t ∷ []) (ys ++ cond b (t ∷ []) [])
+ahead-new past m p xs ys t u true None is some first passes left =
+    ahead-of past m p (xs ++ t ∷ []) (ys ++ t ∷ []) t
+    (best-more past m xs t u some ∙ ap (λ b. Some (cond b t u)) first)
+    (λ same. best-first past m ys t left)
+    (λ v has.
+    let only = best-first past m ys t left in
+    let one : v ≡ t = cc in
+    ap (λ n. precedes past m n t) one ∙ never-itself (place_in past m t) (hart_of m t).number)
+ahead-new past m p xs ys t u true (Some v) is some first passes left =
+    let comes =
+    before-behind (place_in past m t) (hart_of m t).number (place_in past m u) (hart_of m u).number (place_in past m v)
+    (hart_of m v).number first (is.behind u v some left) in
+    let only : best past m (ys ++ t ∷ []) ≡ Some t =
+    best-more past m ys t v left ∙ ap (λ b. Some (cond b t v)) comes in
+    ahead-of past m p (xs ++ t ∷ []) (ys ++ t ∷ []) t
+    (best-more past m xs t u some ∙ ap (λ b. Some (cond b t u)) first)
+    (λ same. only)
+    (λ w has.
+    let one : w ≡ t = cc in
+    ap (λ n. precedes past m n t) one ∙ never-itself (place_in past m t) (hart_of m t).number)
+ahead-new past m p xs ys t u false o is some first passes left =
+    ahead-of past m p (xs ++ t ∷ []) (ys ++ []) t
+    (best-more past m xs t u some ∙ ap (λ b. Some (cond b t u)) first)
+    (λ same. cc)
+    (λ v has.
+    not-before (place_in past m t) (hart_of m t).number (place_in past m u) (hart_of m u).number (place_in past m v)
+    (hart_of m v).number first (is.behind u v some (ap (best past m) (sym (append-nil-at ys)) ∙ has)))
+
+-- where the best so far stays
+ahead-old :
+    (past : Option History) (m : Machine) (p : ℕ → Bool) (xs ys : List ℕ) (t u : ℕ) (b : Bool) (o : Option ℕ)
+    → IsAhead past m p xs ys → best past m xs ≡ Some u → precedes past m t u ≡ false → p t ≡ b → best past m ys ≡ o
+    → IsAhead past m p (xs ++ t ∷ []) (ys ++ cond b (t ∷ []) [])
+ahead-old past m p xs ys t u true None is some later passes left =
+    let only = best-first past m ys t left in
+    ahead-of past m p (xs ++ t ∷ []) (ys ++ t ∷ []) u
+    (best-more past m xs t u some ∙ ap (λ b. Some (cond b t u)) later)
+    (λ kept. let there = is.kept u some kept in cc)
+    (λ v has. let one : v ≡ t = cc in ap (λ n. precedes past m n u) one ∙ later)
+ahead-old past m p xs ys t u true (Some v) is some later passes left =
+    let more = best-more past m ys t v left in
+    ahead-of past m p (xs ++ t ∷ []) (ys ++ t ∷ []) u
+    (best-more past m xs t u some ∙ ap (λ b. Some (cond b t u)) later)
+    (λ kept. best-more past m ys t u (is.kept u some kept) ∙ ap (λ b. Some (cond b t u)) later)
+    (λ w has. by (precedes past m t v) w (sym more ∙ has))
+  where
+    by : (b : Bool) (w : ℕ) → Some (cond b t v) ≡ Some w → precedes past m w u ≡ false
+    by true w same = let one : t ≡ w = cc in ap (λ n. precedes past m n u) (sym one) ∙ later
+    by false w same = let one : v ≡ w = cc in ap (λ n. precedes past m n u) (sym one) ∙ is.behind u v some left
+ahead-old past m p xs ys t u false o is some later passes left =
+    ahead-of past m p (xs ++ t ∷ []) (ys ++ []) u
+    (best-more past m xs t u some ∙ ap (λ b. Some (cond b t u)) later)
+    (λ kept. ap (best past m) (append-nil-at ys) ∙ is.kept u some kept)
+    (λ v has. is.behind u v some (ap (best past m) (sym (append-nil-at ys)) ∙ has))
+
+pub ahead-none : (past : Option History) (m : Machine) (p : ℕ → Bool) → IsAhead past m p [] []
+ahead-none past m p = record {
+  kept = λ u same passes. same;
+  behind = λ u v same has. let nobody = best-nobody past m in cc;
+  none = λ none. refl;
+}
+
+pub ahead-more :
+    (past : Option History) (m : Machine) (p : ℕ → Bool) (xs ys : List ℕ) (t : ℕ)
+    → IsAhead past m p xs ys → IsAhead past m p (xs ++ t ∷ []) (ys ++ cond (p t) (t ∷ []) [])
+ahead-more past m p xs ys t is = by (best past m xs) refl
+  where
+    with : (u : ℕ) (b : Bool) → best past m xs ≡ Some u → precedes past m t u ≡ b
+        → IsAhead past m p (xs ++ t ∷ []) (ys ++ cond (p t) (t ∷ []) [])
+    with u true some first = ahead-new past m p xs ys t u (p t) (best past m ys) is some first refl refl
+    with u false some later = ahead-old past m p xs ys t u (p t) (best past m ys) is some later refl refl
+
+    by : (o : Option ℕ) → best past m xs ≡ o → IsAhead past m p (xs ++ t ∷ []) (ys ++ cond (p t) (t ∷ []) [])
+    by None none =
+        rw (best-none past m xs none, is.none none) (ahead-first past m p t (p t) refl)
+    by (Some u) some = with u (precedes past m t u) some refl

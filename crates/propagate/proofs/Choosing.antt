@@ -1,5 +1,5 @@
 -- The leaders of some threads, the choice, and what may be done with a pick.
-use Rattle.std.proofs.Common.{◌≡◌, ◌+◌, ℕ, add-one, Bool, true, false, ◌||◌, cond, List, [], ◌∷◌, ◌++◌, append-nil, length, filter, Option, Some, None, is_some, refl, ap, sym, ◌∙◌, arith}
+use Rattle.std.proofs.Common.{◌≡◌, ◌+◌, ℕ, zero, suc, add-one, Bool, true, false, ◌||◌, cond, List, [], ◌∷◌, ◌++◌, append-nil, length, filter, Option, Some, None, is_some, refl, ap, sym, subst, ◌∙◌, arith}
 use Rattle.std.specs.Prelude.{option_map}
 use Rattle.std.proofs.lemmas.Bool.{or_right}
 use Rattle.std.specs.List.{AllByRecursion, range_with_len}
@@ -15,7 +15,7 @@ use Rattle.worker_spec.proofs.Lists.{all-filter, all-pass}
 use Rattle.propagate.specs.declared.picking.Candidate.{Candidate}
 use Rattle.propagate.specs.declared.picking.Leaders.{Leaders}
 use Rattle.propagate.specs.Choosing.{candidate_of, free_below, due_below, leader_of, AreLeadersBelow, comes_before, leads, better}
-use Rattle.propagate.proofs.Best.{filter-more, range-more, best-nobody, best-more, best-first, best-none, best-all}
+use Rattle.propagate.proofs.Best.{filter-more, range-more, best-nobody, best-more, best-first, best-none, best-all, IsAhead, ahead-none, ahead-more}
 
 -- the better of a leader and of one more leads all
 
@@ -138,6 +138,69 @@ due-more w t place number found leads free due is_place is_number =
     leads-below w (due_below w t) found.due t place number leads.due is_place is_number
     ∙ ap (λ b. leader_of w (due_below w t ++ cond b (t ∷ []) [])) (sym due)
     ∙ ap (leader_of w) (sym (due-both w t free))
+
+-- the best of the free threads alone
+
+pub first-skip :
+    (w : RoundState) (t : ℕ) (leader : Option Candidate)
+    → leader ≡ leader_of w (free_below w t) → is_free_in w.machine w.out t ≡ false
+    → leader ≡ leader_of w (free_below w (t + 1))
+first-skip w t leader leads is = leads ∙ ap (leader_of w) (sym (free-skip w t is))
+
+pub first-more :
+    (w : RoundState) (t : ℕ) (leader : Option Candidate) (next : Candidate)
+    → leader ≡ leader_of w (free_below w t) → is_free_in w.machine w.out t ≡ true
+    → next ≡ candidate_of w.past w.machine t
+    → Some (better leader next) ≡ leader_of w (free_below w (t + 1))
+first-more w t leader next leads free is =
+    ap (λ (c : Candidate). Some (better leader c)) is
+    ∙ leads-below w (free_below w t) leader t (place_in w.past w.machine t) (hart_of w.machine t).number leads refl refl
+    ∙ ap (leader_of w) (sym (free-more w t free))
+
+pub first-none : (w : RoundState) → None ≡ leader_of w (free_below w 0)
+first-none w = ap (option_map (candidate_of w.past w.machine)) (sym (best-nobody w.past w.machine))
+
+-- where the best free thread is due, it is the best of those that are
+
+abbrev IsDueAhead : RoundState → List ℕ → List ℕ → Type 0
+IsDueAhead w free due = IsAhead w.past w.machine (is_due w.past w.machine) free due
+
+ahead-next :
+    (w : RoundState) (t : ℕ) (b : Bool)
+    → is_free_in w.machine w.out t ≡ b → IsDueAhead w (free_below w t) (due_below w t)
+    → IsDueAhead w (free_below w (t + 1)) (due_below w (t + 1))
+ahead-next w t true free ahead =
+    subst (λ (xs : List ℕ). IsDueAhead w xs (due_below w (t + 1))) (sym (free-more w t free))
+    (subst (λ (ys : List ℕ). IsDueAhead w (free_below w t ++ t ∷ []) ys) (sym (due-both w t free))
+    (ahead-more w.past w.machine (is_due w.past w.machine) (free_below w t) (due_below w t) t ahead))
+ahead-next w t false free ahead =
+    subst (λ (xs : List ℕ). IsDueAhead w xs (filter (is_due w.past w.machine) xs)) (sym (free-skip w t free)) ahead
+
+due-ahead : (w : RoundState) (t : ℕ) → IsDueAhead w (free_below w t) (due_below w t)
+due-ahead w zero = ahead-none w.past w.machine (is_due w.past w.machine)
+due-ahead w (suc t) =
+    subst (λ (n : ℕ). IsDueAhead w (free_below w n) (due_below w n)) (add-one t)
+    (ahead-next w t (is_free_in w.machine w.out t) refl (due-ahead w t))
+
+pub leaders-first :
+    (w : RoundState) (t : ℕ) (first : Candidate)
+    → Some first ≡ leader_of w (free_below w t) → is_due w.past w.machine first.thread ≡ true
+    → AreLeadersBelow w t (record { due = Some first; free = Some first })
+leaders-first w t first leads due = by (best w.past w.machine (free_below w t)) refl
+  where
+    by :
+        (o : Option ℕ) → best w.past w.machine (free_below w t) ≡ o
+        → AreLeadersBelow w t (record { due = Some first; free = Some first })
+    by None none = cc
+    by (Some u) some =
+        let is : first ≡ candidate_of w.past w.machine u = cc in
+        let passes : is_due w.past w.machine u ≡ true =
+        ap (λ (c : Candidate). is_due w.past w.machine c.thread) (sym is) ∙ due in
+        record {
+          due = leads ∙ ap (option_map (candidate_of w.past w.machine))
+              (some ∙ sym ((due-ahead w t).kept u some passes));
+          free = leads;
+        }
 
 better-leads : (leader : Option Candidate) (next : Candidate) → leads leader next ≡ true → better leader next ≡ next
 better-leads None next is = refl

@@ -1,6 +1,6 @@
 //! What a worker may do next.
 
-ghost use Rattle.std.specs.Prelude.{◌≡◌, ◌<◌, ◌+◌, ℕ, true, length, option_map, Decides};
+ghost use Rattle.std.specs.Prelude.{◌≡◌, ◌<◌, ◌+◌, ℕ, true, length, slice_index, nat_le, option_map, Decides};
 ghost use Rattle.std.specs.Arc.{arc_value};
 ghost use Rattle.round_spec.specs.declared.events.Pick.TheVariants as pick;
 ghost use Rattle.round_spec.specs.Marks.{record_for, fits_next};
@@ -9,7 +9,7 @@ ghost use Rattle.round_spec.specs.Due.{is_due, place_in};
 ghost use Rattle.round_spec.specs.Choice.{is_any_out, choice_by, pick_of};
 ghost use Rattle.propagate.specs.Choosing as choosing;
 ghost use Rattle.propagate.specs.declared.picking.Candidate.{Candidate};
-ghost use Rattle.propagate.specs.Choosing.{comes_before, has_made, HaveMade, AreLeadersBelow};
+ghost use Rattle.propagate.specs.Choosing.{comes_before, has_made, HaveMade, candidate_of, leader_of, free_below, AreLeadersBelow};
 
 use super::round::Round;
 use guest_call::THREADS;
@@ -70,24 +70,43 @@ fn leads(leader: Option<Candidate>, next: Candidate) -> bool
     }
 }
 
-/// Whether thread `t` has made so many steps, or has ended.
-fn has_made(core: &Core, t: u8, steps: u32) -> bool
-    ensures { result ≡ has_made core.now t steps }
+/// How many steps a thread, which exists, has made; where it has ended, as many as a clock counts of it.
+fn made_by(core: &Core, t: u8, counted: u32) -> u32
+    requires { t < length core.now.harts }
+    ensures { nat_le counted result ≡ has_made core.now t counted }
 {
-    steps == 0 || usize::from(t) < core.threads() && steps <= core.number(t) || core.gone(t)
+    if core.gone(t) {
+        return counted;
+    }
+    core.number(t)
 }
 
-/// Whether each thread but `t` has made the steps that a clock counts of it, or has ended.
+/// By thread, how many steps it has made; where it has ended, as many as a clock counts of it.
+fn made_for(core: &Core, clock: &Clock) -> [u32; THREADS]
+    ensures long { length result ≡ THREADS }
+    ensures made { (u : ℕ) → u < THREADS → nat_le (slice_index clock.now u) (slice_index result u)
+        ≡ has_made core.now u (slice_index clock.now u) }
+{
+    core.whole();
+    let mut made = [0; THREADS];
+    for t in 0..core.threads() {
+        let t = t as u8;
+        made[usize::from(t)] = made_by(core, t, clock.count(t));
+    }
+    made
+}
+
+/// Whether each thread but `t` has made the steps that a clock counts of it, or has ended. All threads are compared at
+/// once.
 fn have_made(core: &Core, clock: &Clock, t: u8) -> bool
     ensures { Decides result (HaveMade core.now t clock.now) }
 {
-    for other in 0..THREADS {
-        let other = other as u8;
-        if other != t && !has_made(core, other, clock.count(other)) {
-            return false;
-        }
+    clock.keeps();
+    let mut made = made_for(core, clock);
+    if usize::from(t) < THREADS {
+        made[usize::from(t)] = clock.count(t);
     }
-    true
+    Clock::new(made).covers(clock)
 }
 
 impl Round {
@@ -169,6 +188,42 @@ impl Round {
         self.can_begin(t) && self.has_fitting(t)
     }
 
+    /// What the choice looks at of thread `t`, which exists.
+    fn candidate(&self, t: u8) -> Candidate
+        requires { t < length self.now.machine.harts }
+        ensures { result ≡ candidate_of self.now.past self.now.machine t }
+    {
+        Candidate {
+            thread: t,
+            place: self.place(t),
+            number: self.core.number(t),
+        }
+    }
+
+    /// The best of the free threads, where that of those below thread `t` is known.
+    fn with_free(&self, leader: Option<Candidate>, t: u8) -> Option<Candidate>
+        requires exists { t < length self.now.machine.harts }
+        requires below { leader ≡ leader_of self.now (free_below self.now t) }
+        ensures { result ≡ leader_of self.now (free_below self.now (t + 1)) }
+    {
+        if !self.is_free(t) {
+            return leader;
+        }
+        Some(better(leader, self.candidate(t)))
+    }
+
+    /// The best of the free threads. Looks at no clock.
+    fn first_free(&self) -> Option<Candidate>
+        ensures { result ≡ leader_of self.now (free_below self.now (length self.now.machine.harts)) }
+    {
+        self.core.whole();
+        let mut leader = None;
+        for t in 0..self.core.threads() {
+            leader = self.with_free(leader, t as u8);
+        }
+        leader
+    }
+
     /// The leaders, where those below thread `t` are known.
     fn with_thread(&self, found: Leaders, t: u8) -> Leaders
         requires exists { t < length self.now.machine.harts }
@@ -178,11 +233,7 @@ impl Round {
         if !self.is_free(t) {
             return found;
         }
-        let next = Candidate {
-            thread: t,
-            place: self.place(t),
-            number: self.core.number(t),
-        };
+        let next = self.candidate(t);
         let free = Some(better(found.free, next));
         // A clock is looked at only where the thread would lead.
         if !leads(found.due, next) || !self.is_due_at(t, next.place) {
@@ -199,7 +250,7 @@ impl Round {
 
     /// The leaders of all free threads. Looks at each thread once, at the clock of those alone that come
     /// before all due ones so far, and compares no record.
-    fn leaders(&self) -> Leaders
+    fn all_leaders(&self) -> Leaders
         ensures { AreLeadersBelow self.now (length self.now.machine.harts) result }
     {
         self.core.whole();
@@ -211,6 +262,18 @@ impl Round {
             found = self.with_thread(found, t as u8);
         }
         found
+    }
+
+    /// The leaders of all free threads. Where the best of them is due, as it is in a round without an edit, its clock
+    /// alone is looked at.
+    fn leaders(&self) -> Leaders
+        ensures { AreLeadersBelow self.now (length self.now.machine.harts) result }
+    {
+        let free = self.first_free();
+        match free {
+            Some(first) if self.is_due_at(first.thread, first.place) => Leaders { due: free, free },
+            _ => self.all_leaders(),
+        }
     }
 
     /// The thread that is chosen, if one is.

@@ -1,9 +1,9 @@
 -- What is left to prove of `Round::with_thread`.
-use Rattle.std.proofs.Common.{◌+◌, Some, ap, sym, subst, ◌∙◌}
+use Rattle.std.proofs.Common.{◌+◌, Some, ap, refl, sym, subst, ◌∙◌}
 use Rattle.machine_spec.specs.Machine.{hart_of}
-use Rattle.round_spec.specs.Rounds.{RoundState}
+use Rattle.round_spec.specs.Due.{place_in}
 use Rattle.propagate.specs.declared.picking.Candidate.{Candidate}
-use Rattle.propagate.specs.Choosing.{AreLeadersBelow}
+use Rattle.propagate.specs.Choosing.{AreLeadersBelow, better, leads}
 use Rattle.propagate.proofs.Choosing.{leaders-skip, leaders-free, leaders-behind, leaders-due}
 use Rattle.propagate.proofs.round.Round.with_thread.Goals as goal
 use Rattle.propagate.proofs.round.Round.with_thread.Goals.{then-not-leads-via-then-not-leads, then-not-leads-via-else-not-leads+then-not-is_due_at}
@@ -14,35 +14,40 @@ returns-then-not-is_free c =
 
 pub returns-then-not-leads : goal.returns-then-not-leads
 returns-then-not-leads c =
-    subst (λ (x : Candidate). AreLeadersBelow c.args.self.now (c.args.t + 1)
-    (record { due = c.args.found.due; free = Some x })) (sym c.better.ensures)
+    let w = c.args.self.now in
+    let place = place_in w.past w.machine c.args.t in
+    let number = (hart_of w.machine c.args.t).number in
+    subst (λ (x : Candidate). AreLeadersBelow w (c.args.t + 1) (record { due = c.args.found.due; free = Some x }))
+    (sym (c.better.ensures ∙ ap (better c.args.found.free) c.candidate-next.ensures))
     (elim c.then-not-leads.branch [
-      | then-not-leads-via-then-not-leads w ↦
-          leaders-behind c.args.self.now c.args.t c.place.result c.number.result c.args.found c.requires.below
+      | then-not-leads-via-then-not-leads v ↦
+          leaders-behind w c.args.t place number c.args.found c.requires.below
           (sym c.is_free.ensures ∙ c.if-not-is_free.false)
-          (sym c.leads.ensures ∙ w.if-not-leads.true)
-          c.place.ensures
-          (c.number.ensures ∙ ap (λ (w : RoundState). (hart_of w.machine c.args.t).number) c.self.view_is)
-      | then-not-leads-via-else-not-leads+then-not-is_due_at w ↦
-          leaders-free c.args.self.now c.args.t c.place.result c.number.result c.args.found c.requires.below
+          (ap (leads c.args.found.due) (sym c.candidate-next.ensures) ∙ sym c.leads.ensures ∙ v.if-not-leads.true)
+          refl refl
+      | then-not-leads-via-else-not-leads+then-not-is_due_at v ↦
+          leaders-free w c.args.t place number c.args.found c.requires.below
           (sym c.is_free.ensures ∙ c.if-not-is_free.false)
-          (sym w.is_due_at.ensures ∙ w.if-not-is_due_at.true)
-          c.place.ensures
-          (c.number.ensures ∙ ap (λ (w : RoundState). (hart_of w.machine c.args.t).number) c.self.view_is)
+          (sym v.is_due_at.ensures ∙ v.if-not-is_due_at.true)
+          refl refl
     ])
 
 pub returns : goal.returns
 returns c =
-    subst
-    (λ (x : Candidate). AreLeadersBelow c.args.self.now (c.args.t + 1)
+    let w = c.args.self.now in
+    let place = place_in w.past w.machine c.args.t in
+    let number = (hart_of w.machine c.args.t).number in
+    subst (λ (x : Candidate). AreLeadersBelow w (c.args.t + 1) (record { due = Some c.candidate-next.result; free = Some x }))
+    (sym (c.better.ensures ∙ ap (better c.args.found.free) c.candidate-next.ensures))
+    (subst
+    (λ (x : Candidate). AreLeadersBelow w (c.args.t + 1)
     (record {
-      due = Some (record { thread = c.args.t; place = c.place.result; number = c.number.result });
-      free = Some x;
+      due = Some x;
+      free = Some (better c.args.found.free (record { thread = c.args.t; place = place; number = number }));
     }))
-    (sym c.better.ensures)
-    (leaders-due c.args.self.now c.args.t c.place.result c.number.result c.args.found c.requires.below
+    (sym c.candidate-next.ensures)
+    (leaders-due w c.args.t place number c.args.found c.requires.below
     (sym c.is_free.ensures ∙ c.if-not-is_free.false)
-    (sym c.leads.ensures ∙ c.if-not-leads.false)
+    (ap (leads c.args.found.due) (sym c.candidate-next.ensures) ∙ sym c.leads.ensures ∙ c.if-not-leads.false)
     (sym c.is_due_at.ensures ∙ c.if-not-is_due_at.false)
-    c.place.ensures
-    (c.number.ensures ∙ ap (λ (w : RoundState). (hart_of w.machine c.args.t).number) c.self.view_is))
+    refl refl))
