@@ -1,3 +1,4 @@
 -- The files of lemmas of this crate.
 pub mod Following
 pub mod Made
+pub mod Passes

@@ -8,7 +8,7 @@
 //! hold, a worker lets go of the lock and waits in one: so it misses nobody who wakes it for what came after it asked.
 //! A worker that is held at its gate asks and looks only when it is past it.
 
-ghost use Rattle.std.specs.Prelude.{◌≡◌, ◌≢◌, ◌+◌, ◌<◌, ◌≤◌, length, sum, vec_len, vec_capacity, Some, [], IfOk, Decides};
+ghost use Rattle.std.specs.Prelude.{◌≡◌, ◌≢◌, ◌+◌, ◌<◌, ◌≤◌, All, length, map, sum, vec_len, vec_capacity, Some, [], IfOk, Decides};
 ghost use Rattle.std.specs.Arc.{arc_value};
 ghost use Rattle.machine_spec.specs.Setup.{first};
 ghost use Rattle.history_spec.specs.History.{History};
@@ -48,7 +48,8 @@ fn passes_of<J: Naming>(
 ) -> Result<Vec<Pass<J>>, AllocError>
     requires parts { all.parts ≡ workers }
     requires amount { all.amount ≡ 0 }
-    ensures { IfOk result (λ passes. vec_len passes ≡ workers) }
+    ensures count { IfOk result (λ passes. vec_len passes ≡ workers) }
+    ensures nothing { IfOk result (λ passes. All (λ pass. pass.steps ≡ 0) passes.items) }
 {
     let mut passes = Vec::new(alloc);
     for made in 0..workers {
@@ -65,7 +66,7 @@ fn gather<J: Naming>(mut passes: Vec<Pass<J>>, mut shares: Vec<u64>) -> (Share<J
     requires room { vec_len passes ≤ vec_capacity shares }
     ensures parts { result.0.parts ≡ vec_len passes }
     ensures amount { result.0.amount ≡ sum result.1.items }
-    ensures each { vec_len result.1 ≡ vec_len passes }
+    ensures shares { result.1.items ≡ map (λ pass. pass.steps) passes.items }
 {
     let mut all = passes[0].empty();
     while !passes.is_empty() {
@@ -77,7 +78,7 @@ fn gather<J: Naming>(mut passes: Vec<Pass<J>>, mut shares: Vec<u64>) -> (Share<J
 }
 
 impl<J: Naming> Board<J> {
-    /// The board of a round before its first step, and a pass for each of its workers.
+    /// The board of a round before its first step, and a pass for each of its workers, none of whom has made a step.
     ///
     /// # Errors
     ///
@@ -92,7 +93,8 @@ impl<J: Naming> Board<J> {
         requires parts { (blank.parts ≡ J.parts) × (J.parts ≡ workers) }
         requires workers { workers ≡ J.workers }
         requires opening { round ≡ opening J.setup J.past }
-        ensures { IfOk result (λ made. vec_len made.1 ≡ workers) }
+        ensures count { IfOk result (λ made. vec_len made.1 ≡ workers) }
+        ensures nothing { IfOk result (λ made. All (λ pass. pass.steps ≡ 0) made.1.items) }
     {
         let shares = Vec::with_capacity(alloc, workers as usize)?;
         let frame = round.frame()?;
@@ -113,10 +115,12 @@ impl<J: Naming> Board<J> {
     ///
     /// Who is told to begin a step wakes nobody, since a short one is done before another worker could begin what else
     /// there is to do, and whoever has done it asks again. Whose step runs long wakes another worker then, if there is
-    /// something for it. Who is told that there is nothing any more wakes all.
+    /// something for it. Who is told that there is nothing any more wakes all. What was reused meanwhile are steps of
+    /// this worker.
     pub fn next<R: Wait>(&self, rt: &R, pass: &mut Pass<J>) -> Task
         ensures told { result ≢ task.Hold }
         ensures own { BeginsIn (first J.setup).frame result }
+        ensures never_lower { pass.old.steps ≤ pass.new.steps }
         ensures unedited { (h : History) → J.past ≡ Some h → IsUnedited h J.setup → BeginsNothing result }
     {
         let mut locked = self.lock.lock(rt);
@@ -202,7 +206,7 @@ impl<J: Naming> Board<J> {
         requires workers { (vec_len passes ≡ J.workers) × (0 < vec_len passes) }
         ensures setup { result.0.setup ≡ J.setup }
         ensures past { result.0.past ≡ J.past }
-        ensures each { vec_len result.1 ≡ vec_len passes }
+        ensures shares { result.1.items ≡ map (λ pass. pass.steps) passes.items }
         ensures steps { sum result.1.items ≡ length result.0.schedule }
         ensures follows { FollowsPicks J.setup J.past result.0 }
     {

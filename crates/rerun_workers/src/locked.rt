@@ -149,6 +149,7 @@ impl<J: Naming> Locked<J> {
         ensures does { Tells self.old.round result self.new.round }
         ensures own { BeginsIn (first J.setup).frame result }
         ensures counts { Counts pass.old.steps self.old.round pass.new.steps self.new.round }
+        ensures never_lower { pass.old.steps ≤ pass.new.steps }
         ensures unedited { (h : History) → J.past ≡ Some h → IsUnedited h J.setup → BeginsNothing result }
     {
         loop {

@@ -66,6 +66,7 @@ impl<J: Naming> Pass<J> {
     pub(super) fn empty(&mut self) -> Share<J>
         ensures parts { result.parts ≡ 0 }
         ensures amount { result.amount ≡ 0 }
+        ensures steps { self.new.steps ≡ self.old.steps }
     {
         self.share.empty()
     }

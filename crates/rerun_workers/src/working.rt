@@ -1,6 +1,6 @@
 //! A worker: it is told what to do, executes, and hands in what came of it.
 
-ghost use Rattle.std.specs.Prelude.{◌≡◌, ◌<◌, IfOk};
+ghost use Rattle.std.specs.Prelude.{◌≡◌, ◌<◌, ◌≤◌, IfOk};
 ghost use Rattle.std.specs.Arc.{arc_value};
 ghost use Rattle.machine_spec.specs.Setup.{first};
 ghost use Rattle.thunk_run.specs.Running.{IsRunOf};
@@ -69,6 +69,7 @@ fn make_step<J: Naming, R: Threads + Wait, G: Gate>(
     job: Job,
 ) -> bool
     requires { arc_value job.frame ≡ (first J.setup).frame }
+    ensures never_lower { pass.old.steps ≤ pass.new.steps }
 {
     gate.enter(job.thread, job.number);
     match run_job(rt, alloc, &job, &Sharing { rt, board }) {
@@ -94,7 +95,9 @@ pub(super) fn make_unshared<J: Naming, R: Threads + Wait, G: Gate>(
     board: &Board<J>,
     pass: &mut Pass<J>,
     gate: &G,
-) -> bool {
+) -> bool
+    ensures never_lower { pass.old.steps ≤ pass.new.steps }
+{
     for _ in rt.forever() {
         let Task::Begin(job) = board.next(rt, pass) else {
             return false;
@@ -111,14 +114,17 @@ pub(super) fn make_unshared<J: Naming, R: Threads + Wait, G: Gate>(
 }
 
 /// Makes steps of the round on the board until it is over or the host's memory runs out: takes what it is told to, passes
-/// the gate, executes it with no lock held, and hands it in. A step that was begun for it comes first.
+/// the gate, executes it with no lock held, and hands it in. A step that was begun for it comes first. Its pass counts the
+/// steps that it makes, and never fewer than before.
 pub fn work<J: Naming, R: Threads + Wait, G: Gate>(
     rt: &R,
     alloc: Global,
     board: &Board<J>,
     pass: &mut Pass<J>,
     gate: &G,
-) {
+)
+    ensures never_lower { pass.old.steps ≤ pass.new.steps }
+{
     if let Some(job) = pass.begun.take() {
         if !make_step(rt, alloc, board, pass, gate, job) {
             return;

@@ -16,4 +16,10 @@ loop-t-preserved g c = (
         c.in-Ok.ensures.ok,
   ),
   (let before = c.loop-t.invariant.1 in let counts = c.reuse.ensures.counts in omega (arith, before, counts)),
+  (
+      let before = c.loop-t.invariant.2 in
+      let counts = c.reuse.ensures.counts in
+      let more = c.in-Ok.ensures.same.entries in
+      omega (arith, before, counts, more)
+      ),
 )

@@ -1,13 +1,14 @@
 -- What holds at the loop of `Locked::next`.
-use Rattle.std.specs.Prelude.{◌≡◌, ◌-◌, ℕ, length}
+use Rattle.std.specs.Prelude.{◌≡◌, ◌-◌, ◌≤◌, ℕ, length}
 use Rattle.rerun_workers.specs.Locking.{settled, Counts}
 use Rattle.rerun_workers.proofs.locked.Locked.next.Given as goal
 
--- so many records that were picked were reused
+-- so many records that were picked were reused, each as a step of the worker
 abbrev pub invariant-loop-t : goal.invariant-loop-t
 invariant-loop-t g l =
     ((n : ℕ) × (l.self.round ≡ settled n l.fn.self.round))
     × Counts l.fn.pass.steps l.fn.self.round l.pass.steps l.self.round
+    × (l.fn.pass.steps ≤ l.pass.steps)
 
 abbrev pub decreases-loop-t : goal.decreases-loop-t
 decreases-loop-t g l = 65536 - length l.self.round.schedule
