@@ -1,5 +1,5 @@
 -- Worked examples, each computed by the checker. Pages are cut to their first bytes: a definition looks no further.
-use Rattle.std.proofs.Common.{◌≡◌, ℕ, Bool, true, false, List, [], ◌∷◌, Option, Some, None, refl}
+use Rattle.std.proofs.Common.{◌≡◌, true, false, List, [], ◌∷◌, Some, None, refl}
 use Rattle.memory_spec.specs.declared.Size.TheVariants.{One, Two, Four}
 use Rattle.memory_spec.specs.Pages.{Mapped, Memory, slot_of, permission_at, allows, read_right, write_right, execute_right, ascends_above}
 use Rattle.memory_spec.specs.Stores.{StoredByte, with_byte, laid}

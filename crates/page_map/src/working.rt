@@ -22,7 +22,7 @@ pub trait Mem {
     /// # Errors
     ///
     /// `Access` exactly where the page isn't mapped or may not be executed; `NoMemory` where the
-    /// host has no memory left.
+    /// host has no memory left. Nothing changes then.
     fn fetch(&mut self, address: u32) -> Result<u32, MemoryError>
         requires { address % 4 ≡ 0 }
         ensures { Takes (workspace self.old) address
@@ -34,7 +34,7 @@ pub trait Mem {
     /// # Errors
     ///
     /// `Access` exactly where the page isn't mapped or may not be read; `NoMemory` where the host
-    /// has no memory left.
+    /// has no memory left. Nothing changes then.
     fn load(&mut self, address: u32, size: Size) -> Result<u32, MemoryError>
         requires { address % byte_count size ≡ 0 }
         ensures found { Takes (workspace self.old) address

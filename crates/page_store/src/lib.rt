@@ -3,7 +3,6 @@
 
 mod group;
 mod page;
-mod parts;
 mod shelf;
 mod table;
 

@@ -6,7 +6,6 @@ ghost use Rattle.std.specs.Cmp.Lexicographic.{nat_list_eq_equiv};
 ghost use Rattle.std.specs.Str.{bytes_eq};
 ghost use Rattle.memory_spec.specs.Pages.{zero_page};
 
-use super::parts::{PART_SIZE, is_same_part};
 use memory_spec::PAGE_SIZE;
 use std::marker::Model;
 
@@ -88,16 +87,12 @@ impl PartialEq for Page {
 
     ghost laws = { partial_equiv_from_equiv nat_list_eq_equiv };
 
+    #[inline]
     fn eq(&self, other: &Page) -> bool
         ensures eq { result ≡ bytes_eq self.now other.now }
         ensures same { Decides result (self.now ≡ other.now) }
     {
-        for part in 0..PAGE_SIZE / PART_SIZE {
-            if !is_same_part(&self.bytes, &other.bytes, part * PART_SIZE) {
-                return false;
-            }
-        }
-        true
+        self.bytes.as_slice() == other.bytes.as_slice()
     }
 }
 

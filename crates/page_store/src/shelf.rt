@@ -10,8 +10,8 @@ use std::alloc::{AllocError, Global};
 use std::marker::Model;
 use std::sync::Arc;
 
-/// How many pages a full shelf has: eight groups.
-pub const SHELF_SIZE: usize = 64;
+/// How many pages a full shelf has: eight groups of them.
+pub const SHELF_SIZE: usize = 8 * GROUP_SIZE;
 
 /// Some pages that follow one another, in groups that are full but the last. It never changes: another shelf is made in
 /// its place, which shares all groups but one. A clause sees the list of their bytes.

@@ -136,6 +136,7 @@ impl Space {
     /// # Errors
     ///
     /// `Access` exactly where the page isn't mapped or may not be read; `NoMemory` where the host has no memory left.
+    /// Nothing changes then.
     #[cold]
     #[inline(never)]
     #[tactic(auto, unfolding(memory_spec::specs::Access::loaded, memory_spec::specs::Access::number_at))]

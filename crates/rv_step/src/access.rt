@@ -4,7 +4,6 @@ ghost use Rattle.std.specs.Prelude.{◌≡◌, ◌<◌, ◌%◌, ◌*◌, ◌^�
 ghost use Rattle.isa_spec.specs.Registers.{register};
 ghost use Rattle.isa_spec.specs.Words.{sum_of};
 ghost use Rattle.memory_spec.specs.Access.{byte_count};
-ghost use Rattle.memory_spec.specs.Workspace.{OnlyTook};
 ghost use Rattle.thunk_spec.specs.Turn.{load_size, load_result, load_turn, store_size, store_turn};
 ghost use Rattle.rv_step.specs.Step.{Makes};
 
@@ -78,7 +77,7 @@ fn load_kind<M: Mem>(
     ensures ok { IfOk result (λ outcome.
         Makes (load_turn (M.workspace mem.old).map (M.workspace mem.old).memory regs.old kind rd address)
         (M.workspace mem.old) outcome regs.new (M.workspace mem.new)) }
-    ensures err { OnErr result ((regs.new ≡ regs.old) × OnlyTook (M.workspace mem.old) (M.workspace mem.new)) }
+    ensures err { OnErr result ((regs.new ≡ regs.old) × (M.workspace mem.new ≡ M.workspace mem.old)) }
 {
     let size = size_loaded(kind);
     if !is_aligned(address, size) {
@@ -111,7 +110,7 @@ pub(super) fn execute_load<M: Mem>(
         Makes (load_turn (M.workspace mem.old).map (M.workspace mem.old).memory regs.old kind rd
         (sum_of (register regs.old rs1) offset))
         (M.workspace mem.old) outcome regs.new (M.workspace mem.new)) }
-    ensures err { OnErr result ((regs.new ≡ regs.old) × OnlyTook (M.workspace mem.old) (M.workspace mem.new)) }
+    ensures err { OnErr result ((regs.new ≡ regs.old) × (M.workspace mem.new ≡ M.workspace mem.old)) }
 {
     let address = regs.get(rs1).wrapping_add(offset);
     match kind {
@@ -135,7 +134,7 @@ fn store_kind<M: Mem>(
     ensures ok { IfOk result (λ outcome.
         Makes (store_turn (M.workspace mem.old).map regs.old kind address value)
         (M.workspace mem.old) outcome regs.new (M.workspace mem.new)) }
-    ensures err { OnErr result ((regs.new ≡ regs.old) × OnlyTook (M.workspace mem.old) (M.workspace mem.new)) }
+    ensures err { OnErr result ((regs.new ≡ regs.old) × (M.workspace mem.new ≡ M.workspace mem.old)) }
 {
     let size = size_stored(kind);
     if !is_aligned(address, size) {
@@ -167,7 +166,7 @@ pub(super) fn execute_store<M: Mem>(
         Makes (store_turn (M.workspace mem.old).map regs.old kind
         (sum_of (register regs.old rs1) offset) (register regs.old rs2))
         (M.workspace mem.old) outcome regs.new (M.workspace mem.new)) }
-    ensures err { OnErr result ((regs.new ≡ regs.old) × OnlyTook (M.workspace mem.old) (M.workspace mem.new)) }
+    ensures err { OnErr result ((regs.new ≡ regs.old) × (M.workspace mem.new ≡ M.workspace mem.old)) }
 {
     let address = regs.get(rs1).wrapping_add(offset);
     let value = regs.get(rs2);

@@ -1,6 +1,6 @@
 //! The operation of a page, executed in place of a turn.
 
-ghost use Rattle.std.specs.Prelude.{◌≡◌, IfOk};
+ghost use Rattle.std.specs.Prelude.{◌≡◌, IfOk, OnErr};
 ghost use Rattle.memory_spec.specs.Workspace.{Workspace};
 ghost use Rattle.rv_step.specs.Paging.{Leads};
 
@@ -36,15 +36,16 @@ macro_rules! by_kind {
 ///
 /// # Errors
 ///
-/// An error where the host's memory ran out.
+/// An error where the host's memory ran out; nothing changes then.
 #[inline(always)]
 pub(super) fn execute_operation<M: Mem>(
     placed: Placed,
     regs: &mut Regs,
     mem: &mut M,
 ) -> Result<Flow, AllocError>
-    ensures { IfOk result (λ flow.
+    ensures ok { IfOk result (λ flow.
         Leads flow placed (M.workspace mem.old) regs.old (M.workspace mem.new) regs.new) }
+    ensures err { OnErr result ((regs.new ≡ regs.old) × (M.workspace mem.new ≡ M.workspace mem.old)) }
 {
     by_kind!(placed.kind;
         load(placed, regs, mem) {

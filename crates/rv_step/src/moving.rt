@@ -1,6 +1,6 @@
 //! Loads and stores, executed in a page.
 
-ghost use Rattle.std.specs.Prelude.{◌≡◌, false, IfOk, Some};
+ghost use Rattle.std.specs.Prelude.{◌≡◌, false, IfOk, OnErr, Some};
 ghost use Rattle.isa_spec.specs.declared.Instr.TheVariants as instr;
 ghost use Rattle.rv_code.specs.Meaning.{may_have_zero};
 ghost use Rattle.rv_step.specs.Paging.{Leads, instr_placed, word_at};
@@ -17,7 +17,7 @@ use std::alloc::AllocError;
 ///
 /// # Errors
 ///
-/// An error where the host's memory ran out.
+/// An error where the host's memory ran out; nothing changes then.
 #[inline(always)]
 pub(super) fn load<M: Mem>(
     placed: Placed,
@@ -28,8 +28,9 @@ pub(super) fn load<M: Mem>(
     requires writes { may_have_zero placed.kind ≡ false }
     requires stands { instr_placed placed
         ≡ Some (instr.Load kind placed.rd placed.rs1 placed.imm) }
-    ensures { IfOk result (λ flow.
+    ensures ok { IfOk result (λ flow.
         Leads flow placed (M.workspace mem.old) regs.old (M.workspace mem.new) regs.new) }
+    ensures err { OnErr result ((regs.new ≡ regs.old) × (M.workspace mem.new ≡ M.workspace mem.old)) }
 {
     let address = regs.get(placed.rs1).wrapping_add(placed.imm);
     let size = size_loaded(kind);
@@ -50,7 +51,7 @@ pub(super) fn load<M: Mem>(
 ///
 /// # Errors
 ///
-/// An error where the host's memory ran out.
+/// An error where the host's memory ran out; nothing changes then.
 #[inline(always)]
 pub(super) fn store<M: Mem>(
     placed: Placed,
@@ -60,8 +61,9 @@ pub(super) fn store<M: Mem>(
 ) -> Result<Flow, AllocError>
     requires { instr_placed placed
         ≡ Some (instr.Store kind placed.rs1 placed.rs2 placed.imm) }
-    ensures { IfOk result (λ flow.
+    ensures ok { IfOk result (λ flow.
         Leads flow placed (M.workspace mem.old) regs.now (M.workspace mem.new) regs.now) }
+    ensures err { OnErr result (M.workspace mem.new ≡ M.workspace mem.old) }
 {
     let address = regs.get(placed.rs1).wrapping_add(placed.imm);
     let value = regs.get(placed.rs2);

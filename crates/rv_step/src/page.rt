@@ -1,6 +1,6 @@
 //! Turns made from a decoded page.
 
-ghost use Rattle.std.specs.Prelude.{◌≡◌, ◌+◌, ◌/◌, ◌%◌, ◌≤◌, IfOk, slice_index_or};
+ghost use Rattle.std.specs.Prelude.{◌≡◌, ℕ, ◌+◌, ◌/◌, ◌%◌, ◌≤◌, IfOk, OnErr, slice_index_or};
 ghost use Rattle.isa_spec.specs.Registers.{with_pc};
 ghost use Rattle.page_map.specs.Entering.{RunsFrom};
 ghost use Rattle.rv_code.specs.Meaning.{IsCodeOf, other};
@@ -71,12 +71,25 @@ fn leave<L: Ledger>(regs: &mut Regs, turns: &mut Turns<L>, left: Left, count: u3
     Ran { left, count }
 }
 
+/// Ends turns in a page where memory ran out in the one at this pc: so many were made before it, and it counts too.
+#[cold]
+fn fail<L: Ledger>(regs: &mut Regs, turns: &mut Turns<L>, made: u32, pc: u32) -> AllocError
+    ensures registers { regs.new ≡ with_pc regs.old pc }
+    ensures cost { turns.new ≡ turns.old + (made + 1) }
+{
+    regs.set_pc(pc);
+    turns.count(made);
+    turns.count(1);
+    AllocError
+}
+
 /// Makes turns from a decoded page, whose instructions may be run: up to one that leads out of it, a store to it, or a
 /// turn that is left to `step`, and no more than there is room for. The counter rises by the number of turns.
 ///
 /// # Errors
 ///
-/// An error where the host's memory ran out; the counter may have risen, and registers and memory are of no use then.
+/// An error where the host's memory ran out in a turn: those before it were made, and nothing changed in it. The counter
+/// rises by their number and by one.
 #[inline(never)]
 pub fn run_page<M: Mem, L: Ledger>(
     regs: &mut Regs,
@@ -94,6 +107,8 @@ pub fn run_page<M: Mem, L: Ledger>(
     ensures few { IfOk result (λ ran. ran.count ≤ room) }
     ensures cost { IfOk result (λ ran. turns.new ≡ turns.old + ran.count) }
     ensures never_lower { turns.old ≤ turns.new }
+    ensures err { OnErr result ((made : ℕ) × (made ≤ room) × (turns.new ≡ turns.old + (made + 1))
+        × Follow made (M.workspace mem.old) regs.old (M.workspace mem.new) regs.new) }
     ensures jumped { IfOk result (λ ran. ran.left ≡ left.Jumped → 1 ≤ ran.count) }
 {
     let number = page.number();
@@ -127,10 +142,10 @@ pub fn run_page<M: Mem, L: Ledger>(
                 let pc = address_of(placed.number, index);
                 return Ok(leave(regs, turns, Left::Other, made, pc));
             }
-            Err(error) => {
-                turns.count(ahead - (1024 - index as u32));
-                turns.count(1);
-                return Err(error);
+            Err(_) => {
+                let made = ahead - (1024 - index as u32);
+                let pc = address_of(placed.number, index);
+                return Err(fail(regs, turns, made, pc));
             }
         }
     }

@@ -2,7 +2,7 @@
 
 ghost use Rattle.std.specs.Prelude.{◌≡◌, ◌+◌, IfOk, OnErr};
 ghost use Rattle.isa_spec.specs.Encoding.{InRange};
-ghost use Rattle.memory_spec.specs.Workspace.{OnlyTook};
+ghost use Rattle.memory_spec.specs.Workspace.{TookAtMost};
 ghost use Rattle.thunk_spec.specs.Turn.{executed, turn};
 ghost use Rattle.rv_step.specs.Step.{Makes};
 
@@ -28,7 +28,7 @@ fn execute<M: Mem>(regs: &mut Regs, mem: &mut M, instr: Instr) -> Result<Outcome
     ensures ok { IfOk result (λ outcome.
         Makes (executed (M.workspace mem.old).map (M.workspace mem.old).memory regs.old instr)
         (M.workspace mem.old) outcome regs.new (M.workspace mem.new)) }
-    ensures err { OnErr result ((regs.new ≡ regs.old) × OnlyTook (M.workspace mem.old) (M.workspace mem.new)) }
+    ensures err { OnErr result ((regs.new ≡ regs.old) × (M.workspace mem.new ≡ M.workspace mem.old)) }
 {
     match instr {
         Instr::Lui { rd, imm } => Ok(compute(regs, rd, imm)),
@@ -81,8 +81,8 @@ fn execute<M: Mem>(regs: &mut Regs, mem: &mut M, instr: Instr) -> Result<Outcome
 ///
 /// # Errors
 ///
-/// An error where the host's memory ran out. Registers and stores are as before then; pages may
-/// have been noted as read.
+/// An error where the host's memory ran out. Registers and stores are as before then; the page of the
+/// pc may have been noted as read.
 #[inline(always)]
 #[tactic(auto, unfolding(thunk_spec::specs::Turn::turn))]
 pub fn step<M: Mem, L: Ledger>(
@@ -94,7 +94,7 @@ pub fn step<M: Mem, L: Ledger>(
     ensures ok { IfOk result (λ outcome.
         Makes (turn (M.workspace mem.old).map (M.workspace mem.old).memory regs.old)
         (M.workspace mem.old) outcome regs.new (M.workspace mem.new)) }
-    ensures err { OnErr result ((regs.new ≡ regs.old) × OnlyTook (M.workspace mem.old) (M.workspace mem.new)) }
+    ensures err { OnErr result ((regs.new ≡ regs.old) × TookAtMost regs.old.pc (M.workspace mem.old) (M.workspace mem.new)) }
 {
     turns.count(1);
     let pc = regs.pc();

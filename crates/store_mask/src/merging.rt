@@ -40,7 +40,8 @@ fn select_marked(word: u64, written: u8x64, page: u8x64) -> u8x64
     (bytes & bits).simd_eq(bits).select(written, page)
 }
 
-/// Writes 64 bytes of another page from a place on, at those whose bit is set in a word.
+/// Writes 64 bytes of another page from a place on, at those whose bit is set in a word. A word that marks all its places
+/// is looked for first: steps that store much store to whole stretches.
 #[inline(always)]
 pub(super) fn merge_word(page: &mut [u8], written: &[u8], first: usize, word: u64)
     requires page { first + 64 ≤ length page.old }
@@ -50,7 +51,11 @@ pub(super) fn merge_word(page: &mut [u8], written: &[u8], first: usize, word: u6
     ensures before { (k : ℕ) → k < first → slice_index page.new k ≡ slice_index page.old k }
     ensures behind { (k : ℕ) → first + 64 ≤ k → slice_index page.new k ≡ slice_index page.old k }
 {
-    let before = u8x64::from_slice(&page[first..]);
     let wanted = u8x64::from_slice(&written[first..]);
+    if word == u64::MAX {
+        wanted.copy_to_slice(&mut page[first..]);
+        return;
+    }
+    let before = u8x64::from_slice(&page[first..]);
     select_marked(word, wanted, before).copy_to_slice(&mut page[first..]);
 }
