@@ -6,6 +6,7 @@ use Rattle.edit_spec.specs.Edit.{Edit, Set, LineEdit}
 use Rattle.edit_spec.specs.Grammar.{space}
 use Rattle.edit_spec.specs.Editing.{edited_once}
 use Rattle.rv_asm.specs.Items.{items_bytes}
+use Rattle.rv_asm.specs.File.{guest_file}
 use Rattle.rv_asm.specs.Guest.{IsGuest}
 use Rattle.guest_gen.specs.declared.TheConstants.{INPUT_BYTES}
 use Rattle.guest_gen.specs.declared.guest.TheConstants.{BASE, ITEMS, ZEROS}
@@ -50,8 +51,9 @@ edits_of number = record { line = 1; edit = edit_of number } ∷ []
 abbrev pub next_of : ℕ → List ℕ
 next_of number = edited_once (edit_of number) (input_of number)
 
--- What is generated from a number: the executable of the guest, the input, and the list of edits.
+-- What is generated from a number: the executable of the guest, the same for each, the input, and the list of edits.
 pub record IsOf (number : ℕ) (g : Generated) : Type 0 where
+  pub elf_bytes : g.elf.items ≡ guest_file BASE (items_bytes ITEMS) ZEROS
   pub elf : IsGuest BASE (items_bytes ITEMS) ZEROS g.elf.items
   pub elf_size : length g.elf.items ≤ MOST_ELF_BYTES
   pub input : g.input.items ≡ input_of number

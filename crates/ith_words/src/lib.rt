@@ -9,6 +9,6 @@ mod words;
 pub use given::default_limits;
 pub use line::{
     ExplainLine, GenerateLine, Line, MOST_NUMBER, MOST_WORKERS, ReplayLine, RerunLine, RunLine,
-    ShowLine,
+    ShowLine, limits_are_as_documented,
 };
 pub use words::{LineFault, line_of};

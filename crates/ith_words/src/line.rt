@@ -1,9 +1,9 @@
 //! What a command line asks for.
 
-ghost use Rattle.std.specs.Prelude.{◌≤◌, IfSome};
+ghost use Rattle.std.specs.Prelude.{◌≡◌, ◌≤◌, ◌-◌, ◌^◌, IfSome};
 ghost use Rattle.std.proofs.Props.{props};
 ghost use Rattle.machine_spec.specs.declared.TheConstants.{MOST_FUEL};
-ghost use Rattle.ith_words.specs.declared.line.TheConstants.{MOST_WORKERS};
+ghost use Rattle.ith_words.specs.declared.line.TheConstants.{MOST_WORKERS, MOST_NUMBER};
 
 use machine_spec::Limits;
 
@@ -12,6 +12,12 @@ pub const MOST_WORKERS: u32 = 16;
 
 /// The greatest number that a guest is generated from.
 pub const MOST_NUMBER: u32 = u32::MAX;
+
+/// A line asks for at most 16 workers, and for a guest by any number of 32 bits.
+pub fn limits_are_as_documented()
+    ensures workers { MOST_WORKERS ≡ 16 }
+    ensures number { MOST_NUMBER ≡ 2 ^ 32 - 1 }
+{}
 
 /// What a line asks for.
 #[derive(Debug, Drop)]

@@ -1,10 +1,11 @@
 //! Single fields of a memo.
 
-ghost use Rattle.std.specs.Prelude.{◌≡◌, ◌<◌, ◌≤◌, length, nat_lt, IfOk};
+ghost use Rattle.std.specs.Prelude.{◌≡◌, ◌≢◌, ◌<◌, ◌≤◌, length, nat_lt, IfOk, IfErr};
 ghost use Rattle.std.specs.Int.{w8, w16, w32};
 ghost use Rattle.memo_spec.specs.Reader.{bytes_at, number_at, limited as limited_at, ruled};
 ghost use Rattle.memo_spec.specs.Reading.{is_within, registers_at};
 ghost use Rattle.memo_spec.specs.declared.Refusal.TheVariants as refusals;
+ghost use Rattle.memo_file.specs.declared.error.ReadError.TheVariants as errors;
 ghost use Rattle.memo_file.specs.Gives.{Gives};
 
 use crate::error::ReadError;
@@ -17,6 +18,7 @@ use rv_alu::Regs;
 pub fn run<'a>(cursor: &mut Cursor<'a>, count: usize) -> Result<&'a [u8], ReadError>
     ensures count { IfOk result (λ piece. length piece.now ≡ count) }
     ensures given { Gives (λ piece. (piece.now, cursor.new)) result (bytes_at count cursor.old) }
+    ensures no_memory { IfErr result (λ e. e ≢ errors.NoMemory) }
 {
     let at = cursor.position();
     match cursor.bytes(count) {
@@ -28,7 +30,8 @@ pub fn run<'a>(cursor: &mut Cursor<'a>, count: usize) -> Result<&'a [u8], ReadEr
 /// A number of four bytes.
 #[tactic(auto, using(crate::proofs::Taken::word_taken, crate::proofs::Taken::word_short))]
 pub fn word(cursor: &mut Cursor) -> Result<u32, ReadError>
-    ensures { Gives (λ v. (v, cursor.new)) result (number_at w32 cursor.old) }
+    ensures given { Gives (λ v. (v, cursor.new)) result (number_at w32 cursor.old) }
+    ensures no_memory { IfErr result (λ e. e ≢ errors.NoMemory) }
 {
     let at = cursor.position();
     match cursor.u32() {
@@ -40,7 +43,8 @@ pub fn word(cursor: &mut Cursor) -> Result<u32, ReadError>
 /// A number of two bytes.
 #[tactic(auto, using(crate::proofs::Taken::half_taken, crate::proofs::Taken::half_short))]
 pub fn half(cursor: &mut Cursor) -> Result<u16, ReadError>
-    ensures { Gives (λ v. (v, cursor.new)) result (number_at w16 cursor.old) }
+    ensures given { Gives (λ v. (v, cursor.new)) result (number_at w16 cursor.old) }
+    ensures no_memory { IfErr result (λ e. e ≢ errors.NoMemory) }
 {
     let at = cursor.position();
     match cursor.u16() {
@@ -52,7 +56,8 @@ pub fn half(cursor: &mut Cursor) -> Result<u16, ReadError>
 /// A number of one byte.
 #[tactic(auto, using(crate::proofs::Taken::byte_taken, crate::proofs::Taken::byte_short))]
 pub fn byte(cursor: &mut Cursor) -> Result<u8, ReadError>
-    ensures { Gives (λ v. (v, cursor.new)) result (number_at w8 cursor.old) }
+    ensures given { Gives (λ v. (v, cursor.new)) result (number_at w8 cursor.old) }
+    ensures no_memory { IfErr result (λ e. e ≢ errors.NoMemory) }
 {
     let at = cursor.position();
     match cursor.u8() {
@@ -65,6 +70,7 @@ pub fn byte(cursor: &mut Cursor) -> Result<u8, ReadError>
 pub fn byte_below(cursor: &mut Cursor, bound: u8) -> Result<u8, ReadError>
     ensures below { IfOk result (λ v. v < bound) }
     ensures given { Gives (λ v. (v, cursor.new)) result (ruled (number_at w8) (λ n. nat_lt n bound) cursor.old) }
+    ensures no_memory { IfErr result (λ e. e ≢ errors.NoMemory) }
 {
     let at = cursor.position();
     let value = byte(cursor)?;
@@ -77,7 +83,8 @@ pub fn byte_below(cursor: &mut Cursor, bound: u8) -> Result<u8, ReadError>
 
 /// A number within a range. Another one is against its rule.
 pub fn word_within(cursor: &mut Cursor, low: u32, high: u32) -> Result<u32, ReadError>
-    ensures { Gives (λ v. (v, cursor.new)) result (ruled (number_at w32) (is_within low high) cursor.old) }
+    ensures given { Gives (λ v. (v, cursor.new)) result (ruled (number_at w32) (is_within low high) cursor.old) }
+    ensures no_memory { IfErr result (λ e. e ≢ errors.NoMemory) }
 {
     let at = cursor.position();
     let value = word(cursor)?;
@@ -93,6 +100,7 @@ pub fn limited(cursor: &mut Cursor, low: u32, high: u32, limit: Limit) -> Result
     ensures within { IfOk result (λ v. (low ≤ v) × (v ≤ high)) }
     ensures given { Gives (λ v. (v, cursor.new)) result
         (limited_at (number_at w32) (is_within low high) (refusals.Limit limit) cursor.old) }
+    ensures no_memory { IfErr result (λ e. e ≢ errors.NoMemory) }
 {
     let value = word(cursor)?;
     if low <= value && value <= high {
@@ -104,7 +112,8 @@ pub fn limited(cursor: &mut Cursor, low: u32, high: u32, limit: Limit) -> Result
 
 /// The program counter, and the registers from x1 on. x0 is 0.
 pub fn registers(cursor: &mut Cursor) -> Result<Regs, ReadError>
-    ensures { Gives (λ r. (r, cursor.new)) result (registers_at cursor.old) }
+    ensures given { Gives (λ r. (r, cursor.new)) result (registers_at cursor.old) }
+    ensures no_memory { IfErr result (λ e. e ≢ errors.NoMemory) }
 {
     let mut words = [0u32; 32];
     for i in 0..32 {

@@ -1,10 +1,11 @@
 //! The read pages of a record.
 
-ghost use Rattle.std.specs.Prelude.{◌≡◌, ◌<◌, ◌^◌, true, suc, length, map, All, IfSome, IfNone, IfOk};
+ghost use Rattle.std.specs.Prelude.{◌≡◌, ◌≢◌, ◌<◌, ◌^◌, true, suc, length, map, All, IfSome, IfNone, IfOk, IfErr};
 ghost use Rattle.std.specs.Arc.{arc_value};
 ghost use Rattle.record_spec.specs.Ascending.{reads_ascend};
 ghost use Rattle.memo_spec.specs.Reader.{chain};
 ghost use Rattle.memo_spec.specs.Reading.{slot_of_number, slot_at, read_page_at};
+ghost use Rattle.memo_file.specs.declared.error.ReadError.TheVariants as errors;
 ghost use Rattle.memo_file.specs.Gives.{Gives};
 
 use crate::error::ReadError;
@@ -37,6 +38,7 @@ pub fn slot(cursor: &mut Cursor, slots: &PageMap, low: usize) -> Result<Slot, Re
     requires small { All (λ m. m.number < 2 ^ 20) slots.now }
     ensures mapped { IfOk result (λ s. s < length slots.now) }
     ensures given { Gives (λ s. (s, cursor.new)) result (slot_at slots.now low cursor.old) }
+    ensures no_memory { IfErr result (λ e. e ≢ errors.NoMemory) }
 {
     let at = cursor.position();
     let number = word(cursor)?;

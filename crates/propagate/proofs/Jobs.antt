@@ -198,7 +198,7 @@ jobs-commit w v run jobs Done kept does have =
     jobs-stay w v (Commit (arc_value run.rec).thread) jobs tt kept does.1 have
 jobs-commit w v run jobs (Stale back) kept does have =
     jobs-stay w v (GiveBack (arc_value run.rec).thread) jobs tt kept does.2 have
-jobs-commit w v run jobs (Memory back) kept does have = subst (λ (x : RoundState). HaveJobs x jobs) (sym does.1) have
+jobs-commit w v run jobs (Memory back) kept does have = subst (λ (x : RoundState). HaveJobs x jobs) (sym does.2) have
 
 -- at the start nobody is out
 pub jobs-none : (w : RoundState) (jobs : List (Option Job)) → length jobs ≡ 32 → w.out ≡ nobody_out → HaveJobs w jobs

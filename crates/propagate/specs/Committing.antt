@@ -18,15 +18,16 @@ pub record CanCommit (w : RoundState) (frame : Frame) (r : Record) : Type 0 wher
   pub taken : is_out w r.thread ≡ true
   pub fit : fits w.machine r ≡ true
 
--- What comes of committing a run: it is done exactly where it can be; where it can't, the run is handed back and its
--- thread is no longer out; and where memory ran out, the run is handed back and the round is as before.
+-- What comes of committing a run: where it can be, it is done; where it can't, the run is handed back and its thread is
+-- no longer out; and where it can be but memory ran out, the run is handed back and the round is as before.
 abbrev pub Commits : RoundState → Run → Committed → RoundState → Type 0
 Commits old run Done new =
     CanCommit old (arc_value run.frame) (arc_value run.rec) × (new ≡ happens old (Commit (arc_value run.rec).thread))
 Commits old run (Stale back) new =
     (CanCommit old (arc_value run.frame) (arc_value run.rec) → ⊥) × (back ≡ run)
     × (new ≡ happens old (GiveBack (arc_value run.rec).thread))
-Commits old run (Memory back) new = (back ≡ run) × (new ≡ old)
+Commits old run (Memory back) new =
+    CanCommit old (arc_value run.frame) (arc_value run.rec) × (back ≡ run) × (new ≡ old)
 
 -- How many entries a commit appends.
 abbrev pub entries_of : Committed → ℕ

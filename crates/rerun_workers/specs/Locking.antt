@@ -66,15 +66,17 @@ BeginsIn f task.Memory = ⊤
 abbrev pub given_up : RoundState → ℕ → RoundState
 given_up w t = happens (happens w (GiveBack t)) Stop
 
--- What comes of a run that a worker hands in: it is an entry exactly where it can be committed; where it can't, it is
--- handed back and its thread is no longer out; and where memory ran out, so it is, and the round was stopped.
+-- What comes of a run that a worker hands in: where it can be committed, it is an entry; where it can't, it is handed
+-- back and its thread is no longer out; and where it can be but memory ran out, so it is, and the round was stopped.
 abbrev pub Lands : RoundState → Run → Landed → RoundState → Type 0
 Lands old run landed.Done new =
     CanCommit old (arc_value run.frame) (arc_value run.rec) × (new ≡ happens old (Commit (arc_value run.rec).thread))
 Lands old run (landed.Stale back) new =
     (CanCommit old (arc_value run.frame) (arc_value run.rec) → ⊥) × (back ≡ run)
     × (new ≡ happens old (GiveBack (arc_value run.rec).thread))
-Lands old run (landed.Memory back) new = (back ≡ run) × (new ≡ given_up old (arc_value run.rec).thread)
+Lands old run (landed.Memory back) new =
+    CanCommit old (arc_value run.frame) (arc_value run.rec) × (back ≡ run)
+    × (new ≡ given_up old (arc_value run.rec).thread)
 
 -- How many steps a worker has made by a run that it handed in.
 abbrev pub steps_by : Landed → ℕ

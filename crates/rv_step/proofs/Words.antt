@@ -3,12 +3,11 @@ use Rattle.std.proofs.Common.{◌≡◌, ℕ, slice_set, ◌+◌, ◌/◌, ◌%�
 use Rattle.isa_spec.specs.declared.Instr.{Instr}
 use Rattle.isa_spec.specs.declared.ShiftOperation.{ShiftOperation}
 use Rattle.isa_spec.specs.declared.ShiftOperation.TheVariants as shift
-use Rattle.isa_spec.specs.declared.BranchTest.{BranchTest}
-use Rattle.isa_spec.specs.Operations.{branch_taken, shift_result}
+use Rattle.isa_spec.specs.Operations.{shift_result}
 use Rattle.isa_spec.specs.Registers.{Registers, with_register, with_pc}
-use Rattle.isa_spec.specs.Words.{sum_of, difference_of}
+use Rattle.isa_spec.specs.Words.{sum_of}
 use Rattle.memory_spec.specs.Workspace.{Workspace}
-use Rattle.thunk_spec.specs.Turn.{Turn, executed, computed, passed, advanced, jumped, linked, branched}
+use Rattle.thunk_spec.specs.Turn.{Turn, executed, computed, passed, advanced, linked}
 use Rattle.rv_code.specs.Meaning.{offset_to}
 use Rattle.rv_step.specs.declared.placed.Flow.{Flow}
 use Rattle.rv_step.specs.declared.placed.Flow.TheVariants as flow

@@ -3,8 +3,8 @@ use Rattle.std.proofs.Common.{◌+◌, ◌%◌, refl, sym}
 use Rattle.rv_step.proofs.Pages.{taking-runs_on, load-executes}
 use Rattle.rv_step.proofs.moving.load.Goals as goal
 
-pub returns-in-Ok : goal.returns-in-Ok
-returns-in-Ok g c =
+pub returns-in-Ok-clause-ok : goal.returns-in-Ok-clause-ok
+returns-in-Ok-clause-ok g c =
     let p = c.args.placed in
     let w = g.M.Mem.workspace c.args.mem.now in
     let address = (c.get.result + p.imm) % 4294967296 in

@@ -4,8 +4,8 @@ use Rattle.rv_step.proofs.Pages.{storing-runs_on, store-executes}
 use Rattle.memory_spec.specs.Access.{byte_count}
 use Rattle.rv_step.proofs.moving.store.Goals as goal
 
-pub returns-else-address-placed : goal.returns-else-address-placed
-returns-else-address-placed g c =
+pub returns-else-address-placed-clause-ok : goal.returns-else-address-placed-clause-ok
+returns-else-address-placed-clause-ok g c =
     let p = c.args.placed in
     let w = g.M.Mem.workspace c.args.mem.now in
     let address = (c.get.result + p.imm) % 4294967296 in

@@ -13,7 +13,7 @@ turns-preserved-in-Ok-Next g c =
     let w = g.M.Mem.workspace c.turns.mem in
     let after = g.M.Mem.workspace c.execute_operation.new.mem in
     let registers = at_word p.number (p.index + 1) c.execute_operation.new.regs in
-    let led = rw c.in-Ok-Next.field-0-is at c.in-Ok-Next.ensures in
+    let led = rw c.in-Ok-Next.field-0-is at c.in-Ok-Next.ensures.ok in
     let within : c.turns.index < 1024 = placed-within page p c.turns.index w after c.turns.regs registers here.code
     here.operation here.number here.index c.turns.invariant.within led.0 in
     let more = placed-more page p c.turns.index (c.turns.ahead + c.turns.index - 1024)
@@ -40,7 +40,7 @@ turns-preserved g c =
     let after = g.M.Mem.workspace c.execute_operation.new.mem in
     let target = c.in-Ok-Inside.target in
     let registers = at_word p.number target c.execute_operation.new.regs in
-    let led = rw c.in-Ok-Inside.field-0-is at c.in-Ok-Inside.ensures in
+    let led = rw c.in-Ok-Inside.field-0-is at c.in-Ok-Inside.ensures.ok in
     let within : c.turns.index < 1024 = placed-within page p c.turns.index w after c.turns.regs registers here.code
     here.operation here.number here.index c.turns.invariant.within led.0 in
     let inside : target < 1024 = led.2 in
@@ -69,7 +69,7 @@ returns-then-made-room-clause-turns g c =
     let w = g.M.Mem.workspace c.turns.mem in
     let after = g.M.Mem.workspace c.execute_operation.new.mem in
     let registers = at_word p.number c.in-Ok-Inside.target c.execute_operation.new.regs in
-    let led = rw c.in-Ok-Inside.field-0-is at c.in-Ok-Inside.ensures in
+    let led = rw c.in-Ok-Inside.field-0-is at c.in-Ok-Inside.ensures.ok in
     let within : c.turns.index < 1024 = placed-within page p c.turns.index w after c.turns.regs registers here.code
     here.operation here.number here.index c.turns.invariant.within led.0 in
     rw (c.leave.ensures.registers, c.address_of-pc.ensures)
@@ -86,7 +86,7 @@ returns-in-Ok-Outside-clause-turns g c =
     let w = g.M.Mem.workspace c.turns.mem in
     let after = g.M.Mem.workspace c.execute_operation.new.mem in
     let registers = with_pc c.execute_operation.new.regs c.in-Ok-Outside.target in
-    let led = rw c.in-Ok-Outside.field-0-is at c.in-Ok-Outside.ensures in
+    let led = rw c.in-Ok-Outside.field-0-is at c.in-Ok-Outside.ensures.ok in
     let within : c.turns.index < 1024 = placed-within page p c.turns.index w after c.turns.regs registers here.code
     here.operation here.number here.index c.turns.invariant.within led in
     rw c.leave-in-Ok-Outside.ensures.registers
@@ -103,7 +103,7 @@ returns-in-Ok-Changed-clause-turns g c =
     let w = g.M.Mem.workspace c.turns.mem in
     let after = g.M.Mem.workspace c.execute_operation.new.mem in
     let registers = at_word p.number (p.index + 1) c.execute_operation.new.regs in
-    let led = rw c.in-Ok-Changed.field-0-is at c.in-Ok-Changed.ensures in
+    let led = rw c.in-Ok-Changed.field-0-is at c.in-Ok-Changed.ensures.ok in
     let within : c.turns.index < 1024 = placed-within page p c.turns.index w after c.turns.regs registers here.code
     here.operation here.number here.index c.turns.invariant.within led in
     rw (c.leave-in-Ok-Changed.ensures.registers, c.address_of-pc-in-Ok-Changed.ensures, ← here.index)
