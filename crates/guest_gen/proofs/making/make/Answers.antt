@@ -14,6 +14,7 @@ returns c =
     ap length c.in_ok-elf.ensures.file ∙ length-guest_file BASE (items_bytes ITEMS) ZEROS in
     let few = length-items_bytes in
     record {
+      elf_bytes = c.in_ok-elf.ensures.file;
       elf = c.in_ok-elf.ensures.guest;
       elf_size = omega arith;
       input = c.in_ok-input.ensures;
