@@ -94,7 +94,7 @@ fn delta_of(alloc: Global, slot: usize) -> Result<Delta, AllocError>
     stored.mask.set(4);
     let mut pages = Vec::new(alloc);
     if !stored.mask.is_empty() {
-        pages.push(PageDelta::new(slot, Box::new(alloc, stored)?))?;
+        pages.push(PageDelta::new(alloc, slot, Box::new(alloc, stored)?)?)?;
     }
     Ok(Delta::new(pages))
 }

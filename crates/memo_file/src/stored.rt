@@ -128,7 +128,7 @@ fn stored_page(
     };
     let mut stored = Box::new(alloc, blank)?;
     fill(&mut stored, marks, bytes);
-    Ok(PageDelta::new(slot, stored))
+    Ok(PageDelta::new(alloc, slot, stored)?)
 }
 
 /// So many stored pages, whose slots ascend, and the least slot of a next one.

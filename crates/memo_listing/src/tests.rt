@@ -116,7 +116,7 @@ fn stored_page(alloc: Global) -> Result<Delta, AllocError>
     stored.mask.set(4);
     let mut pages = Vec::new(alloc);
     if !stored.mask.is_empty() {
-        pages.push(PageDelta::new(1, Box::new(alloc, stored)?))?;
+        pages.push(PageDelta::new(alloc, 1, Box::new(alloc, stored)?)?)?;
     }
     Ok(Delta::new(pages))
 }

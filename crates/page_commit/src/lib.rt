@@ -26,8 +26,8 @@ pub fn committed(table: &PageTable, delta: &Delta) -> Result<PageTable, AllocErr
     for stored in delta.pages() {
         let slot = stored.slot();
         if slot < after.len() {
-            let page = stored.written(after.page(slot));
-            after.replace(slot, page)?;
+            let page = stored.written_shared(after.page(slot))?;
+            after.replace_owned(slot, page)?;
         }
     }
     Ok(after)

@@ -18,7 +18,7 @@ fn a_snapshot_keeps_what_it_has(rt: HostRuntime) -> Result<(), AllocError> {
         return Ok(());
     }
     let mut pages = Vec::new(rt.alloc());
-    pages.push(PageDelta::new(1, Box::new(rt.alloc(), stored)?))?;
+    pages.push(PageDelta::new(rt.alloc(), 1, Box::new(rt.alloc(), stored)?)?)?;
     let delta = Delta::new(pages);
     commit(&mut table, &delta)?;
     assert_eq!(rt; table.page(1).get(7), 1);

@@ -160,10 +160,24 @@ impl PageTable {
         ensures ok { OnOk result (self.new ≡ slice_set self.old slot page) }
         ensures err { OnErr result (self.new ≡ self.old) }
     {
-        page.bytes();
         let shared = Arc::new(self.alloc, page)?;
+        self.replace_owned(slot, shared)
+    }
+
+    /// Puts a page that others hold too in the place of the one in a slot. No byte is copied.
+    ///
+    /// # Errors
+    ///
+    /// An error where the host's memory ran out, or what is shared has as many holders as can be counted; the table is then as
+    /// before.
+    pub fn replace_owned(&mut self, slot: usize, page: Arc<Page>) -> Result<(), AllocError>
+        requires { slot < length self.old }
+        ensures ok { OnOk result (self.new ≡ slice_set self.old slot (arc_value page)) }
+        ensures err { OnErr result (self.new ≡ self.old) }
+    {
+        page.bytes();
         let number = slot / SHELF_SIZE;
-        let shelf = self.shelves[number].with_page(self.alloc, slot % SHELF_SIZE, shared)?;
+        let shelf = self.shelves[number].with_page(self.alloc, slot % SHELF_SIZE, page)?;
         let shelf = Arc::new(self.alloc, shelf)?;
         self.shelves[number] = shelf;
         Ok(())

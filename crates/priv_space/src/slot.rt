@@ -172,6 +172,7 @@ fn push_read(view: &PageTable, slot: usize, pages: &mut Vec<ReadPage>) -> Result
 /// Gives an own copy to the deltas, if a byte was stored.
 #[inline(never)]
 fn push_delta(
+    alloc: Global,
     own: Box<StoredPage>,
     slot: usize,
     deltas: &mut Vec<PageDelta>,
@@ -182,7 +183,7 @@ fn push_delta(
     if own.mask.is_empty() {
         return Ok(());
     }
-    deltas.push(PageDelta::new(slot, own))?;
+    deltas.push(PageDelta::new(alloc, slot, own)?)?;
     Ok(())
 }
 
@@ -452,6 +453,7 @@ impl Slot {
     #[tactic(auto, unfolding(crate::specs::Slots::slot_bytes, crate::specs::Slots::slot_marks))]
     pub(super) fn give_delta(
         self,
+        alloc: Global,
         slot: usize,
         deltas: &mut Vec<PageDelta>,
     ) -> Result<(), AllocError>
@@ -461,7 +463,7 @@ impl Slot {
         match self {
             Slot::View { .. } => Ok(()),
             Slot::Shared(_) => Ok(()),
-            Slot::Own(own) | Slot::Hidden { own, .. } => push_delta(own, slot, deltas),
+            Slot::Own(own) | Slot::Hidden { own, .. } => push_delta(alloc, own, slot, deltas),
         }
     }
 }

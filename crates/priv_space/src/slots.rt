@@ -187,6 +187,7 @@ impl Slots {
     #[inline(always)]
     pub(super) fn give_delta(
         &mut self,
+        alloc: Global,
         slot: usize,
         deltas: &mut Vec<PageDelta>,
     ) -> Result<(), AllocError>
@@ -198,7 +199,7 @@ impl Slots {
     {
         let place = place_of(&self.places, slot);
         let given = mem::replace(&mut self.held[place], Slot::new());
-        given.give_delta(slot, deltas)
+        given.give_delta(alloc, slot, deltas)
     }
 }
 

@@ -248,7 +248,7 @@ impl Space {
         let mut deltas = Vec::new(alloc);
         let mut from = 0;
         while let Some(slot) = slots.next_touched(from) {
-            slots.give_delta(slot, &mut deltas)?;
+            slots.give_delta(alloc, slot, &mut deltas)?;
             from = slot + 1;
         }
         Ok(Delta::new(deltas))

@@ -21,14 +21,14 @@ pub merged-all :
     → merged o n (take 4096 m) ≡ spread m (chosen m n) o
 merged-all o n m p q count = ap (merged o n) (take_all 4096 m (omega arith)) ∙ sym (spread-chosen m n o p q)
 
-length-merged : (o n : List ℕ) (m : List Bool) → length (merged o n m) ≡ length o
+pub length-merged : (o n : List ℕ) (m : List Bool) → length (merged o n m) ≡ length o
 length-merged [] n m = refl
 length-merged (o ∷ os) [] m = refl
 length-merged (o ∷ os) (n ∷ ns) [] = refl
 length-merged (o ∷ os) (n ∷ ns) (m ∷ ms) = ap suc (length-merged os ns ms)
 
 -- a byte of a merged page
-merged-at :
+pub merged-at :
     (o n : List ℕ) (m : List Bool) (k : ℕ) → length n ≡ length o
     → get_or (merged o n m) k 0 ≡ cond (get_or m k false) (get_or n k 0) (get_or o k 0)
 merged-at [] [] m k same = both (get_or m k false)
@@ -76,7 +76,7 @@ no_word n page i word none = record {
   behind = λ k le. refl;
 }
 
-marked_at : (m : List Bool) (i word k : ℕ) → word ≡ mask_l (chunk i 64 m) → k < 64
+pub marked_at : (m : List Bool) (i word k : ℕ) → word ≡ mask_l (chunk i 64 m) → k < 64
     → nat_eq (bit_at word k) 1 ≡ get_or m (i + k) false
 marked_at m i word k is lt =
     ap (λ w. nat_eq (bit_at w k) 1) is ∙ ap (λ b. nat_eq b 1) (bit_mask_l (chunk i 64 m) k)

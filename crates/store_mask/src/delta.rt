@@ -1,40 +1,74 @@
 //! The stored bytes of a thunk, page by page.
 
-ghost use Rattle.std.specs.Prelude.{◌≡◌, true};
+ghost use Rattle.std.specs.Prelude.{◌≡◌, true, IfOk};
+ghost use Rattle.std.specs.Arc.{arc_value};
 ghost use Rattle.record_spec.specs.Delta.{is_stored, spread};
 ghost use Rattle.record_spec.specs.Ascending.{deltas_ascend};
 ghost use Rattle.store_mask.specs.Stored.{delta_in};
 
+use super::mask::Mask;
 use super::stored::StoredPage;
 use page_store::Page;
+use std::alloc::{AllocError, Global};
 use std::marker::Model;
+use std::sync::Arc;
+
+/// Where a thread stored to a page, and the page as its own copy has it.
+#[derive(Clone, Copy)]
+pub struct Stored<'a> {
+    /// The page, with the stored bytes at the marked places. What stands at the others is no part of the stored bytes.
+    pub page: &'a Page,
+    /// The places that were stored to.
+    pub mask: &'a Mask,
+}
 
 /// The stored bytes of one page, at least one. A clause sees a `PageDelta` of `record_spec`.
+///
+/// It keeps the thread's own copy of the page whole. Where nobody else changed the page, that is what a commit makes of
+/// it, and is shared and not made anew.
 #[derive(Drop)]
 pub struct PageDelta {
+    alloc: Global,
     slot: usize,
-    stored: Box<StoredPage>,
+    page: Arc<Page>,
+    mask: Box<Mask>,
 }
 
 impl Model for PageDelta {
     ghost use Rattle.std.specs.Prelude.{◌≡◌, true};
-    ghost use Rattle.record_spec.specs.Delta.{PageDelta, is_stored};
-    ghost use Rattle.store_mask.specs.Stored.{delta_in};
+    ghost use Rattle.std.specs.Arc.{arc_value};
+    ghost use Rattle.record_spec.specs.Delta.{PageDelta, chosen, is_stored};
 
     ghost Value = { PageDelta };
 
-    ghost view = { λ d. delta_in d.slot d.stored.value };
+    ghost view = { λ d. record {
+      slot = d.slot;
+      mask = d.mask.value;
+      bytes = chosen d.mask.value (arc_value d.page);
+    } };
 
-    ghost invariant = { λ d. is_stored d.stored.value.mask ≡ true };
+    ghost invariant = { λ d. is_stored d.mask.value ≡ true };
 }
 
 impl PageDelta {
     /// What was stored to the page in a slot, at least one byte.
-    pub fn new(slot: usize, stored: Box<StoredPage>) -> PageDelta
+    ///
+    /// # Errors
+    ///
+    /// An error where the host's memory ran out.
+    pub fn new(alloc: Global, slot: usize, stored: Box<StoredPage>) -> Result<PageDelta, AllocError>
         requires { is_stored stored.value.mask ≡ true }
-        ensures { result ≡ delta_in slot stored.value }
+        ensures { IfOk result (λ delta. delta ≡ delta_in slot stored.value) }
     {
-        PageDelta { slot, stored }
+        let StoredPage { page, mask } = Box::into_inner(stored);
+        let page = Arc::new(alloc, page)?;
+        let mask = Box::new(alloc, mask)?;
+        Ok(PageDelta {
+            alloc,
+            slot,
+            page,
+            mask,
+        })
     }
 
     /// The page's slot.
@@ -47,11 +81,15 @@ impl PageDelta {
 
     /// The places that were stored to, and a page with the stored bytes at them.
     #[inline(always)]
-    pub fn stored(&self) -> &StoredPage
-        ensures delta { self.now ≡ delta_in self.now.slot result.now }
-        ensures some { is_stored result.now.mask ≡ true }
+    pub fn stored(&self) -> Stored<'_>
+        ensures delta { self.now
+            ≡ delta_in self.now.slot (record { page = result.page.now; mask = result.mask.now }) }
+        ensures some { is_stored result.mask.now ≡ true }
     {
-        &self.stored
+        Stored {
+            page: &self.page,
+            mask: &self.mask,
+        }
     }
 
     /// A page after the stored bytes were written into it.
@@ -59,9 +97,23 @@ impl PageDelta {
         ensures { result ≡ spread self.now.mask self.now.bytes page.now }
     {
         let mut bytes = *page.bytes();
-        let written = self.stored.page.bytes();
-        self.stored.mask.merge(&mut bytes, written);
+        self.mask.merge(&mut bytes, self.page.bytes());
         Page::new(bytes)
+    }
+
+    /// A page after the stored bytes were written into it, to be shared: the own copy itself, where it is that.
+    ///
+    /// # Errors
+    ///
+    /// An error where the host's memory ran out, or the own copy has as many holders as can be counted.
+    pub fn written_shared(&self, page: &Page) -> Result<Arc<Page>, AllocError>
+        ensures { IfOk result (λ after. arc_value after ≡ spread self.now.mask self.now.bytes page.now) }
+    {
+        if self.mask.gives_written(page.bytes(), self.page.bytes()) {
+            return Arc::try_clone(&self.page);
+        }
+        let after = Arc::new(self.alloc, self.written(page))?;
+        Ok(after)
     }
 }
 

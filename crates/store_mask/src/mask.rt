@@ -1,12 +1,12 @@
 //! Marks of the places of a page.
 
-ghost use Rattle.std.specs.Prelude.{◌≡◌, ◌<◌, ◌≤◌, ◌+◌, ◌*◌, ◌^◌, ℕ, false, true, not, length, take, drop, slice_index, slice_index_or, slice_set, IfSome, IfNone};
+ghost use Rattle.std.specs.Prelude.{◌≡◌, ◌<◌, ◌≤◌, ◌+◌, ◌*◌, ◌^◌, ℕ, false, true, not, Decides, length, take, drop, slice_index, slice_index_or, slice_set, IfSome, IfNone};
 ghost use Rattle.std.specs.Simd.Lanes.{mask_l};
 ghost use Rattle.memory_spec.specs.Workspace.{no_marks};
 ghost use Rattle.record_spec.specs.Delta.{is_stored, chosen, spread};
 ghost use Rattle.store_mask.specs.Flags.{flags_of};
 
-use super::merging::{WORD_PLACES, merge_word};
+use super::merging::{WORD_PLACES, gives_word, merge_word};
 use page_store::PAGE_SIZE;
 use std::marker::Model;
 
@@ -113,5 +113,20 @@ impl Mask {
                 merge_word(page, written, WORD_PLACES * number, word);
             }
         }
+    }
+
+    /// Whether a page is another page once this one's bytes were written at the marked places.
+    pub fn gives_written(&self, page: &[u8], written: &[u8]) -> bool
+        requires page_is_whole { length page.now ≡ PAGE_SIZE }
+        requires written_is_whole { length written.now ≡ PAGE_SIZE }
+        ensures { Decides result (spread self.now (chosen self.now written.now) page.now ≡ written.now) }
+    {
+        self.whole();
+        for number in 0..MASK_WORDS {
+            if !gives_word(page, written, WORD_PLACES * number, self.word(number)) {
+                return false;
+            }
+        }
+        true
     }
 }

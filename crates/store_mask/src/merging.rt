@@ -1,6 +1,6 @@
 //! Writing marked bytes into a page, 64 places at a time.
 
-ghost use Rattle.std.specs.Prelude.{◌≡◌, ◌<◌, ◌≤◌, ◌+◌, ◌==◌, ℕ, length, slice_index, if◌then◌else◌};
+ghost use Rattle.std.specs.Prelude.{◌≡◌, ◌<◌, ◌≤◌, ◌+◌, ◌==◌, ℕ, Decides, length, slice_index, if◌then◌else◌};
 ghost use Rattle.std.specs.Int.{bit_at};
 
 use std::simd::prelude::*;
@@ -58,4 +58,25 @@ pub(super) fn merge_word(page: &mut [u8], written: &[u8], first: usize, word: u6
     }
     let before = u8x64::from_slice(&page[first..]);
     select_marked(word, wanted, before).copy_to_slice(&mut page[first..]);
+}
+
+/// Whether 64 bytes of a page from a place on are those of another page once this one's were written at those whose bit
+/// is set in a word. A word that marks all or none, as most do, takes no merging.
+pub(super) fn gives_word(page: &[u8], written: &[u8], first: usize, word: u64) -> bool
+    requires page { first + 64 ≤ length page.now }
+    requires written { first + 64 ≤ length written.now }
+    ensures { Decides result ((k : ℕ) → k < 64
+        → (if bit_at word k == 1 then slice_index written.now (first + k) else slice_index page.now (first + k))
+        ≡ slice_index written.now (first + k)) }
+{
+    if word == u64::MAX {
+        return true;
+    }
+    if word == 0 {
+        return page[first..first + WORD_PLACES] == written[first..first + WORD_PLACES];
+    }
+    let wanted = u8x64::from_slice(&written[first..]);
+    let before = u8x64::from_slice(&page[first..]);
+    let merged = select_marked(word, wanted, before).to_array();
+    merged.as_slice() == &written[first..first + WORD_PLACES]
 }

@@ -31,7 +31,7 @@ fn size_of_stored(delta: &PageDelta) -> u64
     let kept = delta.stored();
     kept.mask.whole();
     kept.page.bytes();
-    516 + marked_count(&kept.mask) as u64
+    516 + marked_count(kept.mask) as u64
 }
 
 /// How many bytes spell a record.

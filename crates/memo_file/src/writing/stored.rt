@@ -65,6 +65,6 @@ pub fn write_stored(out: &mut Vec<u8>, slots: &PageMap, delta: &PageDelta) -> Re
 {
     let stored = delta.stored();
     put_word(out, slots.page(delta.slot()).number())?;
-    write_mask(out, &stored.mask)?;
-    write_marked(out, &stored.mask, stored.page.bytes().as_slice())
+    write_mask(out, stored.mask)?;
+    write_marked(out, stored.mask, stored.page.bytes().as_slice())
 }

@@ -6,9 +6,9 @@ use Rattle.memo_file.proofs.writing.sizes.size_of_stored.Goals as goal
 
 pub returns-clause-size : goal.returns-clause-size
 returns-clause-size c =
-    let long : length c.stored-kept.result.now.mask ≤ length c.stored-kept.result.now.page =
+    let long : length c.stored-kept.result.mask.now ≤ length c.stored-kept.result.page.now =
     omega (arith, c.whole.ensures, c.bytes.ensures.whole) in
     ap (λ (n : ℕ). 516 + n)
     (c.marked_count.ensures.count
-    ∙ sym (length_chosen c.stored-kept.result.now.mask c.stored-kept.result.now.page long)
+    ∙ sym (length_chosen c.stored-kept.result.mask.now c.stored-kept.result.page.now long)
     ∙ sym (ap (λ (d : PageDelta). length d.bytes) c.stored-kept.ensures.delta))

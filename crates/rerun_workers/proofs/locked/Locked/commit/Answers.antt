@@ -58,7 +58,7 @@ invariant_of-self-in-Memory g c =
       past = search rules;
       follows =
           follows-given_up g.J.Naming.setup g.J.Naming.past c.commit_known.new.self c.give_up.new.round _
-          (subst (IsUnder g.J.Naming.setup g.J.Naming.past) (sym c.in-Memory.ensures.does.1)
+          (subst (IsUnder g.J.Naming.setup g.J.Naming.past) (sym c.in-Memory.ensures.does.2)
           (record {
             setup_is = c.args.self.now.setup;
             past_is = c.args.self.now.past;
