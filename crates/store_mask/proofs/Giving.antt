@@ -1,12 +1,12 @@
 -- A page that is another page once some of its bytes were written, word by word of a mask.
-use Rattle.std.proofs.Common.{◌≡◌, ℕ, ◌+◌, ◌-◌, ◌<◌, ◌≤◌, ◌==◌, Bool, false, cond, List, length, get_or, take, drop, Decides, inl, inr, ap, sym, ◌∙◌, arith, nat_eq}
-use Rattle.std.proofs.lemmas.Bool.{cases_lt}
-use Rattle.std.specs.Int.{bit_at}
+use Rattle.std.proofs.Common.{◌≡◌, ℕ, ◌+◌, ◌-◌, ◌%◌, ◌^◌, ◌<◌, ◌≤◌, ◌==◌, Bool, true, false, not, cond, List, length, map, get_or, take, drop, Decides, inl, inr, refl, ap, sym, ◌∙◌, arith, nat_eq, bit_and, w8, w64}
+use Rattle.std.proofs.lemmas.Bool.{cases_lt, eqb-true, eqb-false, eq-eqb}
+use Rattle.std.specs.Int.{bit_at, bit_not}
 use Rattle.std.specs.Str.{bytes_eq}
-use Rattle.std.specs.Simd.Lanes.{mask_l, chunk}
+use Rattle.std.specs.Simd.Lanes.{mask_l, chunk, zip2, top}
 use Rattle.std.proofs.lemmas.List.{ext_get_or}
-use Rattle.std.proofs.lemmas.Nat.Bits.{bit_at-zero, bit_at_ones}
-use Rattle.std.proofs.lemmas.Simd.{length-chunk, get_or-chunk}
+use Rattle.std.proofs.lemmas.Nat.Bits.{bit_at-zero, bit_at_ones, bit_at_and, bit_at_not, bit_at-lt, bit_at_above, same_from_bits}
+use Rattle.std.proofs.lemmas.Simd.{length-chunk, get_or-chunk, length-zip2, get_or-zip2, tops_compared, mask_l-mod, bit_mask_l}
 use Rattle.std.proofs.lemmas.Slice.Eq.{bytes_eq-Decides}
 use Rattle.record_spec.specs.Delta.{chosen, spread}
 use Rattle.record_spec.proofs.Merging.{merged, spread-chosen}
@@ -52,6 +52,85 @@ compared merged page written first word n answer fits long size each eq =
           let small : k < 64 = omega (arith, long, lt) in
           each k small ∙ gives k small ∙ sym (get_or-chunk first 64 written k 0 small))),
     )
+
+-- whether two lists of bytes differ at a place
+abbrev differ : ℕ → ℕ → Bool
+differ a b = not (nat_eq a b)
+
+as_bit : (b : Bool) → ◌≡◌ {A = ℕ} (cond (not b) 1 0) (cond b 0 1)
+as_bit true = refl
+as_bit false = refl
+
+-- the places at which they do, as the bits of a word
+pub differs_at :
+    (xs ys : List ℕ) (k : ℕ) → length xs ≡ 64 → length ys ≡ 64 → k < 64
+    → bit_at (mask_l (map (top 7) (zip2 (λ a b. cond (differ a b) 255 0) xs ys)) % 2 ^ 64) k
+    ≡ cond (nat_eq (get_or xs k 0) (get_or ys k 0)) 0 1
+differs_at xs ys k many same lt =
+    let long = length-zip2 differ xs ys (many ∙ sym same) in
+    ap (λ ms. bit_at (mask_l ms % 2 ^ 64) k) (tops_compared w8 differ xs ys)
+    ∙ ap (λ n. bit_at n k) (mask_l-mod (zip2 differ xs ys) 64 (omega (arith, long, many)))
+    ∙ bit_mask_l (zip2 differ xs ys) k
+    ∙ ap (λ b. cond b 1 0) (get_or-zip2 differ xs ys k 0 0 false (omega (arith, many, lt)) (omega (arith, same, lt)))
+    ∙ as_bit (nat_eq (get_or xs k 0) (get_or ys k 0))
+
+-- A word of the places at which two pages differ, from a place on.
+abbrev pub Differing : List ℕ → List ℕ → ℕ → ℕ → Type 0
+Differing page written first differs =
+    (k : ℕ) → k < 64
+    → bit_at differs k ≡ cond (get_or page (first + k) 0 == get_or written (first + k) 0) 0 1
+
+-- a place that isn't marked has the written byte, where no such place differs
+same_unmarked :
+    (page written : List ℕ) (first word differs k : ℕ) → Differing page written first differs → k < 64 → word < 2 ^ 64
+    → bit_and differs (bit_not w64 word) ≡ 0 → (marked : Bool) → (bit_at word k == 1) ≡ marked
+    → (same : Bool) → (get_or page (first + k) 0 == get_or written (first + k) 0) ≡ same
+    → cond marked (get_or written (first + k) 0) (get_or page (first + k) 0) ≡ get_or written (first + k) 0
+same_unmarked page written first word differs k each lt small none true is same equal = refl
+same_unmarked page written first word differs k each lt small none false is true equal = eqb-true _ _ equal
+same_unmarked page written first word differs k each lt small none false is false equal =
+    let bit : bit_at differs k ≡ 1 = each k lt ∙ ap (λ b. cond b 0 1) equal in
+    let free : bit_at (bit_not w64 word) k ≡ 1 - bit_at word k = bit_at_not w64 word k small lt in
+    let both = bit_at_and differs (bit_not w64 word) k in
+    let zero_here = ap (λ n. bit_at n k) none ∙ bit_at-zero k in
+    absurd (omega (arith, bit, free, both, zero_here, eqb-false _ _ is, bit_at-lt word k))
+
+-- no unmarked place differs, where all places have the written byte then
+none_differs :
+    (page written : List ℕ) (first word differs k : ℕ) → Differing page written first differs → k < 64 → word < 2 ^ 64
+    → GivesWord page written first word → (marked : Bool) → (bit_at word k == 1) ≡ marked
+    → bit_at (bit_and differs (bit_not w64 word)) k ≡ 0
+none_differs page written first word differs k each lt small gives true is =
+    let free : bit_at (bit_not w64 word) k ≡ 1 - bit_at word k = bit_at_not w64 word k small lt in
+    omega (arith, bit_at_and differs (bit_not w64 word) k, free, eqb-true _ _ is)
+none_differs page written first word differs k each lt small gives false is =
+    let equal : get_or page (first + k) 0 ≡ get_or written (first + k) 0 =
+    ap (λ b. cond b (get_or written (first + k) 0) (get_or page (first + k) 0)) (sym is) ∙ gives k lt in
+    let bit = each k lt ∙ ap (λ b. cond b 0 1) (eq-eqb _ _ equal) in
+    omega (arith, bit_at_and differs (bit_not w64 word) k, bit)
+
+none_beyond : (differs other k : ℕ) → differs < 2 ^ 64 → 64 ≤ k → bit_at (bit_and differs other) k ≡ 0
+none_beyond differs other k fits past = omega (arith, bit_at_and differs other k, bit_at_above differs 64 k fits past)
+
+-- the bytes that there are then, by the places at which they differ from the written ones
+pub given_marked :
+    (page written : List ℕ) (first word differs : ℕ) (answer : Bool)
+    → Differing page written first differs → word < 2 ^ 64 → differs < 2 ^ 64
+    → answer ≡ (bit_and differs (bit_not w64 word) == 0) → Decides answer (GivesWord page written first word)
+given_marked page written first word differs answer each small fits is = (
+  λ yes k lt.
+      same_unmarked page written first word differs k each lt small (eqb-true _ _ (sym is ∙ yes)) (bit_at word k == 1) refl
+      (get_or page (first + k) 0 == get_or written (first + k) 0) refl,
+  λ gives.
+      is
+      ∙ eq-eqb _ _ (same_from_bits (bit_and differs (bit_not w64 word)) 0 (λ k.
+      elim (cases_lt k 64) [
+        | inl lt ↦
+            none_differs page written first word differs k each lt small gives (bit_at word k == 1) refl
+            ∙ sym (bit_at-zero k)
+        | inr past ↦ none_beyond differs (bit_not w64 word) k fits past ∙ sym (bit_at-zero k)
+      ])),
+)
 
 -- the same at the first so many places of a page
 abbrev pub Gives : List Bool → List ℕ → List ℕ → ℕ → Type 0

@@ -15,7 +15,7 @@ use std::sync::Arc;
 
 /// Where a thread stored to a page, and the page as its own copy has it.
 #[derive(Clone, Copy)]
-pub struct Stored<'a> {
+pub struct OwnCopy<'a> {
     /// The page, with the stored bytes at the marked places. What stands at the others is no part of the stored bytes.
     pub page: &'a Page,
     /// The places that were stored to.
@@ -81,12 +81,12 @@ impl PageDelta {
 
     /// The places that were stored to, and a page with the stored bytes at them.
     #[inline(always)]
-    pub fn stored(&self) -> Stored<'_>
+    pub fn stored(&self) -> OwnCopy<'_>
         ensures delta { self.now
             ≡ delta_in self.now.slot (record { page = result.page.now; mask = result.mask.now }) }
         ensures some { is_stored result.mask.now ≡ true }
     {
-        Stored {
+        OwnCopy {
             page: &self.page,
             mask: &self.mask,
         }
@@ -112,6 +112,15 @@ impl PageDelta {
         if self.mask.gives_written(page.bytes(), self.page.bytes()) {
             return Arc::try_clone(&self.page);
         }
+        self.made(page)
+    }
+
+    /// A page made anew with the stored bytes written into another. It stands by itself, since its callers would clear
+    /// the room for it also where the own copy is the page.
+    #[inline(never)]
+    fn made(&self, page: &Page) -> Result<Arc<Page>, AllocError>
+        ensures { IfOk result (λ after. arc_value after ≡ spread self.now.mask self.now.bytes page.now) }
+    {
         let after = Arc::new(self.alloc, self.written(page))?;
         Ok(after)
     }

@@ -8,7 +8,7 @@ mod merging;
 mod reads;
 mod stored;
 
-pub use delta::{Delta, PageDelta, Stored};
+pub use delta::{Delta, OwnCopy, PageDelta};
 pub use mask::{MASK_WORDS, Mask};
 pub use reads::{ReadPage, Reads};
 pub use stored::StoredPage;

@@ -60,8 +60,21 @@ pub(super) fn merge_word(page: &mut [u8], written: &[u8], first: usize, word: u6
     select_marked(word, wanted, before).copy_to_slice(&mut page[first..]);
 }
 
+/// At which of 64 places from one on two pages differ, as a word whose lowest bit is the first place.
+#[inline(always)]
+fn differing(page: &[u8], written: &[u8], first: usize) -> u64
+    requires page { first + 64 ≤ length page.now }
+    requires written { first + 64 ≤ length written.now }
+    ensures { (k : ℕ) → k < 64 → bit_at result k
+        ≡ (if slice_index page.now (first + k) == slice_index written.now (first + k) then 0 else 1) }
+{
+    u8x64::from_slice(&page[first..])
+        .simd_ne(u8x64::from_slice(&written[first..]))
+        .to_bitmask()
+}
+
 /// Whether 64 bytes of a page from a place on are those of another page once this one's were written at those whose bit
-/// is set in a word. A word that marks all or none, as most do, takes no merging.
+/// is set in a word. A word that marks all or none, as most do, takes no look at single places.
 pub(super) fn gives_word(page: &[u8], written: &[u8], first: usize, word: u64) -> bool
     requires page { first + 64 ≤ length page.now }
     requires written { first + 64 ≤ length written.now }
@@ -75,8 +88,5 @@ pub(super) fn gives_word(page: &[u8], written: &[u8], first: usize, word: u64) -
     if word == 0 {
         return page[first..first + WORD_PLACES] == written[first..first + WORD_PLACES];
     }
-    let wanted = u8x64::from_slice(&written[first..]);
-    let before = u8x64::from_slice(&page[first..]);
-    let merged = select_marked(word, wanted, before).to_array();
-    merged.as_slice() == &written[first..first + WORD_PLACES]
+    differing(page, written, first) & !word == 0
 }

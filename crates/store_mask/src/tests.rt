@@ -65,3 +65,36 @@ fn words_have_the_first_place_lowest(rt: HostRuntime) {
     assert_eq!(rt; mask.word(2), 4);
     assert_eq!(rt; mask.word(63), 0x8000_0000_0000_0000);
 }
+
+/// Whether one's own copy of a page of ones, with twos at two places, is the page: `theirs` is what another thread stored
+/// at a place of the page meanwhile.
+fn is_own_copy(place: usize, theirs: u8) -> bool {
+    let mut mask = Mask::new();
+    mask.set(2);
+    mask.set(130);
+    let mut own = [1u8; 4096];
+    own[2] = 2;
+    own[130] = 2;
+    let mut page = [1u8; 4096];
+    if place < 4096 {
+        page[place] = theirs;
+    }
+    mask.gives_written(&page, &own)
+}
+
+#[test]
+fn own_copy_is_the_page_where_none_other_differs(rt: HostRuntime) {
+    assert!(rt; is_own_copy(0, 1));
+    for marked in [2usize, 130] {
+        assert!(rt;
+            is_own_copy(marked, 9),
+            "another byte at place {marked}, which is stored to"
+        );
+    }
+    for unmarked in [0usize, 3, 63, 64, 127, 129, 131, 4095] {
+        assert!(rt;
+            !is_own_copy(unmarked, 9),
+            "another byte at place {unmarked}"
+        );
+    }
+}

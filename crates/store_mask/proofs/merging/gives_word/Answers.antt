@@ -1,9 +1,8 @@
 -- Answers to the goals that the check leaves of `gives_word`.
-use Rattle.std.proofs.Common.{◌≡◌, ◌+◌, ◌-◌, ◌==◌, arith, ap, cond, ◌∙◌, length, get_or, take, drop, refl}
-use Rattle.std.specs.Int.{bit_at}
-use Rattle.std.specs.Simd.Lanes.{chunk}
+use Rattle.std.proofs.Common.{◌≡◌, ◌+◌, ◌-◌, arith, ap, ◌∙◌, length, get_or, take, drop, refl, nat_eq, bit_and, w64}
+use Rattle.std.specs.Int.{bit_not}
 use Rattle.std.proofs.lemmas.Simd.{length-chunk, get_or-chunk}
-use Rattle.store_mask.proofs.Giving.{given_all, given_none, compared}
+use Rattle.store_mask.proofs.Giving.{given_all, given_none, given_marked, compared}
 use Rattle.store_mask.proofs.merging.gives_word.Goals as goal
 
 pub returns-then-word-eq18446744073709551615 : goal.returns-then-word-eq18446744073709551615
@@ -26,23 +25,8 @@ returns-then-word-eq0 c =
     ∙ given_none page written first c.args.word k c.if-word-eq0.true)
     c.eq.ensures
 
-pub select_marked-requires-clause-written : goal.select_marked-requires-clause-written
-select_marked-requires-clause-written c = length-chunk c.args.first 64 c.args.written.now c.requires.written
-
-pub select_marked-requires-clause-page : goal.select_marked-requires-clause-page
-select_marked-requires-clause-page c = length-chunk c.args.first 64 c.args.page.now c.requires.page
-
 pub returns : goal.returns
 returns c =
-    let first = c.args.first in
-    let page = c.args.page.now in
-    let written = c.args.written.now in
-    let size : first + 64 - first ≡ 64 = omega arith in
-    compared c.as_slice.result.now page written first c.args.word (first + 64 - first) c.eq-2.result c.requires.written
-    (ap length c.as_slice.ensures ∙ c.select_marked.ensures.lanes) size
-    (λ k lt.
-    ap (λ l. get_or l k 0) c.as_slice.ensures
-    ∙ c.select_marked.ensures.each k lt
-    ∙ ap (λ n. cond (bit_at c.args.word k == 1) n (get_or (chunk first 64 page) k 0)) (get_or-chunk first 64 written k 0 lt)
-    ∙ ap (λ n. cond (bit_at c.args.word k == 1) (get_or written (first + k) 0) n) (get_or-chunk first 64 page k 0 lt))
-    c.eq-2.ensures
+    given_marked c.args.page.now c.args.written.now c.args.first c.args.word c.differing.result
+    (nat_eq (bit_and c.differing.result (bit_not w64 c.args.word)) 0) c.differing.ensures c.ranges.word.fits
+    c.differing.type_inv refl
