@@ -8,7 +8,7 @@ ghost use Rattle.record_spec.specs.Record.{put_of};
 
 use page_commit::committed_page;
 use page_map::PageMap;
-use page_store::{Page, PageTable};
+use page_store::{PAGE_SIZE, Page, PageTable};
 use std::alloc::{AllocError, Global};
 use thunk_record::Record;
 use thunk_run::{Range, put_range};
@@ -43,18 +43,15 @@ fn bytes_of(
     ensures { IfOk result (λ bytes. bytes.items
         ≡ bytes_at map.now (masked view.now rec.now.kept.delta) (range_with_len range.start range.len)) }
 {
+    let offset = (range.start % 4096) as usize;
+    let count = range.len as usize;
+    let on_first = count.min(PAGE_SIZE - offset);
+    let mut bytes = Vec::with_capacity(alloc, count)?;
     let first = page_at(map, view, rec, range.start);
-    let last = page_at(map, view, rec, range.start + (range.len - 1));
-    let mut bytes = Vec::with_capacity(alloc, range.len as usize)?;
-    for k in 0..range.len {
-        let address = range.start + k;
-        let offset = (address % 4096) as usize;
-        let byte = if address / 4096 == range.start / 4096 {
-            first.get(offset)
-        } else {
-            last.get(offset)
-        };
-        bytes.push(byte)?;
+    bytes.extend_from_slice(&first.bytes()[offset..offset + on_first])?;
+    if on_first < count {
+        let last = page_at(map, view, rec, range.start + (range.len - 1));
+        bytes.extend_from_slice(&last.bytes()[..count - on_first])?;
     }
     Ok(bytes)
 }

@@ -27,23 +27,15 @@ const STACK_PAGE: u32 = 0xD0000;
 /// How many pages all stacks have.
 const STACK_PAGES: u32 = 512;
 
-/// The byte of the input at a place, or zero past its end.
-fn byte_at(input: &[u8], place: usize) -> u8
-    ensures { result ≡ slice_index input.now place }
-{
-    if place < input.len() { input[place] } else { 0 }
-}
-
 /// The page of the input of this number, zero past its end.
 fn input_page(input: &[u8], k: usize) -> [u8; 4096]
     requires { k < 256 }
     ensures { result ≡ setup.input_page input.now k }
 {
     let mut page = [0; 4096];
-    let start = 4096 * k;
-    for offset in 0..4096 {
-        page[offset] = byte_at(input, start + offset);
-    }
+    let start = input.len().min(4096 * k);
+    let end = input.len().min(4096 * k + 4096);
+    page[..end - start].copy_from_slice(&input[start..end]);
     page
 }
 
