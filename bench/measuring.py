@@ -1,6 +1,7 @@
 """For the benches beside this file: runs of the program, their processor time and their peak memory; and the pages of a
 guest."""
 import os
+import re
 import shutil
 import struct
 import subprocess
@@ -13,6 +14,15 @@ PAGE = 4096
 MACHINE_PAGES = 769  # of each guest: the input's header, the input and the stacks
 
 
+def environment():
+    """What `./ithreads` tells the C library: its way of taking memory, which tools/launch names."""
+    with open(os.path.join(ROOT, "tools/launch")) as file:
+        return {**os.environ, "GLIBC_TUNABLES": re.search(r"glibc\.malloc\.\w+=\w+", file.read())[0]}
+
+
+ENVIRONMENT = environment()
+
+
 def once(folder, words):
     """The processor seconds and the peak KiB of one run, whose report goes to the file `report` of a folder.
 
@@ -21,7 +31,7 @@ def once(folder, words):
     peak = os.path.join(folder, "peak")
     with open(os.path.join(folder, "report"), "wb") as report:
         told_by = ["time", "-q", "-f", "%M", "-o", peak]
-        child = subprocess.Popen([*told_by, PROGRAM, *words], stdin=subprocess.DEVNULL, stdout=report)
+        child = subprocess.Popen([*told_by, PROGRAM, *words], stdin=subprocess.DEVNULL, stdout=report, env=ENVIRONMENT)
         _, status, usage = os.wait4(child.pid, 0)
     if status:
         sys.exit(f"{' '.join(words)}: status {os.waitstatus_to_exitcode(status)}")
