@@ -19,7 +19,8 @@ echo "$(basename "$PWD") $*" >>"$FAKE/words"
 cat "$FAKE/run" >&2
 [ -f "$FAKE/program" ] && mkdir -p out && cp "$FAKE/program" out/ithreads_cli
 """
-PROGRAM = '#!/bin/sh\necho "program $*"\nexit 7\n'
+PROGRAM = '#!/bin/sh\necho "program $*"\necho "$GLIBC_TUNABLES"\nexit 7\n'
+TUNABLE = "glibc.malloc.top_pad=65536"  # that the caller sets
 BEFORE = """logic /kit/antt-project.json: libraries=16 files=2756 sum=da
 statements core: modules loaded=0 checked=0
 only=0 proved=0
@@ -60,15 +61,17 @@ def tried(checks, what, lines, made, path=None):
         (place / name).chmod(0o755)
     path = f"{place}:{os.environ['PATH']}" if path is None else path
     how = {"stdin": subprocess.DEVNULL, "capture_output": True, "text": True, "timeout": SECONDS, "check": False}
-    where = {**os.environ, "PATH": path, "FAKE": str(place)}
+    where = {**os.environ, "PATH": path, "FAKE": str(place), "GLIBC_TUNABLES": TUNABLE}
     done = subprocess.run([place / "ithreads", "show", "two words"], env=where, **how)
     return done.returncode, done.stdout, done.stderr.split("\n"), (place / "words").read_text().split("\n")
 
 
 def check_built(checks, what, lines, wanted):
-    """Between the first line and the last are the wanted ones; then the program has the words."""
+    """Between the first line and the last are the wanted ones; then the program has the words, and the C library is asked
+    for large pages, and for what the caller asks it."""
     status, printed, said, words = tried(checks, what, lines, True)
-    checks.expect(f"{what}: the program runs: {status} {printed}", (status, printed) == (7, "program show two words\n"))
+    wanted_of_it = f"program show two words\nglibc.malloc.hugetlb=1:{TUNABLE}\n"
+    checks.expect(f"{what}: the program runs: {status} {printed}", (status, printed) == (7, wanted_of_it))
     checks.expect(f"{what}: the first line has the number of crates: {said[0]}",
                   said[0].startswith("ithreads: ") and f" {len(crates_below())} crates " in said[0])
     checks.expect(f"{what}: the lines between: {said[1:-2]}", said[1:-2] == wanted)
