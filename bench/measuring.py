@@ -17,7 +17,7 @@ MACHINE_PAGES = 769  # of each guest: the input's header, the input and the stac
 def environment():
     """What `./ithreads` tells the C library: its way of taking memory, which tools/launch names."""
     with open(os.path.join(ROOT, "tools/launch")) as file:
-        return {**os.environ, "GLIBC_TUNABLES": re.search(r"glibc\.malloc\.\w+=\w+", file.read())[0]}
+        return {**os.environ, "GLIBC_TUNABLES": re.search(r'GLIBC_TUNABLES="([^"$]+)', file.read())[1]}
 
 
 ENVIRONMENT = environment()

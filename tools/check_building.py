@@ -68,9 +68,9 @@ def tried(checks, what, lines, made, path=None):
 
 def check_built(checks, what, lines, wanted):
     """Between the first line and the last are the wanted ones; then the program has the words, and the C library is asked
-    for large pages, and for what the caller asks it."""
+    for one heap of large pages, and for what the caller asks it."""
     status, printed, said, words = tried(checks, what, lines, True)
-    wanted_of_it = f"program show two words\nglibc.malloc.hugetlb=1:{TUNABLE}\n"
+    wanted_of_it = f"program show two words\nglibc.malloc.hugetlb=1:glibc.malloc.arena_max=1:{TUNABLE}\n"
     checks.expect(f"{what}: the program runs: {status} {printed}", (status, printed) == (7, wanted_of_it))
     checks.expect(f"{what}: the first line has the number of crates: {said[0]}",
                   said[0].startswith("ithreads: ") and f" {len(crates_below())} crates " in said[0])
