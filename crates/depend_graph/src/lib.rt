@@ -13,6 +13,3 @@ mod threads;
 
 pub use fact::Fact;
 pub use graph::{Graph, MOST_FACTS};
-
-#[cfg(test)]
-mod tests;

@@ -11,6 +11,3 @@ pub use apply::ApplyError;
 pub use edits::Edits;
 pub use number::number_of;
 pub use parser::{ParseError, parse};
-
-#[cfg(test)]
-mod tests;

@@ -10,6 +10,3 @@ mod refusals;
 
 pub use loader::{Image, LoadError, load};
 pub use refusals::refusal;
-
-#[cfg(test)]
-mod tests;

@@ -34,6 +34,3 @@ pub fn list_says_its_edit()
 pub fn edit_is_done()
     ensures { (number : ℕ) → edited (edits_of number) (input_of number) ≡ Ok (next_of number) }
 {}
-
-#[cfg(test)]
-mod tests;

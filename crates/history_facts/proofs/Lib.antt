@@ -1,5 +1,4 @@
 -- The lemmas of this crate.
 pub mod Laying
 pub mod Coming
-pub mod Mapped
 pub mod Outlining

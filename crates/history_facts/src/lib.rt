@@ -86,6 +86,3 @@ pub fn facts(alloc: Global, history: &History) -> Result<Vec<Fact>, AllocError>
         by_laying(alloc, history)
     }
 }
-
-#[cfg(test)]
-mod tests;

@@ -6,6 +6,3 @@ mod out;
 
 pub use cursor::{Cursor, Short};
 pub use out::Out;
-
-#[cfg(test)]
-mod tests;

@@ -1,4 +1,3 @@
 -- The files of lemmas of this crate.
 pub mod Addresses
 pub mod Entries
-pub mod Mapped

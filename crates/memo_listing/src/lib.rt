@@ -8,6 +8,3 @@ mod whole;
 
 pub use pages::addresses_of;
 pub use whole::listing;
-
-#[cfg(test)]
-mod tests;

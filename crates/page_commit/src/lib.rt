@@ -61,6 +61,3 @@ pub fn committed_page(table: &PageTable, delta: &Delta, slot: usize) -> Page
     }
     table.page(slot).copy()
 }
-
-#[cfg(test)]
-mod tests;

@@ -11,6 +11,3 @@ mod working;
 pub use pages::{MappedPage, PageMap, Slot};
 pub use permission::Perm;
 pub use working::Mem;
-
-#[cfg(test)]
-mod tests;

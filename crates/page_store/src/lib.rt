@@ -9,6 +9,3 @@ mod table;
 pub use memory_spec::PAGE_SIZE;
 pub use page::Page;
 pub use table::PageTable;
-
-#[cfg(test)]
-mod tests;

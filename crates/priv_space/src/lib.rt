@@ -20,6 +20,3 @@ pub fn delta_is_of_the_stores()
         → IsMemory map view
         → delta_from 0 (marked map (on_each no_marks map) stores) (laid map view stores) ≡ delta_of map stores }
 {}
-
-#[cfg(test)]
-mod tests;

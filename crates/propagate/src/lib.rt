@@ -15,6 +15,3 @@ pub use alone::run_alone;
 pub use driving::drive;
 pub use events::Committed;
 pub use round::Round;
-
-#[cfg(test)]
-mod tests;

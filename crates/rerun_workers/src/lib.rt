@@ -14,6 +14,3 @@ pub use locked::{Landed, Locked, Task};
 pub use naming::{Naming, Pass};
 pub use running::run_round;
 pub use working::work;
-
-#[cfg(test)]
-mod tests;

@@ -8,6 +8,3 @@ mod refusal;
 pub use coming::Inputs;
 pub use inputs::inputs_of;
 pub use refusal::{InputsError, Why};
-
-#[cfg(test)]
-mod tests;

@@ -14,6 +14,3 @@ pub use one_line::short;
 pub use replay::replayed;
 pub use report::text;
 pub use told::Told;
-
-#[cfg(test)]
-mod tests;

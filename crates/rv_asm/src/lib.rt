@@ -7,6 +7,3 @@ mod item;
 pub use guest::elf;
 pub use isa_spec::Instr;
 pub use item::Item;
-
-#[cfg(test)]
-mod tests;

@@ -32,6 +32,3 @@ pub fn schedule_line_says_its_threads()
         → All (λ t. t < THREADS) (threads_of schedule)
         → Says (flat_map (λ (e : Entry). space ++ entry_text e) schedule ++ newline) (Ok (threads_of schedule)) }
 {}
-
-#[cfg(test)]
-mod tests;

@@ -12,6 +12,3 @@ pub use delta::{Delta, OwnCopy, PageDelta};
 pub use mask::{MASK_WORDS, Mask};
 pub use reads::{ReadPage, Reads};
 pub use stored::StoredPage;
-
-#[cfg(test)]
-mod tests;

@@ -136,6 +136,3 @@ impl Barriers {
         )
     }
 }
-
-#[cfg(test)]
-mod tests;

@@ -201,6 +201,3 @@ impl Objects {
         acting::acts_on(&self.tables.conditions, call)
     }
 }
-
-#[cfg(test)]
-mod tests;

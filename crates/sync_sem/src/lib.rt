@@ -180,6 +180,3 @@ impl Semaphores {
         )
     }
 }
-
-#[cfg(test)]
-mod tests;

@@ -12,8 +12,3 @@ pub use job::{Job, Run};
 pub use put::{Range, appends_all, put_range};
 pub use running::{execute, execute_watched};
 pub use watch::{LONG_TURNS, Unwatched, Watch};
-
-#[cfg(test)]
-mod random_guests;
-#[cfg(test)]
-mod tests;

@@ -91,6 +91,3 @@ impl Clock {
         self.counts[usize::from(t)] += 1;
     }
 }
-
-#[cfg(test)]
-mod tests;

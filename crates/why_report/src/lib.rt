@@ -10,6 +10,3 @@ mod walking;
 pub use reason::{Cause, Reason};
 pub use telling::text;
 pub use walking::reasons;
-
-#[cfg(test)]
-mod tests;

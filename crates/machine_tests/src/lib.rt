@@ -1,0 +1,9 @@
+//! The loader and the loop of turns, tried through their public calls.
+#![tactic(auto)]
+
+#[cfg(test)]
+mod executables;
+#[cfg(test)]
+mod random_guests;
+#[cfg(test)]
+mod thunks;

@@ -1,0 +1,9 @@
+//! The tables of objects, tried through their public calls.
+#![tactic(auto)]
+
+#[cfg(test)]
+mod barriers;
+#[cfg(test)]
+mod objects;
+#[cfg(test)]
+mod semaphores;

@@ -1,8 +1,0 @@
--- The ledger and the names of the board of `a_job_that_fails_ends_the_round`.
-use Rattle.rerun_workers.proofs.tests.a_job_that_fails_ends_the_round.Given as goal
-
-abbrev pub ghosts-failed-J-Ledger : goal.ghosts-failed-J-Ledger
-ghosts-failed-J-Ledger g a = record { name = a.blank.name; parts = a.blank.parts }
-
-abbrev pub ghosts-failed-J-Naming : goal.ghosts-failed-J-Naming
-ghosts-failed-J-Naming g a = record { setup = a.round.setup; past = a.round.past; workers = 2 }

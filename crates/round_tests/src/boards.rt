@@ -1,0 +1,247 @@
+//! Boards of a guest of two steps: `hi`, which puts out 3 bytes by 5 instructions and exits by 3 more. Its
+//! file is written byte by byte from the System V gABI and the ISA's text, and what follows is by hand.
+
+ghost use Rattle.std.specs.Prelude.{◌≡◌, IfOk};
+ghost use Rattle.round_spec.specs.Rounds.{opening};
+
+use ith_host::{Gate, OpenGate};
+use machine_spec::{End, Limits};
+use propagate::Round;
+use release_core::Setup;
+use rerun_workers::board::Board;
+use rerun_workers::locked::{Landed, Task};
+use rerun_workers::naming::{Naming, Pass};
+use rerun_workers::running::run_round;
+use rerun_workers::working::run_job;
+use std::alloc::Global;
+use std::marker::Brand;
+use std::process::Abort;
+use std::sync::atomic::{AtomicU64, Ordering};
+use std::sync::ledger::Blank;
+use std::sync::{Arc, Wait};
+use std::test::Fail;
+use std::thread::Threads;
+use thunk_run::{Job, Run, Unwatched};
+
+/// lui a0,0x10; addi a0,a0,0x20; addi a1,x0,3; addi a7,x0,1; ecall; addi a0,x0,0; addi a7,x0,0;
+/// ecall; and "hi\n", in one segment at 0x10000.
+const HI: [u8; 119] = [
+    0x7f, 0x45, 0x4c, 0x46, 0x01, 0x01, 0x01, 0x00, 0x00, 0x00, 0x00, 0x00, 0x00, 0x00, 0x00, 0x00,
+    0x02, 0x00, 0xf3, 0x00, 0x01, 0x00, 0x00, 0x00, 0x00, 0x00, 0x01, 0x00, 0x34, 0x00, 0x00, 0x00,
+    0x00, 0x00, 0x00, 0x00, 0x00, 0x00, 0x00, 0x00, 0x34, 0x00, 0x20, 0x00, 0x01, 0x00, 0x00, 0x00,
+    0x00, 0x00, 0x00, 0x00, 0x01, 0x00, 0x00, 0x00, 0x54, 0x00, 0x00, 0x00, 0x00, 0x00, 0x01, 0x00,
+    0x00, 0x00, 0x01, 0x00, 0x23, 0x00, 0x00, 0x00, 0x23, 0x00, 0x00, 0x00, 0x07, 0x00, 0x00, 0x00,
+    0x04, 0x00, 0x00, 0x00, 0x37, 0x05, 0x01, 0x00, 0x13, 0x05, 0x05, 0x02, 0x93, 0x05, 0x30, 0x00,
+    0x93, 0x08, 0x10, 0x00, 0x73, 0x00, 0x00, 0x00, 0x13, 0x05, 0x00, 0x00, 0x93, 0x08, 0x00, 0x00,
+    0x73, 0x00, 0x00, 0x00, 0x68, 0x69, 0x0a,
+];
+
+/// The setup of the guest with no input and with so much fuel.
+fn setup(alloc: Global, fuel: u32) -> Result<Setup, Fail> {
+    let elf = Vec::from_array(alloc, HI)?;
+    match Limits::new(fuel, 4096) {
+        Some(limits) if elf.len() <= 4096 => {
+            match Setup::new(alloc, elf, Vec::new(alloc), limits) {
+                Ok(setup) => Ok(setup),
+                Err(_) => Err(Fail::new("the guest isn't taken")),
+            }
+        }
+        _ => Err(Fail::new("the limits aren't taken")),
+    }
+}
+
+/// A round of the guest before its first step, with so much fuel.
+fn opened(alloc: Global, fuel: u32) -> Result<Round, Fail>
+    ensures { IfOk result (λ round. round ≡ opening round.setup round.past) }
+{
+    Ok(Round::new(alloc, setup(alloc, fuel)?, None)?)
+}
+
+/// The step that a worker is told to execute.
+fn begun<J: Naming, R: Wait>(rt: &R, board: &Board<J>, pass: &mut Pass<J>) -> Result<Job, Fail> {
+    match board.next(rt, pass) {
+        Task::Begin(job) => Ok(job),
+        _ => Err(Fail::new("there is no step to execute")),
+    }
+}
+
+/// The run of the first step of a round.
+fn first_run<J: Naming, R: Threads + Wait>(
+    rt: &R,
+    alloc: Global,
+    round: Round,
+    blank: Blank,
+) -> Result<Run, Fail>
+    requires name { blank.name ≡ J.name }
+    requires parts { (blank.parts ≡ J.parts) × (J.parts ≡ 1) }
+    requires workers { J.workers ≡ 1 }
+    requires opening { round ≡ opening J.setup J.past }
+{
+    let (board, mut passes) = Board::<J>::new(alloc, round, 1, blank)?;
+    let job = begun(rt, &board, &mut passes[0])?;
+    Ok(run_job(rt, alloc, &job, &Unwatched)?)
+}
+
+/// Hands in a run that can't be committed, and takes it back.
+fn handed_back<J: Naming, R: Wait>(
+    rt: &R,
+    board: &Board<J>,
+    pass: &mut Pass<J>,
+    run: Run,
+) -> Result<Run, Fail> {
+    match board.commit(rt, pass, run) {
+        Landed::Stale(back) => Ok(back),
+        _ => Err(Fail::new("the run isn't stale")),
+    }
+}
+
+/// Makes the step that a worker is told to execute.
+fn make_next<J: Naming, R: Threads + Wait>(
+    rt: &R,
+    alloc: Global,
+    board: &Board<J>,
+    pass: &mut Pass<J>,
+) -> Result<(), Fail> {
+    let job = begun(rt, board, pass)?;
+    let run = run_job(rt, alloc, &job, &Unwatched)?;
+    match board.commit(rt, pass, run) {
+        Landed::Done => Ok(()),
+        _ => Err(Fail::new("the run isn't committed")),
+    }
+}
+
+/// The round after a foreign run was handed in while its thread was out, and then the step of the job that comes next;
+/// with the run that came back.
+fn after_foreign_run<J: Naming, R: Threads + Wait>(
+    rt: &R,
+    alloc: Global,
+    round: Round,
+    foreign: Run,
+    blank: Blank,
+) -> Result<(Round, Run), Fail>
+    requires name { blank.name ≡ J.name }
+    requires parts { (blank.parts ≡ J.parts) × (J.parts ≡ 1) }
+    requires workers { J.workers ≡ 1 }
+    requires opening { round ≡ opening J.setup J.past }
+{
+    let (board, mut passes) = Board::<J>::new(alloc, round, 1, blank)?;
+    let _taken = begun(rt, &board, &mut passes[0])?;
+    let back = handed_back(rt, &board, &mut passes[0], foreign)?;
+    make_next(rt, alloc, &board, &mut passes[0])?;
+    let (round, _shares) = board.close(passes);
+    Ok((round, back))
+}
+
+#[test]
+fn a_run_of_another_setup_is_stale(rt: HostRuntime) -> Result<(), Fail> {
+    let alloc = rt.alloc();
+    let run = first_run::<Brand, _>(&rt, alloc, opened(alloc, 999_999)?, Blank::new(1))?;
+    let (round, back) = after_foreign_run::<Brand, _>(
+        &rt,
+        alloc,
+        opened(alloc, 1_000_000)?,
+        run,
+        Blank::new(1),
+    )?;
+    assert_eq!(&rt; back.rec.count(), 5);
+    assert_eq!(&rt; round.schedule().len(), 1);
+    assert_eq!(&rt; round.instructions(), 5);
+    assert_eq!(&rt; round.discarded(), 1);
+    assert!(&rt; !round.stopped());
+    Ok(())
+}
+
+/// The round of two workers, of which one can't execute the second step.
+fn failed<J: Naming, R: Threads + Wait>(
+    rt: &R,
+    alloc: Global,
+    round: Round,
+    blank: Blank,
+) -> Result<(Round, Vec<u64>), Fail>
+    requires name { blank.name ≡ J.name }
+    requires parts { (blank.parts ≡ J.parts) × (J.parts ≡ 2) }
+    requires workers { J.workers ≡ 2 }
+    requires opening { round ≡ opening J.setup J.past }
+{
+    let (board, mut passes) = Board::<J>::new(alloc, round, 2, blank)?;
+    make_next(rt, alloc, &board, &mut passes[1])?;
+    let job = begun(rt, &board, &mut passes[0])?;
+    board.fail(rt, &mut passes[0], job);
+    for pass in passes.as_mut_slice() {
+        match board.next(rt, pass) {
+            Task::Over => {}
+            _ => return Err(Fail::new("the round isn't over")),
+        }
+    }
+    Ok(board.close(passes))
+}
+
+#[test]
+fn a_job_that_fails_ends_the_round(rt: HostRuntime) -> Result<(), Fail> {
+    let alloc = rt.alloc();
+    let (round, shares) = failed::<Brand, _>(&rt, alloc, opened(alloc, 1_000_000)?, Blank::new(2))?;
+    assert_eq!(&rt; round.schedule().len(), 1);
+    assert_eq!(&rt; round.discarded(), 1);
+    assert!(&rt; round.stopped());
+    assert!(&rt; round.end() == None);
+    assert!(&rt; shares.as_slice() == [0, 1].as_slice());
+    Ok(())
+}
+
+/// Compares the marks of a round, whose steps are all of thread 0, and what it put out.
+fn compare<R: Abort>(rt: &R, round: &Round, shares: &[u64], workers: usize, reused: bool) {
+    assert_eq!(rt; round.schedule().len(), 2);
+    for entry in round.schedule() {
+        assert_eq!(rt; entry.thread, 0);
+        assert_eq!(rt; entry.reused, reused);
+    }
+    assert_eq!(rt; round.instructions(), if reused { 0 } else { 8 });
+    assert_eq!(rt; round.discarded(), 0);
+    assert!(rt; round.end() == Some(End::Exit(0)));
+    assert!(rt; round.output() == b"hi\n".as_slice());
+    let mut steps: u64 = 0;
+    for share in shares {
+        steps = steps.saturating_add(*share);
+    }
+    assert_eq!(rt; shares.len(), workers);
+    assert_eq!(rt; steps, 2);
+}
+
+#[test]
+fn four_workers_make_a_round(rt: HostRuntime) -> Result<(), Fail> {
+    let alloc = rt.alloc();
+    let (round, shares) = run_round(&rt, alloc, setup(alloc, 1_000_000)?, None, 4, &OpenGate)?;
+    compare(&rt, &round, shares.as_slice(), 4, false);
+    Ok(())
+}
+
+/// A gate that counts who passes.
+#[derive(Drop)]
+struct Counter {
+    passed: AtomicU64,
+}
+
+impl Gate for Counter {
+    fn enter(&self, _thread: u8, _number: u32) {
+        self.passed.fetch_add(1, Ordering::SeqCst);
+    }
+}
+
+#[test]
+fn without_an_edit_nobody_passes_the_gate(rt: HostRuntime) -> Result<(), Fail> {
+    let alloc = rt.alloc();
+    let gate = Counter {
+        passed: AtomicU64::new(0),
+    };
+    let mut past = None;
+    for (passed, reused) in [(2, false), (2, true), (2, true)] {
+        let (round, shares) = run_round(&rt, alloc, setup(alloc, 1_000_000)?, past, 2, &gate)?;
+        compare(&rt, &round, shares.as_slice(), 2, reused);
+        assert_eq!(&rt; gate.passed.load(Ordering::SeqCst), passed);
+        past = match round.into_history() {
+            Some(left) => Some(Arc::new(alloc, left)?),
+            None => return Err(Fail::new("nothing is left")),
+        };
+    }
+    Ok(())
+}

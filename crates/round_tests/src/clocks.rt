@@ -1,0 +1,19 @@
+//! Each call once.
+
+use std::test::Fail;
+use vclock::*;
+
+#[test]
+fn clocks_tick_join_and_cover(rt: HostRuntime) -> Result<(), Fail> {
+    let mut clock = Clock::zero();
+    clock.tick(3);
+    let mut other = Clock::new([2; THREADS]);
+    assert!(rt; other.covers(&clock));
+    assert!(rt; !clock.covers(&other));
+    other.tick(31);
+    clock.join(&other);
+    assert_eq!(rt; clock, other);
+    assert_eq!(rt; clock.count(0), 2);
+    assert_eq!(rt; clock.count(31), 3);
+    Ok(())
+}

@@ -1,0 +1,89 @@
+//! The report of a guest that puts out three bytes.
+
+use machine_spec::End;
+use page_store::{PAGE_SIZE, Page, PageTable};
+use report_spec::Entry;
+use round_report::{Told, text};
+use std::alloc::{AllocError, Global};
+use std::test::Fail;
+
+/// The guest's segment: `lui a0, 0x10; addi a0, a0, 0x20; addi a1, x0, 3; addi a7, x0, 1; ecall;
+/// addi a0, x0, 0; addi a7, x0, 0; ecall`, and then `hi` and a newline.
+const SEGMENT: [u8; 35] = [
+    0x37, 0x05, 0x01, 0x00, 0x13, 0x05, 0x05, 0x02, 0x93, 0x05, 0x30, 0x00, 0x93, 0x08, 0x10, 0x00,
+    0x73, 0x00, 0x00, 0x00, 0x13, 0x05, 0x00, 0x00, 0x93, 0x08, 0x00, 0x00, 0x73, 0x00, 0x00, 0x00,
+    b'h', b'i', b'\n',
+];
+
+/// The guest's memory at its end: its page, the header of an empty input, 256 pages of input, and
+/// 512 of stacks. No store was made, so that all but the first are zeros.
+fn last_memory(alloc: Global) -> Result<PageTable, AllocError> {
+    let mut bytes = [0; PAGE_SIZE];
+    bytes[..35].copy_from_slice(&SEGMENT);
+    let mut memory = PageTable::empty(alloc);
+    memory.push(Page::new(bytes))?;
+    for _ in 0..769 {
+        memory.push(Page::zero())?;
+    }
+    Ok(memory)
+}
+
+// The digest is Python's:
+// hashlib.sha256(segment + bytes(4096 - 35) + bytes(4096 * 769)).hexdigest().
+#[test]
+fn report_of_hi(rt: HostRuntime) -> Result<(), Fail> {
+    let alloc = rt.alloc();
+    let memory = last_memory(alloc)?;
+    let executed = Entry {
+        thread: 0,
+        reused: false,
+    };
+    let told = Told {
+        ending: Some(End::Exit(0)),
+        schedule: &[executed, executed],
+        reached: None,
+        instructions: 8,
+        shares: &[2],
+        memory: &memory,
+        output: b"hi\n",
+    };
+    let mut digested = None;
+    let report = text(alloc, 0, &told, &mut digested)?;
+    let again = text(alloc, 0, &told, &mut digested)?;
+    let expected = "round 0
+end exit 0
+steps 2
+reused 0
+executed 2
+instructions 8
+by 2
+schedule 0+ 0+
+memory e067f7df6c32cd794e71b125b718964257c850acbbafd68793e5e4808bcb3984
+output 3
+hi
+
+";
+    assert_eq!(rt; report.as_slice(), expected.as_bytes());
+    assert_eq!(rt; again.as_slice(), expected.as_bytes());
+    let told = Told {
+        reached: Some(5),
+        ..told
+    };
+    let with_reach = text(alloc, 0, &told, &mut digested)?;
+    let expected = "round 0
+end exit 0
+steps 2
+reused 0
+executed 2
+reached 5
+instructions 8
+by 2
+schedule 0+ 0+
+memory e067f7df6c32cd794e71b125b718964257c850acbbafd68793e5e4808bcb3984
+output 3
+hi
+
+";
+    assert_eq!(rt; with_reach.as_slice(), expected.as_bytes());
+    Ok(())
+}
