@@ -99,6 +99,7 @@ class Machine:
         for start in range(0, len(given), PAGE):
             self.shared[HEADER + 1 + start // PAGE] = given[start:start + PAGE].ljust(PAGE, b"\0")
         self.threads, self.instructions = [], 0
+        self.is_single, self.on_store = False, None  # each turn by itself; called with a thread and a page, once a step
         self.owner, self.queues, self.mutex_of = {}, {}, {}
         self.values, self.needed = [0] * OBJECTS, [0] * OBJECTS
         self.begin(image.entry, HEADER * PAGE)
@@ -122,7 +123,7 @@ class Machine:
         thread = self.threads[number]
         own, end, cause = {}, "fuel", None
         try:
-            pc, count = self.turns(thread, own)
+            pc, count = self.turns(number, own)
             end = "call" if pc < 0 else "fuel"
             thread.pc = ~pc if pc < 0 else pc
         except Trap as trap:
@@ -152,8 +153,9 @@ class Machine:
         elif self.ended is None and len(self.steps) == self.limit:
             self.ended = "spent"
 
-    def turns(self, thread, own):
+    def turns(self, number, own):
         """Executes up to a call, or until the fuel is used up: the pc, and how many turns."""
+        thread = self.threads[number]
         words, pages, view, rights, fuel = {}, {}, thread.view, self.image.rights, self.fuel
 
         def load(page, pc, turns):
@@ -170,6 +172,8 @@ class Machine:
             own[page] = made = memoryview(data).cast("I"), memoryview(mask).cast("I"), data, mask
             if rights[page] & READ:
                 words[page], pages[page] = made[0], data
+            if self.on_store:
+                self.on_store(number, page)
             return made
 
         blocks, pc, count, x = self.image.blocks, thread.pc, 0, thread.x
@@ -179,7 +183,7 @@ class Machine:
             if found is None:
                 raise Trap(0 if pc % 4 else 1, pc, count + 1)
             function, size = found
-            if count + size > fuel:
+            if count + size > fuel or self.is_single:
                 function, size = self.image.block(pc, seen, 1)
             pc, count = function(x, words, pages, own, load, store, count, fuel - size)
         return pc, count

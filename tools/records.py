@@ -118,9 +118,12 @@ class Code:
             self.frames[pc] = (size, saved) if saved is not None else None
         return self.frames[pc]
 
-    def caller(self, pc, sp, word):
-        """Where the guest's own code called what came to this pc; the pc itself where that isn't found."""
+    def caller(self, pc, sp, word, ra=0):
+        """Where the guest's own code called what came to this pc; the pc itself where that isn't found. ra is wanted where
+        the pc isn't at a call, which clears it."""
         at = pc
+        if ra and self.found.is_library(at) and self.frame(at) is None:
+            at = ra - 4
         for _ in range(MOST_FRAMES):
             if not self.found.is_library(at):
                 return at
