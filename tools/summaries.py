@@ -17,6 +17,7 @@ ROWS = 20
 WIDTH = 100
 MOST_BESIDE = 5  # variables that are told of a page
 NO_ADVICE = ("input", "unnamed", "own")  # kinds of rows
+BY_FUNCTION = ("register", "stack", "more")  # kinds of which each function has rows of its own
 OWN_PAGE = "a page of its own (`alignas(4096)`, or IT_PAGE_ALIGNED)"
 
 
@@ -75,7 +76,8 @@ class Summary:
         address = int(page, 16) + int(one.group(7)) if page else None
         place = self.explained.works_at(one)
         kind, name = self.target(one, address, place)
-        row = self.rows.setdefault((kind, name), Row(kind, name))
+        function = function_of(place) if kind in BY_FUNCTION else None
+        row = self.rows.setdefault((kind, name, function), Row(kind, name))
         row.steps += 1
         row.instructions += count
         row.places[place] += max(count, 1)
@@ -99,9 +101,7 @@ class Summary:
     def target(self, one, address, place):
         """What a step's line is of: its kind, and a name for it."""
         if address is None:
-            kind = "register" if one.group(5) else "more"
-            name = f"register {self.explained.register(one)}" if one.group(5) else "no record"
-            return kind, f"{name} in {function_of(place)}" if place else name
+            return ("register", f"register {self.explained.register(one)}") if one.group(5) else ("more", "no record")
         return self.explained.target(address, place)
 
     def text(self):
@@ -136,7 +136,7 @@ class Summary:
     @staticmethod
     def places(row):
         where, stored = row.where(), most_of(row.stored)
-        told = f"; for {where}" if where else ""
+        told = f", in {where}" if where else ""
         return told + (f"; stored by {stored}" if stored and row.kind not in ("register", "more") else "")
 
 
@@ -159,7 +159,7 @@ def advice(row):
         return (f"keep what {function_of(where)} finds out off its stack: in a structure on {OWN_PAGE}, one for each "
                 f"thread or block of the input.")
     if row.kind == "register":
-        return (f"{where} carries {row.name.partition(' in ')[0]} from call to call: a count, a total, a pointer or an "
+        return (f"{where} carries {row.name} from call to call: a count, a total, a pointer or an "
                 f"answer. Store it before the call, on {OWN_PAGE}, and load it where it is needed.")
     if row.kind == "length":
         return (f"{where} asks for the input's length. Ask in one thread alone, and store what the others want to know "
