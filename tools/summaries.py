@@ -17,7 +17,7 @@ ROWS = 20
 WIDTH = 100
 MOST_BESIDE = 5  # variables that are told of a page
 NO_ADVICE = ("input", "unnamed", "own")  # kinds of rows
-BY_FUNCTION = ("register", "stack", "more")  # kinds of which each function has rows of its own
+BY_FUNCTION = ("register", "stack", "shared stack", "more")  # kinds of which each function has rows of its own
 OWN_PAGE = "a page of its own (`alignas(4096)`, or IT_PAGE_ALIGNED)"
 
 
@@ -75,7 +75,7 @@ class Summary:
         count = record.count if record else 0
         address = int(page, 16) + int(one.group(7)) if page else None
         place = self.explained.works_at(one)
-        kind, name = self.target(one, address, place)
+        kind, name = self.target(one, address)
         function = function_of(place) if kind in BY_FUNCTION else None
         row = self.rows.setdefault((kind, name, function), Row(kind, name))
         row.steps += 1
@@ -98,11 +98,11 @@ class Summary:
             origin.carried[1] += count
             row.carried[1] -= count
 
-    def target(self, one, address, place):
+    def target(self, one, address):
         """What a step's line is of: its kind, and a name for it."""
         if address is None:
             return ("register", f"register {self.explained.register(one)}") if one.group(5) else ("more", "no record")
-        return self.explained.target(address, place)
+        return self.explained.target(address, int(one.group(2)))
 
     def text(self):
         """The table, and the changes."""
@@ -158,6 +158,9 @@ def advice(row):
     if row.kind == "stack":
         return (f"keep what {function_of(where)} finds out off its stack: in a structure on {OWN_PAGE}, one for each "
                 f"thread or block of the input.")
+    if row.kind == "shared stack":
+        return (f"what threads share is on {row.name}{by} beside other things that a step loads. Make it static, or take it "
+                f"from malloc, each thread's part on {OWN_PAGE}; {where} reads it.")
     if row.kind == "register":
         return (f"{where} carries {row.name} from call to call: a count, a total, a pointer or an "
                 f"answer. Store it before the call, on {OWN_PAGE}, and load it where it is needed.")
