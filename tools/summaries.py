@@ -17,7 +17,7 @@ ROWS = 20
 WIDTH = 100
 MOST_BESIDE = 5  # variables that are told of a page
 NO_ADVICE = ("input", "unnamed", "own")  # kinds of rows
-BY_FUNCTION = ("register", "stack", "shared stack", "more")  # kinds of which each function has rows of its own
+BY_FUNCTION = ("register", "stack", "shared stack", "path", "more")  # kinds of which each function has rows of its own
 OWN_PAGE = "a page of its own (`alignas(4096)`, or IT_PAGE_ALIGNED)"
 
 
@@ -91,7 +91,7 @@ class Summary:
     def carry(self, one, row, count):
         """Adds a step with another register to the row of the step by which that came."""
         thread, number = map(int, one.group(2, 3))
-        origin = self.origins.get((thread, number - 1), row) if row.kind == "register" else row
+        origin = self.origins.get((thread, number - 1), row) if row.kind in ("register", "path") else row
         self.origins[thread, number] = origin
         if origin is not row and origin.kind not in NO_ADVICE:
             origin.carried[0] += 1
@@ -101,7 +101,9 @@ class Summary:
     def target(self, one, address):
         """What a step's line is of: its kind, and a name for it."""
         if address is None:
-            return ("register", f"register {self.explained.register(one)}") if one.group(5) else ("more", "no record")
+            if one.group(5) in (None, "0"):
+                return ("path", "the pc") if one.group(5) else ("more", "no record")
+            return "register", f"register {self.explained.register(one)}"
         return self.explained.target(address, int(one.group(2)))
 
     def text(self):
@@ -137,7 +139,7 @@ class Summary:
     def places(row):
         where, stored = row.where(), most_of(row.stored)
         told = f", in {where}" if where else ""
-        return told + (f"; stored by {stored}" if stored and row.kind not in ("register", "more") else "")
+        return told + (f"; stored by {stored}" if stored and row.pages else "")
 
 
 def advice(row):
@@ -167,6 +169,9 @@ def advice(row):
     if row.kind == "length":
         return (f"{where} asks for the input's length. Ask in one thread alone, and store what the others want to know "
                 f"of it on pages of their own.")
+    if row.kind == "path":
+        return (f"{where} goes on behind another call than before: which call it makes depends on what was edited. Let it "
+                f"make the same calls, whatever the input's bytes are.")
     if row.kind == "more":
         return (f"{where} makes more calls than before, so that its steps have no record. Let the number of calls not "
                 f"depend on the input's bytes.")
