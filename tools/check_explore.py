@@ -24,8 +24,7 @@ RUNS = [("hi", "empty", 1_000_000, 4096), ("hi", "empty", 4, 4096), ("pair", "pa
         ("count", "pair.in", 1_000_000, 4096), ("guest/steps/first", "guest/words.in", 1_000_000, 4096),
         ("guest/pipeline", "guest/pipeline.in", 1_000_000, 4096), ("guest/orders/first", "guest/orders/orders.in", 70_000, 4096),
         ("guest/kmeans", "guest/kmeans.in", 1_000_000, 4096)]
-ORDERS = 3  # drawn for each of these guests
-DRAWN = ["pair", "cross", "late", "guest/pipeline"]
+DRAWN = [("pair", 4), ("cross", 4), ("late", 4), ("guest/pipeline", 1)]  # and how many orders
 LINE = re.compile(r"group (\d+): (\d+) tr(?:y|ies): end (.*), (?:no output|output of .*)")
 SHOWN = ["audit", "deposit"]
 
@@ -62,9 +61,9 @@ def check_runs(checks):
 def check_orders(checks):
     """Drawn orders, replayed."""
     inputs = {name: data for name, data, *_ in RUNS}
-    for name in DRAWN:
+    for name, orders in DRAWN:
         image, data = image_and_input(name, inputs[name])
-        for _ in range(ORDERS):
+        for _ in range(orders):
             made = machine.Machine(image, data).run(lambda _, ready: checks.random.choice(ready))
             order = checks.file("order", " ".join(str(step.thread) for step in made.steps).encode())
             _, printed, said = program("replay", EXAMPLES / f"{name}.elf", EXAMPLES / inputs[name], order)

@@ -189,8 +189,7 @@ def check_summary(checks, place, memo, guest):
                   and b"own (`alignas(4096)`, or" in printed)
     lines = WHY.split("\n")[1:-1] * (MANY // 7 + 1)
     many = "".join(f"{line}\n" for line in [f"why {len(lines)}", *lines])
-    for words, is_summed in (((), True), (("--all",), False), (("--all", "--symbols", guest), False),
-                             (("--symbols", guest), True)):
+    for words, is_summed in ((("--all",), False), (("--symbols", guest), True)):
         before = processor_seconds()
         status, printed, said = place.ran(many, 0, "", memo, "e", *words)
         spent = processor_seconds() - before
