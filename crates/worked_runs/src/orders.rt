@@ -3,6 +3,7 @@
 
 ghost use Rattle.std.specs.Prelude.{◌<◌, length};
 
+use super::lines::two_pages;
 use super::rounds::{driven, history_of, scheduled};
 use depend_graph::Graph;
 use history_facts::facts;
@@ -163,18 +164,10 @@ fn exchange_each<R: Threads + Abort>(
     Ok(())
 }
 
-/// An input of zeros, but for a 5 at its beginning and a 7 at the beginning of its second page.
-fn two_pages(alloc: Global) -> Result<Vec<u8>, AllocError> {
-    let mut input = vec![in alloc; 0u8; 4100]?;
-    input[0] = 5;
-    input[4096] = 7;
-    Ok(input)
-}
-
 #[test]
 fn neighbours_that_share_nothing_can_be_exchanged(rt: HostRuntime) -> Result<(), Fail> {
     let alloc = rt.alloc();
-    let input = two_pages(alloc)?;
+    let input = two_pages(alloc, 7)?;
     let run = Run {
         guest: PAIR,
         input: &input,
@@ -198,7 +191,7 @@ fn neighbours_at_a_barrier_and_a_broadcast_can_be_exchanged(rt: HostRuntime) -> 
 #[test]
 fn clocks_count_what_comes_before(rt: HostRuntime) -> Result<(), Fail> {
     let alloc = rt.alloc();
-    let round = scheduled(&rt, alloc, PAIR, &two_pages(alloc)?, &PAIRED)?;
+    let round = scheduled(&rt, alloc, PAIR, &two_pages(alloc, 7)?, &PAIRED)?;
     let history = history_of(alloc, round)?;
     let graph = graph_of(alloc, &history)?;
     assert_eq!(rt; graph.len(), 12);

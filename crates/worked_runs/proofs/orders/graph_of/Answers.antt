@@ -1,6 +1,6 @@
 -- What is left to prove of `graph_of`.
 use Rattle.propagate.proofs.Due.{few-facts, have-threads}
-use Rattle.worked_orders.proofs.orders.graph_of.Goals as goal
+use Rattle.worked_runs.proofs.orders.graph_of.Goals as goal
 
 pub of-requires-clause-few : goal.of-requires-clause-few
 of-requires-clause-few c =

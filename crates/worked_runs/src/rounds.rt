@@ -16,7 +16,11 @@ use turn_count::Turns;
 use worked_guests::{Guest, file_of};
 
 /// The setup of a guest and an input, or none where it is too long or isn't taken.
-fn setup_of(alloc: Global, guest: Guest, input: &[u8]) -> Result<Option<Setup>, AllocError> {
+pub(super) fn setup_of(
+    alloc: Global,
+    guest: Guest,
+    input: &[u8],
+) -> Result<Option<Setup>, AllocError> {
     let Some(file) = file_of(alloc, guest)? else {
         return Ok(None);
     };
