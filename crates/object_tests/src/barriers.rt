@@ -7,11 +7,36 @@ use guest_call::Call;
 fn calls_answer_as_worked_out(rt: HostRuntime) {
     let mut crowd = Crowd::new(&rt);
     // out of range, and not initialised: EINVAL is 22
-    assert_returns(&rt, crowd.act(&rt, 31, Call::BarrierInit(64, 3)), negated(22), &[]);
-    assert_returns(&rt, crowd.act(&rt, 30, Call::BarrierInit(1, 0)), negated(22), &[]);
-    assert_returns(&rt, crowd.act(&rt, 29, Call::BarrierInit(1, 33)), negated(22), &[]);
-    assert_returns(&rt, crowd.act(&rt, 28, Call::BarrierWait(64)), negated(22), &[]);
-    assert_returns(&rt, crowd.act(&rt, 27, Call::BarrierWait(2)), negated(22), &[]);
+    assert_returns(
+        &rt,
+        crowd.act(&rt, 31, Call::BarrierInit(64, 3)),
+        negated(22),
+        &[],
+    );
+    assert_returns(
+        &rt,
+        crowd.act(&rt, 30, Call::BarrierInit(1, 0)),
+        negated(22),
+        &[],
+    );
+    assert_returns(
+        &rt,
+        crowd.act(&rt, 29, Call::BarrierInit(1, 33)),
+        negated(22),
+        &[],
+    );
+    assert_returns(
+        &rt,
+        crowd.act(&rt, 28, Call::BarrierWait(64)),
+        negated(22),
+        &[],
+    );
+    assert_returns(
+        &rt,
+        crowd.act(&rt, 27, Call::BarrierWait(2)),
+        negated(22),
+        &[],
+    );
     // the last of three lets the others go, who are answered 0 in the order in which they came
     assert_returns(&rt, crowd.act(&rt, 26, Call::BarrierInit(0, 3)), 0, &[]);
     assert_blocks(&rt, crowd.act(&rt, 25, Call::BarrierWait(0)));
@@ -20,7 +45,12 @@ fn calls_answer_as_worked_out(rt: HostRuntime) {
     assert_blocks(&rt, crowd.act(&rt, 22, Call::BarrierWait(0)));
     assert_blocks(&rt, crowd.act(&rt, 21, Call::BarrierWait(0)));
     // somebody waits: EBUSY is 16
-    assert_returns(&rt, crowd.act(&rt, 20, Call::BarrierInit(0, 3)), negated(16), &[]);
+    assert_returns(
+        &rt,
+        crowd.act(&rt, 20, Call::BarrierInit(0, 3)),
+        negated(16),
+        &[],
+    );
     assert_returns(&rt, crowd.act(&rt, 19, Call::BarrierWait(0)), 1, &[22, 21]);
     // a count of one lets each go at once, and 32 is the largest
     assert_returns(&rt, crowd.act(&rt, 18, Call::BarrierInit(0, 1)), 0, &[]);

@@ -1,7 +1,8 @@
 //! A crowd of threads at the objects, and what an effect is compared with.
 
 ghost use Rattle.std.specs.Prelude.{◌≡◌, ℕ, ◌<◌, false};
-ghost use Rattle.guest_call.specs.Objects.{waits_at};
+ghost use Rattle.guest_call.specs.Objects.{waits_at, IsKept};
+ghost use Rattle.object_tests.specs.Crowds.{AreIdle};
 ghost use Rattle.sync_objects.specs.Puts.{is_put};
 
 use call_effect::Effect;
@@ -16,15 +17,15 @@ use wait_queue::Queue;
 pub(super) struct Crowd {
     objects: Objects,
     left: u8,
+    ghost kept: { IsKept objects },
     ghost fresh: { (u : ℕ) → u < left → waits_at objects u ≡ 0 },
 }
 
 /// Makes a thread at objects where nobody waits, and gives its number.
 fn make_thread(rt: &impl Abort, objects: &mut Objects) -> u32
-    requires { (u : ℕ) → waits_at objects.old u ≡ 0 }
-    ensures { (u : ℕ) → waits_at objects.new u ≡ 0 }
+    requires { AreIdle objects.old }
+    ensures { AreIdle objects.new }
 {
-    guest_call::act_keeps();
     match objects.thread(0) {
         Some(thread) => match objects.act(thread, Call::Create(0x1_0000, 0)).fate() {
             Fate::Returns(number, _) => number,
@@ -48,7 +49,6 @@ impl Crowd {
     pub(super) fn act(&mut self, rt: &impl Abort, number: u8, call: Call) -> Effect
         requires { is_put call ≡ false }
     {
-        guest_call::act_keeps();
         assert!(rt; number < self.left);
         self.left = number;
         match self.objects.thread(number) {

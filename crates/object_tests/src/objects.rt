@@ -45,7 +45,12 @@ fn objects_answer_by_their_numbers(rt: HostRuntime) {
     assert_returns(&rt, first(Call::SemPost(63)), 0, &[]);
     assert_returns(&rt, first(Call::SemTryWait(63)), negated(11), &[]);
     assert_returns(&rt, first(Call::SemInit(63, 2_147_483_647)), 0, &[]);
-    assert_returns(&rt, first(Call::SemInit(63, 2_147_483_648)), negated(22), &[]);
+    assert_returns(
+        &rt,
+        first(Call::SemInit(63, 2_147_483_648)),
+        negated(22),
+        &[],
+    );
     assert_eq!(rt; first(Call::SemWait(63)).fate(), Fate::Blocks);
     assert_returns(&rt, first(Call::BarrierInit(63, 32)), 0, &[]);
     assert_returns(&rt, first(Call::BarrierInit(63, 33)), negated(22), &[]);
