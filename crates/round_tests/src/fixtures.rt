@@ -1,5 +1,6 @@
 //! What several modules of tests begin with: the guest `hi`, which puts out 3 bytes by 5 instructions and exits by 3
-//! more. Its file is written byte by byte from the System V gABI and the ISA's text.
+//! more, and records and a history of it that are made by hand. Its file is written byte by byte from the System V gABI
+//! and the ISA's text.
 
 ghost use Rattle.std.specs.Prelude.{◌≡◌, ◌<◌, All, IfOk};
 ghost use Rattle.std.specs.Arc.{arc_value};
