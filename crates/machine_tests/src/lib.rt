@@ -4,6 +4,8 @@
 #[cfg(test)]
 mod executables;
 #[cfg(test)]
+mod fixtures;
+#[cfg(test)]
 mod random_guests;
 #[cfg(test)]
 mod thunks;
