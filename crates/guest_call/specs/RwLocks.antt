@@ -42,9 +42,13 @@ reads c t = slice_index_or c.readers t false
 abbrev pub holds : RwLock → ℕ → Bool
 holds c t = owns c.writer t || reads c t
 
+-- whether anybody is a reader
+abbrev pub is_read : RwLock → Bool
+is_read c = list_any (λ reader. reader) c.readers
+
 -- whether anybody holds the lock
 abbrev pub is_held : RwLock → Bool
-is_held c = is_some c.writer || list_any (λ reader. reader) c.readers
+is_held c = is_some c.writer || is_read c
 
 -- the lock with t as its writer (POSIX.1-2017, pthread_rwlock_wrlock)
 abbrev pub written_by : ℕ → RwLock → RwLock
