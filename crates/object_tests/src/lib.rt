@@ -6,4 +6,6 @@ mod barriers;
 #[cfg(test)]
 mod objects;
 #[cfg(test)]
+mod rwlocks;
+#[cfg(test)]
 mod semaphores;
