@@ -8,7 +8,7 @@ use Rattle.guest_call.specs.Mutexes.{Mutex, mutex_queue, handed_over, lock_row, 
 use Rattle.guest_call.specs.Semaphores.{Semaphore, semaphore_queue, sem_wait_row, sem_trywait_row, sem_post_row, sem_init_row}
 use Rattle.guest_call.specs.Barriers.{Barrier, barrier_queue, barrier_init_row, comes, barrier_wait_row}
 use Rattle.guest_call.specs.Conditions.{Condition, Leaving, cond_wait_row, first_leaves, signal_leaving, broadcast_leaving, admit, admit_each, leave_row}
-use Rattle.guest_call.specs.RwLocks.{Waiter, RwLock, threads_of, rwlock_queue, rdlock_row, wrlock_row, trywrlock_row, first_readers, from_first_writer, readers_admitted, first_writes, writer_admitted, handed_on, let_go, rwunlock_row}
+use Rattle.guest_call.specs.RwLocks.{Waiter, RwLock, threads_of, rwlock_queue, rdlock_row, wrlock_row, trywrlock_row, first_readers, from_first_writer, readers_admitted, writer_admitted, handed_on, let_go, rwunlock_row}
 use Rattle.guest_call.proofs.Counting.{tally, places-nil, places-cons, places-append, places-push, entering-returns, entering-blocks}
 
 pub lock_fair : (t : ℕ) (c : Mutex) → IsFair mutex_queue t c (lock_row t c)

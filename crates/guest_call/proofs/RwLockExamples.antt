@@ -1,6 +1,6 @@
 -- Worked examples of reader-writer locks, which the checker computes. The expected values are written out as numbers:
 -- the errors from Linux's table of error numbers, negated modulo 2^32, and the rest from the table of calls by hand.
-use Rattle.std.proofs.Common.{ℕ, ◌≡◌, true, false, List, [], ◌∷◌, Some, None, slice_index_or, refl}
+use Rattle.std.proofs.Common.{ℕ, ◌≡◌, true, List, [], ◌∷◌, Some, None, slice_index_or, refl}
 use Rattle.guest_call.specs.declared.Call.TheVariants.{RdLock, WrLock, RwUnlock, TryWrLock}
 use Rattle.guest_call.specs.declared.Object.TheVariants as object
 use Rattle.guest_call.specs.Effect.{Effect, Returns, Blocks, answers, blocks}

@@ -1,7 +1,6 @@
 -- No thread is a reader.
-use Rattle.std.proofs.Common.{rules, arith, ap}
-use Rattle.std.proofs.lemmas.Grind.{common_steps}
-use Rattle.guest_call.specs.RwLocks.{RwLock, no_readers}
+use Rattle.std.proofs.Common.{rules}
+use Rattle.guest_call.specs.RwLocks.{no_readers}
 use Rattle.sync_rw.proofs.Cell.unheld.Goals as goal
 
 pub returns : goal.returns
