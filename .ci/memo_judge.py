@@ -233,7 +233,7 @@ class Machine:
         self.registers = [0] * 32
         self.registers[0], self.registers[2], self.registers[10] = entry, 0xD0010000, 0xC0000000
         self.threads = 1
-        self.owned, self.values, self.counts = set(), {}, {}
+        self.owned, self.values, self.counts, self.held = set(), {}, {}, {}
         self.steps, self.ended = 0, False
 
     def page(self, number):
@@ -285,7 +285,7 @@ class Machine:
         calls = [
             self.exit, self.put, self.create, self.thread_exit, self.join, lambda a, b: 0, self.lock, self.trylock,
             self.unlock, self.sem_wait, self.sem_trywait, self.sem_post, self.sem_init, self.barrier_init,
-            self.barrier_wait, self.cond_wait, self.wake, self.wake]
+            self.barrier_wait, self.cond_wait, self.wake, self.wake, self.rdlock, self.wrlock, self.rwunlock, self.trywrlock]
         return calls[number](a, b) if number < len(calls) else self.exit(a, b)
 
     def exit(self, a, b):
@@ -376,6 +376,32 @@ class Machine:
 
     def wake(self, a, b):
         return -INVALID if a > 63 else 0
+
+    def rdlock(self, a, b):
+        if a > 63:
+            return -INVALID
+        if a in self.held:
+            return -AGAIN if self.held[a] == "reads" else -DEADLOCK
+        self.held[a] = "reads"
+        return 0
+
+    def wrlock(self, a, b):
+        if a > 63:
+            return -INVALID
+        if a in self.held:
+            return -DEADLOCK
+        self.held[a] = "writes"
+        return 0
+
+    def rwunlock(self, a, b):
+        if a > 63 or a not in self.held:
+            return -INVALID if a > 63 else -PERMISSION
+        del self.held[a]
+        return 0
+
+    def trywrlock(self, a, b):
+        answer = self.wrlock(a, b)
+        return -16 if answer == -DEADLOCK else answer
 
 
 def follow(memo):

@@ -8,12 +8,12 @@ import re
 from dataclasses import dataclass, field
 
 CALLS = ("exit put create thread_exit join yield lock trylock unlock sem_wait sem_trywait sem_post sem_init "
-         "barrier_init barrier_wait cond_wait signal broadcast").split()
+         "barrier_init barrier_wait cond_wait signal broadcast rdlock wrlock rwunlock trywrlock").split()
 ENTRY = re.compile(r"entry ([0-9]+) thread ([0-9]+) number ([0-9]+) end (call [0-9]+|trap [0-7]|fuel) count ([0-9]+)"
                    r" reads (-|%s(?:,%s)*) writes (-|%s(?:,%s)*)" % (("[0-9a-f]{8}",) * 4))
 HEAD = re.compile(r"(elf|input|fuel|limit|entries) [0-9]+")
 STEP = re.compile(r"step ([0-9]+) thread ([0-9]+) number ([0-9]+) count ([0-9]+) (.*)")
-WAITS = re.compile(r" (waits for [^,]*(?:, with mutex [0-9]+)?(?:, held by thread [0-9]+)?)")
+WAITS = re.compile(r" (waits for [^,]*(?:, with mutex [0-9]+)?(?:, held by thread [0-9]+(?: and thread [0-9]+)*)?)")
 WAKES = re.compile(r", wakes thread ([0-9]+) with ")
 BEGINS = re.compile(r"create\(.*\) = ([0-9]+), begins at ")
 REASON = re.compile(r"step ([0-9]+) thread ([0-9]+) number ([0-9]+) (none|register ([0-9]+) now [0-9]+ was [0-9]+|"

@@ -59,6 +59,10 @@ fn objects_answer_by_their_numbers(rt: HostRuntime) {
     assert_returns(&rt, first(Call::CondWait(63, 64)), negated(22), &[]);
     assert_returns(&rt, first(Call::Signal(63)), 0, &[]);
     assert_returns(&rt, first(Call::Broadcast(64)), negated(22), &[]);
+    assert_returns(&rt, first(Call::RdLock(63)), 0, &[]);
+    assert_returns(&rt, first(Call::WrLock(63)), 0, &[]);
+    assert_returns(&rt, first(Call::RwUnlock(63)), negated(1), &[]);
+    assert_returns(&rt, first(Call::TryWrLock(64)), negated(22), &[]);
 }
 
 #[test]
@@ -72,5 +76,9 @@ fn calls_name_the_objects_that_they_act_on(rt: HostRuntime) {
     assert_eq!(rt;
         objects.acts_on(Call::CondWait(4, 5)),
         ActedOn::Two(Object::Condition(4), Object::Mutex(5))
+    );
+    assert_eq!(rt;
+        objects.acts_on(Call::RwUnlock(5)),
+        ActedOn::One(Object::RwLock(5))
     );
 }
