@@ -1,4 +1,4 @@
-"""Builds a guest from C into a folder, by guest/build; or takes the one that is there, where all files that it was built
+"""Builds a guest from C into a folder, by guest/build; or takes the one that is there, if all files that it was built
 from, the words for guest/build and the library are as they were."""
 import hashlib
 import json

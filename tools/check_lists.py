@@ -2,12 +2,12 @@
 
   - `tools/edits` gives a list for each of a hundred pairs of files: a run on the new file, and the round after the list
     on the old one, have the same end, output and memory. The input with its length is part of the memory.
-  - Of a thousand pairs more, of all of whose bytes or none differ too, the list that its module finds makes the new file
+  - Of a thousand pairs more, of which all bytes or none differ too, the list that its module finds makes the new file
     of the old, done by a few lines here and by those of `--apply`, which share nothing.
   - Of short files its list is as short as the shortest that a search through all lists finds. At larger offsets two
     bytes with some unchanged ones between are written by one line or by two, whichever is shorter.
   - Of files of a mebibyte that are equal, or differ in a byte, the list is found in a tenth of a second of processor
-    time, and where a byte was put in before all others in a second.
+    time, and after a byte was inserted at the front in a second.
   - With `--into` it gives as many lists as it takes: done one after the other by a few lines here, and by the program,
     they make the new file of the old. Pairs of long files of which much or all differs want two lists, or three.
   - `tools/check-edits` refuses just what the program refuses, at the same line and with the same word, and says the

@@ -1,5 +1,5 @@
-/* Weak keys: which RSA moduli share a prime with another one of their batch. Euclid's algorithm finds that prime, and so
-   both keys are broken (Heninger and others, Mining Your Ps and Qs, 2012). A page of the input is a batch of 512 lines,
+/* Weak keys: which RSA moduli share a prime with another one of their batch. Euclid's algorithm finds that prime, which
+   breaks both keys (Heninger and others, Mining Your Ps and Qs, 2012). A page of the input is a batch of 512 lines,
    each with a modulus of seven hexadecimal digits: 28 bits, where real ones have 2048. Of each batch with such a pair a
    line is printed.
 
