@@ -51,7 +51,7 @@ class Place:
     """A folder with a guest and an input."""
 
     def __init__(self, checks, name, guest, data):
-        self.checks, self.folder = checks, checks.folder / name
+        self.checks, self.folder = checks, checks.folder / f"again {name}"
         self.folder.mkdir()
         self.guest, self.data = self.folder / guest.name, self.folder / "data.in"
         shutil.copy(guest, self.guest)
@@ -136,7 +136,7 @@ def check_limits(checks):
 
 
 def check_statuses(checks):
-    folder = checks.folder / "statuses"
+    folder = checks.folder / "again statuses"
     folder.mkdir()
     for name in ("trap.elf", "cross.elf", "hi.elf", "perm.elf", "empty"):
         shutil.copy(EXAMPLES / name, folder)
@@ -162,7 +162,7 @@ def check_statuses(checks):
 
 def check_building(checks):
     for number, (files, with_library) in enumerate(HEADERS):
-        folder = checks.folder / f"headers {number}"
+        folder = checks.folder / f"again headers {number}"
         folder.mkdir()
         for name, text in files.items():
             (folder / name).write_text(text)
@@ -172,7 +172,7 @@ def check_building(checks):
     if not (shutil.which("clang") and shutil.which("ld.lld")):
         print("skipped: building by tools/again, since there is no clang with lld")
         return
-    folder = checks.folder / "building"
+    folder = checks.folder / "again building"
     folder.mkdir()
     source, header, data = folder / "code.c", folder / "code.h", folder / "data.in"
     executable = folder / ".code.c.again/guest.elf"
@@ -249,7 +249,7 @@ def lines_until(file, count):
 
 def check_watch(checks):
     place = Place(checks, "watch", EXAMPLES / "pair.elf", (EXAMPLES / "pair.in").read_bytes())
-    out, said = checks.folder / "watched", checks.folder / "said"
+    out, said = checks.folder / "watched", checks.folder / "again said"
     with open(out, "wb") as stdout, open(said, "wb") as stderr:
         words = [TOOL, "--watch", place.guest, place.data, *ALONE]
         started = subprocess.Popen(words, stdin=subprocess.DEVNULL, stdout=stdout, stderr=stderr)
