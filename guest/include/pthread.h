@@ -1,6 +1,7 @@
 /* POSIX threads for guests with a C library: what of POSIX.1-2017 <pthread.h> this machine has. Each function is that
    of the same name in POSIX.1-2017, System Interfaces; the comments say what it answers here. What isn't declared isn't
-   there: a wait with a time, cancelling, detaching, recursive and robust mutexes, read-write locks and spin locks.
+   there: cancelling, detaching, recursive and robust mutexes, read-write locks and spin locks. A wait with a time is
+   there with `guest/build --time counted` alone.
 
    Answers are 0 or one of errno.h's numbers, and errno isn't set. A program has at most 32 threads, ended ones and
    main's counted, and of mutexes, conditions, semaphores and barriers 63 of each at once. A mutex or a condition has
@@ -106,6 +107,9 @@ int pthread_mutex_lock(pthread_mutex_t *mutex);
 /* Answers 0; EBUSY: somebody has it, maybe the caller. */
 int pthread_mutex_trylock(pthread_mutex_t *mutex);
 
+/* Yields until the mutex is the caller's. Answers 0; ETIMEDOUT: the time is over; EINVAL: it is no time. */
+int pthread_mutex_timedlock(pthread_mutex_t *__restrict mutex, const struct timespec *__restrict time);
+
 /* Answers 0; EPERM: it isn't the caller's. */
 int pthread_mutex_unlock(pthread_mutex_t *mutex);
 
@@ -142,6 +146,14 @@ int pthread_cond_destroy(pthread_cond_t *condition);
    thread may have had the mutex in between. Answers 0; EPERM: the mutex isn't the caller's; EINVAL: others wait with
    another mutex. */
 int pthread_cond_wait(pthread_cond_t *__restrict condition, pthread_mutex_t *__restrict mutex);
+
+/* The same, up to a time. Answers 0; ETIMEDOUT: nobody has woken the caller; EPERM: the mutex isn't the caller's;
+   EINVAL: it is no time. Of those who wait for one condition a signal wakes who waits with a time first. All clocks
+   are one. */
+int pthread_cond_timedwait(pthread_cond_t *__restrict condition, pthread_mutex_t *__restrict mutex,
+                           const struct timespec *__restrict time);
+int pthread_cond_clockwait(pthread_cond_t *__restrict condition, pthread_mutex_t *__restrict mutex, clockid_t clock,
+                           const struct timespec *__restrict time);
 
 /* Wakes who waits first. Answers 0. */
 int pthread_cond_signal(pthread_cond_t *condition);
