@@ -55,6 +55,9 @@ void pthread_exit(void *value) __attribute__((__noreturn__));
 /* The caller. */
 pthread_t pthread_self(void);
 
+/* The clock of a thread's time; there with `guest/build --time counted` alone. Answers 0. */
+int pthread_getcpuclockid(pthread_t thread, clockid_t *clock);
+
 /* Other than 0 where both are the same thread. */
 int pthread_equal(pthread_t one, pthread_t other);
 

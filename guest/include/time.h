@@ -18,6 +18,7 @@ extern "C" {
 #define TIME_UTC 1
 #endif
 
+int clock_getcpuclockid(pid_t process, clockid_t *clock);
 int clock_gettime(clockid_t clock, struct timespec *time);
 int clock_getres(clockid_t clock, struct timespec *step);
 int clock_settime(clockid_t clock, const struct timespec *time);

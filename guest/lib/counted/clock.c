@@ -23,7 +23,8 @@ enum {
     BEGIN = 946684800, /* 2000-01-01, in seconds from 1970 on */
     ASKED = 1000000,   /* nanoseconds that pass when the time is asked for */
     YIELD = 10000000,  /* and in a yield */
-    MOST = 1000        /* yields of one wait, but for those that another's earlier time takes */
+    MOST = 1000,       /* yields of one wait, but for those that another's earlier time takes */
+    LAST_CLOCK = 7     /* the last number of a clock in the C library's time.h */
 };
 
 /* Times are from BEGIN on. Where `until` is 0 the thread doesn't wait. */
@@ -123,15 +124,34 @@ void it_end_wait(const struct it_wait *wait, int is_over)
 
 /* ---------------------------------------------------------------------------------------------- the time ---- */
 
+static int failed(int error)
+{
+    errno = error;
+    return -1;
+}
+
+static int is_clock(clockid_t clock)
+{
+    return clock <= LAST_CLOCK;
+}
+
+static int is_processors(clockid_t clock)
+{
+    return clock == CLOCK_PROCESS_CPUTIME_ID || clock == CLOCK_THREAD_CPUTIME_ID;
+}
+
 IT_REPLACEABLE int clock_gettime(clockid_t clock, struct timespec *time)
 {
-    *time = clock == CLOCK_PROCESS_CPUTIME_ID || clock == CLOCK_THREAD_CPUTIME_ID ? asked() : it_now();
+    if (!is_clock(clock))
+        return failed(EINVAL);
+    *time = is_processors(clock) ? asked() : it_now();
     return 0;
 }
 
 IT_REPLACEABLE int clock_getres(clockid_t clock, struct timespec *step)
 {
-    (void)clock;
+    if (!is_clock(clock))
+        return failed(EINVAL);
     if (step)
         *step = (struct timespec) { 0, ASKED };
     return 0;
@@ -139,9 +159,22 @@ IT_REPLACEABLE int clock_getres(clockid_t clock, struct timespec *step)
 
 IT_REPLACEABLE int clock_settime(clockid_t clock, const struct timespec *time)
 {
-    (void)clock, (void)time;
-    errno = EPERM;
-    return -1;
+    return failed(clock == CLOCK_REALTIME && it_is_time(time) ? EPERM : EINVAL);
+}
+
+/* One process, and its clock. */
+IT_REPLACEABLE int clock_getcpuclockid(pid_t process, clockid_t *clock)
+{
+    (void)process;
+    *clock = CLOCK_PROCESS_CPUTIME_ID;
+    return 0;
+}
+
+IT_REPLACEABLE int pthread_getcpuclockid(pthread_t thread, clockid_t *clock)
+{
+    (void)thread;
+    *clock = CLOCK_THREAD_CPUTIME_ID;
+    return 0;
 }
 
 IT_REPLACEABLE int gettimeofday(struct timeval *restrict time, void *restrict zone)
@@ -223,8 +256,8 @@ IT_REPLACEABLE int usleep(useconds_t microseconds)
 /* POSIX.1-2017 clock_nanosleep: the answer is the error. */
 IT_REPLACEABLE int clock_nanosleep(clockid_t clock, int flags, const struct timespec *time, struct timespec *rest)
 {
-    (void)clock, (void)rest;
-    if (!it_is_time(time))
+    (void)rest;
+    if (!it_is_time(time) || time->tv_sec < 0 || !is_clock(clock) || clock == CLOCK_THREAD_CPUTIME_ID)
         return EINVAL;
     if (flags & TIMER_ABSTIME)
         sleep_until(*time);
@@ -235,9 +268,6 @@ IT_REPLACEABLE int clock_nanosleep(clockid_t clock, int flags, const struct time
 
 IT_REPLACEABLE int nanosleep(const struct timespec *length, struct timespec *rest)
 {
-    int error = length->tv_sec < 0 ? EINVAL : clock_nanosleep(CLOCK_REALTIME, 0, length, rest);
-    if (error == 0)
-        return 0;
-    errno = error;
-    return -1;
+    int error = clock_nanosleep(CLOCK_REALTIME, 0, length, rest);
+    return error == 0 ? 0 : failed(error);
 }
