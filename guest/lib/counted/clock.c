@@ -23,6 +23,7 @@ enum {
     BEGIN = 946684800, /* 2000-01-01, in seconds from 1970 on */
     ASKED = 1000000,   /* nanoseconds that pass when the time is asked for */
     YIELD = 10000000,  /* and in a yield */
+    TICKS = 100,       /* of `times`, in a second, as sysconf says */
     MOST = 1000,       /* yields of one wait, but for those that another's earlier time takes */
     LAST_CLOCK = 7     /* the last number of a clock in the C library's time.h */
 };
@@ -207,9 +208,10 @@ clock_t clock(void)
 
 IT_REPLACEABLE clock_t times(struct tms *times)
 {
-    clock_t now = clock();
-    *times = (struct tms) { now, 0, 0, 0 };
-    return now;
+    struct timespec time = asked();
+    clock_t ticks = (clock_t)(time.tv_sec * TICKS + time.tv_nsec / (IT_SECOND / TICKS));
+    *times = (struct tms) { ticks, 0, 0, 0 };
+    return ticks;
 }
 
 IT_REPLACEABLE int getrusage(int who, struct rusage *usage)
