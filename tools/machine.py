@@ -86,6 +86,7 @@ class Step:
     second: int = 0
     waits: str = ""
     answer: int | None = None
+    begins: int | None = None
     wakes: list = field(default_factory=list)
 
 
@@ -116,6 +117,14 @@ class Machine:
         """Makes all steps; `choose` says of the ready threads who makes the next."""
         while self.ended is None:
             self.step(choose(self, self.ready()))
+        return self
+
+    def follow(self, threads):
+        """Makes the steps of a schedule, as far as it is permitted."""
+        for thread in threads:
+            if self.ended is not None or thread not in self.ready():
+                break
+            self.step(thread)
         return self
 
     def step(self, number):
@@ -273,6 +282,7 @@ class Machine:
         if len(self.threads) == THREADS:
             return EAGAIN
         self.begin(pc, argument)
+        self.steps[-1].begins = len(self.threads) - 1
         return len(self.threads) - 1
 
     def join(self, number, other, _):

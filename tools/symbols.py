@@ -125,8 +125,8 @@ class Symbols:
         self.lines.update({address: line_of(frames) for address, frames in self.frames(wanted)})
 
     def read_library(self):
-        """Asks which functions are the C library's, by the names of their files."""
-        starts = [symbol.address for symbol in self.found if symbol.kind == FUNCTION]
+        """Asks which functions are the C library's, by the names of their files, where the guest has one."""
+        starts = [symbol.address for symbol in self.found if symbol.kind == FUNCTION and self.library_files]
         self.library = {address for address, frames in self.frames(starts)
                         if frames and OF_LIBRARY.search(frames[-1].get("FileName", ""))}
 
