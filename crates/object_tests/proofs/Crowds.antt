@@ -2,6 +2,7 @@
 use Rattle.std.proofs.Common.{◌≡◌, ◌≢◌, ℕ, ◌+◌, ◌<◌, ◌≤◌, ◌==◌, Bool, true, false, ◌&&◌, not, List, [], ◌∷◌, Option, length, zero, suc, refl, slice_index_or, slice_set, arith, ap, sym, subst, ◌∙◌, ⊎_elim, true≢false}
 use Rattle.std.specs.List.{list_any}
 use Rattle.std.proofs.lemmas.Bool.{cases_eq}
+use Rattle.std.proofs.lemmas.Bool.Decides.{nat_tests}
 use Rattle.std.proofs.lemmas.List.{get_or-set_same, get_or-set_other}
 use Rattle.guest_call.specs.declared.Call.{Call}
 use Rattle.guest_call.specs.declared.Fate.{Fate}
@@ -11,7 +12,7 @@ use Rattle.guest_call.specs.Objects.{Objects, act, waits_at, IsKept}
 use Rattle.guest_call.specs.Queues.{places, entering}
 use Rattle.guest_call.proofs.Conservation.{act_keeps}
 use Rattle.guest_call.proofs.Kept.{act_kept}
-use Rattle.guest_call.proofs.Counting.{places-cons, entering-returns, entering-other, entering-le}
+use Rattle.guest_call.proofs.Counting.{places-cons, waiting-le, entering-returns, entering-other, entering-le}
 use Rattle.object_tests.specs.Crowds.{AreIdle}
 
 keeps :
@@ -43,7 +44,7 @@ unmarked_before true false apart is = absurd (true≢false is)
 unmarked_before true true apart is = absurd (true≢false apart)
 
 -- who was marked as one that doesn't wait after a call waits nowhere, where that was so before the call
-pub marked_after :
+marked_after :
     (o after : Objects) (e : Effect) (t : ℕ) (call : Call) (before marks : List Bool) (blocked : Bool)
     → ((readable : ℕ → ℕ → Bool) → (e, after) ≡ act readable o t call) → IsKept o → t < length o.threads
     → ((u : ℕ) → slice_index_or before u true ≡ false → waits_at o u ≡ 0) → waits_at o t ≡ 0
@@ -83,6 +84,24 @@ marked_after o after e t call before marks blocked done kept there idle free sta
         unmarked_before (slice_index_or (slice_set before t blocked) u true) (list_any (λ w. w == u) e.woken) apart
         (sym (marked u) ∙ unmarked) in
         ⊎_elim (λ same. caller same kept_mark) (λ other. another other kept_mark) (cases_eq u t)
+
+-- the same where the caller's place and who was woken are told by equal terms
+pub marked_there :
+    (o after : Objects) (e : Effect) (t place : ℕ) (call : Call) (before marks : List Bool) (blocked : Bool) (f : Fate)
+    (woken : List ℕ)
+    → ((readable : ℕ → ℕ → Bool) → (e, after) ≡ act readable o t call) → IsKept o → t < length o.threads
+    → ((u : ℕ) → slice_index_or before u true ≡ false → waits_at o u ≡ 0) → waits_at o t ≡ 0 → place ≡ t
+    → f ≡ e.fate → blocked ≡ (waiting f == 1) → woken ≡ e.woken
+    → ((u : ℕ)
+    → slice_index_or marks u true
+    ≡ (slice_index_or (slice_set before place blocked) u true && not (list_any (λ w. w == u) woken)))
+    → (u : ℕ) → slice_index_or marks u true ≡ false → waits_at after u ≡ 0
+marked_there o after e t place call before marks blocked f woken done kept there idle free here fate told queue marked =
+    marked_after o after e t call before marks blocked done kept there idle free
+    (λ returned. grind (arith, nat_tests, waiting-le e.fate, fate, told, returned))
+    (λ u. marked u
+    ∙ ap (λ (n : ℕ). slice_index_or (slice_set before n blocked) u true && not (list_any (λ w. w == u) woken)) here
+    ∙ ap (λ (q : List ℕ). slice_index_or (slice_set before t blocked) u true && not (list_any (λ w. w == u) q)) queue)
 
 pub kept_after :
     (o after : Objects) (e : Effect) (t : ℕ) (call : Call)

@@ -2,6 +2,7 @@
 
 ghost use Rattle.std.specs.Prelude.{◌≡◌, ◌==◌, ℕ, Bool, true, false, ◌&&◌, not, slice_index_or};
 ghost use Rattle.std.specs.List.{list_any};
+ghost use Rattle.guest_call.specs.Effect.{waiting};
 ghost use Rattle.guest_call.specs.Objects.{waits_at, IsKept};
 ghost use Rattle.object_tests.specs.Crowds.{AreIdle};
 ghost use Rattle.sync_objects.specs.Puts.{is_put};
@@ -32,6 +33,16 @@ fn make_thread(rt: &impl Abort, objects: &mut Objects) -> u32
             _ => panic!(rt; "no thread is made"),
         },
         None => panic!(rt; "there is no thread"),
+    }
+}
+
+/// Whether a thread with this fate waits.
+fn is_wait(fate: Fate) -> bool
+    ensures { result ≡ (waiting fate == 1) }
+{
+    match fate {
+        Fate::Blocks => true,
+        Fate::Returns(_, _) | Fate::Ends(_) | Fate::Exits(_) => false,
     }
 }
 
@@ -70,7 +81,7 @@ impl Crowd {
         match self.objects.thread(number) {
             Some(thread) => {
                 let effect = self.objects.act(thread, call);
-                self.waiting[place] = effect.fate() == Fate::Blocks;
+                self.waiting[place] = is_wait(effect.fate());
                 wake(&mut self.waiting, effect.woken());
                 effect
             }

@@ -29,12 +29,22 @@ fn a_writer_lets_all_readers_in(rt: HostRuntime) {
     assert_returns(&rt, crowd.act(&rt, 0, Call::RdLock(64)), negated(22), &[]);
     assert_returns(&rt, crowd.act(&rt, 0, Call::WrLock(64)), negated(22), &[]);
     assert_returns(&rt, crowd.act(&rt, 0, Call::RwUnlock(64)), negated(22), &[]);
-    assert_returns(&rt, crowd.act(&rt, 0, Call::TryWrLock(64)), negated(22), &[]);
+    assert_returns(
+        &rt,
+        crowd.act(&rt, 0, Call::TryWrLock(64)),
+        negated(22),
+        &[],
+    );
     // the writer can't lock it again: EDEADLK is 35, EBUSY 16
     assert_returns(&rt, crowd.act(&rt, 0, Call::TryWrLock(63)), 0, &[]);
     assert_returns(&rt, crowd.act(&rt, 0, Call::WrLock(63)), negated(35), &[]);
     assert_returns(&rt, crowd.act(&rt, 0, Call::RdLock(63)), negated(35), &[]);
-    assert_returns(&rt, crowd.act(&rt, 0, Call::TryWrLock(63)), negated(16), &[]);
+    assert_returns(
+        &rt,
+        crowd.act(&rt, 0, Call::TryWrLock(63)),
+        negated(16),
+        &[],
+    );
     // three come to read, then one to write, then one more to read: those before the writer are let in
     assert_blocks(&rt, crowd.act(&rt, 3, Call::RdLock(63)));
     assert_blocks(&rt, crowd.act(&rt, 1, Call::RdLock(63)));
@@ -42,7 +52,12 @@ fn a_writer_lets_all_readers_in(rt: HostRuntime) {
     assert_blocks(&rt, crowd.act(&rt, 5, Call::WrLock(63)));
     assert_blocks(&rt, crowd.act(&rt, 4, Call::RdLock(63)));
     assert_returns(&rt, crowd.act(&rt, 0, Call::RwUnlock(63)), 0, &[3, 1, 2]);
-    assert_returns(&rt, crowd.act(&rt, 0, Call::TryWrLock(63)), negated(16), &[]);
+    assert_returns(
+        &rt,
+        crowd.act(&rt, 0, Call::TryWrLock(63)),
+        negated(16),
+        &[],
+    );
     assert_returns(&rt, crowd.act(&rt, 2, Call::RwUnlock(63)), 0, &[]);
     assert_returns(&rt, crowd.act(&rt, 3, Call::RwUnlock(63)), 0, &[]);
     assert_returns(&rt, crowd.act(&rt, 1, Call::RwUnlock(63)), 0, &[5]);
