@@ -1,24 +1,25 @@
 //! A crowd of threads at the objects, and what an effect is compared with.
 
-ghost use Rattle.std.specs.Prelude.{◌≡◌, ℕ, ◌<◌, false};
+ghost use Rattle.std.specs.Prelude.{◌≡◌, ◌==◌, ℕ, Bool, true, false, ◌&&◌, not, slice_index_or};
+ghost use Rattle.std.specs.List.{list_any};
+ghost use Rattle.guest_call.specs.Effect.{waiting};
 ghost use Rattle.guest_call.specs.Objects.{waits_at, IsKept};
 ghost use Rattle.object_tests.specs.Crowds.{AreIdle};
 ghost use Rattle.sync_objects.specs.Puts.{is_put};
 
 use call_effect::Effect;
-use guest_call::{Call, Fate};
+use guest_call::{Call, Fate, THREADS, threads_are_few};
 use std::process::Abort;
 use sync_objects::Objects;
 use wait_queue::Queue;
 
-/// Objects with 32 threads, each of which makes one call, from the highest number down: so who makes the next one waits
-/// nowhere.
+/// Objects with 32 threads, and whether each of them waits.
 #[derive(Drop)]
 pub(super) struct Crowd {
     objects: Objects,
-    left: u8,
+    waiting: [bool; THREADS],
     ghost kept: { IsKept objects },
-    ghost fresh: { (u : ℕ) → u < left → waits_at objects u ≡ 0 },
+    ghost idle: { (u : ℕ) → slice_index_or waiting u true ≡ false → waits_at objects u ≡ 0 },
 }
 
 /// Makes a thread at objects where nobody waits, and gives its number.
@@ -35,6 +36,28 @@ fn make_thread(rt: &impl Abort, objects: &mut Objects) -> u32
     }
 }
 
+/// Whether a thread with this fate waits.
+fn is_wait(fate: Fate) -> bool
+    ensures { result ≡ (waiting fate == 1) }
+{
+    match fate {
+        Fate::Blocks => true,
+        Fate::Returns(_, _) | Fate::Ends(_) | Fate::Exits(_) => false,
+    }
+}
+
+/// These threads were woken, and wait no longer.
+fn wake(waiting: &mut [bool; THREADS], woken: &Queue)
+    ensures { (u : ℕ) → slice_index_or waiting.new u true
+        ≡ (slice_index_or waiting.old u true && not (list_any (λ w. w == u) woken.now)) }
+{
+    let threads = woken.threads();
+    for thread in threads {
+        threads_are_few(*thread);
+        waiting[usize::from(thread.number())] = false;
+    }
+}
+
 impl Crowd {
     /// The crowd before its first call.
     pub(super) fn new(rt: &impl Abort) -> Crowd {
@@ -42,17 +65,26 @@ impl Crowd {
         for number in 1..32u32 {
             assert_eq!(rt; make_thread(rt, &mut objects), number);
         }
-        Crowd { objects, left: 32 }
+        Crowd {
+            objects,
+            waiting: [false; THREADS],
+        }
     }
 
-    /// What the call of a thread does that has made none, as none below it has.
+    /// What the call of a thread does, which doesn't wait.
     pub(super) fn act(&mut self, rt: &impl Abort, number: u8, call: Call) -> Effect
         requires { is_put call ≡ false }
     {
-        assert!(rt; number < self.left);
-        self.left = number;
+        let place = usize::from(number);
+        assert!(rt; place < THREADS);
+        assert!(rt; !self.waiting[place]);
         match self.objects.thread(number) {
-            Some(thread) => self.objects.act(thread, call),
+            Some(thread) => {
+                let effect = self.objects.act(thread, call);
+                self.waiting[place] = is_wait(effect.fate());
+                wake(&mut self.waiting, effect.woken());
+                effect
+            }
             None => panic!(rt; "there is no such thread"),
         }
     }

@@ -8,4 +8,6 @@ mod fixtures;
 #[cfg(test)]
 mod objects;
 #[cfg(test)]
+mod rwlocks;
+#[cfg(test)]
 mod semaphores;
