@@ -10,7 +10,6 @@
 #include <errno.h>
 #include <malloc.h>
 #include <stdint.h>
-#include <stdio.h>
 #include <stdlib.h>
 #include <string.h>
 #include "library.h"
@@ -537,12 +536,6 @@ IT_REPLACEABLE struct mallinfo mallinfo(void)
     it_unlock_library();
     info.fordblks = info.arena - info.uordblks;
     return info;
-}
-
-IT_REPLACEABLE void malloc_stats(void)
-{
-    struct mallinfo info = mallinfo();
-    fprintf(stderr, "system bytes     = %10u\nin use bytes     = %10u\n", info.arena, info.uordblks);
 }
 
 /* Nothing can be set. */

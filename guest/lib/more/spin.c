@@ -1,7 +1,7 @@
 /* Spin locks: a spin lock is one of the machine's mutexes. A thread that spun wouldn't see the lock given up. */
 #include <errno.h>
 #include <pthread.h>
-#include "library.h"
+#include "../library.h"
 
 static int call(enum it_call number, pthread_spinlock_t *lock)
 {

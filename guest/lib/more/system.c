@@ -1,12 +1,13 @@
-/* What a program asks the system for: limits, who it is, and a stream's descriptor. Each is a constant. */
+/* What a program asks the system for: limits, who it is, a stream's descriptor, and what malloc has. */
 #include <errno.h>
 #include <limits.h>
+#include <malloc.h>
 #include <pthread.h>
 #include <semaphore.h>
 #include <stdio.h>
 #include <string.h>
 #include <unistd.h>
-#include "library.h"
+#include "../library.h"
 
 enum { PROCESS = IT_PROCESS, PARENT = 0, USER = 1000, PROCESSORS = 4, PAGES = 1024, POSIX = 200809, NO_LIMIT = -1 };
 
@@ -20,6 +21,12 @@ IT_REPLACEABLE int fileno(FILE *stream)
         return STDERR_FILENO;
     errno = EBADF;
     return -1;
+}
+
+IT_REPLACEABLE void malloc_stats(void)
+{
+    struct mallinfo info = mallinfo();
+    fprintf(stderr, "system bytes     = %10u\nin use bytes     = %10u\n", info.arena, info.uordblks);
 }
 
 /* -1 without an error: there is no limit, or there is no such thing. */

@@ -11,7 +11,7 @@
 #include <stdio.h>
 #include <stdlib.h>
 #include <string.h>
-#include "library.h"
+#include "../library.h"
 
 int it_vfprintf(FILE *stream, const char *format, va_list arguments);
 int __real_vfprintf(FILE *stream, const char *format, va_list arguments);

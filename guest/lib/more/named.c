@@ -5,7 +5,7 @@
 #include <semaphore.h>
 #include <stdarg.h>
 #include <string.h>
-#include "library.h"
+#include "../library.h"
 
 enum { LONGEST = 251 };
 

@@ -3,7 +3,7 @@
 #include <pthread.h>
 #include <sched.h>
 #include <string.h>
-#include "library.h"
+#include "../library.h"
 
 enum { STACKS = 0xD0000000, LOWEST = 1, HIGHEST = 99, NAME = 16 };
 

@@ -1,7 +1,7 @@
 /* Threads of C11, by those of POSIX. */
 #include <errno.h>
 #include <threads.h>
-#include "library.h"
+#include "../library.h"
 
 /* An answer of pthread.h as threads.h has it. */
 static int answered(int answer)

@@ -1,6 +1,6 @@
 /* pthread_cleanup_push and pthread_cleanup_pop: each thread has a list of its own, on its stack. */
 #include <pthread.h>
-#include "library.h"
+#include "../library.h"
 
 static _Thread_local struct it_cleanup *innermost;
 
