@@ -1,11 +1,11 @@
 /* POSIX threads for guests with a C library: what of POSIX.1-2017 <pthread.h> this machine has. Each function is that
    of the same name in POSIX.1-2017, System Interfaces; the comments say what it answers here. What isn't declared isn't
-   there: cancelling, robust mutexes and read-write locks. A wait with a time is there with `guest/build --time counted`
+   there: cancelling, robust mutexes, and a read lock that is only tried. A wait with a time is there with `guest/build --time counted`
    alone. Names that end in _np or _NP are Linux's.
 
    Answers are 0 or one of errno.h's numbers, and errno isn't set. A program has at most 32 threads, ended ones and
-   main's counted, and of mutexes, conditions, semaphores and barriers 63 of each at once. A mutex or a condition has
-   one of them from its first use or its init on, until it is destroyed. Where all are in use an init answers EAGAIN,
+   main's counted, and of mutexes, conditions, semaphores, barriers and reader-writer locks 63 of each at once. A mutex, a
+   condition or a reader-writer lock has one of them from its first use or its init on, until it is destroyed. Where all are in use an init answers EAGAIN,
    and the first use of a static one ends the guest with a message.
 
    Before each call here the library puts out what the thread has printed: so prints of several threads come in the
@@ -319,6 +319,40 @@ int pthread_barrierattr_destroy(pthread_barrierattr_t *attributes);
 /* PTHREAD_PROCESS_PRIVATE and PTHREAD_PROCESS_SHARED: 0; there is one process. Else EINVAL. */
 int pthread_barrierattr_setpshared(pthread_barrierattr_t *attributes, int shared);
 int pthread_barrierattr_getpshared(const pthread_barrierattr_t *__restrict attributes, int *__restrict shared);
+
+/* ---------------------------------------------------------------------------------------------- reader-writer locks ---- */
+
+typedef struct { int unused; } pthread_rwlock_t;
+typedef struct { int shared; } pthread_rwlockattr_t;
+
+#define PTHREAD_RWLOCK_INITIALIZER { 0 }
+
+/* Answers 0; EAGAIN: 63 are in use. */
+int pthread_rwlock_init(pthread_rwlock_t *__restrict lock, const pthread_rwlockattr_t *__restrict attributes);
+
+/* Answers 0; EBUSY: somebody holds it. */
+int pthread_rwlock_destroy(pthread_rwlock_t *lock);
+
+/* Waits until no thread writes and none that came before waits, and reads from then on beside other readers. Answers 0;
+   EDEADLK: the caller writes; EAGAIN: the caller reads already, and a thread has one read lock of it at most. */
+int pthread_rwlock_rdlock(pthread_rwlock_t *lock);
+
+/* Waits until the lock is the caller's alone, and writes from then on. Answers 0; EDEADLK: the caller holds it. */
+int pthread_rwlock_wrlock(pthread_rwlock_t *lock);
+
+/* Answers 0; EBUSY: somebody holds it, maybe the caller. */
+int pthread_rwlock_trywrlock(pthread_rwlock_t *lock);
+
+/* Answers 0; EPERM: the caller doesn't hold it. */
+int pthread_rwlock_unlock(pthread_rwlock_t *lock);
+
+/* Each answers 0. */
+int pthread_rwlockattr_init(pthread_rwlockattr_t *attributes);
+int pthread_rwlockattr_destroy(pthread_rwlockattr_t *attributes);
+
+/* PTHREAD_PROCESS_PRIVATE and PTHREAD_PROCESS_SHARED: 0; there is one process. Else EINVAL. */
+int pthread_rwlockattr_setpshared(pthread_rwlockattr_t *attributes, int shared);
+int pthread_rwlockattr_getpshared(const pthread_rwlockattr_t *__restrict attributes, int *__restrict shared);
 
 /* ---------------------------------------------------------------------------------------------- once, and keys ---- */
 
