@@ -40,8 +40,10 @@ SAID = {
     "null": ["thread 0 was in second, null.c:3", "the address was 0x00000004: a null pointer, or a member"],
     "constant": ["thread 0 was in main, constant.c:3", "which is a constant"],
     "jump": ["the jump was to 0x00000000: a null pointer"],
-    "spins": ["step 0, of thread 0, had 1,000,000 instructions without a call", "main, spins.c:3", "give --fuel 16777216"],
-    "yields": ["the run had 4,096 steps, as many as --steps allows: give --steps 65536", "main, yields.c:2"],
+    "spins": ["a step of thread 0 had 1,000,000 instructions without a call", "give --fuel 16777216",
+              "step 0, of thread 0, used up its fuel; it was in main, spins.c:3"],
+    "yields": ["the run had 4,096 steps, as many as --steps allows: give --steps 65536",
+               "step 4095, of thread 0, was the last that --steps allows; it was in main, yields.c:2"],
     "deep": ["thread 2 used more than the 65,536 bytes of its stack", "into the stack of thread 1"],
 }
 LOST = b"""#include <stdio.h>

@@ -12,7 +12,6 @@ HEADER, INPUT_PAGES, STACKS, STACK_PAGES, THREADS, OBJECTS = 0xC0000, 256, 0xD00
 EPERM, ESRCH, EAGAIN, EFAULT, EBUSY, EINVAL, EDEADLK, EOVERFLOW = -1, -3, -11, -14, -16, -22, -35, -75
 MOST_VALUE, MOST_PUT = 2**31 - 1, 4096
 ZEROS = bytes(PAGE)
-KINDS = {6: "mutex", 9: "semaphore", 14: "barrier", 15: "condition", 18: "rwlock", 19: "rwlock"}  # where a call waits
 
 
 class NoGuest(Exception):

@@ -11,9 +11,9 @@ from dataclasses import dataclass
 PAGE = 4096
 STACKS, STACK = 0xD0000000, 0x10000
 HEAD = struct.Struct("<BBI64I")  # thread, end, turns, and the registers at the start and at the end, each with the pc
-FINISH, SP, A0, A1, A7 = 32, 34, 42, 43, 49  # places among the registers
+FINISH, SP, A7 = 32, 34, 49  # places among the registers
 MOST_FRAMES = 16
-SAVE_RA, RAISE_SP, RETURN = 0x00112023, 0x00010113, 0x00008067
+SAVE_RA, RAISE_SP = 0x00112023, 0x00010113  # sw ra, 0(sp), and addi sp, sp, 0
 
 
 @dataclass(slots=True)

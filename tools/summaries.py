@@ -1,5 +1,5 @@
 """Sums up the lines of `ithreads why`: by what differed, how many steps were executed again and how many instructions
-these have, and which changes of the guest would spare most.
+these have, and which changes of the guest would save most.
 
 A step counts for the first thing that differs, which its line has. Its instructions are those of its record, so of the
 run before; of a step without a record none are known.
@@ -11,11 +11,11 @@ from dataclasses import dataclass, field
 from symbols import OF_FILES
 
 PAGE = 4096
-CHANGES = 3  # that are told
-LEAST_SHARE = 50  # a change that spares less than one of so many instructions isn't told
+CHANGES = 3  # that are shown
+LEAST_SHARE = 50  # a change that saves less than one of so many instructions isn't shown
 ROWS = 20
 WIDTH = 100
-MOST_BESIDE = 5  # variables that are told of a page
+MOST_BESIDE = 5  # other variables that are shown of a page
 NO_ADVICE = ("input", "unnamed", "own")  # kinds of rows
 BY_FUNCTION = ("register", "stack", "shared stack", "path", "more")  # kinds of which each function has rows of its own
 OWN_PAGE = "a page of its own (`alignas(4096)`, or IT_PAGE_ALIGNED)"
@@ -122,14 +122,14 @@ class Summary:
         changes = [row for row in told if advice(row) and row.all_instructions() * LEAST_SHARE >= max(instructions, 1)]
         changes = sorted(changes, key=lambda row: -row.all_instructions())[:CHANGES]
         if changes:
-            yield "\nWhat would spare most:\n"
+            yield "\nChanges that would save most:\n"
         for number, row in enumerate(changes, 1):
             words = f"{self.counts(row)}: {advice(row)}"
             yield textwrap.fill(words, WIDTH, initial_indent=f"{number}. ", subsequent_indent="   ") + "\n"
 
     @staticmethod
     def counts(row):
-        """The steps that a change would spare, and their instructions."""
+        """The steps that a change would save, and their instructions."""
         told = f"{row.steps:,} step{'s' * (row.steps > 1)}, {row.instructions:,} instructions"
         if row.carried[0]:
             told += f", and {row.carried[0]:,} behind them for what these leave in registers, {row.carried[1]:,}"
@@ -143,38 +143,38 @@ class Summary:
 
 
 def advice(row):
-    """The change by which a row's steps are spared, if the step doesn't need what differs; None where there is none, as
-    for what was edited."""
+    """The change that saves a row's steps, if they don't need what differs; None if there is none, as for what was
+    edited."""
     where, stored = row.where() or "a step", most_of(row.stored)
     by = f", which {stored} stores," if stored else ""
     if row.kind == "variable":
         rest = ", ".join(row.beside[:MOST_BESIDE]) + (", .." if row.beside[MOST_BESIDE:] else "")
         if rest:
-            return (f"put `{row.name}`{by} on {OWN_PAGE}. Beside it stand {rest}: of these, {where} may want "
-                    f"another.")
-        return (f"`{row.name}`{by} has its pages alone. Let each thread, or each block of the input, store to a page of "
-                f"its own, and let one thread add up; {where} reads it.")
+            return (f"move `{row.name}`{by} to {OWN_PAGE}. The page also has {rest}: {where} may need only "
+                    f"one of these.")
+        return (f"`{row.name}`{by} shares its page with nothing, and {where} reads it. Give each thread, or each block of "
+                f"the input, a page of its own to store to, and let one thread add up.")
     if row.kind == "heap":
         return (f"give {row.name}{by} pages of its own: one malloc of more than 2,032 bytes, or aligned_alloc(4096, ..), "
-                f"for what one thread or one block of the input needs; {where} reads it.")
+                f"for what one thread or one block of the input needs. {where} reads it.")
     if row.kind == "stack":
-        return (f"keep what {function_of(where)} finds out off its stack: in a structure on {OWN_PAGE}, one for each "
+        return (f"move what {function_of(where)} computes from its stack to a structure on {OWN_PAGE}, one for each "
                 f"thread or block of the input.")
     if row.kind == "shared stack":
-        return (f"what threads share is on {row.name}{by} beside other things that a step loads. Make it static, or take it "
-                f"from malloc, each thread's part on {OWN_PAGE}; {where} reads it.")
+        return (f"threads share data on {row.name}{by}, and {where} reads its page. Make the data static, or take it from "
+                f"malloc, each thread's part on {OWN_PAGE}.")
     if row.kind == "register":
-        return (f"{where} carries {row.name} from call to call: a count, a total, a pointer or an "
-                f"answer. Store it before the call, on {OWN_PAGE}, and load it where it is needed.")
+        return (f"{where} keeps a value in {row.name} from call to call: a count, a total, a pointer or a result. Store it "
+                f"before the call, on {OWN_PAGE}, and load it when it is needed.")
     if row.kind == "length":
-        return (f"{where} asks for the input's length. Ask in one thread alone, and store what the others want to know "
-                f"of it on pages of their own.")
+        return (f"{where} asks for the input's length. Ask in one thread only, and store what the others need to know on "
+                f"pages of their own.")
     if row.kind == "path":
-        return (f"{where} goes on behind another call than before: which call it makes depends on what was edited. Let it "
-                f"make the same calls, whatever the input's bytes are.")
+        return (f"{where} continues after another call than before: which call it makes depends on the edited data. Let it "
+                f"make the same calls for any input.")
     if row.kind == "more":
-        return (f"{where} makes more calls than before, so that its steps have no record. Let the number of calls not "
-                f"depend on the input's bytes.")
+        return (f"{where} makes more calls than before, and these steps have no record. Let the number of calls not depend "
+                f"on the edited data.")
     return library_advice(row.name, where) if row.kind == "library" else None
 
 
