@@ -260,11 +260,11 @@ def check_watch(checks):
         third = lines_until(said, 3)
         (place.folder / "away").rename(place.data)
         fourth = lines_until(said, 4)
-        started.send_signal(signal.SIGINT)
+        started.terminate()
         status = started.wait(SECONDS)
     counts = [b"there was no memo", b" 8 steps reused, 4 executed", b"can't be read", b" 12 steps reused, 0 executed"]
     right = len(fourth) == 4 and all(count in line for count, line in zip(counts, fourth))
-    checks.expect(f"again --watch: {status} {fourth}", right and status == 130 and [first, second, third] == [
+    checks.expect(f"again --watch: {status} {fourth}", right and status == 143 and [first, second, third] == [
         fourth[:1], fourth[:2], fourth[:3]])
     totals = [int.from_bytes(out.read_bytes()[at:at + 4], "little") for at in (0, 4, 8)]
     checks.expect(f"again --watch puts out what each run does: {totals}", totals == [12, 13, 13])

@@ -167,16 +167,6 @@ class Rounds:
         if not lines[count:] or not lines[count].startswith("end "):
             raise Refused(min(count, len(lines)) + 1, f"round {number} has {count} steps, and then an end is wanted")
 
-    def add_run(self, number, made):
-        """What a machine did that made the steps of a round again."""
-        for step, call in zip(self.steps[number], made.steps):
-            step.count, step.call = call.count, end_name(call.end)
-            step.waits, step.wakes, step.begins = call.waits or None, call.wakes, call.begins
-            answer = "" if call.answer is None else f" = {call.answer}"
-            step.text = call_text(call) + (f" {call.waits}" if call.waits else answer)
-        if len(made.steps) != len(self.steps[number]) or made.ended != reports.end_text(self.reports[number].end):
-            raise Refused(len(made.steps) + 1, f"the run ends by {made.ended}, and round {number} doesn't")
-
     def add_reasons(self, number, text):
         """The reasons of the executed steps of a round."""
         lines, executed = lines_of(text), [step for step in self.steps[number] if not step.is_reused]
