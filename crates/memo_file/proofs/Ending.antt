@@ -1,15 +1,15 @@
 -- What is told behind the records.
-use Rattle.std.proofs.Common.{◌≡◌, ◌≢◌, ◌+◌, ◌^◌, ◌<◌, ℕ, List, ◌++◌, length, drop, get_or, Result, Ok, Err, refl, sym, ap, ◌∙◌, arith, eq-eqb}
+use Rattle.std.proofs.Common.{◌≡◌, ◌≢◌, ◌+◌, ◌^◌, ◌<◌, ℕ, List, ◌++◌, length, drop, get_or, true, Result, Ok, Err, refl, sym, ap, subst, ◌∙◌, arith, eq-eqb}
 use Rattle.std.proofs.lemmas.Bool.{ne_eqb}
 use Rattle.std.proofs.lemmas.List.{get_or-drop, drop_at}
 use Rattle.memory_spec.specs.Pages.{Mapped}
 use Rattle.record_spec.specs.Record.{Record}
 use Rattle.machine_spec.specs.Setup.{Setup, first, map_of}
 use Rattle.machine_spec.specs.Machine.{Machine}
-use Rattle.history_spec.specs.History.{History}
+use Rattle.history_spec.specs.History.{History, is_coherent}
 use Rattle.ith_fields.specs.Place.{Place, Takes}
 use Rattle.memo_spec.specs.declared.Format.{Format}
-use Rattle.memo_spec.specs.declared.Format.TheVariants.{Version2}
+use Rattle.memo_spec.specs.declared.Format.TheVariants.{Version1, Version2}
 use Rattle.memo_spec.specs.declared.Refusal.{Refusal}
 use Rattle.memo_spec.specs.declared.Refusal.TheVariants.{Field, Limit}
 use Rattle.memo_spec.specs.declared.Limit.TheVariants as limit
@@ -17,9 +17,10 @@ use Rattle.std.specs.Prelude.{◌==◌, slice_index}
 use Rattle.std.specs.Int.{w32}
 use Rattle.memo_file.specs.Wholes.{uses_all}
 use Rattle.memo_spec.specs.Reader.{onward, done, number_at, ruled, limited}
-use Rattle.memo_spec.specs.Reading.{RecordState, is_within, setup_at, pool_and_records_at, todays, ended, history_at, behind_version, taken_as}
-use Rattle.memo_spec.specs.Spelling.{word, profile}
+use Rattle.memo_spec.specs.Reading.{RecordState, is_within, setup_at, pool_and_records_at, todays, ended, history_at, behind_version, taken_as, IsTaken}
+use Rattle.memo_spec.specs.Spelling.{word, profile, memo, IsSpellable}
 use Rattle.memo_spec.proofs.Formats.{ok_is, wide32, agrees_number, agrees_tested}
+use Rattle.memo_spec.proofs.Laws.{memo_taken}
 use Rattle.memo_file.specs.declared.error.ReadError.{ReadError}
 use Rattle.memo_file.specs.declared.error.ReadError.TheVariants as errors
 use Rattle.memo_file.specs.Gives.{Fails}
@@ -69,6 +70,10 @@ pub profile_leaves : (p q : Place) → ((i : ℕ) → slice_index p.left i < 256
     → (i : ℕ) → slice_index q.left i < 256
 profile_leaves p q bytes e = ((agrees_tested (number_at w32) word (λ n. n < 2 ^ 32) (λ n. n == profile)
     (λ (r : Place). Field r.taken) (agrees_number w32 (2 ^ 32) wide32)).takes p profile q bytes e).0.rest
+
+pub first_version : (format : Format) (p : Place) → format ≡ Version1 → behind_version format p ≡ history_at p
+unfolding behind_version
+first_version format p e = ap (λ (f : Format). behind_version f p) e
 
 -- ---- what comes behind the records
 
@@ -121,3 +126,20 @@ opened text piece old new e t len =
     let left : new.left ≡ drop 8 text = sym (ap (drop 8) front ∙ drop_at piece new.left 8 len) in
     let at : new.taken ≡ 8 = omega (arith, t.count, len, ap (λ (p : Place). p.taken) e) in
     ap (λ (n : ℕ). place n new.left) at ∙ ap (place 8) left
+
+-- ---- what is read
+
+abbrev good : History → Result History Refusal
+good h = Ok h
+
+pub one_reading : (r : Result History Refusal) (k h : History) → r ≡ Ok k → r ≡ Ok h → k ≡ h
+one_reading r k h a b = let e : good k ≡ good h = sym a ∙ b in cc
+
+pub no_refusal : (e : ReadError) (r : Result History Refusal) (h : History) → Fails e r → r ≡ Ok h
+    → e ≡ errors.NoMemory
+no_refusal errors.NoMemory r h fails taken = refl
+no_refusal (errors.Refused why) r h fails taken = absurd cc
+
+pub written_taken : (bytes : List ℕ) (h : History) → IsSpellable h → is_coherent h ≡ true → bytes ≡ memo h
+    → IsTaken bytes h
+written_taken bytes h fit whole is = subst (λ (b : List ℕ). IsTaken b h) (sym is) (memo_taken h fit whole)
