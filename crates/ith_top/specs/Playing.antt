@@ -77,23 +77,27 @@ pub record AreFound (workers : ℕ) (p : Plan) (found : List Found) : Type 0 whe
   pub few : length found ≤ length p.inputs
   pub made : All (IsMade workers) (rounds_of p found)
 
--- All rounds of a plan were made by so many workers, and exactly their texts were printed; whether each ended by exit,
--- and what the last one leaves.
-pub record IsPlayed (workers : ℕ) (p : Plan) (before after : World) (exits : Bool) (left : History) : Type 0 where
-  pub found : List Found
-  pub made : AreFound workers p found
-  pub all : length found ≡ length p.inputs
-  pub prints : Prints before after (concat (texts_of p found))
-  pub are_exits : all_made_exit (rounds_of p found) ≡ exits
-  pub is_left : left ≡ left_of p found
-
--- All rounds of a plan were made by so many workers; exactly their texts were printed, and the memo of what the last
--- one leaves was written, if it has a name; and whether each ended by exit.
-pub record IsCarriedOut (name : Option Text) (workers : ℕ) (p : Plan) (before after : World) (exits : Bool) : Type 0
+-- All rounds of a plan were made by so many workers, which made no other since they had made so many; exactly the texts
+-- of these rounds were printed; whether each ended by exit, and what the last one leaves.
+pub record IsPlayed (workers : ℕ) (p : Plan) (before after : World) (earlier later : ℕ) (exits : Bool) (left : History) : Type 0
   where
     pub found : List Found
     pub made : AreFound workers p found
     pub all : length found ≡ length p.inputs
+    pub rounds : later ≡ earlier + length found
+    pub prints : Prints before after (concat (texts_of p found))
+    pub are_exits : all_made_exit (rounds_of p found) ≡ exits
+    pub is_left : left ≡ left_of p found
+
+-- All rounds of a plan were made by so many workers, which made no other; exactly the texts of these rounds were
+-- printed, and the memo of what the last one leaves was written, if it has a name; and whether each ended by exit.
+pub record IsCarriedOut (name : Option Text) (workers : ℕ) (p : Plan) (before after : World) (earlier later : ℕ) (exits : Bool)
+    : Type 0
+  where
+    pub found : List Found
+    pub made : AreFound workers p found
+    pub all : length found ≡ length p.inputs
+    pub rounds : later ≡ earlier + length found
     pub keeps : PrintsAndKeeps name (memo (left_of p found)) before after (concat (texts_of p found))
     pub within : IsKeptWithin name (memo (left_of p found))
     pub are_exits : all_made_exit (rounds_of p found) ≡ exits
@@ -147,9 +151,9 @@ pub record IsLineOn (workers : ℕ) (b : Beginning) (input text : List ℕ) (exi
   pub is_exit : exit ≡ made_exits (round_on b input found)
   pub is_left : left ≡ left_by (round_on b input found)
 
--- So many workers made both rounds of the guest that is generated from a number: the text that tells of them, and
--- whether each ended by exit.
-pub record AreTheGenerated (workers number : ℕ) (text : List ℕ) (exits : Bool) : Type 0 where
+-- So many workers made both rounds of the guest that is generated from a number, and no other since they had made so
+-- many: the text that tells of both, and whether each ended by exit.
+pub record AreTheGenerated (workers number earlier later : ℕ) (text : List ℕ) (exits : Bool) : Type 0 where
   pub plan : Plan
   pub is_plan : IsGeneratedPlan number plan
   pub playable : CanBePlayed plan
@@ -157,5 +161,6 @@ pub record AreTheGenerated (workers number : ℕ) (text : List ℕ) (exits : Boo
   pub found : List Found
   pub made : AreFound workers plan found
   pub all : length found ≡ length plan.inputs
+  pub rounds : later ≡ earlier + length found
   pub is_text : text ≡ generated_text number (rounds_of plan found)
   pub are_exits : all_exit (rounds_of plan found) ≡ exits

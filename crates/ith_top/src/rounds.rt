@@ -56,18 +56,17 @@ pub struct Coming {
 /// Makes the rounds of a program that are to come, each going by what the one before it leaves, and prints the text of
 /// each before the next begins.
 fn make_rounds<R: Threads + Wait + Sync, H: Host, G: Gate + Sync>(
-    rt: &R,
     alloc: Global,
     host: &mut H,
     setup: &Setup,
     coming: Coming,
-    crew: &Crew<'_, G>,
+    crew: &mut Crew<'_, R, G>,
 ) -> Result<Outcome, Status>
     requires { CanBePlayed (coming_said setup.now coming) }
-    ensures played { IfOk result (λ outcome. IsPlayed crew.now.workers (coming_said setup.now coming)
-        (H.world host.old) (H.world host.new) outcome.exits (arc_value outcome.left)) }
-    ensures refused { IfErr result (λ status. IsPlayedInPart crew.now.workers (coming_said setup.now coming)
-        (H.world host.old) (H.world host.new) status) }
+    ensures played { IfOk result (λ outcome. IsPlayed crew.old.workers (coming_said setup.now coming)
+        (H.world host.old) (H.world host.new) crew.old.made.number crew.new.made.number outcome.exits (arc_value outcome.left)) }
+    ensures refused { IfErr result (λ status. IsPlayedInPart crew.old.workers (coming_said setup.now coming)
+        (H.world host.old) (H.world host.new) crew.old.made.number crew.new.made.number status) }
     ensures asked { AsksNothing (H.world host.old) (H.world host.new) }
     ensures counts { NoneFell (H.world host.old) (H.world host.new) }
 {
@@ -91,9 +90,7 @@ fn make_rounds<R: Threads + Wait + Sync, H: Host, G: Gate + Sync>(
             past,
             reach,
         };
-        let Played { text, exited, left } = match make_round(
-            rt, alloc, setup, ahead, crew, &mut last,
-        ) {
+        let Played { text, exited, left } = match make_round(alloc, setup, ahead, crew, &mut last) {
             Ok(played) => played,
             Err(_) => return Err(no_memory(host)),
         };
@@ -113,17 +110,16 @@ fn make_rounds<R: Threads + Wait + Sync, H: Host, G: Gate + Sync>(
 /// Makes the rounds of a plan, each going by what the one before it leaves, and prints the text of each before the next
 /// begins.
 pub fn play<R: Threads + Wait + Sync, H: Host, G: Gate + Sync>(
-    rt: &R,
     alloc: Global,
     host: &mut H,
     plan: Plan,
-    crew: &Crew<'_, G>,
+    crew: &mut Crew<'_, R, G>,
 ) -> Result<Outcome, Status>
     requires { CanBePlayed (plan_said plan) }
-    ensures played { IfOk result (λ outcome. IsPlayed crew.now.workers (plan_said plan)
-        (H.world host.old) (H.world host.new) outcome.exits (arc_value outcome.left)) }
-    ensures refused { IfErr result (λ status. IsPlayedInPart crew.now.workers (plan_said plan)
-        (H.world host.old) (H.world host.new) status) }
+    ensures played { IfOk result (λ outcome. IsPlayed crew.old.workers (plan_said plan)
+        (H.world host.old) (H.world host.new) crew.old.made.number crew.new.made.number outcome.exits (arc_value outcome.left)) }
+    ensures refused { IfErr result (λ status. IsPlayedInPart crew.old.workers (plan_said plan)
+        (H.world host.old) (H.world host.new) crew.old.made.number crew.new.made.number status) }
     ensures asked { AsksNothing (H.world host.old) (H.world host.new) }
     ensures counts { NoneFell (H.world host.old) (H.world host.new) }
 {
@@ -140,5 +136,5 @@ pub fn play<R: Threads + Wait + Sync, H: Host, G: Gate + Sync>(
         inputs,
         reach,
     };
-    make_rounds(rt, alloc, host, &setup, coming, crew)
+    make_rounds(alloc, host, &setup, coming, crew)
 }

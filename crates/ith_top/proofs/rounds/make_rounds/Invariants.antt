@@ -9,10 +9,10 @@ use Rattle.ith_top.proofs.Going.{IsGoing}
 use Rattle.ith_top.proofs.rounds.make_rounds.Given as goal
 
 -- the rounds so far were made and printed; each input that is left is that of a round to come, which can be made; and
--- once there was a round, it left a history
+-- once there was a round, it left a history; as many rounds were made as inputs were taken
 abbrev pub invariant-loop-place : goal.invariant-loop-place
 invariant-loop-place g l = record {
-  going : IsGoing (coming_said l.setup l.fn.coming).beginning l.crew.workers l.fn.coming.inputs
+  going : IsGoing (coming_said l.setup l.fn.coming).beginning l.fn.crew.workers l.fn.coming.inputs
       (g.H.Host.world l.fn.host)
       (g.H.Host.world l.host)
       (record {
@@ -25,4 +25,6 @@ invariant-loop-place g l = record {
   short : AreShort l.inputs;
   map : IsOfMap (option_map arc_value l.past) l.setup;
   some : option_map arc_value l.past ≡ None → l.place ≡ 0;
+  made : l.crew.made.number + length l.inputs ≡ l.fn.crew.made.number + length l.fn.coming.inputs;
+  workers : l.crew.workers ≡ l.fn.crew.workers;
 }
