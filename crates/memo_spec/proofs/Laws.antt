@@ -1,7 +1,6 @@
 -- What bytes are taken as is the coherent history that they spell.
-use Rattle.std.proofs.Common.{◌≡◌, ℕ, zero, suc, ◌+◌, ◌-◌, ◌*◌, ◌^◌, ◌<◌, ◌≤◌, Bool, true, false, not, cond, ltb, leb, eqb, eq-eqb, List, [], ◌∷◌, ◌++◌, length, take, drop, map, Option, Some, None, Result, Ok, Err, refl, sym, ap, subst, ◌∙◌, append_assoc, arith, inl, inr}
-use Rattle.std.specs.Prelude.{◌==◌, ◌&&◌, bytes_eq, is_none, is_some, get_or}
-use Rattle.std.specs.Int.{w32, from_le_bytes, to_le_bytes}
+use Rattle.std.proofs.Common.{◌≡◌, ℕ, ◌+◌, ◌-◌, ◌≤◌, Bool, true, false, not, cond, ltb, List, [], ◌∷◌, ◌++◌, length, take, drop, Option, Some, None, Result, Ok, Err, refl, sym, ap, subst, ◌∙◌, arith, inl, inr}
+use Rattle.std.specs.Prelude.{◌==◌, ◌&&◌, bytes_eq, is_none, is_some}
 use Rattle.std.proofs.lemmas.Bool.{ltb-false, le-ltb, eqb-true}
 use Rattle.std.proofs.lemmas.List.{append-nil, length-append, nil_from_length, take_at, drop_at, take-append-drop, length-take, length-drop, take-append-le, drop-append-le, drop-drop}
 use Rattle.sha2.specs.Sha256.{sha256}
@@ -15,7 +14,7 @@ use Rattle.ith_fields.specs.Place.{Place}
 use Rattle.memo_spec.specs.declared.Format.{Format}
 use Rattle.memo_spec.specs.declared.Format.TheVariants.{Version1, Version2}
 use Rattle.memo_spec.specs.declared.Refusal.{Refusal}
-use Rattle.memo_spec.specs.declared.Refusal.TheVariants.{Short, Magic, Version, Digest, Field, Old, Incoherent}
+use Rattle.memo_spec.specs.declared.Refusal.TheVariants.{Short, Magic, Digest, Field, Old}
 use Rattle.memo_spec.specs.Spelling.{magic, word, body, memo_in, memo, IsSpellable, SpellsIn, Spells}
 use Rattle.memo_spec.specs.Old.{last_number}
 use Rattle.memo_spec.specs.Reading.{behind_version, incoherent_from, coherent_or, is_old_in, todays, ended, taken_as, version_of, format_of, reading_in, reading, IsTaken}

@@ -1,28 +1,27 @@
 -- The reader of a history agrees with its spelling, and what bytes are taken as is the history that they spell.
-use Rattle.std.proofs.Common.{◌≡◌, ℕ, zero, suc, ◌+◌, ◌*◌, ◌^◌, ◌<◌, ◌≤◌, Bool, true, false, not, leb, eqb, eq-eqb, List, [], ◌∷◌, ◌++◌, length, map, Result, Ok, Err, refl, sym, ap, subst, ◌∙◌, append_assoc, arith}
+use Rattle.std.proofs.Common.{◌≡◌, ℕ, ◌^◌, ◌<◌, Bool, true, leb, eq-eqb, List, [], ◌∷◌, ◌++◌, length, refl, sym, ap, subst, ◌∙◌, append_assoc, arith}
 use Rattle.std.specs.Prelude.{◌==◌}
-use Rattle.std.specs.List.{AllByRecursion, flat_map, fold, concat}
+use Rattle.std.specs.List.{flat_map, concat}
 use Rattle.std.specs.Int.{w32}
 use Rattle.std.specs.Cmp.Derive.{both_true}
 use Rattle.std.proofs.lemmas.Bool.{and_parts, leb-true, le-leb, eqb-true}
 use Rattle.std.proofs.lemmas.List.{append-nil, length-append, nil_from_length}
 use Rattle.record_spec.specs.Record.{Record}
-use Rattle.machine_spec.specs.Setup.{Setup, IsSetup, map_of}
+use Rattle.machine_spec.specs.Setup.{Setup, map_of}
 use Rattle.history_spec.specs.History.{History}
 use Rattle.memo_spec.specs.declared.Format.{Format}
 use Rattle.memo_spec.specs.declared.Format.TheVariants.{Version1, Version2}
 use Rattle.memo_spec.specs.declared.Refusal.TheVariants.{Limit}
 use Rattle.memo_spec.specs.declared.Limit.TheVariants as limit
-use Rattle.memo_spec.specs.Spelling.{AreBytes, word, distinct, pages_read, pool_of, record_bytes, magic, profile, head, body, IsSpellable}
+use Rattle.memo_spec.specs.Spelling.{word, distinct, pages_read, pool_of, record_bytes, magic, profile, head, body, IsSpellable}
 use Rattle.memo_spec.specs.Reader.{Reader, ◌>>=◌, done, number_at, ruled, limited}
 use Rattle.memo_spec.specs.Reading.{RecordState, is_within, pool_and_records_at, setup_at, history_at, behind_version}
 use Rattle.memo_spec.proofs.Records.{FitsRecord}
 use Rattle.memo_spec.proofs.Formats.{Agrees, Chained, agrees_then, agrees_done, agrees_said, agrees_part, agrees_tested, agrees_number, wide32}
-use Rattle.memo_spec.proofs.Pool.{IsPool}
-use Rattle.memo_spec.proofs.Order.{Pages, IsOnce, IsPage, fold_once}
+use Rattle.memo_spec.proofs.Order.{Pages, IsOnce, fold_once}
 use Rattle.memo_spec.proofs.Chains.{records_are, records_again}
 use Rattle.memo_spec.proofs.Setups.{FitsSetup, setup_bytes, agrees_setup}
-use Rattle.memo_spec.proofs.Shelf.{Shelf, RawShelf, opening, shelf, pages_bytes, records_bytes, is_pool, nothing_once, pool_again, agrees_shelf}
+use Rattle.memo_spec.proofs.Shelf.{Shelf, RawShelf, opening, pages_bytes, records_bytes, is_pool, nothing_once, pool_again, agrees_shelf}
 use Rattle.memo_spec.proofs.Whole.{is_page_map, few_pages, fold_few, read_few, fold_pages, read_pages}
 
 abbrev used_up : Shelf → Bool

@@ -1,16 +1,15 @@
 -- Reading a memo from its first byte on, with the first refusal that is met.
-use Rattle.std.specs.Prelude.{◌≡◌, ℕ, ◌+◌, ◌-◌, ◌==◌, zero, suc, Bool, true, false, not, ◌&&◌, nat_lt, nat_le, if◌then◌else◌, List, [], ◌∷◌, ◌++◌, length, take, drop, slice_index_or, bytes_eq, Option, Some, None, is_none, is_some, Result, Ok, Err}
-use Rattle.std.specs.List.{list_any, position_or_len, count_by, flat_map}
-use Rattle.std.specs.Int.{Width, w8, w16, w32, byte_len, from_le_bytes, bit_at}
+use Rattle.std.specs.Prelude.{◌≡◌, ℕ, ◌+◌, ◌-◌, ◌==◌, suc, Bool, true, false, not, ◌&&◌, nat_lt, nat_le, if◌then◌else◌, List, [], ◌∷◌, ◌++◌, length, take, drop, slice_index_or, bytes_eq, Option, Some, None, is_none, is_some, Result, Ok, Err}
+use Rattle.std.specs.List.{list_any, position_or_len, count_by}
+use Rattle.std.specs.Int.{w8, w16, w32, from_le_bytes, bit_at}
 use Rattle.sha2.specs.Sha256.{sha256}
-use Rattle.isa_spec.specs.declared.Cause.{Cause}
 use Rattle.isa_spec.specs.declared.Cause.TheVariants as cause
 use Rattle.isa_spec.specs.Registers.{Registers}
 use Rattle.memory_spec.specs.Pages.{Mapped}
 use Rattle.memory_spec.specs.declared.TheConstants.{PAGE_SIZE}
 use Rattle.thunk_spec.specs.declared.ends.ThunkEnd.{ThunkEnd}
 use Rattle.thunk_spec.specs.declared.ends.ThunkEnd.TheVariants as ends
-use Rattle.record_spec.specs.Delta.{PageDelta, is_stored}
+use Rattle.record_spec.specs.Delta.{PageDelta}
 use Rattle.record_spec.specs.Reads.{ReadPage}
 use Rattle.record_spec.specs.Record.{Kept, Record}
 use Rattle.elf_spec.specs.declared.Refusal as elf
@@ -30,7 +29,7 @@ use Rattle.memo_spec.specs.declared.Refusal.{Refusal}
 use Rattle.memo_spec.specs.declared.Refusal.TheVariants.{Short, Magic, Version, Digest, Limit, Image, Field, Old, Incoherent}
 use Rattle.memo_spec.specs.Spelling.{magic, profile, has_page, SpellsIn}
 use Rattle.memo_spec.specs.Old.{is_old, last_number}
-use Rattle.memo_spec.specs.Reader.{Reader, onward, ◌>>=◌, done, bytes_at, number_at, tested, ruled, limited, each, chain}
+use Rattle.memo_spec.specs.Reader.{Reader, ◌>>=◌, done, bytes_at, number_at, ruled, limited, each, chain}
 
 -- Whether a number lies in a range.
 abbrev pub is_within : ℕ → ℕ → ℕ → Bool

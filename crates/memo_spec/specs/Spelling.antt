@@ -1,5 +1,5 @@
 -- The spelling of a history as the bytes of a memo file, one in each version, and which histories have one.
-use Rattle.std.specs.Prelude.{◌≡◌, ℕ, ◌+◌, ◌*◌, ◌<◌, ◌≤◌, ◌^◌, ⊤, Bool, true, if◌then◌else◌, List, [], ◌∷◌, ◌++◌, length, map, drop, slice_index, slice_index_or, bytes_eq}
+use Rattle.std.specs.Prelude.{◌≡◌, ℕ, ◌+◌, ◌*◌, ◌<◌, ◌≤◌, ◌^◌, ⊤, Bool, true, if◌then◌else◌, List, [], ◌∷◌, ◌++◌, length, map, drop, slice_index_or, bytes_eq}
 use Rattle.std.specs.List.{flat_map, fold, concat, list_any, position_or_len, count_by, AllByRecursion}
 use Rattle.std.specs.Int.{w8, w16, w32, to_le_bytes}
 use Rattle.sha2.specs.Sha256.{sha256}
@@ -11,10 +11,10 @@ use Rattle.thunk_spec.specs.declared.ends.ThunkEnd.{ThunkEnd}
 use Rattle.thunk_spec.specs.declared.ends.ThunkEnd.TheVariants.{Call, Trap, Fuel}
 use Rattle.record_spec.specs.Delta.{PageDelta, is_stored}
 use Rattle.record_spec.specs.Reads.{ReadPage}
-use Rattle.record_spec.specs.Record.{Kept, Record}
+use Rattle.record_spec.specs.Record.{Record}
 use Rattle.record_spec.specs.Ascending.{reads_ascend, deltas_ascend}
 use Rattle.guest_call.specs.declared.thread_number.TheConstants.{THREADS}
-use Rattle.machine_spec.specs.Setup.{Setup, IsSetup, map_of}
+use Rattle.machine_spec.specs.Setup.{IsSetup, map_of}
 use Rattle.history_spec.specs.History.{History, is_numbered}
 use Rattle.memo_spec.specs.declared.Format.{Format}
 use Rattle.memo_spec.specs.declared.Format.TheVariants.{Version1, Version2}

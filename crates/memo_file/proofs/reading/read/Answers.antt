@@ -1,5 +1,5 @@
 -- Answers to the goals that the check leaves of `read`.
-use Rattle.std.proofs.Common.{◌≡◌, Ok, ◌∙◌}
+use Rattle.std.proofs.Common.{◌∙◌}
 use Rattle.std.proofs.lemmas.Result.{err_from_is_err_and}
 use Rattle.memo_spec.specs.Reading.{reading}
 use Rattle.memo_file.proofs.Ending.{one_reading, no_refusal, written_taken}
