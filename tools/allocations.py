@@ -1,5 +1,5 @@
-"""Finds which line of a guest asked for a block of the heap: it runs the guest again, in the order of its memo, and notes
-what malloc and its like are asked for and what they answer."""
+"""Finds which line of a guest asked for a block of the heap: it runs the guest again, in the order of its memo, and
+notes what malloc and its like are asked for and what they answer."""
 import machine
 from blocks import translated
 

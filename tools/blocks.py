@@ -1,5 +1,5 @@
-"""Translates a guest's instructions to functions of Python, block by block: a block ends with a jump, a branch or a call,
-or at the end of its page. It goes by docs/MACHINE.md and shares no code with the program.
+"""Translates a guest's instructions to functions of Python, block by block: a block ends with a jump, a branch or a
+call, or at the end of its page. It goes by docs/MACHINE.md and shares no code with the program.
 
 A block's function takes the registers, the pages, how many turns there were, and how many may begin a block; it gives
 the next pc and the turns. The pc is the complement of the address of an ECALL, where it came to one.

@@ -15,8 +15,9 @@ import sentences
 from checking import EXAMPLES, ROOT, SECONDS, program, ran_whole, tool
 
 NUMBERS = {"i": "3", "j": "4", "n": "1200", "V": "7", "O": "99", "I": "2", "N": "300000000", "T": "1"}
-LINES = ["words: ELF INPUT SCHEDULE are wanted", "write output", "write FILE", "no memory", "too large FILE", "read FILE",
-         "schedule: entry 3, thread 1: the thread waits", "end exit 0", "end exit 134", "end deadlock", "end spent",
+LINES = ["words: ELF INPUT SCHEDULE are wanted", "write output", "write FILE", "no memory", "too large FILE",
+         "read FILE", "schedule: entry 3, thread 1: the thread waits", "end exit 0", "end exit 134", "end deadlock",
+         "end spent",
          "trace: building failed after 12 s"]
 C_FILES = {
     "trap": "static unsigned work(unsigned place) { *(volatile unsigned *)place = 1; return 0; }\n"
@@ -85,7 +86,8 @@ def check_table(checks):
     unknown = [line for line in ("image", "end", "end exit", "memo: digest", "", "step 3") if sentences.explained(line)]
     checks.expect(f"other lines have no sentence, but for {unknown}", not unknown)
     status, printed, said = tool("explain", "end spent")
-    checks.expect(f"explain: {status} {said}", (status, printed.decode()) == (0, f"{sentences.explained('end spent')}\n"))
+    wanted = f"{sentences.explained('end spent')}\n"
+    checks.expect(f"explain: {status} {said}", (status, printed.decode()) == (0, wanted))
     for line in ("memo: digest", ""):
         status, printed, said = tool("explain", line)
         checks.expect(f"explain `{line}`: {status} {said}", status == 1 and not printed and "no line" in said)
@@ -96,11 +98,14 @@ def check_files(checks):
     hi, empty, data = EXAMPLES / "hi.elf", EXAMPLES / "empty", EXAMPLES / "pair.in"
     large, text = checks.file("large", bytes(1_048_577)), checks.file("text", b"some text\n")
     far = checks.file("far", b"set 9999999 00\n")
-    for words, wanted in ((("run", text, empty), "no ELF executable"), (("run", hi, checks.folder / "none"), "there is no file"),
+    for words, wanted in ((("run", text, empty), "no ELF executable"),
+                          (("run", hi, checks.folder / "none"), "there is no file"),
                           (("run", hi, checks.folder), "is a folder"), (("run", hi, large), "has 1,048,577 bytes"),
-                          (("run", hi, empty, data), "seems to be no edit list"), (("run", hi, empty, far), "behind the input's end"),
+                          (("run", hi, empty, data), "seems to be no edit list"),
+                          (("run", hi, empty, far), "behind the input's end"),
                           (("show", text), "fewer than 40 bytes"), (("show", hi), "no memo"),
-                          (("replay", hi, empty, text), "no thread number"), (("replay", hi, empty, empty), "ends before the run"),
+                          (("replay", hi, empty, text), "no thread number"),
+                          (("replay", hi, empty, empty), "ends before the run"),
                           (("runs",), "isn't understood")):
         status, _, line = program(*words)
         told = sentences.explained(line) or ""
@@ -109,8 +114,8 @@ def check_files(checks):
 
 def explained(words, printed):
     """What is said of reports that are piped to the tool."""
-    done = subprocess.run([ROOT / "tools/explain", *map(str, words)], input=printed, capture_output=True, timeout=SECONDS,
-                          check=False)
+    tool_words = [ROOT / "tools/explain", *map(str, words)]
+    done = subprocess.run(tool_words, input=printed, capture_output=True, timeout=SECONDS, check=False)
     return done.returncode, done.stdout.decode()
 
 
@@ -119,14 +124,17 @@ def check_guests(checks):
     cross = [EXAMPLES / "cross.elf", EXAMPLES / "empty"]
     _, report, _ = program("run", *cross, "--workers", "1")
     status, told = explained(("--guest", *cross), report)
-    shown = "round 0: thread 0 waits for mutex 1, held by thread 1, in 00010028\nround 0: thread 1 waits for mutex 0, held by thread 0, in 00010070\n"
+    shown = ("round 0: thread 0 waits for mutex 1, held by thread 1, in 00010028\n"
+             "round 0: thread 1 waits for mutex 0, held by thread 0, in 00010070\n")
     checks.expect(f"who waits in cross.elf: {status} {told}", status == 0 and told.endswith(shown))
-    checks.expect("docs/GUESTS.md shows who waits in cross.elf", f"```\n{shown}```" in (ROOT / "docs/GUESTS.md").read_text())
+    guide = (ROOT / "docs/GUESTS.md").read_text()
+    checks.expect("docs/GUESTS.md shows who waits in cross.elf", f"```\n{shown}```" in guide)
     status, told = explained(("--guest", *pair), report)
     checks.expect(f"the report of another guest: {status} {told}", "the schedule is of another guest" in told)
     _, report, _ = program("run", *pair, EXAMPLES / "pair.edits", "--workers", "1")
     status, told = explained(("--guest", *pair, EXAMPLES / "pair.edits"), report)
-    checks.expect(f"two rounds that exit: {status} {told}", status == 0 and told.count("\n") == 1 and "exit code 0" in told)
+    right = status == 0 and told.count("\n") == 1 and "exit code 0" in told
+    checks.expect(f"two rounds that exit: {status} {told}", right)
     status, told = explained(("--guest", *pair), report)
     checks.expect(f"two rounds and one input: {status} {told}", status == 2)
 
@@ -153,7 +161,8 @@ def check_unbuffered(checks):
     for words, output in (((), b"output 0\n\n"), (("--unbuffered",), b"output 8\nprinted\n\n")):
         ran_whole(str(ROOT / "guest/build"), "--libc", *words, str(source), str(elf))
         _, report, _ = program("run", elf, EXAMPLES / "empty", "--workers", "1")
-        checks.expect(f"printed before a trap, {words}: {report[-30:]}", report.endswith(output) and b"end trap" in report)
+        right = report.endswith(output) and b"end trap" in report
+        checks.expect(f"printed before a trap, {words}: {report[-30:]}", right)
 
 
 def check(checks):

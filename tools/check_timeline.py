@@ -3,8 +3,8 @@
   - Its picture is well-formed XML, and has a box for each step that says which it is: of drawn reports, and of guests
     of examples/ with all that is known of them. Boxes stand in the order of the schedule, and are the wider the more
     instructions there are; there is a line for each step that waits, that wakes, or whose reason is known.
-  - Rounds of 65,536 steps have few boxes, whose steps are all steps, in time. Of 300 steps, too, and a column in which a
-    step was executed shows it. The page of HTML has all steps, and where there is Chromium, it draws them in time.
+  - Rounds of 65,536 steps have few boxes, whose steps are all steps, in time. Of 300 steps, too, and a column in which
+    a step was executed shows it. The page of HTML has all steps, and where there is Chromium, it draws them in time.
   - What it says of pair.elf is what ./trace, `show` and `why` say. Its table is that of README. With other limits than
     those of ./trace it draws the same.
   - A file of reports, a listing, a trace or the lines of `why` that is cut at any byte is refused, and a line says
@@ -152,7 +152,8 @@ def check_page(checks):
     browser = browser_here("the page of HTML")
     if browser:
         page = checks.file("page.html", printed)
-        options = ["--headless", "--no-sandbox", "--disable-gpu", f"--user-data-dir={checks.folder}/browser", "--dump-dom"]
+        options = ["--headless", "--no-sandbox", "--disable-gpu", f"--user-data-dir={checks.folder}/browser",
+                   "--dump-dom"]
         drawn = re.search(rb'data-drawn="([0-9]+)"', ran_whole(browser, *options, f"file://{page}")[1])
         checks.expect(f"timeline --html: Chromium draws it, in ms: {drawn and drawn.group(1)}",
                       drawn and int(drawn.group(1)) < 1000 * DRAWN_SECONDS)

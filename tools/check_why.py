@@ -3,8 +3,8 @@ behind that guest here.
 
   - Without --symbols it prints those lines, and where the program refuses, it ends as the program does.
   - With --symbols it names functions, calls, variables, registers, bytes of the input and of stacks.
-  - Of more than a hundred steps, and with --summary, it prints a summary, whose rows have all steps; of 22,000 it does so
-    in time.
+  - Of more than a hundred steps, and with --summary, it prints a summary, whose rows have all steps; of 22,000 it does
+    so in time.
   - An executable that is cut, has no symbols, or other code, is refused with a line.
   - Where there is clang with lld and llvm-symbolizer, lines of a C file are named.
   - With a C library, the guest's own lines are told, and the one that allocated a block.
@@ -193,7 +193,8 @@ def check_summary(checks, place, memo, guest):
         before = processor_seconds()
         status, printed, said = place.ran(many, 0, "", memo, "e", *words)
         spent = processor_seconds() - before
-        counted = sum(row[0] for row in rows_of(printed)) if is_summed else len(re.findall(b"^step", printed, flags=re.M))
+        counted = (sum(row[0] for row in rows_of(printed)) if is_summed
+                   else len(re.findall(b"^step", printed, flags=re.M)))
         checks.expect(f"{len(lines)} steps, {words}: {status} {said} {counted} in {spent:.1f} s of a processor",
                       status == 0 and counted == len(lines) and spent < SECONDS)
     status, printed, said = place.ran("why 0\n", 0, "", memo, "e", "--summary")
@@ -203,9 +204,10 @@ def check_summary(checks, place, memo, guest):
 def check_library(checks):
     """A guest with a C library: the guest's own lines, and the line that allocated a block."""
     if not (shutil.which("riscv64-unknown-elf-gcc") and shutil.which("llvm-symbolizer")):
-        print("skipped: the lines of a guest with a C library, since there is no riscv64-unknown-elf-gcc and llvm-symbolizer")
+        print("skipped: lines of a guest with a C library: no riscv64-unknown-elf-gcc with llvm-symbolizer")
         return
-    source, elf, memo = checks.file("library.c", LIBRARY_FILE), checks.folder / "library.elf", checks.folder / "library.memo"
+    source = checks.file("library.c", LIBRARY_FILE)
+    elf, memo = checks.folder / "library.elf", checks.folder / "library.memo"
     ran_whole(str(ROOT / "guest/build"), "--libc", "--symbols", str(source), str(elf))
     program("run", elf, checks.file("in", b"ab"), "--workers", "1", "--memo", memo)
     edits = checks.file("edits", b"set 0 7a\n")
@@ -304,8 +306,8 @@ def check_guide(checks):
 
 def check_shown_summary(checks, memo, built):
     """The summary that the guide shows."""
-    shown = re.search(r"^tools/why orders\.memo (\S+) --symbols orders\.elf --summary\n```\n.*?^```\n(why [0-9]+\n.*?)^```$",
-                      (ROOT / "docs/GUESTS.md").read_text(), flags=re.S | re.M)
+    shown = re.search(r"^tools/why orders\.memo (\S+) --symbols orders\.elf --summary\n```\n.*?^```\n"
+                      r"(why [0-9]+\n.*?)^```$", (ROOT / "docs/GUESTS.md").read_text(), flags=re.S | re.M)
     status, printed, said = tool("why", memo, ROOT / shown.group(1), "--symbols", built, "--summary")
     if status == 2 and "isn't the memo's guest" in said:
         print("skipped: the summary that docs/GUESTS.md shows: clang writes another guest here")

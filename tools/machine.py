@@ -45,7 +45,7 @@ class Image:
             self.pages[page] = old[:low] + new + old[low + len(new):]
 
     def block(self, pc, view, last):
-        """The block at a pc, as far as it ends before the last turn; of a page that can be stored to, one instruction."""
+        """The block at a pc; one instruction of it, if `last` says so, or its page can be stored to."""
         right, word_at = self.rights.get(pc // PAGE, 0), lambda at: word_of(view, at)
         if pc % 4 or not right & EXECUTE:
             return None
@@ -93,7 +93,8 @@ class Machine:
     """A run. `ended` is how it ended, as a report has it."""
 
     def __init__(self, image, given, fuel=1_000_000, limit=4096):
-        self.image, self.fuel, self.limit, self.output, self.ended, self.steps = image, fuel, limit, bytearray(), None, []
+        self.image, self.fuel, self.limit = image, fuel, limit
+        self.output, self.ended, self.steps = bytearray(), None, []
         self.shared = dict(image.pages)
         self.shared[HEADER] = struct.pack("<I", len(given)).ljust(PAGE, b"\0")
         for start in range(0, len(given), PAGE):
@@ -482,5 +483,5 @@ CALLS = {1: Machine.written, 2: Machine.create, 4: Machine.join, 5: Machine.take
 
 
 def by_rule(machine, ready):
-    """The choice of one worker without an earlier run: who has made the fewest steps, and of these the lowest number."""
+    """The choice of one worker without an earlier run: who has made the fewest steps, of these the lowest number."""
     return min(ready, key=lambda number: (machine.threads[number].made, number))

@@ -2,10 +2,10 @@
 in it a box for each step, in the order of the schedule from left to right.
 
 A box is the wider the more instructions its step has, where that is known, by one scale for all rounds. Executed steps
-are orange and hatched, reused ones light blue and plain, which eyes that see fewer colours can tell too. A round of more
-than FOLDED steps is folded by time: in each lane the steps of one column are one box, and the hatched part of a box is as
-high as its share of executed steps, and never too low to be seen; columns that follow each other and have steps of one
-kind alone are one box, too.
+are orange and hatched, reused ones light blue and plain, which eyes that see fewer colours can tell too. A round of
+more than FOLDED steps is folded by time: in each lane the steps of one column are one box, and the hatched part of a
+box is as high as its share of executed steps, and never too low to be seen; columns that follow each other and have
+steps of one kind alone are one box, too.
 """
 from collections import Counter
 from dataclasses import dataclass
@@ -92,7 +92,8 @@ def said_of_steps(box):
              f"{last.number}: {len(box.steps) - executed} reused, {executed} executed"]
     lines += [] if None in counts else [f"{sum(counts):,} instructions"]
     lines += most_of("calls", (step.call for step in box.steps if step.call))
-    lines += most_of("executed", (step.notes[0] for step in box.steps if step.notes and step.notes[0].startswith("from ")))
+    notes = (step.notes[0] for step in box.steps if step.notes)
+    lines += most_of("executed", (note for note in notes if note.startswith("from ")))
     return "\n".join(lines)
 
 

@@ -119,7 +119,7 @@ class Code:
         return self.frames[pc]
 
     def caller(self, pc, sp, word, ra=0):
-        """Where the guest's own code called what came to this pc; the pc itself where that isn't found. ra is wanted where
+        """Where the guest's own code called what came to this pc; the pc itself where that isn't found. ra is wanted if
         the pc isn't at a call, which clears it."""
         at = pc
         if ra and self.found.is_library(at) and self.frame(at) is None:

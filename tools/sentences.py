@@ -34,29 +34,31 @@ KINDS = {  # of refused executables
     r"EntrySize": "the table of program headers has entries of another size than 32 bytes: the file is damaged",
     r"ShortTable (\d+)": "the file ends inside of program header {1}: it is cut off",
     r"Dynamic (\d+)": f"program header {{1}} asks for a dynamic linker. Link statically, with -static: {BUILD}",
-    r"ShortSegment (\d+)": "the file ends before the bytes of program header {1}, or that has fewer bytes in memory than "
-                           "in the file: it is cut off or damaged",
+    r"ShortSegment (\d+)": "the file ends before the bytes of program header {1}, or that has fewer bytes in memory "
+                           "than in the file: it is cut off or damaged",
     r"Outside (\d+)": "program header {1} is to be loaded below 0x1000 or above 0xC0000000. Link it to addresses "
                       f"between: {BUILD}",
     r"Overlap (\d+) (\d+)": "program headers {1} and {2} are to be loaded to the same addresses",
-    r"TooManyPages (\d+)": "the guest takes {1} pages of memory, and the limit is 1,024 (4 MiB). Make its static arrays "
-                           "smaller",
+    r"TooManyPages (\d+)": "the guest takes {1} pages of memory, and the limit is 1,024 (4 MiB). Make its static "
+                           "arrays smaller",
     r"Entry": "the executable begins at an address that isn't a multiple of 4 or has no code",
 }
 LOOPS = ("A thread may also loop without a call, waiting for a variable: it sees what others store only after its own "
          "next call")
 FUEL = f"give --fuel 16777216. {LOOPS}"
 STEPS = "give --steps 65536"
-SPENT = ("a limit was reached. If `steps` of the report is as large as --steps (4,096 unless it is given), the run has too "
-         f"many steps: {STEPS}. Else a step has more instructions than --fuel (1,000,000 unless it is given): {FUEL}")
-DEADLOCK = ("each thread waits for another. With --guest ELF INPUT and the report on standard input, tools/explain says "
-            "who waits for what, and where; tools/explore finds orders that end otherwise")
+SPENT = ("a limit was reached. If `steps` of the report is as large as --steps (4,096 unless it is given), the run has "
+         f"too many steps: {STEPS}. Else a step has more instructions than --fuel (1,000,000 unless it is given): "
+         f"{FUEL}")
+DEADLOCK = ("each thread waits for another. With --guest ELF INPUT and the report on standard input, tools/explain "
+            "says who waits for what, and where; tools/explore finds orders that end otherwise")
 
 
 def spent(steps, thread, fuel, limit):
     """What it means that a limit was reached, of a run with so many steps and these limits."""
     if steps == limit:
-        return f"the run had {steps:,} steps, as many as --steps allows: {STEPS if limit < 65_536 else 'make fewer calls'}"
+        return (f"the run had {steps:,} steps, as many as --steps allows: "
+                f"{STEPS if limit < 65_536 else 'make fewer calls'}")
     return (f"a step of thread {thread} had {fuel:,} instructions without a call, as many as --fuel allows: "
             f"{FUEL if fuel < 16_777_216 else f'make a call in it, such as sched_yield. {LOOPS}'}")
 
@@ -83,7 +85,8 @@ def too_large(name):
         begin, size = b"", None
     kind = {b"\x7fELF": "an executable", b"ITHM": "a memo"}.get(begin, "an input, an edit list or a schedule")
     has = f"{name} has {size:,} bytes" if size is not None else f"{name} is too long"
-    advice = {"an executable": "; build it without --symbols", "a memo": ""}.get(kind, "; shorten it, or give it in parts")
+    advice = {"an executable": "; build it without --symbols", "a memo": ""}.get(kind, "; shorten it, or give it in "
+                                                                                       "parts")
     return f"{has}, and the limit for {kind} is {LIMITS[kind]:,} bytes ({LIMITS[kind] // MIB} MiB){advice}"
 
 
@@ -102,14 +105,14 @@ def bad_line(name, line):
 
 
 def out_of_range(name, line):
-    return (f"line {line} of {name} writes behind the input's end, or makes the input longer than 1,048,576 bytes. Put a "
-            "line `size LENGTH` before it, if the input is to grow; of a rerun, the memo's input is meant. "
+    return (f"line {line} of {name} writes behind the input's end, or makes the input longer than 1,048,576 bytes. Put "
+            f"a line `size LENGTH` before it, if the input is to grow; of a rerun, the memo's input is meant. "
             f"tools/check-edits {name} LENGTH says more")
 
 
 def trap(thread, pc, cause):
-    return (f"thread {thread} {CAUSES[int(cause)]}; the instruction is at 0x{pc}. What the thread has printed since its last "
-            "call is lost, unless the guest was built by guest/build --libc --unbuffered")
+    return (f"thread {thread} {CAUSES[int(cause)]}; the instruction is at 0x{pc}. What the thread has printed since "
+            f"its last call is lost, unless the guest was built by guest/build --libc --unbuffered")
 
 
 def exited(code):
@@ -126,7 +129,8 @@ LINES = [
     (r"memo: Magic", f"the file is no memo; {AGAIN}"),
     (r"memo: Version (\d+)", f"the memo has version {{1}}, and this program reads version 1; {AGAIN}"),
     (r"memo: Digest", f"the memo is damaged or cut off: its digest isn't that of its bytes; {AGAIN}"),
-    (r"memo: Limit (\w+)", f"a number in the memo ({{1}}) is above its limit, so that another program wrote it; {AGAIN}"),
+    (r"memo: Limit (\w+)", f"a number in the memo ({{1}}) is above its limit, so that another program wrote it; "
+                           f"{AGAIN}"),
     (r"memo: Field (\d+)",
      f"the memo is wrong at byte {{1}}, though its digest is right, so that another program wrote it; {AGAIN}"),
     (r"memo: Old (\d+)",
@@ -138,26 +142,28 @@ LINES = [
     (r"read (.*)", file_named),
     (r"write output", "what is printed can't be written: the disk is full, or the reader has closed the pipe"),
     (r"write (.*)",
-     "the memo can't be written to {1}: the folder isn't there, may not be written to, or the disk is full. All reports "
-     "hold; a memo that had this name before may be damaged"),
+     "the memo can't be written to {1}: the folder isn't there, may not be written to, or the disk is full. All "
+     "reports hold; a memo that had this name before may be damaged"),
     (r"no memory",
      "the computer's memory ran out; use a machine with more memory, or fewer --workers, or keep no memo"),
     (r"too large memo (\d+)",
-     "the memo would have {1} bytes, and the limit is 268,435,456 (256 MiB). All reports hold, and no memo was written. "
-     "Make fewer steps, and let each read fewer pages; or give all edit lists to one `ithreads run`, which needs no memo"),
+     "the memo would have {1} bytes, and the limit is 268,435,456 (256 MiB). All reports hold, and no memo was "
+     "written. Make fewer steps, and let each read fewer pages; or give all edit lists to one `ithreads run`, which "
+     "needs no memo"),
     (r"too large (.*)", too_large),
     (r"schedule: token (\d+)",
-     "word {1} of the schedule, counted from 0, is no thread number from 0 to 31. Of a report's line `schedule`, leave the "
-     "first word away: tools/schedule REPORTS N does it"),
+     "word {1} of the schedule, counted from 0, is no thread number from 0 to 31. Of a report's line `schedule`, leave "
+     "the first word away: tools/schedule REPORTS N does it"),
     (r"schedule: entry (\d+), thread (\d+): (.*)",
-     "at entry {1}, counted from 0, the schedule lets thread {2} make a step, and {3}. The schedule is of another guest, "
-     "another input or other limits"),
+     "at entry {1}, counted from 0, the schedule lets thread {2} make a step, and {3}. The schedule is of another "
+     "guest, another input or other limits"),
     (r"schedule: entry (\d+)",
-     "at entry {1}, counted from 0, the schedule lets a thread make a step that waits, has ended or isn't there yet; or the "
-     "run has ended. The schedule is of another guest, another input, or other --fuel and --steps: give those of the run"),
+     "at entry {1}, counted from 0, the schedule lets a thread make a step that waits, has ended or isn't there yet; "
+     "or the run has ended. The schedule is of another guest, another input, or other --fuel and --steps: give those "
+     "of the run"),
     (r"schedule: incomplete",
-     "the schedule ends before the run does: it is cut off, or of another guest or input, or --fuel is larger than that of "
-     "the run"),
+     "the schedule ends before the run does: it is cut off, or of another guest or input, or --fuel is larger than "
+     "that of the run"),
     (r"words: .*", "the command line isn't understood; `./ithreads --help` shows the commands and their options"),
     (r"end exit (\d+)", exited),
     (r"end trap (\d+) ([0-9a-f]{8}) ([0-8])", trap),

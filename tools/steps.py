@@ -59,7 +59,8 @@ def call_text(call):
     if kind != "call":
         return "no call within the fuel" if kind == "fuel" else f"trap at {call.pc:08x}"
     number = int(which)
-    arguments = (f"{call.first:08x}" if number in (1, 2) else str(call.first), str(call.second))[:ARGUMENTS.get(number, 1)]
+    first = f"{call.first:08x}" if number in (1, 2) else str(call.first)
+    arguments = (first, str(call.second))[:ARGUMENTS.get(number, 1)]
     return f"{CALLS[number] if number < len(CALLS) else f'call {number}'}({', '.join(arguments)})"
 
 

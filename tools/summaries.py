@@ -152,40 +152,42 @@ def advice(row):
         if rest:
             return (f"move `{row.name}`{by} to {OWN_PAGE}. The page also has {rest}: {where} may need only "
                     f"one of these.")
-        return (f"`{row.name}`{by} shares its page with nothing, and {where} reads it. Give each thread, or each block of "
-                f"the input, a page of its own to store to, and let one thread add up.")
+        return (f"`{row.name}`{by} shares its page with nothing, and {where} reads it. Give each thread, or each block "
+                f"of the input, a page of its own to store to, and let one thread add up.")
     if row.kind == "heap":
-        return (f"give {row.name}{by} pages of its own: one malloc of more than 2,032 bytes, or aligned_alloc(4096, ..), "
-                f"for what one thread or one block of the input needs. {where} reads it.")
+        return (f"give {row.name}{by} pages of its own: one malloc of more than 2,032 bytes, or aligned_alloc(4096, "
+                f"..), for what one thread or one block of the input needs. {where} reads it.")
     if row.kind == "stack":
         return (f"move what {function_of(where)} computes from its stack to a structure on {OWN_PAGE}, one for each "
                 f"thread or block of the input.")
     if row.kind == "shared stack":
-        return (f"threads share data on {row.name}{by}, and {where} reads its page. Make the data static, or take it from "
-                f"malloc, each thread's part on {OWN_PAGE}.")
+        return (f"threads share data on {row.name}{by}, and {where} reads its page. Make the data static, or take it "
+                f"from malloc, each thread's part on {OWN_PAGE}.")
     if row.kind == "register":
-        return (f"{where} keeps a value in {row.name} from call to call: a count, a total, a pointer or a result. Store it "
-                f"before the call, on {OWN_PAGE}, and load it when it is needed.")
+        return (f"{where} keeps a value in {row.name} from call to call: a count, a total, a pointer or a result. "
+                f"Store it before the call, on {OWN_PAGE}, and load it when it is needed.")
     if row.kind == "length":
-        return (f"{where} asks for the input's length. Ask in one thread only, and store what the others need to know on "
-                f"pages of their own.")
+        return (f"{where} asks for the input's length. Ask in one thread only, and store what the others need to know "
+                f"on pages of their own.")
     if row.kind == "path":
-        return (f"{where} continues after another call than before: which call it makes depends on the edited data. Let it "
-                f"make the same calls for any input.")
+        return (f"{where} continues after another call than before: which call it makes depends on the edited data. "
+                f"Let it make the same calls for any input.")
     if row.kind == "more":
-        return (f"{where} makes more calls than before, and these steps have no record. Let the number of calls not depend "
-                f"on the edited data.")
+        return (f"{where} makes more calls than before, and these steps have no record. Let the number of calls not "
+                f"depend on the edited data.")
     return library_advice(row.name, where) if row.kind == "library" else None
 
 
 def library_advice(name, where):
     """What helps against a change in a variable of the C library."""
     if name.startswith(OF_FILES["output.c"]):
-        return f"{where} prints. Format by snprintf into memory on {OWN_PAGE}, and print that in one thread, at the end."
+        return (f"{where} prints. Format by snprintf into memory on {OWN_PAGE}, and print that in one thread, at the "
+                f"end.")
     if name.startswith(OF_FILES["input.c"]):
         return f"{where} reads stdin in pieces. Read everything by one fread, before the threads are created."
     if name.startswith(OF_FILES["malloc.c"]):
         return f"{where} takes or frees memory. Take it before the threads are created, as many blocks each time."
     if name.startswith(OF_FILES["objects.c"]):
-        return f"{where} uses objects that get numbers in another order. Initialise them before the threads are created."
+        return (f"{where} uses objects that get numbers in another order. Initialise them before the threads are "
+                f"created.")
     return None
