@@ -18,6 +18,24 @@ int sched_getscheduler(pid_t process);
 int sched_setparam(pid_t process, const struct sched_param *parameters);
 int sched_getparam(pid_t process, struct sched_param *parameters);
 
+#if __GNU_VISIBLE
+
+/* Linux's sets of processors. Here are 4, and on which a thread runs changes nothing: what is set is kept. EINVAL: none of
+   the four is in the set, or it is too small. */
+#define CPU_SETSIZE 1024
+typedef struct { unsigned bits[CPU_SETSIZE / 32]; } cpu_set_t;
+#define CPU_ZERO(set) ((void)(*(set) = (cpu_set_t){ { 0 } }))
+#define CPU_SET(cpu, set) ((void)((set)->bits[(unsigned)(cpu) / 32 % 32] |= 1u << (unsigned)(cpu) % 32))
+#define CPU_CLR(cpu, set) ((void)((set)->bits[(unsigned)(cpu) / 32 % 32] &= ~(1u << (unsigned)(cpu) % 32)))
+#define CPU_ISSET(cpu, set) ((int)((set)->bits[(unsigned)(cpu) / 32 % 32] >> (unsigned)(cpu) % 32 & 1))
+#define CPU_COUNT(set) it_cpu_count(set)
+#define CPU_EQUAL(one, other) (!__builtin_memcmp((one), (other), sizeof(cpu_set_t)))
+int it_cpu_count(const cpu_set_t *set);
+int sched_setaffinity(pid_t process, size_t size, const cpu_set_t *set);
+int sched_getaffinity(pid_t process, size_t size, cpu_set_t *set);
+
+#endif
+
 #ifdef __cplusplus
 }
 #endif

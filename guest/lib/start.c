@@ -44,12 +44,6 @@ __asm__(".section .text.startup,\"ax\",@progbits\n"
         "tail it_start\n\t"
         ".text\n");
 
-/* What a new thread calls: stands on its creator's stack, and the new thread sees it as it was at the create. */
-struct it_beginning {
-    void *(*function)(void *);
-    void *argument;
-};
-
 static __attribute__((noreturn)) void start_main(void)
 {
     for (void (*const *each)(void) = it_constructors; each != it_constructors_end; each++)
@@ -65,6 +59,9 @@ static __attribute__((noreturn)) void start_thread(const struct it_beginning *be
 {
     void *(*function)(void *) = beginning->function;
     void *argument = beginning->argument;
+#ifdef IT_SCHEDULED
+    it_keep_scheduling(it_self.number, beginning->scheduling);
+#endif
     it_call(IT_CALL_YIELD, 0, 0);
     it_end_thread(function(argument));
 }

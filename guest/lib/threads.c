@@ -32,8 +32,11 @@ int it_is_detached(pthread_t thread)
 int pthread_create(pthread_t *restrict thread, const pthread_attr_t *restrict attributes, void *(*function)(void *),
                    void *restrict argument)
 {
-    struct { void *(*function)(void *); void *argument; } beginning = { function, argument };
+    struct it_beginning beginning = { function, argument };
     (void)attributes;
+#ifdef IT_SCHEDULED
+    beginning.scheduling = it_scheduling_for(attributes);
+#endif
     it_shared.threads_made = 1;
     if (it_has_handlers)
         it_call(IT_CALL_SEM_POST, IT_OTHERS, 0);
@@ -43,6 +46,9 @@ int pthread_create(pthread_t *restrict thread, const pthread_attr_t *restrict at
             it_call(IT_CALL_SEM_TRYWAIT, IT_OTHERS, 0);
         return -answer;
     }
+#ifdef IT_SCHEDULED
+    it_keep_scheduling((unsigned)answer, beginning.scheduling);
+#endif
 #ifdef IT_DETACHED
     if (attributes && attributes->detached)
         states.of[answer] = DETACHED;

@@ -50,7 +50,14 @@ int main(void)
 {
     pthread_t thread;
     void *value;
+    int old = -1;
     pthread_key_create(&key, say);
+    pthread_setcancelstate(PTHREAD_CANCEL_DISABLE, &old);
+    printf("enabled at first: %d\n", old == PTHREAD_CANCEL_ENABLE);
+    pthread_setcanceltype(PTHREAD_CANCEL_ASYNCHRONOUS, &old);
+    printf("deferred at first: %d\n", old == PTHREAD_CANCEL_DEFERRED);
+    printf("no such state: %d\n", pthread_setcancelstate(77, NULL) != 0);
+    pthread_testcancel();
     pthread_create(&thread, NULL, leaves, NULL);
     pthread_join(thread, &value);
     printf("%s\n", (const char *)value);

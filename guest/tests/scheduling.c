@@ -12,6 +12,15 @@ static void tell(const char *what, int answer)
     printf("%s: %s\n", what, answer == 0 ? "0" : answer == EINVAL ? "EINVAL" : answer == ERANGE ? "ERANGE" : "another");
 }
 
+static void *inherits(void *unused)
+{
+    struct sched_param parameters = { .sched_priority = 7 };
+    int policy = -1;
+    pthread_getschedparam(pthread_self(), &policy, &parameters);
+    printf("of a thread: %d %d\n", policy == SCHED_OTHER, parameters.sched_priority);
+    return unused;
+}
+
 static void *works(void *unused)
 {
     pthread_attr_t attributes;
@@ -88,6 +97,9 @@ int main(void)
     printf("other %d to %d\n", sched_get_priority_min(SCHED_OTHER), sched_get_priority_max(SCHED_OTHER));
     printf("fifo %d to %d\n", sched_get_priority_min(SCHED_FIFO), sched_get_priority_max(SCHED_FIFO));
     printf("none %d\n", sched_get_priority_min(77));
+    pthread_t thread;
+    pthread_create(&thread, NULL, inherits, NULL);
+    pthread_join(thread, NULL);
     tell("concurrency", pthread_setconcurrency(4));
     printf("%d\n", pthread_getconcurrency());
     tell("below 0", pthread_setconcurrency(-1));
@@ -95,6 +107,15 @@ int main(void)
     tell("named", pthread_setname_np(pthread_self(), "a name"));
     tell("its name", pthread_getname_np(pthread_self(), name, sizeof name));
     printf("%s\n", name);
+    cpu_set_t all, one;
+    CPU_ZERO(&one);
+    tell("processors", pthread_getaffinity_np(pthread_self(), sizeof all, &all));
+    printf("some %d, the first %d\n", CPU_COUNT(&all) > 0, CPU_ISSET(0, &all));
+    printf("none: %d\n", sched_setaffinity(0, sizeof one, &one));
+    CPU_SET(0, &one);
+    printf("one: %d\n", sched_setaffinity(0, sizeof one, &one));
+    sched_getaffinity(0, sizeof all, &all);
+    printf("it is so: %d\n", CPU_EQUAL(&all, &one));
     tell("a long name", pthread_setname_np(pthread_self(), "a name of sixteen and more"));
     return 0;
 }

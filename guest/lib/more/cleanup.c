@@ -1,4 +1,6 @@
-/* pthread_cleanup_push and pthread_cleanup_pop: each thread has a list of its own, on its stack. */
+/* pthread_cleanup_push and pthread_cleanup_pop: each thread has a list of its own, on its stack. And whether a thread may
+   be cancelled, which nothing does. */
+#include <errno.h>
 #include <pthread.h>
 #include "../library.h"
 
@@ -24,4 +26,30 @@ void it_run_cleanups(void)
 {
     while (innermost)
         it_cleanup_pop(1);
+}
+
+static _Thread_local int cancel_state, cancel_type;
+
+static int set(int *kept, int value, int *old)
+{
+    if (value != 0 && value != 1)
+        return EINVAL;
+    if (old)
+        *old = *kept;
+    *kept = value;
+    return 0;
+}
+
+IT_REPLACEABLE int pthread_setcancelstate(int state, int *old)
+{
+    return set(&cancel_state, state, old);
+}
+
+IT_REPLACEABLE int pthread_setcanceltype(int type, int *old)
+{
+    return set(&cancel_type, type, old);
+}
+
+IT_REPLACEABLE void pthread_testcancel(void)
+{
 }

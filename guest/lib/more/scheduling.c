@@ -1,4 +1,5 @@
 /* Policies, priorities, names and other things that are kept for who asks for them, and change nothing. */
+#define _GNU_SOURCE /* for sets of processors */
 #include <errno.h>
 #include <pthread.h>
 #include <sched.h>
@@ -68,6 +69,7 @@ int pthread_attr_getinheritsched(const pthread_attr_t *restrict attributes, int 
 /* What was set for threads. */
 static struct IT_PAGE_ALIGNED {
     struct { short policy, priority; } of[IT_THREADS];
+    unsigned char affinity[IT_THREADS]; /* 0: all */
     char name[IT_THREADS][NAME];
     int level;
 } kept;
@@ -90,6 +92,20 @@ int pthread_getschedparam(pthread_t thread, int *restrict policy, struct sched_p
     *policy = kept.of[thread].policy;
     parameters->sched_priority = kept.of[thread].priority;
     return 0;
+}
+
+unsigned it_scheduling_for(const void *of)
+{
+    const pthread_attr_t *attributes = of;
+    if (attributes && attributes->inherit == PTHREAD_EXPLICIT_SCHED)
+        return (unsigned)attributes->policy << 8 | (unsigned)attributes->priority;
+    return (unsigned)kept.of[it_self.number].policy << 8 | (unsigned)kept.of[it_self.number].priority;
+}
+
+void it_keep_scheduling(unsigned thread, unsigned scheduling)
+{
+    kept.of[thread].policy = (short)(scheduling >> 8);
+    kept.of[thread].priority = (short)(scheduling & 255);
 }
 
 int pthread_setschedprio(pthread_t thread, int priority)
@@ -159,6 +175,37 @@ IT_REPLACEABLE int pthread_getattr_np(pthread_t thread, pthread_attr_t *attribut
     return 0;
 }
 
+enum { ALL_PROCESSORS = (1 << IT_PROCESSORS) - 1 };
+
+int it_cpu_count(const cpu_set_t *set)
+{
+    int count = 0;
+    for (int cpu = 0; cpu < CPU_SETSIZE; cpu++)
+        count += CPU_ISSET(cpu, set);
+    return count;
+}
+
+IT_REPLACEABLE int pthread_setaffinity_np(pthread_t thread, size_t size, const cpu_set_t *set)
+{
+    if (thread >= IT_THREADS)
+        return ESRCH;
+    if (size < sizeof(unsigned) || !(set->bits[0] & ALL_PROCESSORS))
+        return EINVAL;
+    kept.affinity[thread] = (unsigned char)(set->bits[0] & ALL_PROCESSORS);
+    return 0;
+}
+
+IT_REPLACEABLE int pthread_getaffinity_np(pthread_t thread, size_t size, cpu_set_t *set)
+{
+    if (thread >= IT_THREADS)
+        return ESRCH;
+    if (size < sizeof(unsigned))
+        return EINVAL;
+    memset(set, 0, size);
+    set->bits[0] = kept.affinity[thread] ? kept.affinity[thread] : ALL_PROCESSORS;
+    return 0;
+}
+
 /* ---------------------------------------------------------------------------------------------- the process ---- */
 
 static int told(int error)
@@ -206,4 +253,14 @@ IT_REPLACEABLE int sched_getparam(pid_t process, struct sched_param *parameters)
         return told(ESRCH);
     parameters->sched_priority = kept.of[0].priority;
     return 0;
+}
+
+IT_REPLACEABLE int sched_setaffinity(pid_t process, size_t size, const cpu_set_t *set)
+{
+    return told(is_process(process) ? pthread_setaffinity_np(0, size, set) : ESRCH);
+}
+
+IT_REPLACEABLE int sched_getaffinity(pid_t process, size_t size, cpu_set_t *set)
+{
+    return told(is_process(process) ? pthread_getaffinity_np(0, size, set) : ESRCH);
 }

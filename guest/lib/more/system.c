@@ -9,7 +9,7 @@
 #include <unistd.h>
 #include "../library.h"
 
-enum { PROCESS = IT_PROCESS, PARENT = 0, USER = 1000, PROCESSORS = 4, PAGES = 1024, POSIX = 200809, NO_LIMIT = -1 };
+enum { PROCESS = IT_PROCESS, PARENT = 0, USER = 1000, PAGES = 1024, POSIX = 200809, NO_LIMIT = -1 };
 
 IT_REPLACEABLE int fileno(FILE *stream)
 {
@@ -37,7 +37,7 @@ IT_REPLACEABLE long sysconf(int name)
         return IT_PAGE;
     case _SC_NPROCESSORS_CONF:
     case _SC_NPROCESSORS_ONLN:
-        return PROCESSORS;
+        return IT_PROCESSORS;
     case _SC_PHYS_PAGES:
     case _SC_AVPHYS_PAGES:
         return PAGES;
