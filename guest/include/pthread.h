@@ -258,7 +258,11 @@ int pthread_spin_unlock(pthread_spinlock_t *lock);
 /* ---------------------------------------------------------------------------------------------- conditions ---- */
 
 typedef struct { int unused; } pthread_cond_t;
+#ifdef IT_COUNTED
+typedef struct { int shared; clockid_t clock; } pthread_condattr_t;
+#else
 typedef struct { int shared; } pthread_condattr_t;
+#endif
 
 #define PTHREAD_COND_INITIALIZER { 0 }
 
@@ -294,6 +298,10 @@ int pthread_condattr_destroy(pthread_condattr_t *attributes);
 /* PTHREAD_PROCESS_PRIVATE and PTHREAD_PROCESS_SHARED: 0; there is one process. Else EINVAL. */
 int pthread_condattr_setpshared(pthread_condattr_t *attributes, int shared);
 int pthread_condattr_getpshared(const pthread_condattr_t *__restrict attributes, int *__restrict shared);
+
+/* There with `guest/build --time counted` alone; all clocks are one. A clock of a processor's time: EINVAL. */
+int pthread_condattr_setclock(pthread_condattr_t *attributes, clockid_t clock);
+int pthread_condattr_getclock(const pthread_condattr_t *__restrict attributes, clockid_t *__restrict clock);
 
 /* ---------------------------------------------------------------------------------------------- barriers ---- */
 
