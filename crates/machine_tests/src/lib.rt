@@ -6,6 +6,4 @@ mod executables;
 #[cfg(test)]
 mod fixtures;
 #[cfg(test)]
-mod random_guests;
-#[cfg(test)]
 mod thunks;
