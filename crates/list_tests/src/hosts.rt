@@ -1,6 +1,5 @@
 //! What no clause says: that calls succeed, that calls which are to fail do, and what the system does.
-use crate::transfer::{Watched, read_to_limit, write_to_end};
-use crate::*;
+use ith_host::{Got, Host, MemHost, OsHost, Printed, Put, Watched, read_to_limit, write_to_end};
 use std::alloc::{AllocError, Global};
 use std::collections::BTreeMap;
 use std::fs;
