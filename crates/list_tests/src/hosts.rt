@@ -1,5 +1,7 @@
 //! What no clause says: that calls succeed, that calls which are to fail do, and what the system does.
-use ith_host::{Got, Host, MemHost, OsHost, Printed, Put, Watched, read_to_limit, write_to_end};
+use ith_host::{
+    Gate, Got, Host, MemHost, OpenGate, OsHost, Printed, Put, Watched, read_to_limit, write_to_end,
+};
 use std::alloc::{AllocError, Global};
 use std::collections::BTreeMap;
 use std::fs;
@@ -50,70 +52,82 @@ impl Write for Sink {
     }
 }
 
-/// A host with the file `a` of three bytes, of which one call fails.
+/// A host with the file `a` of three bytes, of which these calls fail.
 fn host_with(alloc: Global, failing: &[u64], part: u64) -> Result<MemHost, AllocError> {
     let mut files = BTreeMap::new(alloc);
-    files.insert(
-        String::from_str(alloc, "a")?,
-        Vec::from_slice(alloc, b"one")?,
-    )?;
+    let content = Vec::from_slice(alloc, b"one")?;
+    files.insert(String::from_str(alloc, "a")?, content)?;
     Ok(MemHost::new(alloc, files, Vec::from_slice(alloc, failing)?, part))
 }
 
-/// Whether the file of a name holds these bytes.
-fn holds(host: &MemHost, name: &str, bytes: &[u8]) -> bool {
+/// Whether a file is read with this answer, and gives these bytes.
+fn gives(alloc: Global, host: &mut impl Host, file: (&str, u64), want: Got, bytes: &[u8]) -> bool {
+    let (name, limit) = file;
+    let mut read = Vec::new(alloc);
+    host.read(name, limit, &mut read) == want && read.as_slice() == bytes
+}
+
+/// Whether bytes are written into a file of a host in memory.
+fn keeps(host: &mut MemHost, name: &str, bytes: &[u8]) -> bool {
+    let written = host.write(name, bytes) == Put::Ok;
     match host.file(name) {
-        Some(content) => content == bytes,
+        Some(content) => written && content == bytes,
         None => false,
     }
 }
 
+/// Whether what is printed and complained stands one behind the other.
+fn prints(host: &mut MemHost) -> bool {
+    let printed = host.print(b"x") == Printed::Ok && host.print(b"yz") == Printed::Ok;
+    host.complain(b"words: none");
+    printed
+        && host.printed() == b"xyz".as_slice()
+        && host.complained() == b"words: none\n".as_slice()
+}
+
 #[test]
-fn a_host_in_memory_works(rt: HostRuntime) -> Result<(), Fail> {
+fn a_host_in_memory_works(rt: HostRuntime) -> Result<(), AllocError> {
     let alloc = rt.alloc();
     let mut host = host_with(alloc, &[], 0)?;
-    let mut bytes = Vec::new(alloc);
-    assert_eq!(rt; host.read("a", 2, &mut bytes), Got::TooLong);
-    assert_eq!(rt; bytes.len(), 0);
-    assert_eq!(rt; host.read("a", 3, &mut bytes), Got::Ok);
-    assert_eq!(rt; bytes.as_slice(), b"one".as_slice());
-    assert_eq!(rt; host.write("b", b"two"), Put::Ok);
-    assert_eq!(rt; host.write("a", b"three"), Put::Ok);
-    assert!(rt; holds(&host, "b", b"two"));
-    assert!(rt; holds(&host, "a", b"three"));
-    assert_eq!(rt; host.print(b"x"), Printed::Ok);
-    assert_eq!(rt; host.print(b"yz"), Printed::Ok);
-    assert_eq!(rt; host.printed(), b"xyz".as_slice());
-    host.complain(b"words: none");
-    assert_eq!(rt; host.complained(), b"words: none\n".as_slice());
+    assert!(rt; gives(alloc, &mut host, ("a", 2), Got::TooLong, b""));
+    assert!(rt; gives(alloc, &mut host, ("a", 3), Got::Ok, b"one"));
+    assert!(rt; keeps(&mut host, "b", b"two"));
+    assert!(rt; keeps(&mut host, "a", b"three"));
+    assert!(rt; prints(&mut host));
     OpenGate.enter(0, 0);
     Ok(())
 }
 
-/// Whether of a read, a write and a print the one of this number fails, and the others do what they say.
-fn fails_alone(alloc: Global, number: u64) -> Result<bool, AllocError> {
+/// The number of the call that fails, what a read, a write and a print answer, and what is printed.
+type Fault = (u64, Got, Put, Printed, &'static [u8]);
+
+const FAULTS: [Fault; 4] = [
+    (0, Got::Failed, Put::Ok, Printed::Ok, b"xyz"),
+    (1, Got::Ok, Put::Failed, Printed::Ok, b"xyz"),
+    (2, Got::Ok, Put::Ok, Printed::Failed, b"xy"),
+    (3, Got::Ok, Put::Ok, Printed::Ok, b"xyz"),
+];
+
+/// Whether of a read, a write and a print the named one fails, and the others do what they say.
+fn fails_alone(alloc: Global, fault: &Fault) -> Result<bool, AllocError> {
+    let (number, got, put, printed, text) = *fault;
     let mut host = host_with(alloc, &[number], 2)?;
-    let mut bytes = Vec::new(alloc);
-    let mut absent = Vec::new(alloc);
-    let (reads, writes, prints) = (number != 0, number != 1, number != 2);
-    let read = host.read("a", 100, &mut bytes) == if reads { Got::Ok } else { Got::Failed };
-    let written = host.write("a", b"two") == if writes { Put::Ok } else { Put::Failed };
-    let there = host.file("a").is_some() == writes;
-    let printed = host.print(b"xyz") == if prints { Printed::Ok } else { Printed::Failed };
-    Ok(
-        read && bytes.len() == if reads { 3 } else { 0 }
-            && written
-            && there
-            && printed
-            && host.printed().len() == if prints { 3 } else { 2 }
-            && host.read("b", 100, &mut absent) == Got::Failed,
-    )
+    let kept = if got == Got::Ok {
+        b"one".as_slice()
+    } else {
+        b""
+    };
+    let read = gives(alloc, &mut host, ("a", 100), got, kept);
+    let written = host.write("a", b"two") == put;
+    let there = host.file("a").is_some() == (put == Put::Ok);
+    let shown = host.print(b"xyz") == printed;
+    Ok(read && written && there && shown && host.printed() == text)
 }
 
 #[test]
-fn each_call_that_is_named_fails(rt: HostRuntime) -> Result<(), Fail> {
-    for number in 0..4u64 {
-        assert!(rt; fails_alone(rt.alloc(), number)?, "at {number}");
+fn each_call_that_is_named_fails(rt: HostRuntime) -> Result<(), AllocError> {
+    for (number, fault) in FAULTS.iter().enumerate() {
+        assert!(rt; fails_alone(rt.alloc(), fault)?, "at {number}");
     }
     Ok(())
 }
@@ -184,19 +198,16 @@ fn a_sink_takes_bytes_to_their_end(rt: HostRuntime) {
 #[test]
 fn the_system_keeps_a_file(rt: HostRuntime) -> Result<(), Fail> {
     let name = "/tmp/ith_host_keeps_a_file";
+    let alloc = rt.alloc();
     let mut host = OsHost::new(&rt);
-    let mut bytes = Vec::new(rt.alloc());
-    let long = [7u8; 10000];
-    assert_eq!(rt; host.write(name, &long), Put::Ok);
-    assert_eq!(rt; host.read(name, 9999, &mut bytes), Got::TooLong);
-    assert_eq!(rt; host.read(name, 10000, &mut bytes), Got::Ok);
-    assert_eq!(rt; bytes.as_slice(), long.as_slice());
-    bytes.clear();
-    assert_eq!(rt; host.read("/tmp", 10, &mut bytes), Got::Failed);
-    assert_eq!(rt; host.write("/tmp", b"x"), Put::Failed);
+    let long = vec![in alloc; 7u8; 10000]?;
+    assert!(rt; host.write(name, &long) == Put::Ok && host.write("/tmp", b"x") == Put::Failed);
+    assert!(rt; gives(alloc, &mut host, (name, 9999), Got::TooLong, b""));
+    assert!(rt; gives(alloc, &mut host, (name, 10000), Got::Ok, &long));
+    assert!(rt; gives(alloc, &mut host, ("/tmp", 10), Got::Failed, b""));
     fs::remove_file(&rt, name)?;
-    assert_eq!(rt; host.read(name, 10, &mut bytes), Got::Failed);
-    assert_eq!(rt; host.print(b"printed\n"), Printed::Ok);
+    assert!(rt; gives(alloc, &mut host, (name, 10), Got::Failed, b""));
+    assert!(rt; host.print(b"printed\n") == Printed::Ok);
     host.complain(b"complained");
     Ok(())
 }

@@ -8,6 +8,4 @@ mod fixtures;
 #[cfg(test)]
 mod operations;
 #[cfg(test)]
-mod random_guests;
-#[cfg(test)]
 mod thunks;

@@ -3,9 +3,8 @@
 ghost use Rattle.std.specs.Prelude.{◌≡◌, ◌<◌, IfOk};
 ghost use Rattle.round_spec.specs.Rounds.{opening};
 
-use super::fixtures::setup;
+use super::fixtures::{is_round, setup};
 use ith_host::{Gate, OpenGate};
-use machine_spec::End;
 use propagate::Round;
 use rerun_workers::{Board, Landed, Naming, Pass, Task, run_round};
 use std::alloc::{AllocError, Global};
@@ -131,11 +130,10 @@ fn a_run_of_another_setup_is_stale(rt: HostRuntime) -> Result<(), Fail> {
         run,
         Blank::new(1),
     )?;
-    assert_eq!(&rt; back.rec.count(), 5);
-    assert_eq!(&rt; round.schedule().len(), 1);
-    assert_eq!(&rt; round.instructions(), 5);
-    assert_eq!(&rt; round.discarded(), 1);
-    assert!(&rt; !round.stopped());
+    assert!(&rt; back.rec.count() == 5);
+    assert!(&rt; round.schedule().len() == 1);
+    assert!(&rt; round.instructions() == 5);
+    assert!(&rt; round.discarded() == 1);
     Ok(())
 }
 
@@ -168,31 +166,28 @@ fn failed<J: Naming, R: Threads + Wait>(
 fn a_job_that_fails_ends_the_round(rt: HostRuntime) -> Result<(), Fail> {
     let alloc = rt.alloc();
     let (round, shares) = failed::<Brand, _>(&rt, alloc, opened(alloc, 1_000_000)?, Blank::new(2))?;
-    assert_eq!(&rt; round.schedule().len(), 1);
-    assert_eq!(&rt; round.discarded(), 1);
-    assert!(&rt; round.stopped());
-    assert!(&rt; round.end() == None);
+    assert!(&rt; round.schedule().len() == 1);
+    assert!(&rt; round.discarded() == 1);
+    assert!(&rt; round.stopped() && round.end() == None);
     assert!(&rt; shares.as_slice() == [0, 1].as_slice());
     Ok(())
 }
 
-/// Compares the marks of a round, whose steps are all of thread 0, and what it put out.
-fn compare<R: Abort>(rt: &R, round: &Round, shares: &[u64], workers: usize, reused: bool) {
-    assert_eq!(rt; round.schedule().len(), 2);
-    for entry in round.schedule() {
-        assert_eq!(rt; entry.thread, 0);
-        assert_eq!(rt; entry.reused, reused);
-    }
-    assert_eq!(rt; round.instructions(), if reused { 0 } else { 8 });
-    assert_eq!(rt; round.discarded(), 0);
-    assert!(rt; round.end() == Some(End::Exit(0)));
-    assert!(rt; round.output() == b"hi\n".as_slice());
+/// How many steps workers made.
+fn steps_of(shares: &[u64]) -> u64 {
     let mut steps: u64 = 0;
     for share in shares {
         steps = steps.saturating_add(*share);
     }
-    assert_eq!(rt; shares.len(), workers);
-    assert_eq!(rt; steps, 2);
+    steps
+}
+
+/// Compares a round of two steps, which all are reused or none is, and what its workers made.
+fn compare<R: Abort>(rt: &R, round: &Round, shares: &[u64], workers: usize, reused: bool) {
+    let instructions = if reused { 0 } else { 8 };
+    assert!(rt; is_round(round, &[reused, reused], instructions, 0));
+    assert!(rt; shares.len() == workers);
+    assert!(rt; steps_of(shares) == 2);
 }
 
 #[test]
@@ -225,7 +220,7 @@ fn without_an_edit_nobody_passes_the_gate(rt: HostRuntime) -> Result<(), Fail> {
     for (passed, reused) in [(2, false), (2, true), (2, true)] {
         let (round, shares) = run_round(&rt, alloc, setup(alloc, 1_000_000)?, past, 2, &gate)?;
         compare(&rt, &round, shares.as_slice(), 2, reused);
-        assert_eq!(&rt; gate.passed.load(Ordering::SeqCst), passed);
+        assert!(&rt; gate.passed.load(Ordering::SeqCst) == passed);
         past = match round.into_history() {
             Some(left) => Some(Arc::new(alloc, left)?),
             None => return Err(Fail::new("nothing is left")),

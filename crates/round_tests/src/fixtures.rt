@@ -6,9 +6,11 @@ ghost use Rattle.std.specs.Prelude.{◌≡◌, ◌<◌, All, IfOk};
 ghost use Rattle.std.specs.Arc.{arc_value};
 ghost use Rattle.history_spec.specs.History.{IsMappedIn};
 
-use machine_spec::Limits;
+use machine_spec::{End, Limits};
 use page_store::Page;
+use propagate::Round;
 use release_core::{History, Records, Setup};
+use report_spec::Entry;
 use rv_alu::Regs;
 use std::alloc::{AllocError, Global};
 use std::sync::Arc;
@@ -129,4 +131,24 @@ pub(super) fn history_of(
     records.push(second)?;
     records.push(third)?;
     Ok(History::new(setup, records))
+}
+
+/// Whether a round ended, whose steps are all of thread 0 and have these marks, with so many instructions that it executed
+/// and steps that it discarded.
+pub(super) fn is_round(round: &Round, marks: &[bool], instructions: u64, discarded: u64) -> bool {
+    are_marks(round.schedule(), marks)
+        && round.instructions() == instructions
+        && round.discarded() == discarded
+        && round.end() == Some(End::Exit(0))
+        && round.output() == b"hi\n".as_slice()
+}
+
+/// Whether the steps of a schedule are of thread 0 and have these marks.
+fn are_marks(schedule: &[Entry], marks: &[bool]) -> bool {
+    for (entry, reused) in schedule.iter().zip(marks.iter()) {
+        if entry.thread != 0 || entry.reused != *reused {
+            return false;
+        }
+    }
+    schedule.len() == marks.len()
 }

@@ -54,18 +54,22 @@ const LAST: Known = (ActedOn::Nothing, &[], &[], true);
 
 const CREATES: Known = (THREADS, &[0, 1], &[301, 302], false);
 
-/// Compares the facts of three calls.
+/// Whether a fact of a place is the known one.
+fn is_known(fact: &Fact, place: usize, known: &Known) -> bool {
+    let (objects, given, opened, last) = *known;
+    fact.objects == objects
+        && fact.given.as_slice() == given
+        && fact.opened.as_slice() == opened
+        && fact.written.as_slice() == [place.saturating_add(400)].as_slice()
+        && fact.last == last
+}
+
+/// Compares the facts of three calls, of which the last one is of thread 1.
 fn compare<R: Abort>(rt: &R, facts: &[Fact], known: &[Known; 3]) {
-    assert_eq!(rt; facts.len(), 3);
+    assert!(rt; facts.len() == 3);
     for (place, (fact, row)) in facts.iter().zip(known.iter()).enumerate() {
-        let (objects, given, opened, last) = *row;
-        assert_eq!(rt; fact.thread, u8::from(place == 2));
-        assert!(rt; fact.objects == objects, "at {place}");
-        assert!(rt; fact.given.as_slice() == given, "at {place}");
-        assert!(rt; fact.opened.as_slice() == opened, "at {place}");
-        assert_eq!(rt; fact.written.len(), 1);
-        assert!(rt; fact.written.contains(&place.saturating_add(400)));
-        assert_eq!(rt; fact.last, last);
+        assert!(rt; fact.thread == u8::from(place == 2), "at {place}");
+        assert!(rt; is_known(fact, place, row), "at {place}");
     }
 }
 

@@ -2,14 +2,12 @@
 
 ghost use Rattle.std.specs.Prelude.{◌≡◌, ◌<◌};
 
-use super::fixtures::setup;
-use machine_spec::End;
+use super::fixtures::{is_round, setup};
 use propagate::{Round, drive, run_alone};
 use release_core::{History, Setup};
 use round_spec::{Event, Pick};
 use std::alloc::{AllocError, Global};
 use std::marker::Brand;
-use std::process::Abort;
 use std::sync::Arc;
 use std::sync::ledger::{Blank, Ledger};
 use std::test::Fail;
@@ -54,27 +52,13 @@ fn made<R: Threads>(
     Ok(counted::<R, Brand>(rt, alloc, setup, past, by, Blank::new(1))?)
 }
 
-/// Compares the marks of a round, whose steps are all of thread 0, how many instructions it executed
-/// and how many steps it discarded, and what an ended round put out.
-fn compare<R: Abort>(rt: &R, round: &Round, marks: &[bool], instructions: u64, discarded: u64) {
-    assert_eq!(rt; round.schedule().len(), marks.len());
-    for (entry, reused) in round.schedule().iter().zip(marks.iter()) {
-        assert_eq!(rt; entry.thread, 0);
-        assert_eq!(rt; entry.reused, *reused);
-    }
-    assert_eq!(rt; round.instructions(), instructions);
-    assert_eq!(rt; round.discarded(), discarded);
-    assert!(rt; round.end() == Some(End::Exit(0)));
-    assert!(rt; round.output() == b"hi\n".as_slice());
-}
-
 #[test]
 fn without_an_edit_all_is_reused(rt: HostRuntime) -> Result<(), Fail> {
     let alloc = rt.alloc();
     let mut past = None;
     for (marks, instructions) in [([false, false], 8), ([true, true], 0), ([true, true], 0)] {
         let round = made(&rt, alloc, past, By::Worker)?;
-        compare(&rt, &round, &marks, instructions, 0);
+        assert!(rt; is_round(&round, &marks, instructions, 0));
         past = match round.into_history() {
             Some(left) => Some(Arc::new(alloc, left)?),
             None => return Err(Fail::new("nothing is left")),
@@ -98,7 +82,7 @@ const EVENTS: [Event; 8] = [
 #[test]
 fn events_make_a_round(rt: HostRuntime) -> Result<(), Fail> {
     let round = made(&rt, rt.alloc(), None, By::Events(&EVENTS))?;
-    compare(&rt, &round, &[false, false], 8, 1);
+    assert!(rt; is_round(&round, &[false, false], 8, 1));
     assert!(rt; round.stopped());
     assert!(rt; round.pick() == Pick::Over);
     Ok(())
