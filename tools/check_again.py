@@ -40,9 +40,9 @@ int main(void) { it_put((void *)it_input(), it_input_length()); return CODE; }
 """
 
 
-def again(*words, **how):
+def again(*words):
     """The status, what was put out, what is said of the steps, and all of standard error."""
-    status, printed, said = ran_whole(str(TOOL), *map(str, words), **how)
+    status, printed, said = ran_whole(str(TOOL), *map(str, words))
     found = LINE.fullmatch(said)
     return status, printed, found and (int(found.group(1)), int(found.group(2)), found.group(3)), said
 
@@ -89,6 +89,11 @@ def check_edits(checks):
         place.expect(f"after edit {number}")
     place.data.write_bytes(b"")
     place.expect("on an empty input")
+    given = str(checks.file("piped", b"\3".ljust(4096, b"\0") + b"\2\0\0\0"))
+    piped = ran_whole("bash", "-c", 'cat "$1" | "$2" "$3" /dev/stdin', "bash", given, str(TOOL), str(place.guest))
+    checks.expect(f"again, on what a pipe gives: {piped}", piped[:2] == (0, bytes([5, 0, 0, 0])))
+    (place.kept / "stdin.memo").unlink()
+    (place.kept / "stdin.scratch").unlink()
     place.expect("with a step limit", 12, "the memo has --steps 4096", "--", "--steps=12")
     place.expect("with the same step limit", 0, "", "--", "--steps", "12")
     place.expect("without one", 0)
@@ -148,6 +153,8 @@ def check_statuses(checks):
             (("hi.elf", empty, "--", "--fuel", "4"), 213, "as --fuel allows"),
             (("hi.elf", empty, "--", "--steps", "x"), 202, "status 2"), (("hi.elf",), 202, "usage"),
             (("hi.elf", empty, "--memo", "x"), 202, "usage"), (("hi.elf", empty, "--", "--memo", "x"), 202, "usage"),
+            (("hi.elf", checks.file("large", bytes(MOST_INPUT + 1))), 209, "large has more than 1,048,576 bytes"),
+            (("hi.elf", empty, "--build", "-DX"), 202, "usage"),
             (("hi.elf", folder / "none"), 206, "none can't be read"), (("none.c", empty), 206, "none.c can't be read"),
             (("empty", empty), 203, "status 3: the executable is refused"), (("hi.elf", folder), 206, "can't be read"),
             (("perm.elf", empty), 207, ".perm.elf.again can't be written")):
