@@ -266,6 +266,10 @@ def check_source(checks):
     wanted = {"add, source.c:4", "add, source.c:5", "add, source.c:6"}
     checks.expect(f"the lines of a function: {sorted(lines)}", wanted <= lines and
                   all(line.startswith("add, source.c:") for line in lines))
+    if shutil.which("riscv64-unknown-elf-addr2line"):
+        by_one, by_other = ({address: symbols.line_of(frames) for address, frames in taken(
+            ran_whole(tool_name, *words, str(elf), *map(hex, calls))[1])} for tool_name, words, taken in symbols.READERS)
+        checks.expect(f"both readers of lines say the same: {by_one} {by_other}", by_one == by_other)
     total = places["total"]
     names = [found.data(total.address + place) for place in (0, 3)]
     checks.expect(f"a variable's bytes: {names}", names == ["total", "total + 3"])

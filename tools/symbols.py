@@ -1,5 +1,5 @@
 """What an executable with symbols says of addresses: functions and variables by its symbol table, which is read here,
-and lines by llvm-symbolizer, where that is installed and the executable has them."""
+and lines by llvm-symbolizer or addr2line, if one is installed and the executable has them."""
 import bisect
 import json
 import pathlib
@@ -109,15 +109,14 @@ class Symbols:
 
     def frames(self, addresses):
         """Asks for the functions of these addresses of code, those that were inlined first, with their lines."""
-        tool, wanted = shutil.which("llvm-symbolizer"), sorted(set(addresses))
-        for start in range(0, len(wanted) if tool else 0, AT_ONCE):
-            words = [tool, "--output-style=JSON", f"--obj={self.name}", *map(hex, wanted[start:start + AT_ONCE])]
-            ran = subprocess.run(words, stdin=subprocess.DEVNULL, capture_output=True, check=False)
-            try:
-                told = json.loads(ran.stdout or b"[]")
-            except json.JSONDecodeError:
-                told = []
-            yield from ((int(one["Address"], 16), one.get("Symbol", [])) for one in told)
+        wanted = sorted(set(addresses))
+        for start in range(0, len(wanted), AT_ONCE):
+            for tool, words, taken in READERS:
+                if shutil.which(tool):
+                    line = [tool, *words, self.name, *map(hex, wanted[start:start + AT_ONCE])]
+                    ran = subprocess.run(line, stdin=subprocess.DEVNULL, capture_output=True, check=False)
+                    yield from taken(ran.stdout)
+                    break
 
     def read_lines(self, addresses):
         """Asks for the lines of these addresses of code."""
@@ -169,6 +168,29 @@ class Symbols:
         if symbol is None or symbol.kind != OBJECT and symbol.size == 0:
             return None
         return symbol.name + (f" + {address - symbol.address}" if address > symbol.address else "")
+
+
+def of_symbolizer(printed):
+    """The functions and lines of what llvm-symbolizer prints."""
+    try:
+        told = json.loads(printed or b"[]")
+    except json.JSONDecodeError:
+        told = []
+    yield from ((int(one["Address"], 16), one.get("Symbol", [])) for one in told)
+
+
+def of_addr2line(printed):
+    """Those of what addr2line prints: an address, and for each function two lines."""
+    for part in printed.decode("utf-8", "replace").split("\n0x"):
+        address, *lines = part.split("\n")
+        pairs = ((name, *re.fullmatch("(.*):([0-9?]+).*", line).groups()) for name, line in zip(lines[::2], lines[1::2]))
+        if address:
+            yield int(address, 16), [{"FunctionName": name, "FileName": file, "Line": int(line) if line.isdigit() else 0}
+                                     for name, file, line in pairs]
+
+
+READERS = [("llvm-symbolizer", ["--output-style=JSON", "--obj"], of_symbolizer),
+           ("riscv64-unknown-elf-addr2line", ["-a", "-f", "-i", "-e"], of_addr2line)]
 
 
 def line_of(frames):
