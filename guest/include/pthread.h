@@ -110,8 +110,8 @@ int pthread_attr_getschedparam(const pthread_attr_t *__restrict attributes, stru
 int pthread_attr_setinheritsched(pthread_attr_t *attributes, int inherit);
 int pthread_attr_getinheritsched(const pthread_attr_t *__restrict attributes, int *__restrict inherit);
 
-/* The same for a thread. It begins with its creator's, and main's with SCHED_OTHER; with PTHREAD_EXPLICIT_SCHED it begins
-   with those of its attributes. ESRCH: there can't be such a thread. */
+/* The same for a thread. It begins with its creator's, and main's with SCHED_OTHER; with PTHREAD_EXPLICIT_SCHED it
+   begins with those of its attributes. ESRCH: there can't be such a thread. */
 int pthread_setschedparam(pthread_t thread, int policy, const struct sched_param *parameters);
 int pthread_getschedparam(pthread_t thread, int *__restrict policy, struct sched_param *__restrict parameters);
 int pthread_setschedprio(pthread_t thread, int priority);
@@ -147,7 +147,8 @@ int pthread_yield(void);
 int pthread_setname_np(pthread_t thread, const char *name);
 int pthread_getname_np(pthread_t thread, char *name, size_t size);
 
-/* pthread_cancel isn't there, so nothing is cancelled. The caller's state and type are kept, each but 0 and 1 is EINVAL. */
+/* pthread_cancel isn't there, so nothing is cancelled. The caller's state and type are kept; others than these are
+   EINVAL. */
 #define PTHREAD_CANCEL_ENABLE 0
 #define PTHREAD_CANCEL_DISABLE 1
 #define PTHREAD_CANCEL_DEFERRED 0

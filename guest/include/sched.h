@@ -20,8 +20,8 @@ int sched_getparam(pid_t process, struct sched_param *parameters);
 
 #if __GNU_VISIBLE
 
-/* Linux's sets of processors. Here are 4, and on which a thread runs changes nothing: what is set is kept. EINVAL: none of
-   the four is in the set, or it is too small. */
+/* Linux's sets of processors. Here are 4, and on which a thread runs changes nothing: what is set is kept. EINVAL: none
+   of the four is in the set, or it is too small. */
 #define CPU_SETSIZE 1024
 typedef struct { unsigned bits[CPU_SETSIZE / 32]; } cpu_set_t;
 #define CPU_ZERO(set) ((void)(*(set) = (cpu_set_t){ { 0 } }))

@@ -1,5 +1,5 @@
-/* Attributes of threads, mutexes, conditions and barriers. They change nothing but a mutex's type and whether a thread is
-   detached; what would change something else is refused. */
+/* Attributes of threads, mutexes, conditions and barriers. They change nothing but a mutex's type and whether a thread
+   is detached; what would change something else is refused. */
 #include <errno.h>
 #include <pthread.h>
 #include "library.h"

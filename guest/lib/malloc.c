@@ -507,7 +507,7 @@ IT_REPLACEABLE void *memalign(size_t align, size_t bytes)
     return aligned_alloc(align, bytes);
 }
 
-/* ------------------------------------------------------------------------------------- what isn't in ISO C or POSIX ---- */
+/* --------------------------------------------------------------------------------- what isn't in ISO C or POSIX ---- */
 
 IT_REPLACEABLE size_t malloc_usable_size(void *block)
 {

@@ -1,5 +1,5 @@
-/* pthread_cleanup_push and pthread_cleanup_pop: each thread has a list of its own, on its stack. And whether a thread may
-   be cancelled, which nothing does. */
+/* pthread_cleanup_push and pthread_cleanup_pop: each thread has a list of its own, on its stack. And whether a thread
+   may be cancelled, which nothing does. */
 #include <errno.h>
 #include <pthread.h>
 #include "../library.h"
