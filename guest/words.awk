@@ -49,6 +49,14 @@ function missing(name, where) {
     names[++count] = name
 }
 
+# Whether nothing but what is in gaps was missing so far.
+function all_known(k) {
+    for (k = 1; k <= count; k++)
+        if (!(names[k] in gap))
+            return 0
+    return count > 0
+}
+
 function thousands(number, left) {
     for (left = ""; length(number) > 3; number = substr(number, 1, length(number) - 3))
         left = "," substr(number, length(number) - 2) left
@@ -146,6 +154,31 @@ skipped && (/^ *[0-9]* \|/ || skipped++ < 3 && clang) { next }
         next
     }
 }
+# the linker will say it, or it isn't used
+/warning: implicit declaration of function '/ {
+    name = quoted("implicit declaration of function ")
+    if (name in gap) {
+        match($0, /^[^:]*:[0-9]+/)
+        held = ""
+        skipped = 1
+        implicit[++unseen] = name
+        place[unseen] = substr($0, RSTART, RLENGTH)
+        next
+    }
+}
+
+/error: unknown type name '|error: '[^']*' undeclared/ {
+    name = quoted(/unknown type/ ? "unknown type name " : "error: ")
+    match($0, /^[^:]*:[0-9]+/)
+    where = substr($0, RSTART, RLENGTH)
+    if (name in gap) {
+        held = ""
+        skipped = 1
+        missing(name, where)
+        next
+    }
+}
+/note: each undeclared identifier is reported only once/ && all_known() { skipped = 1; next }
 /^compilation terminated\.$/ && header { next }
 /In file included from / && !/:[0-9]+:$/ { held = held (held == "" ? "" : "\n") $0; next }
 
@@ -173,6 +206,8 @@ skipped && (/^ *[0-9]* \|/ || skipped++ < 3 && clang) { next }
 
 END {
     flush()
+    for (k = 1; k <= unseen && count; k++)
+        missing(implicit[k], place[k])
     words["atomic"] = "There are no atomic variables. What several threads change is under a mutex."
     words["other"] = libc ? "Neither the files nor the library have it. Give guest/build the file that has it, too; of threads there is what guest/include/pthread.h declares." : "Neither the files nor ithreads.h have it. With --libc there is a C library."
     for (k = 1; k <= count; k++) {
