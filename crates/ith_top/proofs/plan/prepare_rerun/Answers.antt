@@ -6,7 +6,7 @@ use Rattle.ith_words.specs.Said.{rerun_said}
 use Rattle.rerun_spec.specs.Inputs.{AreRerunInputs}
 use Rattle.rerun_spec.specs.Rounds.{after_memo}
 use Rattle.ith_top.specs.Contents.{IsMemoOf, Plan, fuel_of}
-use Rattle.ith_top.specs.Playing.{beginning_said}
+use Rattle.ith_top.specs.Playing.{plan_said}
 use Rattle.ith_top.specs.Refusals.{WhyNoHistory, WhyUnedited}
 use Rattle.ith_top.proofs.Worlds.{stays_trans}
 use Rattle.ith_top.proofs.Ending.{forgotten_ends, rerun_unedited_ends, cut_ends}
@@ -37,48 +37,52 @@ returns-in-Err-edit_again-clause-refused g c =
     (w c.recall.new.host) c.in-Ok.ensures.stays c.in-Ok-recall.ensures.stays) c.in-Err-edit_again.ensures.stays
     c.in-Ok.ensures.memo c.in-Ok.ensures.lists is why
 
-pub returns-in-Ok-start_after-clause-plan : goal.returns-in-Ok-start_after-clause-plan
-returns-in-Ok-start_after-clause-plan g c =
+pub returns-in-Ok-after_memo-clause-plan : goal.returns-in-Ok-after_memo-clause-plan
+returns-in-Ok-after_memo-clause-plan g c =
     let w = g.H.Host.world in let files = c.in-Ok.files in
-    let p : Plan = record { beginning = beginning_said c.in-Ok-start_after.start; inputs = c.in-Ok-edit_again.inputs }
-    in
+    let p : Plan = plan_said c.in-Ok-after_memo.plan in
     let is : IsMemoOf files.memo.items c.in-Ok-recall.history =
     rw (← c.as_slice.ensures.value) c.in-Ok-recall.ensures.history in
     let edited : AreRerunInputs c.in-Ok-recall.history.setup.input
     (bytes_of_each files.lists.items) c.in-Ok-edit_again.inputs = search rules in
+    let made : AreRerunInputs c.in-Ok-recall.history.setup.input (bytes_of_each files.lists.items) p.inputs =
+    rw c.in-Ok-after_memo.ensures.inputs edited in
     let begins : p.beginning ≡ after_memo c.in-Ok-recall.history
     (fuel_of (rerun_said c.args.line.now) c.in-Ok-recall.history) c.args.line.now.reach =
-    c.in-Ok-start_after.ensures
+    c.in-Ok-after_memo.ensures.beginning
     ∙ ap (λ (fuel : ℕ). after_memo c.in-Ok-recall.history fuel c.args.line.now.reach) c.fuel_of-fuel.ensures.value in
     rerun_plan (rerun_said c.args.line.now) (w c.args.host.now) files.memo.items
     (bytes_of_each files.lists.items) c.in-Ok-recall.history p
-    c.in-Ok.ensures.memo c.in-Ok.ensures.lists is begins edited
+    c.in-Ok.ensures.memo c.in-Ok.ensures.lists is begins made
 
-pub returns-in-Ok-start_after-clause-playable : goal.returns-in-Ok-start_after-clause-playable
-returns-in-Ok-start_after-clause-playable g c =
+pub returns-in-Ok-after_memo-clause-playable : goal.returns-in-Ok-after_memo-clause-playable
+returns-in-Ok-after_memo-clause-playable g c =
     let files = c.in-Ok.files in
-    let p : Plan = record { beginning = beginning_said c.in-Ok-start_after.start; inputs = c.in-Ok-edit_again.inputs }
-    in
+    let p : Plan = plan_said c.in-Ok-after_memo.plan in
     let is : IsMemoOf files.memo.items c.in-Ok-recall.history =
     rw (← c.as_slice.ensures.value) c.in-Ok-recall.ensures.history in
     let edited : AreRerunInputs c.in-Ok-recall.history.setup.input
     (bytes_of_each files.lists.items) c.in-Ok-edit_again.inputs = search rules in
+    let made : AreRerunInputs c.in-Ok-recall.history.setup.input (bytes_of_each files.lists.items) p.inputs =
+    rw c.in-Ok-after_memo.ensures.inputs edited in
     rerun_playable files.memo.items
     (bytes_of_each files.lists.items) c.in-Ok-recall.history c.fuel_of-fuel.result
-    c.args.line.now.reach p is c.in-Ok-start_after.ensures c.in-Ok-edit_again.ensures.few edited
+    c.args.line.now.reach p is c.in-Ok-after_memo.ensures.beginning
+    (rw c.in-Ok-after_memo.ensures.inputs c.in-Ok-edit_again.ensures.few) made
 
-pub returns-in-Ok-start_after-clause-spelled : goal.returns-in-Ok-start_after-clause-spelled
-returns-in-Ok-start_after-clause-spelled g c =
+pub returns-in-Ok-after_memo-clause-spelled : goal.returns-in-Ok-after_memo-clause-spelled
+returns-in-Ok-after_memo-clause-spelled g c =
     let files = c.in-Ok.files in
-    let p : Plan = record { beginning = beginning_said c.in-Ok-start_after.start; inputs = c.in-Ok-edit_again.inputs }
-    in
+    let p : Plan = plan_said c.in-Ok-after_memo.plan in
     let is : IsMemoOf files.memo.items c.in-Ok-recall.history =
     rw (← c.as_slice.ensures.value) c.in-Ok-recall.ensures.history in
     let edited : AreRerunInputs c.in-Ok-recall.history.setup.input
     (bytes_of_each files.lists.items) c.in-Ok-edit_again.inputs = search rules in
+    let made : AreRerunInputs c.in-Ok-recall.history.setup.input (bytes_of_each files.lists.items) p.inputs =
+    rw c.in-Ok-after_memo.ensures.inputs edited in
     rerun_spelled files.memo.items
     (bytes_of_each files.lists.items) c.in-Ok-recall.history c.fuel_of-fuel.result
-    c.args.line.now.reach p is c.fuel_of-fuel.ensures.within c.in-Ok-start_after.ensures edited
+    c.args.line.now.reach p is c.fuel_of-fuel.ensures.within c.in-Ok-after_memo.ensures.beginning made
 
 pub returns-clause-refused : goal.returns-clause-refused
 returns-clause-refused g c =
