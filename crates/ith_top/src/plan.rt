@@ -148,10 +148,7 @@ fn edit_again<H: Host>(
     ensures stays { Stays (H.world host.old) (H.world host.new) }
     ensures counts { NoneFell (H.world host.old) (H.world host.new) }
 {
-    let mut inputs = match edit(alloc, host, first, lists, names) {
-        Ok(inputs) => inputs,
-        Err(status) => return Err(status),
-    };
+    let mut inputs = edit(alloc, host, first, lists, names)?;
     let _count = inputs.len();
     if lists.is_empty() {
         return Ok(inputs);
@@ -233,24 +230,16 @@ pub fn prepare<H: Host>(alloc: Global, host: &mut H, line: &RunLine<'_>) -> Resu
     ensures stays { Stays (H.world host.old) (H.world host.new) }
     ensures counts { NoneFell (H.world host.old) (H.world host.new) }
 {
-    let Files { elf, input, lists } = match read_files(alloc, host, line) {
-        Ok(files) => files,
-        Err(status) => return Err(status),
-    };
-    let setup = match set_up(alloc, host, elf, input, line.limits) {
-        Ok(setup) => setup,
-        Err(status) => return Err(status),
-    };
-    match edit(
+    let Files { elf, input, lists } = read_files(alloc, host, line)?;
+    let setup = set_up(alloc, host, elf, input, line.limits)?;
+    let inputs = edit(
         alloc,
         host,
         setup.input(),
         lists.as_slice(),
         line.edits.as_slice(),
-    ) {
-        Ok(inputs) => Ok(from_scratch(setup, inputs, line.reach)),
-        Err(status) => Err(status),
-    }
+    )?;
+    Ok(from_scratch(setup, inputs, line.reach))
 }
 
 /// What rounds a line asks for that reruns a memo: its files are read, the memo is looked at, and then the edit lists
@@ -270,24 +259,15 @@ pub fn prepare_rerun<H: Host>(
     ensures stays { Stays (H.world host.old) (H.world host.new) }
     ensures counts { NoneFell (H.world host.old) (H.world host.new) }
 {
-    let RerunFiles { memo, lists } = match read_rerun_files(alloc, host, line) {
-        Ok(files) => files,
-        Err(status) => return Err(status),
-    };
-    let history = match recall(alloc, host, memo.as_slice()) {
-        Ok(history) => history,
-        Err(status) => return Err(status),
-    };
-    let inputs = match edit_again(
+    let RerunFiles { memo, lists } = read_rerun_files(alloc, host, line)?;
+    let history = recall(alloc, host, memo.as_slice())?;
+    let inputs = edit_again(
         alloc,
         host,
         history.setup().input(),
         lists.as_slice(),
         line.edits.as_slice(),
-    ) {
-        Ok(inputs) => inputs,
-        Err(status) => return Err(status),
-    };
+    )?;
     let fuel = fuel_of(line, &history);
     match after_memo(alloc, history, inputs, fuel, line.reach) {
         Ok(plan) => Ok(plan),
