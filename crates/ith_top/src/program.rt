@@ -44,10 +44,7 @@ fn carry_out<R: Threads + Wait + Sync, H: Host, G: Gate + Sync>(
     ensures asked { AsksNothing (H.world host.old) (H.world host.new) }
     ensures counts { NoneFell (H.world host.old) (H.world host.new) }
 {
-    let Outcome { exits, left } = match make_rounds(alloc, host, plan, crew) {
-        Ok(outcome) => outcome,
-        Err(status) => return Err(status),
-    };
+    let Outcome { exits, left } = make_rounds(alloc, host, plan, crew)?;
     match kept {
         Some(name) => match keep(alloc, host, name, &left) {
             Ok(()) => Ok(exits),
