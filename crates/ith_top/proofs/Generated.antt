@@ -1,9 +1,9 @@
 -- How a line that runs the generated guest ends, from how its parts did.
-use Rattle.std.proofs.Common.{◌≡◌, ◌+◌, ◌<◌, ◌≤◌, ◌^◌, ℕ, Bool, true, false, ◌&&◌, List, [], ◌∷◌, ◌++◌, length, map, Option, Some, None, refl, sym, ap, subst, ◌∙◌, append_assoc, arith}
+use Rattle.std.proofs.Common.{◌≡◌, ◌+◌, ◌≤◌, ℕ, Bool, true, false, ◌&&◌, List, [], ◌∷◌, ◌++◌, length, map, Some, None, refl, sym, ap, subst, ◌∙◌, append_assoc, arith}
 use Rattle.std.specs.Prelude.{All, if◌then◌else◌, codes, decimal, Ok, Err}
 use Rattle.std.specs.List.{AllByRecursion, concat, list_all}
 use Rattle.std.proofs.lemmas.List.{append-nil}
-use Rattle.std.proofs.lemmas.List.Elements.{All-from_recursion, recursion_from_All}
+use Rattle.std.proofs.lemmas.List.Elements.{All-from_recursion}
 use Rattle.machine_spec.specs.declared.TheConstants.{MOST_INPUT_BYTES}
 use Rattle.machine_spec.specs.Machine.{Machine}
 use Rattle.machine_spec.specs.Setup.{Setup, IsSetup}
@@ -16,11 +16,11 @@ use Rattle.guest_gen.proofs.Inputs.{length-input_of, edit-in_range}
 use Rattle.guest_gen.proofs.Lists.{list-says}
 use Rattle.rerun_spec.specs.Inputs.{Refusal, AreInputs, IsFirstRefused}
 use Rattle.rerun_spec.proofs.Inputs.{inputs-unrefused}
-use Rattle.rerun_spec.specs.Rounds.{Found, Round, Beginning, IsMade, made, left_by, from_scratch, round_on, after_round, rounds_after, entries_of}
-use Rattle.rerun_spec.specs.Reports.{made_exits, all_made_exit, all_exit}
+use Rattle.rerun_spec.specs.Rounds.{Found, Round, Beginning, IsMade, from_scratch, round_on, after_round, rounds_after}
+use Rattle.rerun_spec.specs.Reports.{made_exits, all_made_exit}
 use Rattle.rerun_spec.proofs.Rounds.{IsSoundlyMade, each-round, scratch-begins, round-machine}
 use Rattle.round_report.specs.Short.{short_text, short_of, made_short}
-use Rattle.ith_host.specs.World.{World, NoneFell, Stays, AsksNothing}
+use Rattle.ith_host.specs.World.{World, Stays, AsksNothing}
 use Rattle.ith_words.specs.Words.{Generates, GenerateLine, default_fuel, default_limit}
 use Rattle.ith_top.specs.declared.status.Status.{Status}
 use Rattle.ith_top.specs.declared.status.Status.TheVariants as status

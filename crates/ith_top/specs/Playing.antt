@@ -18,31 +18,21 @@ use Rattle.round_report.specs.Replay.{replay_text}
 use Rattle.round_report.specs.Short.{made_short}
 use Rattle.ith_host.specs.World.{World}
 use Rattle.ith_words.specs.Words.{Text, ReplayLine}
-use Rattle.ith_top.specs.declared.plan.Start.{Start}
 use Rattle.ith_top.specs.declared.plan.Plan.{Plan as Planned}
-use Rattle.ith_top.specs.declared.rounds.Coming.{Coming}
 use Rattle.ith_top.specs.declared.report.Next.{Next}
 use Rattle.ith_top.specs.Contents.{Plan, ReplayContents, WasReplayRead, replay_setup_of, IsGeneratedPlan}
 use Rattle.ith_top.specs.Rounds.{rounds_of}
 use Rattle.ith_top.specs.Explaining.{explained_round, why_of}
 use Rattle.ith_top.specs.Ends.{Prints, PrintsAndKeeps, IsKeptWithin, texts_of, left_of, generated_text}
 
--- What rounds begin with, in code, as a beginning of the definitions.
-abbrev pub beginning_said : Start → Beginning
-beginning_said s =
-    record { number = s.number; past = option_map arc_value s.past; setup = s.setup; reach = s.reach }
+-- What the rounds of a plan in code begin with, as a beginning of the definitions.
+abbrev pub beginning_said : Planned → Beginning
+beginning_said p =
+    record { number = p.number; past = option_map arc_value p.past; setup = p.setup; reach = p.reach }
 
 -- A plan in code, as one of the definitions.
 abbrev pub plan_said : Planned → Plan
-plan_said p = record { beginning = beginning_said p.start; inputs = p.inputs }
-
--- The rounds of a program that are to come, in code, as a plan.
-abbrev pub coming_said : Setup → Coming → Plan
-coming_said s c =
-    record {
-      beginning = record { number = c.number; past = option_map arc_value c.past; setup = s; reach = c.reach };
-      inputs = c.inputs;
-    }
+plan_said p = record { beginning = beginning_said p; inputs = p.inputs }
 
 -- A plan whose rounds can be made: there is an input; each is as short as an input may be; the rounds can be numbered;
 -- and a history that the first goes by is of the same page map.

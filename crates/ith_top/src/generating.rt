@@ -20,7 +20,7 @@ ghost use Rattle.ith_top.specs.Playing.{plan_said, beginning_of, CanBePlayed, Ca
 
 use super::crew::Crew;
 use super::outside::print_text;
-use super::plan::{Plan, Start, from_scratch};
+use super::plan::{Plan, from_scratch};
 use super::report::{Next, Played, is_exit};
 use super::rounds::no_memory;
 use super::status::Status;
@@ -160,8 +160,11 @@ fn make_both<R: Threads + Wait + Sync, G: Gate + Sync>(
         crew.old.made.number crew.new.made.number lines.text.items lines.exits) }
     ensures both { crew.new.made.number ≤ crew.old.made.number + 2 }
 {
-    let Plan { start, mut inputs } = prepare(alloc, number)?;
-    let Start { setup, .. } = start;
+    let Plan {
+        setup,
+        mut inputs,
+        ..
+    } = prepare(alloc, number)?;
     let Some(input) = inputs.next()? else {
         unreachable!()
     };

@@ -17,7 +17,7 @@ use super::generating::generate;
 use super::keeping::keep;
 use super::plan::{Plan, prepare, prepare_rerun};
 use super::replaying::replay;
-use super::rounds::{Outcome, play};
+use super::rounds::{Outcome, make_rounds};
 use super::showing::show;
 use super::status::Status;
 use ith_host::{Gate, Host};
@@ -44,10 +44,7 @@ fn carry_out<R: Threads + Wait + Sync, H: Host, G: Gate + Sync>(
     ensures asked { AsksNothing (H.world host.old) (H.world host.new) }
     ensures counts { NoneFell (H.world host.old) (H.world host.new) }
 {
-    let Outcome { exits, left } = match play(alloc, host, plan, crew) {
-        Ok(outcome) => outcome,
-        Err(status) => return Err(status),
-    };
+    let Outcome { exits, left } = make_rounds(alloc, host, plan, crew)?;
     match kept {
         Some(name) => match keep(alloc, host, name, &left) {
             Ok(()) => Ok(exits),

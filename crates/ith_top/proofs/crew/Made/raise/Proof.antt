@@ -1,5 +1,5 @@
 -- An empty body. The borrow is opened, and closed at the number that is one more.
-use Rattle.std.proofs.Common.{ℕ, List, [], ◌∷◌, ◌+◌, refl}
+use Rattle.std.proofs.Common.{List, [], ◌∷◌, ◌+◌, refl}
 use mir.Syntax.{named}
 use mir.Val.{Val, vunit, vptr}
 use base.Logic.{id⊢}
