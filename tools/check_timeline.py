@@ -3,14 +3,17 @@
   - Its picture is well-formed XML, and has a box for each step that says which it is: of drawn reports, and of guests
     of examples/ with all that is known of them. Boxes stand in the order of the schedule, and are the wider the more
     instructions there are; there is a line for each step that waits, that wakes, or whose reason is known.
-  - Rounds of 65,536 steps have few boxes, whose steps are all steps, in time.
-  - What it says of pair.elf is what ./trace, `show` and `why` say. Its table is that of README.
+  - Rounds of 65,536 steps have few boxes, whose steps are all steps, in time. Of 300 steps, too, and a column in which a
+    step was executed shows it. The page of HTML has all steps, and where there is Chromium, it draws them in time.
+  - What it says of pair.elf is what ./trace, `show` and `why` say. Its table is that of README. With other limits than
+    those of ./trace it draws the same.
   - A file of reports, a listing, a trace or the lines of `why` that is cut at any byte is refused, and a line says
     where.
   - Where there is Chromium, it draws the picture as large as that says it is.
 """
 import contextlib
 import io
+import json
 import re
 import shutil
 import time
@@ -18,12 +21,15 @@ import xml.etree.ElementTree as xml
 
 import check_reports
 import command
+import pictures
 import reports
 import steps
 from checking import EXAMPLES, ROOT, program, ran, ran_whole, tool
 
 DRAWN = 12  # files of reports
 LONG_SECONDS = 60  # for two rounds of 65,536 steps
+DRAWN_SECONDS = 30  # for a browser to draw them, which takes less than one on a machine that does nothing else
+MOST_WIDE = 1400  # of a picture of rounds that are folded
 PAIR = [EXAMPLES / f"pair.{word}" for word in ("elf", "in", "edits")]
 NAMESPACE = "{http://www.w3.org/2000/svg}"
 WHY = """\
@@ -77,9 +83,21 @@ def has_steps(one, report):
 
 
 def has_all(one, report):
-    """Whether all steps of a round are in its boxes, which are few."""
-    counts = [counts for _, counts, *_ in boxes_of(one)]
-    return [sum(some) for some in zip(*counts)] == [report.steps, report.executed]
+    """Whether all steps of a round are in its boxes, of which each shows by its kinds whether steps were executed."""
+    boxes = boxes_of(one)
+    counts = [counts for _, counts, *_ in boxes]
+    shown = all((("executed" in kinds) == (executed > 0), ("reused" in kinds) == (executed < count)) == (True, True)
+                for _, (count, executed), _, _, _, kinds in boxes)
+    return shown and [sum(some) for some in zip(*counts)] == [report.steps, report.executed]
+
+
+def has_round(one, report):
+    """Whether a round is drawn, step by step or folded."""
+    return has_steps(one, report) if report.steps <= pictures.FOLDED else has_all(one, report)
+
+
+def width_of(printed):
+    return int(re.search(rb'width="([0-9]+)"', printed).group(1))
 
 
 # Reports that are drawn here.
@@ -91,8 +109,8 @@ def check_drawn(checks, number):
     status, printed, said = tool("timeline", checks.file("reports", data))
     if checks.expect(f"timeline of reports {number}: {status} {said}", status == 0 and not said):
         told = list(zip(rounds_of(printed), reports.rounds(data)))
-        checks.expect(f"timeline of reports {number}: a box for each step",
-                      len(told) == len(made) and all(has_steps(*pair) for pair in told))
+        checks.expect(f"timeline of reports {number}: a box for each step, or all steps in boxes",
+                      len(told) == len(made) and all(has_round(*pair) for pair in told))
 
 
 def long_round(draw, number, kind):
@@ -117,8 +135,27 @@ def check_long(checks, kind):
     told = list(zip(rounds_of(printed), reports.rounds(data)))
     count = sum(len(boxes_of(one)) for one, _ in told)
     checks.expect(f"timeline of 65,536 steps, {kind}: all steps are in {count} boxes of {len(printed)} bytes",
-                  all(has_all(*pair) for pair in told) and count <= 8000 and len(printed) < 4_000_000)
+                  all(has_all(*pair) for pair in told) and count <= 8000 and len(printed) < 4_000_000
+                  and width_of(printed) <= MOST_WIDE)
     checks.expect(f"timeline of 65,536 steps, {kind}: it takes {seconds:.0f} s", seconds < LONG_SECONDS)
+
+
+def check_page(checks):
+    """The page of HTML has each step's thread and mark, and a browser draws it."""
+    data = b"".join(long_round(checks.random, number, "drawn") for number in (0, 1))
+    status, printed, said = tool("timeline", checks.file("reports", data), "--html")
+    if not checks.expect(f"timeline --html: {status} {said}", status == 0 and len(printed) < 4_000_000):
+        return
+    told = json.loads(re.search(r'type="application/json">(.*?)</script>', printed.decode(), flags=re.S).group(1))
+    right = [([list(pair) for pair in zip(one["threads"], one["marks"])], one["lines"]) for one in told["rounds"]]
+    checks.expect("timeline --html: all steps are in it", right == [(one.schedule, []) for one in reports.rounds(data)])
+    browser = browser_here("the page of HTML")
+    if browser:
+        page = checks.file("page.html", printed)
+        options = ["--headless", "--no-sandbox", "--disable-gpu", f"--user-data-dir={checks.folder}/browser", "--dump-dom"]
+        drawn = re.search(rb'data-drawn="([0-9]+)"', ran_whole(browser, *options, f"file://{page}")[1])
+        checks.expect(f"timeline --html: Chromium draws it, in ms: {drawn and drawn.group(1)}",
+                      drawn and int(drawn.group(1)) < 1000 * DRAWN_SECONDS)
 
 
 # Guests.
@@ -137,7 +174,7 @@ def check_guest(checks, words, workers):
     what = f"timeline of {words[0].name} with {workers} workers"
     if checks.expect(f"{what}: {status} {said}", status == 0):
         drawn = rounds_of(printed)
-        checks.expect(f"{what}: a box for each step", all(map(has_steps, drawn, made)) and len(drawn) == len(made))
+        checks.expect(f"{what}: a box for each step", all(map(has_round, drawn, made)) and len(drawn) == len(made))
         waits = [len(titles(one, "waits")) + len(titles(one, "forever")) for one in drawn]
         traced = [trace_of(checks, words, one).count(b" waits for ") for one in made[:1]]
         if made[0].end["kind"] == "deadlock":
@@ -178,6 +215,17 @@ def check_pair(checks):
     check_browser(checks, printed)
 
 
+def check_limits(checks):
+    """With other limits than ./trace has, waits, wakes and boxes are those that ./trace finds."""
+    drawn = []
+    for more in ([], ["--steps", "5000"]):
+        file = checks.file("reports", program("run", *PAIR, "--workers", "1")[1])
+        _, printed, said = tool("timeline", file, *more, "--guest", *PAIR)
+        drawn.append([(titles(one, "waits"), titles(one, "wakes"), [box[:2] + box[3:] for box in boxes_of(one)])
+                      for one in rounds_of(printed)] if printed else said)
+    checks.expect(f"timeline with other limits draws the same: {drawn[1]}", drawn[0] == drawn[1] and len(drawn[0]) == 2)
+
+
 def check_rerun(checks):
     """A rerun, with the memo that it went on from: what is reused has that memo's pages, and what is executed none."""
     memo = checks.folder / "before"
@@ -204,11 +252,18 @@ def check_table(checks):
     checks.expect(f"rounds beneath each other in 60 columns: {heads}", len(heads) == 2)
 
 
-def check_browser(checks, printed):
-    """The picture as the browser draws it: a PNG of that width and height, that isn't empty."""
+def browser_here(what):
+    """A browser that draws; where there is none, it says what isn't drawn."""
     browser = shutil.which("chromium") or shutil.which("chromium-browser") or shutil.which("google-chrome")
     if not browser:
-        print("skipped: drawing the picture in a browser, since there is no Chromium")
+        print(f"skipped: drawing {what} in a browser, since there is no Chromium")
+    return browser
+
+
+def check_browser(checks, printed):
+    """The picture as the browser draws it: a PNG of that width and height, that isn't empty."""
+    browser = browser_here("the picture")
+    if not browser:
         return
     size = re.search(rb'width="([0-9]+)" height="([0-9]+)"', printed).groups()
     png, file = checks.folder / "picture.png", checks.file("picture.svg", printed)
@@ -296,11 +351,13 @@ def check(checks):
         check_drawn(checks, number)
     for kind in ("turns", "runs", "drawn"):
         check_long(checks, kind)
+    check_page(checks)
     for name in ("hi", "cross", "trap", "late", "bytes"):
         check_guest(checks, [EXAMPLES / f"{name}.elf", EXAMPLES / "empty"], "1")
     for workers in ("1", "4"):
         check_guest(checks, PAIR, workers)
     check_pair(checks)
+    check_limits(checks)
     check_rerun(checks)
     check_table(checks)
     check_cut(checks)

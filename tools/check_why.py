@@ -3,11 +3,15 @@ behind that guest here.
 
   - Without --symbols it prints those lines, and where the program refuses, it ends as the program does.
   - With --symbols it names functions, calls, variables, registers, bytes of the input and of stacks.
+  - Of more than a hundred steps, and with --summary, it prints a summary, whose rows have all steps; of 22,000 it does so
+    in time.
   - An executable that is cut, has no symbols, or other code, is refused with a line.
   - Where there is clang with lld and llvm-symbolizer, lines of a C file are named.
+  - With a C library, the guest's own lines are told, and the one that allocated a block.
   - What docs/GUESTS.md shows of three edits is what the program prints for the committed executable, and the tool
-    where the guest that is built here is that one.
+    where the guest that is built here is that one; so is the summary that it shows.
 """
+import os
 import re
 import shutil
 import struct
@@ -51,6 +55,37 @@ step 10 thread 0 number 4 page 00011000 at 16 now 1 was 0 by 8
     beside it: total, most, turns
     stored by step 8, of thread 2, from main on
 step 12 thread 0 number 6 none
+"""
+MANY, SECONDS = 22_000, 8  # steps, and how much of a processor's time they may take; two seconds is what they take
+ROW = re.compile(r" *([0-9,]+) +([0-9,]+)  (?:[0-9a-f]{8}(?: [+][0-9]+)?|-|) .*")
+LIBRARY_FILE = b"""#include <pthread.h>
+#include <stdio.h>
+#include <stdlib.h>
+static char *copy;
+static int sum;
+static pthread_mutex_t lock = PTHREAD_MUTEX_INITIALIZER;
+static void add(int more)
+{
+    pthread_mutex_lock(&lock);
+    sum += more;
+    pthread_mutex_unlock(&lock);
+}
+static void *work(void *nothing)
+{
+    for (int k = 0; k < 4; k++)
+        add(copy[k]);
+    return nothing;
+}
+int main(void)
+{
+    pthread_t thread;
+    copy = malloc(100);
+    copy[0] = getchar();
+    pthread_create(&thread, NULL, work, NULL);
+    pthread_join(thread, NULL);
+    printf("%d\\n", sum);
+    return 0;
+}
 """
 # What stands in the place of the program: it prints the file `lines`, and ends with the status in `status`.
 FAKE = """#!/bin/sh
@@ -134,6 +169,56 @@ def check_lines(checks, place, memo, guest):
             checks.expect(f"why where the program refuses: {got}", got == (status, b"", said))
 
 
+def rows_of(printed):
+    """The steps and the instructions of the rows of a summary."""
+    return [tuple(int(number.replace(",", "")) for number in found.groups())
+            for line in printed.decode().split("\n") if (found := ROW.fullmatch(line))]
+
+
+def processor_seconds():
+    spent = os.times()
+    return spent.children_user + spent.children_system
+
+
+def check_summary(checks, place, memo, guest):
+    """The summary: of a few lines, and of so many that it is printed unasked."""
+    status, printed, said = place.ran(WHY, 0, "", memo, "e", "--symbols", guest, "--summary")
+    rows, head = rows_of(printed), printed.decode().split("\n")[:2]
+    checks.expect(f"a summary: {status} {said} {printed.decode()}", status == 0 and sum(row[0] for row in rows) == 7
+                  and head[0] == "why 7" and f" of {sum(row[1] for row in rows)} instructions " in head[1]
+                  and b"own (`alignas(4096)`, or" in printed)
+    lines = WHY.split("\n")[1:-1] * (MANY // 7 + 1)
+    many = "".join(f"{line}\n" for line in [f"why {len(lines)}", *lines])
+    for words, is_summed in ((("--all",), False), (("--symbols", guest), True)):
+        before = processor_seconds()
+        status, printed, said = place.ran(many, 0, "", memo, "e", *words)
+        spent = processor_seconds() - before
+        counted = sum(row[0] for row in rows_of(printed)) if is_summed else len(re.findall(b"^step", printed, flags=re.M))
+        checks.expect(f"{len(lines)} steps, {words}: {status} {said} {counted} in {spent:.1f} s of a processor",
+                      status == 0 and counted == len(lines) and spent < SECONDS)
+    status, printed, said = place.ran("why 0\n", 0, "", memo, "e", "--summary")
+    checks.expect(f"a summary of nothing: {printed}", (status, printed) == (0, b"why 0\n"))
+
+
+def check_library(checks):
+    """A guest with a C library: the guest's own lines, and the line that allocated a block."""
+    if not (shutil.which("riscv64-unknown-elf-gcc") and shutil.which("llvm-symbolizer")):
+        print("skipped: the lines of a guest with a C library, since there is no riscv64-unknown-elf-gcc and llvm-symbolizer")
+        return
+    source, elf, memo = checks.file("library.c", LIBRARY_FILE), checks.folder / "library.elf", checks.folder / "library.memo"
+    ran_whole(str(ROOT / "guest/build"), "--libc", "--symbols", str(source), str(elf))
+    program("run", elf, checks.file("in", b"ab"), "--workers", "1", "--memo", memo)
+    edits = checks.file("edits", b"set 0 7a\n")
+    status, printed, said = tool("why", memo, edits, "--symbols", elf)
+    told = printed.decode()
+    for wanted in ("    from main, library.c:23 to create in main, library.c:24\n", " to lock in add, library.c:9\n",
+                   "is in the block that main, library.c:22 allocates\n"):
+        checks.expect(f"the lines of a guest with a C library have `{wanted}`: {status} {said}\n{told}", wanted in told)
+    status, printed, said = tool("why", memo, edits, "--summary")
+    checks.expect(f"the summary by the memo's own symbols: {status} {said}\n{printed.decode()}",
+                  b"the block that main, library.c:22 allocates, in " in printed)
+
+
 def check_refused(checks, place, memo, guest):
     pair, whole = EXAMPLES / "pair.elf", guest.read_bytes()
     changed = bytearray(whole)
@@ -214,6 +299,18 @@ def check_guide(checks):
             print(f"skipped: the names that docs/GUESTS.md shows of {edits}: clang writes another guest here")
         else:
             checks.expect(f"docs/GUESTS.md has the names of {edits}: {status} {said}", is_shown(printed, block))
+    check_shown_summary(checks, memo, built)
+
+
+def check_shown_summary(checks, memo, built):
+    """The summary that the guide shows."""
+    shown = re.search(r"^tools/why orders\.memo (\S+) --symbols orders\.elf --summary\n```\n.*?^```\n(why [0-9]+\n.*?)^```$",
+                      (ROOT / "docs/GUESTS.md").read_text(), flags=re.S | re.M)
+    status, printed, said = tool("why", memo, ROOT / shown.group(1), "--symbols", built, "--summary")
+    if status == 2 and "isn't the memo's guest" in said:
+        print("skipped: the summary that docs/GUESTS.md shows: clang writes another guest here")
+    else:
+        checks.expect(f"docs/GUESTS.md has the summary: {status} {said}", printed.decode() == shown.group(2))
 
 
 def check(checks):
@@ -222,6 +319,8 @@ def check(checks):
     if checks.expect("pair.elf: a memo is written", memo.exists()):
         place = Place(checks.folder)
         check_lines(checks, place, memo, guest)
+        check_summary(checks, place, memo, guest)
         check_refused(checks, place, memo, guest)
     check_source(checks)
+    check_library(checks)
     check_guide(checks)

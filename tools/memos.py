@@ -1,6 +1,6 @@
 """Reads memos, by docs/FORMATS.md; it shares no code with the program. `Memo(bytes).listing()` lists one as `show`
 does, and raises `NotMemo` where it is none. It doesn't look whether a record fits what those before it leave, which
-takes the machine."""
+takes the machine. `head(file)` reads what comes before the records, and leaves the digest to who reads on."""
 import hashlib
 import struct
 from dataclasses import dataclass
@@ -28,6 +28,33 @@ def mapped_pages(elf):
 
 class NotMemo(Exception):
     """The bytes are no memo: by the word of the program, at which byte, and why."""
+
+
+@dataclass
+class Head:
+    """What a memo begins with: its executable, its input, and the limits of its run."""
+
+    elf: bytes
+    input: bytes
+    fuel: int
+    steps: int
+
+
+def head(file):
+    """The head of the memo in an open file."""
+    def number(most=2**32 - 1, word="Short"):
+        field = file.read(4)
+        if len(field) < 4 or int.from_bytes(field, "little") > most:
+            raise NotMemo(word if len(field) == 4 else "Short")
+        return int.from_bytes(field, "little")
+    if file.read(4) != b"ITHM":
+        raise NotMemo("Magic")
+    if (version := number()) not in (1, 2):
+        raise NotMemo(f"Version {version}")
+    if version == 2 and number() != 3:
+        raise NotMemo("Field 8")
+    elf = file.read(number(2**24, "Limit elf"))
+    return Head(elf, file.read(number(2**20, "Limit input")), number(), number())
 
 
 @dataclass

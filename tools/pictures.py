@@ -2,20 +2,25 @@
 in it a box for each step, in the order of the schedule from left to right.
 
 A box is the wider the more instructions its step has, where that is known, by one scale for all rounds. Executed steps
-are orange and hatched, reused ones light blue and plain, which eyes that see fewer colours can tell too. Where there
-are too many steps, those of a kind that follow each other in a lane are one box; where that isn't enough, steps of both
-kinds are, and the hatched part of such a box is as high as its share of executed steps.
+are orange and hatched, reused ones light blue and plain, which eyes that see fewer colours can tell too. A round of more
+than FOLDED steps is folded by time: in each lane the steps of one column are one box, and the hatched part of a box is as
+high as its share of executed steps, and never too low to be seen; columns that follow each other and have steps of one
+kind alone are one box, too.
 """
+from collections import Counter
 from dataclasses import dataclass
 from xml.sax.saxutils import escape
 
 import reports
 
-MOST_BOXES = 8000  # of a picture
-LEAST_BOXES = 200  # that a round may have, however many rounds there are
+FOLDED = 200  # steps of a round that are drawn one by one
+MOST_BOXES = 8000  # of a picture, about
+COLUMN = 4  # the least width of a column of a round that is folded
+LEAST_HIGH = 5  # of what was executed
+TOLD = 3  # of the calls and the places that are told of a box of several steps
 MARGIN, LABELS = 16, 78  # beside the picture, and for the names of lanes
 LANE, BOX, HEAD, GAP = 36, 22, 30, 26  # heights: of a lane, a box, a round's heading, and between rounds
-INSIDE, MOST_INSIDE = 1000, 8000  # the widths that all steps of a round may take
+INSIDE, MOST_INSIDE, FOLDED_INSIDE = 1000, 3000, 1250  # the widths that all steps of a round may take
 STEP = 7  # the least width of a box, where there is room
 SHARE = 0.45  # of the width goes by instructions
 STYLE = """
@@ -83,10 +88,19 @@ def said_of_steps(box):
     """What is told of several steps together."""
     first, last, executed = box.steps[0], box.steps[-1], box.executed()
     counts = [step.count for step in box.steps]
-    known = [] if None in counts else [f"{sum(counts):,} instructions"]
     lines = [f"steps {first.place} to {last.place} of thread {first.thread}, its numbers {first.number} to "
              f"{last.number}: {len(box.steps) - executed} reused, {executed} executed"]
-    return "\n".join(lines + known)
+    lines += [] if None in counts else [f"{sum(counts):,} instructions"]
+    lines += most_of("calls", (step.call for step in box.steps if step.call))
+    lines += most_of("executed", (step.notes[0] for step in box.steps if step.notes and step.notes[0].startswith("from ")))
+    return "\n".join(lines)
+
+
+def most_of(what, names):
+    """The most frequent of some names, in a line; none where there are none."""
+    counts = Counter(names)
+    told = ", ".join(f"{count} {name}" for name, count in counts.most_common(TOLD))
+    return [f"{what}: {told}{', ..' if len(counts) > TOLD else ''}"] if told else []
 
 
 def heading(report):
@@ -105,7 +119,7 @@ class Scale:
     def __init__(self, rounds):
         count = max(map(len, rounds))
         known = max(sum(step.count or 0 for step in steps) for steps in rounds)
-        inside = min(MOST_INSIDE, max(INSIDE, STEP * count / (1 - SHARE)))
+        inside = FOLDED_INSIDE if count > FOLDED else min(MOST_INSIDE, max(INSIDE, STEP * count / (1 - SHARE)))
         self.least = inside * (1 - SHARE if known else 1) / count
         self.scale = inside * SHARE / known if known else 0
         self.average = known / count
@@ -119,36 +133,42 @@ class Scale:
         return made
 
 
-def boxes_of(steps, places, most):
+def boxes_of(steps, places, column):
     """The boxes of a round, by lanes: one for each step, where there aren't too many."""
     lanes = {}
     for step in steps:
         lanes.setdefault(step.thread, []).append(Box([step], places[step.place], places[step.place + 1]))
-    for may_join in ways_to_join():
-        if sum(map(len, lanes.values())) <= most:
-            return lanes
-        lanes = {thread: joined(boxes, may_join) for thread, boxes in lanes.items()}
+    if len(steps) > FOLDED:
+        lanes = {thread: joined(in_columns(boxes, column)) for thread, boxes in lanes.items()}
+    return lanes
 
 
-def ways_to_join():
-    """When two boxes that follow each other may be one: first those of a kind with little room between them, then any
-    that are narrow together; each time somewhat more."""
-    for room in (1, 2, 4, 8, 16, 32):
-        yield lambda box, other: (box.steps[-1].is_reused == other.steps[0].is_reused
-                                  and other.left - box.right < room)
-    width = 2
-    while True:
-        yield lambda box, other: other.right - box.left < width
-        width *= 2
+def in_columns(boxes, column):
+    """The boxes of a lane, of which those that are narrow and in one column are one, as wide as that."""
+    made, last = [], None
+    for box in boxes:
+        at = int(box.left / column) if box.right - box.left < column else None
+        if at is not None and at == last:
+            made[-1].steps += box.steps
+        elif at is not None:
+            made.append(Box(box.steps, at * float(column), (at + 1) * float(column)))
+        else:
+            made.append(box)
+        last = at
+    for box, other in zip(made, made[1:]):
+        box.right = max(box.left, min(box.right, other.left))
+    return made
 
 
-def joined(boxes, may_join):
-    """The boxes of a lane, of which those that follow each other and may are one."""
+def joined(boxes):
+    """The boxes of a lane, of which those that touch each other and have steps of the same one kind are one."""
     made = boxes[:1]
     for box in boxes[1:]:
-        if may_join(made[-1], box):
-            made[-1].steps += box.steps
-            made[-1].right = box.right
+        before, kinds = made[-1], {box.executed() == 0, box.executed() < len(box.steps)}
+        if len(kinds) == 1 and kinds == {before.executed() == 0, before.executed() < len(before.steps)} and (
+                box.left - before.right < 1):
+            before.steps += box.steps
+            before.right = box.right
         else:
             made.append(box)
     return made
@@ -191,7 +211,7 @@ class Drawing:
         """A box, and in it the name of its call, where there is room."""
         y, width, executed = self.lanes[box.steps[0].thread] - BOX / 2, box.right - box.left, box.executed()
         said = said_of_step(box.steps[0]) if len(box.steps) == 1 else said_of_steps(box)
-        high = BOX * executed / len(box.steps)
+        high = max(BOX * executed / len(box.steps), LEAST_HIGH if executed else 0)
         made = (f'<g class="steps" data-count="{len(box.steps)}" data-executed="{executed}">'
                 f"<title>{clean(said)}</title>\n")
         for kind, at, height in (("reused", y, BOX), ("executed", y + BOX - high, high)):
@@ -202,8 +222,8 @@ class Drawing:
             made += label(box.left + width / 2, y + BOX / 2 + 4, name, "call")
         return made + "</g>\n"
 
-    def boxes(self, most):
-        for boxes in boxes_of(self.steps, self.places, most).values():
+    def boxes(self, column):
+        for boxes in boxes_of(self.steps, self.places, column).values():
             yield from map(self.box, boxes)
 
     def waits(self):
@@ -257,17 +277,17 @@ class Drawing:
         return element("path", f"step {later.place} is executed for what step {step.place} did: {later.reason}",
                        **{"class": "why"}, d=path)
 
-    def round(self, most):
+    def round(self, column):
         """All of the round."""
-        return f'<g class="round" data-number="{self.report.number}">\n{"".join(self.parts(most))}</g>\n'
+        return f'<g class="round" data-number="{self.report.number}">\n{"".join(self.parts(column))}</g>\n'
 
-    def parts(self, most):
+    def parts(self, column):
         """The parts of the round, what lies below first."""
         yield label(MARGIN, self.top + 14, heading(self.report), "head")
         yield from self.lane_lines()
-        lines = len(self.steps) <= most
+        lines = len(self.steps) <= FOLDED
         yield from self.waits() if lines else ()
-        yield from self.boxes(most)
+        yield from self.boxes(column)
         yield from self.wakes() if lines else ()
         yield from self.reasons() if lines else ()
 
@@ -292,13 +312,14 @@ def legend(drawn, x, y):
 def picture(known):
     """The SVG of some rounds."""
     numbers = sorted(known.reports)
-    scale, most = Scale([known.steps[number] for number in numbers]), max(LEAST_BOXES, MOST_BOXES // len(numbers))
+    scale = Scale([known.steps[number] for number in numbers])
     drawings, top, right = [], MARGIN + 30, 0.0
     for number in numbers:
         places = scale.edges(known.steps[number])
         drawings.append(Drawing(known.reports[number], known.steps[number], places, top))
         top, right = drawings[-1].bottom + GAP, max(right, places[-1])
-    drawn = "".join(drawing.round(most) for drawing in drawings)
+    column = max(COLUMN, -(-FOLDED_INSIDE * sum(len(drawing.lanes) for drawing in drawings) // MOST_BOXES))
+    drawn = "".join(drawing.round(column) for drawing in drawings)
     width, height = round(right + MARGIN), round(top - GAP + MARGIN)
     size = f'width="{width}" height="{height}"'
     yield (f'<svg xmlns="http://www.w3.org/2000/svg" {size} viewBox="0 0 {width} {height}">\n'

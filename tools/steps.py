@@ -7,8 +7,11 @@ rounds behind, and from which it was reused, in those before.
 import re
 from dataclasses import dataclass, field
 
+import reports
+
 CALLS = ("exit put create thread_exit join yield lock trylock unlock sem_wait sem_trywait sem_post sem_init "
          "barrier_init barrier_wait cond_wait signal broadcast").split()
+ARGUMENTS = {1: 2, 2: 2, 5: 0, 12: 2, 13: 2, 15: 2}  # how many a call has, where it isn't one
 ENTRY = re.compile(r"entry ([0-9]+) thread ([0-9]+) number ([0-9]+) end (call [0-9]+|trap [0-7]|fuel) count ([0-9]+)"
                    r" reads (-|%s(?:,%s)*) writes (-|%s(?:,%s)*)" % (("[0-9a-f]{8}",) * 4))
 HEAD = re.compile(r"(elf|input|fuel|limit|entries) [0-9]+")
@@ -48,6 +51,16 @@ class Step:
     reason: str | None = None
     notes: list = field(default_factory=list)  # what stands behind the reason
     stored_by: int | None = None  # the step that stored what it was executed for
+
+
+def call_text(call):
+    """A call of a step that was made again, with its arguments; or how else it ended."""
+    kind, _, which = call.end.partition(" ")
+    if kind != "call":
+        return "no call within the fuel" if kind == "fuel" else f"trap at {call.pc:08x}"
+    number = int(which)
+    arguments = (f"{call.first:08x}" if number in (1, 2) else str(call.first), str(call.second))[:ARGUMENTS.get(number, 1)]
+    return f"{CALLS[number] if number < len(CALLS) else f'call {number}'}({', '.join(arguments)})"
 
 
 def steps_of(report):
@@ -153,6 +166,16 @@ class Rounds:
             step.begins = begins and int(begins.group(1))
         if not lines[count:] or not lines[count].startswith("end "):
             raise Refused(min(count, len(lines)) + 1, f"round {number} has {count} steps, and then an end is wanted")
+
+    def add_run(self, number, made):
+        """What a machine did that made the steps of a round again."""
+        for step, call in zip(self.steps[number], made.steps):
+            step.count, step.call = call.count, end_name(call.end)
+            step.waits, step.wakes, step.begins = call.waits or None, call.wakes, call.begins
+            answer = "" if call.answer is None else f" = {call.answer}"
+            step.text = call_text(call) + (f" {call.waits}" if call.waits else answer)
+        if len(made.steps) != len(self.steps[number]) or made.ended != reports.end_text(self.reports[number].end):
+            raise Refused(len(made.steps) + 1, f"the run ends by {made.ended}, and round {number} doesn't")
 
     def add_reasons(self, number, text):
         """The reasons of the executed steps of a round."""

@@ -2,15 +2,26 @@
 and lines by llvm-symbolizer, where that is installed and the executable has them."""
 import bisect
 import json
+import pathlib
+import re
 import shutil
 import struct
 import subprocess
 from dataclasses import dataclass
 
-TABLE, FUNCTION, OBJECT, PLAIN = 2, 2, 1, 0  # types of a section, and of symbols
+TABLE, FILE, FUNCTION, OBJECT, PLAIN = 2, 4, 2, 1, 0  # types of a section, and of symbols
 PAGE = 4096
 IN_HEADER = "ithreads.h"  # whose functions are inlined, so that a line of it says little
 AT_ONCE = 500  # addresses
+THREADS = 32
+LIBRARY = pathlib.Path(__file__).resolve().parent.parent / "guest/lib"  # what `guest/build --libc` links
+OF_FILES = {  # what the variables of guest/lib are for, by their files
+    "output.c": "what threads print",
+    "input.c": "how far stdin was read",
+    "malloc.c": "what malloc keeps of its blocks",
+    "objects.c": "the numbers of mutexes, semaphores, barriers and conditions",
+}
+OF_LIBRARY = re.compile("/newlib/|/libgcc/|picolibc|guest/(lib|include)/[a-z_]+[.][ch]$")  # names of files
 
 
 class NoSymbols(Exception):
@@ -19,12 +30,13 @@ class NoSymbols(Exception):
 
 @dataclass
 class Symbol:
-    """A name of `size` bytes from an address on."""
+    """A name of `size` bytes from an address on; `file` is known of what one file alone has."""
 
     address: int
     size: int
     name: str
     kind: int
+    file: str = ""
 
 
 def segments(elf):
@@ -51,10 +63,11 @@ def symbols_of(elf):
         table = next((one for one in sections if one[1] == TABLE), None)
         if place == 0 or table is None:
             raise NoSymbols("it has no symbol table; guest/build --symbols keeps one")
-        names, found = sections[table[6]][4], []
+        names, found, file = sections[table[6]][4], [], ""
         for at in range(table[4], table[4] + table[5], 16):
             name, address, length, kind, _, section = struct.unpack_from("<IIIBBH", elf, at)
-            symbol = Symbol(address, length, text_at(elf, names + name), kind & 15)
+            file = text_at(elf, names + name) if kind & 15 == FILE else "" if kind >> 4 else file
+            symbol = Symbol(address, length, text_at(elf, names + name), kind & 15, file)
             if section and symbol.kind in (PLAIN, OBJECT, FUNCTION) and symbol.name and symbol.name[0] not in "$.":
                 found.append(symbol)
     except (struct.error, IndexError) as why:
@@ -65,12 +78,21 @@ def symbols_of(elf):
 class Symbols:
     """The symbols of an executable, by their addresses."""
 
-    def __init__(self, name, elf):
-        self.name, self.found, self.segments = name, symbols_of(elf), segments(elf)
+    def __init__(self, name, elf, has_names=True):
+        self.name, self.found, self.segments = name, symbols_of(elf) if has_names else [], segments(elf)
         self.starts, self.lines, self.pages = [symbol.address for symbol in self.found], {}, {}
+        self.known = {}  # the symbols of addresses that were asked for
+        self.library = set()  # where its functions begin
+        self.labels = {symbol.name: symbol.address for symbol in self.found if symbol.name.startswith("it_")}
+        self.library_files = {file.name for file in LIBRARY.glob("*.c")} if "it_shared" in self.labels else set()
 
     def at(self, address):
         """The symbol that an address is of: one whose bytes it is among, or else a label before it."""
+        if address not in self.known:
+            self.known[address] = self.looked_up(address)
+        return self.known[address]
+
+    def looked_up(self, address):
         place = bisect.bisect_right(self.starts, address)
         before = self.found[max(0, place - 20):place][::-1]
         inside = (symbol for symbol in before if address < symbol.address + symbol.size)
@@ -85,8 +107,8 @@ class Symbols:
                                 and symbol.address < page + PAGE and symbol.address + symbol.size > page]
         return self.pages[page]
 
-    def read_lines(self, addresses):
-        """Asks for the lines of these addresses of code."""
+    def frames(self, addresses):
+        """Asks for the functions of these addresses of code, those that were inlined first, with their lines."""
         tool, wanted = shutil.which("llvm-symbolizer"), sorted(set(addresses))
         for start in range(0, len(wanted) if tool else 0, AT_ONCE):
             words = [tool, "--output-style=JSON", f"--obj={self.name}", *map(hex, wanted[start:start + AT_ONCE])]
@@ -95,7 +117,23 @@ class Symbols:
                 told = json.loads(ran.stdout or b"[]")
             except json.JSONDecodeError:
                 told = []
-            self.lines.update({int(one["Address"], 16): line_of(one.get("Symbol", [])) for one in told})
+            yield from ((int(one["Address"], 16), one.get("Symbol", [])) for one in told)
+
+    def read_lines(self, addresses):
+        """Asks for the lines of these addresses of code."""
+        wanted = set(addresses) - self.lines.keys()
+        self.lines.update({address: line_of(frames) for address, frames in self.frames(wanted)})
+
+    def read_library(self):
+        """Asks which functions are the C library's, by the names of their files, where the guest has one."""
+        starts = [symbol.address for symbol in self.found if symbol.kind == FUNCTION and self.library_files]
+        self.library = {address for address, frames in self.frames(starts)
+                        if frames and OF_LIBRARY.search(frames[-1].get("FileName", ""))}
+
+    def is_library(self, address):
+        """Whether an address of code is in a function of the C library, as far as that was asked for."""
+        symbol = self.at(address) if self.library else None
+        return symbol is not None and symbol.address in self.library
 
     def code(self, address):
         """The function that an address is in, with its line where it is known."""
@@ -103,6 +141,27 @@ class Symbols:
         if line:
             return f"{line[0]}, {line[1]}"
         return symbol.name if symbol else f"{address:08x}"
+
+    def kind(self, address):
+        """What an address of data is of: its kind, and a name."""
+        for kind, low, behind, name in self.ranges():
+            if low <= address < behind:
+                return kind, name
+        symbol = self.at(address)
+        if symbol is None or self.data(address) is None:
+            return "unnamed", "what has no name"
+        if symbol.file in self.library_files or symbol.name.startswith("it_") and self.library:
+            return "library", OF_FILES.get(symbol.file, f"`{symbol.name}` of the C library")
+        return "variable", symbol.name
+
+    def ranges(self):
+        """Where the C library's heap is, and what each thread has for itself: a kind, the first address, the one behind
+        the last, and a name."""
+        if {"it_heap", "it_heap_end"} <= self.labels.keys():
+            yield "heap", self.labels["it_heap"], self.labels["it_heap_end"], "the heap"
+        if {"it_own", "it_own_size"} <= self.labels.keys():
+            low, size = self.labels["it_own"], self.labels["it_own_size"]
+            yield "own", low, low + THREADS * size, "what each thread has for itself (errno, _Thread_local)"
 
     def data(self, address):
         """The variable that an address is in; None where it is in none."""
@@ -114,7 +173,8 @@ class Symbols:
 
 def line_of(frames):
     """The function and the line, in the innermost of the files of the guest itself; None where none is known."""
-    known = [(one["FunctionName"], one["FileName"].rpartition("/")[2], one["Line"]) for one in frames
+    known = [(one["FunctionName"], one["FileName"], one["Line"]) for one in frames
              if one.get("Line") and one.get("FunctionName")]
-    own = [one for one in known if one[1] != IN_HEADER]
-    return next(((name, f"{file}:{line}") for name, file, line in own or known), None)
+    behind = [one for one in known if not one[1].endswith(IN_HEADER)]
+    own = [one for one in behind if not OF_LIBRARY.search(one[1])]
+    return next(((name, f"{file.rpartition('/')[2]}:{line}") for name, file, line in own or behind or known), None)

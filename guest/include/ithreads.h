@@ -85,12 +85,29 @@ enum it_call {
     "mv a2, zero\n\tmv a3, zero\n\tmv a4, zero\n\tmv a5, zero\n\tmv a6, zero\n\t"
 #define IT_CLEARED "ra", "t0", "t1", "t2", "t3", "t4", "t5", "t6", "a2", "a3", "a4", "a5", "a6", "memory"
 
+/* guest/build defines these for --yield-every and --time counted: a call begins the countdown to the next yield anew, and
+   is counted. */
+#ifdef IT_YIELD_EVERY
+extern _Thread_local int it_countdown;
+#define IT_BEGIN_COUNTDOWN it_countdown = IT_YIELD_EVERY
+#else
+#define IT_BEGIN_COUNTDOWN (void)0
+#endif
+#ifdef IT_COUNTED
+extern _Thread_local unsigned it_calls;
+#define IT_COUNT_CALL it_calls++
+#else
+#define IT_COUNT_CALL (void)0
+#endif
+
 /* Makes a call: gives what it leaves in a0, and in *value what it leaves in a1. */
 static inline __attribute__((always_inline)) int it_call_value(enum it_call number, unsigned first, unsigned second, unsigned *value)
 {
     register unsigned a0 __asm__("a0") = first;
     register unsigned a1 __asm__("a1") = second;
     register unsigned a7 __asm__("a7") = number;
+    IT_BEGIN_COUNTDOWN;
+    IT_COUNT_CALL;
     __asm__ volatile(IT_CLEAR "ecall" : "+r"(a0), "+r"(a1) : "r"(a7) : IT_CLEARED);
     *value = a1;
     return (int)a0;

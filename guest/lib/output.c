@@ -19,6 +19,13 @@
 
 static struct IT_PAGE_ALIGNED { unsigned char bytes[2][IT_PAGE]; } pages[IT_THREADS];
 
+/* guest/build --unbuffered: what a call of stdio leaves is put out if there is a newline in it. */
+#ifdef IT_UNBUFFERED
+enum { AT_NEWLINES = 1 };
+#else
+enum { AT_NEWLINES = 0 };
+#endif
+
 /* Clears the first bytes of a page, and up to 31 more. */
 static void clear(unsigned char *page, unsigned count)
 {
@@ -99,6 +106,8 @@ static int put_byte(char byte, FILE *stream)
     *it_self.at++ = (unsigned char)byte;
     if (it_self.at == it_self.page + IT_PAGE)
         full();
+    if (AT_NEWLINES && byte == '\n' && !it_self.call)
+        flush();
     return (unsigned char)byte;
 }
 
@@ -162,9 +171,13 @@ static void end_call(const FILE *stream, const unsigned char *outer)
     if (outer)
         return;
     it_self.call = NULL;
-    if (stream == stderr)
+    if (stream == stderr || (AT_NEWLINES && memchr(it_self.page, '\n', (size_t)(it_self.at - it_self.page))))
         flush();
 }
+
+#ifdef IT_LONG_DOUBLE
+#define __real_vfprintf it_vfprintf /* in long_double.c */
+#endif
 
 /* The linker brings each vfprintf here, also those of printf and its like. */
 int __real_vfprintf(FILE *stream, const char *format, va_list arguments);

@@ -11,6 +11,11 @@ struct it_shared it_shared;
 extern const char it_own_image[], it_own_image_size[];
 extern void (*const it_constructors[])(void), (*const it_constructors_end[])(void);
 
+/* from guest/build: the environment, which is an empty list; then the program's name and the words of --args, and how
+   many they are */
+extern char *it_words[];
+extern const char it_word_count[];
+
 int main(int count, char **words, char **environment);
 
 /* The machine gives each thread its number in tp. Number n has the block at it_own + n * it_own_size. A number isn't
@@ -47,10 +52,11 @@ struct it_beginning {
 
 static __attribute__((noreturn)) void start_main(void)
 {
-    static char *words[] = { NULL };
     for (void (*const *each)(void) = it_constructors; each != it_constructors_end; each++)
         (*each)();
-    exit(main(0, words, words));
+    char **words = it_words;
+    __asm__("" : "+r"(words)); /* so that its address is made once */
+    exit(main((int)it_word_count, words + 1, words));
 }
 
 /* The first step of a thread ends here, with a call: so the creator's page, on which the beginning stands, isn't read

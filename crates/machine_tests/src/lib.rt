@@ -1,8 +1,12 @@
-//! The loader and the loop of turns, tried through their public calls.
+//! The loader, decoded pages and the loop of turns, tried through their public calls.
 #![tactic(auto)]
 
 #[cfg(test)]
 mod executables;
+#[cfg(test)]
+mod fixtures;
+#[cfg(test)]
+mod operations;
 #[cfg(test)]
 mod random_guests;
 #[cfg(test)]

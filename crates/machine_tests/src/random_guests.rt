@@ -3,8 +3,7 @@
 ghost use Rattle.std.specs.Prelude.{◌≡◌, length, IfOk};
 ghost use Rattle.std.specs.Arc.{arc_value};
 
-use crate::tests::uncounted;
-use crate::{Job, Run};
+use super::thunks::uncounted;
 use page_map::{MappedPage, PageMap, Perm};
 use page_store::{Page, PageTable};
 use rv_alu::Regs;
@@ -13,6 +12,7 @@ use std::alloc::{AllocError, Global};
 use std::sync::Arc;
 use store_mask::{PageDelta, ReadPage};
 use thunk_record::Frame;
+use thunk_run::{Job, Run};
 
 /// The first of the guests' five pages: one to execute and store to, two to execute, one to store to, and one that can
 /// only be executed.

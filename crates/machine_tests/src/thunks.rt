@@ -2,6 +2,7 @@
 
 ghost use Rattle.std.specs.Prelude.{◌≡◌, ◌<◌};
 
+use super::fixtures::HI;
 use page_map::{MappedPage, PageMap, Perm};
 use page_store::{Page, PageTable};
 use rv_alu::Regs;
@@ -16,13 +17,6 @@ use thunk_record::{Frame, fits};
 use thunk_run::{Job, LONG_TURNS, Run, Watch, execute, execute_watched};
 use thunk_spec::ThunkEnd;
 use turn_count::Turns;
-
-/// lui a0,0x10; addi a0,a0,0x20; addi a1,x0,3; addi a7,x0,1; ecall; and "hi\n" at 0x10020.
-const HI: [u8; 35] = [
-    0x37, 0x05, 0x01, 0x00, 0x13, 0x05, 0x05, 0x02, 0x93, 0x05, 0x30, 0x00, 0x93, 0x08, 0x10, 0x00,
-    0x73, 0x00, 0x00, 0x00, 0x13, 0x05, 0x00, 0x00, 0x93, 0x08, 0x00, 0x00, 0x73, 0x00, 0x00, 0x00,
-    0x68, 0x69, 0x0a,
-];
 
 /// lui t0,0x10; lw t1,0x18(t0); sw t1,0x10(t0); addi a7,x0,0; addi a0,x0,1; ecall; and the word of
 /// addi a0,x0,9.
@@ -77,7 +71,7 @@ pub(super) fn uncounted<R: Threads>(rt: &R, alloc: Global, job: &Job) -> Result<
 
 #[test]
 fn put_ends_the_first_thunk(rt: HostRuntime) -> Result<(), AllocError> {
-    let job = job_of(rt.alloc(), &HI, 100)?;
+    let job = job_of(rt.alloc(), &HI[84..], 100)?;
     let run = uncounted(&rt, rt.alloc(), &job)?;
     assert_eq!(rt; run.rec.thread(), 3);
     assert_eq!(rt; run.rec.count(), 5);
@@ -87,7 +81,7 @@ fn put_ends_the_first_thunk(rt: HostRuntime) -> Result<(), AllocError> {
     assert!(rt; run.rec.delta().pages().is_empty());
     assert!(rt; fits(&run.rec, 7, &job.regs, &job.view, 100));
     assert!(rt; !fits(&run.rec, 8, &job.regs, &job.view, 100));
-    let short = job_of(rt.alloc(), &HI, 4)?;
+    let short = job_of(rt.alloc(), &HI[84..], 4)?;
     let run = uncounted(&rt, rt.alloc(), &short)?;
     assert_eq!(rt; run.rec.count(), 4);
     assert!(rt; run.rec.end() == ThunkEnd::Fuel);
@@ -160,7 +154,7 @@ fn times_told<R: Threads>(
 #[test]
 fn a_long_thunk_tells_its_watch_once(rt: HostRuntime) -> Result<(), AllocError> {
     let alloc = rt.alloc();
-    assert!(&rt; times_told(&rt, alloc, &HI, 1_000_000)? == (5, 0));
+    assert!(&rt; times_told(&rt, alloc, &HI[84..], 1_000_000)? == (5, 0));
     for (fuel, times) in [
         (1, 0),
         (LONG_TURNS, 0),

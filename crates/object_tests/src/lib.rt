@@ -4,6 +4,8 @@
 #[cfg(test)]
 mod barriers;
 #[cfg(test)]
+mod fixtures;
+#[cfg(test)]
 mod objects;
 #[cfg(test)]
 mod semaphores;

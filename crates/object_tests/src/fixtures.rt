@@ -1,0 +1,87 @@
+//! A crowd of threads at the objects, and what an effect is compared with.
+
+ghost use Rattle.std.specs.Prelude.{◌≡◌, ℕ, ◌<◌, false};
+ghost use Rattle.guest_call.specs.Objects.{waits_at, IsKept};
+ghost use Rattle.object_tests.specs.Crowds.{AreIdle};
+ghost use Rattle.sync_objects.specs.Puts.{is_put};
+
+use call_effect::Effect;
+use guest_call::{Call, Fate};
+use std::process::Abort;
+use sync_objects::Objects;
+use wait_queue::Queue;
+
+/// Objects with 32 threads, each of which makes one call, from the highest number down: so who makes the next one waits
+/// nowhere.
+#[derive(Drop)]
+pub(super) struct Crowd {
+    objects: Objects,
+    left: u8,
+    ghost kept: { IsKept objects },
+    ghost fresh: { (u : ℕ) → u < left → waits_at objects u ≡ 0 },
+}
+
+/// Makes a thread at objects where nobody waits, and gives its number.
+fn make_thread(rt: &impl Abort, objects: &mut Objects) -> u32
+    requires { AreIdle objects.old }
+    ensures { AreIdle objects.new }
+{
+    match objects.thread(0) {
+        Some(thread) => match objects.act(thread, Call::Create(0x1_0000, 0)).fate() {
+            Fate::Returns(number, _) => number,
+            _ => panic!(rt; "no thread is made"),
+        },
+        None => panic!(rt; "there is no thread"),
+    }
+}
+
+impl Crowd {
+    /// The crowd before its first call.
+    pub(super) fn new(rt: &impl Abort) -> Crowd {
+        let mut objects = Objects::new();
+        for number in 1..32u32 {
+            assert_eq!(rt; make_thread(rt, &mut objects), number);
+        }
+        Crowd { objects, left: 32 }
+    }
+
+    /// What the call of a thread does that has made none, as none below it has.
+    pub(super) fn act(&mut self, rt: &impl Abort, number: u8, call: Call) -> Effect
+        requires { is_put call ≡ false }
+    {
+        assert!(rt; number < self.left);
+        self.left = number;
+        match self.objects.thread(number) {
+            Some(thread) => self.objects.act(thread, call),
+            None => panic!(rt; "there is no such thread"),
+        }
+    }
+}
+
+/// Whether a queue has these threads, in this order.
+fn are_threads(queue: &Queue, numbers: &[u8]) -> bool {
+    queue.len() == numbers.len()
+        && queue
+            .threads()
+            .iter()
+            .zip(numbers)
+            .all(|(t, number)| t.number() == *number)
+}
+
+/// The caller returns this answer, and these threads are woken.
+pub(super) fn assert_returns(rt: &impl Abort, effect: Effect, answer: u32, woken: &[u8]) {
+    assert_eq!(rt; effect.fate(), Fate::Returns(answer, None));
+    assert!(rt; effect.told().is_none());
+    assert!(rt; are_threads(effect.woken(), woken));
+}
+
+/// The caller waits, and nobody is woken.
+pub(super) fn assert_blocks(rt: &impl Abort, effect: Effect) {
+    assert_eq!(rt; effect.fate(), Fate::Blocks);
+    assert!(rt; effect.woken().is_empty());
+}
+
+/// The answer of an error of this number.
+pub(super) fn negated(number: u32) -> u32 {
+    number.wrapping_neg()
+}

@@ -1,0 +1,162 @@
+"""Checks `tools/explain`.
+
+  - Each refusal of an executable, a memo, an edit list, a schedule, and each line of a status that docs/FORMATS.md has,
+    has a sentence; so has each end. A line that is none of these is refused.
+  - Lines of the program, of files that are made wrong here, and what is said of these files.
+  - With --guest, of runs of small guests: who waits for whom, the address of a trap and what is there, which limit was
+    reached, and whose stack was too small. A report of another guest is found out.
+  - A guest that prints and then traps loses what it printed, but for `guest/build --unbuffered`.
+"""
+import re
+import shutil
+import subprocess
+
+import sentences
+from checking import EXAMPLES, ROOT, SECONDS, program, ran_whole, tool
+
+NUMBERS = {"i": "3", "j": "4", "n": "1200", "V": "7", "O": "99", "I": "2", "N": "300000000", "T": "1"}
+LINES = ["words: ELF INPUT SCHEDULE are wanted", "write output", "write FILE", "no memory", "too large FILE", "read FILE",
+         "schedule: entry 3, thread 1: the thread waits", "end exit 0", "end exit 134", "end deadlock", "end spent",
+         "trace: building failed after 12 s"]
+C_FILES = {
+    "trap": "static unsigned work(unsigned place) { *(volatile unsigned *)place = 1; return 0; }\n"
+            "int main(void) { it_thread_create(work, 6); it_thread_join(1, 0); return 0; }\n",
+    "null": "struct pair { int first, second; };\n"
+            "static IT_NOINLINE int second(volatile struct pair *pair) { return pair->second; }\n"
+            "int main(void) { return second(0); }\n",
+    "constant": "static const int most = 5;\nint main(void) { *(volatile int *)&most = 6; return most; }\n",
+    "jump": "int main(void) { void (*volatile nowhere)(void) = 0; nowhere(); return 0; }\n",
+    "spins": "static volatile int flag;\nint main(void) { while (!flag) ; return 0; }\n",
+    "yields": "int main(void) { for (;;) it_yield(); }\n",
+    "deep": "static IT_NOINLINE unsigned deep(unsigned n) { volatile char room[2000]; room[n] = n;\n"
+            "    return n ? deep(n - 1) + room[n] : 0; }\n"
+            "static unsigned work(unsigned n) { return deep(n); }\n"
+            "int main(void) { it_thread_create(work, 3); it_thread_create(work, 40); it_thread_join(1, 0);\n"
+            "    return it_thread_join(2, 0); }\n",
+}
+SAID = {
+    "trap": ["thread 1 stores to an address that isn't a multiple", "thread 1 was in work, trap.c:2",
+             "the address was 0x00000006: a null pointer"],
+    "null": ["thread 0 was in second, null.c:3", "the address was 0x00000004: a null pointer, or a member"],
+    "constant": ["thread 0 was in main, constant.c:3", "which is a constant"],
+    "jump": ["the jump was to 0x00000000: a null pointer"],
+    "spins": ["step 0, of thread 0, had 1,000,000 instructions without a call", "main, spins.c:3", "give --fuel 16777216"],
+    "yields": ["the run had 4,096 steps, as many as --steps allows: give --steps 65536", "main, yields.c:2"],
+    "deep": ["thread 2 used more than the 65,536 bytes of its stack", "into the stack of thread 1"],
+}
+LOST = b"""#include <stdio.h>
+int main(void) { printf("printed\\n"); *(volatile int *)1 = 2; return 0; }
+"""
+
+
+def written(cell):
+    """A refusal's line as the program has it, from how the table has it."""
+    name, _, numbers = cell.strip("`").partition("(")
+    return " ".join([name, *(NUMBERS[number] for number in re.findall("[a-z]", numbers))])
+
+
+def lines_of_formats():
+    """Each line that docs/FORMATS.md has on standard error."""
+    text = (ROOT / "docs/FORMATS.md").read_text()
+    for cell in kinds_of(text):
+        yield f"image: {cell}"
+        yield f"memo: Image {cell}"
+    for words in ("Short", "Magic", "Version 7", "Digest", "Limit elf", "Field 99", "Old 2", "Incoherent 2"):
+        yield f"memo: {words}"
+    for words in re.findall(r"^\| \d+ \| (.*) \|$", text[text.index("| status | line |"):], flags=re.M)[:9]:
+        for line in re.findall("`([^`]*[^` ])`", words):
+            if line != "image: KIND":  # they are above
+                yield re.sub(r"\bNAME\b", "none", re.sub(r"\bN\b", "3", line))
+    yield from (line.replace(" I", " 3") for line in re.findall(r"^\| `(schedule: [^`]*)` \|", text, flags=re.M))
+
+
+def kinds_of(text):
+    """The refusals of executables."""
+    table = text[text.index("| refusal | exactly where |"):].split("\n\n")[0]
+    return [written(row.split("|")[1].strip()) for row in table.split("\n")[2:]]
+
+
+def check_table(checks):
+    told = [*lines_of_formats(), *LINES, *(f"end trap 1 00010000 {cause}" for cause in range(9))]
+    without = [line for line in told if not sentences.explained(line)]
+    checks.expect(f"{len(told)} lines have sentences, but for {without}", not without and len(told) > 60)
+    unknown = [line for line in ("image", "end", "end exit", "memo: digest", "", "step 3") if sentences.explained(line)]
+    checks.expect(f"other lines have no sentence, but for {unknown}", not unknown)
+    status, printed, said = tool("explain", "end spent")
+    checks.expect(f"explain: {status} {said}", (status, printed.decode()) == (0, f"{sentences.explained('end spent')}\n"))
+    for line in ("memo: digest", ""):
+        status, printed, said = tool("explain", line)
+        checks.expect(f"explain `{line}`: {status} {said}", status == 1 and not printed and "no line" in said)
+
+
+def check_files(checks):
+    """The program's lines on files that are wrong, and what is said of these."""
+    hi, empty, data = EXAMPLES / "hi.elf", EXAMPLES / "empty", EXAMPLES / "pair.in"
+    large, text = checks.file("large", bytes(1_048_577)), checks.file("text", b"some text\n")
+    far = checks.file("far", b"set 9999999 00\n")
+    for words, wanted in ((("run", text, empty), "no ELF executable"), (("run", hi, checks.folder / "none"), "there is no file"),
+                          (("run", hi, checks.folder), "is a folder"), (("run", hi, large), "has 1,048,577 bytes"),
+                          (("run", hi, empty, data), "seems to be no edit list"), (("run", hi, empty, far), "behind the input's end"),
+                          (("show", text), "fewer than 40 bytes"), (("show", hi), "no memo"),
+                          (("replay", hi, empty, text), "no thread number"), (("replay", hi, empty, empty), "ends before the run"),
+                          (("runs",), "isn't understood")):
+        status, _, line = program(*words)
+        told = sentences.explained(line) or ""
+        checks.expect(f"explain {line}, of {words}: {status} {told}", wanted in told)
+
+
+def explained(words, printed):
+    """What is said of reports that are piped to the tool."""
+    done = subprocess.run([ROOT / "tools/explain", *map(str, words)], input=printed, capture_output=True, timeout=SECONDS,
+                          check=False)
+    return done.returncode, done.stdout.decode()
+
+
+def check_guests(checks):
+    pair = [EXAMPLES / "pair.elf", EXAMPLES / "pair.in"]
+    cross = [EXAMPLES / "cross.elf", EXAMPLES / "empty"]
+    _, report, _ = program("run", *cross, "--workers", "1")
+    status, told = explained(("--guest", *cross), report)
+    shown = "round 0: thread 0 waits for mutex 1, held by thread 1, in 00010028\nround 0: thread 1 waits for mutex 0, held by thread 0, in 00010070\n"
+    checks.expect(f"who waits in cross.elf: {status} {told}", status == 0 and told.endswith(shown))
+    checks.expect("docs/GUESTS.md shows who waits in cross.elf", f"```\n{shown}```" in (ROOT / "docs/GUESTS.md").read_text())
+    status, told = explained(("--guest", *pair), report)
+    checks.expect(f"the report of another guest: {status} {told}", "the schedule is of another guest" in told)
+    _, report, _ = program("run", *pair, EXAMPLES / "pair.edits", "--workers", "1")
+    status, told = explained(("--guest", *pair, EXAMPLES / "pair.edits"), report)
+    checks.expect(f"two rounds that exit: {status} {told}", status == 0 and told.count("\n") == 1 and "exit code 0" in told)
+    status, told = explained(("--guest", *pair), report)
+    checks.expect(f"two rounds and one input: {status} {told}", status == 2)
+
+
+def check_built(checks):
+    """Guests in C that end in other ways."""
+    if not (shutil.which("clang") and shutil.which("ld.lld") and shutil.which("llvm-symbolizer")):
+        print("skipped: what is said of traps and stacks, since there is no clang with lld and llvm-symbolizer")
+        return
+    for name, text in C_FILES.items():
+        source, elf = checks.file(f"{name}.c", f'#include "ithreads.h"\n{text}'.encode()), checks.folder / f"{name}.elf"
+        ran_whole(str(ROOT / "guest/build"), "--symbols", str(source), str(elf))
+        _, report, _ = program("run", elf, EXAMPLES / "empty", "--workers", "1")
+        status, told = explained(("--guest", elf, EXAMPLES / "empty"), report)
+        without = [said for said in SAID[name] if said not in told]
+        checks.expect(f"what is said of {name}.c, but for {without}: {status} {told}", status == 0 and not without)
+
+
+def check_unbuffered(checks):
+    if not shutil.which("riscv64-unknown-elf-gcc"):
+        print("skipped: what a trap loses, since there is no riscv64-unknown-elf-gcc")
+        return
+    source, elf = checks.file("lost.c", LOST), checks.folder / "lost.elf"
+    for words, output in (((), b"output 0\n\n"), (("--unbuffered",), b"output 8\nprinted\n\n")):
+        ran_whole(str(ROOT / "guest/build"), "--libc", *words, str(source), str(elf))
+        _, report, _ = program("run", elf, EXAMPLES / "empty", "--workers", "1")
+        checks.expect(f"printed before a trap, {words}: {report[-30:]}", report.endswith(output) and b"end trap" in report)
+
+
+def check(checks):
+    check_table(checks)
+    check_files(checks)
+    check_guests(checks)
+    check_built(checks)
+    check_unbuffered(checks)

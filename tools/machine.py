@@ -1,0 +1,429 @@
+"""A machine of guests that shares no code with the program, by docs/MACHINE.md: which thread makes the next step is
+said from outside, step by step. It executes some million instructions a second, keeps no records and reuses nothing.
+
+`Image` is an executable, with its translated code; `Machine` a run of it on an input.
+"""
+import struct
+from dataclasses import dataclass, field
+
+from blocks import EXECUTE, PAGE, READ, WRITE, Trap, translated
+
+HEADER, INPUT_PAGES, STACKS, STACK_PAGES, THREADS, OBJECTS = 0xC0000, 256, 0xD0000, 512, 32, 64
+EPERM, ESRCH, EAGAIN, EFAULT, EBUSY, EINVAL, EDEADLK, EOVERFLOW = -1, -3, -11, -14, -16, -22, -35, -75
+MOST_VALUE, MOST_PUT = 2**31 - 1, 4096
+ZEROS = bytes(PAGE)
+KINDS = {6: "mutex", 9: "semaphore", 14: "barrier", 15: "condition"}  # in which queue a call waits
+
+
+class NoGuest(Exception):
+    """The bytes are no executable that can be run."""
+
+
+class Image:
+    """The pages of an executable, with their rights, and its code."""
+
+    def __init__(self, elf):
+        self.rights, self.pages, self.blocks = {}, {}, {}
+        try:
+            self.entry, table = struct.unpack_from("<II", elf, 24)
+            (count,) = struct.unpack_from("<H", elf, 44)
+            parts = [struct.unpack_from("<8I", elf, table + 32 * number) for number in range(count)]
+        except struct.error as why:
+            raise NoGuest("it is no executable") from why
+        if elf[:4] != b"\x7fELF" or elf[16:20] != b"\2\0\363\0":
+            raise NoGuest("it is no executable for RISC-V")
+        for kind, offset, address, _, here, size, right, _ in parts:
+            if kind == 1 and size:
+                self.add(address, size, right & 7, elf[offset:offset + here])
+        for page in [HEADER + n for n in range(INPUT_PAGES + 1)] + [STACKS + n for n in range(STACK_PAGES)]:
+            self.rights[page], self.pages[page] = READ | WRITE, ZEROS
+
+    def add(self, address, size, right, data):
+        for page in range(address // PAGE, (address + size - 1) // PAGE + 1):
+            self.rights[page] = self.rights.get(page, 0) | right
+            old, low = self.pages.get(page, ZEROS), max(address - page * PAGE, 0)
+            new = data[max(page * PAGE - address, 0):(page + 1) * PAGE - address]
+            self.pages[page] = old[:low] + new + old[low + len(new):]
+
+    def block(self, pc, view, last):
+        """The block at a pc, as far as it ends before the last turn; of a page that can be stored to, one instruction."""
+        right, word_at = self.rights.get(pc // PAGE, 0), lambda at: word_of(view, at)
+        if pc % 4 or not right & EXECUTE:
+            return None
+        key = pc if right & WRITE == 0 and last is None else (pc, word_at(pc))
+        if key not in self.blocks:
+            self.blocks[key] = translated(pc, word_at) if key == pc else translated(pc, word_at, 1)
+        return self.blocks[key]
+
+
+def word_of(view, address):
+    return int.from_bytes(view[address // PAGE][address % PAGE:address % PAGE + 4], "little")
+
+
+@dataclass
+class Thread:
+    """A thread: its registers, its view, how many steps it has made, and how it stands."""
+
+    pc: int
+    x: list
+    view: dict
+    made: int = 0
+    status: str = "ready"
+    value: int = 0
+    joiner: int | None = None
+    waits: tuple = ()  # for what: a kind, and a number
+
+
+@dataclass
+class Step:
+    """A step that was made: its thread, its turns, and its call with the arguments; or how else it ended."""
+
+    thread: int
+    count: int
+    end: str
+    pc: int
+    first: int = 0
+    second: int = 0
+    waits: str = ""
+    answer: int | None = None
+    begins: int | None = None
+    wakes: list = field(default_factory=list)
+
+
+class Machine:
+    """A run. `ended` is how it ended, as a report has it."""
+
+    def __init__(self, image, given, fuel=1_000_000, limit=4096):
+        self.image, self.fuel, self.limit, self.output, self.ended, self.steps = image, fuel, limit, bytearray(), None, []
+        self.shared = dict(image.pages)
+        self.shared[HEADER] = struct.pack("<I", len(given)).ljust(PAGE, b"\0")
+        for start in range(0, len(given), PAGE):
+            self.shared[HEADER + 1 + start // PAGE] = given[start:start + PAGE].ljust(PAGE, b"\0")
+        self.threads, self.instructions = [], 0
+        self.is_single, self.on_store = False, None  # each turn by itself; called with a thread and a page, once a step
+        self.owner, self.queues, self.mutex_of = {}, {}, {}
+        self.values, self.needed = [0] * OBJECTS, [0] * OBJECTS
+        self.begin(image.entry, HEADER * PAGE)
+
+    def begin(self, pc, argument):
+        number, x = len(self.threads), [0] * 32
+        x[2], x[4], x[10] = STACKS * PAGE + 16 * PAGE * (number + 1), number, argument
+        self.threads.append(Thread(pc, x, dict(self.shared)))
+
+    def ready(self):
+        return [number for number, thread in enumerate(self.threads) if thread.status == "ready"]
+
+    def run(self, choose):
+        """Makes all steps; `choose` says of the ready threads who makes the next."""
+        while self.ended is None:
+            self.step(choose(self, self.ready()))
+        return self
+
+    def follow(self, threads):
+        """Makes the steps of a schedule, as far as it is permitted."""
+        for thread in threads:
+            if self.ended is not None or thread not in self.ready():
+                break
+            self.step(thread)
+        return self
+
+    def step(self, number):
+        """A step of a thread that is ready."""
+        thread = self.threads[number]
+        own, end, cause = {}, "fuel", None
+        try:
+            pc, count = self.turns(number, own)
+            end = "call" if pc < 0 else "fuel"
+            thread.pc = ~pc if pc < 0 else pc
+        except Trap as trap:
+            thread.pc, count, end, cause = trap.pc, trap.turns, "trap", trap.cause
+        made = Step(number, count, end, thread.pc)
+        self.steps.append(made)
+        self.instructions += count
+        x, put = thread.x, None
+        if end == "call":
+            made.end, made.first, made.second = f"call {x[17]}", x[10], x[11]
+            put = self.put(thread, own) if x[17] == 1 else None
+        self.commit(thread.view, own)
+        thread.made += 1
+        if end == "trap":
+            self.ended = f"trap {number} {thread.pc:08x} {cause}"
+        elif end == "fuel":
+            self.ended = "spent"
+        else:
+            self.call(number, thread, x[17], put)
+        self.look_for_end()
+
+    def look_for_end(self):
+        if self.ended is None and all(thread.status == "ended" for thread in self.threads):
+            self.ended = "exit 0"
+        elif self.ended is None and not any(thread.status == "ready" for thread in self.threads):
+            self.ended = "deadlock"
+        elif self.ended is None and len(self.steps) == self.limit:
+            self.ended = "spent"
+
+    def turns(self, number, own):
+        """Executes up to a call, or until the fuel is used up: the pc, and how many turns."""
+        thread = self.threads[number]
+        words, pages, view, rights, fuel = {}, {}, thread.view, self.image.rights, self.fuel
+
+        def load(page, pc, turns):
+            if not rights.get(page, 0) & READ:
+                raise Trap(5, pc, turns)
+            pages[page] = view[page]
+            words[page] = memoryview(view[page]).cast("I")
+            return words[page], pages[page]
+
+        def store(page, pc, turns):
+            if not rights.get(page, 0) & WRITE:
+                raise Trap(7, pc, turns)
+            data, mask = bytearray(view[page]), bytearray(PAGE)
+            own[page] = made = memoryview(data).cast("I"), memoryview(mask).cast("I"), data, mask
+            if rights[page] & READ:
+                words[page], pages[page] = made[0], data
+            if self.on_store:
+                self.on_store(number, page)
+            return made
+
+        blocks, pc, count, x = self.image.blocks, thread.pc, 0, thread.x
+        seen = Seen(view, own)
+        while pc >= 0 and count < fuel:
+            found = blocks.get(pc) or self.image.block(pc, seen, None)
+            if found is None:
+                raise Trap(0 if pc % 4 else 1, pc, count + 1)
+            function, size = found
+            if count + size > fuel or self.is_single:
+                function, size = self.image.block(pc, seen, 1)
+            pc, count = function(x, words, pages, own, load, store, count, fuel - size)
+        return pc, count
+
+    def put(self, thread, own):
+        """The bytes of a put; a number where it is refused."""
+        address, count = thread.x[10:12]
+        pages = range(address // PAGE, (address + count - 1) // PAGE + 1) if count else range(0)
+        if count > MOST_PUT:
+            return EINVAL
+        if address + count > 1 << 32 or not all(self.image.rights.get(page, 0) & READ for page in pages):
+            return EFAULT
+        seen = Seen(thread.view, own)
+        return b"".join(bytes(seen[page]) for page in pages)[address % PAGE:address % PAGE + count] if count else b""
+
+    def commit(self, view, own):
+        """Writes a step's stores into shared memory: exactly the bytes that were stored."""
+        for page, (_, _, data, mask) in own.items():
+            there = self.shared[page]
+            if there is view[page]:
+                self.shared[page] = bytes(data)
+            else:
+                old, new, marks = (int.from_bytes(one, "little") for one in (there, data, mask))
+                self.shared[page] = (old ^ ((old ^ new) & marks)).to_bytes(PAGE, "little")
+
+    # Calls.
+
+    def answer(self, number, first, second=None):
+        """A call of a thread returns."""
+        thread = self.threads[number]
+        thread.x[10] = first & 0xFFFFFFFF
+        if second is not None:
+            thread.x[11] = second
+        thread.pc, thread.view, thread.status, thread.waits = thread.pc + 4, dict(self.shared), "ready", ()
+        if self.steps[-1].thread == number:
+            self.steps[-1].answer = first
+        else:
+            self.steps[-1].wakes.append(number)
+
+    def queue(self, kind, place):
+        return self.queues.setdefault((kind, place), [])
+
+    def block(self, number, kind, place):
+        self.queue(kind, place).append(number)
+        self.threads[number].status, self.threads[number].waits = "blocked", (kind, place)
+
+    def call(self, number, thread, which, put):
+        """Does a call."""
+        first, second = thread.x[10:12]
+        if which == 0:
+            self.ended = f"exit {first}"
+        elif which == 3:
+            thread.status, thread.value = "ended", first
+            if thread.joiner is not None:
+                self.answer(thread.joiner, 0, first)
+        elif which not in CALLS:
+            self.ended = f"trap {number} {thread.pc:08x} 8"
+        else:
+            answer = CALLS[which](self, number, put if which == 1 else first, second)
+            if answer is not None:
+                self.answer(number, answer)
+        self.steps[-1].waits = self.waiting(number)
+
+    def waiting(self, number):
+        """For what a thread waits, in words; nothing where it doesn't wait."""
+        if not self.threads[number].waits:
+            return ""
+        kind, place = self.threads[number].waits
+        if kind == "end":
+            return f"waits for the end of thread {place}"
+        told = f"waits for {kind} {place}"
+        if kind == "condition":
+            told += f", with mutex {self.mutex_of[number]}"
+        if kind == "mutex":
+            told += f", held by thread {self.owner[place]}"
+        return told
+
+    def written(self, _, put, __):
+        if isinstance(put, int):
+            return put
+        self.output += put
+        return len(put)
+
+    def create(self, _, pc, argument):
+        if pc % 4:
+            return EINVAL
+        if len(self.threads) == THREADS:
+            return EAGAIN
+        self.begin(pc, argument)
+        self.steps[-1].begins = len(self.threads) - 1
+        return len(self.threads) - 1
+
+    def join(self, number, other, _):
+        if other >= len(self.threads):
+            return ESRCH
+        if other == number:
+            return EDEADLK
+        joined = self.threads[other]
+        if joined.joiner is not None:
+            return EINVAL
+        joined.joiner = number
+        if joined.status == "ended":
+            return self.answer(number, 0, joined.value)
+        self.threads[number].status, self.threads[number].waits = "blocked", ("end", other)
+        return None
+
+    def take_turns(self, _, __, ___):
+        return 0
+
+    def lock(self, number, mutex, _):
+        if mutex >= OBJECTS:
+            return EINVAL
+        if mutex not in self.owner:
+            self.owner[mutex] = number
+            return 0
+        return EDEADLK if self.owner[mutex] == number else self.block(number, "mutex", mutex)
+
+    def trylock(self, number, mutex, _):
+        if mutex >= OBJECTS:
+            return EINVAL
+        return EBUSY if mutex in self.owner else self.lock(number, mutex, _)
+
+    def unlock(self, number, mutex, _):
+        if mutex >= OBJECTS:
+            return EINVAL
+        if self.owner.get(mutex) != number:
+            return EPERM
+        self.give_up(mutex)
+        return 0
+
+    def give_up(self, mutex):
+        """A mutex goes to the first who waits, if there is one."""
+        del self.owner[mutex]
+        if queue := self.queue("mutex", mutex):
+            self.owner[mutex] = queue.pop(0)
+            self.answer(self.owner[mutex], 0)
+
+    def sem_wait(self, number, place, _):
+        if place >= OBJECTS:
+            return EINVAL
+        if self.values[place] == 0:
+            return self.block(number, "semaphore", place)
+        self.values[place] -= 1
+        return 0
+
+    def sem_trywait(self, number, place, _):
+        return EAGAIN if place < OBJECTS and self.values[place] == 0 else self.sem_wait(number, place, _)
+
+    def sem_post(self, _, place, __):
+        if place >= OBJECTS:
+            return EINVAL
+        if queue := self.queue("semaphore", place):
+            self.answer(queue.pop(0), 0)
+        elif self.values[place] == MOST_VALUE:
+            return EOVERFLOW
+        else:
+            self.values[place] += 1
+        return 0
+
+    def sem_init(self, _, place, value):
+        if place >= OBJECTS or value > MOST_VALUE:
+            return EINVAL
+        if self.queue("semaphore", place):
+            return EBUSY
+        self.values[place] = value
+        return 0
+
+    def barrier_init(self, _, place, count):
+        if place >= OBJECTS or not 0 < count <= THREADS:
+            return EINVAL
+        if self.queue("barrier", place):
+            return EBUSY
+        self.needed[place] = count
+        return 0
+
+    def barrier_wait(self, number, place, _):
+        if place >= OBJECTS or self.needed[place] == 0:
+            return EINVAL
+        queue = self.queue("barrier", place)
+        if len(queue) + 1 < self.needed[place]:
+            return self.block(number, "barrier", place)
+        while queue:
+            self.answer(queue.pop(0), 0)
+        return 1
+
+    def cond_wait(self, number, condition, mutex):
+        if condition >= OBJECTS or mutex >= OBJECTS:
+            return EINVAL
+        if self.owner.get(mutex) != number:
+            return EPERM
+        if any(self.mutex_of[other] != mutex for other in self.queue("condition", condition)):
+            return EINVAL
+        self.mutex_of[number] = mutex
+        self.block(number, "condition", condition)
+        return self.give_up(mutex)
+
+    def signal(self, _, condition, __):
+        return EINVAL if condition >= OBJECTS else self.wake(condition, 1)
+
+    def broadcast(self, _, condition, __):
+        return EINVAL if condition >= OBJECTS else self.wake(condition, THREADS)
+
+    def wake(self, condition, most):
+        """So many at most leave a condition, and each comes to its mutex."""
+        queue = self.queue("condition", condition)
+        for number in [queue.pop(0) for _ in range(min(most, len(queue)))]:
+            mutex = self.mutex_of.pop(number)
+            if mutex in self.owner:
+                self.block(number, "mutex", mutex)
+            else:
+                self.owner[mutex] = number
+                self.answer(number, 0)
+        return 0
+
+
+class Seen:
+    """What a thread sees of memory: its view, with its own stores, by the numbers of pages."""
+
+    def __init__(self, view, own):
+        self.view, self.own = view, own
+
+    def __getitem__(self, page):
+        return self.own[page][2] if page in self.own else self.view[page]
+
+
+CALLS = {1: Machine.written, 2: Machine.create, 4: Machine.join, 5: Machine.take_turns, 6: Machine.lock, 7: Machine.trylock,
+         8: Machine.unlock, 9: Machine.sem_wait, 10: Machine.sem_trywait, 11: Machine.sem_post, 12: Machine.sem_init,
+         13: Machine.barrier_init, 14: Machine.barrier_wait, 15: Machine.cond_wait, 16: Machine.signal,
+         17: Machine.broadcast}
+
+
+def by_rule(machine, ready):
+    """The choice of one worker without an earlier run: who has made the fewest steps, and of these the lowest number."""
+    return min(ready, key=lambda number: (machine.threads[number].made, number))
