@@ -49,8 +49,10 @@ def head(file):
         return int.from_bytes(field, "little")
     if file.read(4) != b"ITHM":
         raise NotMemo("Magic")
-    if (version := number()) != 1:
+    if (version := number()) not in (1, 2):
         raise NotMemo(f"Version {version}")
+    if version == 2 and number() != 3:
+        raise NotMemo("Field 8")
     elf = file.read(number(2**24, "Limit elf"))
     return Head(elf, file.read(number(2**20, "Limit input")), number(), number())
 
