@@ -106,11 +106,13 @@ def load(elf):
 # ---- the fields
 
 class Fields:
-    """the bytes between version and digest, read from the first on"""
+    """the bytes between version and digest, read from the first on; in version 2 they begin with the profile"""
 
     def __init__(self, data):
         self.data = data
         self.at = 8
+        if u32(data, 4) == 2:
+            self.number(4, lambda profile: profile == 3)
 
     def bytes(self, count):
         if self.at + count > len(self.data):
@@ -233,7 +235,7 @@ class Machine:
         self.registers = [0] * 32
         self.registers[0], self.registers[2], self.registers[10] = entry, 0xD0010000, 0xC0000000
         self.threads = 1
-        self.owned, self.values, self.counts = set(), {}, {}
+        self.owned, self.values, self.counts, self.held = set(), {}, {}, {}
         self.steps, self.ended = 0, False
 
     def page(self, number):
@@ -285,7 +287,7 @@ class Machine:
         calls = [
             self.exit, self.put, self.create, self.thread_exit, self.join, lambda a, b: 0, self.lock, self.trylock,
             self.unlock, self.sem_wait, self.sem_trywait, self.sem_post, self.sem_init, self.barrier_init,
-            self.barrier_wait, self.cond_wait, self.wake, self.wake]
+            self.barrier_wait, self.cond_wait, self.wake, self.wake, self.rdlock, self.wrlock, self.rwunlock, self.trywrlock]
         return calls[number](a, b) if number < len(calls) else self.exit(a, b)
 
     def exit(self, a, b):
@@ -377,6 +379,32 @@ class Machine:
     def wake(self, a, b):
         return -INVALID if a > 63 else 0
 
+    def rdlock(self, a, b):
+        if a > 63:
+            return -INVALID
+        if a in self.held:
+            return -AGAIN if self.held[a] == "reads" else -DEADLOCK
+        self.held[a] = "reads"
+        return 0
+
+    def wrlock(self, a, b):
+        if a > 63:
+            return -INVALID
+        if a in self.held:
+            return -DEADLOCK
+        self.held[a] = "writes"
+        return 0
+
+    def rwunlock(self, a, b):
+        if a > 63 or a not in self.held:
+            return -INVALID if a > 63 else -PERMISSION
+        del self.held[a]
+        return 0
+
+    def trywrlock(self, a, b):
+        answer = self.wrlock(a, b)
+        return -16 if answer == -DEADLOCK else answer
+
 
 def follow(memo):
     machine = Machine(memo)
@@ -400,7 +428,7 @@ def known_byte(memo, record, address):
 
 
 def check_old(memo):
-    """an earlier version's end at a word that wasn't an instruction then, and is one of RV32M: opcode OP, funct7 1"""
+    """in a file of version 1 an end at a word that wasn't an instruction once, and is one of RV32M: opcode OP, funct7 1"""
     _, end, _, _, finish, *_ = memo.records[-1]
     word = [known_byte(memo, memo.records[-1], finish[0] + k) for k in range(4)]
     if end == 2 and None not in word and word[0] % 128 == 51 and word[3] // 2 == 1:
@@ -413,7 +441,7 @@ def check_frame(data):
         raise Refused("Short")
     if data[:4] != b"ITHM":
         raise Refused("Magic")
-    if u32(data, 4) != 1:
+    if u32(data, 4) not in (1, 2):
         raise Refused(f"Version {u32(data, 4)}")
     if hashlib.sha256(data[:-32]).digest() != data[-32:]:
         raise Refused("Digest")
@@ -424,7 +452,8 @@ def judge(data):
     try:
         check_frame(data)
         memo = Memo(data[:-32])
-        check_old(memo)
+        if u32(data, 4) == 1:
+            check_old(memo)
         follow(memo)
         return None, listing(memo)
     except Refused as refusal:

@@ -58,6 +58,7 @@ class CallMachine(Machine):
         self.owner, self.waiting = {}, {}  # of a mutex its owner; of an object, a kind and a number, who waits
         self.value, self.needed = [0] * OBJECTS, [0] * OBJECTS  # of semaphores, of barriers
         self.mutex_of = {}  # of a thread that waits for a condition, its mutex
+        self.writer, self.readers, self.writes = {}, {}, set()  # of reader-writer locks; who waits to write
         self.objects, self.given, self.call = set(), set(), ()  # of the step that is made
 
     def digest(self):
@@ -116,6 +117,22 @@ class CallMachine(Machine):
             else:
                 self.owner[mutex] = number
                 self.answer(self.threads[number], 0)
+
+    def holders(self, lock):
+        """The readers of a reader-writer lock, and its writer."""
+        return self.readers.get(lock, set()) | ({self.writer[lock]} if lock in self.writer else set())
+
+    def let_in(self, lock):
+        """A reader-writer lock was given up: who waits to read before the first who waits to write comes in, unless there is a writer; and then the
+        first of all who wait, where nobody holds it."""
+        queue, readers = self.queue("rwlock", lock), self.readers.setdefault(lock, set())
+        while queue and lock not in self.writer and queue[0] not in self.writes:
+            readers.add(queue[0])
+            self.answer(self.threads[queue.pop(0)], 0)
+        if queue and not self.holders(lock):
+            self.writer[lock] = queue.pop(0)
+            self.writes.remove(self.writer[lock])
+            self.answer(self.threads[self.writer[lock]], 0)
 
     def acts_on(self, which, first, second, put):
         """The objects on which a call acts, each a kind and a number."""
@@ -270,12 +287,56 @@ class CallMachine(Machine):
         self.wake(condition, THREADS)
         return 0
 
+    def rdlock(self, number, lock, _):
+        if lock >= OBJECTS:
+            return EINVAL
+        if self.writer.get(lock) == number:
+            return EDEADLK
+        if number in self.holders(lock):
+            return EAGAIN
+        if lock in self.writer or self.queue("rwlock", lock):
+            return self.block(number, "rwlock", lock)
+        self.readers.setdefault(lock, set()).add(number)
+        return 0
+
+    def wrlock(self, number, lock, _):
+        if lock >= OBJECTS:
+            return EINVAL
+        if number in self.holders(lock):
+            return EDEADLK
+        if self.holders(lock):
+            self.writes.add(number)
+            return self.block(number, "rwlock", lock)
+        self.writer[lock] = number
+        return 0
+
+    def rwunlock(self, number, lock, _):
+        if lock >= OBJECTS:
+            return EINVAL
+        if number not in self.holders(lock):
+            return EPERM
+        if self.writer.get(lock) == number:
+            del self.writer[lock]
+        else:
+            self.readers[lock].remove(number)
+        self.let_in(lock)
+        return 0
+
+    def trywrlock(self, number, lock, _):
+        if lock >= OBJECTS:
+            return EINVAL
+        if self.holders(lock):
+            return EBUSY
+        self.writer[lock] = number
+        return 0
+
 
 CALLS = {2: CallMachine.create, 4: CallMachine.join, 6: CallMachine.lock, 7: CallMachine.trylock, 8: CallMachine.unlock, 9: CallMachine.sem_wait,
          10: CallMachine.sem_trywait, 11: CallMachine.sem_post, 12: CallMachine.sem_init, 13: CallMachine.barrier_init, 14: CallMachine.barrier_wait,
-         15: CallMachine.cond_wait, 16: CallMachine.signal, 17: CallMachine.broadcast}
+         15: CallMachine.cond_wait, 16: CallMachine.signal, 17: CallMachine.broadcast, 18: CallMachine.rdlock, 19: CallMachine.wrlock,
+         20: CallMachine.rwunlock, 21: CallMachine.trywrlock}
 
-KINDS = {"mutex": (6, 7, 8), "semaphore": (9, 10, 11, 12), "barrier": (13, 14)}
+KINDS = {"mutex": (6, 7, 8), "semaphore": (9, 10, 11, 12), "barrier": (13, 14), "rwlock": (18, 19, 20, 21)}
 
 
 class History:

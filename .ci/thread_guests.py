@@ -9,6 +9,7 @@ PAGES = 3
 TOTAL, NUMBER = 8, 9  # registers: what a thread sums, its argument
 LOCK, TRYLOCK, UNLOCK, SEM_WAIT, SEM_TRYWAIT, SEM_POST, SEM_INIT = range(6, 13)
 BARRIER_INIT, BARRIER_WAIT, COND_WAIT, SIGNAL, BROADCAST = range(13, 18)
+RDLOCK, WRLOCK, RWUNLOCK, TRYWRLOCK = range(18, 22)
 
 
 def call_with(number, *arguments):
@@ -54,6 +55,11 @@ def under_mutex(draw):
     return call_with(LOCK, mutex) + loaded(draw) + stored(draw) + call_with(UNLOCK, mutex)
 
 
+def under_rwlock(draw):
+    lock, writes = draw.randrange(2), draw.random() < 0.4
+    return call_with(WRLOCK if writes else RDLOCK, lock) + loaded(draw) + stored(draw) * writes + call_with(RWUNLOCK, lock)
+
+
 def waited(draw):
     """A wait for a condition, with its mutex."""
     mutex = draw.randrange(2)
@@ -64,7 +70,8 @@ def any_call(draw):
     """A call of any kind that returns in most cases."""
     kinds = ((5,), (5,), (TRYLOCK, draw.randrange(3)), (UNLOCK, draw.randrange(3)), (SEM_POST, draw.randrange(2)), (SEM_POST, draw.randrange(2)),
              (SEM_TRYWAIT, draw.randrange(2)), (SEM_WAIT, draw.randrange(2)), (SIGNAL, draw.randrange(2)), (BROADCAST, draw.randrange(2)),
-             (LOCK, 70), (SEM_INIT, 2, 3), (BARRIER_INIT, 3, draw.randrange(3)))
+             (LOCK, 70), (SEM_INIT, 2, 3), (BARRIER_INIT, 3, draw.randrange(3)), (TRYWRLOCK, draw.randrange(3)), (RWUNLOCK, draw.randrange(3)),
+             (RDLOCK, draw.choice((2, 64))), (WRLOCK, 64))
     return call_with(*draw.choice(kinds))
 
 
@@ -73,7 +80,8 @@ def body(draw, has_barrier):
     parts = []
     for _ in range(draw.randrange(2, 8)):
         kind = draw.random()
-        parts.append(work(draw) + (under_mutex(draw) if kind < 0.35 else waited(draw) if kind < 0.38 else any_call(draw) if kind < 0.9 else []))
+        parts.append(work(draw) + (under_mutex(draw) if kind < 0.25 else under_rwlock(draw) if kind < 0.4 else waited(draw) if kind < 0.43
+                                   else any_call(draw) if kind < 0.9 else []))
     if has_barrier:
         parts.insert(draw.randrange(len(parts)), call_with(BARRIER_WAIT, 0))
     words = [addi(TOTAL, 10, 0)] + [word for part in parts for word in part]

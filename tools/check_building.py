@@ -1,8 +1,8 @@
 """Checks what `./ithreads` says while the program is built, with an `rt` that proves nothing and prints recorded lines.
 
-Copies of the script and of tools/launch stand in a folder of their own beside crates.txt. It says of each crate that it
-is proved, and how many are of how many: that number is found here in another way. Where building fails it says so, the
-last lines of `rt run` are shown, and the status is 125; so it is where there is no `rt`.
+Copies of the script, of tools/launch and of tools/crates.bash stand in a folder of their own beside crates.txt. It says
+of each crate that it is proved, and how many are of how many: that number is found here in another way. If building
+fails it says so, the last lines of `rt ci` are shown, and the status is 125; so it is if there is no `rt`.
 """
 import os
 import pathlib
@@ -12,28 +12,26 @@ import subprocess
 
 from checking import ROOT, SECONDS
 
-# What `rt` is here: it writes down its words, prints the lines of a file, and makes the program if it is to.
+# What `rt` is here: it writes down its words and crates.txt, prints the lines of a file, and makes the program if it is to.
 FAKE = """#!/bin/sh
-echo "$(basename "$PWD") $*" >>"$FAKE/words"
-[ "$1" = all ] && { cat "$FAKE/all"; exit 0; }
-cat "$FAKE/run" >&2
-[ -f "$FAKE/program" ] && mkdir -p out && cp "$FAKE/program" out/ithreads_cli
+echo "$*" >>"$FAKE/words"
+cat crates.txt >"$FAKE/asked"
+cat "$FAKE/lines"
+[ -f "$FAKE/program" ] || exit 1
+mkdir -p crates/ithreads_cli/out && cp "$FAKE/program" crates/ithreads_cli/out/ithreads_cli
 """
 PROGRAM = '#!/bin/sh\necho "program $*"\necho "$GLIBC_TUNABLES"\nexit 7\n'
 TUNABLE = "glibc.malloc.top_pad=65536"  # that the caller sets
-BEFORE = """logic /kit/antt-project.json: libraries=16 files=2756 sum=da
-statements core: modules loaded=0 checked=0
-only=0 proved=0
-"""
 PROVED = """== {0}
-rt: {0}: begins with what a check kept in /elsewhere/{0}
 so far: 0 of 42 functions checked; the verdict comes last
 fn {0}::fields::logic: proved
 library isa_spec: modules loaded=148 checked=0
-crate {0}: modules loaded=553 checked=251
 logic=proved functions=42 sum=dac8208d650f15bf native=nat,char,string
+rt: {0} proved
 """
-REFUSED = "== {0}\nfn {0}::first: not proved\nerror: {0} is refused\n"
+KEPT = "rt: {0} is kept: an earlier run on this machine proved the same files over the same libraries\n"
+TESTS = "rt: {0}: its tests are proved\n"
+REFUSED = "== {0}\nfn {0}::first: not proved\nerror: {0} is refused\nrt: {0} NOT PROVED\n"
 
 
 def crates_below():
@@ -52,57 +50,58 @@ def tried(checks, what, lines, made, path=None):
     place = checks.folder / what.replace(" ", "-")
     (place / "crates/ithreads_cli").mkdir(parents=True)
     (place / "tools").mkdir()
-    shutil.copy(ROOT / "ithreads", place)
-    shutil.copy(ROOT / "tools/launch", place / "tools")
-    shutil.copy(ROOT / "crates.txt", place)
-    files = {"rt": FAKE, "all": lines, "run": "".join(f"line {number}\n" for number in range(1, 31)), "words": ""}
-    for name, text in [*files.items(), *([("program", PROGRAM)] if made else [])]:
+    for name in ("ithreads", "tools/launch", "tools/crates.bash", "crates.txt", "HANDLES"):
+        shutil.copy(ROOT / name, place / name)
+    for name, text in [("rt", FAKE), ("lines", lines), ("words", ""), *([("program", PROGRAM)] if made else [])]:
         (place / name).write_text(text)
         (place / name).chmod(0o755)
     path = f"{place}:{os.environ['PATH']}" if path is None else path
     how = {"stdin": subprocess.DEVNULL, "capture_output": True, "text": True, "timeout": SECONDS, "check": False}
     where = {**os.environ, "PATH": path, "FAKE": str(place), "GLIBC_TUNABLES": TUNABLE}
     done = subprocess.run([place / "ithreads", "show", "two words"], env=where, **how)
-    return done.returncode, done.stdout, done.stderr.split("\n"), (place / "words").read_text().split("\n")
+    said = [re.sub(r", [0-9]+ s\)$", ")", line) for line in done.stderr.split("\n")]
+    return done.returncode, done.stdout, said, place
 
 
 def check_built(checks, what, lines, wanted):
-    """Between the first line and the last are the wanted ones; then the program has the words, and the C library is asked
-    for one heap of large pages, and for what the caller asks it."""
-    status, printed, said, words = tried(checks, what, lines, True)
+    """Between the first two lines and the last are the wanted ones; then the program has the words, and the C library is
+    asked for one heap of large pages, and for what the caller asks it."""
+    status, printed, said, place = tried(checks, what, lines, True)
     wanted_of_it = f"program show two words\nglibc.malloc.hugetlb=1:glibc.malloc.arena_max=1:{TUNABLE}\n"
     checks.expect(f"{what}: the program runs: {status} {printed}", (status, printed) == (7, wanted_of_it))
     checks.expect(f"{what}: the first line has the number of crates: {said[0]}",
                   said[0].startswith("ithreads: ") and f" {len(crates_below())} crates " in said[0])
-    checks.expect(f"{what}: the lines between: {said[1:-2]}", said[1:-2] == wanted)
+    checks.expect(f"{what}: the second line names the way without a proof: {said[1]}", "tools/try" in said[1])
+    checks.expect(f"{what}: the lines between: {said[2:-2]}", said[2:-2] == wanted)
     checks.expect(f"{what}: the last line: {said[-2:]}", said[-2].startswith("ithreads: built in ") and not said[-1])
-    asked = re.fullmatch(r"ithreads_cli all check --jobs [1-9][0-9]*", words[0])
-    checks.expect(f"{what}: what rt is asked: {words}", asked and words[1:] == ["ithreads_cli run -- --help", ""])
+    checks.expect(f"{what}: what rt is asked", (place / "words").read_text() == "ci\n")
+    asked = sorted(re.findall(r"^(\w+)[ :]", (place / "asked").read_text(), re.M))
+    checks.expect(f"{what}: what it is asked to prove: {asked}", asked == crates_below())
 
 
 def check_refused(checks, lines, wanted):
-    """The lines of the crates before it, the last that `rt run` printed, and that building failed."""
+    """The lines of the crates before it, the last that `rt ci` printed, and that building failed."""
     status, printed, said, _ = tried(checks, "one is refused", lines, False)
     checks.expect(f"one is refused: {status} {printed}", (status, printed) == (125, ""))
-    shown = [f"line {number}" for number in range(11, 31)]
-    checks.expect(f"one is refused: {said[1:-2]}", said[1:-2] == wanted + shown)
+    shown = lines.splitlines()[-20:]
+    checks.expect(f"one is refused: {said[2:-2]}", said[2:-2] == wanted + shown)
     failed = said[-2].startswith("ithreads: building failed after ") and not said[-1]
     checks.expect(f"one is refused: the last line: {said[-2:]}", failed)
 
 
 def check(checks):
     names = crates_below()
-    many, last = len(names), names[-1]
-    end = f"== summary\n{''.join(f'{name}: ok' for name in names)}\n{many} of {many} crates ok\n"
+    many = len(names)
+    end = f"rt: ok; handles allowed: Threads, Wait\n{many} passed, 0 failed\n"
     each = [PROVED.format(name) for name in names]
     wanted = [f"ithreads: proved {name} ({number} of {many})" for number, name in enumerate(names, 1)]
-    check_built(checks, "all is proved", BEFORE + "".join(each) + end, wanted)
-    kept = "".join(f"== {name}\n" for name in names[:-1])
-    check_built(checks, "all but one were built", BEFORE + kept + PROVED.format(last) + end, wanted[-1:])
-    wait = "rt: waiting for another rt to finish in /a folder/crates/isa_spec"
-    told = [wait.replace("rt", "ithreads", 1), *wanted]
-    check_built(checks, "another rt is there", f"{wait}\n{BEFORE}{''.join(each)}{end}", told)
-    check_refused(checks, BEFORE + "".join(each[:5]) + REFUSED.format(names[5]) + "== summary\n", wanted[:5])
+    check_built(checks, "all is proved", "".join(each) + end, wanted)
+    kept = "".join(KEPT.format(name) for name in names[:-1])
+    check_built(checks, "all but one were proved", kept + TESTS.format(names[0]) + each[-1] + end, wanted)
+    wait = f"rt: {names[0]}: another run on this machine is proving the same; waiting for it\n"
+    check_built(checks, "another rt is there", wait + "".join(each) + end, [wait.strip().replace("rt", "ithreads", 1), *wanted])
+    failed = f"{many - 1} passed, 1 failed\n"
+    check_refused(checks, "".join(each[:5]) + REFUSED.format(names[5]) + failed, wanted[:5])
     check_without(checks)
 
 

@@ -2,8 +2,12 @@
 
   - `tools/edits` gives a list for each of a hundred pairs of files: a run on the new file, and the round after the list
     on the old one, have the same end, output and memory. The input with its length is part of the memory.
+  - Of a thousand pairs more, of which all bytes or none differ too, the list that its module finds makes the new file
+    of the old, done by a few lines here and by those of `--apply`, which share nothing.
   - Of short files its list is as short as the shortest that a search through all lists finds. At larger offsets two
     bytes with some unchanged ones between are written by one line or by two, whichever is shorter.
+  - Of files of a mebibyte that are equal, or differ in a byte, the list is found in a tenth of a second of processor
+    time, and after a byte was inserted at the front in a second.
   - With `--into` it gives as many lists as it takes: done one after the other by a few lines here, and by the program,
     they make the new file of the old. Pairs of long files of which much or all differs want two lists, or three.
   - `tools/check-edits` refuses just what the program refuses, at the same line and with the same word, and says the
@@ -12,10 +16,14 @@
 import heapq
 import itertools
 import re
+import time
 
-from checking import GUEST, MOST_INPUT, MOST_LIST, program, tool
+import differences
+import edit_lists
+from checking import EXAMPLES, GUEST, MOST_INPUT, MOST_LIST, program, tool
 
 PAIRS = 100
+MORE_PAIRS = 1000
 DAMAGED = 300
 
 # tools/edits, one list.
@@ -66,6 +74,51 @@ def check_pair(checks, number):
     checks.expect(f"pair {number}: the list makes the new file of the old", same)
 
 
+def other_bytes(draw, old):
+    """Bytes that have all, some or nothing of the old ones; of these many zeros, now and then."""
+    new = edited(draw, old) if draw.randrange(3) else some_bytes(draw, draw.choice([0, 1, 9, 100, len(old)]))
+    return new if draw.randrange(3) else bytes(byte if draw.randrange(4) == 0 else 0 for byte in new)
+
+
+def found(old, new):
+    """The list that the tool's module finds."""
+    return "".join(differences.edits(bytes(old), bytes(new))).encode()
+
+
+def check_found(checks):
+    """Many pairs, of which the module is asked."""
+    draw, wrong = checks.random, []
+    for _ in range(MORE_PAIRS):
+        old = some_bytes(draw, draw.choice([0, 1, 9, 10, 11, 99, 100, 101, 1000, 3000]))
+        new = other_bytes(draw, old)
+        text = found(old, new)
+        if not applied(old, text) == edit_lists.done(edit_lists.read(text), old) == new:
+            wrong.append((old, new))
+    checks.expect(f"the list that is found makes the new file of the old, but of {wrong[:1]}", not wrong)
+
+
+def seconds_for(old, new):
+    """The least processor time of three searches."""
+    took = []
+    for _ in range(3):
+        start = time.process_time()
+        differences.split(differences.edits(old, new))
+        took.append(time.process_time() - start)
+    return min(took)
+
+
+def check_times(checks):
+    text = (EXAMPLES / "guest/words.in").read_bytes() * 16
+    text = text[:MOST_INPUT]
+    half = len(text) // 2
+    for what, new, most in (("equal files", bytearray(text), 0.1),
+                            ("a byte", text[:half] + b"?" + text[half + 1:], 0.1),
+                            ("a byte that is zero now", text[:half] + b"\0" + text[half + 1:], 0.1),
+                            ("a byte put in before all", b"?" + text[:-1], 1)):
+        took = seconds_for(text, bytes(new))
+        checks.expect(f"{what} of {len(text)}: a list is found in {took:.3f} s, at most {most}", took <= most)
+
+
 def check_limits(checks):
     """Files and lists at their greatest lengths, and one byte past them."""
     ones = b"\1" * MOST_INPUT
@@ -101,8 +154,8 @@ def shortest(old, most, letters):
 def check_shortest(checks):
     for old, most, letters in ((b"\1\0\2", 3, b"\0\1\2"), (b"\1\1\0\1\0\1", 6, b"\0\1")):
         for new, length in shortest(old, most, letters).items():
-            _, text, _ = tool("edits", checks.file("old", old), checks.file("new", new))
-            what = f"of {old.hex()} {new.hex()}: {length} bytes are enough, and the tool takes {len(text)}"
+            text = found(old, new)
+            what = f"of {old.hex()} {new.hex()}: {length} bytes are enough, and {len(text)} are found"
             checks.expect(what, len(text) == length)
 
 
@@ -113,7 +166,7 @@ def check_gaps(checks):
         new[first] = new[last] = 2
         two = f"set {first} 02\nset {last} 02\n".encode()
         one = f"set {first} {new[first:last + 1].hex()}\n".encode()
-        _, text, _ = tool("edits", checks.file("old", old), checks.file("new", new))
+        text = found(old, new)
         shorter = len(text) == min(len(one), len(two)) and text in (one, two)
         checks.expect(f"{gap} unchanged bytes behind {first}: the shorter of one line and two", shorter)
 
@@ -166,6 +219,8 @@ def check_long_pair(checks, what, pair, count):
     for text in texts:
         done = None if done is None else applied(done, text)
     checks.expect(f"{what}: the lists make the new file of the old", done == new)
+    status, made, said = tool("edits", "--apply", files[0], *lists)
+    checks.expect(f"{what}: so they do with --apply: {status} {said}", status == 0 and made == new)
     if count == 1:
         checks.expect(f"{what}: the list is that which is printed", one[0] == 0 and texts == [one[1]])
     else:
@@ -190,6 +245,22 @@ def check_into(checks):
     other.unlink()
     status, printed, said = tool("edits", old, new, "--into", checks.folder / "no folder" / "several")
     checks.expect(f"a name that can't be written is told: {said}", status == 2 and not printed and said)
+
+
+def check_apply(checks):
+    old, over = checks.file("old", b"12"), checks.file("over", b"\1" * (MOST_INPUT + 1))
+    lists = [checks.file(name, text) for name, text in
+             (("more", b"size 4\nset 3 aB"), ("bad", b"\nset 1 0"), ("far", b"set 1 0000\n"))]
+    checks.expect("lists are applied in order", tool("edits", "--apply", old, lists[0], lists[2])[1] == b"1\0\0\xab")
+    for words, wanted, begun in (
+            ((old, lists[1]), 1, "bad line 2: BadLine"), ((old, lists[0], lists[1]), 1, "bad line 2: BadLine"),
+            ((old, lists[2]), 1, "far line 1: OutOfRange"), ((over, lists[0]), 1, "the most of an input"),
+            ((old, over), 1, "the most of a list"), ((old, checks.folder / "none"), 2, "can't be read"),
+            ((old,), 2, "usage"), ((old, lists[0], "--into", checks.folder / "several"), 2, "usage")):
+        status, made, said = tool("edits", "--apply", *words)
+        checks.expect(f"edits --apply {words}: {status} {said}", status == wanted and not made and begun in said)
+    status, made, said = tool("edits", old, old, old)
+    checks.expect(f"edits of three files: {status} {said}", status == 2 and not made and "usage" in said)
 
 
 # tools/check-edits.
@@ -273,8 +344,11 @@ def check_check_edits(checks):
 def check(checks):
     for number in range(PAIRS):
         check_pair(checks, number)
+    check_found(checks)
+    check_times(checks)
     check_limits(checks)
     check_shortest(checks)
     check_gaps(checks)
     check_into(checks)
+    check_apply(checks)
     check_check_edits(checks)

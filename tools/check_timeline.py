@@ -241,6 +241,12 @@ def check_rerun(checks):
         checks.expect("timeline of a rerun: pages of what is reused", all(has == reused for has, reused in have))
 
 
+def check_limits(checks):
+    """A run with other limits than there are by itself."""
+    status, printed, said = with_all(checks, PAIR, "1", "--text", "--steps", "12", "--fuel", "7")[1]
+    checks.expect(f"timeline of a run with its limits: {status} {said}", status == 0 and printed)
+
+
 def check_table(checks):
     """The table is README's, but for its first line, and for what is said behind arrows."""
     _, (status, printed, said) = with_all(checks, PAIR, "1", "--text")
@@ -334,7 +340,9 @@ def check_words(checks):
             ((file, "--why", f"7:{why}"), 1, "have no round 7"), ((file, "--trace", why), 1, "line 1: "),
             ((file, "--memo", file), 2, "ithreads ended with status 4"), ((file, "--guest", PAIR[0]), 2, "usage"),
             ((file, "--guest", *PAIR[:2]), 2, "there are 2 rounds"), ((file, "--columns", "x"), 2, "usage"),
-            ((file, "--guest", *PAIR, none), 2, "can't be read"),
+            ((file, "--guest", *PAIR, none), 2, "can't be read"), ((file, "--fuel", "5"), 2, "usage"),
+            ((file, "--guest", *PAIR, "--steps", "11"), 2, "trace ended with status 10"),
+            ((file, "--guest", *PAIR, "--fuel", "0"), 2, "trace ended with status 2: words: "),
             ((file, "--guest", PAIR[1], *PAIR[1:]), 2, "trace ended with status 3")):
         status, told, said = tool("timeline", *words)
         checks.expect(f"timeline {words}: {status} {said}", status == wanted and not told and begun in said)
@@ -360,6 +368,7 @@ def check(checks):
     check_pair(checks)
     check_limits(checks)
     check_rerun(checks)
+    check_limits(checks)
     check_table(checks)
     check_cut(checks)
     check_words(checks)

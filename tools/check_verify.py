@@ -5,7 +5,12 @@
     the other one is the same. So does a round on another input, or with another fuel.
   - `tools/schedule` gives each round's schedule, which `replay` and no other round takes for the same.
   - Wrong words, files and numbers of lists have status 2, a line that says so, and no verdict.
+  - Lines of a program that is being built go on to standard error, and its own lines don't.
 """
+import contextlib
+import io
+
+import running
 from checking import EXAMPLES, program, ran_whole, ROOT, tool
 
 # A guest, its input, lists of edits, and options.
@@ -166,7 +171,17 @@ def check_schedule(checks):
         checks.expect(f"schedule {words}: {status} {said}", status == wanted and not told and said)
 
 
+def check_building(checks):
+    script = "echo 'trace: proved one (1 of 2)' >&2; echo 'trace of one' >&2; echo printed; exit 3"
+    with contextlib.redirect_stderr(io.StringIO()) as passed_on:
+        done = running.ran("sh", "-c", script)
+    right = done == running.Ran(3, b"printed\n", ["trace of one"])
+    checks.expect(f"what is said while a program is built goes on: {done} {passed_on.getvalue()}",
+                  right and passed_on.getvalue() == "trace: proved one (1 of 2)\n")
+
+
 def check(checks):
+    check_building(checks)
     for run in RUNS:
         for workers in ("1", "4"):
             check_run(checks, run, workers)

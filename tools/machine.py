@@ -103,6 +103,8 @@ class Machine:
         self.is_single, self.on_store = False, None  # each turn by itself; called with a thread and a page, once a step
         self.owner, self.queues, self.mutex_of = {}, {}, {}
         self.values, self.needed = [0] * OBJECTS, [0] * OBJECTS
+        self.writer, self.readers = {}, [set() for _ in range(OBJECTS)]
+        self.to_write = set()  # the threads that wait for a reader-writer lock to write
         self.begin(image.entry, HEADER * PAGE)
 
     def begin(self, pc, argument):
@@ -268,6 +270,10 @@ class Machine:
             told += f", with mutex {self.mutex_of[number]}"
         if kind == "mutex":
             told += f", held by thread {self.owner[place]}"
+        if kind == "rwlock":
+            told += f" to {'write' if number in self.to_write else 'read'}"
+            told += "".join(f"{', held by' if at == 0 else ' and'} thread {holder}"
+                            for at, holder in enumerate(sorted(self.holders(place))))
         return told
 
     def written(self, _, put, __):
@@ -408,6 +414,58 @@ class Machine:
         return 0
 
 
+    def holders(self, lock):
+        """The readers of a reader-writer lock, or its writer."""
+        return {self.writer[lock]} if lock in self.writer else self.readers[lock]
+
+    def rdlock(self, number, lock, _):
+        if lock >= OBJECTS:
+            return EINVAL
+        if number in self.holders(lock):
+            return EDEADLK if lock in self.writer else EAGAIN
+        if lock in self.writer or self.queue("rwlock", lock):
+            return self.block(number, "rwlock", lock)
+        self.readers[lock].add(number)
+        return 0
+
+    def wrlock(self, number, lock, _):
+        if lock >= OBJECTS:
+            return EINVAL
+        if number in self.holders(lock):
+            return EDEADLK
+        if self.holders(lock):
+            self.to_write.add(number)
+            return self.block(number, "rwlock", lock)
+        self.writer[lock] = number
+        return 0
+
+    def trywrlock(self, number, lock, _):
+        if lock >= OBJECTS:
+            return EINVAL
+        return EBUSY if self.holders(lock) else self.wrlock(number, lock, _)
+
+    def rwunlock(self, number, lock, _):
+        if lock >= OBJECTS:
+            return EINVAL
+        if number not in self.holders(lock):
+            return EPERM
+        self.writer.pop(lock, None)
+        self.readers[lock].discard(number)
+        self.hand_on(lock)
+        return 0
+
+    def hand_on(self, lock):
+        """Who waits to read before the first who waits to write reads now; if then nobody holds the lock, the first writes."""
+        queue = self.queue("rwlock", lock)
+        while queue and queue[0] not in self.to_write:
+            self.readers[lock].add(queue[0])
+            self.answer(queue.pop(0), 0)
+        if queue and not self.holders(lock):
+            self.writer[lock] = queue.pop(0)
+            self.to_write.remove(self.writer[lock])
+            self.answer(self.writer[lock], 0)
+
+
 class Seen:
     """What a thread sees of memory: its view, with its own stores, by the numbers of pages."""
 
@@ -418,10 +476,10 @@ class Seen:
         return self.own[page][2] if page in self.own else self.view[page]
 
 
-CALLS = {1: Machine.written, 2: Machine.create, 4: Machine.join, 5: Machine.take_turns, 6: Machine.lock,
-         7: Machine.trylock, 8: Machine.unlock, 9: Machine.sem_wait, 10: Machine.sem_trywait, 11: Machine.sem_post,
-         12: Machine.sem_init, 13: Machine.barrier_init, 14: Machine.barrier_wait, 15: Machine.cond_wait,
-         16: Machine.signal, 17: Machine.broadcast}
+CALLS = {1: Machine.written, 2: Machine.create, 4: Machine.join, 5: Machine.take_turns, 6: Machine.lock, 7: Machine.trylock,
+         8: Machine.unlock, 9: Machine.sem_wait, 10: Machine.sem_trywait, 11: Machine.sem_post, 12: Machine.sem_init,
+         13: Machine.barrier_init, 14: Machine.barrier_wait, 15: Machine.cond_wait, 16: Machine.signal,
+         17: Machine.broadcast, 18: Machine.rdlock, 19: Machine.wrlock, 20: Machine.rwunlock, 21: Machine.trywrlock}
 
 
 def by_rule(machine, ready):

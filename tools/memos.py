@@ -1,6 +1,6 @@
 """Reads memos, by docs/FORMATS.md; it shares no code with the program. `Memo(bytes).listing()` lists one as `show`
 does, and raises `NotMemo` where it is none. It doesn't look whether a record fits what those before it leave, which
-takes the machine."""
+takes the machine. `head(file)` reads what comes before the records, and leaves the digest to who reads on."""
 import hashlib
 import struct
 from dataclasses import dataclass
@@ -28,6 +28,33 @@ def mapped_pages(elf):
 
 class NotMemo(Exception):
     """The bytes are no memo: by the word of the program, at which byte, and why."""
+
+
+@dataclass
+class Head:
+    """What a memo begins with: its executable, its input, and the limits of its run."""
+
+    elf: bytes
+    input: bytes
+    fuel: int
+    steps: int
+
+
+def head(file):
+    """The head of the memo in an open file."""
+    def number(most=2**32 - 1, word="Short"):
+        field = file.read(4)
+        if len(field) < 4 or int.from_bytes(field, "little") > most:
+            raise NotMemo(word if len(field) == 4 else "Short")
+        return int.from_bytes(field, "little")
+    if file.read(4) != b"ITHM":
+        raise NotMemo("Magic")
+    if (version := number()) not in (1, 2):
+        raise NotMemo(f"Version {version}")
+    if version == 2 and number() != 3:
+        raise NotMemo("Field 8")
+    elf = file.read(number(2**24, "Limit elf"))
+    return Head(elf, file.read(number(2**20, "Limit input")), number(), number())
 
 
 @dataclass
@@ -109,8 +136,10 @@ class Memo:
         digest, self.data = self.data[-32:], self.data[:-32]
         self.rule(len(self.data) >= 8, f"{len(self.data) + len(digest)} bytes, and not 40 or more", "Short")
         self.rule(self.take(4, "magic number") == b"ITHM", "magic number: it isn't ITHM", "Magic")
-        self.number(4, "version", 1, 1, f"Version {int.from_bytes(self.data[4:8], 'little')}")
+        version = self.number(4, "version", 1, 2, f"Version {int.from_bytes(self.data[4:8], 'little')}")
         self.rule(digest == hashlib.sha256(self.data).digest(), "digest: it is another", "Digest", len(self.data))
+        if version > 1:
+            self.number(4, "profile", 3, 3)
         self.elf = self.take(self.number(4, "length of the executable", 0, 2**24, "Limit elf"), "executable")
         mapped = mapped_pages(self.elf)
         self.rule(mapped, "executable: it isn't taken", "Image")
@@ -124,6 +153,6 @@ class Memo:
         records = [f"entry {entry} {self.record(mapped, fuel, pool)}" for entry in range(count)]
         self.rule(self.used == len(self.pool), f"count of pool pages: only {self.used} are used", at=pool_place)
         self.rule(self.place == len(self.data), "bytes come after the last record", at=self.place)
-        self.rule(not self.is_old(), "the last record ended at a word that is an instruction today", f"Old {count - 1}",
+        self.rule(version > 1 or not self.is_old(), "the last record ended at a word that is an instruction today", f"Old {count - 1}",
                   self.ended[0])
         return [f"elf {len(self.elf)}", f"input {size}", f"fuel {fuel}", f"limit {limit}", f"entries {count}", *records]

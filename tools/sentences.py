@@ -127,7 +127,7 @@ LINES = [
     *((rf"memo: Image {kind}", f"the memo's executable is refused: {sentence}") for kind, sentence in KINDS.items()),
     (r"memo: Short", f"the file has fewer than 40 bytes, so it is no memo, or only the beginning of one; {AGAIN}"),
     (r"memo: Magic", f"the file is no memo; {AGAIN}"),
-    (r"memo: Version (\d+)", f"the memo has version {{1}}, and this program reads version 1; {AGAIN}"),
+    (r"memo: Version (\d+)", f"the memo has version {{1}}, and this program reads versions 1 and 2; {AGAIN}"),
     (r"memo: Digest", f"the memo is damaged or cut off: its digest isn't that of its bytes; {AGAIN}"),
     (r"memo: Limit (\w+)", f"a number in the memo ({{1}}) is above its limit, so that another program wrote it; "
                            f"{AGAIN}"),

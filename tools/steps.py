@@ -10,13 +10,13 @@ from dataclasses import dataclass, field
 import reports
 
 CALLS = ("exit put create thread_exit join yield lock trylock unlock sem_wait sem_trywait sem_post sem_init "
-         "barrier_init barrier_wait cond_wait signal broadcast").split()
+         "barrier_init barrier_wait cond_wait signal broadcast rdlock wrlock rwunlock trywrlock").split()
 ARGUMENTS = {1: 2, 2: 2, 5: 0, 12: 2, 13: 2, 15: 2}  # how many a call has, where it isn't one
 ENTRY = re.compile(r"entry ([0-9]+) thread ([0-9]+) number ([0-9]+) end (call [0-9]+|trap [0-7]|fuel) count ([0-9]+)"
                    r" reads (-|%s(?:,%s)*) writes (-|%s(?:,%s)*)" % (("[0-9a-f]{8}",) * 4))
 HEAD = re.compile(r"(elf|input|fuel|limit|entries) [0-9]+")
 STEP = re.compile(r"step ([0-9]+) thread ([0-9]+) number ([0-9]+) count ([0-9]+) (.*)")
-WAITS = re.compile(r" (waits for [^,]*(?:, with mutex [0-9]+)?(?:, held by thread [0-9]+)?)")
+WAITS = re.compile(r" (waits for [^,]*(?:, with mutex [0-9]+)?(?:, held by thread [0-9]+(?: and thread [0-9]+)*)?)")
 WAKES = re.compile(r", wakes thread ([0-9]+) with ")
 BEGINS = re.compile(r"create\(.*\) = ([0-9]+), begins at ")
 REASON = re.compile(r"step ([0-9]+) thread ([0-9]+) number ([0-9]+) (none|register ([0-9]+) now [0-9]+ was [0-9]+|"
@@ -167,16 +167,6 @@ class Rounds:
             step.begins = begins and int(begins.group(1))
         if not lines[count:] or not lines[count].startswith("end "):
             raise Refused(min(count, len(lines)) + 1, f"round {number} has {count} steps, and then an end is wanted")
-
-    def add_run(self, number, made):
-        """What a machine did that made the steps of a round again."""
-        for step, call in zip(self.steps[number], made.steps):
-            step.count, step.call = call.count, end_name(call.end)
-            step.waits, step.wakes, step.begins = call.waits or None, call.wakes, call.begins
-            answer = "" if call.answer is None else f" = {call.answer}"
-            step.text = call_text(call) + (f" {call.waits}" if call.waits else answer)
-        if len(made.steps) != len(self.steps[number]) or made.ended != reports.end_text(self.reports[number].end):
-            raise Refused(len(made.steps) + 1, f"the run ends by {made.ended}, and round {number} doesn't")
 
     def add_reasons(self, number, text):
         """The reasons of the executed steps of a round."""

@@ -16,8 +16,8 @@
        }
 
    Names follow those of POSIX threads and semaphores. So does the order of the arguments, as far as both have them: there are
-   no attributes, a semaphore's `pshared` isn't there, and a new thread's number is it_thread_create's answer. Mutexes, semaphores, barriers and
-   conditions are numbered from 0 to 63; they need no memory, and only barriers must be initialised. An answer is an int: 0 or a positive number
+   no attributes, a semaphore's `pshared` isn't there, and a new thread's number is it_thread_create's answer. Mutexes, semaphores, barriers,
+   conditions and reader-writer locks are numbered from 0 to 63; they need no memory, and only barriers must be initialised. An answer is an int: 0 or a positive number
    where the call was done, a negated error number of enum it_error where it wasn't. Each function below says all of its answers; docs/MACHINE.md
    has the rules.
 
@@ -41,7 +41,7 @@
 enum it_limit {
     IT_PAGE = 4096,               /* bytes of a page */
     IT_THREADS = 32,              /* threads of a run, ended ones and that of main counted */
-    IT_OBJECTS = 64,              /* mutexes, semaphores, barriers and conditions: so many of each */
+    IT_OBJECTS = 64,              /* mutexes, semaphores, barriers, conditions and reader-writer locks: so many of each */
     IT_INPUT_MOST = 1048576,      /* bytes of the input */
     IT_PUT_MOST = 4096,           /* bytes of one it_put */
     IT_STACK = 65536,             /* bytes of each thread's stack */
@@ -76,7 +76,8 @@ enum { IT_BARRIER_SERIAL_THREAD = 1 };
 enum it_call {
     IT_CALL_EXIT, IT_CALL_PUT, IT_CALL_CREATE, IT_CALL_THREAD_EXIT, IT_CALL_JOIN, IT_CALL_YIELD, IT_CALL_LOCK, IT_CALL_TRYLOCK,
     IT_CALL_UNLOCK, IT_CALL_SEM_WAIT, IT_CALL_SEM_TRYWAIT, IT_CALL_SEM_POST, IT_CALL_SEM_INIT, IT_CALL_BARRIER_INIT,
-    IT_CALL_BARRIER_WAIT, IT_CALL_COND_WAIT, IT_CALL_SIGNAL, IT_CALL_BROADCAST
+    IT_CALL_BARRIER_WAIT, IT_CALL_COND_WAIT, IT_CALL_SIGNAL, IT_CALL_BROADCAST, IT_CALL_RDLOCK, IT_CALL_WRLOCK,
+    IT_CALL_RWUNLOCK, IT_CALL_TRYWRLOCK
 };
 
 /* The next step starts with these registers as they are here, so that what is left in them must not depend on the input. */
@@ -85,12 +86,29 @@ enum it_call {
     "mv a2, zero\n\tmv a3, zero\n\tmv a4, zero\n\tmv a5, zero\n\tmv a6, zero\n\t"
 #define IT_CLEARED "ra", "t0", "t1", "t2", "t3", "t4", "t5", "t6", "a2", "a3", "a4", "a5", "a6", "memory"
 
+/* guest/build defines these for --yield-every and --time counted: a call begins the countdown to the next yield anew, and
+   is counted. */
+#ifdef IT_YIELD_EVERY
+extern _Thread_local int it_countdown;
+#define IT_BEGIN_COUNTDOWN it_countdown = IT_YIELD_EVERY
+#else
+#define IT_BEGIN_COUNTDOWN (void)0
+#endif
+#ifdef IT_COUNTED
+extern _Thread_local unsigned it_calls;
+#define IT_COUNT_CALL it_calls++
+#else
+#define IT_COUNT_CALL (void)0
+#endif
+
 /* Makes a call: gives what it leaves in a0, and in *value what it leaves in a1. */
 static inline __attribute__((always_inline)) int it_call_value(enum it_call number, unsigned first, unsigned second, unsigned *value)
 {
     register unsigned a0 __asm__("a0") = first;
     register unsigned a1 __asm__("a1") = second;
     register unsigned a7 __asm__("a7") = number;
+    IT_BEGIN_COUNTDOWN;
+    IT_COUNT_CALL;
     __asm__ volatile(IT_CLEAR "ecall" : "+r"(a0), "+r"(a1) : "r"(a7) : IT_CLEARED);
     *value = a1;
     return (int)a0;
@@ -315,6 +333,35 @@ static inline int it_cond_signal(unsigned condition)
 static inline int it_cond_broadcast(unsigned condition)
 {
     return it_call(IT_CALL_BROADCAST, condition, 0);
+}
+
+/* ---------------------------------------------------------------------------------------------- reader-writer locks ---- */
+
+/* Waits until no thread writes and none that came before waits, and reads from then on beside other readers. Answers 0; -IT_EINVAL: number above 63;
+   -IT_EDEADLK: the caller writes; -IT_EAGAIN: the caller reads already. */
+static inline int it_rwlock_rdlock(unsigned lock)
+{
+    return it_call(IT_CALL_RDLOCK, lock, 0);
+}
+
+/* Waits until the lock is the caller's alone, and writes from then on. Answers 0; -IT_EINVAL: number above 63; -IT_EDEADLK: the caller writes or
+   reads. */
+static inline int it_rwlock_wrlock(unsigned lock)
+{
+    return it_call(IT_CALL_WRLOCK, lock, 0);
+}
+
+/* Takes the lock to write if nobody holds it. Answers 0; -IT_EINVAL: number above 63; -IT_EBUSY: somebody holds it, maybe the caller. */
+static inline int it_rwlock_trywrlock(unsigned lock)
+{
+    return it_call(IT_CALL_TRYWRLOCK, lock, 0);
+}
+
+/* Lets go of a lock that the caller holds. Who waits to read, before the first who waits to write, reads then; and where nobody holds the lock, who
+   waits first writes. Answers 0; -IT_EINVAL: number above 63; -IT_EPERM: the caller doesn't hold it. */
+static inline int it_rwlock_unlock(unsigned lock)
+{
+    return it_call(IT_CALL_RWUNLOCK, lock, 0);
 }
 
 /* ---------------------------------------------------------------------------------------------- text ---- */

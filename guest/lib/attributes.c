@@ -1,10 +1,10 @@
-/* Attributes of threads, mutexes, conditions and barriers. They change nothing but a mutex's type; what would change
-   something is refused. */
+/* Attributes of threads, mutexes, conditions and barriers. They change nothing but a mutex's type and whether a thread
+   is detached; what would change something else is refused. */
 #include <errno.h>
 #include <pthread.h>
 #include "library.h"
 
-enum { LEAST_GUARD = 0 };
+enum { LOWEST = 1, HIGHEST = 99 }; /* priorities */
 
 /* What is asked for where there is one value to have, and another that POSIX knows. */
 static int one_of_two(int asked, int taken, int refused)
@@ -22,7 +22,7 @@ static int process(int asked)
 
 int pthread_attr_init(pthread_attr_t *attributes)
 {
-    attributes->stack = IT_STACK;
+    *attributes = (pthread_attr_t){ .stack = IT_STACK };
     return 0;
 }
 
@@ -34,20 +34,21 @@ int pthread_attr_destroy(pthread_attr_t *attributes)
 
 int pthread_attr_setdetachstate(pthread_attr_t *attributes, int state)
 {
-    (void)attributes;
-    return one_of_two(state, PTHREAD_CREATE_JOINABLE, PTHREAD_CREATE_DETACHED);
+    if (state != PTHREAD_CREATE_JOINABLE && state != PTHREAD_CREATE_DETACHED)
+        return EINVAL;
+    attributes->detached = (short)state;
+    return 0;
 }
 
 int pthread_attr_getdetachstate(const pthread_attr_t *attributes, int *state)
 {
-    (void)attributes;
-    *state = PTHREAD_CREATE_JOINABLE;
+    *state = attributes->detached;
     return 0;
 }
 
 int pthread_attr_setstacksize(pthread_attr_t *restrict attributes, size_t size)
 {
-    if (size < PTHREAD_STACK_MIN || size > IT_STACK)
+    if (size < PTHREAD_STACK_MIN)
         return EINVAL;
     attributes->stack = size;
     return 0;
@@ -59,16 +60,31 @@ int pthread_attr_getstacksize(const pthread_attr_t *restrict attributes, size_t 
     return 0;
 }
 
+int pthread_attr_setstack(pthread_attr_t *attributes, void *address, size_t size)
+{
+    if (size < PTHREAD_STACK_MIN)
+        return EINVAL;
+    attributes->address = address;
+    attributes->stack = size;
+    return 0;
+}
+
+int pthread_attr_getstack(const pthread_attr_t *restrict attributes, void **restrict address, size_t *restrict size)
+{
+    *address = attributes->address;
+    *size = attributes->stack;
+    return 0;
+}
+
 int pthread_attr_setguardsize(pthread_attr_t *attributes, size_t size)
 {
-    (void)attributes;
-    return size == LEAST_GUARD ? 0 : ENOTSUP;
+    attributes->guard = size;
+    return 0;
 }
 
 int pthread_attr_getguardsize(const pthread_attr_t *restrict attributes, size_t *restrict size)
 {
-    (void)attributes;
-    *size = LEAST_GUARD;
+    *size = attributes->guard;
     return 0;
 }
 
@@ -89,8 +105,15 @@ int pthread_mutexattr_init(pthread_mutexattr_t *attributes)
 {
     attributes->type = PTHREAD_MUTEX_DEFAULT;
     attributes->shared = PTHREAD_PROCESS_PRIVATE;
+    attributes->protocol = PTHREAD_PRIO_NONE;
+    attributes->ceiling = LOWEST;
     return 0;
 }
+
+/* for PTHREAD_RECURSIVE_MUTEX_INITIALIZER_NP */
+__asm__(".globl it_recursive_mutex\n"
+        "it_recursive_mutex = 2");
+_Static_assert(PTHREAD_MUTEX_RECURSIVE == 2, "as above");
 
 int pthread_mutexattr_destroy(pthread_mutexattr_t *attributes)
 {
@@ -100,7 +123,7 @@ int pthread_mutexattr_destroy(pthread_mutexattr_t *attributes)
 
 int pthread_mutexattr_settype(pthread_mutexattr_t *attributes, int type)
 {
-    if (type != PTHREAD_MUTEX_NORMAL && type != PTHREAD_MUTEX_ERRORCHECK)
+    if (type != PTHREAD_MUTEX_NORMAL && type != PTHREAD_MUTEX_ERRORCHECK && type != PTHREAD_MUTEX_RECURSIVE)
         return EINVAL;
     attributes->type = type;
     return 0;
@@ -114,14 +137,29 @@ int pthread_mutexattr_gettype(const pthread_mutexattr_t *restrict attributes, in
 
 int pthread_mutexattr_setprotocol(pthread_mutexattr_t *attributes, int protocol)
 {
-    (void)attributes;
-    return protocol == PTHREAD_PRIO_INHERIT ? ENOTSUP : one_of_two(protocol, PTHREAD_PRIO_NONE, PTHREAD_PRIO_PROTECT);
+    if (protocol != PTHREAD_PRIO_NONE && protocol != PTHREAD_PRIO_INHERIT && protocol != PTHREAD_PRIO_PROTECT)
+        return EINVAL;
+    attributes->protocol = (signed char)protocol;
+    return 0;
 }
 
 int pthread_mutexattr_getprotocol(const pthread_mutexattr_t *restrict attributes, int *restrict protocol)
 {
-    (void)attributes;
-    *protocol = PTHREAD_PRIO_NONE;
+    *protocol = attributes->protocol;
+    return 0;
+}
+
+int pthread_mutexattr_setprioceiling(pthread_mutexattr_t *attributes, int ceiling)
+{
+    if (ceiling < LOWEST || ceiling > HIGHEST)
+        return EINVAL;
+    attributes->ceiling = (signed char)ceiling;
+    return 0;
+}
+
+int pthread_mutexattr_getprioceiling(const pthread_mutexattr_t *restrict attributes, int *restrict ceiling)
+{
+    *ceiling = attributes->ceiling;
     return 0;
 }
 
@@ -129,7 +167,7 @@ int pthread_mutexattr_setpshared(pthread_mutexattr_t *attributes, int shared)
 {
     int answer = process(shared);
     if (answer == 0)
-        attributes->shared = shared;
+        attributes->shared = (short)shared;
     return answer;
 }
 

@@ -5,6 +5,8 @@
 
 #include "ithreads.h"
 
+enum { IT_PROCESS = 1, IT_PROCESSORS = 4 }; /* what getpid and sysconf give */
+
 /* The last of each kind is the library's: its mutex, a condition that nobody signals, and the count of the threads that
    go on. */
 enum { IT_OWN_MUTEX = 63, IT_NEVER = 63, IT_OTHERS = 63, IT_FOR_PROGRAMS = 63 };
@@ -73,6 +75,27 @@ void it_forget(enum it_kind kind, const void *object);
 
 /* Ends the guest as abort does, after a message on stderr. */
 void it_end_by(const char *message) __attribute__((noreturn));
+
+/* Calls what pthread_cleanup_push was told and no pop was reached for, the last first. guest/build sets IT_CLEANUP where
+   a program has such. */
+void it_run_cleanups(void);
+
+/* What a new thread calls: stands on its creator's stack, and the new thread sees it as it was at the create. guest/build
+   sets IT_SCHEDULED where a program asks for a thread's policy. */
+struct it_beginning {
+    void *(*function)(void *);
+    void *argument;
+#ifdef IT_SCHEDULED
+    unsigned scheduling;
+#endif
+};
+
+/* Policy and priority for a thread with the attributes, or null; and keeps them for a thread. */
+unsigned it_scheduling_for(const void *attributes);
+void it_keep_scheduling(unsigned thread, unsigned scheduling);
+
+/* Whether a thread is detached; where guest/build sets IT_DETACHED. */
+int it_is_detached(unsigned thread);
 
 /* Ends the calling thread. */
 void it_end_thread(void *value) __attribute__((noreturn));

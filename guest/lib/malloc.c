@@ -8,6 +8,7 @@
    collected, and handed over when there are enough, to be taken by whoever needs such blocks. What a thread leaves when
    it ends goes the same way. */
 #include <errno.h>
+#include <malloc.h>
 #include <stdint.h>
 #include <stdlib.h>
 #include <string.h>
@@ -504,4 +505,49 @@ void *aligned_alloc(size_t align, size_t bytes)
 IT_REPLACEABLE void *memalign(size_t align, size_t bytes)
 {
     return aligned_alloc(align, bytes);
+}
+
+/* --------------------------------------------------------------------------------- what isn't in ISO C or POSIX ---- */
+
+IT_REPLACEABLE size_t malloc_usable_size(void *block)
+{
+    return !block ? 0 : is_large(block) ? pages_of(block) * IT_PAGE : size_of[head_of(block)->size];
+}
+
+IT_REPLACEABLE void cfree(void *block)
+{
+    free(block);
+}
+
+/* Counts pages: one with small blocks is in use whole. */
+IT_REPLACEABLE struct mallinfo mallinfo(void)
+{
+    struct mallinfo info = { 0 };
+    info.arena = heap_pages() * IT_PAGE;
+    it_lock_library();
+    for (unsigned page = 0; page < heap_pages(); page++) {
+        if (common.page[page] >= FIRST_OF_LARGE) {
+            info.hblks++;
+            info.hblkhd += (common.page[page] - (unsigned)FIRST_OF_LARGE + 1) * IT_PAGE;
+        }
+        if (common.page[page] > USED_BEFORE)
+            info.uordblks += IT_PAGE;
+    }
+    it_unlock_library();
+    info.fordblks = info.arena - info.uordblks;
+    return info;
+}
+
+/* Nothing can be set. */
+IT_REPLACEABLE int mallopt(int what, int value)
+{
+    (void)what, (void)value;
+    return 1;
+}
+
+/* Nothing is given back to the system. */
+IT_REPLACEABLE int malloc_trim(size_t bytes)
+{
+    (void)bytes;
+    return 0;
 }

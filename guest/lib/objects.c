@@ -7,34 +7,9 @@
    since nobody changes it while the object is in use. */
 #include <stdio.h>
 #include "library.h"
+#include "table.h"
 
-enum { NEVER_USED = 0, GONE = 1 };
-
-static struct IT_PAGE_ALIGNED table { unsigned object[IT_FOR_PROGRAMS]; } tables[4];
-
-static unsigned first_place(unsigned object)
-{
-    unsigned place = (object >> 2 ^ object >> 8 ^ object >> 14) & 63;
-    return place == IT_FOR_PROGRAMS ? 0 : place;
-}
-
-/* The number of an object; -1: it has none. Where one could go is in *place, IT_FOR_PROGRAMS if nowhere. */
-static int find(const struct table *table, unsigned object, unsigned *place)
-{
-    unsigned at = first_place(object);
-    *place = IT_FOR_PROGRAMS;
-    for (unsigned k = 0; k < IT_FOR_PROGRAMS; k++) {
-        if (table->object[at] == object)
-            return (int)at;
-        if (table->object[at] <= GONE && *place == IT_FOR_PROGRAMS)
-            *place = at;
-        if (table->object[at] == NEVER_USED)
-            return -1;
-        if (++at == IT_FOR_PROGRAMS)
-            at = 0;
-    }
-    return -1;
-}
+static struct table tables[4];
 
 int it_number(enum it_kind kind, const void *object)
 {

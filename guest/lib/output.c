@@ -175,6 +175,10 @@ static void end_call(const FILE *stream, const unsigned char *outer)
         flush();
 }
 
+#ifdef IT_LONG_DOUBLE
+#define __real_vfprintf it_vfprintf /* in long_double.c */
+#endif
+
 /* The linker brings each vfprintf here, also those of printf and its like. */
 int __real_vfprintf(FILE *stream, const char *format, va_list arguments);
 int __wrap_vfprintf(FILE *stream, const char *format, va_list arguments)

@@ -11,6 +11,11 @@ struct it_shared it_shared;
 extern const char it_own_image[], it_own_image_size[];
 extern void (*const it_constructors[])(void), (*const it_constructors_end[])(void);
 
+/* from guest/build: the environment, which is an empty list; then the program's name and the words of --args, and how
+   many they are */
+extern char *it_words[];
+extern const char it_word_count[];
+
 int main(int count, char **words, char **environment);
 
 /* The machine gives each thread its number in tp. Number n has the block at it_own + n * it_own_size. A number isn't
@@ -39,18 +44,13 @@ __asm__(".section .text.startup,\"ax\",@progbits\n"
         "tail it_start\n\t"
         ".text\n");
 
-/* What a new thread calls: stands on its creator's stack, and the new thread sees it as it was at the create. */
-struct it_beginning {
-    void *(*function)(void *);
-    void *argument;
-};
-
 static __attribute__((noreturn)) void start_main(void)
 {
-    static char *words[] = { NULL };
     for (void (*const *each)(void) = it_constructors; each != it_constructors_end; each++)
         (*each)();
-    exit(main(0, words, words));
+    char **words = it_words;
+    __asm__("" : "+r"(words)); /* so that its address is made once */
+    exit(main((int)it_word_count, words + 1, words));
 }
 
 /* The first step of a thread ends here, with a call: so the creator's page, on which the beginning stands, isn't read
@@ -59,6 +59,9 @@ static __attribute__((noreturn)) void start_thread(const struct it_beginning *be
 {
     void *(*function)(void *) = beginning->function;
     void *argument = beginning->argument;
+#ifdef IT_SCHEDULED
+    it_keep_scheduling(it_self.number, beginning->scheduling);
+#endif
     it_call(IT_CALL_YIELD, 0, 0);
     it_end_thread(function(argument));
 }

@@ -55,6 +55,50 @@ static void wait_for_ever(void)
     it_call(IT_CALL_COND_WAIT, IT_NEVER, IT_OWN_MUTEX);
 }
 
+#ifdef IT_MUTEX_TYPES
+
+/* How often the thread has locked each mutex that it has. guest/build compiles this where a program names a type of
+   mutex: then a lock that isn't the first needs no call, and nothing is loaded from a mutex that isn't the thread's. */
+static _Thread_local unsigned locked[IT_OBJECTS];
+
+static int lock_by(enum it_call call, pthread_mutex_t *mutex)
+{
+    unsigned number = it_number_or_end(IT_MUTEX, mutex);
+    if (locked[number] && mutex->type == PTHREAD_MUTEX_RECURSIVE) {
+        locked[number]++;
+        return 0;
+    }
+    int answer = it_ordered_call(call, number, 0);
+    if (answer == 0)
+        locked[number] = 1;
+    if (answer == -IT_EDEADLK && mutex->type == PTHREAD_MUTEX_NORMAL)
+        wait_for_ever();
+    return answered(answer);
+}
+
+int pthread_mutex_lock(pthread_mutex_t *mutex)
+{
+    return lock_by(IT_CALL_LOCK, mutex);
+}
+
+int pthread_mutex_trylock(pthread_mutex_t *mutex)
+{
+    return lock_by(IT_CALL_TRYLOCK, mutex);
+}
+
+int pthread_mutex_unlock(pthread_mutex_t *mutex)
+{
+    unsigned number = it_number_or_end(IT_MUTEX, mutex);
+    if (locked[number] > 1) {
+        locked[number]--;
+        return 0;
+    }
+    locked[number] = 0;
+    return answered(it_ordered_call(IT_CALL_UNLOCK, number, 0));
+}
+
+#else
+
 int pthread_mutex_lock(pthread_mutex_t *mutex)
 {
     int answer = it_ordered_call(IT_CALL_LOCK, it_number_or_end(IT_MUTEX, mutex), 0);
@@ -72,6 +116,8 @@ int pthread_mutex_unlock(pthread_mutex_t *mutex)
 {
     return answered(it_ordered_call(IT_CALL_UNLOCK, it_number_or_end(IT_MUTEX, mutex), 0));
 }
+
+#endif
 
 /* ---------------------------------------------------------------------------------------------- conditions ---- */
 
@@ -144,6 +190,79 @@ static int told(int error)
     return -1;
 }
 
+#ifdef IT_SEM_VALUES
+
+/* guest/build compiles this where a program calls sem_getvalue. The value is in the object, under a mutex of its own;
+   below 0 it is how many threads wait, for a condition of its own. */
+static unsigned begin(sem_t *semaphore)
+{
+    unsigned mutex = it_number_or_end(IT_MUTEX, semaphore);
+    it_ordered_call(IT_CALL_LOCK, mutex, 0);
+    return mutex;
+}
+
+static int end(unsigned mutex, int error)
+{
+    it_call(IT_CALL_UNLOCK, mutex, 0);
+    return told(error);
+}
+
+int sem_init(sem_t *semaphore, int shared, unsigned value)
+{
+    (void)shared;
+    if (value > SEM_VALUE_MAX)
+        return told(EINVAL);
+    if (it_number(IT_MUTEX, semaphore) < 0 || it_number(IT_CONDITION, semaphore) < 0)
+        return told(ENOSPC);
+    semaphore->unused = (int)value;
+    return 0;
+}
+
+int sem_destroy(sem_t *semaphore)
+{
+    int waited = semaphore->unused < 0;
+    if (waited)
+        return told(EBUSY);
+    it_forget(IT_MUTEX, semaphore);
+    it_forget(IT_CONDITION, semaphore);
+    return 0;
+}
+
+int sem_wait(sem_t *semaphore)
+{
+    unsigned mutex = begin(semaphore);
+    if (--semaphore->unused < 0)
+        it_call(IT_CALL_COND_WAIT, it_number_or_end(IT_CONDITION, semaphore), mutex);
+    return end(mutex, 0);
+}
+
+int sem_trywait(sem_t *semaphore)
+{
+    unsigned mutex = begin(semaphore);
+    int some = semaphore->unused > 0;
+    semaphore->unused -= some;
+    return end(mutex, some ? 0 : EAGAIN);
+}
+
+int sem_post(sem_t *semaphore)
+{
+    unsigned mutex = begin(semaphore);
+    if (semaphore->unused == SEM_VALUE_MAX)
+        return end(mutex, EOVERFLOW);
+    if (semaphore->unused++ < 0)
+        it_call(IT_CALL_SIGNAL, it_number_or_end(IT_CONDITION, semaphore), 0);
+    return end(mutex, 0);
+}
+
+int sem_getvalue(sem_t *restrict semaphore, int *restrict value)
+{
+    it_ordered_call(IT_CALL_YIELD, 0, 0);
+    *value = semaphore->unused > 0 ? semaphore->unused : 0;
+    return 0;
+}
+
+#else
+
 static int semaphore_call(enum it_call call, sem_t *semaphore)
 {
     return told(answered(it_ordered_call(call, it_number_or_end(IT_SEMAPHORE, semaphore), 0)));
@@ -181,3 +300,5 @@ int sem_post(sem_t *semaphore)
 {
     return semaphore_call(IT_CALL_SEM_POST, semaphore);
 }
+
+#endif

@@ -7,11 +7,36 @@
 extern __attribute__((weak)) const char it_has_handlers[]; /* weak, since it may be 0 */
 void it_thread_entry(void);
 
+#ifdef IT_DETACHED
+/* guest/build compiles this where a program detaches threads. A thread's state is stored by who detaches it and by who
+   has joined it. */
+enum { DETACHED = 1, JOINED = 2 };
+static struct IT_PAGE_ALIGNED { unsigned char of[IT_THREADS]; } states;
+
+int pthread_detach(pthread_t thread)
+{
+    if (thread >= IT_THREADS || states.of[thread] == JOINED)
+        return ESRCH;
+    if (states.of[thread] == DETACHED)
+        return EINVAL;
+    states.of[thread] = DETACHED;
+    return 0;
+}
+
+int it_is_detached(pthread_t thread)
+{
+    return states.of[thread] == DETACHED;
+}
+#endif
+
 int pthread_create(pthread_t *restrict thread, const pthread_attr_t *restrict attributes, void *(*function)(void *),
                    void *restrict argument)
 {
-    struct { void *(*function)(void *); void *argument; } beginning = { function, argument };
+    struct it_beginning beginning = { function, argument };
     (void)attributes;
+#ifdef IT_SCHEDULED
+    beginning.scheduling = it_scheduling_for(attributes);
+#endif
     it_shared.threads_made = 1;
     if (it_has_handlers)
         it_call(IT_CALL_SEM_POST, IT_OTHERS, 0);
@@ -21,6 +46,13 @@ int pthread_create(pthread_t *restrict thread, const pthread_attr_t *restrict at
             it_call(IT_CALL_SEM_TRYWAIT, IT_OTHERS, 0);
         return -answer;
     }
+#ifdef IT_SCHEDULED
+    it_keep_scheduling((unsigned)answer, beginning.scheduling);
+#endif
+#ifdef IT_DETACHED
+    if (attributes && attributes->detached)
+        states.of[answer] = DETACHED;
+#endif
     *thread = (pthread_t)answer;
     return 0;
 }
@@ -31,6 +63,10 @@ int pthread_join(pthread_t thread, void **value)
     unsigned left;
     if (it_self.settle)
         it_settle();
+#ifdef IT_DETACHED
+    if (thread < IT_THREADS && states.of[thread])
+        return states.of[thread] == JOINED ? ESRCH : EINVAL;
+#endif
     int answer = it_call_value(IT_CALL_JOIN, thread, 0, &left);
     if (answer == -IT_EDEADLK)
         return EDEADLK;
@@ -38,11 +74,17 @@ int pthread_join(pthread_t thread, void **value)
         return -answer;
     if (value)
         *value = (void *)left;
+#ifdef IT_DETACHED
+    states.of[thread] = JOINED;
+#endif
     return 0;
 }
 
 void pthread_exit(void *value)
 {
+#ifdef IT_CLEANUP
+    it_run_cleanups();
+#endif
     it_end_thread(value);
 }
 

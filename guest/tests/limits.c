@@ -9,6 +9,7 @@ static pthread_mutex_t mutex = PTHREAD_MUTEX_INITIALIZER, other = PTHREAD_MUTEX_
 static pthread_cond_t condition = PTHREAD_COND_INITIALIZER;
 static pthread_barrier_t barrier;
 static sem_t semaphore;
+static pthread_spinlock_t spin;
 static pthread_t sleeper;
 
 static const char *name(int answer)
@@ -19,6 +20,7 @@ static const char *name(int answer)
            : answer == EAGAIN  ? "EAGAIN"
            : answer == EBUSY   ? "EBUSY"
            : answer == EINVAL  ? "EINVAL"
+           : answer == EDEADLK ? "EDEADLK"
            : answer == ENOTSUP ? "ENOTSUP"
                                : "another";
 }
@@ -39,6 +41,12 @@ static void *sleeps(void *unused)
 static void *joins(void *unused)
 {
     pthread_join(sleeper, NULL);
+    return unused;
+}
+
+static void *unlocks(void *unused)
+{
+    tell("spin lock unlocked by another", pthread_spin_unlock(&spin));
     return unused;
 }
 
@@ -65,14 +73,12 @@ static void let_wait(void)
 
 static void attributes(void)
 {
-    pthread_attr_t thread;
-    pthread_mutexattr_t mutex_kind;
-    pthread_attr_init(&thread);
-    pthread_mutexattr_init(&mutex_kind);
-    tell("detached", pthread_attr_setdetachstate(&thread, PTHREAD_CREATE_DETACHED));
-    tell("a stack of 65,537 bytes", pthread_attr_setstacksize(&thread, 65537));
-    tell("a guard", pthread_attr_setguardsize(&thread, 4096));
-    tell("inherited priority", pthread_mutexattr_setprotocol(&mutex_kind, PTHREAD_PRIO_INHERIT));
+    pthread_t thread;
+    pthread_spin_init(&spin, 0);
+    pthread_spin_lock(&spin);
+    tell("spin lock locked again", pthread_spin_lock(&spin));
+    pthread_create(&thread, NULL, unlocks, NULL);
+    pthread_join(thread, NULL);
 }
 
 static void while_some_wait(void)
@@ -114,7 +120,7 @@ int main(void)
     tell("barrier of 33", pthread_barrier_init(&barrier, NULL, 33));
     pthread_barrier_destroy(&barrier);
     while_some_wait();
-    threads += 4;
+    threads += 5;
     pthread_barrier_init(&barrier, NULL, 1);
     while ((answer = pthread_create(&thread, NULL, meets, NULL)) == 0) {
         pthread_join(thread, NULL);

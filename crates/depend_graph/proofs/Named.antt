@@ -8,7 +8,7 @@ use Rattle.std.proofs.lemmas.List.Sums.{fails_before_first}
 use Rattle.std.proofs.lemmas.Bool.{eq-eqb}
 use Rattle.std.proofs.lemmas.Bool.Decides.{nat_tests}
 use Rattle.guest_call.specs.declared.Object.{Object}
-use Rattle.guest_call.specs.declared.Object.TheVariants.{Output, ThreadTable, Mutex, Semaphore, Barrier, Condition}
+use Rattle.guest_call.specs.declared.Object.TheVariants.{Output, ThreadTable, Mutex, Semaphore, Barrier, Condition, RwLock}
 use Rattle.guest_call.specs.Locality.{same_object}
 use Rattle.guest_call.proofs.Locality.{same_is}
 use Rattle.depend_graph.specs.declared.objects.ObjectClock.{ObjectClock}
@@ -70,6 +70,7 @@ same-own (Mutex k) = eq-eqb k k refl
 same-own (Semaphore k) = eq-eqb k k refl
 same-own (Barrier k) = eq-eqb k k refl
 same-own (Condition k) = eq-eqb k k refl
+same-own (RwLock k) = eq-eqb k k refl
 
 -- where no clock has the name
 without :

@@ -1,6 +1,6 @@
 -- Worked examples of what calls act on, and of the numbers of the calls, which the checker computes.
 use Rattle.std.proofs.Common.{◌≡◌, [], ◌∷◌, Some, refl}
-use Rattle.guest_call.specs.declared.Call.TheVariants.{Exit, ThreadExit, Yield, TryLock, SemWait, SemTryWait, SemPost, SemInit, BarrierInit, BarrierWait, CondWait, Signal, Broadcast}
+use Rattle.guest_call.specs.declared.Call.TheVariants.{Exit, ThreadExit, Yield, TryLock, SemWait, SemTryWait, SemPost, SemInit, BarrierInit, BarrierWait, CondWait, Signal, Broadcast, RdLock, WrLock, RwUnlock, TryWrLock}
 use Rattle.guest_call.specs.declared.Object.TheVariants as object
 use Rattle.guest_call.specs.Numbers.{call_of}
 use Rattle.guest_call.specs.Objects.{opening, acts_on}
@@ -49,3 +49,16 @@ call-16-is-signal = refl
 
 pub call-17-is-broadcast : call_of 17 9 5 ≡ Some (Broadcast 9)
 call-17-is-broadcast = refl
+
+-- 18 to 21 read a0 alone
+pub call-18-is-rdlock : call_of 18 9 5 ≡ Some (RdLock 9)
+call-18-is-rdlock = refl
+
+pub call-19-is-wrlock : call_of 19 9 5 ≡ Some (WrLock 9)
+call-19-is-wrlock = refl
+
+pub call-20-is-rwunlock : call_of 20 9 5 ≡ Some (RwUnlock 9)
+call-20-is-rwunlock = refl
+
+pub call-21-is-trywrlock : call_of 21 9 5 ≡ Some (TryWrLock 9)
+call-21-is-trywrlock = refl

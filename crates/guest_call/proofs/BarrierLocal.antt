@@ -2,7 +2,7 @@
 use Rattle.std.proofs.Common.{◌≡◌, ℕ, ◌<◌, Bool, true, false, List, [], ◌∷◌, nat_lt, slice_index_or, slice_set, if◌then◌else◌, arith, refl, sym, ap, subst, ltb-true}
 use Rattle.std.proofs.lemmas.List.{get_or-set_same, get_or-set_other}
 use Rattle.guest_call.specs.declared.Object.{Object}
-use Rattle.guest_call.specs.declared.Object.TheVariants.{Output, ThreadTable, Mutex as MutexOf, Semaphore as SemaphoreOf, Barrier as BarrierOf, Condition as ConditionOf}
+use Rattle.guest_call.specs.declared.Object.TheVariants.{Output, ThreadTable, Mutex as MutexOf, Semaphore as SemaphoreOf, Barrier as BarrierOf, Condition as ConditionOf, RwLock as RwLockOf}
 use Rattle.guest_call.specs.Answers.{answer_einval}
 use Rattle.guest_call.specs.Effect.{Effect, answers}
 use Rattle.guest_call.specs.Barriers.{Barrier, uninitialised}
@@ -51,6 +51,7 @@ barrier_local row i o lt kept =
     leaves_by (MutexOf k) apart = refl
     leaves_by (SemaphoreOf k) apart = refl
     leaves_by (ConditionOf k) apart = refl
+    leaves_by (RwLockOf k) apart = refl
 
 pub on_barrier_local :
     (row : Barrier → Effect × Barrier) (i : ℕ) (o : Objects) → IsKept o

@@ -3,7 +3,7 @@ use Rattle.std.proofs.Common.{◌≡◌, ℕ, ◌+◌, ◌<◌, ◌≤◌, Bool,
 use Rattle.std.proofs.lemmas.Bool.{and_parts}
 use Rattle.guest_call.specs.Answers.{answer_esrch, answer_edeadlk}
 use Rattle.guest_call.specs.declared.Call.{Call}
-use Rattle.guest_call.specs.declared.Call.TheVariants.{Exit, Put, Create, ThreadExit, Join, Yield, Lock, TryLock, Unlock, SemWait, SemTryWait, SemPost, SemInit, BarrierInit, BarrierWait, CondWait, Signal, Broadcast}
+use Rattle.guest_call.specs.declared.Call.TheVariants.{Exit, Put, Create, ThreadExit, Join, Yield, Lock, TryLock, Unlock, SemWait, SemTryWait, SemPost, SemInit, BarrierInit, BarrierWait, CondWait, Signal, Broadcast, RdLock, WrLock, RwUnlock, TryWrLock}
 use Rattle.guest_call.specs.Answers.{answer_einval}
 use Rattle.guest_call.specs.Effect.{Effect, answers}
 use Rattle.guest_call.specs.Queues.{places, waits, entering, Keeps}
@@ -12,11 +12,12 @@ use Rattle.guest_call.specs.Mutexes.{Mutex, unlocked, mutex_queue, lock_row, try
 use Rattle.guest_call.specs.Semaphores.{Semaphore, unposted, semaphore_queue, largest_value, sem_wait_row, sem_trywait_row, sem_post_row, sem_init_row}
 use Rattle.guest_call.specs.Barriers.{Barrier, uninitialised, barrier_queue, is_count, barrier_init_row, barrier_wait_row}
 use Rattle.guest_call.specs.Conditions.{Condition, Leaving, unawaited, condition_queue, cond_wait_row, signal_leaving, broadcast_leaving, leave_row}
+use Rattle.guest_call.specs.RwLocks.{RwLock, unheld, rwlock_queue, rdlock_row, wrlock_row, rwunlock_row, trywrlock_row}
 use Rattle.guest_call.specs.Threads.{Member, fresh, member_queue, member_at, waiting_joiner, joins, create_row, ended_with, joined_by, thread_exit_row, join_row}
-use Rattle.guest_call.specs.Objects.{Objects, on_threads, on_mutex, on_semaphore, on_barrier, on_pair, condition_at, mutex_at, leave, waits_at, put_answer, act, IsKept}
+use Rattle.guest_call.specs.Objects.{Objects, on_threads, on_mutex, on_semaphore, on_barrier, on_rwlock, on_pair, condition_at, mutex_at, leave, waits_at, put_answer, act, IsKept}
 use Rattle.guest_call.proofs.Counting.{places-nil, entering-returns, entering-ends, entering-exits, entering-blocks, waits-push, waits-set, places-cons}
 use Rattle.guest_call.proofs.Shape.{kept_shaped, condition_named}
-pub use Rattle.guest_call.proofs.Rows.{IsFairPair, lock_fair, trylock_fair, unlock_fair, sem_wait_fair, sem_trywait_fair, sem_post_fair, sem_init_fair, barrier_init_fair, barrier_wait_fair, cond_wait_fair, leave_fair, signal_leaves, broadcast_leaves}
+pub use Rattle.guest_call.proofs.Rows.{IsFairPair, lock_fair, trylock_fair, unlock_fair, sem_wait_fair, sem_trywait_fair, sem_post_fair, sem_init_fair, barrier_init_fair, barrier_wait_fair, cond_wait_fair, leave_fair, signal_leaves, broadcast_leaves, rdlock_fair, wrlock_fair, rwunlock_fair, trywrlock_fair}
 
 -- a call that changes nothing and wakes nobody
 pub same_keeps : (w : ℕ → ℕ) (t a : ℕ) → Keeps w t (answers a) w
@@ -117,6 +118,13 @@ on_barrier_keeps row t b o fair kept u =
       at_cell_keeps barrier_queue uninitialised row o.barriers b t (omega (arith, kept.all_barriers)) fair u,
     )
 
+-- a row done on a reader-writer lock, where it is fair
+pub on_rwlock_keeps :
+    (row : RwLock → Effect × RwLock) (t i : ℕ) (o : Objects) → ((c : RwLock) → IsFair rwlock_queue t c (row c)) → IsKept o →
+    Keeps (waits_at o) t (on_rwlock row o i).0 (waits_at (on_rwlock row o i).1)
+on_rwlock_keeps row t i o fair kept u =
+    omega (arith, at_cell_keeps rwlock_queue unheld row o.rwlocks i t (omega (arith, kept.all_rwlocks)) fair u)
+
 -- a row done on a condition and a mutex that are there, where it is fair
 pub on_pair_keeps : (row : Condition → Mutex → Effect × Condition × Mutex) (t c m : ℕ) (o : Objects) → c < 64 → m < 64 →
     IsFairPair t (condition_at o c) (mutex_at o m) (row (condition_at o c) (mutex_at o m)) → IsKept o →
@@ -194,3 +202,7 @@ act_keeps readable o t (CondWait c m) kept lt =
     checked_keeps (nat_lt c 64 && nat_lt m 64) t o (on_pair (cond_wait_row t m) o c m) (cond_wait_keeps t c m o kept)
 act_keeps readable o t (Signal c) kept lt = leave_keeps signal_leaving t c o signal_leaves kept
 act_keeps readable o t (Broadcast c) kept lt = leave_keeps broadcast_leaving t c o broadcast_leaves kept
+act_keeps readable o t (RdLock r) kept lt = on_rwlock_keeps (rdlock_row t) t r o (rdlock_fair t) kept
+act_keeps readable o t (WrLock r) kept lt = on_rwlock_keeps (wrlock_row t) t r o (wrlock_fair t) kept
+act_keeps readable o t (RwUnlock r) kept lt = on_rwlock_keeps (rwunlock_row t) t r o (rwunlock_fair t) kept
+act_keeps readable o t (TryWrLock r) kept lt = on_rwlock_keeps (trywrlock_row t) t r o (trywrlock_fair t) kept

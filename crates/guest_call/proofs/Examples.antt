@@ -65,9 +65,9 @@ call-6-is-lock = refl
 pub call-8-is-unlock : call_of 8 9 5 ≡ Some (Unlock 9)
 call-8-is-unlock = refl
 
--- 18 and 2^32 - 1 stand in no line of the table
-pub call-18-is-bad : call_of 18 0 0 ≡ None
-call-18-is-bad = refl
+-- 22 and 2^32 - 1 stand in no line of the table
+pub call-22-is-bad : call_of 22 0 0 ≡ None
+call-22-is-bad = refl
 
 pub call-4294967295-is-bad : call_of 4294967295 0 0 ≡ None
 call-4294967295-is-bad = refl

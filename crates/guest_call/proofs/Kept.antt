@@ -4,15 +4,16 @@ use Rattle.std.proofs.lemmas.Bool.{cases_eq}
 use Rattle.std.proofs.lemmas.Bool.Decides.{nat_tests}
 use Rattle.std.proofs.lemmas.List.{length-set, length_push, get_or-set_same, get_or-set_other, get_or_push, get_or_append_left, get_or_past}
 use Rattle.guest_call.specs.declared.Call.{Call}
-use Rattle.guest_call.specs.declared.Call.TheVariants.{Exit, Put, Create, ThreadExit, Join, Yield, Lock, TryLock, Unlock, SemWait, SemTryWait, SemPost, SemInit, BarrierInit, BarrierWait, CondWait, Signal, Broadcast}
+use Rattle.guest_call.specs.declared.Call.TheVariants.{Exit, Put, Create, ThreadExit, Join, Yield, Lock, TryLock, Unlock, SemWait, SemTryWait, SemPost, SemInit, BarrierInit, BarrierWait, CondWait, Signal, Broadcast, RdLock, WrLock, RwUnlock, TryWrLock}
 use Rattle.guest_call.specs.Effect.{Effect, ended_after}
 use Rattle.guest_call.specs.Queues.{waits, Keeps}
 use Rattle.guest_call.specs.Mutexes.{unlocked, mutex_queue}
 use Rattle.guest_call.specs.Semaphores.{unposted, semaphore_queue}
 use Rattle.guest_call.specs.Barriers.{uninitialised, barrier_queue}
 use Rattle.guest_call.specs.Conditions.{unawaited, condition_queue}
+use Rattle.guest_call.specs.RwLocks.{unheld, rwlock_queue}
 use Rattle.guest_call.specs.Threads.{Member, fresh, member_at, ended_with, joined_by, create_row, thread_exit_row, join_row}
-use Rattle.guest_call.specs.Objects.{Objects, all_unlocked, all_unposted, all_uninitialised, all_unawaited, opening, waits_at, ended_at, put_answer, appends, act, created_count, IsKept}
+use Rattle.guest_call.specs.Objects.{Objects, all_unlocked, all_unposted, all_uninitialised, all_unawaited, all_unheld, opening, waits_at, ended_at, put_answer, appends, act, created_count, IsKept}
 use Rattle.guest_call.proofs.Counting.{places-nil, entering-other, entering-le, waits-replicate}
 use Rattle.guest_call.proofs.Conservation.{act_keeps}
 pub use Rattle.guest_call.proofs.Shape.{length-at_cell}
@@ -55,6 +56,10 @@ act_creates readable o t (BarrierWait b) = grind arith
 act_creates readable o t (CondWait c m) = grind arith
 act_creates readable o t (Signal c) = grind arith
 act_creates readable o t (Broadcast c) = grind arith
+act_creates readable o t (RdLock r) = grind arith
+act_creates readable o t (WrLock r) = grind arith
+act_creates readable o t (RwUnlock r) = grind arith
+act_creates readable o t (TryWrLock r) = grind arith
 
 -- no call makes a thread beyond 32
 pub act_few :
@@ -78,6 +83,10 @@ act_few readable o t (BarrierWait b) few = grind arith
 act_few readable o t (CondWait c m) few = grind arith
 act_few readable o t (Signal c) few = grind arith
 act_few readable o t (Broadcast c) few = grind arith
+act_few readable o t (RdLock r) few = few
+act_few readable o t (WrLock r) few = few
+act_few readable o t (RwUnlock r) few = few
+act_few readable o t (TryWrLock r) few = few
 
 -- each thread still waits in at most one place, where the caller waited in none
 pub once_kept :
@@ -109,6 +118,7 @@ act_kept readable o t call kept there free =
       all_semaphores = shaped.all_semaphores;
       all_barriers = shaped.all_barriers;
       all_conditions = shaped.all_conditions;
+      all_rwlocks = shaped.all_rwlocks;
       named = shaped.named;
       once = once_kept (waits_at o) (waits_at r.1) t r.0 keeps free kept.once;
       known = λ u beyond. known_kept (waits_at o) (waits_at r.1) t (length o.threads) r.0 keeps there kept.known u
@@ -116,7 +126,7 @@ act_kept readable o t call kept there free =
     }
 
 pub opening_waits : (t : ℕ) → waits_at opening t ≡ 0
-unfolding all_unlocked all_unposted all_uninitialised all_unawaited waits
+unfolding all_unlocked all_unposted all_uninitialised all_unawaited all_unheld waits
 opening_waits t =
     omega (
       arith,
@@ -124,6 +134,7 @@ opening_waits t =
       waits-replicate semaphore_queue 64 unposted t refl,
       waits-replicate barrier_queue 64 uninitialised t refl,
       waits-replicate condition_queue 64 unawaited t refl,
+      waits-replicate rwlock_queue 64 unheld t refl,
       places-nil t,
     )
 
@@ -136,6 +147,7 @@ opening_kept = record {
   all_semaphores = opening_shaped.all_semaphores;
   all_barriers = opening_shaped.all_barriers;
   all_conditions = opening_shaped.all_conditions;
+  all_rwlocks = opening_shaped.all_rwlocks;
   named = opening_shaped.named;
   once = λ t. omega (arith, opening_waits t);
   known = λ t beyond. opening_waits t;
@@ -229,6 +241,10 @@ act_ended readable o t (BarrierWait b) there u = grind arith
 act_ended readable o t (CondWait c m) there u = grind arith
 act_ended readable o t (Signal c) there u = grind arith
 act_ended readable o t (Broadcast c) there u = grind arith
+act_ended readable o t (RdLock r) there u = grind arith
+act_ended readable o t (WrLock r) there u = grind arith
+act_ended readable o t (RwUnlock r) there u = grind arith
+act_ended readable o t (TryWrLock r) there u = grind arith
 
 -- where put appends its bytes it answers how many they are
 pub put_answer-appends : (readable : ℕ → ℕ → Bool) (p n : ℕ) → appends readable p n ≡ true → put_answer readable p n ≡ n

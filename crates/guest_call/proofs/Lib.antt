@@ -9,6 +9,7 @@ pub mod Locality
 pub mod MutexLocal
 pub mod SemaphoreLocal
 pub mod BarrierLocal
+pub mod RwLockLocal
 pub mod ThreadsLocal
 pub mod PairLocal
 pub mod Local
@@ -16,3 +17,4 @@ pub mod ActingExamples
 pub mod SemaphoreExamples
 pub mod BarrierExamples
 pub mod ConditionExamples
+pub mod RwLockExamples

@@ -1,7 +1,7 @@
 -- When a change of the objects is local to those that it names.
 use Rattle.std.proofs.Common.{◌≡◌, Bool, true, false, ◌&&◌, List, [], ◌∷◌, refl, sym, ap, subst, ◌∙◌, true≢false, arith}
 use Rattle.guest_call.specs.declared.Object.{Object}
-use Rattle.guest_call.specs.declared.Object.TheVariants.{Output, ThreadTable, Mutex as MutexOf, Semaphore as SemaphoreOf, Barrier as BarrierOf, Condition as ConditionOf}
+use Rattle.guest_call.specs.declared.Object.TheVariants.{Output, ThreadTable, Mutex as MutexOf, Semaphore as SemaphoreOf, Barrier as BarrierOf, Condition as ConditionOf, RwLock as RwLockOf}
 use Rattle.guest_call.specs.Answers.{answer_einval}
 use Rattle.guest_call.specs.Effect.{Effect, answers}
 use Rattle.guest_call.specs.Tables.{checked}
@@ -89,6 +89,7 @@ same_is (MutexOf k) (MutexOf m) is = ap MutexOf (grind arith)
 same_is (SemaphoreOf k) (SemaphoreOf m) is = ap SemaphoreOf (grind arith)
 same_is (BarrierOf k) (BarrierOf m) is = ap BarrierOf (grind arith)
 same_is (ConditionOf k) (ConditionOf m) is = ap ConditionOf (grind arith)
+same_is (RwLockOf k) (RwLockOf m) is = ap RwLockOf (grind arith)
 same_is _ _ is = absurd (true≢false (sym is))
 
 -- what is among one object is that object

@@ -4,7 +4,7 @@ use Rattle.std.proofs.Common.{◌≡◌, ℕ, ◌<◌, ◌==◌, Bool, true, fal
 use Rattle.std.proofs.lemmas.Bool.{and_parts}
 use Rattle.std.proofs.lemmas.List.{get_or-set_same, get_or-set_other, set-get_or}
 use Rattle.guest_call.specs.declared.Object.{Object}
-use Rattle.guest_call.specs.declared.Object.TheVariants.{Output, ThreadTable, Mutex as MutexOf, Semaphore as SemaphoreOf, Barrier as BarrierOf, Condition as ConditionOf}
+use Rattle.guest_call.specs.declared.Object.TheVariants.{Output, ThreadTable, Mutex as MutexOf, Semaphore as SemaphoreOf, Barrier as BarrierOf, Condition as ConditionOf, RwLock as RwLockOf}
 use Rattle.guest_call.specs.Answers.{answer_einval}
 use Rattle.guest_call.specs.Effect.{Effect, Returns, answers, wakes}
 use Rattle.guest_call.specs.Tables.{checked}
@@ -23,6 +23,7 @@ pair_part c x (MutexOf m) = MutexPart x
 pair_part c x (SemaphoreOf s) = NoPart
 pair_part c x (BarrierOf b) = NoPart
 pair_part c x (ConditionOf d) = ConditionPart c
+pair_part c x (RwLockOf r) = NoPart
 
 -- a row on a condition and a mutex that are there
 pub pair_local :
@@ -60,6 +61,7 @@ pair_local row c m o c_in m_in kept =
     writes_by x kept_x ThreadTable among = absurd (true≢false (sym among))
     writes_by x kept_x (SemaphoreOf s) among = absurd (true≢false (sym among))
     writes_by x kept_x (BarrierOf b) among = absurd (true≢false (sym among))
+    writes_by x kept_x (RwLockOf r) among = absurd (true≢false (sym among))
 
     leaves_by :
         (p : Object) → is_among p (ConditionOf c ∷ MutexOf m ∷ []) ≡ false
@@ -73,6 +75,7 @@ pair_local row c m o c_in m_in kept =
     leaves_by ThreadTable apart = refl
     leaves_by (SemaphoreOf s) apart = refl
     leaves_by (BarrierOf b) apart = refl
+    leaves_by (RwLockOf r) apart = refl
 
 pub cond_wait_local : (t c m : ℕ) (o : Objects) → IsKept o →
     IsLocalBy (λ x. checked (nat_lt c 64 && nat_lt m 64) x (on_pair (cond_wait_row t m) x c m))

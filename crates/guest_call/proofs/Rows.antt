@@ -1,5 +1,6 @@
 -- Each row on one object loses nobody of its queue and doubles nobody.
-use Rattle.std.proofs.Common.{◌≡◌, ℕ, ◌+◌, List, [], ◌∷◌, length, Option, Some, None, arith}
+use Rattle.std.proofs.Common.{◌≡◌, ℕ, ◌+◌, ◌==◌, List, [], ◌∷◌, ◌++◌, length, Option, Some, None, arith}
+use Rattle.std.proofs.lemmas.List.{map-append}
 use Rattle.guest_call.specs.Effect.{Effect}
 use Rattle.guest_call.specs.Queues.{places, entering}
 use Rattle.guest_call.specs.Tables.{IsFair}
@@ -7,7 +8,8 @@ use Rattle.guest_call.specs.Mutexes.{Mutex, mutex_queue, handed_over, lock_row, 
 use Rattle.guest_call.specs.Semaphores.{Semaphore, semaphore_queue, sem_wait_row, sem_trywait_row, sem_post_row, sem_init_row}
 use Rattle.guest_call.specs.Barriers.{Barrier, barrier_queue, barrier_init_row, comes, barrier_wait_row}
 use Rattle.guest_call.specs.Conditions.{Condition, Leaving, cond_wait_row, first_leaves, signal_leaving, broadcast_leaving, admit, admit_each, leave_row}
-use Rattle.guest_call.proofs.Counting.{places-nil, places-cons, places-append, places-push, entering-returns, entering-blocks}
+use Rattle.guest_call.specs.RwLocks.{Waiter, RwLock, threads_of, rwlock_queue, rdlock_row, wrlock_row, trywrlock_row, first_readers, from_first_writer, readers_admitted, writer_admitted, handed_on, let_go, rwunlock_row}
+use Rattle.guest_call.proofs.Counting.{tally, places-nil, places-cons, places-append, places-push, entering-returns, entering-blocks}
 
 pub lock_fair : (t : ℕ) (c : Mutex) → IsFair mutex_queue t c (lock_row t c)
 lock_fair t c u = grind (arith, places-nil, places-push, entering-returns, entering-blocks)
@@ -106,3 +108,49 @@ pub broadcast_leaves :
     (c : Condition) (u : ℕ)
     → places u (broadcast_leaving c).threads + places u (broadcast_leaving c).rest.queue ≡ places u c.queue
 broadcast_leaves c u = omega (arith, places-nil u)
+
+-- one more who waits for a lock
+pub places-awaited :
+    (u : ℕ) (q : List Waiter) (w : Waiter)
+    → places u (threads_of (q ++ w ∷ [])) ≡ places u (threads_of q) + tally (w.thread == u)
+places-awaited u q w = simp map-append (places-push u (threads_of q) w.thread)
+
+pub rdlock_fair : (t : ℕ) (c : RwLock) → IsFair rwlock_queue t c (rdlock_row t c)
+rdlock_fair t c u = grind (arith, places-nil, places-awaited, entering-returns, entering-blocks)
+
+pub wrlock_fair : (t : ℕ) (c : RwLock) → IsFair rwlock_queue t c (wrlock_row t c)
+wrlock_fair t c u = grind (arith, places-nil, places-awaited, entering-returns, entering-blocks)
+
+pub trywrlock_fair : (t : ℕ) (c : RwLock) → IsFair rwlock_queue t c (trywrlock_row t c)
+trywrlock_fair t c u = grind (arith, places-nil, entering-returns)
+
+-- who waits to read before the first who wants to write, and who waits from there on, are all who wait
+pub first_readers_places :
+    (u : ℕ) (q : List Waiter)
+    → places u (first_readers q) + places u (threads_of (from_first_writer q)) ≡ places u (threads_of q)
+first_readers_places u [] = omega (arith, places-nil u)
+first_readers_places u (w ∷ q) = grind (arith, places-nil, places-cons, first_readers_places u q)
+
+pub readers_admitted_places :
+    (u : ℕ) (c : RwLock)
+    → places u (readers_admitted c).0 + places u (rwlock_queue (readers_admitted c).1) ≡ places u (rwlock_queue c)
+readers_admitted_places u c = grind (arith, places-nil, first_readers_places)
+
+pub writer_admitted_places :
+    (u : ℕ) (c : RwLock)
+    → places u (writer_admitted c).0 + places u (rwlock_queue (writer_admitted c).1) ≡ places u (rwlock_queue c)
+writer_admitted_places u c = grind (arith, places-nil, places-cons)
+
+-- who gets a lock that is handed on has waited for it
+pub handed_on_places :
+    (u : ℕ) (c : RwLock) → places u (handed_on c).0 + places u (rwlock_queue (handed_on c).1) ≡ places u (rwlock_queue c)
+handed_on_places u c =
+    omega (
+      arith,
+      readers_admitted_places u c,
+      writer_admitted_places u (readers_admitted c).1,
+      places-append u (readers_admitted c).0 (writer_admitted (readers_admitted c).1).0,
+    )
+
+pub rwunlock_fair : (t : ℕ) (c : RwLock) → IsFair rwlock_queue t c (rwunlock_row t c)
+rwunlock_fair t c u = grind (arith, places-nil, handed_on_places u (let_go t c), entering-returns)

@@ -4,15 +4,16 @@ use Rattle.std.proofs.lemmas.Bool.{and_parts}
 use Rattle.std.proofs.lemmas.List.{length-replicate, length-set}
 use Rattle.std.proofs.lemmas.List.Elements.{All-get_or, All-set, All-replicate}
 use Rattle.guest_call.specs.declared.Call.{Call}
-use Rattle.guest_call.specs.declared.Call.TheVariants.{Exit, Put, Create, ThreadExit, Join, Yield, Lock, TryLock, Unlock, SemWait, SemTryWait, SemPost, SemInit, BarrierInit, BarrierWait, CondWait, Signal, Broadcast}
+use Rattle.guest_call.specs.declared.Call.TheVariants.{Exit, Put, Create, ThreadExit, Join, Yield, Lock, TryLock, Unlock, SemWait, SemTryWait, SemPost, SemInit, BarrierInit, BarrierWait, CondWait, Signal, Broadcast, RdLock, WrLock, RwUnlock, TryWrLock}
 use Rattle.guest_call.specs.Effect.{Effect}
 use Rattle.guest_call.specs.Tables.{at_cell, checked}
 use Rattle.guest_call.specs.Mutexes.{Mutex, unlocked, lock_row, trylock_row, unlock_row}
 use Rattle.guest_call.specs.Semaphores.{Semaphore, unposted, largest_value, sem_wait_row, sem_trywait_row, sem_post_row, sem_init_row}
 use Rattle.guest_call.specs.Barriers.{Barrier, uninitialised, is_count, barrier_init_row, barrier_wait_row}
 use Rattle.guest_call.specs.Conditions.{Condition, Leaving, unawaited, cond_wait_row, first_leaves, signal_leaving, broadcast_leaving, leave_row}
+use Rattle.guest_call.specs.RwLocks.{RwLock, unheld, rdlock_row, wrlock_row, rwunlock_row, trywrlock_row}
 use Rattle.guest_call.specs.Threads.{Member, create_row, thread_exit_row, join_row}
-use Rattle.guest_call.specs.Objects.{Objects, all_unlocked, all_unposted, all_uninitialised, all_unawaited, opening, on_threads, on_mutex, on_semaphore, on_barrier, on_pair, condition_at, mutex_at, leave, act, IsKept}
+use Rattle.guest_call.specs.Objects.{Objects, all_unlocked, all_unposted, all_uninitialised, all_unawaited, all_unheld, opening, on_threads, on_mutex, on_semaphore, on_barrier, on_rwlock, on_pair, condition_at, mutex_at, leave, act, IsKept}
 
 -- the condition's mutex is one of the 64
 abbrev pub IsNamed : Condition → Type 0
@@ -24,6 +25,7 @@ pub record IsShaped (o : Objects) : Type 0 where
   pub all_semaphores : length o.semaphores ≡ 64
   pub all_barriers : length o.barriers ≡ 64
   pub all_conditions : length o.conditions ≡ 64
+  pub all_rwlocks : length o.rwlocks ≡ 64
   pub named : All IsNamed o.conditions
 
 pub kept_shaped : (o : Objects) → IsKept o → IsShaped o
@@ -32,6 +34,7 @@ kept_shaped o kept = record {
   all_semaphores = kept.all_semaphores;
   all_barriers = kept.all_barriers;
   all_conditions = kept.all_conditions;
+  all_rwlocks = kept.all_rwlocks;
   named = kept.named;
 }
 
@@ -48,6 +51,7 @@ on_threads_shaped row o shaped = record {
   all_semaphores = shaped.all_semaphores;
   all_barriers = shaped.all_barriers;
   all_conditions = shaped.all_conditions;
+  all_rwlocks = shaped.all_rwlocks;
   named = shaped.named;
 }
 
@@ -57,6 +61,7 @@ on_mutex_shaped row m o shaped = record {
   all_semaphores = shaped.all_semaphores;
   all_barriers = shaped.all_barriers;
   all_conditions = shaped.all_conditions;
+  all_rwlocks = shaped.all_rwlocks;
   named = shaped.named;
 }
 
@@ -67,6 +72,7 @@ on_semaphore_shaped row s o shaped = record {
   all_semaphores = length-at_cell unposted row o.semaphores s ∙ shaped.all_semaphores;
   all_barriers = shaped.all_barriers;
   all_conditions = shaped.all_conditions;
+  all_rwlocks = shaped.all_rwlocks;
   named = shaped.named;
 }
 
@@ -77,6 +83,18 @@ on_barrier_shaped row b o shaped = record {
   all_semaphores = shaped.all_semaphores;
   all_barriers = length-at_cell uninitialised row o.barriers b ∙ shaped.all_barriers;
   all_conditions = shaped.all_conditions;
+  all_rwlocks = shaped.all_rwlocks;
+  named = shaped.named;
+}
+
+pub on_rwlock_shaped :
+    (row : RwLock → Effect × RwLock) (i : ℕ) (o : Objects) → IsShaped o → IsShaped (on_rwlock row o i).1
+on_rwlock_shaped row i o shaped = record {
+  all_mutexes = shaped.all_mutexes;
+  all_semaphores = shaped.all_semaphores;
+  all_barriers = shaped.all_barriers;
+  all_conditions = shaped.all_conditions;
+  all_rwlocks = length-at_cell unheld row o.rwlocks i ∙ shaped.all_rwlocks;
   named = shaped.named;
 }
 
@@ -92,6 +110,7 @@ on_pair_shaped row c m o named shaped =
       all_semaphores = shaped.all_semaphores;
       all_barriers = shaped.all_barriers;
       all_conditions = length-set o.conditions c r.1 ∙ shaped.all_conditions;
+      all_rwlocks = shaped.all_rwlocks;
       named = All-set IsNamed o.conditions c r.1 named shaped.named;
     }
 
@@ -160,14 +179,19 @@ act_shaped readable o t (CondWait c m) shaped =
 act_shaped readable o t (Signal c) shaped =
     leave_shaped signal_leaving c o (λ x. first_leaves_mutex x.mutex x.queue) shaped
 act_shaped readable o t (Broadcast c) shaped = leave_shaped broadcast_leaving c o (λ x. refl) shaped
+act_shaped readable o t (RdLock r) shaped = on_rwlock_shaped (rdlock_row t) r o shaped
+act_shaped readable o t (WrLock r) shaped = on_rwlock_shaped (wrlock_row t) r o shaped
+act_shaped readable o t (RwUnlock r) shaped = on_rwlock_shaped (rwunlock_row t) r o shaped
+act_shaped readable o t (TryWrLock r) shaped = on_rwlock_shaped (trywrlock_row t) r o shaped
 
 -- the shape of the objects at the start
 pub opening_shaped : IsShaped opening
-unfolding all_unlocked all_unposted all_uninitialised all_unawaited
+unfolding all_unlocked all_unposted all_uninitialised all_unawaited all_unheld
 opening_shaped = record {
   all_mutexes = length-replicate 64 unlocked;
   all_semaphores = length-replicate 64 unposted;
   all_barriers = length-replicate 64 uninitialised;
   all_conditions = length-replicate 64 unawaited;
+  all_rwlocks = length-replicate 64 unheld;
   named = All-replicate IsNamed 64 unawaited (omega arith);
 }

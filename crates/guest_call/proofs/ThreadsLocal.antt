@@ -1,7 +1,7 @@
 -- A row on the table of threads reads and changes nothing but the table.
 use Rattle.std.proofs.Common.{◌≡◌, ℕ, ◌==◌, ◌%◌, Bool, true, false, not, List, [], ◌∷◌, ◌++◌, length, nat_lt, if◌then◌else◌, refl, sym, subst, true≢false}
 use Rattle.guest_call.specs.declared.Object.{Object}
-use Rattle.guest_call.specs.declared.Object.TheVariants.{Output, ThreadTable, Mutex as MutexOf, Semaphore as SemaphoreOf, Barrier as BarrierOf, Condition as ConditionOf}
+use Rattle.guest_call.specs.declared.Object.TheVariants.{Output, ThreadTable, Mutex as MutexOf, Semaphore as SemaphoreOf, Barrier as BarrierOf, Condition as ConditionOf, RwLock as RwLockOf}
 use Rattle.guest_call.specs.Answers.{answer_einval, answer_eagain}
 use Rattle.guest_call.specs.Effect.{Effect, answers}
 use Rattle.guest_call.specs.Threads.{Member, creates, fresh, create_row}
@@ -31,6 +31,7 @@ on_threads_local row o kept =
     leaves_by (SemaphoreOf k) apart = refl
     leaves_by (BarrierOf k) apart = refl
     leaves_by (ConditionOf k) apart = refl
+    leaves_by (RwLockOf k) apart = refl
 
 -- create, which acts on the table of threads unless its pc is refused
 pub create_local :

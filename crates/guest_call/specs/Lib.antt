@@ -8,6 +8,7 @@ pub mod Mutexes
 pub mod Semaphores
 pub mod Barriers
 pub mod Conditions
+pub mod RwLocks
 pub mod Threads
 pub mod Objects
 pub mod Locality

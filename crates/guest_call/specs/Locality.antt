@@ -2,12 +2,13 @@
 use Rattle.std.specs.Prelude.{◌==◌, ◌≡◌, Bool, true, false, List, slice_index_or}
 use Rattle.std.specs.List.{list_any}
 use Rattle.guest_call.specs.declared.Object.{Object}
-use Rattle.guest_call.specs.declared.Object.TheVariants.{Output, ThreadTable, Mutex as MutexOf, Semaphore as SemaphoreOf, Barrier as BarrierOf, Condition as ConditionOf}
+use Rattle.guest_call.specs.declared.Object.TheVariants.{Output, ThreadTable, Mutex as MutexOf, Semaphore as SemaphoreOf, Barrier as BarrierOf, Condition as ConditionOf, RwLock as RwLockOf}
 use Rattle.guest_call.specs.Effect.{Effect}
 use Rattle.guest_call.specs.Mutexes.{Mutex, unlocked}
 use Rattle.guest_call.specs.Semaphores.{Semaphore, unposted}
 use Rattle.guest_call.specs.Barriers.{Barrier, uninitialised}
 use Rattle.guest_call.specs.Conditions.{Condition, unawaited}
+use Rattle.guest_call.specs.RwLocks.{RwLock, unheld}
 use Rattle.guest_call.specs.Threads.{Member}
 use Rattle.guest_call.specs.Objects.{Objects, IsKept}
 
@@ -18,6 +19,7 @@ pub data Part : Type 0 where
   SemaphorePart : Semaphore → Part
   BarrierPart : Barrier → Part
   ConditionPart : Condition → Part
+  RwLockPart : RwLock → Part
   ThreadsPart : List Member → Part
   NoPart : Part
 
@@ -29,6 +31,7 @@ part_of o (MutexOf m) = MutexPart (slice_index_or o.mutexes m unlocked)
 part_of o (SemaphoreOf s) = SemaphorePart (slice_index_or o.semaphores s unposted)
 part_of o (BarrierOf b) = BarrierPart (slice_index_or o.barriers b uninitialised)
 part_of o (ConditionOf c) = ConditionPart (slice_index_or o.conditions c unawaited)
+part_of o (RwLockOf r) = RwLockPart (slice_index_or o.rwlocks r unheld)
 
 -- whether two names are of one object
 abbrev pub same_object : Object → Object → Bool
@@ -38,6 +41,7 @@ same_object (MutexOf k) (MutexOf m) = k == m
 same_object (SemaphoreOf k) (SemaphoreOf s) = k == s
 same_object (BarrierOf k) (BarrierOf b) = k == b
 same_object (ConditionOf k) (ConditionOf c) = k == c
+same_object (RwLockOf k) (RwLockOf r) = k == r
 same_object _ _ = false
 
 -- whether an object is among some

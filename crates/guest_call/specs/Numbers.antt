@@ -1,7 +1,7 @@
 -- The table of environment calls: which number in a7 is which call, and which of a0 and a1 it reads.
 use Rattle.std.specs.Prelude.{ℕ, List, [], ◌∷◌, Option, option_map, find, ◌==◌}
 use Rattle.guest_call.specs.declared.Call.{Call}
-use Rattle.guest_call.specs.declared.Call.TheVariants.{Exit, Put, Create, ThreadExit, Join, Yield, Lock, TryLock, Unlock, SemWait, SemTryWait, SemPost, SemInit, BarrierInit, BarrierWait, CondWait, Signal, Broadcast}
+use Rattle.guest_call.specs.declared.Call.TheVariants.{Exit, Put, Create, ThreadExit, Join, Yield, Lock, TryLock, Unlock, SemWait, SemTryWait, SemPost, SemInit, BarrierInit, BarrierWait, CondWait, Signal, Broadcast, RdLock, WrLock, RwUnlock, TryWrLock}
 
 -- one line of the table: a number, and the call that it makes of a0 and a1
 pub record Numbered : Type 0 where
@@ -29,7 +29,11 @@ call_table =
     ∷ (record { number = 15; call = λ a0 a1. CondWait a0 a1 }
     ∷ (record { number = 16; call = λ a0 a1. Signal a0 }
     ∷ (record { number = 17; call = λ a0 a1. Broadcast a0 }
-    ∷ [])))))))))))))))))
+    ∷ (record { number = 18; call = λ a0 a1. RdLock a0 }
+    ∷ (record { number = 19; call = λ a0 a1. WrLock a0 }
+    ∷ (record { number = 20; call = λ a0 a1. RwUnlock a0 }
+    ∷ (record { number = 21; call = λ a0 a1. TryWrLock a0 }
+    ∷ [])))))))))))))))))))))
 
 -- the call that a7, a0 and a1 make, or None where the table has no such number: a bad call
 abbrev pub call_of : ℕ → ℕ → ℕ → Option Call

@@ -3,7 +3,7 @@ use Rattle.std.specs.Prelude.{ℕ, ◌+◌, ◌^◌, ◌%◌, ◌==◌, ◌≡�
 use Rattle.guest_call.specs.declared.TheConstants.{OBJECTS}
 use Rattle.guest_call.specs.declared.thread_number.TheConstants.{THREADS}
 use Rattle.guest_call.specs.declared.Call.{Call}
-use Rattle.guest_call.specs.declared.Call.TheVariants.{Exit, Put, Create, ThreadExit, Join, Yield, Lock, TryLock, Unlock, SemWait, SemTryWait, SemPost, SemInit, BarrierInit, BarrierWait, CondWait, Signal, Broadcast}
+use Rattle.guest_call.specs.declared.Call.TheVariants.{Exit, Put, Create, ThreadExit, Join, Yield, Lock, TryLock, Unlock, SemWait, SemTryWait, SemPost, SemInit, BarrierInit, BarrierWait, CondWait, Signal, Broadcast, RdLock, WrLock, RwUnlock, TryWrLock}
 use Rattle.guest_call.specs.declared.Object.{Object}
 use Rattle.guest_call.specs.declared.Object.TheVariants as object
 use Rattle.guest_call.specs.Answers.{answer_einval, answer_efault}
@@ -14,6 +14,7 @@ use Rattle.guest_call.specs.Mutexes.{Mutex, unlocked, mutex_queue, lock_row, try
 use Rattle.guest_call.specs.Semaphores.{Semaphore, unposted, semaphore_queue, largest_value, sem_wait_row, sem_trywait_row, sem_post_row, sem_init_row}
 use Rattle.guest_call.specs.Barriers.{Barrier, uninitialised, barrier_queue, is_count, barrier_init_row, barrier_wait_row}
 use Rattle.guest_call.specs.Conditions.{Condition, Leaving, unawaited, condition_queue, cond_wait_row, signal_leaving, broadcast_leaving, leave_row}
+use Rattle.guest_call.specs.RwLocks.{RwLock, unheld, rwlock_queue, rdlock_row, wrlock_row, rwunlock_row, trywrlock_row}
 use Rattle.guest_call.specs.Threads.{Member, fresh, member_queue, member_at, create_row, thread_exit_row, join_row}
 
 -- the threads and the objects of each kind
@@ -23,6 +24,7 @@ pub record Objects : Type 0 where
   pub semaphores : List Semaphore
   pub barriers : List Barrier
   pub conditions : List Condition
+  pub rwlocks : List RwLock
 
 -- 64 free mutexes
 unfoldable pub all_unlocked : List Mutex
@@ -40,6 +42,10 @@ all_uninitialised = replicate OBJECTS uninitialised
 unfoldable pub all_unawaited : List Condition
 all_unawaited = replicate OBJECTS unawaited
 
+-- 64 reader-writer locks that nobody holds
+unfoldable pub all_unheld : List RwLock
+all_unheld = replicate OBJECTS unheld
+
 -- the objects at the start: thread 0 alone exists, and nothing is in use
 abbrev pub opening : Objects
 opening =
@@ -49,6 +55,7 @@ opening =
       semaphores = all_unposted;
       barriers = all_uninitialised;
       conditions = all_unawaited;
+      rwlocks = all_unheld;
     }
 
 -- a row done on the table of threads
@@ -66,6 +73,10 @@ on_semaphore row o s = let r = at_cell unposted row o.semaphores s in (r.0, reco
 -- a row done on the barrier of number b
 abbrev pub on_barrier : (Barrier → Effect × Barrier) → Objects → ℕ → Effect × Objects
 on_barrier row o b = let r = at_cell uninitialised row o.barriers b in (r.0, record o { barriers = r.1 })
+
+-- a row done on the reader-writer lock of number i
+abbrev pub on_rwlock : (RwLock → Effect × RwLock) → Objects → ℕ → Effect × Objects
+on_rwlock row o i = let r = at_cell unheld row o.rwlocks i in (r.0, record o { rwlocks = r.1 })
 
 -- the condition of number c
 abbrev pub condition_at : Objects → ℕ → Condition
@@ -122,6 +133,10 @@ act readable o t (BarrierWait b) = on_barrier (barrier_wait_row t) o b
 act readable o t (CondWait c m) = checked (nat_lt c OBJECTS && nat_lt m OBJECTS) o (on_pair (cond_wait_row t m) o c m)
 act readable o t (Signal c) = leave signal_leaving o c
 act readable o t (Broadcast c) = leave broadcast_leaving o c
+act readable o t (RdLock r) = on_rwlock (rdlock_row t) o r
+act readable o t (WrLock r) = on_rwlock (wrlock_row t) o r
+act readable o t (RwUnlock r) = on_rwlock (rwunlock_row t) o r
+act readable o t (TryWrLock r) = on_rwlock (trywrlock_row t) o r
 
 -- the object where a test holds, and else none
 abbrev pub one_of : Bool → Object → List Object
@@ -158,6 +173,10 @@ acts_on readable o (CondWait c m) =
     if nat_lt c OBJECTS && nat_lt m OBJECTS then object.Condition c ∷ object.Mutex m ∷ [] else []
 acts_on readable o (Signal c) = leave_objects o c
 acts_on readable o (Broadcast c) = leave_objects o c
+acts_on readable o (RdLock r) = one_of (nat_lt r OBJECTS) (object.RwLock r)
+acts_on readable o (WrLock r) = one_of (nat_lt r OBJECTS) (object.RwLock r)
+acts_on readable o (RwUnlock r) = one_of (nat_lt r OBJECTS) (object.RwLock r)
+acts_on readable o (TryWrLock r) = one_of (nat_lt r OBJECTS) (object.RwLock r)
 
 -- in how many places thread t waits
 abbrev pub waits_at : Objects → ℕ → ℕ
@@ -165,6 +184,7 @@ waits_at o t =
     waits member_queue o.threads t + waits mutex_queue o.mutexes t + waits semaphore_queue o.semaphores t
     + waits barrier_queue o.barriers t
     + waits condition_queue o.conditions t
+    + waits rwlock_queue o.rwlocks t
 
 -- the value with which thread u has ended, if it has (POSIX.1-2017, pthread_exit)
 abbrev pub ended_at : Objects → ℕ → Option ℕ
@@ -179,6 +199,7 @@ pub record IsKept (o : Objects) : Type 0 where
   pub all_semaphores : length o.semaphores ≡ OBJECTS
   pub all_barriers : length o.barriers ≡ OBJECTS
   pub all_conditions : length o.conditions ≡ OBJECTS
+  pub all_rwlocks : length o.rwlocks ≡ OBJECTS
   pub named : All (λ (c : Condition). c.mutex < OBJECTS) o.conditions
   pub once : (t : ℕ) → waits_at o t ≤ 1
   pub known : (t : ℕ) → length o.threads ≤ t → waits_at o t ≡ 0

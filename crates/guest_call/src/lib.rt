@@ -76,11 +76,19 @@ pub enum Call {
     Signal(u32),
     /// 17, `broadcast(condition)`: as `pthread_cond_broadcast`, in the order in which they came.
     Broadcast(u32),
+    /// 18, `rdlock(lock)`: as `pthread_rwlock_rdlock`, behind all who wait; a thread has one read lock of it at most.
+    RdLock(u32),
+    /// 19, `wrlock(lock)`: as `pthread_rwlock_wrlock`.
+    WrLock(u32),
+    /// 20, `rwunlock(lock)`: as `pthread_rwlock_unlock`, by who holds the lock.
+    RwUnlock(u32),
+    /// 21, `trywrlock(lock)`: as `pthread_rwlock_trywrlock`.
+    TryWrLock(u32),
 }
 
 impl Call {
-    /// The call that an ECALL makes with this number in a7 and these words in a0 and a1. None where no call
-    /// has the number: a bad call, which is a trap of the guest.
+    /// The call that an ECALL makes with this number in a7 and these words in a0 and a1. None exactly where the number
+    /// is above 21: a bad call, which is a trap of the guest.
     pub fn of(a7: u32, a0: u32, a1: u32) -> Option<Call>
         ensures { result ≡ call_of a7 a0 a1 }
     {
@@ -103,6 +111,10 @@ impl Call {
             15 => Some(Call::CondWait(a0, a1)),
             16 => Some(Call::Signal(a0)),
             17 => Some(Call::Broadcast(a0)),
+            18 => Some(Call::RdLock(a0)),
+            19 => Some(Call::WrLock(a0)),
+            20 => Some(Call::RwUnlock(a0)),
+            21 => Some(Call::TryWrLock(a0)),
             _ => None,
         }
     }
@@ -123,6 +135,8 @@ pub enum Object {
     Barrier(u32),
     /// The condition of this number.
     Condition(u32),
+    /// The reader-writer lock of this number.
+    RwLock(u32),
 }
 
 /// What becomes of the thread that makes a call.

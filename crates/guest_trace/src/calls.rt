@@ -29,6 +29,10 @@ impl fmt::Display for Named {
             Call::CondWait(condition, mutex) => write!(f, "cond_wait({condition}, {mutex})"),
             Call::Signal(condition) => write!(f, "signal({condition})"),
             Call::Broadcast(condition) => write!(f, "broadcast({condition})"),
+            Call::RdLock(lock) => write!(f, "rdlock({lock})"),
+            Call::WrLock(lock) => write!(f, "wrlock({lock})"),
+            Call::RwUnlock(lock) => write!(f, "rwunlock({lock})"),
+            Call::TryWrLock(lock) => write!(f, "trywrlock({lock})"),
         }
     }
 }

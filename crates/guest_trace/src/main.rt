@@ -1,8 +1,9 @@
 //! Runs a guest under a schedule, and says what each step does: as `strace` does of a process, for a run of threads.
 //!
-//! Its words are `ELF INPUT SCHEDULE`. SCHEDULE is a file of thread numbers from 0 to 31 between spaces and newlines;
-//! each may have a mark `=` or `+` behind it, and the word `schedule` may stand before them all, so that a report's
-//! line can be taken as it is. The guest is run from scratch, with the limits that `ithreads run` has by itself.
+//! Its words are `ELF INPUT SCHEDULE`, and behind them `--fuel F` and `--steps S`. SCHEDULE is a file of thread numbers
+//! from 0 to 31 between spaces and newlines; each may have a mark `=` or `+` behind it, and the word `schedule` may
+//! stand before them all, so that a report's line can be taken as it is. The guest is run from scratch, with these
+//! limits or those that `ithreads run` has by itself.
 //!
 //! It prints a line for each step: its place in the schedule, the thread, which step of the thread it is, how many
 //! instructions it made, the call that ended it with its arguments, and what came of it: the answer, or that the thread
@@ -75,17 +76,45 @@ struct Asked {
     schedule: Vec<u8>,
 }
 
-/// Reads what the words name. They are the program's name and three more.
+/// The fuel and the step limit after the option at a place: those of before, if no words stand there.
+fn after_option(words: &[String], place: usize, fuel: u32, steps: u32) -> Option<(u32, u32)> {
+    if words.len() <= place {
+        return Some((fuel, steps));
+    }
+    if words.len() == place + 1 {
+        return None;
+    }
+    let Ok(number) = u32::from_str_radix(words[place + 1].as_str(), 10) else {
+        return None;
+    };
+    match words[place].as_str() {
+        "--fuel" => Some((number, steps)),
+        "--steps" => Some((fuel, number)),
+        _ => None,
+    }
+}
+
+/// The limits that the words behind the three names ask for.
+fn limits_of(words: &[String]) -> Option<Limits> {
+    if words.len() > 8 {
+        return None;
+    }
+    let (fuel, steps) = after_option(words, 4, FUEL, STEPS)?;
+    let (fuel, steps) = after_option(words, 6, fuel, steps)?;
+    Limits::new(fuel, steps)
+}
+
+/// Reads what the words name. They are the program's name and three more, and then options.
 fn wanted<H: Host>(alloc: Global, host: &mut H, words: &[String]) -> Result<Asked, Refusal> {
-    if words.len() != 4 {
+    if words.len() < 4 {
         return Err(Refusal::Words);
     }
+    let Some(limits) = limits_of(words) else {
+        return Err(Refusal::Words);
+    };
     let elf = read_file(alloc, host, words, 1, MOST_ELF_BYTES as u64)?;
     let input = read_file(alloc, host, words, 2, MOST_INPUT_BYTES as u64)?;
     let text = read_file(alloc, host, words, 3, MOST_SCHEDULE_BYTES as u64)?;
-    let Some(limits) = Limits::new(FUEL, STEPS) else {
-        return Err(Refusal::Words);
-    };
     let setup = match Setup::new(alloc, elf, input, limits) {
         Ok(setup) => setup,
         Err(LoadError::Refused(why)) => return Err(Refusal::Image(why)),

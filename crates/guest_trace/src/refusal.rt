@@ -23,7 +23,7 @@ pub enum Why {
 /// Why a run isn't traced to its end.
 #[derive(Debug, PartialEq, Eq, Clone, Copy)]
 pub enum Refusal {
-    /// The words aren't three names.
+    /// The words aren't three names, with options behind them.
     Words,
     /// The file that this word names can't be read.
     Unread(usize),
@@ -108,7 +108,9 @@ impl Refusal {
     /// Says it on standard error, in one line, and gives the exit status.
     pub fn told<R: Eprint>(self, rt: &R, words: &[String]) -> ExitCode {
         let _ = match self {
-            Refusal::Words => eprintln!(rt; "words: ELF INPUT SCHEDULE are wanted"),
+            Refusal::Words => eprintln!(rt;
+                "words: ELF INPUT SCHEDULE are wanted, and then --fuel F or --steps S"
+            ),
             Refusal::Unread(place) => eprintln!(rt; "read {}", word_at(words, place)),
             Refusal::TooLarge(place) => eprintln!(rt; "too large {}", word_at(words, place)),
             Refusal::Image(why) => eprintln!(rt; "image: {why:?}"),

@@ -4,7 +4,7 @@ use crate::calls::{Answer, Named, cause_name};
 use crate::refusal::{Refusal, Why};
 use crate::waits::{Wait, Waits};
 use call_effect::Effect;
-use guest_call::Fate;
+use guest_call::{Fate, THREADS};
 use machine_spec::{Asked, End, Status};
 use plain_machine::{Made, PlainMachine};
 use release_core::Setup;
@@ -14,18 +14,32 @@ use std::io::Write;
 use std::sync::ledger::Ledger;
 use turn_count::Turns;
 
+/// Writes who holds a reader-writer lock.
+fn write_holders<W: Write>(out: &mut W, waits: &Waits, lock: u32) -> io::Result<()> {
+    let mut before = ", held by";
+    for thread in 0..THREADS as u8 {
+        if waits.holds(lock, thread) {
+            write!(out, "{before} thread {thread}")?;
+            before = " and";
+        }
+    }
+    Ok(())
+}
+
 /// Writes what a thread waits for, and who holds it.
 fn write_wait<W: Write>(out: &mut W, waits: &Waits, thread: u8) -> io::Result<()> {
     let Some(wait) = waits.wait_of(thread) else {
         return Ok(());
     };
     write!(out, "waits for {wait}")?;
-    if let Wait::Mutex(mutex) = wait {
-        if let Some(owner) = waits.owner(mutex) {
-            write!(out, ", held by thread {owner}")?;
-        }
+    match wait {
+        Wait::Mutex(mutex) => match waits.owner(mutex) {
+            Some(owner) => write!(out, ", held by thread {owner}"),
+            None => Ok(()),
+        },
+        Wait::Read(lock) | Wait::Write(lock) => write_holders(out, waits, lock),
+        _ => Ok(()),
     }
-    Ok(())
 }
 
 /// Writes what became of the caller.

@@ -1,4 +1,4 @@
-//! Who owns which mutex, and who waits for what, as the calls so far tell.
+//! Who holds which mutex and which reader-writer lock, and who waits for what, as the calls so far tell.
 
 use call_effect::Effect;
 use guest_call::{Call, Fate, OBJECTS, THREADS};
@@ -17,6 +17,10 @@ pub enum Wait {
     Condition(u32, u32, u32),
     /// That a thread ends.
     Thread(u32),
+    /// That it may read under a reader-writer lock.
+    Read(u32),
+    /// That it gets a reader-writer lock to write.
+    Write(u32),
 }
 
 impl fmt::Display for Wait {
@@ -29,23 +33,30 @@ impl fmt::Display for Wait {
                 write!(f, "condition {condition}, with mutex {mutex}")
             }
             Wait::Thread(thread) => write!(f, "the end of thread {thread}"),
+            Wait::Read(lock) => write!(f, "rwlock {lock} to read"),
+            Wait::Write(lock) => write!(f, "rwlock {lock} to write"),
         }
     }
 }
 
-/// Who owns each mutex, and what each thread waits for.
+/// Which threads hold a reader-writer lock, by their numbers.
+type Holders = [bool; THREADS];
+
+/// Who owns each mutex and who holds each reader-writer lock, and what each thread waits for.
 #[derive(Drop)]
 pub struct Waits {
     owners: [Option<u8>; OBJECTS],
+    holders: [Holders; OBJECTS],
     waits: [Option<Wait>; THREADS],
     begun: u32,
 }
 
 impl Waits {
-    /// Nobody owns a mutex, and nobody waits.
+    /// Nobody owns a mutex or holds a lock, and nobody waits.
     pub fn none() -> Waits {
         Waits {
             owners: [None; OBJECTS],
+            holders: [[false; THREADS]; OBJECTS],
             waits: [None; THREADS],
             begun: 0,
         }
@@ -76,6 +87,20 @@ impl Waits {
         let place = mutex as usize;
         if place < OBJECTS {
             self.owners[place] = owner;
+        }
+    }
+
+    /// Whether a thread holds a reader-writer lock.
+    pub fn holds(&self, lock: u32, thread: u8) -> bool {
+        let (place, holder) = (lock as usize, usize::from(thread));
+        place < OBJECTS && holder < THREADS && self.holders[place][holder]
+    }
+
+    /// A thread holds a reader-writer lock from now on, or no longer.
+    fn set_holder(&mut self, lock: u32, thread: u8, holds: bool) {
+        let (place, holder) = (lock as usize, usize::from(thread));
+        if place < OBJECTS && holder < THREADS {
+            self.holders[place][holder] = holds;
         }
     }
 
@@ -130,6 +155,8 @@ impl Waits {
             Call::SemWait(semaphore) => Some(Wait::Semaphore(semaphore)),
             Call::BarrierWait(barrier) => Some(Wait::Barrier(barrier)),
             Call::Join(thread) => Some(Wait::Thread(thread)),
+            Call::RdLock(lock) => Some(Wait::Read(lock)),
+            Call::WrLock(lock) => Some(Wait::Write(lock)),
             Call::CondWait(condition, mutex) => {
                 self.set_owner(mutex, None);
                 let begun = self.begun;
@@ -147,14 +174,20 @@ impl Waits {
             Call::Unlock(mutex) => self.set_owner(mutex, None),
             Call::Signal(condition) => self.signal(condition),
             Call::Broadcast(condition) => self.broadcast(condition),
+            Call::RdLock(lock) | Call::WrLock(lock) | Call::TryWrLock(lock) => {
+                self.set_holder(lock, thread, true)
+            }
+            Call::RwUnlock(lock) => self.set_holder(lock, thread, false),
             _ => {}
         }
     }
 
-    /// A thread is woken: the mutex that it waited for is its own now.
+    /// A thread is woken: the mutex that it waited for is its own now, or it holds the lock.
     fn wake(&mut self, thread: u8) {
-        if let Some(Wait::Mutex(mutex)) = self.wait_of(thread) {
-            self.set_owner(mutex, Some(thread));
+        match self.wait_of(thread) {
+            Some(Wait::Mutex(mutex)) => self.set_owner(mutex, Some(thread)),
+            Some(Wait::Read(lock) | Wait::Write(lock)) => self.set_holder(lock, thread, true),
+            _ => {}
         }
         self.set_wait(thread, None);
     }

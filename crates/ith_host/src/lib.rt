@@ -9,11 +9,10 @@ mod gate;
 mod host;
 mod memory;
 mod system;
-#[cfg(test)]
-mod tests;
 mod transfer;
 
 pub use gate::{Gate, OpenGate};
 pub use host::{Got, Host, Printed, Put};
 pub use memory::MemHost;
 pub use system::OsHost;
+pub use transfer::{Watched, read_to_limit, write_to_end};

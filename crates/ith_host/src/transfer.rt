@@ -14,14 +14,14 @@ const PIECE: usize = 4096;
 
 /// A source or a sink whose errors are counted.
 #[derive(Drop)]
-pub(crate) struct Watched<S> {
+pub struct Watched<S> {
     inner: S,
     faults: u64,
 }
 
 impl<S> Watched<S> {
     /// Counts the errors of a source or a sink on from this number.
-    pub(crate) fn new(inner: S, faults: u64) -> Self
+    pub fn new(inner: S, faults: u64) -> Self
         ensures inner { result.inner ≡ inner }
         ensures faults { result.faults ≡ faults }
     {
@@ -29,7 +29,7 @@ impl<S> Watched<S> {
     }
 
     /// How many errors there were, from the number on that it began with.
-    pub(crate) fn faults(&self) -> u64
+    pub fn faults(&self) -> u64
         ensures { result ≡ self.now.faults }
     {
         self.faults
@@ -75,7 +75,7 @@ impl<S: Write> Watched<S> {
 /// A source that gives nothing is at its end, and any error of it ends the call as `Failed`, which no other cause
 /// does. At most `limit + 1` bytes are taken: then the answer is `TooLong`. After any answer but `Ok` the vector is
 /// empty.
-pub(crate) fn read_to_limit<S: Read>(source: &mut Watched<S>, limit: u64, into: &mut Vec<u8>) -> Got
+pub fn read_to_limit<S: Read>(source: &mut Watched<S>, limit: u64, into: &mut Vec<u8>) -> Got
     requires { into.old.items ≡ [] }
     ensures all { result ≡ Got.Ok → IfSome (S.remaining source.old.inner) (λ content. content ≡ into.new.items) }
     ensures within { result ≡ Got.Ok → length into.new.items ≤ limit }
@@ -129,7 +129,7 @@ fn room_for(limit: u64, taken: usize) -> usize
 ///
 /// It didn't only where an error of the sink ended the call, or where the sink took nothing of a piece that isn't
 /// empty, which counts as one.
-pub(crate) fn write_to_end<S: Write>(sink: &mut Watched<S>, bytes: &[u8]) -> bool
+pub fn write_to_end<S: Write>(sink: &mut Watched<S>, bytes: &[u8]) -> bool
     ensures all { result ≡ true → Appends (S.contents sink.old.inner) (S.contents sink.new.inner) bytes.now }
     ensures failed { result ≡ false → Rose sink.old.faults sink.new.faults }
     ensures quiet { result ≡ true → sink.new.faults ≡ sink.old.faults }

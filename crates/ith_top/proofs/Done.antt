@@ -70,16 +70,17 @@ kept_after name content a b c bytes stays keeps =
 
 -- all rounds were made, and the memo of what the last one leaves was written, where it has a name
 pub carried_out :
-    (name : Option Text) (workers : ℕ) (p : Plan) (a b : World) (exits : Bool) (left : History)
-    (played : IsPlayed workers p a b exits left) (c : World)
+    (name : Option Text) (workers : ℕ) (p : Plan) (a b : World) (earlier later : ℕ) (exits : Bool) (left : History)
+    (played : IsPlayed workers p a b earlier later exits left) (c : World)
     → PrintsAndKeeps name (memo left) a c (concat (texts_of p played.found))
     → IsKeptWithin name (memo left)
-    → IsCarriedOut name workers p a c exits
-carried_out name workers p a b exits left played c keeps within =
+    → IsCarriedOut name workers p a c earlier later exits
+carried_out name workers p a b earlier later exits left played c keeps within =
     record {
       found = played.found;
       made = played.made;
       all = played.all;
+      rounds = played.rounds;
       keeps = subst (λ (h : History). PrintsAndKeeps name (memo h) a c (concat (texts_of p played.found)))
           played.is_left keeps;
       within = subst (λ (h : History). IsKeptWithin name (memo h)) played.is_left within;
@@ -88,32 +89,35 @@ carried_out name workers p a b exits left played c keeps within =
 
 -- and it was
 pub carried_and_kept :
-    (name : Text) (workers : ℕ) (p : Plan) (a b c : World) (exits : Bool) (left : History)
-    → IsPlayed workers p a b exits left → Keeps name (memo left) b c → IsKeptWithin (Some name) (memo left)
-    → IsCarriedOut (Some name) workers p a c exits
-carried_and_kept name workers p a b c exits left played keeps within =
-    carried_out (Some name) workers p a b exits left played c
+    (name : Text) (workers : ℕ) (p : Plan) (a b c : World) (earlier later : ℕ) (exits : Bool) (left : History)
+    → IsPlayed workers p a b earlier later exits left → Keeps name (memo left) b c
+    → IsKeptWithin (Some name) (memo left)
+    → IsCarriedOut (Some name) workers p a c earlier later exits
+carried_and_kept name workers p a b c earlier later exits left played keeps within =
+    carried_out (Some name) workers p a b earlier later exits left played c
     (printed_and_kept name (memo left) a b c (concat (texts_of p played.found)) played.prints keeps) within
 
 -- and none was asked for
 pub carried_alone :
-    (workers : ℕ) (p : Plan) (a b : World) (exits : Bool) (left : History)
-    → IsPlayed workers p a b exits left → IsCarriedOut None workers p a b exits
-carried_alone workers p a b exits left played =
-    carried_out None workers p a b exits left played b
+    (workers : ℕ) (p : Plan) (a b : World) (earlier later : ℕ) (exits : Bool) (left : History)
+    → IsPlayed workers p a b earlier later exits left → IsCarriedOut None workers p a b earlier later exits
+carried_alone workers p a b earlier later exits left played =
+    carried_out None workers p a b earlier later exits left played b
     (printed_alone (memo left) a b (concat (texts_of p played.found)) played.prints) tt
 
 -- and it wasn't
 pub carried_unkept :
-    (name : Text) (workers : ℕ) (p : Plan) (a b c : World) (exits : Bool) (left : History) (why : Status)
-    → IsPlayed workers p a b exits left → NoneFell a b → WhyUnkept name (memo left) b c why
-    → WhyUndone (Some name) workers p a c why
-carried_unkept name workers p a b c exits left why played counts cause =
+    (name : Text) (workers : ℕ) (p : Plan) (a b c : World) (earlier later : ℕ) (exits : Bool) (left : History)
+    (why : Status)
+    → IsPlayed workers p a b earlier later exits left → NoneFell a b → WhyUnkept name (memo left) b c why
+    → WhyUndone (Some name) workers p a c earlier later why
+carried_unkept name workers p a b c earlier later exits left why played counts cause =
     inr
     (record {
       found = played.found;
       made = played.made;
       all = played.all;
+      rounds = played.rounds;
       between = b;
       counts = counts;
       prints = played.prints;
@@ -123,12 +127,12 @@ carried_unkept name workers p a b c exits left why played counts cause =
     })
 
 done_by :
-    (line : Line) (a b c : World) (p : Plan) (exits : Bool)
+    (line : Line) (a b c : World) (p : Plan) (earlier later : ℕ) (exits : Bool)
     → IsPlan line a p → CanBePlayed p → CanBeSpelled p → AsksForFiles (files_named line) a b → AsksNothing b c
     → Stays a b
-    → IsCarriedOut (kept_by line) (workers_of line) p b c exits → IsDone line exits a c
+    → IsCarriedOut (kept_by line) (workers_of line) p b c earlier later exits → IsDone line exits a c
 unfolding rounds_in
-done_by line a b c p exits is playable spelled asked none stays done =
+done_by line a b c p earlier later exits is playable spelled asked none stays done =
     record {
       asked = none ∙ asked;
       has = rounds_in line a p done.found is playable spelled done.made;
@@ -141,25 +145,25 @@ done_by line a b c p exits is playable spelled asked none stays done =
 
 -- all was done, and each round ended by exit
 pub finished :
-    (line : Line) (a b c : World) (p : Plan) (exits : Bool)
+    (line : Line) (a b c : World) (p : Plan) (earlier later : ℕ) (exits : Bool)
     → IsPlan line a p → CanBePlayed p → CanBeSpelled p → AsksForFiles (files_named line) a b → AsksNothing b c
     → Stays a b
-    → IsCarriedOut (kept_by line) (workers_of line) p b c exits
+    → IsCarriedOut (kept_by line) (workers_of line) p b c earlier later exits
     → exits ≡ true → RoundsEnd line a c status.Finished
-finished line a b c p exits is playable spelled asked none stays done ends =
-    done_by line a b c p true is playable spelled asked none stays
-    (subst (IsCarriedOut (kept_by line) (workers_of line) p b c) ends done)
+finished line a b c p earlier later exits is playable spelled asked none stays done ends =
+    done_by line a b c p earlier later true is playable spelled asked none stays
+    (subst (IsCarriedOut (kept_by line) (workers_of line) p b c earlier later) ends done)
 
 -- all was done, and some round ended otherwise
 pub unfinished :
-    (line : Line) (a b c : World) (p : Plan) (exits : Bool)
+    (line : Line) (a b c : World) (p : Plan) (earlier later : ℕ) (exits : Bool)
     → IsPlan line a p → CanBePlayed p → CanBeSpelled p → AsksForFiles (files_named line) a b → AsksNothing b c
     → Stays a b
-    → IsCarriedOut (kept_by line) (workers_of line) p b c exits
+    → IsCarriedOut (kept_by line) (workers_of line) p b c earlier later exits
     → exits ≡ false → RoundsEnd line a c status.Unfinished
-unfinished line a b c p exits is playable spelled asked none stays done ends =
-    done_by line a b c p false is playable spelled asked none stays
-    (subst (IsCarriedOut (kept_by line) (workers_of line) p b c) ends done)
+unfinished line a b c p earlier later exits is playable spelled asked none stays done ends =
+    done_by line a b c p earlier later false is playable spelled asked none stays
+    (subst (IsCarriedOut (kept_by line) (workers_of line) p b c earlier later) ends done)
 
 -- not all rounds were made and printed
 cut_short :
@@ -259,11 +263,11 @@ unkept line a b m c p found name status.Schedule _ _ _ _ _ _ _ _ _ _ _ _ cause =
 
 -- not all was done
 pub undone :
-    (line : Line) (a b c : World) (p : Plan) (why : Status)
+    (line : Line) (a b c : World) (p : Plan) (earlier later : ℕ) (why : Status)
     → IsPlan line a p → CanBePlayed p → CanBeSpelled p → AsksForFiles (files_named line) a b → AsksNothing b c
     → Stays a b → NoneFell a b
-    → WhyUndone (kept_by line) (workers_of line) p b c why → RoundsEnd line a c why
-undone line a b c p why is playable spelled asked none stays fell cause =
+    → WhyUndone (kept_by line) (workers_of line) p b c earlier later why → RoundsEnd line a c why
+undone line a b c p earlier later why is playable spelled asked none stays fell cause =
     elim cause [
       | inl short ↦ cut_short line a b c p short.found why is playable spelled asked none stays fell short.made
           short.why

@@ -1,5 +1,5 @@
 -- How a line that tells why steps were executed ends.
-use Rattle.std.proofs.Common.{◌≡◌, ℕ, false, List, [], ◌∷◌, Option, Some, None, map, refl, sym, ap, subst, ◌∙◌}
+use Rattle.std.proofs.Common.{◌≡◌, ℕ, false, List, [], ◌∷◌, Option, map, refl, sym, ap, subst, ◌∙◌}
 use Rattle.std.proofs.lemmas.List.{append-nil}
 use Rattle.machine_spec.specs.Setup.{Setup}
 use Rattle.history_spec.specs.History.{History, IsSound}
@@ -18,8 +18,8 @@ use Rattle.ith_top.specs.declared.status.Status.TheVariants as status
 use Rattle.ith_top.specs.Files.{files_named, AsksForFiles}
 use Rattle.ith_top.specs.Contents.{Plan, AreLists, IsPlan, as_rerun}
 use Rattle.ith_top.specs.Rounds.{BeginsHonestly}
-use Rattle.ith_top.specs.Explaining.{explained_round, why_of, AreTheReasons}
-use Rattle.ith_top.specs.Ends.{Prints, HasReasons, ExplainEnds, IsUnbegun}
+use Rattle.ith_top.specs.Explaining.{explained_round, why_of}
+use Rattle.ith_top.specs.Ends.{Prints, HasReasons, ExplainEnds}
 use Rattle.ith_top.specs.Refusals.{WhyUnplanned, WhyUnprinted}
 use Rattle.ith_top.specs.Playing.{TellsReasons}
 use Rattle.ith_top.proofs.Worlds.{stays_trans, rose_before}

@@ -1,9 +1,9 @@
 -- How a line that runs the generated guest ends, from how its parts did.
-use Rattle.std.proofs.Common.{◌≡◌, ◌+◌, ◌<◌, ◌≤◌, ◌^◌, ℕ, Bool, true, false, ◌&&◌, List, [], ◌∷◌, ◌++◌, length, map, Option, Some, None, refl, sym, ap, subst, ◌∙◌, append_assoc, arith}
+use Rattle.std.proofs.Common.{◌≡◌, ◌+◌, ◌≤◌, ℕ, Bool, true, false, ◌&&◌, List, [], ◌∷◌, ◌++◌, length, map, Some, None, refl, sym, ap, subst, ◌∙◌, append_assoc, arith}
 use Rattle.std.specs.Prelude.{All, if◌then◌else◌, codes, decimal, Ok, Err}
 use Rattle.std.specs.List.{AllByRecursion, concat, list_all}
 use Rattle.std.proofs.lemmas.List.{append-nil}
-use Rattle.std.proofs.lemmas.List.Elements.{All-from_recursion, recursion_from_All}
+use Rattle.std.proofs.lemmas.List.Elements.{All-from_recursion}
 use Rattle.machine_spec.specs.declared.TheConstants.{MOST_INPUT_BYTES}
 use Rattle.machine_spec.specs.Machine.{Machine}
 use Rattle.machine_spec.specs.Setup.{Setup, IsSetup}
@@ -16,11 +16,11 @@ use Rattle.guest_gen.proofs.Inputs.{length-input_of, edit-in_range}
 use Rattle.guest_gen.proofs.Lists.{list-says}
 use Rattle.rerun_spec.specs.Inputs.{Refusal, AreInputs, IsFirstRefused}
 use Rattle.rerun_spec.proofs.Inputs.{inputs-unrefused}
-use Rattle.rerun_spec.specs.Rounds.{Found, Round, Beginning, IsMade, made, left_by, from_scratch, round_on, after_round, rounds_after, entries_of}
-use Rattle.rerun_spec.specs.Reports.{made_exits, all_made_exit, all_exit}
+use Rattle.rerun_spec.specs.Rounds.{Found, Round, Beginning, IsMade, from_scratch, round_on, after_round, rounds_after}
+use Rattle.rerun_spec.specs.Reports.{made_exits, all_made_exit}
 use Rattle.rerun_spec.proofs.Rounds.{IsSoundlyMade, each-round, scratch-begins, round-machine}
 use Rattle.round_report.specs.Short.{short_text, short_of, made_short}
-use Rattle.ith_host.specs.World.{World, NoneFell, Stays, AsksNothing}
+use Rattle.ith_host.specs.World.{World, Stays, AsksNothing}
 use Rattle.ith_words.specs.Words.{Generates, GenerateLine, default_fuel, default_limit}
 use Rattle.ith_top.specs.declared.status.Status.{Status}
 use Rattle.ith_top.specs.declared.status.Status.TheVariants as status
@@ -181,16 +181,16 @@ two_rounds workers s input next one other exit ended left last on on_next =
 -- both rounds were made
 pub both_generated :
     (workers number : ℕ) (p : Plan) (input next : List ℕ) (rest : List (List ℕ)) (one other text : List ℕ)
-    (exit ended exits : Bool) (left last : History)
-    → IsGeneratedPlan number p → CanBePlayed p → CanBeSpelled p → p.inputs ≡ input ∷ next ∷ rest
+    (exit ended exits : Bool) (left last : History) (earlier later : ℕ)
+    → later ≡ earlier + 2 → IsGeneratedPlan number p → CanBePlayed p → CanBeSpelled p → p.inputs ≡ input ∷ next ∷ rest
     → IsLineOn workers (from_scratch p.beginning.setup false) input one exit left
     → IsLineOn workers (record { number = 1; past = Some left; setup = p.beginning.setup; reach = false }) next other
     ended last
     → text ≡ text_line (codes "gen") (decimal number) ++ one ++ other
     → exits ≡ (exit && ended)
-    → AreTheGenerated workers number text exits
+    → AreTheGenerated workers number earlier later text exits
 unfolding all_made_exit
-both_generated workers number p input next rest one other text exit ended exits left last is playable spelled inputs on on_next told ends =
+both_generated workers number p input next rest one other text exit ended exits left last earlier later rise is playable spelled inputs on on_next told ends =
     let s : Setup = p.beginning.setup in
     let begins : p.beginning ≡ from_scratch s false =
     is.beginning ∙ ap (λ (t : Setup). from_scratch t false) (sym (ap (λ (b : Beginning). b.setup) is.beginning)) in
@@ -217,6 +217,7 @@ both_generated workers number p input next rest one other text exit ended exits 
       found = two.found;
       made = are;
       all = two.count ∙ sym count;
+      rounds = let found = two.count in omega arith;
       is_text = told
           ∙ append_assoc (text_line (codes "gen") (decimal number)) one other
           ∙ ap (λ (l : List ℕ). text_line (codes "gen") (decimal number) ++ l)
@@ -226,9 +227,9 @@ both_generated workers number p input next rest one other text exit ended exits 
       are_exits = sym promised.exits ∙ ap (list_all made_exits) rounds ∙ sym two.exits ∙ sym ends;
     }
 
-has_generated : (line : GenerateLine) (a : World) (text : List ℕ) (exits : Bool)
-    → AreTheGenerated line.workers line.number text exits → HasRounds (Generates line) a
-has_generated line a text exits is =
+has_generated : (line : GenerateLine) (a : World) (earlier later : ℕ) (text : List ℕ) (exits : Bool)
+    → AreTheGenerated line.workers line.number earlier later text exits → HasRounds (Generates line) a
+has_generated line a earlier later text exits is =
     record {
       plan = is.plan;
       is_plan = is.is_plan;
@@ -240,32 +241,34 @@ has_generated line a text exits is =
     }
 
 generated_by :
-    (line : GenerateLine) (a b : World) (text : List ℕ) (exits : Bool)
-    → AsksNothing a b → AreTheGenerated line.workers line.number text exits → Prints a b text
+    (line : GenerateLine) (a b : World) (earlier later : ℕ) (text : List ℕ) (exits : Bool)
+    → AsksNothing a b → AreTheGenerated line.workers line.number earlier later text exits → Prints a b text
     → IsGenerated line exits a b
 unfolding has_generated
-generated_by line a b text exits none is prints =
+generated_by line a b earlier later text exits none is prints =
     record {
       asked = none;
-      has = has_generated line a text exits is;
+      has = has_generated line a earlier later text exits is;
       all = is.all;
       prints = subst (Prints a b) is.is_text prints;
       ends = is.are_exits;
     }
 
 pub generate_finished :
-    (line : GenerateLine) (a b : World) (text : List ℕ) (exits : Bool)
-    → AsksNothing a b → AreTheGenerated line.workers line.number text exits → Prints a b text → exits ≡ true
+    (line : GenerateLine) (a b : World) (earlier later : ℕ) (text : List ℕ) (exits : Bool)
+    → AsksNothing a b → AreTheGenerated line.workers line.number earlier later text exits → Prints a b text → exits ≡ true
     → GenerateEnds line a b status.Finished
-generate_finished line a b text exits none is prints ends =
-    generated_by line a b text true none (subst (AreTheGenerated line.workers line.number text) ends is) prints
+generate_finished line a b earlier later text exits none is prints ends =
+    generated_by line a b earlier later text true none
+    (subst (AreTheGenerated line.workers line.number earlier later text) ends is) prints
 
 pub generate_unfinished :
-    (line : GenerateLine) (a b : World) (text : List ℕ) (exits : Bool)
-    → AsksNothing a b → AreTheGenerated line.workers line.number text exits → Prints a b text → exits ≡ false
+    (line : GenerateLine) (a b : World) (earlier later : ℕ) (text : List ℕ) (exits : Bool)
+    → AsksNothing a b → AreTheGenerated line.workers line.number earlier later text exits → Prints a b text → exits ≡ false
     → GenerateEnds line a b status.Unfinished
-generate_unfinished line a b text exits none is prints ends =
-    generated_by line a b text false none (subst (AreTheGenerated line.workers line.number text) ends is) prints
+generate_unfinished line a b earlier later text exits none is prints ends =
+    generated_by line a b earlier later text false none
+    (subst (AreTheGenerated line.workers line.number earlier later text) ends is) prints
 
 -- the host's memory ran out
 pub generate_cut : (line : GenerateLine) (a b : World) → AsksNothing a b → Stays a b
@@ -274,16 +277,16 @@ generate_cut line a b none stays = unbegun (Generates line) a b (none ∙ sym (a
 
 -- not all was printed
 pub generate_unprinted :
-    (line : GenerateLine) (a b : World) (text : List ℕ) (exits : Bool) (s : Status)
-    → AsksNothing a b → AreTheGenerated line.workers line.number text exits → WhyUnprinted text a b s
+    (line : GenerateLine) (a b : World) (earlier later : ℕ) (text : List ℕ) (exits : Bool) (s : Status)
+    → AsksNothing a b → AreTheGenerated line.workers line.number earlier later text exits → WhyUnprinted text a b s
     → GenerateEnds line a b s
 unfolding has_generated
-generate_unprinted line a b text exits status.WriteFault none is why =
+generate_unprinted line a b earlier later text exits status.WriteFault none is why =
     let cause : WhyUnprinted (generated_text line.number (rounds_of is.plan is.found)) a b status.WriteFault =
     subst (λ (l : List ℕ). WhyUnprinted l a b status.WriteFault) is.is_text why in
     record {
       asked = none;
-      has = has_generated line a text exits is;
+      has = has_generated line a earlier later text exits is;
       all = is.all;
       part = record {
         cause = cause.0;
@@ -294,5 +297,5 @@ generate_unprinted line a b text exits status.WriteFault none is why =
         prints = cause.1.1;
       };
     }
-generate_unprinted line a b text exits status.Memory none is why = generate_cut line a b none why
-generate_unprinted line a b text exits _ none is why = absurd why
+generate_unprinted line a b earlier later text exits status.Memory none is why = generate_cut line a b none why
+generate_unprinted line a b earlier later text exits _ none is why = absurd why

@@ -246,17 +246,19 @@ going_next b workers inputs a w v now next input rest exit text ended left going
 -- all were made and printed, and what the last one left is what the rounds to come would go by
 pub going_played :
     (b : Beginning) (workers : ℕ) (inputs : List (List ℕ)) (a w : World) (now : Beginning) (rest : List (List ℕ))
-    (exit : Bool) (left : History)
+    (exit : Bool) (left : History) (earlier later : ℕ)
     → rest ≡ [] → now.past ≡ Some left → IsGoing b workers inputs a w now rest exit
-    → IsPlayed workers (of_line b inputs) a w exit left
+    → later + length rest ≡ earlier + length inputs
+    → IsPlayed workers (of_line b inputs) a w earlier later exit left
 unfolding all_made_exit
-going_played b workers inputs a w now rest exit left none past going =
+going_played b workers inputs a w now rest exit left earlier later none past going count =
     let rounds = going-rounds b workers inputs a w now rest exit going in
     let is : history_at now ≡ left = rw past refl in
     record {
       found = going.found;
       made = going-found b workers inputs a w now rest exit going;
       all = let count = rw none at going.count in omega arith;
+      rounds = let rounds = going.count in omega arith;
       prints = subst (λ (texts : List (List ℕ)). Prints a w (concat texts))
           (sym (going-texts b workers inputs a w now rest exit going)) going.prints;
       are_exits = ap (list_all made_exits) rounds ∙ sym going.ended;
@@ -266,13 +268,16 @@ going_played b workers inputs a w now rest exit left none past going =
 -- no more was made, after a change that leaves files and printed bytes
 pub going_cut :
     (b : Beginning) (workers : ℕ) (inputs : List (List ℕ)) (a w v : World) (now : Beginning) (rest : List (List ℕ))
-    (exit : Bool)
+    (exit : Bool) (earlier later : ℕ)
     → IsGoing b workers inputs a w now rest exit → Stays w v
-    → IsPlayedInPart workers (of_line b inputs) a v status.Memory
-going_cut b workers inputs a w v now rest exit going stays =
+    → later + length rest ≤ earlier + length inputs + 1 → later ≤ earlier + length inputs
+    → IsPlayedInPart workers (of_line b inputs) a v earlier later status.Memory
+going_cut b workers inputs a w v now rest exit earlier later going stays count most =
     record {
       found = going.found;
       made = going-found b workers inputs a w now rest exit going;
+      rounds = let found = going.count in omega arith;
+      most = most;
       why = subst (λ (texts : List (List ℕ)). Prints a v (concat texts))
           (sym (going-texts b workers inputs a w now rest exit going))
           (prints_then a w v (concat (map made_report going.done)) going.prints stays);
@@ -300,22 +305,24 @@ texts-are b inputs found done r are = ap (map made_report) are ∙ map-append ma
 -- the next text wasn't printed
 pub going_unprinted :
     (b : Beginning) (workers : ℕ) (inputs : List (List ℕ)) (a w v : World) (now : Beginning) (input : List ℕ)
-    (rest : List (List ℕ)) (exit : Bool) (text : List ℕ) (ended : Bool) (left : History) (why : Status)
+    (rest : List (List ℕ)) (exit : Bool) (text : List ℕ) (ended : Bool) (left : History) (earlier later : ℕ)
+    (why : Status)
     → IsGoing b workers inputs a w now (input ∷ rest) exit
     → IsMadeOn workers now input text ended left
-    → WhyUnprinted text w v why → IsPlayedInPart workers (of_line b inputs) a v why
-going_unprinted b workers inputs a w v now input rest exit text ended left status.Finished going one cause =
+    → later + length (input ∷ rest) ≤ earlier + length inputs + 1 → later ≤ earlier + length inputs
+    → WhyUnprinted text w v why → IsPlayedInPart workers (of_line b inputs) a v earlier later why
+going_unprinted b workers inputs a w v now input rest exit text ended left earlier later status.Finished going one count most cause =
     absurd cause
-going_unprinted b workers inputs a w v now input rest exit text ended left status.Unfinished going one cause =
+going_unprinted b workers inputs a w v now input rest exit text ended left earlier later status.Unfinished going one count most cause =
     absurd cause
-going_unprinted b workers inputs a w v now input rest exit text ended left status.Words going one cause = absurd cause
-going_unprinted b workers inputs a w v now input rest exit text ended left status.Image going one cause = absurd cause
-going_unprinted b workers inputs a w v now input rest exit text ended left status.Memo going one cause = absurd cause
-going_unprinted b workers inputs a w v now input rest exit text ended left status.EditList going one cause =
+going_unprinted b workers inputs a w v now input rest exit text ended left earlier later status.Words going one count most cause = absurd cause
+going_unprinted b workers inputs a w v now input rest exit text ended left earlier later status.Image going one count most cause = absurd cause
+going_unprinted b workers inputs a w v now input rest exit text ended left earlier later status.Memo going one count most cause = absurd cause
+going_unprinted b workers inputs a w v now input rest exit text ended left earlier later status.EditList going one count most cause =
     absurd cause
-going_unprinted b workers inputs a w v now input rest exit text ended left status.ReadFault going one cause =
+going_unprinted b workers inputs a w v now input rest exit text ended left earlier later status.ReadFault going one count most cause =
     absurd cause
-going_unprinted b workers inputs a w v now input rest exit text ended left status.WriteFault going one cause =
+going_unprinted b workers inputs a w v now input rest exit text ended left earlier later status.WriteFault going one count most cause =
     let f = one.found in
     let r = round_on now input f in
     let has = has-next b workers inputs a w now input rest exit going f one.made in
@@ -335,6 +342,8 @@ going_unprinted b workers inputs a w v now input rest exit text ended left statu
         made = subst (All (IsMade workers)) (sym rounds)
             (All-from_recursion (IsMade workers) (going.done ++ r ∷ []) has.made);
       };
+      rounds = let found = has.count in omega arith;
+      most = most;
       why = record {
         cause = rose_before _ _ _ going.counts.prints cause.0;
         whole = length texts;
@@ -345,11 +354,11 @@ going_unprinted b workers inputs a w v now input rest exit text ended left statu
         prints = subst (λ (ts : List (List ℕ)). Prints a v (concat ts ++ take cause.1.0 text)) (sym front) printed;
       };
     }
-going_unprinted b workers inputs a w v now input rest exit text ended left status.Memory going one cause =
-    going_cut b workers inputs a w v now (input ∷ rest) exit going cause
-going_unprinted b workers inputs a w v now input rest exit text ended left status.TooLarge going one cause =
+going_unprinted b workers inputs a w v now input rest exit text ended left earlier later status.Memory going one count most cause =
+    going_cut b workers inputs a w v now (input ∷ rest) exit earlier later going cause count most
+going_unprinted b workers inputs a w v now input rest exit text ended left earlier later status.TooLarge going one count most cause =
     absurd cause
-going_unprinted b workers inputs a w v now input rest exit text ended left status.Schedule going one cause = absurd cause
+going_unprinted b workers inputs a w v now input rest exit text ended left earlier later status.Schedule going one count most cause = absurd cause
 
 -- of short inputs the first is short, and so are the others
 pub short_first : (input : List ℕ) (rest : List (List ℕ)) → AreShort (input ∷ rest) → length input ≤ MOST_INPUT_BYTES

@@ -14,3 +14,4 @@ pub mod Explained
 pub mod Permitting
 pub mod Replayed
 pub mod Generated
+pub mod Counted

@@ -1,10 +1,9 @@
 -- Schedules of which an entry isn't permitted, and the turns of those that are.
-use Rattle.std.proofs.Common.{◌≡◌, ◌+◌, ◌<◌, ℕ, zero, suc, Bool, true, false, ◌&&◌, List, [], ◌∷◌, length, map, take, get_or, refl, ap, sym, ◌∙◌, arith}
+use Rattle.std.proofs.Common.{◌≡◌, ◌+◌, ◌<◌, ℕ, zero, suc, Bool, true, false, ◌&&◌, List, [], ◌∷◌, length, take, get_or, refl, ap, arith}
 use Rattle.machine_spec.specs.Machine.{Machine}
 use Rattle.machine_spec.specs.Step.{step, can_step}
 use Rattle.machine_spec.specs.Schedule.{scratch_from, is_permitted_from}
 use Rattle.machine_spec.specs.Setup.{Setup, first, is_permitted}
-use Rattle.report_spec.specs.declared.Entry.{Entry}
 use Rattle.report_spec.specs.Report.{threads_of, instructions_from}
 use Rattle.rerun_spec.specs.Reports.{all_executed}
 use Rattle.plain_machine.specs.Making.{thunk_of}

@@ -1,27 +1,24 @@
 -- How a line that replays a schedule ends, from how its parts did.
-use Rattle.std.proofs.Common.{◌≡◌, ◌<◌, ◌≤◌, ℕ, Bool, true, false, List, [], ◌∷◌, length, Option, Some, None, refl, sym, ap, subst, ◌∙◌, inl, inr}
-use Rattle.std.specs.Prelude.{Ok}
+use Rattle.std.proofs.Common.{◌≡◌, ◌≤◌, ℕ, Bool, true, false, List, [], length, Option, Some, None, refl, sym, ap, subst, ◌∙◌, inl, inr}
 use Rattle.elf_spec.specs.declared.TheConstants.{MOST_ELF_BYTES}
-use Rattle.elf_spec.specs.Image.{is_image}
 use Rattle.machine_spec.specs.declared.TheConstants.{MOST_INPUT_BYTES}
 use Rattle.machine_spec.specs.declared.states.End.{End}
 use Rattle.machine_spec.specs.Machine.{Machine}
-use Rattle.machine_spec.specs.Setup.{Setup, IsSetup, first, scratch}
+use Rattle.machine_spec.specs.Setup.{Setup, first, scratch}
 use Rattle.memory_spec.specs.Pages.{Memory}
 use Rattle.report_spec.specs.declared.Entry.{Entry as Executed}
-use Rattle.report_spec.specs.Report.{Told, threads_of, told_of, instructions_from}
+use Rattle.report_spec.specs.Report.{Told, threads_of, told_of}
 use Rattle.rerun_spec.specs.Reports.{is_exit, all_executed}
 use Rattle.plain_machine.specs.declared.replaying.Outcome.{Outcome}
-use Rattle.plain_machine.specs.Replaying.{IsOutcomeOf, turns_from}
+use Rattle.plain_machine.specs.Replaying.{IsOutcomeOf}
 use Rattle.round_report.specs.Replay.{replay_text, replay_of}
 use Rattle.schedule_list.specs.declared.TheConstants.{MOST_SCHEDULE_BYTES}
-use Rattle.schedule_list.specs.Schedule.{Says}
 use Rattle.ith_host.specs.World.{World, NoneFell, Stays, AsksNothing, IsContent}
 use Rattle.ith_words.specs.Words.{Replays, ReplayLine}
 use Rattle.ith_top.specs.declared.status.Status.{Status}
 use Rattle.ith_top.specs.declared.status.Status.TheVariants as status
 use Rattle.ith_top.specs.Files.{files_named, AsksForFiles}
-use Rattle.ith_top.specs.Contents.{ReplayContents, AreReplayContents, WasReplayRead, replay_setup_of, CanBeReplayed}
+use Rattle.ith_top.specs.Contents.{ReplayContents, AreReplayContents, WasReplayRead, replay_setup_of}
 use Rattle.ith_top.specs.Ends.{Prints, HasReplay, Token, Entry, Incomplete, IsReplayed, ReplayEnds}
 use Rattle.ith_top.specs.Refusals.{WhyUnread, WhyNoSetup, WhyNoThreads, WhyUnreplayed, WhyUnprinted}
 use Rattle.ith_top.specs.Playing.{IsAskedReplay, TellsOfReplay}

@@ -8,3 +8,4 @@ pub mod Ends
 pub mod Completing
 pub mod Refusals
 pub mod Playing
+pub mod Counting

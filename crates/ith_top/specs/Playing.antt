@@ -18,31 +18,21 @@ use Rattle.round_report.specs.Replay.{replay_text}
 use Rattle.round_report.specs.Short.{made_short}
 use Rattle.ith_host.specs.World.{World}
 use Rattle.ith_words.specs.Words.{Text, ReplayLine}
-use Rattle.ith_top.specs.declared.plan.Start.{Start}
 use Rattle.ith_top.specs.declared.plan.Plan.{Plan as Planned}
-use Rattle.ith_top.specs.declared.rounds.Coming.{Coming}
 use Rattle.ith_top.specs.declared.report.Next.{Next}
 use Rattle.ith_top.specs.Contents.{Plan, ReplayContents, WasReplayRead, replay_setup_of, IsGeneratedPlan}
 use Rattle.ith_top.specs.Rounds.{rounds_of}
 use Rattle.ith_top.specs.Explaining.{explained_round, why_of}
 use Rattle.ith_top.specs.Ends.{Prints, PrintsAndKeeps, IsKeptWithin, texts_of, left_of, generated_text}
 
--- What rounds begin with, in code, as a beginning of the definitions.
-abbrev pub beginning_said : Start → Beginning
-beginning_said s =
-    record { number = s.number; past = option_map arc_value s.past; setup = s.setup; reach = s.reach }
+-- What the rounds of a plan in code begin with, as a beginning of the definitions.
+abbrev pub beginning_said : Planned → Beginning
+beginning_said p =
+    record { number = p.number; past = option_map arc_value p.past; setup = p.setup; reach = p.reach }
 
 -- A plan in code, as one of the definitions.
 abbrev pub plan_said : Planned → Plan
-plan_said p = record { beginning = beginning_said p.start; inputs = p.inputs }
-
--- The rounds of a program that are to come, in code, as a plan.
-abbrev pub coming_said : Setup → Coming → Plan
-coming_said s c =
-    record {
-      beginning = record { number = c.number; past = option_map arc_value c.past; setup = s; reach = c.reach };
-      inputs = c.inputs;
-    }
+plan_said p = record { beginning = beginning_said p; inputs = p.inputs }
 
 -- A plan whose rounds can be made: there is an input; each is as short as an input may be; the rounds can be numbered;
 -- and a history that the first goes by is of the same page map.
@@ -77,23 +67,27 @@ pub record AreFound (workers : ℕ) (p : Plan) (found : List Found) : Type 0 whe
   pub few : length found ≤ length p.inputs
   pub made : All (IsMade workers) (rounds_of p found)
 
--- All rounds of a plan were made by so many workers, and exactly their texts were printed; whether each ended by exit,
--- and what the last one leaves.
-pub record IsPlayed (workers : ℕ) (p : Plan) (before after : World) (exits : Bool) (left : History) : Type 0 where
-  pub found : List Found
-  pub made : AreFound workers p found
-  pub all : length found ≡ length p.inputs
-  pub prints : Prints before after (concat (texts_of p found))
-  pub are_exits : all_made_exit (rounds_of p found) ≡ exits
-  pub is_left : left ≡ left_of p found
-
--- All rounds of a plan were made by so many workers; exactly their texts were printed, and the memo of what the last
--- one leaves was written, if it has a name; and whether each ended by exit.
-pub record IsCarriedOut (name : Option Text) (workers : ℕ) (p : Plan) (before after : World) (exits : Bool) : Type 0
+-- All rounds of a plan were made by so many workers, which made no other since they had made so many; exactly the texts
+-- of these rounds were printed; whether each ended by exit, and what the last one leaves.
+pub record IsPlayed (workers : ℕ) (p : Plan) (before after : World) (earlier later : ℕ) (exits : Bool) (left : History) : Type 0
   where
     pub found : List Found
     pub made : AreFound workers p found
     pub all : length found ≡ length p.inputs
+    pub rounds : later ≡ earlier + length found
+    pub prints : Prints before after (concat (texts_of p found))
+    pub are_exits : all_made_exit (rounds_of p found) ≡ exits
+    pub is_left : left ≡ left_of p found
+
+-- All rounds of a plan were made by so many workers, which made no other; exactly the texts of these rounds were
+-- printed, and the memo of what the last one leaves was written, if it has a name; and whether each ended by exit.
+pub record IsCarriedOut (name : Option Text) (workers : ℕ) (p : Plan) (before after : World) (earlier later : ℕ) (exits : Bool)
+    : Type 0
+  where
+    pub found : List Found
+    pub made : AreFound workers p found
+    pub all : length found ≡ length p.inputs
+    pub rounds : later ≡ earlier + length found
     pub keeps : PrintsAndKeeps name (memo (left_of p found)) before after (concat (texts_of p found))
     pub within : IsKeptWithin name (memo (left_of p found))
     pub are_exits : all_made_exit (rounds_of p found) ≡ exits
@@ -147,9 +141,9 @@ pub record IsLineOn (workers : ℕ) (b : Beginning) (input text : List ℕ) (exi
   pub is_exit : exit ≡ made_exits (round_on b input found)
   pub is_left : left ≡ left_by (round_on b input found)
 
--- So many workers made both rounds of the guest that is generated from a number: the text that tells of them, and
--- whether each ended by exit.
-pub record AreTheGenerated (workers number : ℕ) (text : List ℕ) (exits : Bool) : Type 0 where
+-- So many workers made both rounds of the guest that is generated from a number, and no other since they had made so
+-- many: the text that tells of both, and whether each ended by exit.
+pub record AreTheGenerated (workers number earlier later : ℕ) (text : List ℕ) (exits : Bool) : Type 0 where
   pub plan : Plan
   pub is_plan : IsGeneratedPlan number plan
   pub playable : CanBePlayed plan
@@ -157,5 +151,6 @@ pub record AreTheGenerated (workers number : ℕ) (text : List ℕ) (exits : Boo
   pub found : List Found
   pub made : AreFound workers plan found
   pub all : length found ≡ length plan.inputs
+  pub rounds : later ≡ earlier + length found
   pub is_text : text ≡ generated_text number (rounds_of plan found)
   pub are_exits : all_exit (rounds_of plan found) ≡ exits

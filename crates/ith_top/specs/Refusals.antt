@@ -1,5 +1,5 @@
 -- Why a part of a call refused, by the status that it gives.
-use Rattle.std.specs.Prelude.{◌≡◌, ◌≢◌, ℕ, ◌<◌, ◌≤◌, true, false, ◌⊎◌, List, length, take, Option, Some, None, Err, ⊤}
+use Rattle.std.specs.Prelude.{◌≡◌, ◌≢◌, ℕ, ◌+◌, ◌<◌, ◌≤◌, true, false, ◌⊎◌, List, length, take, Option, Some, None, Err, ⊤}
 use Rattle.std.specs.List.{concat}
 use Rattle.ith_host.specs.World.{World, Rose, NoneFell, Stays, Holds}
 use Rattle.elf_spec.specs.Image.{is_image}
@@ -78,10 +78,13 @@ WhyCutShort p found before after status.Memory = Prints before after (concat (te
 WhyCutShort p found before after _ = ⊥
 
 -- Of the rounds of a plan so many workers made the first ones, from none to all of them; why no more was done, and what
--- was printed.
-pub record IsPlayedInPart (workers : ℕ) (p : Plan) (before after : World) (s : Status) : Type 0 where
+-- was printed. They made no other since they had made so many, but one at most of which nothing is told: the next one of
+-- the plan, where memory ran out.
+pub record IsPlayedInPart (workers : ℕ) (p : Plan) (before after : World) (earlier later : ℕ) (s : Status) : Type 0 where
   pub found : List Found
   pub made : AreFound workers p found
+  pub rounds : later ≤ earlier + length found + 1
+  pub most : later ≤ earlier + length p.inputs
   pub why : WhyCutShort p found before after s
 
 -- Why a text wasn't printed whole, and what of it was.
@@ -119,13 +122,15 @@ WhyUnkept name content before after status.Memory = Stays before after
 WhyUnkept name content before after status.TooLarge = IsTooLong content before after
 WhyUnkept name content before after _ = ⊥
 
--- All rounds of a plan were made by so many workers, and their texts printed; and why the memo of what the last one
--- leaves, of this name, wasn't written.
-pub record IsUnkeptAfter (name : Option Text) (workers : ℕ) (p : Plan) (before after : World) (s : Status) : Type 0
+-- All rounds of a plan were made by so many workers, and no other, and their texts printed; and why the memo of what the
+-- last one leaves, of this name, wasn't written.
+pub record IsUnkeptAfter (name : Option Text) (workers : ℕ) (p : Plan) (before after : World) (earlier later : ℕ) (s : Status)
+    : Type 0
   where
     pub found : List Found
     pub made : AreFound workers p found
     pub all : length found ≡ length p.inputs
+    pub rounds : later ≡ earlier + length found
     pub between : World
     pub counts : NoneFell before between
     pub prints : Prints before between (concat (texts_of p found))
@@ -134,6 +139,6 @@ pub record IsUnkeptAfter (name : Option Text) (workers : ℕ) (p : Plan) (before
     pub why : WhyUnkept kept (memo (left_of p found)) between after s
 
 -- Why not all was done of the rounds of a plan and of the memo of a name, if there is one.
-abbrev pub WhyUndone : Option Text → ℕ → Plan → World → World → Status → Type 0
-WhyUndone name workers p before after s =
-    IsPlayedInPart workers p before after s ⊎ IsUnkeptAfter name workers p before after s
+abbrev pub WhyUndone : Option Text → ℕ → Plan → World → World → ℕ → ℕ → Status → Type 0
+WhyUndone name workers p before after earlier later s =
+    IsPlayedInPart workers p before after earlier later s ⊎ IsUnkeptAfter name workers p before after earlier later s

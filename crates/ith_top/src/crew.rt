@@ -1,13 +1,92 @@
-//! Who makes the rounds of a line.
+//! Who makes the rounds of a line, and how many were made.
 
-ghost use Rattle.std.specs.Prelude.{◌≤◌};
+ghost use Rattle.std.specs.Prelude.{◌≡◌, ◌+◌, ◌≤◌, ℕ, option_map, IfOk};
+ghost use Rattle.std.specs.Arc.{arc_value};
+ghost use Rattle.std.specs.Borrow.{ftrue};
+ghost use Rattle.round_spec.specs.Schedules.{IsBySchedule};
+ghost use Rattle.worker_spec.specs.Workers.{IsMadeBy};
 
-/// Who makes the rounds of a line.
+use ith_host::Gate;
+use propagate::Round;
+use release_core::{History, Setup};
+use rerun_workers::run_round;
+use std::alloc::{AllocError, Global};
+use std::marker::{Model, PhantomData};
+use std::sync::{Arc, Wait};
+use std::thread::Threads;
+
+/// How many rounds were made. It has no bytes: clauses alone read it, and a program can't.
 #[derive(Drop)]
-pub struct Crew<'a, G> {
-    /// How many workers there are.
-    pub workers: u32,
-    /// What each of them comes to before it executes a thunk.
-    pub gate: &'a G,
+struct Made {
+    marker: PhantomData<u8>,
+    pub ghost number: { ℕ },
+}
+
+impl Model for Made {
+    ghost also_owns = { λ _. ftrue };
+}
+
+impl Made {
+    /// No round was made so far.
+    fn none() -> Self
+        ensures { result.number ≡ 0 }
+    {
+        Made {
+            marker: PhantomData,
+        }
+    }
+
+    /// One round more is made.
+    fn raise(&mut self)
+        ensures { self.new.number ≡ self.old.number + 1 }
+    {}
+}
+
+/// Who makes the rounds of a line. It alone is lent the runtime for them: nobody else can make a round, and it counts
+/// each.
+#[derive(Drop)]
+pub struct Crew<'a, R, G> {
+    rt: &'a R,
+    workers: u32,
+    gate: &'a G,
+    made: Made,
     ghost some: { 1 ≤ workers },
+}
+
+impl<'a, R: Threads + Wait + Sync, G: Gate + Sync> Crew<'a, R, G> {
+    /// So many workers, each of whom comes to the gate before it executes a thunk. They made no round so far.
+    pub fn new(rt: &'a R, workers: u32, gate: &'a G) -> Self
+        requires { 1 ≤ workers }
+        ensures { result.workers ≡ workers }
+    {
+        Crew {
+            rt,
+            workers,
+            gate,
+            made: Made::none(),
+        }
+    }
+
+    /// Makes a round, and tells how many of its steps each worker made. It counts, also where the host's memory ran out.
+    ///
+    /// # Errors
+    ///
+    /// An error where the host's memory ran out.
+    pub fn make(
+        &mut self,
+        alloc: Global,
+        setup: Setup,
+        past: Option<Arc<History>>,
+    ) -> Result<(Round, Vec<u64>), AllocError>
+        ensures setup { IfOk result (λ r. r.0.setup ≡ setup) }
+        ensures past { IfOk result (λ r. r.0.past ≡ option_map arc_value past) }
+        ensures stands { IfOk result (λ r. IsBySchedule r.0) }
+        ensures made { IfOk result (λ r.
+            IsMadeBy self.old.workers setup (option_map arc_value past) r.0.schedule r.1.items) }
+        ensures counted { self.new.made.number ≡ self.old.made.number + 1 }
+        ensures workers { self.new.workers ≡ self.old.workers }
+    {
+        self.made.raise();
+        run_round(self.rt, alloc, setup, past, self.workers, self.gate)
+    }
 }

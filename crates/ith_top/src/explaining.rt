@@ -12,7 +12,7 @@ ghost use Rattle.ith_top.specs.Ends.{ExplainEnds};
 ghost use Rattle.ith_top.specs.Playing.{plan_said, CanBePlayed, TellsReasons};
 
 use super::outside::print_text;
-use super::plan::{Plan, Start, prepare_rerun};
+use super::plan::{Plan, prepare_rerun};
 use super::rounds::no_memory;
 use super::status::Status;
 use ith_host::Host;
@@ -86,11 +86,15 @@ fn text_of<R: Threads>(rt: &R, alloc: Global, plan: Plan) -> Result<Vec<u8>, All
     requires { CanBePlayed (plan_said plan) }
     ensures { IfOk result (λ text. TellsReasons (plan_said plan) text.items) }
 {
-    let Plan { start, mut inputs } = plan;
+    let Plan {
+        past,
+        setup,
+        mut inputs,
+        ..
+    } = plan;
     let Some(input) = inputs.next()? else {
         unreachable!()
     };
-    let Start { past, setup, .. } = start;
     let edited = setup.with(input, setup.limits())?;
     let round = counted::<R, Brand>(rt, alloc, edited, past, Blank::new(1))?;
     let reasons = reasons(alloc, &round)?;

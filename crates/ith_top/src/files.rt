@@ -126,14 +126,9 @@ pub fn read_files<H: Host>(alloc: Global, host: &mut H, line: &RunLine<'_>) -> R
     ensures stays { Stays (H.world host.old) (H.world host.new) }
     ensures counts { NoneFell (H.world host.old) (H.world host.new) }
 {
-    let GuestFiles { elf, input } = match read_guest(alloc, host, line.elf, line.input) {
-        Ok(files) => files,
-        Err(status) => return Err(status),
-    };
-    match read_lists(alloc, host, line.edits.as_slice()) {
-        Ok(lists) => Ok(Files { elf, input, lists }),
-        Err(status) => Err(status),
-    }
+    let GuestFiles { elf, input } = read_guest(alloc, host, line.elf, line.input)?;
+    let lists = read_lists(alloc, host, line.edits.as_slice())?;
+    Ok(Files { elf, input, lists })
 }
 
 /// Reads the files of a line that replays a schedule, in the order in which it names them.
@@ -151,18 +146,13 @@ pub fn read_replay_files<H: Host>(
     ensures stays { Stays (H.world host.old) (H.world host.new) }
     ensures counts { NoneFell (H.world host.old) (H.world host.new) }
 {
-    let GuestFiles { elf, input } = match read_guest(alloc, host, line.elf, line.input) {
-        Ok(files) => files,
-        Err(status) => return Err(status),
-    };
-    match read_file(alloc, host, line.schedule, MOST_SCHEDULE_BYTES as u64) {
-        Ok(schedule) => Ok(ReplayFiles {
-            elf,
-            input,
-            schedule,
-        }),
-        Err(status) => Err(status),
-    }
+    let GuestFiles { elf, input } = read_guest(alloc, host, line.elf, line.input)?;
+    let schedule = read_file(alloc, host, line.schedule, MOST_SCHEDULE_BYTES as u64)?;
+    Ok(ReplayFiles {
+        elf,
+        input,
+        schedule,
+    })
 }
 
 /// Reads a memo.
@@ -196,12 +186,7 @@ pub fn read_rerun_files<H: Host>(
     ensures stays { Stays (H.world host.old) (H.world host.new) }
     ensures counts { NoneFell (H.world host.old) (H.world host.new) }
 {
-    let memo = match read_memo(alloc, host, line.memo) {
-        Ok(bytes) => bytes,
-        Err(status) => return Err(status),
-    };
-    match read_lists(alloc, host, line.edits.as_slice()) {
-        Ok(lists) => Ok(RerunFiles { memo, lists }),
-        Err(status) => Err(status),
-    }
+    let memo = read_memo(alloc, host, line.memo)?;
+    let lists = read_lists(alloc, host, line.edits.as_slice())?;
+    Ok(RerunFiles { memo, lists })
 }

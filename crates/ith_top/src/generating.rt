@@ -1,6 +1,6 @@
 //! What the program does of a line that runs the generated guest.
 
-ghost use Rattle.std.specs.Prelude.{◌≡◌, ◌≤◌, ◌++◌, false, codes, decimal, length, option_map, IfOk, IfErr};
+ghost use Rattle.std.specs.Prelude.{◌≡◌, ◌+◌, ◌≤◌, ◌++◌, false, codes, decimal, length, option_map, IfOk, IfErr};
 ghost use Rattle.std.specs.Arc.{arc_value};
 ghost use Rattle.elf_load.specs.Load.{Refuses};
 ghost use Rattle.elf_spec.specs.declared.TheConstants.{MOST_ELF_BYTES};
@@ -11,15 +11,16 @@ ghost use Rattle.report_spec.specs.Text.{line as text_line};
 ghost use Rattle.propagate.specs.Kept.{IsOfMap};
 ghost use Rattle.rerun_spec.specs.Reports.{told_as_made};
 ghost use Rattle.round_report.specs.Short.{short_text};
-ghost use Rattle.ith_words.specs.Words.{default_fuel, default_limit};
+ghost use Rattle.ith_words.specs.Words.{Generates, default_fuel, default_limit};
 ghost use Rattle.ith_words.specs.Said.{generate_said};
 ghost use Rattle.ith_top.specs.Contents.{IsGeneratedPlan};
 ghost use Rattle.ith_top.specs.Ends.{GenerateEnds};
+ghost use Rattle.ith_top.specs.Counting.{MakesRounds};
 ghost use Rattle.ith_top.specs.Playing.{plan_said, beginning_of, CanBePlayed, CanBeSpelled, IsLineOn, AreTheGenerated};
 
 use super::crew::Crew;
 use super::outside::print_text;
-use super::plan::{Plan, Start, from_scratch};
+use super::plan::{Plan, from_scratch};
 use super::report::{Next, Played, is_exit};
 use super::rounds::no_memory;
 use super::status::Status;
@@ -30,7 +31,6 @@ use ith_text::decimal;
 use ith_words::{GenerateLine, default_limits};
 use propagate::Round;
 use release_core::Setup;
-use rerun_workers::run_round;
 use round_inputs::{InputsError, inputs_of};
 use round_report::{Told, short};
 use std::alloc::{AllocError, Global};
@@ -98,16 +98,18 @@ fn round_line(
 
 /// The next round of the generated guest, made by the line's workers, with its line.
 fn make_line<R: Threads + Wait + Sync, G: Gate + Sync>(
-    rt: &R,
     alloc: Global,
     setup: &Setup,
     next: Next,
-    crew: &Crew<'_, G>,
+    crew: &mut Crew<'_, R, G>,
 ) -> Result<Played, AllocError>
     requires short { length next.input.items ≤ MOST_INPUT_BYTES }
     requires same { IsOfMap (option_map arc_value next.past) setup.now }
-    ensures { IfOk result (λ played. IsLineOn crew.now.workers (beginning_of setup.now next) next.input.items
+    ensures played { IfOk result (λ played. IsLineOn crew.old.workers (beginning_of setup.now next) next.input.items
         played.text.items played.exited (arc_value played.left)) }
+    ensures made { IfOk result (λ _. crew.new.made.number ≡ crew.old.made.number + 1) }
+    ensures one { crew.new.made.number ≤ crew.old.made.number + 1 }
+    ensures workers { crew.new.workers ≡ crew.old.workers }
 {
     let Next {
         number,
@@ -116,7 +118,7 @@ fn make_line<R: Threads + Wait + Sync, G: Gate + Sync>(
         ..
     } = next;
     let start = setup.with(input, setup.limits())?;
-    let (round, shares) = run_round(rt, alloc, start, past, crew.workers, crew.gate)?;
+    let (round, shares) = crew.make(alloc, start, past)?;
     let text = round_line(alloc, number as u64, &round, shares.as_slice())?;
     let exited = is_exit(round.end());
     let Some(left) = round.into_history() else {
@@ -150,15 +152,19 @@ struct Lines {
 
 /// Makes both rounds of the guest that is generated from a number, by the line's workers.
 fn make_both<R: Threads + Wait + Sync, G: Gate + Sync>(
-    rt: &R,
     alloc: Global,
     number: u32,
-    crew: &Crew<'_, G>,
+    crew: &mut Crew<'_, R, G>,
 ) -> Result<Lines, AllocError>
-    ensures { IfOk result (λ lines. AreTheGenerated crew.now.workers number lines.text.items lines.exits) }
+    ensures lines { IfOk result (λ lines. AreTheGenerated crew.old.workers number
+        crew.old.made.number crew.new.made.number lines.text.items lines.exits) }
+    ensures both { crew.new.made.number ≤ crew.old.made.number + 2 }
 {
-    let Plan { start, mut inputs } = prepare(alloc, number)?;
-    let Start { setup, .. } = start;
+    let Plan {
+        setup,
+        mut inputs,
+        ..
+    } = prepare(alloc, number)?;
     let Some(input) = inputs.next()? else {
         unreachable!()
     };
@@ -171,14 +177,14 @@ fn make_both<R: Threads + Wait + Sync, G: Gate + Sync>(
         past: None,
         reach: false,
     };
-    let first = make_line(rt, alloc, &setup, next, crew)?;
+    let first = make_line(alloc, &setup, next, crew)?;
     let next = Next {
         number: 1,
         input: edited,
         past: Some(first.left),
         reach: false,
     };
-    let second = make_line(rt, alloc, &setup, next, crew)?;
+    let second = make_line(alloc, &setup, next, crew)?;
     let text = text_of(alloc, number, first.text.as_slice(), second.text.as_slice())?;
     Ok(Lines {
         text,
@@ -188,19 +194,16 @@ fn make_both<R: Threads + Wait + Sync, G: Gate + Sync>(
 
 /// All that a line that runs the generated guest asks for.
 pub fn generate<R: Threads + Wait + Sync, H: Host, G: Gate + Sync>(
-    rt: &R,
     alloc: Global,
     host: &mut H,
     line: &GenerateLine,
-    gate: &G,
+    crew: &mut Crew<'_, R, G>,
 ) -> Status
-    ensures { GenerateEnds (generate_said line.now) (H.world host.old) (H.world host.new) result }
+    requires { crew.old.workers ≡ line.now.workers }
+    ensures ends { GenerateEnds (generate_said line.now) (H.world host.old) (H.world host.new) result }
+    ensures made { MakesRounds (Generates (generate_said line.now)) crew.old.made.number crew.new.made.number result }
 {
-    let crew = Crew {
-        workers: line.workers,
-        gate,
-    };
-    let Lines { text, exits } = match make_both(rt, alloc, line.number, &crew) {
+    let Lines { text, exits } = match make_both(alloc, line.number, crew) {
         Ok(lines) => lines,
         Err(_) => return no_memory(host),
     };

@@ -30,26 +30,19 @@ use round_inputs::{Inputs, InputsError, inputs_of};
 use std::alloc::{AllocError, Global};
 use std::sync::Arc;
 
-/// What rounds begin with.
+/// What rounds a line asks for.
 #[derive(Drop)]
-pub struct Start {
+pub struct Plan {
     /// The number of the first.
     pub number: usize,
     /// The history that the first goes by, if there is one.
     pub past: Option<Arc<History>>,
     /// The program and the limits of all of them, with some input.
     pub setup: Setup,
-    /// Whether their reports tell what is reached.
-    pub reach: bool,
-}
-
-/// What rounds a line asks for.
-#[derive(Drop)]
-pub struct Plan {
-    /// What they begin with.
-    pub start: Start,
     /// Their inputs, in order, each made when the one before it is taken out.
     pub inputs: Inputs,
+    /// Whether their reports tell what is reached.
+    pub reach: bool,
 }
 
 /// Makes a setup of what was read, with the limits of a line.
@@ -155,10 +148,7 @@ fn edit_again<H: Host>(
     ensures stays { Stays (H.world host.old) (H.world host.new) }
     ensures counts { NoneFell (H.world host.old) (H.world host.new) }
 {
-    let mut inputs = match edit(alloc, host, first, lists, names) {
-        Ok(inputs) => inputs,
-        Err(status) => return Err(status),
-    };
+    let mut inputs = edit(alloc, host, first, lists, names)?;
     let _count = inputs.len();
     if lists.is_empty() {
         return Ok(inputs);
@@ -185,38 +175,46 @@ fn fuel_of(line: &RerunLine<'_>, history: &History) -> u32
     }
 }
 
-/// What the rounds of this fuel begin with that go by a memo.
-fn start_after(alloc: Global, history: History, fuel: u32, reach: bool) -> Result<Start, AllocError>
+/// The plan of rounds of this fuel on these inputs, of which the first goes by a memo.
+fn after_memo(
+    alloc: Global,
+    history: History,
+    inputs: Inputs,
+    fuel: u32,
+    reach: bool,
+) -> Result<Plan, AllocError>
     requires { AreLimits fuel history.setup.limit }
-    ensures { IfOk result (λ start. beginning_said start ≡ begin.after_memo history fuel reach) }
+    ensures beginning { IfOk result (λ plan. beginning_said plan ≡ begin.after_memo history fuel reach) }
+    ensures inputs { IfOk result (λ plan. plan.inputs ≡ inputs) }
 {
     history.setup().sound();
     let limits = history.setup().limits().with_fuel(fuel);
     let input = Vec::from_slice(alloc, history.setup().input())?;
     let setup = history.setup().with(input, limits)?;
     let past = Arc::new(alloc, history)?;
-    Ok(Start {
+    Ok(Plan {
         number: 1,
         past: Some(past),
         setup,
+        inputs,
         reach,
     })
 }
 
 /// The plan of rounds from scratch on these inputs.
 pub fn from_scratch(setup: Setup, inputs: Inputs, reach: bool) -> Plan
-    ensures beginning { beginning_said result.start ≡ begin.from_scratch setup reach }
+    ensures beginning { beginning_said result ≡ begin.from_scratch setup reach }
     ensures inputs { result.inputs ≡ inputs }
     ensures few { length inputs < 2 ^ 64 }
 {
     let _count = inputs.len();
-    let start = Start {
+    Plan {
         number: 0,
         past: None,
         setup,
+        inputs,
         reach,
-    };
-    Plan { start, inputs }
+    }
 }
 
 /// What rounds a line asks for that runs a guest: its files are read, the executable is looked at, and then the edit
@@ -232,24 +230,16 @@ pub fn prepare<H: Host>(alloc: Global, host: &mut H, line: &RunLine<'_>) -> Resu
     ensures stays { Stays (H.world host.old) (H.world host.new) }
     ensures counts { NoneFell (H.world host.old) (H.world host.new) }
 {
-    let Files { elf, input, lists } = match read_files(alloc, host, line) {
-        Ok(files) => files,
-        Err(status) => return Err(status),
-    };
-    let setup = match set_up(alloc, host, elf, input, line.limits) {
-        Ok(setup) => setup,
-        Err(status) => return Err(status),
-    };
-    match edit(
+    let Files { elf, input, lists } = read_files(alloc, host, line)?;
+    let setup = set_up(alloc, host, elf, input, line.limits)?;
+    let inputs = edit(
         alloc,
         host,
         setup.input(),
         lists.as_slice(),
         line.edits.as_slice(),
-    ) {
-        Ok(inputs) => Ok(from_scratch(setup, inputs, line.reach)),
-        Err(status) => Err(status),
-    }
+    )?;
+    Ok(from_scratch(setup, inputs, line.reach))
 }
 
 /// What rounds a line asks for that reruns a memo: its files are read, the memo is looked at, and then the edit lists
@@ -269,27 +259,18 @@ pub fn prepare_rerun<H: Host>(
     ensures stays { Stays (H.world host.old) (H.world host.new) }
     ensures counts { NoneFell (H.world host.old) (H.world host.new) }
 {
-    let RerunFiles { memo, lists } = match read_rerun_files(alloc, host, line) {
-        Ok(files) => files,
-        Err(status) => return Err(status),
-    };
-    let history = match recall(alloc, host, memo.as_slice()) {
-        Ok(history) => history,
-        Err(status) => return Err(status),
-    };
-    let inputs = match edit_again(
+    let RerunFiles { memo, lists } = read_rerun_files(alloc, host, line)?;
+    let history = recall(alloc, host, memo.as_slice())?;
+    let inputs = edit_again(
         alloc,
         host,
         history.setup().input(),
         lists.as_slice(),
         line.edits.as_slice(),
-    ) {
-        Ok(inputs) => inputs,
-        Err(status) => return Err(status),
-    };
+    )?;
     let fuel = fuel_of(line, &history);
-    match start_after(alloc, history, fuel, line.reach) {
-        Ok(start) => Ok(Plan { start, inputs }),
+    match after_memo(alloc, history, inputs, fuel, line.reach) {
+        Ok(plan) => Ok(plan),
         Err(_) => {
             host.complain(NO_MEMORY);
             Err(Status::Memory)

@@ -1,11 +1,12 @@
 //! What the program does of a line, from the first read to the last write.
 
-ghost use Rattle.std.specs.Prelude.{option_map, map, string_bytes, IfOk, IfErr};
+ghost use Rattle.std.specs.Prelude.{◌≡◌, option_map, map, string_bytes, IfOk, IfErr};
 ghost use Rattle.ith_host.specs.World.{NoneFell, AsksNothing};
 ghost use Rattle.ith_words.specs.Words as said;
 ghost use Rattle.ith_words.specs.Words.{Runs, Reruns};
 ghost use Rattle.ith_words.specs.Said.{run_said, rerun_said};
 ghost use Rattle.ith_top.specs.Ends.{RoundsEnd, Ends};
+ghost use Rattle.ith_top.specs.Counting.{MakesRounds};
 ghost use Rattle.ith_top.specs.Refusals.{WhyUndone};
 ghost use Rattle.ith_top.specs.Playing.{plan_said, CanBePlayed, CanBeSpelled, IsCarriedOut};
 
@@ -16,7 +17,7 @@ use super::generating::generate;
 use super::keeping::keep;
 use super::plan::{Plan, prepare, prepare_rerun};
 use super::replaying::replay;
-use super::rounds::{Outcome, play};
+use super::rounds::{Outcome, make_rounds};
 use super::showing::show;
 use super::status::Status;
 use ith_host::{Gate, Host};
@@ -28,26 +29,22 @@ use std::thread::Threads;
 /// Makes the rounds of a plan, prints their texts, and writes the memo of what the last one leaves, if it has a name.
 /// The answer is whether each round ended by exit.
 fn carry_out<R: Threads + Wait + Sync, H: Host, G: Gate + Sync>(
-    rt: &R,
     alloc: Global,
     host: &mut H,
     plan: Plan,
-    crew: &Crew<'_, G>,
+    crew: &mut Crew<'_, R, G>,
     kept: Option<&str>,
 ) -> Result<bool, Status>
     requires playable { CanBePlayed (plan_said plan) }
     requires spelled { CanBeSpelled (plan_said plan) }
-    ensures done { IfOk result (λ exits. IsCarriedOut (option_map (λ name. name.now) kept.entry) crew.now.workers
-        (plan_said plan) (H.world host.old) (H.world host.new) exits) }
-    ensures refused { IfErr result (λ status. WhyUndone (option_map (λ name. name.now) kept.entry) crew.now.workers
-        (plan_said plan) (H.world host.old) (H.world host.new) status) }
+    ensures done { IfOk result (λ exits. IsCarriedOut (option_map (λ name. name.now) kept.entry) crew.old.workers
+        (plan_said plan) (H.world host.old) (H.world host.new) crew.old.made.number crew.new.made.number exits) }
+    ensures refused { IfErr result (λ status. WhyUndone (option_map (λ name. name.now) kept.entry) crew.old.workers
+        (plan_said plan) (H.world host.old) (H.world host.new) crew.old.made.number crew.new.made.number status) }
     ensures asked { AsksNothing (H.world host.old) (H.world host.new) }
     ensures counts { NoneFell (H.world host.old) (H.world host.new) }
 {
-    let Outcome { exits, left } = match play(rt, alloc, host, plan, crew) {
-        Ok(outcome) => outcome,
-        Err(status) => return Err(status),
-    };
+    let Outcome { exits, left } = make_rounds(alloc, host, plan, crew)?;
     match kept {
         Some(name) => match keep(alloc, host, name, &left) {
             Ok(()) => Ok(exits),
@@ -59,23 +56,20 @@ fn carry_out<R: Threads + Wait + Sync, H: Host, G: Gate + Sync>(
 
 /// All that a line that runs a guest asks for.
 fn run<R: Threads + Wait + Sync, H: Host, G: Gate + Sync>(
-    rt: &R,
     alloc: Global,
     host: &mut H,
     line: &RunLine<'_>,
-    gate: &G,
+    crew: &mut Crew<'_, R, G>,
 ) -> Status
-    ensures { RoundsEnd (Runs (run_said line.now)) (H.world host.old) (H.world host.new) result }
+    requires { crew.old.workers ≡ line.now.workers }
+    ensures ends { RoundsEnd (Runs (run_said line.now)) (H.world host.old) (H.world host.new) result }
+    ensures made { MakesRounds (Runs (run_said line.now)) crew.old.made.number crew.new.made.number result }
 {
     let plan = match prepare(alloc, host, line) {
         Ok(plan) => plan,
         Err(status) => return status,
     };
-    let crew = Crew {
-        workers: line.workers,
-        gate,
-    };
-    match carry_out(rt, alloc, host, plan, &crew, line.kept) {
+    match carry_out(alloc, host, plan, crew, line.kept) {
         Ok(true) => Status::Finished,
         Ok(false) => Status::Unfinished,
         Err(status) => status,
@@ -84,23 +78,20 @@ fn run<R: Threads + Wait + Sync, H: Host, G: Gate + Sync>(
 
 /// All that a line that reruns a memo asks for.
 fn rerun<R: Threads + Wait + Sync, H: Host, G: Gate + Sync>(
-    rt: &R,
     alloc: Global,
     host: &mut H,
     line: &RerunLine<'_>,
-    gate: &G,
+    crew: &mut Crew<'_, R, G>,
 ) -> Status
-    ensures { RoundsEnd (Reruns (rerun_said line.now)) (H.world host.old) (H.world host.new) result }
+    requires { crew.old.workers ≡ line.now.workers }
+    ensures ends { RoundsEnd (Reruns (rerun_said line.now)) (H.world host.old) (H.world host.new) result }
+    ensures made { MakesRounds (Reruns (rerun_said line.now)) crew.old.made.number crew.new.made.number result }
 {
     let plan = match prepare_rerun(alloc, host, line) {
         Ok(plan) => plan,
         Err(status) => return status,
     };
-    let crew = Crew {
-        workers: line.workers,
-        gate,
-    };
-    match carry_out(rt, alloc, host, plan, &crew, line.kept) {
+    match carry_out(alloc, host, plan, crew, line.kept) {
         Ok(true) => Status::Finished,
         Ok(false) => Status::Unfinished,
         Err(status) => status,
@@ -118,12 +109,17 @@ pub fn status_of<R: Threads + Wait + Sync, H: Host, G: Gate + Sync>(
     ensures { Ends (said.line_of (map string_bytes words.now)) (H.world host.old) (H.world host.new) result }
 {
     match line_of(alloc, words) {
-        Ok(Line::Run(line)) => run(rt, alloc, host, &line, gate),
-        Ok(Line::Rerun(line)) => rerun(rt, alloc, host, &line, gate),
+        Ok(Line::Run(line)) => run(alloc, host, &line, &mut Crew::new(rt, line.workers, gate)),
+        Ok(Line::Rerun(line)) => rerun(alloc, host, &line, &mut Crew::new(rt, line.workers, gate)),
         Ok(Line::Replay(line)) => replay(rt, alloc, host, &line),
         Ok(Line::Show(line)) => show(alloc, host, &line),
         Ok(Line::Explain(line)) => explain(rt, alloc, host, &line),
-        Ok(Line::Generate(line)) => generate(rt, alloc, host, &line, gate),
+        Ok(Line::Generate(line)) => generate(
+            alloc,
+            host,
+            &line,
+            &mut Crew::new(rt, line.workers, gate),
+        ),
         Err(LineFault::Refused(text)) => {
             host.complain(text.as_slice());
             Status::Words

@@ -75,18 +75,10 @@ fn prepare<H: Host>(alloc: Global, host: &mut H, line: &ReplayLine<'_>) -> Resul
         elf,
         input,
         schedule,
-    } = match read_replay_files(alloc, host, line) {
-        Ok(files) => files,
-        Err(status) => return Err(status),
-    };
-    let setup = match set_up(alloc, host, elf, input, line.limits) {
-        Ok(setup) => setup,
-        Err(status) => return Err(status),
-    };
-    match threads_of(alloc, host, schedule.as_slice()) {
-        Ok(threads) => Ok(Asked { setup, threads }),
-        Err(status) => Err(status),
-    }
+    } = read_replay_files(alloc, host, line)?;
+    let setup = set_up(alloc, host, elf, input, line.limits)?;
+    let threads = threads_of(alloc, host, schedule.as_slice())?;
+    Ok(Asked { setup, threads })
 }
 
 /// What a schedule comes to from scratch, with a counter of turns that nobody else has.

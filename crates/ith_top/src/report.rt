@@ -1,6 +1,6 @@
 //! A round that a line's workers make, and its report.
 
-ghost use Rattle.std.specs.Prelude.{◌≡◌, ◌≤◌, length, option_map, IfOk};
+ghost use Rattle.std.specs.Prelude.{◌≡◌, ◌+◌, ◌≤◌, length, option_map, IfOk};
 ghost use Rattle.std.specs.Arc.{arc_value};
 ghost use Rattle.machine_spec.specs.declared.TheConstants.{MOST_INPUT_BYTES};
 ghost use Rattle.report_spec.specs.Report.{report_text};
@@ -13,7 +13,6 @@ use ith_host::Gate;
 use machine_spec::End;
 use propagate::Round;
 use release_core::{History, Setup};
-use rerun_workers::run_round;
 use round_report::{Digested, Told, text};
 use std::alloc::{AllocError, Global};
 use std::sync::{Arc, Wait};
@@ -83,17 +82,19 @@ pub fn is_exit(ending: Option<End>) -> bool
 ///
 /// An error where the host's memory ran out.
 pub fn make_round<R: Threads + Wait + Sync, G: Gate + Sync>(
-    rt: &R,
     alloc: Global,
     setup: &Setup,
     next: Next,
-    crew: &Crew<'_, G>,
+    crew: &mut Crew<'_, R, G>,
     last: &mut Option<Digested>,
 ) -> Result<Played, AllocError>
     requires short { length next.input.items ≤ MOST_INPUT_BYTES }
     requires same { IsOfMap (option_map arc_value next.past) setup.now }
-    ensures { IfOk result (λ played. IsMadeOn crew.now.workers (beginning_of setup.now next) next.input.items
+    ensures played { IfOk result (λ played. IsMadeOn crew.old.workers (beginning_of setup.now next) next.input.items
         played.text.items played.exited (arc_value played.left)) }
+    ensures made { IfOk result (λ _. crew.new.made.number ≡ crew.old.made.number + 1) }
+    ensures one { crew.new.made.number ≤ crew.old.made.number + 1 }
+    ensures workers { crew.new.workers ≡ crew.old.workers }
 {
     let Next {
         number,
@@ -102,7 +103,7 @@ pub fn make_round<R: Threads + Wait + Sync, G: Gate + Sync>(
         reach,
     } = next;
     let start = setup.with(input, setup.limits())?;
-    let (round, shares) = run_round(rt, alloc, start, past, crew.workers, crew.gate)?;
+    let (round, shares) = crew.make(alloc, start, past)?;
     let text = round_text(alloc, number as u64, &round, reach, shares.as_slice(), last)?;
     let exited = is_exit(round.end());
     let Some(left) = round.into_history() else {

@@ -4,18 +4,17 @@ ghost use Rattle.std.specs.Prelude.{◌≡◌, IfOk, IfErr};
 ghost use Rattle.std.specs.Arc.{arc_value};
 ghost use Rattle.ith_host.specs.World.{Stays, NoneFell, AsksNothing};
 ghost use Rattle.ith_top.specs.Refusals.{IsPlayedInPart};
-ghost use Rattle.ith_top.specs.Playing.{coming_said, plan_said, CanBePlayed, IsPlayed};
+ghost use Rattle.ith_top.specs.Playing.{plan_said, CanBePlayed, IsPlayed};
 ghost use Rattle.ith_top.specs.declared.status.Status.TheVariants as status;
 
 use super::complaints::NO_MEMORY;
 use super::crew::Crew;
 use super::outside::print_text;
-use super::plan::{Plan, Start};
+use super::plan::Plan;
 use super::report::{Next, Played, make_round};
 use super::status::Status;
 use ith_host::{Gate, Host};
-use release_core::{History, Setup};
-use round_inputs::Inputs;
+use release_core::History;
 use std::alloc::Global;
 use std::sync::{Arc, Wait};
 use std::thread::Threads;
@@ -40,43 +39,29 @@ pub fn no_memory<H: Host>(host: &mut H) -> Status
     Status::Memory
 }
 
-/// The rounds of a program that are still to come.
-#[derive(Drop)]
-pub struct Coming {
-    /// The number of the first.
-    pub number: usize,
-    /// The history that the first goes by, if there is one.
-    pub past: Option<Arc<History>>,
-    /// Their inputs, in order.
-    pub inputs: Inputs,
-    /// Whether their reports tell what is reached.
-    pub reach: bool,
-}
-
-/// Makes the rounds of a program that are to come, each going by what the one before it leaves, and prints the text of
-/// each before the next begins.
-fn make_rounds<R: Threads + Wait + Sync, H: Host, G: Gate + Sync>(
-    rt: &R,
+/// Makes the rounds of a plan, each going by what the one before it leaves, and prints the text of each before the next
+/// begins.
+pub fn make_rounds<R: Threads + Wait + Sync, H: Host, G: Gate + Sync>(
     alloc: Global,
     host: &mut H,
-    setup: &Setup,
-    coming: Coming,
-    crew: &Crew<'_, G>,
+    plan: Plan,
+    crew: &mut Crew<'_, R, G>,
 ) -> Result<Outcome, Status>
-    requires { CanBePlayed (coming_said setup.now coming) }
-    ensures played { IfOk result (λ outcome. IsPlayed crew.now.workers (coming_said setup.now coming)
-        (H.world host.old) (H.world host.new) outcome.exits (arc_value outcome.left)) }
-    ensures refused { IfErr result (λ status. IsPlayedInPart crew.now.workers (coming_said setup.now coming)
-        (H.world host.old) (H.world host.new) status) }
+    requires { CanBePlayed (plan_said plan) }
+    ensures played { IfOk result (λ outcome. IsPlayed crew.old.workers (plan_said plan)
+        (H.world host.old) (H.world host.new) crew.old.made.number crew.new.made.number outcome.exits (arc_value outcome.left)) }
+    ensures refused { IfErr result (λ status. IsPlayedInPart crew.old.workers (plan_said plan)
+        (H.world host.old) (H.world host.new) crew.old.made.number crew.new.made.number status) }
     ensures asked { AsksNothing (H.world host.old) (H.world host.new) }
     ensures counts { NoneFell (H.world host.old) (H.world host.new) }
 {
-    let Coming {
+    let Plan {
         number: first,
         mut past,
+        setup,
         mut inputs,
         reach,
-    } = coming;
+    } = plan;
     let mut last = None;
     let mut exits = true;
     for place in 0..inputs.len() {
@@ -92,7 +77,7 @@ fn make_rounds<R: Threads + Wait + Sync, H: Host, G: Gate + Sync>(
             reach,
         };
         let Played { text, exited, left } = match make_round(
-            rt, alloc, setup, ahead, crew, &mut last,
+            alloc, &setup, ahead, crew, &mut last,
         ) {
             Ok(played) => played,
             Err(_) => return Err(no_memory(host)),
@@ -108,37 +93,4 @@ fn make_rounds<R: Threads + Wait + Sync, H: Host, G: Gate + Sync>(
         Some(left) => Ok(Outcome { exits, left }),
         None => unreachable!(),
     }
-}
-
-/// Makes the rounds of a plan, each going by what the one before it leaves, and prints the text of each before the next
-/// begins.
-pub fn play<R: Threads + Wait + Sync, H: Host, G: Gate + Sync>(
-    rt: &R,
-    alloc: Global,
-    host: &mut H,
-    plan: Plan,
-    crew: &Crew<'_, G>,
-) -> Result<Outcome, Status>
-    requires { CanBePlayed (plan_said plan) }
-    ensures played { IfOk result (λ outcome. IsPlayed crew.now.workers (plan_said plan)
-        (H.world host.old) (H.world host.new) outcome.exits (arc_value outcome.left)) }
-    ensures refused { IfErr result (λ status. IsPlayedInPart crew.now.workers (plan_said plan)
-        (H.world host.old) (H.world host.new) status) }
-    ensures asked { AsksNothing (H.world host.old) (H.world host.new) }
-    ensures counts { NoneFell (H.world host.old) (H.world host.new) }
-{
-    let Plan { start, inputs } = plan;
-    let Start {
-        number,
-        past,
-        setup,
-        reach,
-    } = start;
-    let coming = Coming {
-        number,
-        past,
-        inputs,
-        reach,
-    };
-    make_rounds(rt, alloc, host, &setup, coming, crew)
 }

@@ -1,4 +1,5 @@
 -- The files of lemmas of this crate.
+pub mod Arguments
 pub mod CommandLine
 pub mod NoLine
 pub mod Rows

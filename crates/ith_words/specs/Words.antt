@@ -86,10 +86,6 @@ default_limit = 4096
 abbrev pub operand_rule : Text → Rule
 operand_rule id = record (new_rule id) { required = true }
 
--- An operand that may be given any number of times, or not at all. (POSIX.1-2017, XBD 12.1)
-abbrev pub operands_rule : Text → Rule
-operands_rule id = record (new_rule id) { action = Some Append }
-
 -- An operand that is a whole number of at most this, which has to be there. (POSIX.1-2017, XBD 12.1)
 abbrev pub number_operand_rule : Text → ℕ → Rule
 number_operand_rule id most = record (new_rule id) { required = true; parser = Some (parser.Unsigned 0 most) }
@@ -98,79 +94,70 @@ number_operand_rule id most = record (new_rule id) { required = true; parser = S
 abbrev pub number_rule : Text → ℕ → Rule
 number_rule id most = record (new_rule id) { long = Some id; action = Some Set; parser = Some (parser.Unsigned 1 most) }
 
--- An option whose argument is any text.
-abbrev pub text_rule : Text → Rule
-text_rule id = record (new_rule id) { long = Some id; action = Some Set }
+-- The operand for edit lists, of which there may be any number. (POSIX.1-2017, XBD 12.1)
+abbrev pub edits_rule : Rule
+edits_rule = record (new_rule (codes "EDITS")) { action = Some Append }
 
--- An option that has no argument.
-abbrev pub flag_rule : Text → Rule
-flag_rule id = record (new_rule id) { long = Some id; action = Some SetTrue }
+-- The option for the number of workers.
+abbrev pub workers_rule : Rule
+workers_rule = number_rule (codes "workers") MOST_WORKERS
 
--- A command with the operand for edit lists more, of which there may be any number.
-abbrev pub with_edits : App → App
-with_edits command = with_rule command (operands_rule (codes "EDITS"))
+-- The option for the most turns of a thunk.
+abbrev pub fuel_rule : Rule
+fuel_rule = number_rule (codes "fuel") MOST_FUEL
 
--- A command with the option for the number of workers more.
-abbrev pub with_workers : App → App
-with_workers command = with_rule command (number_rule (codes "workers") MOST_WORKERS)
+-- The option for the most steps of a run.
+abbrev pub steps_rule : Rule
+steps_rule = number_rule (codes "steps") MOST_STEPS
 
--- A command with the option for the fuel more.
-abbrev pub with_fuel : App → App
-with_fuel command = with_rule command (number_rule (codes "fuel") MOST_FUEL)
+-- The option for the memo to write.
+abbrev pub memo_rule : Rule
+memo_rule = record (new_rule (codes "memo")) { long = Some (codes "memo"); action = Some Set }
 
--- A command with the options for the limits of a run more.
-abbrev pub with_limits : App → App
-with_limits command = with_rule (with_fuel command) (number_rule (codes "steps") MOST_STEPS)
+-- The option to tell what an edit reaches, which has no argument.
+abbrev pub reach_rule : Rule
+reach_rule = record (new_rule (codes "reach")) { long = Some (codes "reach"); action = Some SetTrue }
 
--- A command with the option for the memo to write more.
-abbrev pub with_memo : App → App
-with_memo command = with_rule command (text_rule (codes "memo"))
+-- A command with arguments more, in their order.
+abbrev pub with_rules : App → List Rule → App
+with_rules command [] = command
+with_rules command (rule ∷ rules) = with_rules (with_rule command rule) rules
 
--- A command with the option to tell what an edit reaches more.
-abbrev pub with_reach : App → App
-with_reach command = with_rule command (flag_rule (codes "reach"))
+-- The command of this name with these arguments, in their order.
+abbrev pub command : Text → List Rule → App
+command name rules = with_rules (new_app name) rules
 
--- The operands of the command that runs a guest: two, and then any number of edit lists.
-abbrev pub run_operands : App
-run_operands =
-    with_edits
-    (with_rule (with_rule (new_app (codes "run")) (operand_rule (codes "ELF"))) (operand_rule (codes "INPUT")))
-
--- The command that runs a guest: its operands, and five options.
+-- The command that runs a guest: the executable, the input, any number of edit lists, and five options.
 abbrev pub run_command : App
-run_command = with_reach (with_memo (with_limits (with_workers run_operands)))
+run_command =
+    command (codes "run")
+    (operand_rule (codes "ELF") ∷ operand_rule (codes "INPUT") ∷ edits_rule ∷ workers_rule ∷ fuel_rule ∷ steps_rule
+    ∷ memo_rule ∷ reach_rule ∷ [])
 
--- The operands of the command that goes on from a memo: the memo, and then any number of edit lists.
-abbrev pub rerun_operands : App
-rerun_operands = with_edits (with_rule (new_app (codes "rerun")) (operand_rule (codes "MEMO")))
-
--- The command that goes on from a memo: its operands, and four options.
+-- The command that goes on from a memo: the memo, any number of edit lists, and four options.
 abbrev pub rerun_command : App
-rerun_command = with_reach (with_memo (with_fuel (with_workers rerun_operands)))
+rerun_command =
+    command (codes "rerun")
+    (operand_rule (codes "MEMO") ∷ edits_rule ∷ workers_rule ∷ fuel_rule ∷ memo_rule ∷ reach_rule ∷ [])
 
--- The operands of the command that replays a schedule: three.
-abbrev pub replay_operands : App
-replay_operands =
-    with_rule
-    (with_rule (with_rule (new_app (codes "replay")) (operand_rule (codes "ELF"))) (operand_rule (codes "INPUT")))
-    (operand_rule (codes "SCHEDULE"))
-
--- The command that replays a schedule: its operands, and two options.
+-- The command that replays a schedule: three operands, and two options.
 abbrev pub replay_command : App
-replay_command = with_limits replay_operands
+replay_command =
+    command (codes "replay")
+    (operand_rule (codes "ELF") ∷ operand_rule (codes "INPUT") ∷ operand_rule (codes "SCHEDULE") ∷ fuel_rule
+    ∷ steps_rule ∷ [])
 
 -- The command that lists a memo: the memo alone.
 abbrev pub show_command : App
-show_command = with_rule (new_app (codes "show")) (operand_rule (codes "MEMO"))
+show_command = command (codes "show") (operand_rule (codes "MEMO") ∷ [])
 
 -- The command that tells why steps were executed: the memo, and an edit list.
 abbrev pub explain_command : App
-explain_command =
-    with_rule (with_rule (new_app (codes "why")) (operand_rule (codes "MEMO"))) (operand_rule (codes "EDITS"))
+explain_command = command (codes "why") (operand_rule (codes "MEMO") ∷ operand_rule (codes "EDITS") ∷ [])
 
 -- The command that runs the generated guest: a number, and an option.
 abbrev pub generate_command : App
-generate_command = with_workers (with_rule (new_app (codes "gen")) (number_operand_rule (codes "NUMBER") MOST_NUMBER))
+generate_command = command (codes "gen") (number_operand_rule (codes "NUMBER") MOST_NUMBER ∷ workers_rule ∷ [])
 
 -- The program, which has to be given one of its commands.
 abbrev pub program : App

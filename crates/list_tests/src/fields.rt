@@ -1,33 +1,35 @@
 //! What no clause says: that fields are written with ample memory, and read again as they were.
 
 use ith_fields::*;
-use std::test::Fail;
+use std::alloc::{AllocError, Global};
 
-#[test]
-fn fields_are_read_as_they_were_written(rt: HostRuntime) -> Result<(), Fail> {
-    let mut out = Out::new(rt.alloc());
-    assert!(rt; out.is_empty());
+/// Two bytes, and a number of each width, as fields.
+fn written(alloc: Global) -> Result<Vec<u8>, AllocError> {
+    let mut out = Out::new(alloc);
     out.bytes(b"ab")?;
     out.u8(1)?;
     out.u16(0x0302)?;
     out.u32(0x07060504)?;
     out.u64(0x0f0e0d0c0b0a0908)?;
-    assert_eq!(rt; out.len(), 17);
-    assert_eq!(rt;
-        out.as_slice(),
-        b"ab\x01\x02\x03\x04\x05\x06\x07\x08\x09\x0a\x0b\x0c\x0d\x0e\x0f".as_slice()
-    );
-    let bytes = out.into_vec();
-    let mut cursor = Cursor::new(bytes.as_slice());
-    assert!(rt; cursor.bytes(18).is_err());
-    assert_eq!(rt; (cursor.position(), cursor.remaining()), (0, 17));
-    assert!(rt; cursor.bytes(2) == Ok(b"ab".as_slice()));
-    assert_eq!(rt; cursor.u8(), Ok(1));
-    assert_eq!(rt; (cursor.position(), cursor.remaining()), (3, 14));
-    assert_eq!(rt; cursor.u16(), Ok(0x0302));
-    assert_eq!(rt; cursor.u32(), Ok(0x07060504));
-    assert_eq!(rt; cursor.u64(), Ok(0x0f0e0d0c0b0a0908));
-    assert_eq!(rt; cursor.u8(), Err(Short));
-    assert_eq!(rt; (cursor.position(), cursor.remaining()), (17, 0));
+    Ok(out.into_vec())
+}
+
+/// The numbers behind two bytes.
+fn read(bytes: &[u8]) -> Result<(u8, u16, u32, u64), Short> {
+    let mut cursor = Cursor::new(bytes);
+    cursor.bytes(2)?;
+    let first = cursor.u8()?;
+    let second = cursor.u16()?;
+    let third = cursor.u32()?;
+    Ok((first, second, third, cursor.u64()?))
+}
+
+#[test]
+fn fields_are_read_as_they_were_written(rt: HostRuntime) -> Result<(), AllocError> {
+    let bytes = written(rt.alloc())?;
+    let wanted = b"ab\x01\x02\x03\x04\x05\x06\x07\x08\x09\x0a\x0b\x0c\x0d\x0e\x0f".as_slice();
+    assert!(rt; bytes.as_slice() == wanted);
+    assert!(rt; read(wanted) == Ok((1, 0x0302, 0x07060504, 0x0f0e0d0c0b0a0908)));
+    assert!(rt; read(b"ab\x01\x02\x03\x04\x05\x06\x07\x08".as_slice()) == Err(Short));
     Ok(())
 }

@@ -1,4 +1,5 @@
-//! Edit lists, inputs, schedules, fields, texts and written executables, tried through the public calls of their crates.
+//! Hosts, edit lists, inputs, schedules, fields, texts and written executables, tried through the public calls of
+//! their crates.
 #![tactic(auto)]
 
 #[cfg(test)]
@@ -9,6 +10,8 @@ mod edits;
 mod fields;
 #[cfg(test)]
 mod generated;
+#[cfg(test)]
+mod hosts;
 #[cfg(test)]
 mod inputs;
 #[cfg(test)]

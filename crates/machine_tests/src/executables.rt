@@ -1,22 +1,11 @@
 //! What no clause says: that an image is made, and is refused, with ample memory. Each file is made by changing one that is taken.
+use super::fixtures::HI;
 use elf_load::*;
 use elf_spec::Refusal;
 use page_map::Perm;
 use std::alloc::{AllocError, Global};
 use std::process::Abort;
 use std::test::Fail;
-
-/// A guest that puts out "hi" and ends: 35 bytes at 0x10000.
-const HI: [u8; 119] = [
-    0x7f, 0x45, 0x4c, 0x46, 0x01, 0x01, 0x01, 0x00, 0x00, 0x00, 0x00, 0x00, 0x00, 0x00, 0x00, 0x00,
-    0x02, 0x00, 0xf3, 0x00, 0x01, 0x00, 0x00, 0x00, 0x00, 0x00, 0x01, 0x00, 0x34, 0x00, 0x00, 0x00,
-    0x00, 0x00, 0x00, 0x00, 0x00, 0x00, 0x00, 0x00, 0x34, 0x00, 0x20, 0x00, 0x01, 0x00, 0x00, 0x00,
-    0x00, 0x00, 0x00, 0x00, 0x01, 0x00, 0x00, 0x00, 0x54, 0x00, 0x00, 0x00, 0x00, 0x00, 0x01, 0x00,
-    0x00, 0x00, 0x01, 0x00, 0x23, 0x00, 0x00, 0x00, 0x23, 0x00, 0x00, 0x00, 0x07, 0x00, 0x00, 0x00,
-    0x04, 0x00, 0x00, 0x00, 0x37, 0x05, 0x01, 0x00, 0x13, 0x05, 0x05, 0x02, 0x93, 0x05, 0x30, 0x00,
-    0x93, 0x08, 0x10, 0x00, 0x73, 0x00, 0x00, 0x00, 0x13, 0x05, 0x00, 0x00, 0x93, 0x08, 0x00, 0x00,
-    0x73, 0x00, 0x00, 0x00, 0x68, 0x69, 0x0a,
-];
 
 /// Bytes that stand from an offset on in place of those of the guest.
 type Change = (usize, &'static [u8]);
@@ -185,38 +174,51 @@ const MORE_HEADERS: [Row; 13] = [
 ];
 
 /// Compares what is said of each file.
-fn compare<R: Abort>(rt: &R, alloc: Global, rows: &[Row]) -> Result<(), Fail> {
+fn compare<R: Abort>(rt: &R, alloc: Global, rows: &[Row]) -> Result<(), AllocError> {
     for (number, (length, changes, want)) in rows.iter().enumerate() {
         let file = changed(alloc, *length, *changes)?;
-        assert_eq!(rt; refusal(alloc, &file)?, *want, "row {number}");
+        assert!(rt; refusal(alloc, &file)? == *want, "row {number}");
     }
     Ok(())
 }
 
 #[test]
-fn changed_files_are_refused(rt: HostRuntime) -> Result<(), Fail> {
+fn changed_files_are_refused(rt: HostRuntime) -> Result<(), AllocError> {
     compare(&rt, rt.alloc(), &ONE_HEADER)?;
     compare(&rt, rt.alloc(), &MORE_HEADERS)
 }
 
-#[test]
-fn cut_files_are_refused(rt: HostRuntime) -> Result<(), Fail> {
-    for (length, _) in HI.iter().enumerate() {
-        let want = if length < 52 {
-            Refusal::NotElf
-        } else if length < 84 {
-            Refusal::ShortTable(0)
-        } else {
-            Refusal::ShortSegment(0)
-        };
-        assert_eq!(rt;
-            refusal(rt.alloc(), &HI[..length])?,
-            Some(want),
-            "at {length}"
-        );
+/// What the guest's file is refused for that is cut at a length.
+fn refusal_at(length: usize) -> Refusal {
+    if length < 52 {
+        Refusal::NotElf
+    } else if length < 84 {
+        Refusal::ShortTable(0)
+    } else {
+        Refusal::ShortSegment(0)
     }
-    assert_eq!(rt; refusal(rt.alloc(), &HI)?, None);
+}
+
+#[test]
+fn cut_files_are_refused(rt: HostRuntime) -> Result<(), AllocError> {
+    for length in 0..119usize {
+        let found = refusal(rt.alloc(), &HI[..length])?;
+        assert!(rt; found == Some(refusal_at(length)), "at {length}");
+    }
     Ok(())
+}
+
+/// The image of a sound file.
+fn image_of(alloc: Global, file: &[u8]) -> Result<Image, Fail> {
+    match load(alloc, file) {
+        Ok(image) => Ok(image),
+        Err(_) => Err(Fail::new("the file isn't taken")),
+    }
+}
+
+/// Whether an image begins at the guest's address and has so many pages.
+fn has_pages(image: &Image, count: usize) -> bool {
+    image.entry == 0x10000 && image.map.len() == count && image.pages.len() == count
 }
 
 /// A page of an image: whether it is the first of the map at an address, its rights, and three of its bytes.
@@ -234,44 +236,22 @@ fn is_page(image: &Image, slot: usize, address: u32, rights: Perm, bytes: [u8; 3
 
 #[test]
 fn images_of_guests(rt: HostRuntime) -> Result<(), Fail> {
-    let alloc = rt.alloc();
-    match load(alloc, &HI) {
-        Ok(image) => {
-            assert_eq!(rt;
-                (image.entry, image.map.len(), image.pages.len()),
-                (0x10000, 1, 1)
-            );
-            assert!(rt;
-                is_page(
-                    &image,
-                    0,
-                    0x10fff,
-                    Perm::X | Perm::W | Perm::R,
-                    [0x37, 0x0a, 0]
-                )
-            );
-        }
-        Err(_) => assert!(rt; false, "a sound file"),
-    }
-    // two pages and a byte of zeros behind the text, a byte of another segment before it, and text that may not be written
-    match load(
-        alloc,
-        &changed(
-            alloc,
-            119,
-            &[TWO, ONE_AT_FFFF, (72, b"\0\x20"), (76, b"\x05")],
-        )?,
-    ) {
-        Ok(image) => {
-            assert_eq!(rt;
-                (image.entry, image.map.len(), image.pages.len()),
-                (0x10000, 3, 3)
-            );
-            assert!(rt; is_page(&image, 0, 0xf000, Perm::R, [0, 0, 0]));
-            assert!(rt; is_page(&image, 1, 0x10000, Perm::X | Perm::R, [0x01, 0x0a, 0]));
-            assert!(rt; is_page(&image, 2, 0x11fff, Perm::X | Perm::R, [0, 0, 0]));
-        }
-        Err(_) => assert!(rt; false, "a sound file"),
-    }
+    let image = image_of(rt.alloc(), &HI)?;
+    assert!(rt; has_pages(&image, 1));
+    let rights = Perm::X | Perm::W | Perm::R;
+    assert!(rt; is_page(&image, 0, 0x10fff, rights, [0x37, 0x0a, 0]));
+    Ok(())
+}
+
+// two pages and a byte of zeros behind the text, a byte of another segment before it, and text that may not be written
+#[test]
+fn images_of_two_segments(rt: HostRuntime) -> Result<(), Fail> {
+    let changes = [TWO, ONE_AT_FFFF, (72, b"\0\x20"), (76, b"\x05")];
+    let file = changed(rt.alloc(), 119, &changes)?;
+    let image = image_of(rt.alloc(), &file)?;
+    assert!(rt; has_pages(&image, 3));
+    assert!(rt; is_page(&image, 0, 0xf000, Perm::R, [0, 0, 0]));
+    assert!(rt; is_page(&image, 1, 0x10000, Perm::X | Perm::R, [0x01, 0x0a, 0]));
+    assert!(rt; is_page(&image, 2, 0x11fff, Perm::X | Perm::R, [0, 0, 0]));
     Ok(())
 }

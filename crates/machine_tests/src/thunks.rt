@@ -2,6 +2,7 @@
 
 ghost use Rattle.std.specs.Prelude.{◌≡◌, ◌<◌};
 
+use super::fixtures::HI;
 use page_map::{MappedPage, PageMap, Perm};
 use page_store::{Page, PageTable};
 use rv_alu::Regs;
@@ -12,17 +13,10 @@ use std::sync::Arc;
 use std::sync::atomic::{AtomicU64, Ordering};
 use std::sync::ledger::{Blank, Ledger};
 use std::thread::Threads;
-use thunk_record::{Frame, fits};
+use thunk_record::Frame;
 use thunk_run::{Job, LONG_TURNS, Run, Watch, execute, execute_watched};
 use thunk_spec::ThunkEnd;
 use turn_count::Turns;
-
-/// lui a0,0x10; addi a0,a0,0x20; addi a1,x0,3; addi a7,x0,1; ecall; and "hi\n" at 0x10020.
-const HI: [u8; 35] = [
-    0x37, 0x05, 0x01, 0x00, 0x13, 0x05, 0x05, 0x02, 0x93, 0x05, 0x30, 0x00, 0x93, 0x08, 0x10, 0x00,
-    0x73, 0x00, 0x00, 0x00, 0x13, 0x05, 0x00, 0x00, 0x93, 0x08, 0x00, 0x00, 0x73, 0x00, 0x00, 0x00,
-    0x68, 0x69, 0x0a,
-];
 
 /// lui t0,0x10; lw t1,0x18(t0); sw t1,0x10(t0); addi a7,x0,0; addi a0,x0,1; ecall; and the word of
 /// addi a0,x0,9.
@@ -37,10 +31,8 @@ const LOOP: [u8; 4] = [0x6f, 0x00, 0x00, 0x00];
 /// The first thunk of a guest with this code at 0x10000 and a page of zeros behind it.
 fn job_of(alloc: Global, code: &[u8], fuel: u32) -> Result<Job, AllocError> {
     let mut bytes = [0; 4096];
-    for (place, byte) in code.iter().enumerate() {
-        if place < 4096 {
-            bytes[place] = *byte;
-        }
+    for (place, byte) in bytes.iter_mut().zip(code.iter()) {
+        *place = *byte;
     }
     let pages = vec![in alloc;
         MappedPage::new(0x10, Perm::R | Perm::W | Perm::X),
@@ -70,48 +62,46 @@ fn counted<R: Threads, L: Ledger>(
     execute(alloc, job, &mut Turns::<L>::new(rt, blank))
 }
 
-/// A job run, with nobody who looks at the counter.
-pub(super) fn uncounted<R: Threads>(rt: &R, alloc: Global, job: &Job) -> Result<Run, AllocError> {
-    counted::<R, Brand>(rt, alloc, job, Blank::new(1))
+/// The first thunk of a guest with this code, run with nobody who looks at the counter.
+fn run_of<R: Threads>(rt: &R, alloc: Global, code: &[u8], fuel: u32) -> Result<Run, AllocError> {
+    let job = job_of(alloc, code, fuel)?;
+    counted::<R, Brand>(rt, alloc, &job, Blank::new(1))
+}
+
+/// Whether a run ended so after so many turns.
+fn is_ended(run: &Run, end: ThunkEnd, count: u32, pc: u32) -> bool {
+    run.rec.end() == end && run.rec.count() == count && run.rec.finish().pc() == pc
 }
 
 #[test]
 fn put_ends_the_first_thunk(rt: HostRuntime) -> Result<(), AllocError> {
-    let job = job_of(rt.alloc(), &HI, 100)?;
-    let run = uncounted(&rt, rt.alloc(), &job)?;
-    assert_eq!(rt; run.rec.thread(), 3);
-    assert_eq!(rt; run.rec.count(), 5);
-    assert!(rt; run.rec.end() == ThunkEnd::Call);
-    assert_eq!(rt; run.rec.finish().pc(), 0x10010);
-    assert_eq!(rt; run.rec.reads().pages().len(), 1);
+    let run = run_of(&rt, rt.alloc(), &HI[84..], 100)?;
+    assert!(rt; is_ended(&run, ThunkEnd::Call, 5, 0x10010));
     assert!(rt; run.rec.delta().pages().is_empty());
-    assert!(rt; fits(&run.rec, 7, &job.regs, &job.view, 100));
-    assert!(rt; !fits(&run.rec, 8, &job.regs, &job.view, 100));
-    let short = job_of(rt.alloc(), &HI, 4)?;
-    let run = uncounted(&rt, rt.alloc(), &short)?;
-    assert_eq!(rt; run.rec.count(), 4);
-    assert!(rt; run.rec.end() == ThunkEnd::Fuel);
+    let run = run_of(&rt, rt.alloc(), &HI[84..], 4)?;
+    assert!(rt; is_ended(&run, ThunkEnd::Fuel, 4, 0x10010));
     Ok(())
+}
+
+/// Whether a run read its code as it was, and left it with another byte at 0x12.
+fn changed_its_code(run: &Run) -> bool {
+    match (run.rec.reads().pages(), run.rec.delta().pages()) {
+        ([read], [page]) => {
+            read.slot() == 0
+                && read.page().get(0x12) == 0x10
+                && page.slot() == 0
+                && page.written(&Page::zero()).get(0x12) == 0x90
+        }
+        _ => false,
+    }
 }
 
 #[test]
 fn stores_into_code_are_seen_and_kept(rt: HostRuntime) -> Result<(), AllocError> {
-    let job = job_of(rt.alloc(), &SELF, 100)?;
-    let run = uncounted(&rt, rt.alloc(), &job)?;
-    assert_eq!(rt; run.rec.count(), 6);
-    assert_eq!(rt; run.rec.finish().get(10), 9);
-    let reads = run.rec.reads().pages();
-    assert_eq!(rt; reads.len(), 1);
-    if let Some(read) = reads.first() {
-        assert_eq!(rt; read.slot(), 0);
-        assert_eq!(rt; read.page().get(0x12), 0x10);
-    }
-    let delta = run.rec.delta().pages();
-    assert_eq!(rt; delta.len(), 1);
-    if let Some(page) = delta.first() {
-        assert_eq!(rt; page.slot(), 0);
-        assert_eq!(rt; page.written(&Page::zero()).get(0x12), 0x90);
-    }
+    let run = run_of(&rt, rt.alloc(), &SELF, 100)?;
+    assert!(rt; is_ended(&run, ThunkEnd::Call, 6, 0x10014));
+    assert!(rt; run.rec.finish().get(10) == 9);
+    assert!(rt; changed_its_code(&run));
     Ok(())
 }
 
@@ -159,16 +149,9 @@ fn times_told<R: Threads>(
 
 #[test]
 fn a_long_thunk_tells_its_watch_once(rt: HostRuntime) -> Result<(), AllocError> {
-    let alloc = rt.alloc();
-    assert!(&rt; times_told(&rt, alloc, &HI, 1_000_000)? == (5, 0));
-    for (fuel, times) in [
-        (1, 0),
-        (LONG_TURNS, 0),
-        (LONG_TURNS + 1, 1),
-        (5_000, 1),
-        (1_000_000, 1),
-    ] {
-        assert!(&rt; times_told(&rt, alloc, &LOOP, fuel)? == (fuel, times));
+    assert!(&rt; times_told(&rt, rt.alloc(), &HI[84..], 1_000_000)? == (5, 0));
+    for (fuel, times) in [(LONG_TURNS, 0), (LONG_TURNS + 1, 1), (1_000_000, 1)] {
+        assert!(&rt; times_told(&rt, rt.alloc(), &LOOP, fuel)? == (fuel, times));
     }
     Ok(())
 }

@@ -4,7 +4,7 @@ ghost use Rattle.std.specs.Prelude.{◌≡◌, ◌≤◌, length, IfOk};
 ghost use Rattle.machine_spec.specs.Limits.{AreLimits};
 ghost use Rattle.memo_spec.specs.Reading.{setup_at};
 ghost use Rattle.memo_file.specs.Gives.{Gives};
-ghost use Rattle.memo_file.specs.Setups.{elf_at, input_at};
+ghost use Rattle.memo_file.specs.Setups.{elf_at, input_at, limits_at};
 
 use crate::error::ReadError;
 use crate::fields::{limited, run};
@@ -49,6 +49,15 @@ fn read_input(alloc: Global, cursor: &mut Cursor) -> Result<Vec<u8>, ReadError>
     Ok(run(cursor, length as usize)?.to_vec(alloc)?)
 }
 
+/// The limits of the run.
+fn read_limits(cursor: &mut Cursor) -> Result<Limits, ReadError>
+    ensures { Gives (λ l. (l, cursor.new)) result (limits_at cursor.old) }
+{
+    let fuel = limited(cursor, 1, MOST_FUEL, Limit::Fuel)?;
+    let steps = limited(cursor, 1, MOST_STEPS, Limit::Steps)?;
+    Ok(limits(fuel, steps))
+}
+
 /// The setup: the executable, which is looked at before the input is read, the input, and the limits.
 #[tactic(auto, unfolding(memo_spec::specs::Reading::setup_at))]
 pub fn read_setup(alloc: Global, cursor: &mut Cursor) -> Result<Setup, ReadError>
@@ -56,7 +65,6 @@ pub fn read_setup(alloc: Global, cursor: &mut Cursor) -> Result<Setup, ReadError
 {
     let program = read_program(alloc, cursor)?;
     let input = read_input(alloc, cursor)?;
-    let fuel = limited(cursor, 1, MOST_FUEL, Limit::Fuel)?;
-    let steps = limited(cursor, 1, MOST_STEPS, Limit::Steps)?;
-    Ok(program.with(input, limits(fuel, steps))?)
+    let limits = read_limits(cursor)?;
+    Ok(program.with(input, limits)?)
 }

@@ -1,18 +1,18 @@
 -- The readers of a record's fields agree with their spellings.
-use Rattle.std.proofs.Common.{◌≡◌, ℕ, zero, suc, ◌+◌, ◌*◌, ◌^◌, ◌<◌, ◌≤◌, Bool, true, false, not, ltb, leb, ◌&&◌, List, [], ◌∷◌, ◌++◌, length, get_or, take, drop, Result, Ok, Err, refl, sym, ap, subst, ◌∙◌, append_assoc, arith, inl, inr}
-use Rattle.std.specs.Prelude.{◌==◌, slice_index_or, nat_le, nat_lt}
-use Rattle.std.specs.List.{AllByRecursion, flat_map, list_any, count_by}
-use Rattle.std.specs.Int.{w8, w16, w32}
+use Rattle.std.proofs.Common.{◌≡◌, ℕ, suc, ◌^◌, ◌<◌, ◌≤◌, Bool, true, not, ◌&&◌, List, [], ◌∷◌, ◌++◌, length, get_or, drop, refl, sym, ap, subst, ◌∙◌, arith}
+use Rattle.std.specs.Prelude.{◌==◌, nat_le, nat_lt}
+use Rattle.std.specs.List.{AllByRecursion, flat_map, list_any}
+use Rattle.std.specs.Int.{w32}
 use Rattle.std.proofs.lemmas.Bool.{and_parts, ltb-true, lt-ltb, leb-true, le-leb}
 use Rattle.std.proofs.lemmas.List.{append-nil}
 use Rattle.std.specs.Cmp.Derive.{both_true}
 use Rattle.isa_spec.specs.Registers.{Registers}
 use Rattle.memory_spec.specs.Pages.{Mapped}
-use Rattle.record_spec.specs.Delta.{PageDelta, is_stored}
-use Rattle.memo_spec.specs.Spelling.{AreBytes, AreRegisters, byte, half, word, registers, page_number, mask, stored_page, IsStoredPage}
-use Rattle.memo_spec.specs.Reader.{Reader, ◌>>=◌, done, bytes_at, number_at, ruled, each}
-use Rattle.memo_spec.specs.Reading.{registers_at, slot_of_number, slot_at, marks_of, mask_at, stored_page_at}
-use Rattle.memo_spec.proofs.Formats.{Agrees, agrees_then, agrees_done, agrees_said, agrees_part, agrees_tested, agrees_number, agrees_bytes, agrees_each, wide8, wide16, wide32}
+use Rattle.record_spec.specs.Delta.{is_stored}
+use Rattle.memo_spec.specs.Spelling.{AreBytes, AreRegisters, word, registers, page_number, mask}
+use Rattle.memo_spec.specs.Reader.{◌>>=◌, done, bytes_at, number_at, ruled, each}
+use Rattle.memo_spec.specs.Reading.{registers_at, slot_of_number, slot_at, marks_of, mask_at}
+use Rattle.memo_spec.proofs.Formats.{Agrees, agrees_then, agrees_done, agrees_said, agrees_part, agrees_tested, agrees_number, agrees_bytes, agrees_each, wide32}
 use Rattle.memo_spec.proofs.Maps.{IsPageMap, number_is_word, number_back, slot_back}
 use Rattle.memo_spec.proofs.Masks.{mask_again, marks_again, length_marks, stored_marks}
 

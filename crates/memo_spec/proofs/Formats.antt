@@ -9,7 +9,7 @@ use Rattle.ith_fields.specs.Place.{Place, Takes}
 use Rattle.memo_spec.specs.declared.Refusal.{Refusal}
 use Rattle.memo_spec.specs.declared.Refusal.TheVariants.{Field}
 use Rattle.memo_spec.specs.Spelling.{AreBytes}
-use Rattle.memo_spec.specs.Reader.{Reader, onward, ◌>>=◌, done, past, bytes_at, number_at, tested, ruled, limited, each, chain}
+use Rattle.memo_spec.specs.Reader.{Reader, onward, ◌>>=◌, done, past, bytes_at, number_at, tested, each, chain}
 
 abbrev pub IsBytes : List ℕ → Type 0
 IsBytes bytes = (i : ℕ) → get_or bytes i 0 < 256

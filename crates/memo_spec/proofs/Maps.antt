@@ -1,10 +1,10 @@
 -- The slots of a page map, and the numbers of its pages.
-use Rattle.std.proofs.Common.{◌≡◌, ℕ, zero, suc, ◌+◌, ◌^◌, ◌<◌, ◌≤◌, Bool, true, false, not, ltb, List, [], ◌∷◌, length, get_or, refl, sym, ap, subst, ◌∙◌, arith, inl, inr, eq-eqb}
+use Rattle.std.proofs.Common.{◌≡◌, ℕ, zero, suc, ◌^◌, ◌<◌, true, false, ltb, List, [], ◌∷◌, length, refl, ap, ◌∙◌, arith, inl, inr, eq-eqb}
 use Rattle.std.proofs.lemmas.Bool.{and_parts, ltb-true, ne_eqb}
 use Rattle.std.proofs.lemmas.Bool.Decides.{eqb_tells}
-use Rattle.std.specs.Prelude.{◌==◌, slice_index_or}
-use Rattle.std.specs.List.{AllByRecursion, position_or_len}
-use Rattle.memory_spec.specs.Pages.{Mapped, unmapped, ascends_above}
+use Rattle.std.specs.Prelude.{◌==◌}
+use Rattle.std.specs.List.{AllByRecursion}
+use Rattle.memory_spec.specs.Pages.{Mapped, ascends_above}
 use Rattle.memo_spec.specs.Spelling.{page_number}
 use Rattle.memo_spec.specs.Reading.{slot_of_number}
 

@@ -1,12 +1,10 @@
 -- The pool has the different read pages in the order in which they come first.
-use Rattle.std.proofs.Common.{◌≡◌, ◌⊎◌, ℕ, zero, suc, ◌+◌, ◌^◌, ◌<◌, ◌≤◌, Bool, true, false, not, cond, eqb, ltb, ◌||◌, List, [], ◌∷◌, ◌++◌, length, eq-eqb, map, get_or, drop, refl, sym, ap, subst, ◌∙◌, append_assoc, arith, inl, inr}
+use Rattle.std.proofs.Common.{◌≡◌, ℕ, zero, suc, ◌<◌, ◌≤◌, Bool, true, false, eqb, ltb, List, [], ◌∷◌, ◌++◌, length, eq-eqb, refl, sym, ap, ◌∙◌, append_assoc, arith, inl, inr}
 use Rattle.std.specs.Prelude.{bytes_eq, slice_index_or}
-use Rattle.std.specs.List.{AllByRecursion, fold, position_or_len}
-use Rattle.std.proofs.lemmas.Bool.{ltb-true, ltb-false, lt-ltb, le-ltb, ne_eqb, cases_lt}
-use Rattle.std.proofs.lemmas.Bool.Decides.{eqb_tells}
+use Rattle.std.specs.List.{fold}
+use Rattle.std.proofs.lemmas.Bool.{ltb-true, lt-ltb, le-ltb, ne_eqb, cases_lt}
 use Rattle.std.proofs.lemmas.List.{append-nil, length-append}
-use Rattle.std.proofs.lemmas.List.Folds.{position_or_len_push}
-use Rattle.memo_spec.specs.Spelling.{AreBytes, has_page, with_page, distinct, index_in}
+use Rattle.memo_spec.specs.Spelling.{AreBytes, has_page, with_page, index_in}
 use Rattle.memo_spec.specs.Reading.{used_after}
 use Rattle.memo_spec.proofs.Pool.{bytes_tell, index_back}
 

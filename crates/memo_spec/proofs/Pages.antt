@@ -1,7 +1,7 @@
 -- The readers of read pages and of stored pages agree with their spellings.
-use Rattle.std.proofs.Common.{◌≡◌, ℕ, zero, suc, ◌+◌, ◌*◌, ◌^◌, ◌<◌, ◌≤◌, Bool, true, false, ltb, leb, ◌&&◌, List, [], ◌∷◌, ◌++◌, length, refl, sym, ap, subst, ◌∙◌, append_assoc, arith}
+use Rattle.std.proofs.Common.{◌≡◌, ℕ, suc, ◌^◌, ◌<◌, ◌≤◌, Bool, true, ◌&&◌, List, [], ◌++◌, length, sym, ap, ◌∙◌, append_assoc, arith}
 use Rattle.std.specs.Prelude.{slice_index_or, nat_le, nat_lt}
-use Rattle.std.specs.List.{AllByRecursion, flat_map, count_by}
+use Rattle.std.specs.List.{count_by}
 use Rattle.std.specs.Int.{w32}
 use Rattle.std.specs.Cmp.Derive.{both_true}
 use Rattle.std.proofs.lemmas.Bool.{and_parts, ltb-true, lt-ltb, leb-true, le-leb}
@@ -10,9 +10,9 @@ use Rattle.memory_spec.specs.Pages.{Mapped}
 use Rattle.record_spec.specs.Delta.{PageDelta, is_stored}
 use Rattle.record_spec.specs.Reads.{ReadPage}
 use Rattle.memo_spec.specs.Spelling.{AreBytes, word, page_number, index_in, mask, read_page, stored_page, IsStoredPage}
-use Rattle.memo_spec.specs.Reader.{Reader, ◌>>=◌, done, bytes_at, number_at, ruled}
+use Rattle.memo_spec.specs.Reader.{◌>>=◌, done, bytes_at, number_at, ruled}
 use Rattle.memo_spec.specs.Reading.{ReadState, slot_at, used_after, read_page_at, mask_at, stored_page_at}
-use Rattle.memo_spec.proofs.Formats.{Agrees, agrees_then, agrees_done, agrees_said, agrees_part, agrees_tested, agrees_number, agrees_bytes, wide32}
+use Rattle.memo_spec.proofs.Formats.{Agrees, agrees_done, agrees_said, agrees_part, agrees_tested, agrees_number, agrees_bytes, wide32}
 use Rattle.memo_spec.proofs.Maps.{IsPageMap}
 use Rattle.memo_spec.proofs.Fields.{agrees_slot, agrees_mask}
 use Rattle.memo_spec.proofs.Pool.{IsPool, index_back}

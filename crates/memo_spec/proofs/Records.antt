@@ -1,7 +1,7 @@
 -- The reader of a record agrees with its spelling.
-use Rattle.std.proofs.Common.{◌≡◌, ℕ, zero, suc, ◌+◌, ◌*◌, ◌^◌, ◌<◌, ◌≤◌, Bool, true, false, ltb, leb, ◌&&◌, List, [], ◌∷◌, ◌++◌, length, refl, sym, ap, subst, ◌∙◌, append_assoc, arith}
-use Rattle.std.specs.Prelude.{◌==◌, nat_le, nat_lt}
-use Rattle.std.specs.List.{AllByRecursion, flat_map, count_by}
+use Rattle.std.proofs.Common.{◌≡◌, ℕ, ◌^◌, ◌<◌, ◌≤◌, Bool, true, List, [], ◌∷◌, ◌++◌, length, refl, sym, ap, subst, ◌∙◌, append_assoc, arith}
+use Rattle.std.specs.Prelude.{◌==◌, nat_lt}
+use Rattle.std.specs.List.{flat_map, count_by}
 use Rattle.std.specs.Int.{w8, w16, w32}
 use Rattle.std.specs.Cmp.Derive.{both_true}
 use Rattle.std.proofs.lemmas.Bool.{and_parts, ltb-true, lt-ltb, leb-true, le-leb}
@@ -10,7 +10,7 @@ use Rattle.isa_spec.specs.Registers.{Registers}
 use Rattle.memory_spec.specs.Pages.{Mapped}
 use Rattle.record_spec.specs.Delta.{PageDelta}
 use Rattle.record_spec.specs.Reads.{ReadPage}
-use Rattle.record_spec.specs.Record.{Kept, Record}
+use Rattle.record_spec.specs.Record.{Record}
 use Rattle.memo_spec.specs.Spelling.{AreRegisters, IsEnd, byte, half, word, registers, end_number, read_page, stored_page, record_bytes}
 use Rattle.memo_spec.specs.Reader.{Reader, ◌>>=◌, done, number_at, ruled, chain}
 use Rattle.memo_spec.specs.Reading.{ReadState, RecordState, is_within, end_of, registers_at, read_page_at, stored_page_at, record_at}

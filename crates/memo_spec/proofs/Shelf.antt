@@ -1,22 +1,18 @@
 -- The reader of a pool with its records agrees with its spelling, and the reader of a whole history with its own.
-use Rattle.std.proofs.Common.{◌≡◌, ℕ, zero, suc, ◌+◌, ◌*◌, ◌^◌, ◌<◌, ◌≤◌, Bool, true, false, not, eqb, eq-eqb, List, [], ◌∷◌, ◌++◌, length, map, Result, Ok, Err, refl, sym, ap, subst, ◌∙◌, append_assoc, arith}
-use Rattle.std.specs.Prelude.{◌==◌, slice_index_or}
-use Rattle.std.specs.List.{AllByRecursion, flat_map, fold, concat}
+use Rattle.std.proofs.Common.{◌≡◌, ℕ, ◌^◌, ◌<◌, Bool, true, false, not, List, [], ◌∷◌, ◌++◌, length, refl, sym, ap, subst, ◌∙◌, append_assoc, arith}
+use Rattle.std.specs.List.{AllByRecursion, flat_map}
 use Rattle.std.specs.Int.{w32}
-use Rattle.std.specs.Cmp.Derive.{both_true}
-use Rattle.std.proofs.lemmas.Bool.{and_parts, leb-true, le-leb, eqb-true, le-ltb}
-use Rattle.std.proofs.lemmas.List.{append-nil, length-append, nil_from_length}
-use Rattle.memory_spec.specs.Pages.{Mapped}
+use Rattle.std.proofs.lemmas.Bool.{le-ltb}
+use Rattle.std.proofs.lemmas.List.{append-nil, length-append}
 use Rattle.record_spec.specs.Record.{Record}
-use Rattle.machine_spec.specs.Setup.{Setup, IsSetup, map_of}
-use Rattle.history_spec.specs.History.{History}
-use Rattle.memo_spec.specs.Spelling.{AreBytes, word, has_page, with_page, distinct, pages_read, index_in, record_bytes, IsRecord}
-use Rattle.memo_spec.specs.Reader.{Reader, ◌>>=◌, done, bytes_at, number_at, ruled, chain}
+use Rattle.machine_spec.specs.Setup.{Setup, map_of}
+use Rattle.memo_spec.specs.Spelling.{word, has_page, index_in, record_bytes}
+use Rattle.memo_spec.specs.Reader.{◌>>=◌, done, bytes_at, number_at, ruled, chain}
 use Rattle.memo_spec.specs.Reading.{RecordState, pool_page_at, record_at, pool_and_records_at}
 use Rattle.memo_spec.proofs.Formats.{Agrees, Chained, agrees_then, agrees_done, agrees_said, agrees_part, agrees_tested, agrees_number, agrees_bytes, agrees_chain, wide32}
 use Rattle.memo_spec.proofs.Maps.{IsPageMap}
 use Rattle.memo_spec.proofs.Pool.{IsPool}
-use Rattle.memo_spec.proofs.Order.{Pages, IsOnce, IsPage, has_in_front, once_push, fold_once, at_end}
+use Rattle.memo_spec.proofs.Order.{Pages, IsOnce, IsPage, has_in_front, once_push, at_end}
 use Rattle.memo_spec.proofs.Records.{FitsRecord, agrees_record}
 
 -- ---- the pool

@@ -1,7 +1,7 @@
 -- The page map of a setup, and the size of a pool.
-use Rattle.std.proofs.Common.{◌≡◌, ℕ, zero, suc, ◌+◌, ◌*◌, ◌^◌, ◌<◌, ◌≤◌, Bool, true, false, List, [], ◌∷◌, ◌++◌, length, map, All, refl, sym, ap, subst, ◌∙◌, append_assoc, arith}
-use Rattle.std.specs.List.{AllByRecursion, flat_map, fold, range_with_len}
-use Rattle.std.proofs.lemmas.List.{append-nil, length-append, length-map, map-append}
+use Rattle.std.proofs.Common.{◌≡◌, ℕ, zero, suc, ◌+◌, ◌*◌, ◌^◌, ◌<◌, ◌≤◌, Bool, true, false, List, [], ◌∷◌, ◌++◌, length, map, refl, arith}
+use Rattle.std.specs.List.{AllByRecursion, fold, range_with_len}
+use Rattle.std.proofs.lemmas.List.{length-append, length-map}
 use Rattle.std.proofs.lemmas.List.FromFn.{length-map-range_with_len}
 use Rattle.std.proofs.lemmas.List.Elements.{recursion_from_All}
 use Rattle.memory_spec.specs.Pages.{Mapped}
@@ -12,7 +12,7 @@ use Rattle.record_spec.specs.Record.{Record}
 use Rattle.record_spec.specs.Reads.{ReadPage}
 use Rattle.machine_spec.specs.Setup.{Setup, IsSetup, map_of, data_pages}
 use Rattle.machine_spec.proofs.Beginning.{ascends-map_of}
-use Rattle.memo_spec.specs.Spelling.{AreBytes, has_page, with_page, distinct, pages_read, IsReadPage, IsRecord}
+use Rattle.memo_spec.specs.Spelling.{has_page, with_page, pages_read, IsReadPage, IsRecord}
 use Rattle.memo_spec.proofs.Maps.{IsPageMap}
 use Rattle.memo_spec.proofs.Order.{Pages, IsPage}
 use Rattle.memo_spec.proofs.Chains.{bytes_of, few_reads}

@@ -4,6 +4,10 @@
 #[cfg(test)]
 mod barriers;
 #[cfg(test)]
+mod fixtures;
+#[cfg(test)]
 mod objects;
+#[cfg(test)]
+mod rwlocks;
 #[cfg(test)]
 mod semaphores;

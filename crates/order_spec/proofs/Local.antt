@@ -4,12 +4,13 @@ use Rattle.memory_spec.specs.Pages.{Mapped, Memory}
 use Rattle.guest_call.specs.declared.Call.{Call}
 use Rattle.guest_call.specs.declared.Call.TheVariants.{Put}
 use Rattle.guest_call.specs.declared.Object.{Object}
-use Rattle.guest_call.specs.declared.Object.TheVariants.{Output, ThreadTable, Mutex as MutexOf, Semaphore as SemaphoreOf, Barrier as BarrierOf, Condition as ConditionOf}
+use Rattle.guest_call.specs.declared.Object.TheVariants.{Output, ThreadTable, Mutex as MutexOf, Semaphore as SemaphoreOf, Barrier as BarrierOf, Condition as ConditionOf, RwLock as RwLockOf}
 use Rattle.guest_call.specs.Effect.{Effect, exits}
 use Rattle.guest_call.specs.Mutexes.{Mutex, unlocked}
 use Rattle.guest_call.specs.Semaphores.{Semaphore, unposted}
 use Rattle.guest_call.specs.Barriers.{Barrier, uninitialised}
 use Rattle.guest_call.specs.Conditions.{Condition, unawaited}
+use Rattle.guest_call.specs.RwLocks.{RwLock, unheld}
 use Rattle.guest_call.specs.Threads.{Member}
 use Rattle.guest_call.specs.Objects.{Objects, act, acts_on, appends, one_of, created_count, IsKept}
 use Rattle.guest_call.specs.Locality.{part_of, is_among, Agree, IsLocalBy}
@@ -131,13 +132,14 @@ parts-met m n r p met kept among =
 -- objects that stand alike one by one are the same
 same-objects :
     (o : Objects) (ts : List Member) (ms : List Mutex) (ss : List Semaphore) (bs : List Barrier) (cs : List Condition)
-    → o.threads ≡ ts → o.mutexes ≡ ms → o.semaphores ≡ ss → o.barriers ≡ bs → o.conditions ≡ cs
-    → o ≡ record { threads = ts; mutexes = ms; semaphores = ss; barriers = bs; conditions = cs }
-same-objects o ts ms ss bs cs a b c d e = rw (← a, ← b, ← c, ← d, ← e) refl
+    (rs : List RwLock)
+    → o.threads ≡ ts → o.mutexes ≡ ms → o.semaphores ≡ ss → o.barriers ≡ bs → o.conditions ≡ cs → o.rwlocks ≡ rs
+    → o ≡ record { threads = ts; mutexes = ms; semaphores = ss; barriers = bs; conditions = cs; rwlocks = rs }
+same-objects o ts ms ss bs cs rs a b c d e f = rw (← a, ← b, ← c, ← d, ← e, ← f) refl
 
 pub objects-same : (o q : Objects) → IsKept o → IsKept q → ((p : Object) → part_of q p ≡ part_of o p) → q ≡ o
 objects-same o q kept_o kept_q alike =
-    same-objects q o.threads o.mutexes o.semaphores o.barriers o.conditions
+    same-objects q o.threads o.mutexes o.semaphores o.barriers o.conditions o.rwlocks
     (let same = alike ThreadTable in cc)
     (ext_get_or unlocked q.mutexes o.mutexes (kept_q.all_mutexes ∙ sym kept_o.all_mutexes)
     (λ i below. let same = alike (MutexOf i) in cc))
@@ -147,6 +149,8 @@ objects-same o q kept_o kept_q alike =
     (λ i below. let same = alike (BarrierOf i) in cc))
     (ext_get_or unawaited q.conditions o.conditions (kept_q.all_conditions ∙ sym kept_o.all_conditions)
     (λ i below. let same = alike (ConditionOf i) in cc))
+    (ext_get_or unheld q.rwlocks o.rwlocks (kept_q.all_rwlocks ∙ sym kept_o.all_rwlocks)
+    (λ i below. let same = alike (RwLockOf i) in cc))
 
 -- who creates a thread acts on the table of threads
 creates-on :

@@ -169,7 +169,7 @@ pub(super) struct Acted {
 /// # Errors
 ///
 /// An error where the host's memory ran out.
-#[tactic(auto, using(crate::proofs::Asking::exists, crate::proofs::Asking::free, crate::proofs::Asking::few, crate::proofs::Asking::below))]
+#[tactic(auto, using(crate::proofs::Asking::exists, crate::proofs::Asking::free, crate::proofs::Asking::below))]
 pub(super) fn do_as_asked(
     alloc: Global,
     harts: &mut Vec<Hart>,

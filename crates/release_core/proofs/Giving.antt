@@ -4,7 +4,7 @@ use Rattle.std.specs.Prelude.{nat_lt, nat_le, is_none, is_some, not, ◌&&◌, �
 use Rattle.guest_call.specs.declared.TheConstants.{OBJECTS}
 use Rattle.guest_call.specs.declared.thread_number.TheConstants.{THREADS}
 use Rattle.guest_call.specs.declared.Call.{Call}
-use Rattle.guest_call.specs.declared.Call.TheVariants.{Exit, Put, Create, ThreadExit, Join, Yield, Lock, TryLock, Unlock, SemWait, SemTryWait, SemPost, SemInit, BarrierInit, BarrierWait, CondWait, Signal, Broadcast}
+use Rattle.guest_call.specs.declared.Call.TheVariants.{Exit, Put, Create, ThreadExit, Join, Yield, Lock, TryLock, Unlock, SemWait, SemTryWait, SemPost, SemInit, BarrierInit, BarrierWait, CondWait, Signal, Broadcast, RdLock, WrLock, RwUnlock, TryWrLock}
 use Rattle.guest_call.specs.Effect.{Effect}
 use Rattle.guest_call.specs.Tables.{at_cell, checked}
 use Rattle.guest_call.specs.Objects.{Objects, act, leave, on_pair, on_semaphore, on_barrier, condition_at, mutex_at}
@@ -12,6 +12,7 @@ use Rattle.guest_call.specs.Mutexes.{Mutex, unlocked, handed_over, lock_row, try
 use Rattle.guest_call.specs.Semaphores.{Semaphore, unposted, posted, sem_wait_row, sem_trywait_row, sem_post_row, sem_init_row, largest_value}
 use Rattle.guest_call.specs.Barriers.{Barrier, uninitialised, is_count, barrier_init_row}
 use Rattle.guest_call.specs.Conditions.{Condition, Leaving, admit_each, cond_wait_row, leave_row, signal_leaving, broadcast_leaving}
+use Rattle.guest_call.specs.RwLocks.{RwLock, unheld, holds, is_held, reads, rdlock_row, wrlock_row, trywrlock_row}
 use Rattle.guest_call.specs.Threads.{Member, member_at, waiting_joiner, joins, create_row, join_row}
 use Rattle.machine_spec.specs.declared.states.Asked.TheVariants.{Asks}
 use Rattle.release_core.specs.Views.{most_views}
@@ -99,6 +100,18 @@ leaves leaving o c =
     (admits (leaving (condition_at o c)).threads (mutex_at o (condition_at o c).mutex).owner
     (mutex_at o (condition_at o c).mutex).queue)
 
+rdlock : (t : ℕ) (x : RwLock) → Few (rdlock_row t x).0
+rdlock t x =
+    either (owns x.writer t) _ _ (omega arith)
+    (either (reads x t) _ _ (omega arith)
+    (either (is_none x.writer && length x.queue == 0) _ _ (omega arith) (omega arith)))
+
+wrlock : (t : ℕ) (x : RwLock) → Few (wrlock_row t x).0
+wrlock t x = either (holds x t) _ _ (omega arith) (either (is_held x) _ _ (omega arith) (omega arith))
+
+trywrlock : (t : ℕ) (x : RwLock) → Few (trywrlock_row t x).0
+trywrlock t x = either (is_held x) _ _ (omega arith) (omega arith)
+
 create : (pc argument : ℕ) (members : List Member) → Few (create_row pc argument members).0
 create pc argument members =
     either (not (pc % 4 == 0)) _ _ (omega arith)
@@ -148,3 +161,10 @@ gives_few readable o t (CondWait c m) le =
     omega (arith, few)
 gives_few readable o t (Signal c) le = let few = leaves signal_leaving o c in omega (arith, few)
 gives_few readable o t (Broadcast c) le = let few = leaves broadcast_leaving o c in omega (arith, few)
+gives_few readable o t (RdLock r) le =
+    let few = at_object unheld (rdlock_row t) o.rwlocks r (rdlock t) in omega (arith, few)
+gives_few readable o t (WrLock r) le =
+    let few = at_object unheld (wrlock_row t) o.rwlocks r (wrlock t) in omega (arith, few)
+gives_few readable o t (RwUnlock r) le = omega arith
+gives_few readable o t (TryWrLock r) le =
+    let few = at_object unheld (trywrlock_row t) o.rwlocks r (trywrlock t) in omega (arith, few)

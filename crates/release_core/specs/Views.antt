@@ -4,7 +4,7 @@ use Rattle.std.specs.declared.sync.Arc.{Arc}
 use Rattle.std.specs.Arc.{arc_value}
 use Rattle.std.specs.Global.{Global}
 use Rattle.memory_spec.specs.Pages.{Memory}
-use Rattle.guest_call.specs.declared.Call.TheVariants.{BarrierWait}
+use Rattle.guest_call.specs.declared.Call.TheVariants.{BarrierWait, RwUnlock}
 use Rattle.guest_call.specs.declared.thread_number.TheConstants.{THREADS}
 use Rattle.machine_spec.specs.declared.states.Asked.{Asked}
 use Rattle.machine_spec.specs.declared.states.Asked.TheVariants.{Asks, Stops}
@@ -14,8 +14,9 @@ abbrev pub AreViewsOf : Memory → List (Arc Memory Global) → Type 0
 AreViewsOf memory views = All (λ view. arc_value view ≡ memory) views
 
 -- How many views what is asked gives at most: to its caller, to a thread that it creates, and to those that it wakes,
--- which are all that a queue can hold at a barrier, and one elsewhere.
+-- which are all that a queue can hold at a barrier and where a reader-writer lock is let go, and one elsewhere.
 abbrev pub most_views : Asked → ℕ
 most_views (Asks (BarrierWait b)) = THREADS + 2
+most_views (Asks (RwUnlock r)) = THREADS + 2
 most_views (Asks call) = 3
 most_views (Stops e) = 0

@@ -164,7 +164,7 @@ pub struct Written<'a> {
 }
 
 /// Does what thread `t` asks, after its thunk was written, and looks for the end.
-#[tactic(auto, using(crate::proofs::Asking::exists, crate::proofs::Asking::free, crate::proofs::Asking::few, crate::proofs::Asking::below))]
+#[tactic(auto, using(crate::proofs::Asking::exists, crate::proofs::Asking::free, crate::proofs::Asking::below))]
 pub fn do_as_asked(
     harts: &mut Vec<Hart>,
     objects: &mut Objects,

@@ -51,7 +51,7 @@ pub fn most_views(asked: Asked) -> usize
     ensures { result ≡ views.most_views asked }
 {
     match asked {
-        Asked::Asks(Call::BarrierWait(_)) => THREADS + 2,
+        Asked::Asks(Call::BarrierWait(_) | Call::RwUnlock(_)) => THREADS + 2,
         Asked::Asks(_) => 3,
         Asked::Stops(_) => 0,
     }

@@ -5,7 +5,7 @@ use Rattle.std.proofs.lemmas.Bool.Decides.{nat_tests}
 use Rattle.std.specs.List.{AllByRecursion}
 use Rattle.isa_spec.specs.Registers.{Registers, register}
 use Rattle.guest_call.specs.declared.Call.{Call}
-use Rattle.guest_call.specs.declared.Call.TheVariants.{Exit, Put, Create, ThreadExit, Join, Yield, Lock, TryLock, Unlock, SemWait, SemTryWait, SemPost, SemInit, BarrierInit, BarrierWait, CondWait, Signal, Broadcast}
+use Rattle.guest_call.specs.declared.Call.TheVariants.{Exit, Put, Create, ThreadExit, Join, Yield, Lock, TryLock, Unlock, SemWait, SemTryWait, SemPost, SemInit, BarrierInit, BarrierWait, CondWait, Signal, Broadcast, RdLock, WrLock, RwUnlock, TryWrLock}
 use Rattle.guest_call.specs.declared.Fate.TheVariants.{Exits}
 use Rattle.guest_call.specs.Answers.{answer_esrch, answer_eagain, answer_efault, answer_einval, answer_edeadlk}
 use Rattle.guest_call.specs.Effect.{Effect, answers}
@@ -14,6 +14,7 @@ use Rattle.guest_call.specs.Mutexes.{unlocked, lock_row, trylock_row, unlock_row
 use Rattle.guest_call.specs.Semaphores.{unposted, largest_value, sem_wait_row, sem_trywait_row, sem_post_row, sem_init_row}
 use Rattle.guest_call.specs.Barriers.{uninitialised, is_count, barrier_init_row, barrier_wait_row}
 use Rattle.guest_call.specs.Conditions.{cond_wait_row, signal_leaving, broadcast_leaving, leave_row}
+use Rattle.guest_call.specs.RwLocks.{unheld, rdlock_row, wrlock_row, rwunlock_row, trywrlock_row}
 use Rattle.guest_call.specs.Threads.{Member, fresh, member_at, creates, create_row, ended_with, thread_exit_row, joins, joined_by, join_row}
 use Rattle.guest_call.specs.Objects.{Objects, on_semaphore, on_barrier, on_pair, condition_at, mutex_at, can_read, put_answer, act}
 use Rattle.guest_call.specs.Numbers.{Numbered, call_table, call_of}
@@ -21,7 +22,7 @@ use Rattle.thunk_spec.specs.Put.{call_at}
 use Rattle.memo_spec.specs.Spelling.{AreRegisters}
 use Rattle.round_memo_spec.proofs.Lists.{every-at, every-set, every-append}
 use Rattle.round_memo_spec.proofs.Words.{IsWord, register-word}
-use Rattle.round_memo_spec.proofs.Effects.{IsEffect, wakes-effect, answers-effect, blocks-effect, either-effect, lock-effect, trylock-effect, unlock-effect, sem_wait-effect, sem_trywait-effect, posted-effect, sem_init-effect, barrier_init-effect, comes-effect, at_cell-effect, checked-effect, cond_wait-effect, leave-effect}
+use Rattle.round_memo_spec.proofs.Effects.{IsEffect, wakes-effect, answers-effect, blocks-effect, either-effect, lock-effect, trylock-effect, unlock-effect, sem_wait-effect, sem_trywait-effect, posted-effect, sem_init-effect, barrier_init-effect, comes-effect, at_cell-effect, checked-effect, cond_wait-effect, leave-effect, rdlock-effect, wrlock-effect, rwunlock-effect, trywrlock-effect}
 
 -- a call whose arguments that are kept are words
 abbrev pub IsCall : Call → Type 0
@@ -150,6 +151,14 @@ act-effect readable o t (CondWait c m) is all =
     (cond_wait-effect (length o.threads) t m (condition_at o c) (mutex_at o m))
 act-effect readable o t (Signal c) is all = leave-effect (length o.threads) signal_leaving o c
 act-effect readable o t (Broadcast c) is all = leave-effect (length o.threads) broadcast_leaving o c
+act-effect readable o t (RdLock r) is all =
+    at_cell-effect (length o.threads) unheld (rdlock_row t) o.rwlocks r (rdlock-effect (length o.threads) t)
+act-effect readable o t (WrLock r) is all =
+    at_cell-effect (length o.threads) unheld (wrlock_row t) o.rwlocks r (wrlock-effect (length o.threads) t)
+act-effect readable o t (RwUnlock r) is all =
+    at_cell-effect (length o.threads) unheld (rwunlock_row t) o.rwlocks r (rwunlock-effect (length o.threads) t)
+act-effect readable o t (TryWrLock r) is all =
+    at_cell-effect (length o.threads) unheld (trywrlock_row t) o.rwlocks r (trywrlock-effect (length o.threads) t)
 
 -- a call that is refused out of its range
 checked-members :
@@ -184,6 +193,10 @@ act-members readable o t (Signal c) is all =
     checked-members (nat_lt c 64) o (on_pair (leave_row signal_leaving) o c (condition_at o c).mutex) all all
 act-members readable o t (Broadcast c) is all =
     checked-members (nat_lt c 64) o (on_pair (leave_row broadcast_leaving) o c (condition_at o c).mutex) all all
+act-members readable o t (RdLock r) is all = all
+act-members readable o t (WrLock r) is all = all
+act-members readable o t (RwUnlock r) is all = all
+act-members readable o t (TryWrLock r) is all = all
 
 -- the call of words
 
@@ -217,7 +230,7 @@ call_of-call a7 a0 a1 word other =
                     tt,
                     (
                       tt,
-                      (tt, (tt, (tt, (tt, (tt, (tt, (tt, (tt, (tt, tt))))))))),
+                      (tt, (tt, (tt, (tt, (tt, (tt, (tt, (tt, (tt, (tt, (tt, (tt, (tt, tt))))))))))))),
                     ),
                   ),
                 ),

@@ -1,4 +1,5 @@
--- Effects whose answers are words: those of the rows of mutexes, semaphores, barriers and conditions.
+-- Effects whose answers are words: those of the rows of mutexes, semaphores, barriers, conditions and reader-writer
+-- locks.
 use Rattle.std.proofs.Common.{◌<◌, ◌+◌, ℕ, Bool, true, false, not, eqb, cond, nat_lt, List, [], ◌∷◌, length, get_or, Option, Some, None, is_none, arith}
 use Rattle.std.specs.Prelude.{IfSome, ⊤, ◌&&◌}
 use Rattle.guest_call.specs.declared.Fate.{Fate}
@@ -10,6 +11,7 @@ use Rattle.guest_call.specs.Mutexes.{Mutex, owns, owned_by, waited_for, handed_o
 use Rattle.guest_call.specs.Semaphores.{Semaphore, largest_value, posted, sem_wait_row, sem_trywait_row, sem_init_row}
 use Rattle.guest_call.specs.Barriers.{Barrier, comes, barrier_init_row}
 use Rattle.guest_call.specs.Conditions.{Condition, Leaving, awaited_by, cond_wait_row, leave_row}
+use Rattle.guest_call.specs.RwLocks.{RwLock, holds, is_held, reads, handed_on, let_go, rdlock_row, wrlock_row, rwunlock_row, trywrlock_row}
 use Rattle.guest_call.specs.Objects.{Objects, on_pair, condition_at, leave}
 use Rattle.round_memo_spec.proofs.Words.{IsWord}
 
@@ -99,6 +101,27 @@ comes-effect n t None queue = answers-effect n answer_einval (omega arith)
 comes-effect n t (Some count) queue =
     either-effect n (eqb (length queue + 1) count) _ _ (wakes-effect n (Returns 1 None) queue (omega arith, tt))
     (blocks-effect n)
+
+pub rdlock-effect : (n t : ℕ) (c : RwLock) → IsEffect n (rdlock_row t c).0
+rdlock-effect n t c =
+    either-effect n (owns c.writer t) _ _ (answers-effect n answer_edeadlk (omega arith))
+    (either-effect n (reads c t) _ _ (answers-effect n answer_eagain (omega arith))
+    (either-effect n (is_none c.writer && eqb (length c.queue) 0) _ _ (answers-effect n 0 (omega arith))
+    (blocks-effect n)))
+
+pub wrlock-effect : (n t : ℕ) (c : RwLock) → IsEffect n (wrlock_row t c).0
+wrlock-effect n t c =
+    either-effect n (holds c t) _ _ (answers-effect n answer_edeadlk (omega arith))
+    (either-effect n (is_held c) _ _ (blocks-effect n) (answers-effect n 0 (omega arith)))
+
+pub rwunlock-effect : (n t : ℕ) (c : RwLock) → IsEffect n (rwunlock_row t c).0
+rwunlock-effect n t c =
+    either-effect n (holds c t) _ _ (wakes-effect n (Returns 0 None) (handed_on (let_go t c)).0 (omega arith, tt))
+    (answers-effect n answer_eperm (omega arith))
+
+pub trywrlock-effect : (n t : ℕ) (c : RwLock) → IsEffect n (trywrlock_row t c).0
+trywrlock-effect n t c =
+    either-effect n (is_held c) _ _ (answers-effect n answer_ebusy (omega arith)) (answers-effect n 0 (omega arith))
 
 -- tables
 

@@ -39,10 +39,3 @@ mapped_three s a b c first second third =
       in_more 769 _ a (many_pages s) first,
       (in_more 769 _ b (many_pages s) second, (in_more 769 _ c (many_pages s) third, tt)),
     )
-
-pub mapped_pair :
-    (s : Setup) (a b : Record) → IsMappedIn 769 a → IsMappedIn 769 b
-    → IsMapped (record { setup = s; records = a ∷ b ∷ [] })
-mapped_pair s a b first second =
-    All-from_recursion (IsMappedIn (length (map_of s))) (a ∷ b ∷ [])
-    (in_more 769 _ a (many_pages s) first, (in_more 769 _ b (many_pages s) second, tt))

@@ -1,54 +1,22 @@
-//! Boards of a guest of two steps: `hi`, which puts out 3 bytes by 5 instructions and exits by 3 more. Its
-//! file is written byte by byte from the System V gABI and the ISA's text, and what follows is by hand.
+//! Boards of a guest of two steps, `hi`. What follows is by hand.
 
-ghost use Rattle.std.specs.Prelude.{◌≡◌, IfOk};
+ghost use Rattle.std.specs.Prelude.{◌≡◌, ◌<◌, IfOk};
 ghost use Rattle.round_spec.specs.Rounds.{opening};
 
+use super::fixtures::{is_round, setup};
 use ith_host::{Gate, OpenGate};
-use machine_spec::{End, Limits};
 use propagate::Round;
-use release_core::Setup;
-use rerun_workers::board::Board;
-use rerun_workers::locked::{Landed, Task};
-use rerun_workers::naming::{Naming, Pass};
-use rerun_workers::running::run_round;
-use rerun_workers::working::run_job;
-use std::alloc::Global;
+use rerun_workers::{Board, Landed, Naming, Pass, Task, run_round};
+use std::alloc::{AllocError, Global};
 use std::marker::Brand;
 use std::process::Abort;
 use std::sync::atomic::{AtomicU64, Ordering};
-use std::sync::ledger::Blank;
+use std::sync::ledger::{Blank, Ledger};
 use std::sync::{Arc, Wait};
 use std::test::Fail;
 use std::thread::Threads;
-use thunk_run::{Job, Run, Unwatched};
-
-/// lui a0,0x10; addi a0,a0,0x20; addi a1,x0,3; addi a7,x0,1; ecall; addi a0,x0,0; addi a7,x0,0;
-/// ecall; and "hi\n", in one segment at 0x10000.
-const HI: [u8; 119] = [
-    0x7f, 0x45, 0x4c, 0x46, 0x01, 0x01, 0x01, 0x00, 0x00, 0x00, 0x00, 0x00, 0x00, 0x00, 0x00, 0x00,
-    0x02, 0x00, 0xf3, 0x00, 0x01, 0x00, 0x00, 0x00, 0x00, 0x00, 0x01, 0x00, 0x34, 0x00, 0x00, 0x00,
-    0x00, 0x00, 0x00, 0x00, 0x00, 0x00, 0x00, 0x00, 0x34, 0x00, 0x20, 0x00, 0x01, 0x00, 0x00, 0x00,
-    0x00, 0x00, 0x00, 0x00, 0x01, 0x00, 0x00, 0x00, 0x54, 0x00, 0x00, 0x00, 0x00, 0x00, 0x01, 0x00,
-    0x00, 0x00, 0x01, 0x00, 0x23, 0x00, 0x00, 0x00, 0x23, 0x00, 0x00, 0x00, 0x07, 0x00, 0x00, 0x00,
-    0x04, 0x00, 0x00, 0x00, 0x37, 0x05, 0x01, 0x00, 0x13, 0x05, 0x05, 0x02, 0x93, 0x05, 0x30, 0x00,
-    0x93, 0x08, 0x10, 0x00, 0x73, 0x00, 0x00, 0x00, 0x13, 0x05, 0x00, 0x00, 0x93, 0x08, 0x00, 0x00,
-    0x73, 0x00, 0x00, 0x00, 0x68, 0x69, 0x0a,
-];
-
-/// The setup of the guest with no input and with so much fuel.
-fn setup(alloc: Global, fuel: u32) -> Result<Setup, Fail> {
-    let elf = Vec::from_array(alloc, HI)?;
-    match Limits::new(fuel, 4096) {
-        Some(limits) if elf.len() <= 4096 => {
-            match Setup::new(alloc, elf, Vec::new(alloc), limits) {
-                Ok(setup) => Ok(setup),
-                Err(_) => Err(Fail::new("the guest isn't taken")),
-            }
-        }
-        _ => Err(Fail::new("the limits aren't taken")),
-    }
-}
+use thunk_run::{Job, Run, execute};
+use turn_count::Turns;
 
 /// A round of the guest before its first step, with so much fuel.
 fn opened(alloc: Global, fuel: u32) -> Result<Round, Fail>
@@ -65,6 +33,25 @@ fn begun<J: Naming, R: Wait>(rt: &R, board: &Board<J>, pass: &mut Pass<J>) -> Re
     }
 }
 
+/// A job run with a counter that the runtime made.
+fn counted<R: Threads, L: Ledger>(
+    rt: &R,
+    alloc: Global,
+    job: &Job,
+    blank: Blank,
+) -> Result<Run, AllocError>
+    requires name { blank.name ≡ L.name }
+    requires parts { blank.parts ≡ L.parts }
+    requires some { 0 < L.parts }
+{
+    execute(alloc, job, &mut Turns::<L>::new(rt, blank))
+}
+
+/// The run of a job, with nobody who looks at the counter.
+fn run_of<R: Threads>(rt: &R, alloc: Global, job: &Job) -> Result<Run, AllocError> {
+    counted::<R, Brand>(rt, alloc, job, Blank::new(1))
+}
+
 /// The run of the first step of a round.
 fn first_run<J: Naming, R: Threads + Wait>(
     rt: &R,
@@ -79,7 +66,7 @@ fn first_run<J: Naming, R: Threads + Wait>(
 {
     let (board, mut passes) = Board::<J>::new(alloc, round, 1, blank)?;
     let job = begun(rt, &board, &mut passes[0])?;
-    Ok(run_job(rt, alloc, &job, &Unwatched)?)
+    Ok(run_of(rt, alloc, &job)?)
 }
 
 /// Hands in a run that can't be committed, and takes it back.
@@ -103,7 +90,7 @@ fn make_next<J: Naming, R: Threads + Wait>(
     pass: &mut Pass<J>,
 ) -> Result<(), Fail> {
     let job = begun(rt, board, pass)?;
-    let run = run_job(rt, alloc, &job, &Unwatched)?;
+    let run = run_of(rt, alloc, &job)?;
     match board.commit(rt, pass, run) {
         Landed::Done => Ok(()),
         _ => Err(Fail::new("the run isn't committed")),
@@ -143,11 +130,10 @@ fn a_run_of_another_setup_is_stale(rt: HostRuntime) -> Result<(), Fail> {
         run,
         Blank::new(1),
     )?;
-    assert_eq!(&rt; back.rec.count(), 5);
-    assert_eq!(&rt; round.schedule().len(), 1);
-    assert_eq!(&rt; round.instructions(), 5);
-    assert_eq!(&rt; round.discarded(), 1);
-    assert!(&rt; !round.stopped());
+    assert!(&rt; back.rec.count() == 5);
+    assert!(&rt; round.schedule().len() == 1);
+    assert!(&rt; round.instructions() == 5);
+    assert!(&rt; round.discarded() == 1);
     Ok(())
 }
 
@@ -180,31 +166,28 @@ fn failed<J: Naming, R: Threads + Wait>(
 fn a_job_that_fails_ends_the_round(rt: HostRuntime) -> Result<(), Fail> {
     let alloc = rt.alloc();
     let (round, shares) = failed::<Brand, _>(&rt, alloc, opened(alloc, 1_000_000)?, Blank::new(2))?;
-    assert_eq!(&rt; round.schedule().len(), 1);
-    assert_eq!(&rt; round.discarded(), 1);
-    assert!(&rt; round.stopped());
-    assert!(&rt; round.end() == None);
+    assert!(&rt; round.schedule().len() == 1);
+    assert!(&rt; round.discarded() == 1);
+    assert!(&rt; round.stopped() && round.end() == None);
     assert!(&rt; shares.as_slice() == [0, 1].as_slice());
     Ok(())
 }
 
-/// Compares the marks of a round, whose steps are all of thread 0, and what it put out.
-fn compare<R: Abort>(rt: &R, round: &Round, shares: &[u64], workers: usize, reused: bool) {
-    assert_eq!(rt; round.schedule().len(), 2);
-    for entry in round.schedule() {
-        assert_eq!(rt; entry.thread, 0);
-        assert_eq!(rt; entry.reused, reused);
-    }
-    assert_eq!(rt; round.instructions(), if reused { 0 } else { 8 });
-    assert_eq!(rt; round.discarded(), 0);
-    assert!(rt; round.end() == Some(End::Exit(0)));
-    assert!(rt; round.output() == b"hi\n".as_slice());
+/// How many steps workers made.
+fn steps_of(shares: &[u64]) -> u64 {
     let mut steps: u64 = 0;
     for share in shares {
         steps = steps.saturating_add(*share);
     }
-    assert_eq!(rt; shares.len(), workers);
-    assert_eq!(rt; steps, 2);
+    steps
+}
+
+/// Compares a round of two steps, which all are reused or none is, and what its workers made.
+fn compare<R: Abort>(rt: &R, round: &Round, shares: &[u64], workers: usize, reused: bool) {
+    let instructions = if reused { 0 } else { 8 };
+    assert!(rt; is_round(round, &[reused, reused], instructions, 0));
+    assert!(rt; shares.len() == workers);
+    assert!(rt; steps_of(shares) == 2);
 }
 
 #[test]
@@ -237,7 +220,7 @@ fn without_an_edit_nobody_passes_the_gate(rt: HostRuntime) -> Result<(), Fail> {
     for (passed, reused) in [(2, false), (2, true), (2, true)] {
         let (round, shares) = run_round(&rt, alloc, setup(alloc, 1_000_000)?, past, 2, &gate)?;
         compare(&rt, &round, shares.as_slice(), 2, reused);
-        assert_eq!(&rt; gate.passed.load(Ordering::SeqCst), passed);
+        assert!(&rt; gate.passed.load(Ordering::SeqCst) == passed);
         past = match round.into_history() {
             Some(left) => Some(Arc::new(alloc, left)?),
             None => return Err(Fail::new("nothing is left")),

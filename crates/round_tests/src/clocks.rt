@@ -1,5 +1,6 @@
 //! Each call once.
 
+use guest_call::THREADS;
 use std::test::Fail;
 use vclock::*;
 

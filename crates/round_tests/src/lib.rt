@@ -6,6 +6,8 @@ mod boards;
 #[cfg(test)]
 mod clocks;
 #[cfg(test)]
+mod fixtures;
+#[cfg(test)]
 mod graphs;
 #[cfg(test)]
 mod histories;

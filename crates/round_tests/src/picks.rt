@@ -1,44 +1,18 @@
-//! A guest of two steps: `hi`, which puts out 3 bytes by 5 instructions and exits by 3 more. Its file
-//! is written byte by byte from the System V gABI and the ISA's text, and what follows is by hand.
+//! Rounds of a guest of two steps, `hi`. What follows is by hand.
 
 ghost use Rattle.std.specs.Prelude.{◌≡◌, ◌<◌};
 
-use machine_spec::{End, Limits};
+use super::fixtures::{is_round, setup};
 use propagate::{Round, drive, run_alone};
 use release_core::{History, Setup};
 use round_spec::{Event, Pick};
 use std::alloc::{AllocError, Global};
 use std::marker::Brand;
-use std::process::Abort;
 use std::sync::Arc;
 use std::sync::ledger::{Blank, Ledger};
 use std::test::Fail;
 use std::thread::Threads;
 use turn_count::Turns;
-
-/// lui a0,0x10; addi a0,a0,0x20; addi a1,x0,3; addi a7,x0,1; ecall; addi a0,x0,0; addi a7,x0,0;
-/// ecall; and "hi\n", in one segment at 0x10000.
-const HI: [u8; 119] = [
-    0x7f, 0x45, 0x4c, 0x46, 0x01, 0x01, 0x01, 0x00, 0x00, 0x00, 0x00, 0x00, 0x00, 0x00, 0x00, 0x00,
-    0x02, 0x00, 0xf3, 0x00, 0x01, 0x00, 0x00, 0x00, 0x00, 0x00, 0x01, 0x00, 0x34, 0x00, 0x00, 0x00,
-    0x00, 0x00, 0x00, 0x00, 0x00, 0x00, 0x00, 0x00, 0x34, 0x00, 0x20, 0x00, 0x01, 0x00, 0x00, 0x00,
-    0x00, 0x00, 0x00, 0x00, 0x01, 0x00, 0x00, 0x00, 0x54, 0x00, 0x00, 0x00, 0x00, 0x00, 0x01, 0x00,
-    0x00, 0x00, 0x01, 0x00, 0x23, 0x00, 0x00, 0x00, 0x23, 0x00, 0x00, 0x00, 0x07, 0x00, 0x00, 0x00,
-    0x04, 0x00, 0x00, 0x00, 0x37, 0x05, 0x01, 0x00, 0x13, 0x05, 0x05, 0x02, 0x93, 0x05, 0x30, 0x00,
-    0x93, 0x08, 0x10, 0x00, 0x73, 0x00, 0x00, 0x00, 0x13, 0x05, 0x00, 0x00, 0x93, 0x08, 0x00, 0x00,
-    0x73, 0x00, 0x00, 0x00, 0x68, 0x69, 0x0a,
-];
-
-/// The setup of the guest with no input, or none where its file isn't taken.
-fn setup(alloc: Global) -> Result<Option<Setup>, AllocError> {
-    let elf = Vec::from_array(alloc, HI)?;
-    match Limits::new(1_000_000, 4096) {
-        Some(limits) if elf.len() <= 4096 => {
-            Ok(Setup::new(alloc, elf, Vec::new(alloc), limits).ok())
-        }
-        _ => Ok(None),
-    }
-}
 
 /// What makes a round: one worker, or given events.
 #[derive(Clone, Copy)]
@@ -74,24 +48,8 @@ fn made<R: Threads>(
     past: Option<Arc<History>>,
     by: By,
 ) -> Result<Round, Fail> {
-    match setup(alloc)? {
-        Some(setup) => Ok(counted::<R, Brand>(rt, alloc, setup, past, by, Blank::new(1))?),
-        None => Err(Fail::new("the guest isn't taken")),
-    }
-}
-
-/// Compares the marks of a round, whose steps are all of thread 0, how many instructions it executed
-/// and how many steps it discarded, and what an ended round put out.
-fn compare<R: Abort>(rt: &R, round: &Round, marks: &[bool], instructions: u64, discarded: u64) {
-    assert_eq!(rt; round.schedule().len(), marks.len());
-    for (entry, reused) in round.schedule().iter().zip(marks.iter()) {
-        assert_eq!(rt; entry.thread, 0);
-        assert_eq!(rt; entry.reused, *reused);
-    }
-    assert_eq!(rt; round.instructions(), instructions);
-    assert_eq!(rt; round.discarded(), discarded);
-    assert!(rt; round.end() == Some(End::Exit(0)));
-    assert!(rt; round.output() == b"hi\n".as_slice());
+    let setup = setup(alloc, 1_000_000)?;
+    Ok(counted::<R, Brand>(rt, alloc, setup, past, by, Blank::new(1))?)
 }
 
 #[test]
@@ -100,7 +58,7 @@ fn without_an_edit_all_is_reused(rt: HostRuntime) -> Result<(), Fail> {
     let mut past = None;
     for (marks, instructions) in [([false, false], 8), ([true, true], 0), ([true, true], 0)] {
         let round = made(&rt, alloc, past, By::Worker)?;
-        compare(&rt, &round, &marks, instructions, 0);
+        assert!(rt; is_round(&round, &marks, instructions, 0));
         past = match round.into_history() {
             Some(left) => Some(Arc::new(alloc, left)?),
             None => return Err(Fail::new("nothing is left")),
@@ -124,7 +82,7 @@ const EVENTS: [Event; 8] = [
 #[test]
 fn events_make_a_round(rt: HostRuntime) -> Result<(), Fail> {
     let round = made(&rt, rt.alloc(), None, By::Events(&EVENTS))?;
-    compare(&rt, &round, &[false, false], 8, 1);
+    assert!(rt; is_round(&round, &[false, false], 8, 1));
     assert!(rt; round.stopped());
     assert!(rt; round.pick() == Pick::Over);
     Ok(())

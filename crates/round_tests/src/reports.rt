@@ -1,5 +1,6 @@
-//! The report of a guest that puts out three bytes.
+//! The report of `hi`, which puts out three bytes; its segment stands in the last 35 bytes of its file.
 
+use super::fixtures::HI;
 use machine_spec::End;
 use page_store::{PAGE_SIZE, Page, PageTable};
 use report_spec::Entry;
@@ -7,19 +8,11 @@ use round_report::{Told, text};
 use std::alloc::{AllocError, Global};
 use std::test::Fail;
 
-/// The guest's segment: `lui a0, 0x10; addi a0, a0, 0x20; addi a1, x0, 3; addi a7, x0, 1; ecall;
-/// addi a0, x0, 0; addi a7, x0, 0; ecall`, and then `hi` and a newline.
-const SEGMENT: [u8; 35] = [
-    0x37, 0x05, 0x01, 0x00, 0x13, 0x05, 0x05, 0x02, 0x93, 0x05, 0x30, 0x00, 0x93, 0x08, 0x10, 0x00,
-    0x73, 0x00, 0x00, 0x00, 0x13, 0x05, 0x00, 0x00, 0x93, 0x08, 0x00, 0x00, 0x73, 0x00, 0x00, 0x00,
-    b'h', b'i', b'\n',
-];
-
 /// The guest's memory at its end: its page, the header of an empty input, 256 pages of input, and
 /// 512 of stacks. No store was made, so that all but the first are zeros.
 fn last_memory(alloc: Global) -> Result<PageTable, AllocError> {
     let mut bytes = [0; PAGE_SIZE];
-    bytes[..35].copy_from_slice(&SEGMENT);
+    bytes[..35].copy_from_slice(&HI[84..]);
     let mut memory = PageTable::empty(alloc);
     memory.push(Page::new(bytes))?;
     for _ in 0..769 {

@@ -11,6 +11,3 @@ mod reading;
 pub use code::Code;
 pub use operation::{Kind, Operation};
 pub use page::{CodePage, WORDS};
-
-#[cfg(test)]
-mod tests;

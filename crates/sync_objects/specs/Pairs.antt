@@ -18,6 +18,7 @@ objects_of t =
       semaphores = t.semaphores;
       barriers = t.barriers;
       conditions = t.conditions;
+      rwlocks = t.rwlocks;
     }
 
 -- a row done at the condition of number c and the mutex of number m

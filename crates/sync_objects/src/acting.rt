@@ -88,5 +88,8 @@ pub(super) fn acts_on(conditions: &Conditions, call: Call) -> ActedOn
             }
         }
         Call::Signal(c) | Call::Broadcast(c) => leave_objects(conditions, c),
+        Call::RdLock(r) | Call::WrLock(r) | Call::RwUnlock(r) | Call::TryWrLock(r) => {
+            ActedOn::one_of(is_object(r), Object::RwLock(r))
+        }
     }
 }

@@ -24,6 +24,7 @@ use sync_barrier::Barriers;
 use sync_cond::{Conditions, Leaving};
 use sync_join::Threads;
 use sync_mutex::Mutexes;
+use sync_rw::RwLocks;
 use sync_sem::Semaphores;
 
 /// The tables of threads and of the objects of each kind.
@@ -34,6 +35,7 @@ struct Tables {
     semaphores: Semaphores,
     barriers: Barriers,
     conditions: Conditions,
+    rwlocks: RwLocks,
 }
 
 /// Thread `t` gives up mutex `m`, and waits for condition `c`.
@@ -132,6 +134,10 @@ fn act_on(tables: &mut Tables, t: Thread, call: Call) -> Effect
         Call::Broadcast(condition) => {
             broadcast(&mut tables.conditions, &mut tables.mutexes, condition)
         }
+        Call::RdLock(lock) => tables.rwlocks.rdlock(t, lock),
+        Call::WrLock(lock) => tables.rwlocks.wrlock(t, lock),
+        Call::RwUnlock(lock) => tables.rwlocks.rwunlock(t, lock),
+        Call::TryWrLock(lock) => tables.rwlocks.trywrlock(t, lock),
     }
 }
 
@@ -166,6 +172,7 @@ impl Objects {
                 semaphores: Semaphores::new(),
                 barriers: Barriers::new(),
                 conditions: Conditions::new(),
+                rwlocks: RwLocks::new(),
             },
         }
     }

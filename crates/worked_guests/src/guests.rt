@@ -247,7 +247,7 @@ pub const RESULTS: Guest = Guest {
 };
 
 /// Guests with the names of their executables in `examples/`.
-pub const NAMED: [(&str, Guest); 10] = [
+pub const NAMED: [(&str, Guest); 13] = [
     ("hi", HI),
     ("pair", PAIR),
     ("bytes", BYTES),
@@ -258,4 +258,7 @@ pub const NAMED: [(&str, Guest); 10] = [
     ("perm", PERM),
     ("trap", TRAP),
     ("self", SELF),
+    ("puts", PUTS),
+    ("creates", CREATES),
+    ("results", RESULTS),
 ];

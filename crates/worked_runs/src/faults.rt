@@ -140,3 +140,19 @@ fn a_failed_write_leaves_no_memo(rt: HostRuntime) -> Result<(), Fail> {
     assert!(rt; has_printed(&host, 2, 0) && host.file("m").is_none());
     Ok(())
 }
+
+/// Lines that print one text: the number of the call that prints it, and how the text begins.
+const TEXTS: [(&str, u64, &[u8]); 2] = [
+    ("ithreads replay hi none order", 3, b"repla"),
+    ("ithreads gen 7 --workers 1", 0, b"gen 7"),
+];
+
+#[test]
+fn a_failed_print_of_one_text_leaves_a_part(rt: HostRuntime) -> Result<(), Fail> {
+    for (line, call, part) in TEXTS {
+        let (host, status) = failed(&rt, rt.alloc(), line, call, part.len() as u64)?;
+        assert!(rt; status == 7 && host.complained() == b"write output\n".as_slice());
+        assert!(rt; host.printed() == part, "at {line}");
+    }
+    Ok(())
+}

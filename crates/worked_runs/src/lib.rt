@@ -1,5 +1,5 @@
-//! Worked runs: small guests whose reports follow from the rules by hand, run through the top call, and
-//! under given schedules, by tests.
+//! Worked runs: small guests whose runs follow from the rules by hand, where no line of the program shows it: under orders
+//! and schedules that are handed in, by workers whose steps are counted or held, and at hosts of which a call fails.
 #![tactic(auto)]
 
 #[cfg(test)]
@@ -7,14 +7,18 @@ mod faults;
 #[cfg(test)]
 mod lines;
 #[cfg(test)]
-mod memos;
+mod orders;
+#[cfg(test)]
+mod reaching;
 #[cfg(test)]
 mod replays;
 #[cfg(test)]
-mod runs;
+mod rounds;
 #[cfg(test)]
 mod schedules;
 #[cfg(test)]
 mod told;
+#[cfg(test)]
+mod words;
 #[cfg(test)]
 mod workers;

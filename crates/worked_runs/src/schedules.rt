@@ -1,81 +1,12 @@
-//! Small guests under given schedules: how far each is permitted, how it ends, and what the steps take.
+//! Small guests under orders that are handed in: how far each is permitted, and that both of two bytes stand.
 
-ghost use Rattle.std.specs.Prelude.{◌≡◌, ◌<◌};
-
-use super::lines::executable;
-use machine_spec::{End, Limits, MOST_INPUT_BYTES};
+use super::rounds::{driven, scheduled};
+use machine_spec::End;
 use page_store::PageTable;
-use propagate::{Round, drive};
-use release_core::{History, Setup};
+use propagate::Round;
 use round_spec::Event;
-use std::alloc::{AllocError, Global};
-use std::marker::Brand;
-use std::sync::Arc;
-use std::sync::ledger::{Blank, Ledger};
 use std::test::Fail;
-use std::thread::Threads;
-use turn_count::Turns;
-use worked_guests::Guest;
-use worked_guests::guests::{BYTES, CROSS, PUTS};
-
-/// The setup of a guest and an input, or none where it is too long or isn't taken.
-fn setup_of(alloc: Global, guest: Guest, input: &[u8]) -> Result<Option<Setup>, AllocError> {
-    let file = executable(alloc, guest)?;
-    if file.len() > 4096 || input.len() > MOST_INPUT_BYTES {
-        return Ok(None);
-    }
-    match Limits::new(1_000_000, 4096) {
-        Some(limits) => { Ok(Setup::new(alloc, file, Vec::from_slice(alloc, input)?, limits).ok()) }
-        None => Ok(None),
-    }
-}
-
-/// The round that events make, with a counter that the runtime made.
-fn counted<R: Threads, L: Ledger>(
-    rt: &R,
-    alloc: Global,
-    setup: Setup,
-    past: Option<Arc<History>>,
-    events: &[Event],
-    blank: Blank,
-) -> Result<Round, AllocError>
-    requires name { blank.name ≡ L.name }
-    requires parts { blank.parts ≡ L.parts }
-    requires some { 0 < L.parts }
-{
-    drive(alloc, setup, past, events, &mut Turns::<L>::new(rt, blank))
-}
-
-/// The round of a guest that these events make, by a history if there is one.
-pub(super) fn driven<R: Threads>(
-    rt: &R,
-    alloc: Global,
-    guest: Guest,
-    input: &[u8],
-    past: Option<Arc<History>>,
-    events: &[Event],
-) -> Result<Round, Fail> {
-    match setup_of(alloc, guest, input)? {
-        Some(setup) => { Ok(counted::<R, Brand>(rt, alloc, setup, past, events, Blank::new(1))?) }
-        None => Err(Fail::new("the guest isn't taken")),
-    }
-}
-
-/// The round of a guest in which each step of a schedule is taken and committed before the next.
-pub(super) fn scheduled<R: Threads>(
-    rt: &R,
-    alloc: Global,
-    guest: Guest,
-    input: &[u8],
-    schedule: &[u8],
-) -> Result<Round, Fail> {
-    let mut events = Vec::new(alloc);
-    for &thread in schedule {
-        events.push(Event::Take(thread))?;
-        events.push(Event::Commit(thread))?;
-    }
-    driven(rt, alloc, guest, input, None, &events)
-}
+use worked_guests::guests::{BYTES, CROSS};
 
 /// A schedule of the guest whose two threads take two mutexes in opposite order, how many of its steps are permitted,
 /// what they execute, and the end, if that is one.
@@ -157,31 +88,5 @@ fn masked_commits_keep_both_bytes(rt: HostRuntime) -> Result<(), Fail> {
     assert!(rt; has_both_bytes(&round));
     assert!(rt; is_followed(&in_order, 8, 35, Some(End::Exit(0))));
     assert!(rt; *round.memory() == *in_order.memory());
-    Ok(())
-}
-
-/// Whether an entry has read the pages at these slots, in this order.
-fn has_read(round: &Round, entry: usize, slots: &[usize]) -> bool {
-    if entry >= round.schedule().len() {
-        return false;
-    }
-    let pages = round.entry(entry).reads().pages();
-    pages
-        .iter()
-        .map(|page| page.slot())
-        .eq(slots.iter().copied())
-}
-
-// The guest's code is in slot 0 and its own data in slot 1; the input's header is in slot 2, and its
-// first page in slot 3. Puts of nothing, of too much and past the last address take no byte; the one
-// over the edge of the header takes bytes of both pages, and the one of the answers of the data.
-#[test]
-fn put_takes_its_pages(rt: HostRuntime) -> Result<(), Fail> {
-    let round = scheduled(&rt, rt.alloc(), PUTS, b"\x01\x02\x03", &[0; 6])?;
-    assert!(rt; round.end() == Some(End::Exit(0)));
-    let rows: [&[usize]; 6] = [&[0], &[0], &[0], &[0, 2, 3], &[0, 1], &[0]];
-    for (entry, slots) in rows.into_iter().enumerate() {
-        assert!(rt; has_read(&round, entry, slots), "at entry {entry}");
-    }
     Ok(())
 }

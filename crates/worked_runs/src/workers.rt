@@ -1,20 +1,13 @@
-//! Worked runs by several workers: two that execute at once, rounds that execute nothing, and schedules that are
-//! followed again from scratch.
+//! Worked runs by several workers, whose steps come to a gate: two that execute at once, and a round that executes
+//! nothing.
 
-use super::lines::{host_with_guests, status_at, status_of, two_pages};
-use super::schedules::scheduled;
+use super::lines::{host_with_guests, status_at, status_of};
 use super::told::{line_after, schedule, shares, text_from};
 use ith_host::Gate;
-use propagate::Round;
-use round_report::{Told, text};
 use std::alloc::{AllocError, Global};
-use std::process::Abort;
-use std::sync::Wait;
 use std::sync::atomic::{AtomicU64, Ordering};
 use std::test::Fail;
-use std::thread::{Threads, yield_now};
-use worked_guests::Guest;
-use worked_guests::guests::{LENGTH, PAIR, TRY};
+use std::thread::yield_now;
 
 /// A gate that notes who comes to it. It holds thunk 1 of thread 0 until thunk 0 of thread 1 came, and the reverse.
 #[derive(Drop)]
@@ -98,16 +91,6 @@ fn two_workers_execute_at_once(rt: HostRuntime) -> Result<(), Fail> {
     Ok(())
 }
 
-#[test]
-fn a_line_without_the_option_has_four_workers(rt: HostRuntime) -> Result<(), Fail> {
-    let alloc = rt.alloc();
-    let mut host = host_with_guests(alloc)?;
-    assert!(rt; status_of(&rt, alloc, &mut host, "ithreads run hi none")? == 0);
-    let told = shares(alloc, host.printed())?;
-    assert!(rt; told.len() == 4 && total(&told) == 2);
-    Ok(())
-}
-
 /// A gate that counts who comes to it.
 #[derive(Drop)]
 struct Counting {
@@ -138,94 +121,4 @@ fn a_rerun_without_an_edit_enters_nothing(rt: HostRuntime) -> Result<(), Fail> {
     assert!(rt; schedule(alloc, again)? == schedule(alloc, host.printed())?);
     assert!(rt; line_after(again, b"memory ") == line_after(host.printed(), b"memory "));
     Ok(())
-}
-
-/// The report of a round in which one worker executed all steps.
-fn report_of(alloc: Global, round: &Round) -> Result<Vec<u8>, AllocError> {
-    let told = Told {
-        ending: round.end(),
-        schedule: round.schedule(),
-        reached: None,
-        instructions: round.instructions(),
-        shares: &[round.schedule().len() as u64],
-        memory: round.memory(),
-        output: round.output(),
-    };
-    text(alloc, 0, &told, &mut None)
-}
-
-/// Whether two reports tell the same end, memory and output, and as many steps.
-fn is_same(report: &[u8], other: &[u8]) -> bool {
-    line_after(report, b"end ") == line_after(other, b"end ")
-        && line_after(report, b"steps ") == line_after(other, b"steps ")
-        && text_from(report, b"\nmemory ") == text_from(other, b"\nmemory ")
-}
-
-/// Whether the schedule that a report tells leads a guest from scratch to what the report tells.
-fn is_followed<R: Threads>(
-    rt: &R,
-    alloc: Global,
-    guest: Guest,
-    input: &[u8],
-    report: &[u8],
-) -> Result<bool, Fail> {
-    let threads = schedule(alloc, report)?;
-    let round = scheduled(rt, alloc, guest, input, threads.as_slice())?;
-    let again = report_of(alloc, &round)?;
-    Ok(is_same(report, again.as_slice()))
-}
-
-/// Does a line of two rounds, and compares each with its schedule followed from scratch.
-fn compare_rounds<R: Threads + Wait + Sync + Abort>(
-    rt: &R,
-    alloc: Global,
-    guest: Guest,
-    line: &str,
-    inputs: [&[u8]; 2],
-) -> Result<(), Fail> {
-    let mut host = host_with_guests(alloc)?;
-    status_of(rt, alloc, &mut host, line)?;
-    let second = text_from(host.printed(), b"round 1\n");
-    let first = &host.printed()[..host.printed().len().saturating_sub(second.len())];
-    let followed = is_followed(rt, alloc, guest, inputs[0], first)?;
-    assert!(rt; followed, "before the edit at {line}");
-    let followed = is_followed(rt, alloc, guest, inputs[1], second)?;
-    assert!(rt; followed, "after the edit at {line}");
-    Ok(())
-}
-
-/// Does the line of the guest of two adding threads whose edit changes the word that one of them adds.
-fn compare_pair<R: Threads + Wait + Sync + Abort>(
-    rt: &R,
-    alloc: Global,
-    line: &str,
-) -> Result<(), Fail> {
-    let before = two_pages(alloc, 7)?;
-    let after = two_pages(alloc, 8)?;
-    let inputs = [before.as_slice(), after.as_slice()];
-    compare_rounds(rt, alloc, PAIR, line, inputs)
-}
-
-#[test]
-fn the_schedules_of_two_workers_can_be_followed(rt: HostRuntime) -> Result<(), Fail> {
-    let alloc = rt.alloc();
-    compare_pair(&rt, alloc, "ithreads run pair pages eight --workers 2")?;
-    let line = "ithreads run try one cleared --workers 2";
-    compare_rounds(&rt, alloc, TRY, line, [b"\x01", b"\x00"])
-}
-
-#[test]
-fn the_schedules_of_four_workers_can_be_followed(rt: HostRuntime) -> Result<(), Fail> {
-    let alloc = rt.alloc();
-    compare_pair(&rt, alloc, "ithreads run pair pages eight --workers 4")?;
-    let line = "ithreads run try one cleared --workers 4";
-    compare_rounds(&rt, alloc, TRY, line, [b"\x01", b"\x00"])
-}
-
-#[test]
-fn the_schedules_of_sixteen_workers_can_be_followed(rt: HostRuntime) -> Result<(), Fail> {
-    let alloc = rt.alloc();
-    compare_pair(&rt, alloc, "ithreads run pair pages eight --workers 16")?;
-    let line = "ithreads run length five shorter --workers 16";
-    compare_rounds(&rt, alloc, LENGTH, line, [b"\x00\x00\x00\x00\x00", b""])
 }

@@ -1,5 +1,4 @@
 -- How a line that tells why steps were executed ends, from how its parts did.
-use Rattle.std.proofs.Common.{◌≡◌, ◌∙◌}
 use Rattle.ith_words.specs.Said.{explain_said}
 use Rattle.ith_top.specs.Ends.{Prints, ExplainEnds}
 use Rattle.ith_top.specs.Playing.{plan_said}

@@ -1,9 +1,9 @@
 -- The plan of the rerun that a line explains is the line's, and so is how it ends where there is none.
-use Rattle.std.proofs.Common.{◌≡◌, subst}
+use Rattle.std.proofs.Common.{subst}
 use Rattle.ith_words.specs.Words.{Reruns, RerunLine}
-use Rattle.ith_words.specs.Said.{rerun_said, explain_said}
+use Rattle.ith_words.specs.Said.{explain_said}
 use Rattle.ith_top.specs.Files.{files_named, AsksForFiles}
-use Rattle.ith_top.specs.Contents.{IsRerunPlan, as_rerun}
+use Rattle.ith_top.specs.Contents.{IsRerunPlan}
 use Rattle.ith_top.specs.Playing.{plan_said}
 use Rattle.ith_top.specs.Refusals.{WhyUnplanned}
 use Rattle.ith_top.proofs.Explained.{explain_unasked, explain_unplanned}

@@ -1,7 +1,5 @@
 -- The text of the reasons is that of the plan's round.
-use Rattle.std.proofs.Common.{rules, ◌≡◌, ◌∷◌, [], ◌<◌, ◌≤◌, ◌∙◌, ℕ, ap, List, length, subst, arith}
-use Rattle.std.specs.Prelude.{option_map}
-use Rattle.std.specs.Arc.{arc_value}
+use Rattle.std.proofs.Common.{rules, ◌≡◌, ◌∷◌, [], ◌<◌, ◌∙◌, ℕ, ap, List, length, subst, arith}
 use Rattle.rerun_spec.specs.Inputs.{AreShort}
 use Rattle.rerun_spec.specs.Rounds.{with_input}
 use Rattle.why_report.specs.Text.{why_text}

@@ -1,32 +1,37 @@
 -- Answers to the goals that the check leaves of `read_files`.
+use Rattle.std.proofs.lemmas.Result.{err_from_is_err_and}
 use Rattle.round_inputs.specs.Lists.{bytes_of_each}
 use Rattle.ith_words.specs.Said.{run_said}
 use Rattle.ith_top.specs.Files.{lists_named}
 use Rattle.ith_top.proofs.Ending.{files_read, guest_unread, others_unread}
 use Rattle.ith_top.proofs.files.read_files.Goals as goal
 
-pub returns-in-Ok-read_lists-clause-contents : goal.returns-in-Ok-read_lists-clause-contents
-returns-in-Ok-read_lists-clause-contents g c =
+pub returns-clause-contents : goal.returns-clause-contents
+returns-clause-contents g c =
     let world = g.H.Host.world in
     files_read (run_said c.args.line.now) (world c.args.host.now) (world c.read_guest.new.host)
-    c.in-Ok.files.elf.items c.in-Ok.files.input.items (bytes_of_each c.in-Ok-read_lists.lists.items)
-    c.in-Ok.ensures.stays c.in-Ok.ensures.elf c.in-Ok.ensures.elf_within
-    c.in-Ok.ensures.input c.in-Ok.ensures.input_within
-    (rw (← c.as_slice.ensures.value) c.in-Ok-read_lists.ensures.contents)
+    c.in_ok-elf.field-0.elf.items c.in_ok-elf.field-0.input.items (bytes_of_each c.in_ok-lists.lists.items)
+    c.in_ok-elf.ensures.stays c.in_ok-elf.ensures.elf c.in_ok-elf.ensures.elf_within
+    c.in_ok-elf.ensures.input c.in_ok-elf.ensures.input_within
+    (rw (← c.as_slice.ensures.value) c.in_ok-lists.ensures.contents)
 
-pub returns-in-Err-clause-refused : goal.returns-in-Err-clause-refused
-returns-in-Err-clause-refused g c =
+pub returns-in_err-elf-clause-refused : goal.returns-in_err-elf-clause-refused
+returns-in_err-elf-clause-refused g c =
     let world = g.H.Host.world in
-    guest_unread (run_said c.args.line.now).elf (run_said c.args.line.now).input
+    let p = err_from_is_err_and c.from_residual.result c.from_residual.ensures.1 in
+    rw (p.1, p.2)
+    (guest_unread (run_said c.args.line.now).elf (run_said c.args.line.now).input
     (lists_named (run_said c.args.line.now).edits) (world c.args.host.now) (world c.read_guest.new.host)
-    c.in-Err.status c.in-Err.ensures.refused
+    c.in_err-elf.field-0.0 c.in_err-elf.ensures.refused)
 
-pub returns-in-Err-read_lists-clause-refused : goal.returns-in-Err-read_lists-clause-refused
-returns-in-Err-read_lists-clause-refused g c =
+pub returns-in_err-lists-clause-refused : goal.returns-in_err-lists-clause-refused
+returns-in_err-lists-clause-refused g c =
     let world = g.H.Host.world in
-    others_unread (run_said c.args.line.now).elf (run_said c.args.line.now).input
+    let p = err_from_is_err_and c.from_residual-in_err-lists.result c.from_residual-in_err-lists.ensures.1 in
+    rw (p.1, p.2)
+    (others_unread (run_said c.args.line.now).elf (run_said c.args.line.now).input
     (lists_named (run_said c.args.line.now).edits) (world c.args.host.now) (world c.read_guest.new.host)
-    (world c.read_lists.new.host) c.in-Err-read_lists.status c.in-Ok.files.elf.items c.in-Ok.files.input.items
-    c.in-Ok.ensures.stays c.in-Ok.ensures.counts c.in-Ok.ensures.asked
-    c.in-Ok.ensures.elf c.in-Ok.ensures.elf_within c.in-Ok.ensures.input c.in-Ok.ensures.input_within
-    (rw (← c.as_slice.ensures.value) c.in-Err-read_lists.ensures.refused)
+    (world c.read_lists.new.host) c.in_err-lists.field-0.0 c.in_ok-elf.field-0.elf.items c.in_ok-elf.field-0.input.items
+    c.in_ok-elf.ensures.stays c.in_ok-elf.ensures.counts c.in_ok-elf.ensures.asked
+    c.in_ok-elf.ensures.elf c.in_ok-elf.ensures.elf_within c.in_ok-elf.ensures.input c.in_ok-elf.ensures.input_within
+    (rw (← c.as_slice.ensures.value) c.in_err-lists.ensures.refused))

@@ -5,28 +5,28 @@ use Rattle.ith_top.specs.Refusals.{WhyUnprinted}
 use Rattle.ith_top.proofs.Generated.{generate_finished, generate_unfinished, generate_unprinted}
 use Rattle.ith_top.proofs.generating.generate.Goals as goal
 
-pub returns-in-Ok-print_text : goal.returns-in-Ok-print_text
-returns-in-Ok-print_text g c =
+pub returns-in-Ok-print_text-clause-ends : goal.returns-in-Ok-print_text-clause-ends
+returns-in-Ok-print_text-clause-ends g c =
     let w = g.H.Host.world in
     let prints : Prints (w c.args.host.now) (w c.print_text.new.host) c.in-Ok.lines.text.items =
     rw (← c.as_slice.ensures.value) c.in-Ok-print_text.ensures.printed in
     generate_finished (generate_said c.args.line.now) (w c.args.host.now) (w c.print_text.new.host)
-    c.in-Ok.lines.text.items c.in-Ok.lines.exits c.in-Ok-print_text.ensures.asked c.in-Ok.ensures prints c.if-exits.true
+    c.args.crew.now.made.number c.make_both.new.crew.made.number c.in-Ok.lines.text.items c.in-Ok.lines.exits c.in-Ok-print_text.ensures.asked (rw c.requires at c.in-Ok.ensures.lines) prints c.if-exits.true
 
-pub returns-in-Ok-2 : goal.returns-in-Ok-2
-returns-in-Ok-2 g c =
+pub returns-in-Ok-2-clause-ends : goal.returns-in-Ok-2-clause-ends
+returns-in-Ok-2-clause-ends g c =
     let w = g.H.Host.world in
     let prints : Prints (w c.args.host.now) (w c.print_text.new.host) c.in-Ok.lines.text.items =
     rw (← c.as_slice.ensures.value) c.in-Ok-2.ensures.printed in
     generate_unfinished (generate_said c.args.line.now) (w c.args.host.now) (w c.print_text.new.host)
-    c.in-Ok.lines.text.items c.in-Ok.lines.exits c.in-Ok-2.ensures.asked c.in-Ok.ensures prints c.if-exits.false
+    c.args.crew.now.made.number c.make_both.new.crew.made.number c.in-Ok.lines.text.items c.in-Ok.lines.exits c.in-Ok-2.ensures.asked (rw c.requires at c.in-Ok.ensures.lines) prints c.if-exits.false
 
-pub returns : goal.returns
-returns g c =
+pub returns-clause-ends : goal.returns-clause-ends
+returns-clause-ends g c =
     let w = g.H.Host.world in
     let why : WhyUnprinted c.in-Ok.lines.text.items (w c.args.host.now) (w c.print_text.new.host)
     c.in-Err-print_text.status =
     rw (← c.as_slice.ensures.value) c.in-Err-print_text.ensures.refused in
     generate_unprinted (generate_said c.args.line.now) (w c.args.host.now) (w c.print_text.new.host)
-    c.in-Ok.lines.text.items c.in-Ok.lines.exits c.in-Err-print_text.status c.in-Err-print_text.ensures.asked
-    c.in-Ok.ensures why
+    c.args.crew.now.made.number c.make_both.new.crew.made.number c.in-Ok.lines.text.items c.in-Ok.lines.exits c.in-Err-print_text.status c.in-Err-print_text.ensures.asked
+    (rw c.requires at c.in-Ok.ensures.lines) why

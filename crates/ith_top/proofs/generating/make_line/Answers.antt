@@ -22,8 +22,8 @@ unreachable-requires g c =
     c.requires.same in
     c.in_default.not-Some (history_of w) (c.into_history.ensures.same on)
 
-pub returns : goal.returns
-returns g c =
+pub returns-clause-played : goal.returns-clause-played
+returns-clause-played g c =
     let begins : Beginning = beginning_of c.args.setup.now c.args.next in
     let w : RoundState = c.in_ok-round.round in
     let start : c.in_ok-start.start ≡ with_input c.args.setup.now c.args.next.input.items = search rules in

@@ -1,84 +1,101 @@
 -- How a rerun ends that has no plan, and what holds of its plan.
 use Rattle.std.proofs.Common.{rules, ◌≡◌, ◌∙◌, ℕ, ap}
+use Rattle.std.proofs.lemmas.Result.{err_from_is_err_and}
 use Rattle.round_inputs.specs.Lists.{bytes_of_each}
 use Rattle.ith_words.specs.Words.{Reruns}
 use Rattle.ith_words.specs.Said.{rerun_said}
 use Rattle.rerun_spec.specs.Inputs.{AreRerunInputs}
 use Rattle.rerun_spec.specs.Rounds.{after_memo}
 use Rattle.ith_top.specs.Contents.{IsMemoOf, Plan, fuel_of}
-use Rattle.ith_top.specs.Playing.{beginning_said}
+use Rattle.ith_top.specs.Playing.{plan_said}
 use Rattle.ith_top.specs.Refusals.{WhyNoHistory, WhyUnedited}
 use Rattle.ith_top.proofs.Worlds.{stays_trans}
-use Rattle.ith_top.proofs.Ending.{forgotten_ends, rerun_unedited_ends, cut_ends}
+use Rattle.ith_top.proofs.Ending.{unread_ends, forgotten_ends, rerun_unedited_ends, cut_ends}
 use Rattle.ith_top.proofs.Planning.{rerun_plan, rerun_playable, rerun_spelled}
 use Rattle.ith_top.proofs.plan.prepare_rerun.Goals as goal
 
-pub returns-in-Err-recall-clause-refused : goal.returns-in-Err-recall-clause-refused
-returns-in-Err-recall-clause-refused g c =
-    let w = g.H.Host.world in let files = c.in-Ok.files in
-    let why : WhyNoHistory files.memo.items c.in-Err-recall.status =
-    rw (← c.as_slice.ensures.value) c.in-Err-recall.ensures.refused in
-    forgotten_ends (rerun_said c.args.line.now) (w c.args.host.now) (w c.read_rerun_files.new.host)
-    (w c.recall.new.host) files.memo.items (bytes_of_each files.lists.items) c.in-Err-recall.status
-    c.in-Ok.ensures.asked c.in-Err-recall.ensures.asked c.in-Ok.ensures.stays c.in-Err-recall.ensures.stays
-    c.in-Ok.ensures.memo c.in-Ok.ensures.lists why
+pub returns-in_err-memo-clause-refused : goal.returns-in_err-memo-clause-refused
+returns-in_err-memo-clause-refused g c =
+    let w = g.H.Host.world in
+    let p = err_from_is_err_and c.from_residual.result c.from_residual.ensures.1 in
+    rw (p.1, p.2)
+    (unread_ends (Reruns (rerun_said c.args.line.now)) (w c.args.host.now) (w c.read_rerun_files.new.host)
+    c.in_err-memo.field-0.0 c.in_err-memo.ensures.stays c.in_err-memo.ensures.refused)
 
-pub returns-in-Err-edit_again-clause-refused : goal.returns-in-Err-edit_again-clause-refused
-returns-in-Err-edit_again-clause-refused g c =
-    let w = g.H.Host.world in let files = c.in-Ok.files in
-    let is : IsMemoOf files.memo.items c.in-Ok-recall.history =
-    rw (← c.as_slice.ensures.value) c.in-Ok-recall.ensures.history in
-    let why : WhyUnedited c.in-Ok-recall.history.setup.input
-    (bytes_of_each files.lists.items) c.in-Err-edit_again.status = search rules in
-    rerun_unedited_ends (rerun_said c.args.line.now) (w c.args.host.now) (w c.recall.new.host) (w c.edit_again.new.host)
-    files.memo.items (bytes_of_each files.lists.items) c.in-Ok-recall.history c.in-Err-edit_again.status
-    (c.in-Ok-recall.ensures.asked ∙ c.in-Ok.ensures.asked) c.in-Err-edit_again.ensures.asked
+pub returns-in_err-history-clause-refused : goal.returns-in_err-history-clause-refused
+returns-in_err-history-clause-refused g c =
+    let w = g.H.Host.world in let files = c.in_ok-memo.field-0 in
+    let why : WhyNoHistory files.memo.items c.in_err-history.field-0.0 =
+    rw (← c.as_slice.ensures.value) c.in_err-history.ensures.refused in
+    let p = err_from_is_err_and c.from_residual-in_err-history.result c.from_residual-in_err-history.ensures.1 in
+    rw (p.1, p.2)
+    (forgotten_ends (rerun_said c.args.line.now) (w c.args.host.now) (w c.read_rerun_files.new.host)
+    (w c.recall.new.host) files.memo.items (bytes_of_each files.lists.items) c.in_err-history.field-0.0
+    c.in_ok-memo.ensures.asked c.in_err-history.ensures.asked c.in_ok-memo.ensures.stays c.in_err-history.ensures.stays
+    c.in_ok-memo.ensures.memo c.in_ok-memo.ensures.lists why)
+
+pub returns-in_err-inputs-clause-refused : goal.returns-in_err-inputs-clause-refused
+returns-in_err-inputs-clause-refused g c =
+    let w = g.H.Host.world in let files = c.in_ok-memo.field-0 in
+    let is : IsMemoOf files.memo.items c.in_ok-history.history =
+    rw (← c.as_slice.ensures.value) c.in_ok-history.ensures.history in
+    let why : WhyUnedited c.in_ok-history.history.setup.input
+    (bytes_of_each files.lists.items) c.in_err-inputs.field-0.0 = search rules in
+    let p = err_from_is_err_and c.from_residual-in_err-inputs.result c.from_residual-in_err-inputs.ensures.1 in
+    rw (p.1, p.2)
+    (rerun_unedited_ends (rerun_said c.args.line.now) (w c.args.host.now) (w c.recall.new.host) (w c.edit_again.new.host)
+    files.memo.items (bytes_of_each files.lists.items) c.in_ok-history.history c.in_err-inputs.field-0.0
+    (c.in_ok-history.ensures.asked ∙ c.in_ok-memo.ensures.asked) c.in_err-inputs.ensures.asked
     (stays_trans (w c.args.host.now) (w c.read_rerun_files.new.host)
-    (w c.recall.new.host) c.in-Ok.ensures.stays c.in-Ok-recall.ensures.stays) c.in-Err-edit_again.ensures.stays
-    c.in-Ok.ensures.memo c.in-Ok.ensures.lists is why
+    (w c.recall.new.host) c.in_ok-memo.ensures.stays c.in_ok-history.ensures.stays) c.in_err-inputs.ensures.stays
+    c.in_ok-memo.ensures.memo c.in_ok-memo.ensures.lists is why)
 
-pub returns-in-Ok-start_after-clause-plan : goal.returns-in-Ok-start_after-clause-plan
-returns-in-Ok-start_after-clause-plan g c =
-    let w = g.H.Host.world in let files = c.in-Ok.files in
-    let p : Plan = record { beginning = beginning_said c.in-Ok-start_after.start; inputs = c.in-Ok-edit_again.inputs }
-    in
-    let is : IsMemoOf files.memo.items c.in-Ok-recall.history =
-    rw (← c.as_slice.ensures.value) c.in-Ok-recall.ensures.history in
-    let edited : AreRerunInputs c.in-Ok-recall.history.setup.input
-    (bytes_of_each files.lists.items) c.in-Ok-edit_again.inputs = search rules in
-    let begins : p.beginning ≡ after_memo c.in-Ok-recall.history
-    (fuel_of (rerun_said c.args.line.now) c.in-Ok-recall.history) c.args.line.now.reach =
-    c.in-Ok-start_after.ensures
-    ∙ ap (λ (fuel : ℕ). after_memo c.in-Ok-recall.history fuel c.args.line.now.reach) c.fuel_of-fuel.ensures.value in
+pub returns-in-Ok-clause-plan : goal.returns-in-Ok-clause-plan
+returns-in-Ok-clause-plan g c =
+    let w = g.H.Host.world in let files = c.in_ok-memo.field-0 in
+    let p : Plan = plan_said c.in-Ok.plan in
+    let is : IsMemoOf files.memo.items c.in_ok-history.history =
+    rw (← c.as_slice.ensures.value) c.in_ok-history.ensures.history in
+    let edited : AreRerunInputs c.in_ok-history.history.setup.input
+    (bytes_of_each files.lists.items) c.in_ok-inputs.inputs = search rules in
+    let made : AreRerunInputs c.in_ok-history.history.setup.input (bytes_of_each files.lists.items) p.inputs =
+    rw c.in-Ok.ensures.inputs edited in
+    let begins : p.beginning ≡ after_memo c.in_ok-history.history
+    (fuel_of (rerun_said c.args.line.now) c.in_ok-history.history) c.args.line.now.reach =
+    c.in-Ok.ensures.beginning
+    ∙ ap (λ (fuel : ℕ). after_memo c.in_ok-history.history fuel c.args.line.now.reach) c.fuel_of-fuel.ensures.value in
     rerun_plan (rerun_said c.args.line.now) (w c.args.host.now) files.memo.items
-    (bytes_of_each files.lists.items) c.in-Ok-recall.history p
-    c.in-Ok.ensures.memo c.in-Ok.ensures.lists is begins edited
+    (bytes_of_each files.lists.items) c.in_ok-history.history p
+    c.in_ok-memo.ensures.memo c.in_ok-memo.ensures.lists is begins made
 
-pub returns-in-Ok-start_after-clause-playable : goal.returns-in-Ok-start_after-clause-playable
-returns-in-Ok-start_after-clause-playable g c =
-    let files = c.in-Ok.files in
-    let p : Plan = record { beginning = beginning_said c.in-Ok-start_after.start; inputs = c.in-Ok-edit_again.inputs }
-    in
-    let is : IsMemoOf files.memo.items c.in-Ok-recall.history =
-    rw (← c.as_slice.ensures.value) c.in-Ok-recall.ensures.history in
-    let edited : AreRerunInputs c.in-Ok-recall.history.setup.input
-    (bytes_of_each files.lists.items) c.in-Ok-edit_again.inputs = search rules in
+pub returns-in-Ok-clause-playable : goal.returns-in-Ok-clause-playable
+returns-in-Ok-clause-playable g c =
+    let files = c.in_ok-memo.field-0 in
+    let p : Plan = plan_said c.in-Ok.plan in
+    let is : IsMemoOf files.memo.items c.in_ok-history.history =
+    rw (← c.as_slice.ensures.value) c.in_ok-history.ensures.history in
+    let edited : AreRerunInputs c.in_ok-history.history.setup.input
+    (bytes_of_each files.lists.items) c.in_ok-inputs.inputs = search rules in
+    let made : AreRerunInputs c.in_ok-history.history.setup.input (bytes_of_each files.lists.items) p.inputs =
+    rw c.in-Ok.ensures.inputs edited in
     rerun_playable files.memo.items
-    (bytes_of_each files.lists.items) c.in-Ok-recall.history c.fuel_of-fuel.result
-    c.args.line.now.reach p is c.in-Ok-start_after.ensures c.in-Ok-edit_again.ensures.few edited
+    (bytes_of_each files.lists.items) c.in_ok-history.history c.fuel_of-fuel.result
+    c.args.line.now.reach p is c.in-Ok.ensures.beginning
+    (rw c.in-Ok.ensures.inputs c.in_ok-inputs.ensures.few) made
 
-pub returns-in-Ok-start_after-clause-spelled : goal.returns-in-Ok-start_after-clause-spelled
-returns-in-Ok-start_after-clause-spelled g c =
-    let files = c.in-Ok.files in
-    let p : Plan = record { beginning = beginning_said c.in-Ok-start_after.start; inputs = c.in-Ok-edit_again.inputs }
-    in
-    let is : IsMemoOf files.memo.items c.in-Ok-recall.history =
-    rw (← c.as_slice.ensures.value) c.in-Ok-recall.ensures.history in
-    let edited : AreRerunInputs c.in-Ok-recall.history.setup.input
-    (bytes_of_each files.lists.items) c.in-Ok-edit_again.inputs = search rules in
+pub returns-in-Ok-clause-spelled : goal.returns-in-Ok-clause-spelled
+returns-in-Ok-clause-spelled g c =
+    let files = c.in_ok-memo.field-0 in
+    let p : Plan = plan_said c.in-Ok.plan in
+    let is : IsMemoOf files.memo.items c.in_ok-history.history =
+    rw (← c.as_slice.ensures.value) c.in_ok-history.ensures.history in
+    let edited : AreRerunInputs c.in_ok-history.history.setup.input
+    (bytes_of_each files.lists.items) c.in_ok-inputs.inputs = search rules in
+    let made : AreRerunInputs c.in_ok-history.history.setup.input (bytes_of_each files.lists.items) p.inputs =
+    rw c.in-Ok.ensures.inputs edited in
     rerun_spelled files.memo.items
-    (bytes_of_each files.lists.items) c.in-Ok-recall.history c.fuel_of-fuel.result
-    c.args.line.now.reach p is c.fuel_of-fuel.ensures.within c.in-Ok-start_after.ensures edited
+    (bytes_of_each files.lists.items) c.in_ok-history.history c.fuel_of-fuel.result
+    c.args.line.now.reach p is c.fuel_of-fuel.ensures.within c.in-Ok.ensures.beginning made
 
 pub returns-clause-refused : goal.returns-clause-refused
 returns-clause-refused g c =
@@ -86,6 +103,6 @@ returns-clause-refused g c =
     let a = w c.args.host.now in let b = w c.read_rerun_files.new.host in let d = w c.recall.new.host in let e =
     w c.edit_again.new.host in
     cut_ends (Reruns (rerun_said c.args.line.now)) a e (w c.complain.new.self)
-    (c.in-Ok-edit_again.ensures.asked ∙ c.in-Ok-recall.ensures.asked ∙ c.in-Ok.ensures.asked) c.complain.ensures.asked
-    (stays_trans a d e (stays_trans a b d c.in-Ok.ensures.stays c.in-Ok-recall.ensures.stays)
-    c.in-Ok-edit_again.ensures.stays) c.complain.ensures.stays
+    (c.in_ok-inputs.ensures.asked ∙ c.in_ok-history.ensures.asked ∙ c.in_ok-memo.ensures.asked) c.complain.ensures.asked
+    (stays_trans a d e (stays_trans a b d c.in_ok-memo.ensures.stays c.in_ok-history.ensures.stays)
+    c.in_ok-inputs.ensures.stays) c.complain.ensures.stays

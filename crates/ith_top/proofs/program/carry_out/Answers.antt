@@ -1,5 +1,6 @@
 -- Answers to the goals that the check leaves of `carry_out`.
-use Rattle.std.proofs.Common.{◌∙◌, sym, subst}
+use Rattle.std.proofs.Common.{◌∙◌, sym, subst, inl}
+use Rattle.std.proofs.lemmas.Result.{err_from_is_err_and}
 use Rattle.memo_spec.specs.Spelling.{IsSpellable}
 use Rattle.ith_top.specs.Playing.{plan_said}
 use Rattle.ith_top.proofs.Promises.{last_spelled}
@@ -7,7 +8,12 @@ use Rattle.ith_top.proofs.program.carry_out.Goals as goal
 
 pub keep-requires : goal.keep-requires
 keep-requires g c =
-    let played = c.in-Ok.ensures.played in
+    let played = c.in_ok-exits.ensures.played in
     subst IsSpellable (sym (c.deref.ensures ∙ played.is_left))
     (last_spelled c.args.crew.now.workers (plan_said c.args.plan) played.found c.requires.playable c.requires.spelled
     played.made played.all)
+
+pub returns-in_err-exits-clause-refused : goal.returns-in_err-exits-clause-refused
+returns-in_err-exits-clause-refused g c =
+    let p = err_from_is_err_and c.from_residual.result c.from_residual.ensures.1 in
+    rw (p.1, p.2) (inl c.in_err-exits.ensures.refused)

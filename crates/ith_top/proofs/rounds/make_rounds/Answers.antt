@@ -1,5 +1,5 @@
 -- Answers to the goals that the check leaves of `make_rounds`.
-use Rattle.std.proofs.Common.{◌≡◌, ◌+◌, ◌∷◌, ℕ, Bool, Option, Some, None, length, refl, ap, subst, arith}
+use Rattle.std.proofs.Common.{◌≡◌, ◌+◌, ◌∷◌, ℕ, Bool, Option, Some, None, length, refl, ap, subst, ◌∙◌, arith}
 use Rattle.std.specs.Prelude.{option_map}
 use Rattle.std.specs.Arc.{arc_value}
 use Rattle.history_spec.specs.History.{History}
@@ -16,30 +16,33 @@ begins number past setup reach = record { number = number; past = past; setup = 
 
 pub loop-place-init : goal.loop-place-init
 loop-place-init g c =
-    let w = g.H.Host.world in let coming = c.args.coming in
+    let w = g.H.Host.world in let coming = c.args.plan in
     let number : coming.number + 0 ≡ coming.number = omega arith in
     record {
-      going = going_start (begins coming.number (option_map arc_value coming.past) c.args.setup.now coming.reach)
-          (begins (coming.number + 0) (option_map arc_value coming.past) c.args.setup.now coming.reach)
+      going = going_start (begins coming.number (option_map arc_value coming.past) c.args.plan.setup coming.reach)
+          (begins (coming.number + 0) (option_map arc_value coming.past) c.args.plan.setup coming.reach)
           c.args.crew.now.workers coming.inputs (w c.args.host.now)
-          (ap (λ (n : ℕ). begins n (option_map arc_value coming.past) c.args.setup.now coming.reach) number)
+          (ap (λ (n : ℕ). begins n (option_map arc_value coming.past) c.args.plan.setup coming.reach) number)
           (none_fell_same (w c.args.host.now));
       left = omega (arith, c.len-place-end.ensures);
       short = c.requires.short;
       map = c.requires.map;
       some = λ none. refl;
+      made = refl;
+      workers = refl;
     }
 
 pub returns-in-Err-clause-refused : goal.returns-in-Err-clause-refused
 returns-in-Err-clause-refused g c =
-    let w = g.H.Host.world in let coming = c.args.coming in
+    let w = g.H.Host.world in let coming = c.args.plan in
     rw (c.no_memory.ensures.status)
-    (going_cut (begins coming.number (option_map arc_value coming.past) c.args.setup.now coming.reach)
+    (going_cut (begins coming.number (option_map arc_value coming.past) c.args.plan.setup coming.reach)
     c.args.crew.now.workers coming.inputs
     (w c.args.host.now) (w c.loop-place.host) (w c.no_memory.new.host)
-    (begins (coming.number + c.loop-place.place) (option_map arc_value c.loop-place.past) c.args.setup.now coming.reach)
-    c.loop-place.inputs c.loop-place.exits
-    c.loop-place.invariant.going c.no_memory.ensures.stays)
+    (begins (coming.number + c.loop-place.place) (option_map arc_value c.loop-place.past) c.args.plan.setup coming.reach)
+    c.loop-place.inputs c.loop-place.exits c.args.crew.now.made.number c.loop-place.crew.made.number
+    c.loop-place.invariant.going c.no_memory.ensures.stays
+    (let made = c.loop-place.invariant.made in omega arith) (let made = c.loop-place.invariant.made in omega arith))
 
 pub make_round-requires-clause-short : goal.make_round-requires-clause-short
 make_round-requires-clause-short g c = λ lifetimes bounds.
@@ -52,70 +55,84 @@ make_round-requires-clause-same g c = λ lifetimes bounds. c.loop-place.invarian
 
 pub returns-in-Err-make_round-clause-refused : goal.returns-in-Err-make_round-clause-refused
 returns-in-Err-make_round-clause-refused g c =
-    let w = g.H.Host.world in let coming = c.args.coming in
+    let w = g.H.Host.world in let coming = c.args.plan in
     rw (c.no_memory-in-Err-make_round.ensures.status)
-    (going_cut (begins coming.number (option_map arc_value coming.past) c.args.setup.now coming.reach)
+    (going_cut (begins coming.number (option_map arc_value coming.past) c.args.plan.setup coming.reach)
     c.args.crew.now.workers coming.inputs
     (w c.args.host.now) (w c.loop-place.host) (w c.no_memory-in-Err-make_round.new.host)
-    (begins (coming.number + c.loop-place.place) (option_map arc_value c.loop-place.past) c.args.setup.now coming.reach)
-    c.loop-place.inputs c.loop-place.exits
-    c.loop-place.invariant.going c.no_memory-in-Err-make_round.ensures.stays)
+    (begins (coming.number + c.loop-place.place) (option_map arc_value c.loop-place.past) c.args.plan.setup coming.reach)
+    c.loop-place.inputs c.loop-place.exits c.args.crew.now.made.number c.make_round.new.crew.made.number
+    c.loop-place.invariant.going c.no_memory-in-Err-make_round.ensures.stays
+    (let made = c.loop-place.invariant.made in let one = c.make_round.ensures.one in omega arith)
+    (let made = c.loop-place.invariant.made in let one = c.make_round.ensures.one in
+    let fewer : length c.loop-place.inputs ≡ length (c.in-Ok-Some.input.items ∷ c.next.new.self) =
+    ap length (rw c.in-Ok-Some.field-0-is at c.in-Ok-Some.ensures.taken) in omega arith))
 
 pub returns-in-Err-print_text-clause-refused : goal.returns-in-Err-print_text-clause-refused
 returns-in-Err-print_text-clause-refused g c =
-    let w = g.H.Host.world in let coming = c.args.coming in
+    let w = g.H.Host.world in let coming = c.args.plan in
     let taken : c.loop-place.inputs ≡ c.in-Ok-Some.input.items ∷ c.next.new.self =
     rw c.in-Ok-Some.field-0-is at c.in-Ok-Some.ensures.taken in
-    going_unprinted (begins coming.number (option_map arc_value coming.past) c.args.setup.now coming.reach)
+    going_unprinted (begins coming.number (option_map arc_value coming.past) c.args.plan.setup coming.reach)
     c.args.crew.now.workers coming.inputs (w c.args.host.now) (w c.loop-place.host) (w c.print_text.new.host)
-    (begins (coming.number + c.loop-place.place) (option_map arc_value c.loop-place.past) c.args.setup.now coming.reach)
+    (begins (coming.number + c.loop-place.place) (option_map arc_value c.loop-place.past) c.args.plan.setup coming.reach)
     c.in-Ok-Some.input.items c.next.new.self c.loop-place.exits
-    c.in-Ok.played.text.items c.in-Ok.played.exited (arc_value c.in-Ok.played.left) c.in-Err-print_text.status
+    c.in-Ok.played.text.items c.in-Ok.played.exited (arc_value c.in-Ok.played.left)
+    c.args.crew.now.made.number c.make_round.new.crew.made.number c.in-Err-print_text.status
     (rw taken at c.loop-place.invariant.going)
-    c.in-Ok.ensures
+    (rw c.loop-place.invariant.workers at c.in-Ok.ensures.played)
+    (let made = c.loop-place.invariant.made in let one = c.make_round.ensures.one in
+    let fewer : length c.loop-place.inputs ≡ length (c.in-Ok-Some.input.items ∷ c.next.new.self) = ap length taken in
+    omega arith)
+    (let made = c.loop-place.invariant.made in let one = c.make_round.ensures.one in
+    let fewer : length c.loop-place.inputs ≡ length (c.in-Ok-Some.input.items ∷ c.next.new.self) = ap length taken in
+    omega arith)
     (rw (← c.as_slice.ensures.value) c.in-Err-print_text.ensures.refused)
 
 pub loop-place-preserved : goal.loop-place-preserved
 loop-place-preserved g c =
-    let w = g.H.Host.world in let coming = c.args.coming in
+    let w = g.H.Host.world in let coming = c.args.plan in
     let taken : c.loop-place.inputs ≡ c.in-Ok-Some.input.items ∷ c.next.new.self =
     rw c.in-Ok-Some.field-0-is at c.in-Ok-Some.ensures.taken in
     let fewer : length c.loop-place.inputs ≡ length (c.in-Ok-Some.input.items ∷ c.next.new.self) = ap length taken in
     let left : c.loop-place.place + length c.loop-place.inputs ≡ c.len-place-end.result = c.loop-place.invariant.left in
     let now : Beginning =
-    begins (coming.number + c.loop-place.place) (option_map arc_value c.loop-place.past) c.args.setup.now coming.reach
+    begins (coming.number + c.loop-place.place) (option_map arc_value c.loop-place.past) c.args.plan.setup coming.reach
     in
     let number : coming.number + (c.loop-place.place + 1) ≡ coming.number + c.loop-place.place + 1 = omega arith in
     record {
-      going = going_next (begins coming.number (option_map arc_value coming.past) c.args.setup.now coming.reach)
+      going = going_next (begins coming.number (option_map arc_value coming.past) c.args.plan.setup coming.reach)
           c.args.crew.now.workers coming.inputs (w c.args.host.now) (w c.loop-place.host) (w c.print_text.new.host)
           now (begins (coming.number + (c.loop-place.place + 1))
-          (Some (arc_value c.in-Ok.played.left)) c.args.setup.now coming.reach)
+          (Some (arc_value c.in-Ok.played.left)) c.args.plan.setup coming.reach)
           c.in-Ok-Some.input.items c.next.new.self c.loop-place.exits
           c.in-Ok.played.text.items c.in-Ok.played.exited (arc_value c.in-Ok.played.left)
           (rw taken at c.loop-place.invariant.going)
-          c.in-Ok.ensures
-          (ap (λ (n : ℕ). begins n (Some (arc_value c.in-Ok.played.left)) c.args.setup.now coming.reach) number)
+          (rw c.loop-place.invariant.workers at c.in-Ok.ensures.played)
+          (ap (λ (n : ℕ). begins n (Some (arc_value c.in-Ok.played.left)) c.args.plan.setup coming.reach) number)
           (rw (← c.as_slice.ensures.value) c.in-Ok-print_text.ensures.printed) c.in-Ok-print_text.ensures.counts
           c.in-Ok-print_text.ensures.asked;
       left = omega arith;
       short = short_rest c.in-Ok-Some.input.items c.next.new.self (subst AreShort taken c.loop-place.invariant.short);
-      map = left_map c.args.crew.now.workers now c.in-Ok-Some.input.items c.in-Ok.played.text.items
-          c.in-Ok.played.exited (arc_value c.in-Ok.played.left) c.in-Ok.ensures;
+      map = left_map c.loop-place.crew.workers now c.in-Ok-Some.input.items c.in-Ok.played.text.items
+          c.in-Ok.played.exited (arc_value c.in-Ok.played.left) c.in-Ok.ensures.played;
       some = λ none. absurd (let no : Some (arc_value c.in-Ok.played.left) ≡ None = none in cc);
+      made = let made = c.loop-place.invariant.made in let one = c.in-Ok.ensures.made in omega arith;
+      workers = c.make_round.ensures.workers ∙ c.loop-place.invariant.workers;
     }
 
 pub returns-clause-played : goal.returns-clause-played
 returns-clause-played g c =
-    let w = g.H.Host.world in let coming = c.args.coming in
-    going_played (begins coming.number (option_map arc_value coming.past) c.args.setup.now coming.reach)
+    let w = g.H.Host.world in let coming = c.args.plan in
+    going_played (begins coming.number (option_map arc_value coming.past) c.args.plan.setup coming.reach)
     c.args.crew.now.workers coming.inputs (w c.args.host.now) (w c.loop-place.host)
-    (begins (coming.number + c.loop-place.place) (option_map arc_value c.loop-place.past) c.args.setup.now coming.reach)
+    (begins (coming.number + c.loop-place.place) (option_map arc_value c.loop-place.past) c.args.plan.setup coming.reach)
     c.loop-place.inputs c.loop-place.exits (arc_value c.in-Some.left)
+    c.args.crew.now.made.number c.loop-place.crew.made.number
     (none_left c.loop-place.inputs c.loop-place.place c.len-place-end.result c.loop-place.invariant.left
     c.loop-place-test.false)
     (ap (option_map arc_value) c.in-Some.is)
-    c.loop-place.invariant.going
+    c.loop-place.invariant.going c.loop-place.invariant.made
 
 pub unreachable-requires-in-None : goal.unreachable-requires-in-None
 unreachable-requires-in-None g c =

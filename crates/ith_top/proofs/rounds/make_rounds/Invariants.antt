@@ -4,25 +4,27 @@ use Rattle.std.specs.Prelude.{option_map}
 use Rattle.std.specs.Arc.{arc_value}
 use Rattle.propagate.specs.Kept.{IsOfMap}
 use Rattle.rerun_spec.specs.Inputs.{AreShort}
-use Rattle.ith_top.specs.Playing.{coming_said}
+use Rattle.ith_top.specs.Playing.{plan_said}
 use Rattle.ith_top.proofs.Going.{IsGoing}
 use Rattle.ith_top.proofs.rounds.make_rounds.Given as goal
 
 -- the rounds so far were made and printed; each input that is left is that of a round to come, which can be made; and
--- once there was a round, it left a history
+-- once there was a round, it left a history; as many rounds were made as inputs were taken
 abbrev pub invariant-loop-place : goal.invariant-loop-place
 invariant-loop-place g l = record {
-  going : IsGoing (coming_said l.setup l.fn.coming).beginning l.crew.workers l.fn.coming.inputs
+  going : IsGoing (plan_said l.fn.plan).beginning l.fn.crew.workers l.fn.plan.inputs
       (g.H.Host.world l.fn.host)
       (g.H.Host.world l.host)
       (record {
         number = l.first + l.place;
         past = option_map arc_value l.past;
-        setup = l.setup;
+        setup = l.fn.plan.setup;
         reach = l.reach;
       }) l.inputs l.exits;
   left : l.place + length l.inputs ≡ l.place-end;
   short : AreShort l.inputs;
-  map : IsOfMap (option_map arc_value l.past) l.setup;
+  map : IsOfMap (option_map arc_value l.past) l.fn.plan.setup;
   some : option_map arc_value l.past ≡ None → l.place ≡ 0;
+  made : l.crew.made.number + length l.inputs ≡ l.fn.crew.made.number + length l.fn.plan.inputs;
+  workers : l.crew.workers ≡ l.fn.crew.workers;
 }

@@ -1,0 +1,75 @@
+-- How many rounds a line's workers made, from how its parts ended.
+use Rattle.std.proofs.Common.{◌≡◌, ◌+◌, ◌≤◌, ℕ, suc, max, Bool, List, [], ◌∷◌, length, Option, refl, ◌∙◌, inl, inr, ap, arith}
+use Rattle.rerun_spec.proofs.Inputs.{inputs-count, rerun-count}
+use Rattle.ith_host.specs.World.{World}
+use Rattle.ith_words.specs.Words.{Text, Line, Runs, Reruns, RunLine, RerunLine}
+use Rattle.ith_top.specs.declared.status.Status.{Status}
+use Rattle.ith_top.specs.declared.status.Status.TheVariants as status
+use Rattle.ith_top.specs.Contents.{AreLists, Plan, IsRunPlan, IsRerunPlan}
+use Rattle.ith_top.specs.Counting.{MakesRounds, rounds_asked}
+use Rattle.ith_top.specs.Refusals.{WhyUndone, WhyUnplanned}
+use Rattle.ith_top.specs.Playing.{IsCarriedOut}
+
+-- as many lists are read as have names
+lists_count : (a : World) (names : List Text) (lists : List (List ℕ)) → AreLists a names lists
+    → length lists ≡ length names
+lists_count a [] [] are = refl
+lists_count a [] (list ∷ lists) are = absurd are
+lists_count a (name ∷ names) [] are = absurd are
+lists_count a (name ∷ names) (list ∷ lists) are = ap (λ (n : ℕ). suc n) (lists_count a names lists are.1)
+
+-- a plan has as many inputs as the line asks for rounds
+pub run_asked : (line : RunLine) (a : World) (p : Plan) → IsRunPlan line a p
+    → length p.inputs ≡ rounds_asked (Runs line)
+run_asked line a p is =
+    let lists = lists_count a line.edits is.contents.lists is.read.contents.lists in
+    let inputs = inputs-count is.contents.input is.contents.lists p.inputs is.edited in omega arith
+
+pub rerun_asked : (line : RerunLine) (a : World) (p : Plan) → IsRerunPlan line a p
+    → length p.inputs ≡ rounds_asked (Reruns line)
+rerun_asked line a p is =
+    rerun-count is.history.setup.input is.lists p.inputs is.edited
+    ∙ ap (λ (n : ℕ). max 1 n) (lists_count a line.edits is.lists is.lists_read)
+
+-- none was made
+pub counted_none :
+    (line : Line) (a b : World) (count : ℕ) (s : Status) → WhyUnplanned line a b s → MakesRounds line count count s
+counted_none line a b count status.Image why = refl
+counted_none line a b count status.Memo why = refl
+counted_none line a b count status.EditList why = refl
+counted_none line a b count status.ReadFault why = refl
+counted_none line a b count status.Memory why = omega arith
+counted_none line a b count status.TooLarge why = omega arith
+counted_none line a b count _ why = absurd why
+
+-- all were made
+pub counted_all :
+    (line : Line) (name : Option Text) (workers : ℕ) (p : Plan) (a b : World) (earlier later : ℕ) (exits : Bool)
+    → length p.inputs ≡ rounds_asked line → IsCarriedOut name workers p a b earlier later exits
+    → later ≡ earlier + rounds_asked line
+counted_all line name workers p a b earlier later exits count done =
+    let all = done.all in let rounds = done.rounds in omega arith
+
+-- some were made
+some_counted :
+    (line : Line) (name : Option Text) (workers : ℕ) (p : Plan) (a b : World) (earlier later : ℕ) (s : Status)
+    → length p.inputs ≡ rounds_asked line → WhyUndone name workers p a b earlier later s
+    → later ≤ earlier + rounds_asked line
+some_counted line name workers p a b earlier later s count why =
+    elim why [
+      | inl part ↦ (let most = part.most in omega arith)
+      | inr after ↦ (let all = after.all in let rounds = after.rounds in omega arith)
+    ]
+
+pub counted_some :
+    (line : Line) (name : Option Text) (workers : ℕ) (p : Plan) (a b : World) (earlier later : ℕ) (s : Status)
+    → length p.inputs ≡ rounds_asked line → WhyUndone name workers p a b earlier later s
+    → MakesRounds line earlier later s
+counted_some line name workers p a b earlier later status.WriteFault count why =
+    some_counted line name workers p a b earlier later status.WriteFault count why
+counted_some line name workers p a b earlier later status.Memory count why =
+    some_counted line name workers p a b earlier later status.Memory count why
+counted_some line name workers p a b earlier later status.TooLarge count why =
+    some_counted line name workers p a b earlier later status.TooLarge count why
+counted_some line name workers p a b earlier later _ count why =
+    elim why [ inl part ↦ absurd part.why | inr after ↦ absurd after.why ]

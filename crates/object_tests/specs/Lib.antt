@@ -1,0 +1,2 @@
+-- What holds of the objects in the tests.
+pub mod Crowds

@@ -1,0 +1,11 @@
+-- What is left to prove of `graph_of`.
+use Rattle.propagate.proofs.Due.{few-facts, have-threads}
+use Rattle.worked_runs.proofs.orders.graph_of.Goals as goal
+
+pub of-requires-clause-few : goal.of-requires-clause-few
+of-requires-clause-few c =
+    few-facts _ c.args.history.now c.in_ok-facts.ensures c.keeps.ensures.records
+
+pub of-requires-clause-threads : goal.of-requires-clause-threads
+of-requires-clause-threads c =
+    have-threads _ c.args.history.now c.in_ok-facts.ensures c.keeps.ensures.records

@@ -1,0 +1,95 @@
+//! Rounds of small guests that given events make, and what they leave.
+
+ghost use Rattle.std.specs.Prelude.{◌≡◌, ◌<◌};
+
+use machine_spec::{Limits, MOST_INPUT_BYTES};
+use propagate::{Round, drive};
+use release_core::{History, Setup};
+use round_spec::Event;
+use std::alloc::{AllocError, Global};
+use std::marker::Brand;
+use std::sync::Arc;
+use std::sync::ledger::{Blank, Ledger};
+use std::test::Fail;
+use std::thread::Threads;
+use turn_count::Turns;
+use worked_guests::{Guest, file_of};
+
+/// The setup of a guest and an input, or none where it is too long or isn't taken.
+pub(super) fn setup_of(
+    alloc: Global,
+    guest: Guest,
+    input: &[u8],
+) -> Result<Option<Setup>, AllocError> {
+    let Some(file) = file_of(alloc, guest)? else {
+        return Ok(None);
+    };
+    if file.len() > 4096 || input.len() > MOST_INPUT_BYTES {
+        return Ok(None);
+    }
+    match Limits::new(1_000_000, 4096) {
+        Some(limits) => Ok(Setup::new(alloc, file, Vec::from_slice(alloc, input)?, limits).ok()),
+        None => Ok(None),
+    }
+}
+
+/// The round that events make, with a counter that the runtime made.
+fn counted<R: Threads, L: Ledger>(
+    rt: &R,
+    alloc: Global,
+    setup: Setup,
+    past: Option<Arc<History>>,
+    events: &[Event],
+    blank: Blank,
+) -> Result<Round, AllocError>
+    requires name { blank.name ≡ L.name }
+    requires parts { blank.parts ≡ L.parts }
+    requires some { 0 < L.parts }
+{
+    drive(alloc, setup, past, events, &mut Turns::<L>::new(rt, blank))
+}
+
+/// The round of a guest that these events make, by a history if there is one.
+pub(super) fn driven<R: Threads>(
+    rt: &R,
+    alloc: Global,
+    guest: Guest,
+    input: &[u8],
+    past: Option<Arc<History>>,
+    events: &[Event],
+) -> Result<Round, Fail> {
+    match setup_of(alloc, guest, input)? {
+        Some(setup) => Ok(counted::<R, Brand>(rt, alloc, setup, past, events, Blank::new(1))?),
+        None => Err(Fail::new("the guest isn't taken")),
+    }
+}
+
+/// Events that execute the steps of a schedule, each of which is committed before the next is taken.
+fn executes(alloc: Global, schedule: &[u8]) -> Result<Vec<Event>, AllocError> {
+    let mut events = Vec::new(alloc);
+    for &thread in schedule {
+        events.push(Event::Take(thread))?;
+        events.push(Event::Commit(thread))?;
+    }
+    Ok(events)
+}
+
+/// The round of a guest without a history, by a schedule.
+pub(super) fn scheduled<R: Threads>(
+    rt: &R,
+    alloc: Global,
+    guest: Guest,
+    input: &[u8],
+    schedule: &[u8],
+) -> Result<Round, Fail> {
+    let events = executes(alloc, schedule)?;
+    driven(rt, alloc, guest, input, None, &events)
+}
+
+/// The history that a round leaves.
+pub(super) fn history_of(alloc: Global, round: Round) -> Result<Arc<History>, Fail> {
+    match round.into_history() {
+        Some(history) => Ok(Arc::new(alloc, history)?),
+        None => Err(Fail::new("nothing is left")),
+    }
+}

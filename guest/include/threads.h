@@ -1,0 +1,77 @@
+/* Threads of C11, <threads.h>: each function is one of pthread.h, which says what there is. thrd_sleep, mtx_timedlock
+   and cnd_timedwait, which wait for a time, are there with `guest/build --time counted` alone. */
+#ifndef IT_THREADS_H
+#define IT_THREADS_H
+
+#include <pthread.h>
+#include <time.h>
+
+#ifdef __cplusplus
+extern "C" {
+#else
+#define thread_local _Thread_local
+#endif
+
+#define ONCE_FLAG_INIT PTHREAD_ONCE_INIT
+#define TSS_DTOR_ITERATIONS PTHREAD_DESTRUCTOR_ITERATIONS
+
+typedef pthread_t thrd_t;
+typedef pthread_mutex_t mtx_t;
+typedef pthread_cond_t cnd_t;
+typedef pthread_key_t tss_t;
+typedef pthread_once_t once_flag;
+typedef int (*thrd_start_t)(void *);
+typedef void (*tss_dtor_t)(void *);
+
+enum { thrd_success, thrd_busy, thrd_error, thrd_nomem, thrd_timedout };
+
+enum { mtx_plain = 0, mtx_recursive = 1, mtx_timed = 2 };
+
+/* thrd_error: there are 32 threads. */
+int thrd_create(thrd_t *thread, thrd_start_t function, void *argument);
+int thrd_equal(thrd_t one, thrd_t other);
+thrd_t thrd_current(void);
+void thrd_yield(void);
+int thrd_sleep(const struct timespec *length, struct timespec *rest);
+void thrd_exit(int value) __attribute__((__noreturn__));
+int thrd_detach(thrd_t thread);
+int thrd_join(thrd_t thread, int *value);
+
+/* thrd_error: 63 are in use. */
+int mtx_init(mtx_t *mutex, int type);
+void mtx_destroy(mtx_t *mutex);
+
+/* thrd_error: it is the caller's already, and isn't recursive. */
+int mtx_lock(mtx_t *mutex);
+
+/* thrd_busy: somebody has it. */
+int mtx_trylock(mtx_t *mutex);
+
+/* thrd_timedout: the time is over. */
+int mtx_timedlock(mtx_t *__restrict mutex, const struct timespec *__restrict time);
+
+/* thrd_error: it isn't the caller's. */
+int mtx_unlock(mtx_t *mutex);
+
+int cnd_init(cnd_t *condition);
+void cnd_destroy(cnd_t *condition);
+int cnd_signal(cnd_t *condition);
+int cnd_broadcast(cnd_t *condition);
+int cnd_wait(cnd_t *condition, mtx_t *mutex);
+
+/* thrd_timedout: the time is over. */
+int cnd_timedwait(cnd_t *__restrict condition, mtx_t *__restrict mutex, const struct timespec *__restrict time);
+
+/* thrd_error: 128 have been made. */
+int tss_create(tss_t *key, tss_dtor_t destructor);
+void tss_delete(tss_t key);
+void *tss_get(tss_t key);
+int tss_set(tss_t key, void *value);
+
+void call_once(once_flag *once, void (*function)(void));
+
+#ifdef __cplusplus
+}
+#endif
+
+#endif

@@ -1,0 +1,24 @@
+/* What of C11's threads.h waits for a time. */
+#include <errno.h>
+#include <threads.h>
+#include "counted.h"
+
+static int answered(int answer)
+{
+    return answer == 0 ? thrd_success : answer == ETIMEDOUT ? thrd_timedout : thrd_error;
+}
+
+IT_REPLACEABLE int thrd_sleep(const struct timespec *length, struct timespec *rest)
+{
+    return nanosleep(length, rest) == 0 ? 0 : -2;
+}
+
+IT_REPLACEABLE int mtx_timedlock(mtx_t *restrict mutex, const struct timespec *restrict time)
+{
+    return answered(pthread_mutex_timedlock(mutex, time));
+}
+
+IT_REPLACEABLE int cnd_timedwait(cnd_t *restrict condition, mtx_t *restrict mutex, const struct timespec *restrict time)
+{
+    return answered(pthread_cond_timedwait(condition, mutex, time));
+}

@@ -1,0 +1,275 @@
+/* The clock of `guest/build --time counted`, and sleeps.
+
+   Each thread has a time of its own, that begins with the year 2000. A call that asks for the time moves it on by a
+   millisecond. Who waits for a time yields until it is over: 100 times for each second, 1,000 times at most. Yields
+   don't count while another thread waits for an earlier time, so that those who wait go on in the order of their times;
+   nor, for 1,000 yields, while another is known to have made more calls, since the machine lets who has made fewest go
+   first. At the end the thread's time is the one that it waited for.
+
+   A page that all see has the time that each thread has come to by its waits, and for which it waits. Who asks for the
+   time has at least the latest that is there: so who was waited for isn't behind, and a step that asks for no time
+   depends on nobody's. */
+#include <errno.h>
+#include <pthread.h>
+#include <stddef.h>
+#include <sys/resource.h>
+#include <sys/time.h>
+#include <sys/times.h>
+#include <time.h>
+#include <unistd.h>
+#include "counted.h"
+
+enum {
+    BEGIN = 946684800, /* 2000-01-01, in seconds from 1970 on */
+    ASKED = 1000000,   /* nanoseconds that pass when the time is asked for */
+    YIELD = 10000000,  /* and in a yield */
+    TICKS = 100,       /* of `times`, in a second, as sysconf says */
+    MOST = 1000,       /* yields of one wait, but for those that another's earlier time takes */
+    LAST_CLOCK = 7     /* the last number of a clock in the C library's time.h */
+};
+
+/* Times are from BEGIN on. Where `until` is 0 the thread doesn't wait. */
+static struct IT_PAGE_ALIGNED {
+    struct {
+        struct timespec reached, until;
+        unsigned calls; /* when it began to wait last, or created a thread */
+    } of[IT_THREADS];
+} times_of;
+static _Thread_local struct timespec own;
+
+/* The thread's time, moved on. */
+static struct timespec asked(void)
+{
+    for (unsigned thread = 0; thread < IT_THREADS; thread++)
+        if (it_is_before(own, times_of.of[thread].reached))
+            own = times_of.of[thread].reached;
+    own = it_sum(own, (struct timespec) { 0, ASKED });
+    return own;
+}
+
+struct timespec it_now(void)
+{
+    struct timespec now = asked();
+    now.tv_sec += BEGIN;
+    return now;
+}
+
+/* How many yields a time takes. */
+static unsigned yields_for(struct timespec length)
+{
+    unsigned yields = 0;
+    if (length.tv_sec < 0)
+        return 0;
+    if (length.tv_sec >= MOST / (IT_SECOND / YIELD))
+        return MOST;
+    for (; length.tv_sec > 0; length.tv_sec--)
+        yields += IT_SECOND / YIELD;
+    for (; length.tv_nsec > 0; length.tv_nsec -= YIELD)
+        yields++;
+    return yields;
+}
+
+int __real_pthread_create(pthread_t *restrict thread, const pthread_attr_t *restrict attributes,
+                          void *(*function)(void *), void *restrict argument);
+int __wrap_pthread_create(pthread_t *restrict thread, const pthread_attr_t *restrict attributes,
+                          void *(*function)(void *), void *restrict argument)
+{
+    times_of.of[it_self.number].calls = it_calls;
+    return __real_pthread_create(thread, attributes, function, argument);
+}
+
+struct it_wait it_begin_wait(struct timespec then)
+{
+    then.tv_sec -= BEGIN;
+    struct it_wait wait = { then, yields_for(it_difference(then, asked())), MOST };
+    times_of.of[it_self.number].calls = it_calls;
+    if (wait.yields)
+        times_of.of[it_self.number].until = then;
+    return wait;
+}
+
+/* Whether a yield counts. */
+static int counts(struct it_wait *wait)
+{
+    int fewer = 0;
+    for (unsigned thread = 0; thread < IT_THREADS; thread++) {
+        struct timespec other = times_of.of[thread].until;
+        if ((other.tv_sec || other.tv_nsec) && it_is_before(other, wait->until))
+            return 0;
+        fewer |= it_calls < times_of.of[thread].calls;
+    }
+    return !fewer || !wait->others || !wait->others--;
+}
+
+int it_wait_on(struct it_wait *wait)
+{
+    if (wait->yields == 0)
+        return 0;
+    it_call(IT_CALL_YIELD, 0, 0);
+    if (counts(wait)) {
+        wait->yields--;
+        own = it_sum(own, (struct timespec) { 0, YIELD });
+    }
+    return 1;
+}
+
+void it_end_wait(const struct it_wait *wait, int is_over)
+{
+    if (is_over && it_is_before(own, wait->until))
+        own = wait->until;
+    if (!is_over && it_is_before(wait->until, own))
+        own = wait->until;
+    times_of.of[it_self.number].reached = own;
+    times_of.of[it_self.number].until = (struct timespec) { 0, 0 };
+}
+
+/* ---------------------------------------------------------------------------------------------- the time ---- */
+
+static int failed(int error)
+{
+    errno = error;
+    return -1;
+}
+
+static int is_clock(clockid_t clock)
+{
+    return clock <= LAST_CLOCK;
+}
+
+static int is_processors(clockid_t clock)
+{
+    return clock == CLOCK_PROCESS_CPUTIME_ID || clock == CLOCK_THREAD_CPUTIME_ID;
+}
+
+IT_REPLACEABLE int clock_gettime(clockid_t clock, struct timespec *time)
+{
+    if (!is_clock(clock))
+        return failed(EINVAL);
+    *time = is_processors(clock) ? asked() : it_now();
+    return 0;
+}
+
+IT_REPLACEABLE int clock_getres(clockid_t clock, struct timespec *step)
+{
+    if (!is_clock(clock))
+        return failed(EINVAL);
+    if (step)
+        *step = (struct timespec) { 0, ASKED };
+    return 0;
+}
+
+IT_REPLACEABLE int clock_settime(clockid_t clock, const struct timespec *time)
+{
+    return failed(clock == CLOCK_REALTIME && it_is_time(time) ? EPERM : EINVAL);
+}
+
+/* One process, and its clock. */
+IT_REPLACEABLE int clock_getcpuclockid(pid_t process, clockid_t *clock)
+{
+    (void)process;
+    *clock = CLOCK_PROCESS_CPUTIME_ID;
+    return 0;
+}
+
+IT_REPLACEABLE int pthread_getcpuclockid(pthread_t thread, clockid_t *clock)
+{
+    (void)thread;
+    *clock = CLOCK_THREAD_CPUTIME_ID;
+    return 0;
+}
+
+IT_REPLACEABLE int gettimeofday(struct timeval *restrict time, void *restrict zone)
+{
+    struct timespec now = it_now();
+    (void)zone;
+    *time = (struct timeval) { now.tv_sec, now.tv_nsec / 1000 };
+    return 0;
+}
+
+IT_REPLACEABLE int timespec_get(struct timespec *time, int base)
+{
+    *time = it_now();
+    return base;
+}
+
+time_t time(time_t *to)
+{
+    time_t now = it_now().tv_sec;
+    if (to)
+        *to = now;
+    return now;
+}
+
+clock_t clock(void)
+{
+    struct timespec time = asked();
+    return (clock_t)(time.tv_sec * CLOCKS_PER_SEC + time.tv_nsec / (IT_SECOND / CLOCKS_PER_SEC));
+}
+
+IT_REPLACEABLE clock_t times(struct tms *times)
+{
+    struct timespec time = asked();
+    clock_t ticks = (clock_t)(time.tv_sec * TICKS + time.tv_nsec / (IT_SECOND / TICKS));
+    *times = (struct tms) { ticks, 0, 0, 0 };
+    return ticks;
+}
+
+IT_REPLACEABLE int getrusage(int who, struct rusage *usage)
+{
+    struct timespec time = asked();
+    (void)who;
+    *usage = (struct rusage) { { time.tv_sec, time.tv_nsec / 1000 }, { 0, 0 } };
+    return 0;
+}
+
+/* ---------------------------------------------------------------------------------------------- sleeps ---- */
+
+/* A sleep is a yield at least, and nothing ends it early. */
+static void sleep_until(struct timespec then)
+{
+    struct it_wait wait = it_begin_wait(then);
+    it_ordered_call(IT_CALL_YIELD, 0, 0);
+    while (it_wait_on(&wait))
+        ;
+    it_end_wait(&wait, 1);
+}
+
+static void sleep_for(struct timespec length)
+{
+    sleep_until(it_sum(it_now(), length));
+}
+
+IT_REPLACEABLE unsigned sleep(unsigned seconds)
+{
+    sleep_for((struct timespec) { seconds, 0 });
+    return 0;
+}
+
+IT_REPLACEABLE int usleep(useconds_t microseconds)
+{
+    struct timespec length = { 0, 0 };
+    for (; microseconds >= 1000000; microseconds -= 1000000)
+        length.tv_sec++;
+    length.tv_nsec = (long)microseconds * 1000;
+    sleep_for(length);
+    return 0;
+}
+
+/* POSIX.1-2017 clock_nanosleep: the answer is the error. */
+IT_REPLACEABLE int clock_nanosleep(clockid_t clock, int flags, const struct timespec *time, struct timespec *rest)
+{
+    (void)rest;
+    if (!it_is_time(time) || time->tv_sec < 0 || !is_clock(clock) || clock == CLOCK_THREAD_CPUTIME_ID)
+        return EINVAL;
+    if (flags & TIMER_ABSTIME)
+        sleep_until(*time);
+    else
+        sleep_for(*time);
+    return 0;
+}
+
+IT_REPLACEABLE int nanosleep(const struct timespec *length, struct timespec *rest)
+{
+    int error = clock_nanosleep(CLOCK_REALTIME, 0, length, rest);
+    return error == 0 ? 0 : failed(error);
+}

@@ -1,0 +1,25 @@
+/* The clock of a condition's attributes: it is kept for who asks. */
+#include <errno.h>
+#include <pthread.h>
+#include "counted.h"
+
+int __real_pthread_condattr_init(pthread_condattr_t *attributes);
+int __wrap_pthread_condattr_init(pthread_condattr_t *attributes)
+{
+    attributes->clock = CLOCK_REALTIME;
+    return __real_pthread_condattr_init(attributes);
+}
+
+IT_REPLACEABLE int pthread_condattr_setclock(pthread_condattr_t *attributes, clockid_t clock)
+{
+    if (clock != CLOCK_REALTIME && clock != CLOCK_MONOTONIC)
+        return EINVAL;
+    attributes->clock = clock;
+    return 0;
+}
+
+IT_REPLACEABLE int pthread_condattr_getclock(const pthread_condattr_t *restrict attributes, clockid_t *restrict clock)
+{
+    *clock = attributes->clock;
+    return 0;
+}

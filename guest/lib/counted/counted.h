@@ -1,0 +1,58 @@
+/* What the files of the counted clock share. */
+#ifndef IT_COUNTED_H
+#define IT_COUNTED_H
+
+#include <time.h>
+#include "../library.h"
+
+enum { IT_SECOND = 1000000000 };
+
+/* The thread's time, which this call moves on. */
+struct timespec it_now(void);
+
+/* A wait of the thread's for a time: until then, and how many yields are still to be made, that count, and at most
+   since others have made more calls. */
+struct it_wait {
+    struct timespec until;
+    unsigned yields, others;
+};
+
+struct it_wait it_begin_wait(struct timespec then);
+
+/* Yields. Answers 0, and doesn't, where the time is over. */
+int it_wait_on(struct it_wait *wait);
+
+void it_end_wait(const struct it_wait *wait, int is_over);
+
+static inline int it_is_time(const struct timespec *time)
+{
+    return time->tv_nsec >= 0 && time->tv_nsec < IT_SECOND;
+}
+
+static inline int it_is_before(struct timespec one, struct timespec other)
+{
+    return one.tv_sec < other.tv_sec || (one.tv_sec == other.tv_sec && one.tv_nsec < other.tv_nsec);
+}
+
+static inline struct timespec it_sum(struct timespec one, struct timespec other)
+{
+    struct timespec sum = { one.tv_sec + other.tv_sec, one.tv_nsec + other.tv_nsec };
+    if (sum.tv_nsec >= IT_SECOND) {
+        sum.tv_nsec -= IT_SECOND;
+        sum.tv_sec++;
+    }
+    return sum;
+}
+
+/* The later less the earlier. */
+static inline struct timespec it_difference(struct timespec later, struct timespec earlier)
+{
+    struct timespec rest = { later.tv_sec - earlier.tv_sec, later.tv_nsec - earlier.tv_nsec };
+    if (rest.tv_nsec < 0) {
+        rest.tv_nsec += IT_SECOND;
+        rest.tv_sec--;
+    }
+    return rest;
+}
+
+#endif

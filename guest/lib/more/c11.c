@@ -1,0 +1,136 @@
+/* Threads of C11, by those of POSIX. */
+#include <errno.h>
+#include <threads.h>
+#include "../library.h"
+
+/* An answer of pthread.h as threads.h has it. */
+static int answered(int answer)
+{
+    return answer == 0 ? thrd_success : answer == EBUSY ? thrd_busy : thrd_error;
+}
+
+/* What a thread gives comes in a register, be it an int or a pointer. */
+IT_REPLACEABLE int thrd_create(thrd_t *thread, thrd_start_t function, void *argument)
+{
+    return answered(pthread_create(thread, NULL, (void *(*)(void *))(void *)function, argument));
+}
+
+IT_REPLACEABLE int thrd_equal(thrd_t one, thrd_t other)
+{
+    return one == other;
+}
+
+IT_REPLACEABLE thrd_t thrd_current(void)
+{
+    return pthread_self();
+}
+
+IT_REPLACEABLE void thrd_yield(void)
+{
+    sched_yield();
+}
+
+IT_REPLACEABLE void thrd_exit(int value)
+{
+    pthread_exit((void *)value);
+}
+
+IT_REPLACEABLE int thrd_detach(thrd_t thread)
+{
+    return answered(pthread_detach(thread));
+}
+
+IT_REPLACEABLE int thrd_join(thrd_t thread, int *value)
+{
+    void *left;
+    int answer = pthread_join(thread, &left);
+    if (answer == 0 && value)
+        *value = (int)left;
+    return answered(answer);
+}
+
+/* ---------------------------------------------------------------------------------------------- mutexes ---- */
+
+IT_REPLACEABLE int mtx_init(mtx_t *mutex, int type)
+{
+    pthread_mutexattr_t attributes;
+    if (type & ~(mtx_recursive | mtx_timed))
+        return thrd_error;
+    pthread_mutexattr_init(&attributes);
+    pthread_mutexattr_settype(&attributes, type & mtx_recursive ? PTHREAD_MUTEX_RECURSIVE : PTHREAD_MUTEX_DEFAULT);
+    return answered(pthread_mutex_init(mutex, &attributes));
+}
+
+IT_REPLACEABLE void mtx_destroy(mtx_t *mutex)
+{
+    pthread_mutex_destroy(mutex);
+}
+
+IT_REPLACEABLE int mtx_lock(mtx_t *mutex)
+{
+    return answered(pthread_mutex_lock(mutex));
+}
+
+IT_REPLACEABLE int mtx_trylock(mtx_t *mutex)
+{
+    return answered(pthread_mutex_trylock(mutex));
+}
+
+IT_REPLACEABLE int mtx_unlock(mtx_t *mutex)
+{
+    return answered(pthread_mutex_unlock(mutex));
+}
+
+/* ---------------------------------------------------------------------------------------------- conditions ---- */
+
+IT_REPLACEABLE int cnd_init(cnd_t *condition)
+{
+    return answered(pthread_cond_init(condition, NULL));
+}
+
+IT_REPLACEABLE void cnd_destroy(cnd_t *condition)
+{
+    pthread_cond_destroy(condition);
+}
+
+IT_REPLACEABLE int cnd_signal(cnd_t *condition)
+{
+    return answered(pthread_cond_signal(condition));
+}
+
+IT_REPLACEABLE int cnd_broadcast(cnd_t *condition)
+{
+    return answered(pthread_cond_broadcast(condition));
+}
+
+IT_REPLACEABLE int cnd_wait(cnd_t *condition, mtx_t *mutex)
+{
+    return answered(pthread_cond_wait(condition, mutex));
+}
+
+/* ---------------------------------------------------------------------------------------------- keys, and once ---- */
+
+IT_REPLACEABLE int tss_create(tss_t *key, tss_dtor_t destructor)
+{
+    return answered(pthread_key_create(key, destructor));
+}
+
+IT_REPLACEABLE void tss_delete(tss_t key)
+{
+    pthread_key_delete(key);
+}
+
+IT_REPLACEABLE void *tss_get(tss_t key)
+{
+    return pthread_getspecific(key);
+}
+
+IT_REPLACEABLE int tss_set(tss_t key, void *value)
+{
+    return answered(pthread_setspecific(key, value));
+}
+
+IT_REPLACEABLE void call_once(once_flag *once, void (*function)(void))
+{
+    pthread_once(once, function);
+}

@@ -1,0 +1,21 @@
+/* The table of ctype.h where a char is signed, as guest/build has it: the C library was built with the other one. It
+   begins at -128; of a byte above 127 nothing is said, be it taken as a char or not. */
+enum { UPPER = 1, LOWER = 2, DIGIT = 4, BLANK = 8, SIGN = 16, CONTROL = 32, HEXADECIMAL = 64, PRINTED = 128 };
+enum { ZERO = 128 }; /* its place */
+
+const char _ctype_b[ZERO + 256] = {
+    [ZERO + 0 ... ZERO + 8] = CONTROL,
+    [ZERO + 9 ... ZERO + 13] = CONTROL | BLANK,
+    [ZERO + 14 ... ZERO + 31] = CONTROL,
+    [ZERO + ' '] = (char)(BLANK | PRINTED),
+    [ZERO + '!' ... ZERO + '/'] = SIGN,
+    [ZERO + '0' ... ZERO + '9'] = DIGIT,
+    [ZERO + ':' ... ZERO + '@'] = SIGN,
+    [ZERO + 'A' ... ZERO + 'F'] = UPPER | HEXADECIMAL,
+    [ZERO + 'G' ... ZERO + 'Z'] = UPPER,
+    [ZERO + '[' ... ZERO + '`'] = SIGN,
+    [ZERO + 'a' ... ZERO + 'f'] = LOWER | HEXADECIMAL,
+    [ZERO + 'g' ... ZERO + 'z'] = LOWER,
+    [ZERO + '{' ... ZERO + '~'] = SIGN,
+    [ZERO + 127] = CONTROL,
+};

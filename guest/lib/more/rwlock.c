@@ -1,0 +1,107 @@
+/* Reader-writer locks: each call is the machine's of the same name, with the lock's number. A lock's number is found as a
+   mutex's is, in a table of their own: a program without such locks hasn't its page. */
+#include <errno.h>
+#include <pthread.h>
+#include "../library.h"
+#include "../table.h"
+
+static struct table locks;
+
+/* The number of a lock: one that isn't known gets one. -1 if all are given out. */
+static int number_of(const pthread_rwlock_t *lock)
+{
+    unsigned place;
+    int number = find(&locks, (unsigned)lock, &place);
+    if (number >= 0)
+        return number;
+    it_lock_library();
+    number = find(&locks, (unsigned)lock, &place);
+    if (number < 0 && place < IT_FOR_PROGRAMS) {
+        number = (int)place;
+        locks.object[place] = (unsigned)lock;
+    }
+    it_unlock_library();
+    return number;
+}
+
+static int call(enum it_call which, const pthread_rwlock_t *lock)
+{
+    int number = number_of(lock);
+    if (number < 0)
+        it_end_by("more than 63 reader-writer locks are in use");
+    switch (it_ordered_call(which, (unsigned)number, 0)) {
+    case 0:
+        return 0;
+    case -IT_EPERM:
+        return EPERM;
+    case -IT_EAGAIN:
+        return EAGAIN;
+    case -IT_EBUSY:
+        return EBUSY;
+    default:
+        return EDEADLK;
+    }
+}
+
+IT_REPLACEABLE int pthread_rwlock_init(pthread_rwlock_t *restrict lock, const pthread_rwlockattr_t *restrict attributes)
+{
+    (void)attributes;
+    return number_of(lock) < 0 ? EAGAIN : 0;
+}
+
+IT_REPLACEABLE int pthread_rwlock_destroy(pthread_rwlock_t *lock)
+{
+    if (call(IT_CALL_TRYWRLOCK, lock) != 0)
+        return EBUSY;
+    call(IT_CALL_RWUNLOCK, lock);
+    it_lock_library();
+    locks.object[number_of(lock)] = GONE;
+    it_unlock_library();
+    return 0;
+}
+
+IT_REPLACEABLE int pthread_rwlock_rdlock(pthread_rwlock_t *lock)
+{
+    return call(IT_CALL_RDLOCK, lock);
+}
+
+IT_REPLACEABLE int pthread_rwlock_wrlock(pthread_rwlock_t *lock)
+{
+    return call(IT_CALL_WRLOCK, lock);
+}
+
+IT_REPLACEABLE int pthread_rwlock_trywrlock(pthread_rwlock_t *lock)
+{
+    return call(IT_CALL_TRYWRLOCK, lock);
+}
+
+IT_REPLACEABLE int pthread_rwlock_unlock(pthread_rwlock_t *lock)
+{
+    return call(IT_CALL_RWUNLOCK, lock);
+}
+
+IT_REPLACEABLE int pthread_rwlockattr_init(pthread_rwlockattr_t *attributes)
+{
+    attributes->shared = PTHREAD_PROCESS_PRIVATE;
+    return 0;
+}
+
+IT_REPLACEABLE int pthread_rwlockattr_destroy(pthread_rwlockattr_t *attributes)
+{
+    (void)attributes;
+    return 0;
+}
+
+IT_REPLACEABLE int pthread_rwlockattr_setpshared(pthread_rwlockattr_t *attributes, int shared)
+{
+    if (shared != PTHREAD_PROCESS_PRIVATE && shared != PTHREAD_PROCESS_SHARED)
+        return EINVAL;
+    attributes->shared = shared;
+    return 0;
+}
+
+IT_REPLACEABLE int pthread_rwlockattr_getpshared(const pthread_rwlockattr_t *restrict attributes, int *restrict shared)
+{
+    *shared = attributes->shared;
+    return 0;
+}

@@ -1,0 +1,266 @@
+/* Policies, priorities, names and other things that are kept for who asks for them, and change nothing. */
+#define _GNU_SOURCE /* for sets of processors */
+#include <errno.h>
+#include <pthread.h>
+#include <sched.h>
+#include <string.h>
+#include "../library.h"
+
+enum { STACKS = 0xD0000000, LOWEST = 1, HIGHEST = 99, NAME = 16 };
+
+static int is_policy(int policy)
+{
+    return policy == SCHED_OTHER || policy == SCHED_FIFO || policy == SCHED_RR;
+}
+
+static int has_priority(int policy, int priority)
+{
+    if (policy == SCHED_OTHER)
+        return priority == 0;
+    return is_policy(policy) && priority >= LOWEST && priority <= HIGHEST;
+}
+
+/* ---------------------------------------------------------------------------------------------- attributes ---- */
+
+int pthread_attr_setschedpolicy(pthread_attr_t *attributes, int policy)
+{
+    if (!is_policy(policy))
+        return EINVAL;
+    attributes->policy = (short)policy;
+    return 0;
+}
+
+int pthread_attr_getschedpolicy(const pthread_attr_t *restrict attributes, int *restrict policy)
+{
+    *policy = attributes->policy;
+    return 0;
+}
+
+int pthread_attr_setschedparam(pthread_attr_t *restrict attributes, const struct sched_param *restrict parameters)
+{
+    if (!has_priority(attributes->policy, parameters->sched_priority))
+        return EINVAL;
+    attributes->priority = (short)parameters->sched_priority;
+    return 0;
+}
+
+int pthread_attr_getschedparam(const pthread_attr_t *restrict attributes, struct sched_param *restrict parameters)
+{
+    parameters->sched_priority = attributes->priority;
+    return 0;
+}
+
+int pthread_attr_setinheritsched(pthread_attr_t *attributes, int inherit)
+{
+    if (inherit != PTHREAD_INHERIT_SCHED && inherit != PTHREAD_EXPLICIT_SCHED)
+        return EINVAL;
+    attributes->inherit = (short)inherit;
+    return 0;
+}
+
+int pthread_attr_getinheritsched(const pthread_attr_t *restrict attributes, int *restrict inherit)
+{
+    *inherit = attributes->inherit;
+    return 0;
+}
+
+/* ---------------------------------------------------------------------------------------------- threads ---- */
+
+/* What was set for threads. */
+static struct IT_PAGE_ALIGNED {
+    struct { short policy, priority; } of[IT_THREADS];
+    unsigned char affinity[IT_THREADS]; /* 0: all */
+    char name[IT_THREADS][NAME];
+    int level;
+} kept;
+
+int pthread_setschedparam(pthread_t thread, int policy, const struct sched_param *parameters)
+{
+    if (thread >= IT_THREADS)
+        return ESRCH;
+    if (!has_priority(policy, parameters->sched_priority))
+        return EINVAL;
+    kept.of[thread].policy = (short)policy;
+    kept.of[thread].priority = (short)parameters->sched_priority;
+    return 0;
+}
+
+int pthread_getschedparam(pthread_t thread, int *restrict policy, struct sched_param *restrict parameters)
+{
+    if (thread >= IT_THREADS)
+        return ESRCH;
+    *policy = kept.of[thread].policy;
+    parameters->sched_priority = kept.of[thread].priority;
+    return 0;
+}
+
+unsigned it_scheduling_for(const void *of)
+{
+    const pthread_attr_t *attributes = of;
+    if (attributes && attributes->inherit == PTHREAD_EXPLICIT_SCHED)
+        return (unsigned)attributes->policy << 8 | (unsigned)attributes->priority;
+    return (unsigned)kept.of[it_self.number].policy << 8 | (unsigned)kept.of[it_self.number].priority;
+}
+
+void it_keep_scheduling(unsigned thread, unsigned scheduling)
+{
+    kept.of[thread].policy = (short)(scheduling >> 8);
+    kept.of[thread].priority = (short)(scheduling & 255);
+}
+
+int pthread_setschedprio(pthread_t thread, int priority)
+{
+    struct sched_param parameters = { .sched_priority = priority };
+    return thread < IT_THREADS ? pthread_setschedparam(thread, kept.of[thread].policy, &parameters) : ESRCH;
+}
+
+int pthread_setconcurrency(int level)
+{
+    if (level < 0)
+        return EINVAL;
+    kept.level = level;
+    return 0;
+}
+
+int pthread_getconcurrency(void)
+{
+    return kept.level;
+}
+
+int pthread_atfork(void (*prepare)(void), void (*parent)(void), void (*child)(void))
+{
+    (void)prepare, (void)parent, (void)child;
+    return 0;
+}
+
+IT_REPLACEABLE int pthread_yield(void)
+{
+    return sched_yield();
+}
+
+IT_REPLACEABLE int pthread_setname_np(pthread_t thread, const char *name)
+{
+    if (thread >= IT_THREADS)
+        return ESRCH;
+    if (strlen(name) >= NAME)
+        return ERANGE;
+    strcpy(kept.name[thread], name);
+    return 0;
+}
+
+IT_REPLACEABLE int pthread_getname_np(pthread_t thread, char *name, size_t size)
+{
+    extern char *it_words[];
+    if (thread >= IT_THREADS)
+        return ESRCH;
+    const char *from = kept.name[thread][0] ? kept.name[thread] : it_words[1];
+    if (size < NAME)
+        return ERANGE;
+    strncpy(name, from, NAME - 1);
+    name[NAME - 1] = 0;
+    return 0;
+}
+
+IT_REPLACEABLE int pthread_getattr_np(pthread_t thread, pthread_attr_t *attributes)
+{
+    if (thread >= IT_THREADS)
+        return ESRCH;
+    pthread_attr_init(attributes);
+    attributes->address = (char *)STACKS + thread * IT_STACK;
+    attributes->policy = kept.of[thread].policy;
+    attributes->priority = kept.of[thread].priority;
+#ifdef IT_DETACHED
+    attributes->detached = (short)it_is_detached(thread);
+#endif
+    return 0;
+}
+
+enum { ALL_PROCESSORS = (1 << IT_PROCESSORS) - 1 };
+
+int it_cpu_count(const cpu_set_t *set)
+{
+    int count = 0;
+    for (int cpu = 0; cpu < CPU_SETSIZE; cpu++)
+        count += CPU_ISSET(cpu, set);
+    return count;
+}
+
+IT_REPLACEABLE int pthread_setaffinity_np(pthread_t thread, size_t size, const cpu_set_t *set)
+{
+    if (thread >= IT_THREADS)
+        return ESRCH;
+    if (size < sizeof(unsigned) || !(set->bits[0] & ALL_PROCESSORS))
+        return EINVAL;
+    kept.affinity[thread] = (unsigned char)(set->bits[0] & ALL_PROCESSORS);
+    return 0;
+}
+
+IT_REPLACEABLE int pthread_getaffinity_np(pthread_t thread, size_t size, cpu_set_t *set)
+{
+    if (thread >= IT_THREADS)
+        return ESRCH;
+    if (size < sizeof(unsigned))
+        return EINVAL;
+    memset(set, 0, size);
+    set->bits[0] = kept.affinity[thread] ? kept.affinity[thread] : ALL_PROCESSORS;
+    return 0;
+}
+
+/* ---------------------------------------------------------------------------------------------- the process ---- */
+
+static int told(int error)
+{
+    if (error == 0)
+        return 0;
+    errno = error;
+    return -1;
+}
+
+IT_REPLACEABLE int sched_get_priority_min(int policy)
+{
+    return is_policy(policy) ? policy == SCHED_OTHER ? 0 : LOWEST : told(EINVAL);
+}
+
+IT_REPLACEABLE int sched_get_priority_max(int policy)
+{
+    return is_policy(policy) ? policy == SCHED_OTHER ? 0 : HIGHEST : told(EINVAL);
+}
+
+/* The process is main's thread. */
+static int is_process(pid_t process)
+{
+    return process == 0 || process == IT_PROCESS;
+}
+
+IT_REPLACEABLE int sched_setscheduler(pid_t process, int policy, const struct sched_param *parameters)
+{
+    return told(is_process(process) ? pthread_setschedparam(0, policy, parameters) : ESRCH);
+}
+
+IT_REPLACEABLE int sched_getscheduler(pid_t process)
+{
+    return is_process(process) ? kept.of[0].policy : told(ESRCH);
+}
+
+IT_REPLACEABLE int sched_setparam(pid_t process, const struct sched_param *parameters)
+{
+    return told(is_process(process) ? pthread_setschedprio(0, parameters->sched_priority) : ESRCH);
+}
+
+IT_REPLACEABLE int sched_getparam(pid_t process, struct sched_param *parameters)
+{
+    if (!is_process(process))
+        return told(ESRCH);
+    parameters->sched_priority = kept.of[0].priority;
+    return 0;
+}
+
+IT_REPLACEABLE int sched_setaffinity(pid_t process, size_t size, const cpu_set_t *set)
+{
+    return told(is_process(process) ? pthread_setaffinity_np(0, size, set) : ESRCH);
+}
+
+IT_REPLACEABLE int sched_getaffinity(pid_t process, size_t size, cpu_set_t *set)
+{
+    return told(is_process(process) ? pthread_getaffinity_np(0, size, set) : ESRCH);
+}

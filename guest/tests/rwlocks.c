@@ -1,0 +1,101 @@
+/* Reader-writer locks: readers who hold one at once, writers who add under one, and what each call answers. */
+#include <errno.h>
+#include <pthread.h>
+#include <stdio.h>
+
+enum { READERS = 3, WRITERS = 3, TURNS = 40 };
+
+static pthread_rwlock_t lock = PTHREAD_RWLOCK_INITIALIZER;
+static pthread_barrier_t all_read;
+static int sum, twice;
+
+static void tell(const char *what, int answer)
+{
+    printf("%s: %s\n", what, answer == 0 ? "0" : answer == EBUSY ? "EBUSY" : answer == EDEADLK ? "EDEADLK" : "another");
+}
+
+/* Comes to the barrier with the lock held to read: no reader may wait for another. Nobody wants to write yet. */
+static void *reads_beside_others(void *unused)
+{
+    pthread_rwlock_rdlock(&lock);
+    pthread_barrier_wait(&all_read);
+    pthread_rwlock_unlock(&lock);
+    return unused;
+}
+
+static void *reads(void *unused)
+{
+    for (int k = 0; k < TURNS; k++) {
+        pthread_rwlock_rdlock(&lock);
+        if (twice != 2 * sum)
+            printf("read in the middle of a write\n");
+        pthread_rwlock_unlock(&lock);
+    }
+    return unused;
+}
+
+static void *writes(void *unused)
+{
+    for (int k = 0; k < TURNS; k++) {
+        pthread_rwlock_wrlock(&lock);
+        sum++;
+        twice += 2;
+        pthread_rwlock_unlock(&lock);
+    }
+    return unused;
+}
+
+static void *tries(void *what)
+{
+    int answer = pthread_rwlock_trywrlock(&lock);
+    tell(what, answer);
+    if (answer == 0)
+        pthread_rwlock_unlock(&lock);
+    return NULL;
+}
+
+static void tried_by_another(const char *what)
+{
+    pthread_t thread;
+    pthread_create(&thread, NULL, tries, (void *)what);
+    pthread_join(thread, NULL);
+}
+
+static void threads_share(void)
+{
+    pthread_t threads[READERS + WRITERS];
+    pthread_barrier_init(&all_read, NULL, READERS);
+    for (int k = 0; k < READERS; k++)
+        pthread_create(&threads[k], NULL, reads_beside_others, NULL);
+    for (int k = 0; k < READERS; k++)
+        pthread_join(threads[k], NULL);
+    for (int k = 0; k < READERS + WRITERS; k++)
+        pthread_create(&threads[k], NULL, k < READERS ? reads : writes, NULL);
+    for (int k = 0; k < READERS + WRITERS; k++)
+        pthread_join(threads[k], NULL);
+    printf("sum %d\n", sum);
+}
+
+int main(void)
+{
+    pthread_rwlockattr_t attributes;
+    threads_share();
+    tried_by_another("tried while free");
+    tell("read", pthread_rwlock_rdlock(&lock));
+    tried_by_another("tried while read");
+    tell("unlocked", pthread_rwlock_unlock(&lock));
+    tell("written", pthread_rwlock_wrlock(&lock));
+    tried_by_another("tried while written");
+    tell("written again", pthread_rwlock_wrlock(&lock));
+    tell("read by its writer", pthread_rwlock_rdlock(&lock));
+    tell("unlocked", pthread_rwlock_unlock(&lock));
+    tell("destroyed", pthread_rwlock_destroy(&lock));
+    tell("attributes", pthread_rwlockattr_init(&attributes));
+    tell("shared", pthread_rwlockattr_setpshared(&attributes, PTHREAD_PROCESS_SHARED));
+    tell("init", pthread_rwlock_init(&lock, &attributes));
+    tell("read", pthread_rwlock_rdlock(&lock));
+    tell("unlocked", pthread_rwlock_unlock(&lock));
+    tell("destroyed", pthread_rwlock_destroy(&lock));
+    tell("attributes", pthread_rwlockattr_destroy(&attributes));
+    return 0;
+}

@@ -1,0 +1,121 @@
+/* Attributes and calls that change nothing here, and are kept for who asks; names of threads, pthread_atfork. */
+#define _GNU_SOURCE
+#include <errno.h>
+#include <pthread.h>
+#include <sched.h>
+#include <stdio.h>
+#include <stdlib.h>
+#include <string.h>
+
+static void tell(const char *what, int answer)
+{
+    printf("%s: %s\n", what, answer == 0 ? "0" : answer == EINVAL ? "EINVAL" : answer == ERANGE ? "ERANGE" : "another");
+}
+
+static void *inherits(void *unused)
+{
+    struct sched_param parameters = { .sched_priority = 7 };
+    int policy = -1;
+    pthread_getschedparam(pthread_self(), &policy, &parameters);
+    printf("of a thread: %d %d\n", policy == SCHED_OTHER, parameters.sched_priority);
+    return unused;
+}
+
+static void *works(void *unused)
+{
+    pthread_attr_t attributes;
+    void *address;
+    size_t size;
+    char local;
+    tell("attributes of a thread", pthread_getattr_np(pthread_self(), &attributes));
+    pthread_attr_getstack(&attributes, &address, &size);
+    printf("a local variable is on its stack: %d\n", &local >= (char *)address && &local < (char *)address + size);
+    pthread_attr_destroy(&attributes);
+    return unused;
+}
+
+static void nothing(void)
+{
+    printf("never\n");
+}
+
+static void attributes_of_threads(void)
+{
+    pthread_attr_t attributes;
+    struct sched_param parameters = { .sched_priority = 0 };
+    pthread_t thread;
+    int number = -1;
+    size_t size = 0;
+    void *stack = aligned_alloc(65536, 262144), *address;
+    pthread_attr_init(&attributes);
+    pthread_attr_getschedpolicy(&attributes, &number);
+    printf("other: %d\n", number == SCHED_OTHER);
+    pthread_attr_getinheritsched(&attributes, &number);
+    printf("inherited: %d\n", number == PTHREAD_INHERIT_SCHED);
+    tell("no such policy", pthread_attr_setschedpolicy(&attributes, 77));
+    tell("priority 0 of other", pthread_attr_setschedparam(&attributes, &parameters));
+    parameters.sched_priority = 5;
+    tell("priority 5 of other", pthread_attr_setschedparam(&attributes, &parameters));
+    tell("fifo", pthread_attr_setschedpolicy(&attributes, SCHED_FIFO));
+    tell("priority 5 of fifo", pthread_attr_setschedparam(&attributes, &parameters));
+    parameters.sched_priority = 100;
+    tell("priority 100 of fifo", pthread_attr_setschedparam(&attributes, &parameters));
+    pthread_attr_getschedparam(&attributes, &parameters);
+    printf("priority %d\n", parameters.sched_priority);
+    tell("explicit", pthread_attr_setinheritsched(&attributes, PTHREAD_EXPLICIT_SCHED));
+    tell("inherit", pthread_attr_setinheritsched(&attributes, PTHREAD_INHERIT_SCHED));
+    tell("no such one", pthread_attr_setinheritsched(&attributes, 77));
+    tell("a stack of 1 MiB", pthread_attr_setstacksize(&attributes, 1048576));
+    pthread_attr_getstacksize(&attributes, &size);
+    printf("size %d\n", (int)size);
+    tell("a small stack", pthread_attr_setstacksize(&attributes, 1000));
+    tell("a guard", pthread_attr_setguardsize(&attributes, 8192));
+    pthread_attr_getguardsize(&attributes, &size);
+    printf("size %d\n", (int)size);
+    number = pthread_create(&thread, &attributes, works, NULL);
+    tell("join", pthread_join(thread, NULL));
+    tell("create", number);
+    tell("a stack", pthread_attr_setstack(&attributes, stack, 262144));
+    pthread_attr_getstack(&attributes, &address, &size);
+    printf("it is so: %d %d\n", address == stack, (int)size);
+    number = pthread_create(&thread, &attributes, works, NULL);
+    tell("join", pthread_join(thread, NULL));
+    tell("create", number);
+    free(stack);
+}
+
+int main(void)
+{
+    struct sched_param parameters = { .sched_priority = 7 };
+    int policy = -1;
+    char name[16] = "";
+    attributes_of_threads();
+    tell("policy of main", pthread_getschedparam(pthread_self(), &policy, &parameters));
+    printf("%d %d\n", policy == SCHED_OTHER, parameters.sched_priority);
+    tell("set again", pthread_setschedparam(pthread_self(), SCHED_OTHER, &parameters));
+    tell("no such policy", pthread_setschedparam(pthread_self(), 77, &parameters));
+    printf("other %d to %d\n", sched_get_priority_min(SCHED_OTHER), sched_get_priority_max(SCHED_OTHER));
+    printf("fifo %d to %d\n", sched_get_priority_min(SCHED_FIFO), sched_get_priority_max(SCHED_FIFO));
+    printf("none %d\n", sched_get_priority_min(77));
+    pthread_t thread;
+    pthread_create(&thread, NULL, inherits, NULL);
+    pthread_join(thread, NULL);
+    tell("concurrency", pthread_setconcurrency(4));
+    printf("%d\n", pthread_getconcurrency());
+    tell("below 0", pthread_setconcurrency(-1));
+    tell("atfork", pthread_atfork(nothing, nothing, nothing));
+    tell("named", pthread_setname_np(pthread_self(), "a name"));
+    tell("its name", pthread_getname_np(pthread_self(), name, sizeof name));
+    printf("%s\n", name);
+    cpu_set_t all, one;
+    CPU_ZERO(&one);
+    tell("processors", pthread_getaffinity_np(pthread_self(), sizeof all, &all));
+    printf("some %d, the first %d\n", CPU_COUNT(&all) > 0, CPU_ISSET(0, &all));
+    printf("none: %d\n", sched_setaffinity(0, sizeof one, &one));
+    CPU_SET(0, &one);
+    printf("one: %d\n", sched_setaffinity(0, sizeof one, &one));
+    sched_getaffinity(0, sizeof all, &all);
+    printf("it is so: %d\n", CPU_EQUAL(&all, &one));
+    tell("a long name", pthread_setname_np(pthread_self(), "a name of sixteen and more"));
+    return 0;
+}

@@ -1,0 +1,233 @@
+# What guest/build says of a compiler's and a linker's messages: words, with what to do instead, in the place of those
+# that a guest's author can do nothing with, and the others as they are.
+#
+#   awk -f words.awk gaps [FILE.su..] messages
+#
+# gaps is guest/gaps; the files .su are what gcc's -fstack-usage wrote. The variable libc is 1 with a C library.
+
+# say HEAD TEXT: in lines of up to 118 columns, the first behind HEAD
+function say(head, text, parts, k, n, line, begin) {
+    n = split(text, parts, " ")
+    line = begin = head
+    for (k = 1; k <= n; k++) {
+        if (length(line) + length(parts[k]) > 117 && line != begin) {
+            print line
+            line = begin = "      "
+        }
+        line = line " " parts[k]
+    }
+    print line
+}
+
+# A message's first lines are held back until it is known whether words stand in its place.
+function flush() {
+    if (held != "")
+        print held
+    held = ""
+}
+
+function plain_name(name) {
+    sub(/^__wrap_/, "", name)
+    sub(/\.(constprop|part|isra|cold)(\..*)?$/, "", name)
+    return name
+}
+
+# What stands in quotes behind what the pattern finds.
+function quoted(pattern, name) {
+    name = $0
+    sub(".*" pattern "[`']", "", name)
+    sub(/'.*/, "", name)
+    return plain_name(name)
+}
+
+function missing(name, where) {
+    if (name in first) {
+        more[name]++
+        return
+    }
+    first[name] = where
+    names[++count] = name
+}
+
+# Whether nothing but what is in gaps was missing so far.
+function all_known(k) {
+    for (k = 1; k <= count; k++)
+        if (!(names[k] in gap))
+            return 0
+    return count > 0
+}
+
+function thousands(number, left) {
+    for (left = ""; length(number) > 3; number = substr(number, 1, length(number) - 3))
+        left = "," substr(number, length(number) - 2) left
+    return number left
+}
+
+FNR == 1 { part = FILENAME ~ /gaps$/ ? "gaps" : FILENAME ~ /\.su$/ ? "stacks" : "messages" }
+
+part == "gaps" {
+    if (/^ /) {
+        sub(/^ +/, "")
+        words[group] = words[group] " " $0
+        closed = 1
+    } else if (/^[^#]/) {
+        group += closed
+        closed = 0
+        for (k = 1; k <= NF; k++)
+            gap[$k] = group
+    }
+    next
+}
+
+part == "stacks" {
+    split($1, parts, ":")
+    line_of[plain_name(parts[4])] = parts[1] ":" parts[2]
+    next
+}
+
+# gcc and ld say in which function something is, before they say what
+/: [Ii]n function [`']/ {
+    flush()
+    held = $0
+    inside = quoted("[Ii]n function ")
+    library = /\.a\([^)]*\): in function/ ? inside : ""
+    next
+}
+
+# what gcc shows of the program, below a message that isn't shown
+skipped && (/^ *[0-9]* \|/ || skipped++ < 3 && clang) { next }
+{ skipped = 0 }
+
+/frame size.*(larger than|exceeds limit)/ {
+    held = ""
+    match($0, /[0-9]+( bytes is larger|\) exceeds)/)
+    size = substr($0, RSTART, RLENGTH) + 0
+    clang = /exceeds limit/
+    if (clang)
+        inside = quoted("exceeds limit [^']*in ")
+    where = $0
+    sub(/:[0-9]+: error: .*/, "", where)
+    if (inside in line_of)
+        where = line_of[inside]
+    say("build:", where ": the function " inside " has " thousands(size) " bytes of variables, more than 49,152 bytes.")
+    stacks = skipped = 1
+    next
+}
+/some warnings being treated as errors|^[0-9]+ errors? generated/ && stacks { next }
+
+/more undefined references to / { next }
+/undefined reference to / || /undefined symbol: / {
+    held = where = ""
+    name = $0
+    if (/undefined reference/)
+        name = quoted("undefined reference to ")
+    sub(/.*undefined symbol: /, "", name)
+    if (library == "") {
+        where = $0
+        sub(/:? *undefined .*/, "", where)
+        sub(/.*\/ld: /, "", where)
+        sub(/:?\(.*/, "", where)
+    } else if (library in gap) {
+        name = library
+    }
+    if (name == "main" || name == "_start")
+        no_start = 1
+    else
+        missing(name, where)
+    next
+}
+/cannot find entry symbol/ { no_start = 1; next }
+/^>>> / || /collect2: error: ld returned|error: linker command failed/ { next }
+
+/fatal error: .*: No such file or directory|' file not found|#error "<dirent\.h> not supported"/ {
+    header = 1
+    name = where = $0
+    sub(/.*fatal error: '?/, "", name)
+    sub(/(: No such file|' file not found).*/, "", name)
+    sub(/:[0-9]+:[0-9]+: (fatal )?error: .*/, "", where)
+    if (/#error/)
+        name = "dirent.h"
+    if (name in gap) {
+        held = ""
+        skipped = 1
+        missing(name, where)
+        next
+    }
+}
+# the linker will say it, or it isn't used
+/warning: implicit declaration of function '/ {
+    name = quoted("implicit declaration of function ")
+    if (name in gap) {
+        match($0, /^[^:]*:[0-9]+/)
+        held = ""
+        skipped = 1
+        implicit[++unseen] = name
+        place[unseen] = substr($0, RSTART, RLENGTH)
+        next
+    }
+}
+
+/error: unknown type name '|error: '[^']*' undeclared/ {
+    name = quoted(/unknown type/ ? "unknown type name " : "error: ")
+    match($0, /^[^:]*:[0-9]+/)
+    where = substr($0, RSTART, RLENGTH)
+    if (name in gap) {
+        held = ""
+        skipped = 1
+        missing(name, where)
+        next
+    }
+}
+/note: each undeclared identifier is reported only once/ && all_known() { skipped = 1; next }
+/^compilation terminated\.$/ && header { next }
+/In file included from / && !/:[0-9]+:$/ { held = held (held == "" ? "" : "\n") $0; next }
+
+/multiple definition of / {
+    name = quoted("multiple definition of ")
+    held = ""
+    if (!twice[name]++)
+        say("build:", name " is there twice. malloc, free and their like, exit, and what is of stdio.h and pthread.h are guest/lib's: a program can't have its own.")
+    next
+}
+
+/a guest has at most 1,024 pages/ {
+    held = ""
+    sub(/.*a guest has/, "a guest has")
+    say("build:", $0 ".")
+    next
+}
+
+/-Wvla|-Walloca/ { unknown_length = 1 }
+/PTHREAD_[^ ]* undeclared|unknown type name [^ ]*pthread_/ { undeclared = 1 }
+{
+    flush()
+    print
+}
+
+END {
+    flush()
+    for (k = 1; k <= unseen && count; k++)
+        missing(implicit[k], place[k])
+    words["atomic"] = "There are no atomic variables. What several threads change is under a mutex."
+    words["other"] = libc ? "Neither the files nor the library have it. Give guest/build the file that has it, too; of threads there is what guest/include/pthread.h declares." : "Neither the files nor ithreads.h have it. With --libc there is a C library."
+    for (k = 1; k <= count; k++) {
+        name = names[k]
+        group = name ~ /^__(atomic|sync)_/ ? "atomic" : name in gap ? gap[name] : "other"
+        where = first[name] (more[name] ? " and " more[name] " more" : "")
+        if (!(group in listed))
+            groups[++all] = group
+        listed[group] = listed[group] (listed[group] == "" ? "" : ", ") name (first[name] == "" ? "" : " (" where ")")
+    }
+    for (k = 1; k <= all; k++) {
+        say("build:", "not there: " listed[groups[k]] ".")
+        say("      ", words[groups[k]])
+    }
+    if (no_start)
+        say("build:", "there is nothing to start: a guest has a function main, and without --libc it includes ithreads.h.")
+    if (stacks || unknown_length)
+        say("build:", "a thread's stack has 65,536 bytes, and stacks lie one upon the other: a thread that needs more writes into the stack of the thread before it, and nothing says so. Of an array whose length is known only when the guest runs, and of alloca, nobody looks after the size. Make large arrays static, or take them from malloc.")
+    if (header && !libc && !all)
+        say("build:", "without --libc there are ithreads.h and the headers that come with clang, and no C library.")
+    if (undeclared)
+        say("build:", "of threads there is what guest/include/pthread.h declares.")
+}

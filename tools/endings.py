@@ -1,0 +1,59 @@
+"""The statuses of a tool that ends as a guest did, or says why it didn't, and the words for that."""
+import reports
+
+OF_ITHREADS = 200  # and its status
+WORDS, READING, WRITING = 2, 6, 7  # three of ithreads' statuses
+NO_PROGRAM = 210
+TRAPS = [  # by cause
+    "a jump to an address that isn't a multiple of 4", "nothing that may be executed",
+    "no instruction", "EBREAK",
+    "a load from an address that isn't a multiple of its size", "a load where nothing may be loaded",
+    "a store to an address that isn't a multiple of its size", "a store where nothing may be stored",
+    "a call of a number that there isn't",
+]
+FUEL, STEPS = 1_000_000, 4096  # the limits of a run, where nothing is said
+ENDS = {"trap": 211, "deadlock": 212, "spent": 213}
+FAILURES = {  # ithreads' statuses; its own line says which file it is
+    2: "the words aren't understood",
+    3: "the executable is refused",
+    5: "an edit list is refused; tools/check-edits says why",
+    6: "a file can't be read",
+    7: "a file can't be written",
+    8: "memory ran out",
+    9: "a file is too long: an input or an edit list has at most 1,048,576 bytes, an executable 16,777,216, a memo "
+       "268,435,456",
+}
+
+
+def rounds_of(printed):
+    """The reports that are whole."""
+    made = []
+    try:
+        for one in reports.rounds(printed):
+            made.append(one)
+    except reports.NotReports:
+        pass
+    return made
+
+
+def how(last, limit):
+    """How a round ended that didn't exit. Where it had all steps, the last one's fuel may have been spent as well."""
+    said = " ".join(map(str, last.end.values()))
+    if last.end["kind"] == "spent":
+        thread = last.schedule[-1][0]
+        said += (f": it had {last.steps} steps, as many as --steps allows" if last.steps == limit else
+                 f": thread {thread} went on without a call for as many turns as --fuel allows")
+    if last.end["kind"] == "trap":
+        said += f": thread {last.end['thread']}, at 0x{int(last.end['pc'], 16):x}: {TRAPS[last.end['cause']]}"
+    return f"round {last.number} ended by {said}"
+
+
+def status_of(last):
+    """The status of who ends as the round did."""
+    return last.end["code"] % 256 if last.end["kind"] == "exit" else ENDS[last.end["kind"]]
+
+
+def failure(status):
+    """The status of who ends since ithreads ended with this one, before a round was whole, and why."""
+    meaning = f": {FAILURES[status]}" if status in FAILURES else ""
+    return OF_ITHREADS + status if 2 <= status <= 9 else NO_PROGRAM, f"ithreads ended with status {status}{meaning}"
