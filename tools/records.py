@@ -46,12 +46,18 @@ class Records:
     at the end of the record that was read last."""
 
     def __init__(self, data):
-        self.data, (size,) = data, struct.unpack_from("<I", data, 8)
-        self.elf = data[12:12 + size]
-        (given,) = struct.unpack_from("<I", data, 12 + size)
-        self.input = data[16 + size:16 + size + given]
-        self.fuel, self.limit, self.count, pages = struct.unpack_from("<4I", data, 16 + size + given)
-        self.place, self.made, self.stacks = 32 + size + given + PAGE * pages, [0] * 32, {}
+        self.data, self.made, self.stacks = data, [0] * 32, {}
+        version, = struct.unpack_from("<I", data, 4)
+        self.place = 8 if version == 1 else 12  # behind the profile
+        self.elf, self.input = self.bytes(), self.bytes()
+        self.fuel, self.limit, self.count, pages = struct.unpack_from("<4I", data, self.place)
+        self.place += 16 + PAGE * pages
+
+    def bytes(self):
+        """The bytes that stand behind their number."""
+        size, = struct.unpack_from("<I", self.data, self.place)
+        self.place += 4 + size
+        return self.data[self.place - size:self.place]
 
     def read(self, code):
         """The records, one after the other. `code` finds who called."""
