@@ -5,8 +5,7 @@
     instructions there are; there is a line for each step that waits, that wakes, or whose reason is known.
   - Rounds of 65,536 steps have few boxes, whose steps are all steps, in time. Of 300 steps, too, and a column in which
     a step was executed shows it. The page of HTML has all steps, and where there is Chromium, it draws them in time.
-  - What it says of pair.elf is what ./trace, `show` and `why` say. Its table is that of README. With other limits than
-    those of ./trace it draws the same.
+  - What it says of pair.elf is what ./trace, `show` and `why` say. Its table is that of README.
   - A file of reports, a listing, a trace or the lines of `why` that is cut at any byte is refused, and a line says
     where.
   - Where there is Chromium, it draws the picture as large as that says it is.
@@ -216,17 +215,6 @@ def check_pair(checks):
     check_browser(checks, printed)
 
 
-def check_limits(checks):
-    """With other limits than ./trace has, waits, wakes and boxes are those that ./trace finds."""
-    drawn = []
-    for more in ([], ["--steps", "5000"]):
-        file = checks.file("reports", program("run", *PAIR, "--workers", "1")[1])
-        _, printed, said = tool("timeline", file, *more, "--guest", *PAIR)
-        drawn.append([(titles(one, "waits"), titles(one, "wakes"), [box[:2] + box[3:] for box in boxes_of(one)])
-                      for one in rounds_of(printed)] if printed else said)
-    checks.expect(f"timeline with other limits draws the same: {drawn[1]}", drawn[0] == drawn[1] and len(drawn[0]) == 2)
-
-
 def check_rerun(checks):
     """A rerun, with the memo that it went on from: what is reused has that memo's pages, and what is executed none."""
     memo = checks.folder / "before"
@@ -366,7 +354,6 @@ def check(checks):
     for workers in ("1", "4"):
         check_guest(checks, PAIR, workers)
     check_pair(checks)
-    check_limits(checks)
     check_rerun(checks)
     check_limits(checks)
     check_table(checks)
