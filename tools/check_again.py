@@ -109,8 +109,8 @@ def check_damage(checks):
     whole = place.memo.read_bytes()
     at = len(whole) // 2
     for what, data, word in (("that is empty", b"", "Magic"), ("that is cut at its head", whole[:9], "Short"),
-                             ("that is cut", whole[:-1], "Digest"), ("of a later version", whole[:4] + b"\2", "Short"),
-                             ("that is one later", whole[:4] + b"\2" + whole[5:], "Version 2"),
+                             ("that is cut", whole[:-1], "Digest"), ("that is cut in its version", whole[:5], "Short"),
+                             ("of a later version", whole[:4] + b"\x09" + whole[5:], "Version 9"),
                              ("with another byte", whole[:at] + bytes([whole[at] ^ 1]) + whole[at + 1:], "Digest")):
         place.memo.write_bytes(data)
         place.expect(f"with a memo {what}", 12, f"{place.memo} is refused: {word}")
