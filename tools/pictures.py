@@ -57,9 +57,16 @@ class Box:
     steps: list
     left: float
     right: float
+    executed: int
 
-    def executed(self):
-        return sum(not step.is_reused for step in self.steps)
+    def add(self, other):
+        """Takes the steps of another box."""
+        self.steps += other.steps
+        self.executed += other.executed
+
+    def kinds(self):
+        """Whether there are reused steps, and executed ones."""
+        return self.executed < len(self.steps), self.executed > 0
 
 
 # Texts.
@@ -86,7 +93,7 @@ def said_of_step(step):
 
 def said_of_steps(box):
     """What is told of several steps together."""
-    first, last, executed = box.steps[0], box.steps[-1], box.executed()
+    first, last, executed = box.steps[0], box.steps[-1], box.executed
     counts = [step.count for step in box.steps]
     lines = [f"steps {first.place} to {last.place} of thread {first.thread}, its numbers {first.number} to "
              f"{last.number}: {len(box.steps) - executed} reused, {executed} executed"]
@@ -138,7 +145,8 @@ def boxes_of(steps, places, column):
     """The boxes of a round, by lanes: one for each step, where there aren't too many."""
     lanes = {}
     for step in steps:
-        lanes.setdefault(step.thread, []).append(Box([step], places[step.place], places[step.place + 1]))
+        box = Box([step], places[step.place], places[step.place + 1], int(not step.is_reused))
+        lanes.setdefault(step.thread, []).append(box)
     if len(steps) > FOLDED:
         lanes = {thread: joined(in_columns(boxes, column)) for thread, boxes in lanes.items()}
     return lanes
@@ -150,9 +158,9 @@ def in_columns(boxes, column):
     for box in boxes:
         at = int(box.left / column) if box.right - box.left < column else None
         if at is not None and at == last:
-            made[-1].steps += box.steps
+            made[-1].add(box)
         elif at is not None:
-            made.append(Box(box.steps, at * float(column), (at + 1) * float(column)))
+            made.append(Box(box.steps, at * float(column), (at + 1) * float(column), box.executed))
         else:
             made.append(box)
         last = at
@@ -165,10 +173,9 @@ def joined(boxes):
     """The boxes of a lane, of which those that touch each other and have steps of the same one kind are one."""
     made = boxes[:1]
     for box in boxes[1:]:
-        before, kinds = made[-1], {box.executed() == 0, box.executed() < len(box.steps)}
-        if len(kinds) == 1 and kinds == {before.executed() == 0, before.executed() < len(before.steps)} and (
-                box.left - before.right < 1):
-            before.steps += box.steps
+        before = made[-1]
+        if before.kinds() == box.kinds() != (True, True) and box.left - before.right < 1:
+            before.add(box)
             before.right = box.right
         else:
             made.append(box)
@@ -201,16 +208,17 @@ class Drawing:
     def lane_lines(self):
         """A line for each thread, from where it begins to its last step."""
         begun = {step.begins: self.places[step.place + 1] for step in self.steps if step.begins is not None}
+        first = {step.thread: step.place for step in reversed(self.steps)}
+        last = {step.thread: step.place for step in self.steps}
         for thread, y in self.lanes.items():
-            own = [step.place for step in self.steps if step.thread == thread]
-            left = begun.get(thread, self.places[own[0] if own else 0])
-            right = self.places[own[-1] + 1] if own else self.places[-1]
+            left = begun.get(thread, self.places[first.get(thread, 0)])
+            right = self.places[last.get(thread, len(self.steps) - 1) + 1]
             yield label(MARGIN, y + 4, f"thread {thread}", "name")
             yield element("path", "", **{"class": "lane"}, d=f"M{left:.1f} {y}H{right:.1f}")
 
     def box(self, box):
         """A box, and in it the name of its call, where there is room."""
-        y, width, executed = self.lanes[box.steps[0].thread] - BOX / 2, box.right - box.left, box.executed()
+        y, width, executed = self.lanes[box.steps[0].thread] - BOX / 2, box.right - box.left, box.executed
         said = said_of_step(box.steps[0]) if len(box.steps) == 1 else said_of_steps(box)
         high = max(BOX * executed / len(box.steps), LEAST_HIGH if executed else 0)
         made = (f'<g class="steps" data-count="{len(box.steps)}" data-executed="{executed}">'
