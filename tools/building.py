@@ -49,7 +49,8 @@ class Building:
 
     def record(self, executable):
         """What tells this executable from any that other files or words make."""
-        library = [GUEST / "build", *sorted(GUEST.glob("include/*.h")), *sorted(GUEST.glob("lib/*"))]
+        folders = (GUEST / "include", GUEST / "lib")
+        library = [GUEST / "build", *(it for folder in folders for it in sorted(folder.rglob("*")) if it.is_file())]
         contents = {**self.files, **{file: file.read_bytes() for file in library}}
         files = {str(file.resolve()): digest(data) for file, data in contents.items()}
         return {"words": self.options + self.words, "files": files, "executable": digest(executable)}

@@ -109,8 +109,8 @@ def check_damage(checks):
     whole = place.memo.read_bytes()
     at = len(whole) // 2
     for what, data, word in (("that is empty", b"", "Magic"), ("that is cut at its head", whole[:9], "Short"),
-                             ("that is cut", whole[:-1], "Digest"), ("of a later version", whole[:4] + b"\2", "Short"),
-                             ("that is one later", whole[:4] + b"\2" + whole[5:], "Version 2"),
+                             ("that is cut", whole[:-1], "Digest"), ("that is cut in its version", whole[:5], "Short"),
+                             ("of a later version", whole[:4] + b"\x09" + whole[5:], "Version 9"),
                              ("with another byte", whole[:at] + bytes([whole[at] ^ 1]) + whole[at + 1:], "Digest")):
         place.memo.write_bytes(data)
         place.expect(f"with a memo {what}", 12, f"{place.memo} is refused: {word}")
@@ -220,8 +220,8 @@ def check_killed(checks):
         time.sleep(draw.random() * 0.3)
         started.send_signal(how)
         status = started.wait(SECONDS)
-        checks.expect(f"again, ended by {how.name}: {status}",
-                      status in (0, -how, {signal.SIGINT: 130, signal.SIGTERM: 143}.get(how)))
+        ends = 0, -how, {signal.SIGINT: 130, signal.SIGTERM: 143}.get(how), 1  # that of Python, where it only starts
+        checks.expect(f"again, ended by {how.name}: {status}", status in ends)
         status, printed, counts, said = again(place.guest, place.data)
         wanted = (place.data.read_bytes()[0] + place.data.read_bytes()[4096]).to_bytes(4, "little")
         right = (status, printed) == (0, wanted) and counts
