@@ -171,7 +171,7 @@ int pthread_getattr_np(pthread_t thread, pthread_attr_t *attributes);
 /* ---------------------------------------------------------------------------------------------- mutexes ---- */
 
 typedef struct { int type; } pthread_mutex_t;
-typedef struct { int type; short shared, protocol; } pthread_mutexattr_t;
+typedef struct { int type; short shared; signed char protocol, ceiling; } pthread_mutexattr_t;
 
 #define PTHREAD_PROCESS_PRIVATE 0
 #define PTHREAD_PROCESS_SHARED 1
@@ -229,9 +229,12 @@ int pthread_mutexattr_gettype(const pthread_mutexattr_t *__restrict attributes, 
 int pthread_mutexattr_setpshared(pthread_mutexattr_t *attributes, int shared);
 int pthread_mutexattr_getpshared(const pthread_mutexattr_t *__restrict attributes, int *__restrict shared);
 
-/* PTHREAD_PRIO_NONE, and PTHREAD_PRIO_INHERIT, which changes nothing: 0. PTHREAD_PRIO_PROTECT: ENOTSUP. Else EINVAL. */
+/* PTHREAD_PRIO_NONE, and PTHREAD_PRIO_INHERIT and PTHREAD_PRIO_PROTECT, which change nothing: 0. Else EINVAL. A ceiling
+   is 1 to 99, else EINVAL. */
 int pthread_mutexattr_setprotocol(pthread_mutexattr_t *attributes, int protocol);
 int pthread_mutexattr_getprotocol(const pthread_mutexattr_t *__restrict attributes, int *__restrict protocol);
+int pthread_mutexattr_setprioceiling(pthread_mutexattr_t *attributes, int ceiling);
+int pthread_mutexattr_getprioceiling(const pthread_mutexattr_t *__restrict attributes, int *__restrict ceiling);
 
 #define pthread_mutexattr_setkind_np pthread_mutexattr_settype
 #define pthread_mutexattr_getkind_np pthread_mutexattr_gettype

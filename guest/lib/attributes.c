@@ -4,6 +4,8 @@
 #include <pthread.h>
 #include "library.h"
 
+enum { LOWEST = 1, HIGHEST = 99 }; /* priorities */
+
 /* What is asked for where there is one value to have, and another that POSIX knows. */
 static int one_of_two(int asked, int taken, int refused)
 {
@@ -104,6 +106,7 @@ int pthread_mutexattr_init(pthread_mutexattr_t *attributes)
     attributes->type = PTHREAD_MUTEX_DEFAULT;
     attributes->shared = PTHREAD_PROCESS_PRIVATE;
     attributes->protocol = PTHREAD_PRIO_NONE;
+    attributes->ceiling = LOWEST;
     return 0;
 }
 
@@ -134,15 +137,29 @@ int pthread_mutexattr_gettype(const pthread_mutexattr_t *restrict attributes, in
 
 int pthread_mutexattr_setprotocol(pthread_mutexattr_t *attributes, int protocol)
 {
-    int answer = protocol == PTHREAD_PRIO_INHERIT ? 0 : one_of_two(protocol, PTHREAD_PRIO_NONE, PTHREAD_PRIO_PROTECT);
-    if (answer == 0)
-        attributes->protocol = (short)protocol;
-    return answer;
+    if (protocol != PTHREAD_PRIO_NONE && protocol != PTHREAD_PRIO_INHERIT && protocol != PTHREAD_PRIO_PROTECT)
+        return EINVAL;
+    attributes->protocol = (signed char)protocol;
+    return 0;
 }
 
 int pthread_mutexattr_getprotocol(const pthread_mutexattr_t *restrict attributes, int *restrict protocol)
 {
     *protocol = attributes->protocol;
+    return 0;
+}
+
+int pthread_mutexattr_setprioceiling(pthread_mutexattr_t *attributes, int ceiling)
+{
+    if (ceiling < LOWEST || ceiling > HIGHEST)
+        return EINVAL;
+    attributes->ceiling = (signed char)ceiling;
+    return 0;
+}
+
+int pthread_mutexattr_getprioceiling(const pthread_mutexattr_t *restrict attributes, int *restrict ceiling)
+{
+    *ceiling = attributes->ceiling;
     return 0;
 }
 

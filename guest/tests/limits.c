@@ -73,10 +73,7 @@ static void let_wait(void)
 
 static void attributes(void)
 {
-    pthread_mutexattr_t mutex_kind;
     pthread_t thread;
-    pthread_mutexattr_init(&mutex_kind);
-    tell("protected priority", pthread_mutexattr_setprotocol(&mutex_kind, PTHREAD_PRIO_PROTECT));
     pthread_spin_init(&spin, 0);
     pthread_spin_lock(&spin);
     tell("spin lock locked again", pthread_spin_lock(&spin));

@@ -91,6 +91,12 @@ int main(void)
     tell("inherited priority", pthread_mutexattr_setprotocol(&attributes, PTHREAD_PRIO_INHERIT));
     pthread_mutexattr_getprotocol(&attributes, &type);
     printf("it is so: %d\n", type == PTHREAD_PRIO_INHERIT);
+    tell("protected priority", pthread_mutexattr_setprotocol(&attributes, PTHREAD_PRIO_PROTECT));
+    printf("no such ceiling: %d\n", pthread_mutexattr_setprioceiling(&attributes, 100) == EINVAL);
+    tell("a ceiling", pthread_mutexattr_setprioceiling(&attributes, 7));
+    pthread_mutexattr_getprioceiling(&attributes, &type);
+    printf("it is so: %d\n", type);
+    pthread_mutexattr_setprotocol(&attributes, PTHREAD_PRIO_NONE);
     pthread_mutex_init(&mutex, &attributes);
     again(&mutex);
     tell("lock", pthread_mutex_lock(&checked));
