@@ -212,6 +212,7 @@ int pthread_mutex_trylock(pthread_mutex_t *mutex);
 
 /* Yields until the mutex is the caller's. Answers 0; ETIMEDOUT: the time is over; EINVAL: it is no time. */
 int pthread_mutex_timedlock(pthread_mutex_t *__restrict mutex, const struct timespec *__restrict time);
+int pthread_mutex_clocklock(pthread_mutex_t *__restrict mutex, clockid_t clock, const struct timespec *__restrict time);
 
 /* Answers 0; EPERM: it isn't the caller's. */
 int pthread_mutex_unlock(pthread_mutex_t *mutex);

@@ -140,6 +140,13 @@ IT_REPLACEABLE int pthread_cond_clockwait(pthread_cond_t *restrict condition, pt
     return pthread_cond_timedwait(condition, mutex, time);
 }
 
+IT_REPLACEABLE int pthread_mutex_clocklock(pthread_mutex_t *restrict mutex, clockid_t clock,
+                                           const struct timespec *restrict time)
+{
+    (void)clock;
+    return pthread_mutex_timedlock(mutex, time);
+}
+
 IT_REPLACEABLE int sem_clockwait(sem_t *restrict semaphore, clockid_t clock, const struct timespec *restrict time)
 {
     (void)clock;
