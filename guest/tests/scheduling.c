@@ -110,9 +110,12 @@ int main(void)
     cpu_set_t all, one;
     CPU_ZERO(&one);
     tell("processors", pthread_getaffinity_np(pthread_self(), sizeof all, &all));
-    printf("some %d, the first %d\n", CPU_COUNT(&all) > 0, CPU_ISSET(0, &all));
+    printf("some: %d\n", CPU_COUNT(&all) > 0);
     printf("none: %d\n", sched_setaffinity(0, sizeof one, &one));
-    CPU_SET(0, &one);
+    int first = 0; /* that the program may run on: natively that needn't be processor 0 */
+    while (!CPU_ISSET(first, &all))
+        first++;
+    CPU_SET(first, &one);
     printf("one: %d\n", sched_setaffinity(0, sizeof one, &one));
     sched_getaffinity(0, sizeof all, &all);
     printf("it is so: %d\n", CPU_EQUAL(&all, &one));
