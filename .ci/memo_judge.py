@@ -106,11 +106,13 @@ def load(elf):
 # ---- the fields
 
 class Fields:
-    """the bytes between version and digest, read from the first on"""
+    """the bytes between version and digest, read from the first on; in version 2 they begin with the profile"""
 
     def __init__(self, data):
         self.data = data
         self.at = 8
+        if u32(data, 4) == 2:
+            self.number(4, lambda profile: profile == 3)
 
     def bytes(self, count):
         if self.at + count > len(self.data):
@@ -426,7 +428,7 @@ def known_byte(memo, record, address):
 
 
 def check_old(memo):
-    """an earlier version's end at a word that wasn't an instruction then, and is one of RV32M: opcode OP, funct7 1"""
+    """in a file of version 1 an end at a word that wasn't an instruction once, and is one of RV32M: opcode OP, funct7 1"""
     _, end, _, _, finish, *_ = memo.records[-1]
     word = [known_byte(memo, memo.records[-1], finish[0] + k) for k in range(4)]
     if end == 2 and None not in word and word[0] % 128 == 51 and word[3] // 2 == 1:
@@ -439,7 +441,7 @@ def check_frame(data):
         raise Refused("Short")
     if data[:4] != b"ITHM":
         raise Refused("Magic")
-    if u32(data, 4) != 1:
+    if u32(data, 4) not in (1, 2):
         raise Refused(f"Version {u32(data, 4)}")
     if hashlib.sha256(data[:-32]).digest() != data[-32:]:
         raise Refused("Digest")
@@ -450,7 +452,8 @@ def judge(data):
     try:
         check_frame(data)
         memo = Memo(data[:-32])
-        check_old(memo)
+        if u32(data, 4) == 1:
+            check_old(memo)
         follow(memo)
         return None, listing(memo)
     except Refused as refusal:

@@ -35,9 +35,14 @@ def record(start, finish, reads=((IMAGE_PAGE, 0),), stores=(), thread=0, end=8, 
             + half(len(stores)) + b"".join(stores))
 
 
-def body(elf, pool, records, given=b"", fuel=1000000, steps=4096, entries=None, pool_count=None):
+def head(version=2, profile=3):
+    """magic number and version, and from version 2 on the profile"""
+    return b"ITHM" + word(version) + (word(profile) if version > 1 else b"")
+
+
+def body(elf, pool, records, given=b"", fuel=1000000, steps=4096, entries=None, pool_count=None, version=2, profile=3):
     """all but the digest"""
-    return (b"ITHM" + word(1) + word(len(elf)) + elf + word(len(given)) + given + word(fuel) + word(steps)
+    return (head(version, profile) + word(len(elf)) + elf + word(len(given)) + given + word(fuel) + word(steps)
             + word(len(records) if entries is None else entries)
             + word(len(pool) if pool_count is None else pool_count) + b"".join(pool) + b"".join(records))
 
@@ -104,6 +109,9 @@ def full_pages(elf, pages, spare):
 def fields(data, pool_at, pool_count):
     """place, size and kind of each number of a memo but those in the executable: a register, or another"""
     at = 8
+    if data[4] > 1:
+        yield at, 4, "number"
+        at += 4
     for has_bytes in (True, True, False, False, False, False):
         yield at, 4, "number"
         at += 4 + (int.from_bytes(data[at:at + 4], "little") if has_bytes else 0)

@@ -109,8 +109,10 @@ class Memo:
         digest, self.data = self.data[-32:], self.data[:-32]
         self.rule(len(self.data) >= 8, f"{len(self.data) + len(digest)} bytes, and not 40 or more", "Short")
         self.rule(self.take(4, "magic number") == b"ITHM", "magic number: it isn't ITHM", "Magic")
-        self.number(4, "version", 1, 1, f"Version {int.from_bytes(self.data[4:8], 'little')}")
+        version = self.number(4, "version", 1, 2, f"Version {int.from_bytes(self.data[4:8], 'little')}")
         self.rule(digest == hashlib.sha256(self.data).digest(), "digest: it is another", "Digest", len(self.data))
+        if version > 1:
+            self.number(4, "profile", 3, 3)
         self.elf = self.take(self.number(4, "length of the executable", 0, 2**24, "Limit elf"), "executable")
         mapped = mapped_pages(self.elf)
         self.rule(mapped, "executable: it isn't taken", "Image")
@@ -124,6 +126,6 @@ class Memo:
         records = [f"entry {entry} {self.record(mapped, fuel, pool)}" for entry in range(count)]
         self.rule(self.used == len(self.pool), f"count of pool pages: only {self.used} are used", at=pool_place)
         self.rule(self.place == len(self.data), "bytes come after the last record", at=self.place)
-        self.rule(not self.is_old(), "the last record ended at a word that is an instruction today", f"Old {count - 1}",
+        self.rule(version > 1 or not self.is_old(), "the last record ended at a word that is an instruction today", f"Old {count - 1}",
                   self.ended[0])
         return [f"elf {len(self.elf)}", f"input {size}", f"fuel {fuel}", f"limit {limit}", f"entries {count}", *records]

@@ -100,7 +100,7 @@ unfailing line before after none fails =
 -- what is accepted as a memo of a history isn't refused
 accepted-taken : (memo : List ℕ) (h : History) (why : MemoRefusal) → IsMemoOf memo h → reading memo ≡ Err why → ⊥
 accepted-taken memo h why is refused =
-    let taken : reading memo ≡ Ok h = spelled_is_read memo h is.spells is.of_today is.coherent in
+    let taken : reading memo ≡ Ok h = spelled_is_read memo h is in
     absurd (let no : Ok h ≡ Err why = sym taken ∙ refused in cc)
 
 unrefused :
@@ -150,7 +150,8 @@ run_by line before after answer status.Schedule is ends are none = absurd ends
 -- one memo, told, is of one history
 one-memo : (memo other : List ℕ) (h k : History) → memo ≡ other → IsMemoOf memo h → IsMemoOf other k → h ≡ k
 one-memo memo other h k same is also =
-    one_history memo h k is.spells (subst (λ (m : List ℕ). Spells m k) (sym same) also.spells)
+    one_history memo h k (is.format, is.spells)
+    (subst (λ (m : List ℕ). Spells m k) (sym same) (also.format, also.spells))
 
 -- edit lists that are accepted aren't refused
 rerun-unlisted :

@@ -6,10 +6,9 @@ use Rattle.elf_spec.specs.Image.{is_image}
 use Rattle.edit_spec.specs.declared.TheConstants.{MOST_LIST_BYTES}
 use Rattle.machine_spec.specs.declared.TheConstants.{MOST_INPUT_BYTES}
 use Rattle.machine_spec.specs.Setup.{Setup, is_permitted, is_complete}
-use Rattle.history_spec.specs.History.{History, is_coherent}
+use Rattle.history_spec.specs.History.{History}
 use Rattle.memo_spec.specs.declared.TheConstants.{MOST_MEMO_BYTES}
-use Rattle.memo_spec.specs.Spelling.{Spells}
-use Rattle.memo_spec.specs.Old.{is_old}
+use Rattle.memo_spec.specs.Reading.{IsTaken}
 use Rattle.rerun_spec.specs.Inputs.{AreInputs, AreRerunInputs}
 use Rattle.rerun_spec.specs.Rounds.{Beginning, from_scratch, after_memo}
 use Rattle.schedule_list.specs.declared.TheConstants.{MOST_SCHEDULE_BYTES}
@@ -84,12 +83,10 @@ pub record IsMemoContent (before : World) (name : Text) (bytes : List ℕ) : Typ
   pub content : IsContent before name bytes
   pub within : length bytes ≤ MOST_MEMO_BYTES
 
--- Bytes that are accepted as a memo of a history: they spell it, it isn't from before the standard extension M, and it
--- holds together.
-pub record IsMemoOf (bytes : List ℕ) (h : History) : Type 0 where
-  pub spells : Spells bytes h
-  pub of_today : is_old h ≡ false
-  pub coherent : is_coherent h ≡ true
+-- Bytes that are accepted as a memo of a history: they spell it, in version 1 it isn't from before the standard extension
+-- M, and it holds together.
+abbrev pub IsMemoOf : List ℕ → History → Type 0
+IsMemoOf bytes h = IsTaken bytes h
 
 -- The rounds that a line asks for: how the first begins, and the input of each.
 pub record Plan : Type 0 where

@@ -1,21 +1,26 @@
 -- What is told behind the records.
-use Rattle.std.proofs.Common.{◌≡◌, ◌≢◌, ◌+◌, ◌<◌, ℕ, List, ◌++◌, length, drop, get_or, Result, Ok, Err, refl, sym, ap, ◌∙◌, arith, eq-eqb}
+use Rattle.std.proofs.Common.{◌≡◌, ◌≢◌, ◌+◌, ◌^◌, ◌<◌, ℕ, List, ◌++◌, length, drop, get_or, true, Result, Ok, Err, refl, sym, ap, subst, ◌∙◌, arith, eq-eqb}
 use Rattle.std.proofs.lemmas.Bool.{ne_eqb}
 use Rattle.std.proofs.lemmas.List.{get_or-drop, drop_at}
 use Rattle.memory_spec.specs.Pages.{Mapped}
 use Rattle.record_spec.specs.Record.{Record}
 use Rattle.machine_spec.specs.Setup.{Setup, first, map_of}
 use Rattle.machine_spec.specs.Machine.{Machine}
-use Rattle.history_spec.specs.History.{History}
+use Rattle.history_spec.specs.History.{History, is_coherent}
 use Rattle.ith_fields.specs.Place.{Place, Takes}
+use Rattle.memo_spec.specs.declared.Format.{Format}
+use Rattle.memo_spec.specs.declared.Format.TheVariants.{Version1, Version2}
 use Rattle.memo_spec.specs.declared.Refusal.{Refusal}
 use Rattle.memo_spec.specs.declared.Refusal.TheVariants.{Field, Limit}
 use Rattle.memo_spec.specs.declared.Limit.TheVariants as limit
+use Rattle.std.specs.Prelude.{◌==◌, slice_index}
 use Rattle.std.specs.Int.{w32}
 use Rattle.memo_file.specs.Wholes.{uses_all}
 use Rattle.memo_spec.specs.Reader.{onward, done, number_at, ruled, limited}
-use Rattle.memo_spec.specs.Reading.{RecordState, is_within, setup_at, pool_and_records_at, todays, ended, history_at, taken_as}
-use Rattle.memo_spec.proofs.Formats.{ok_is}
+use Rattle.memo_spec.specs.Reading.{RecordState, is_within, setup_at, pool_and_records_at, todays, ended, history_at, behind_version, taken_as, IsTaken}
+use Rattle.memo_spec.specs.Spelling.{word, profile, memo, IsSpellable}
+use Rattle.memo_spec.proofs.Formats.{ok_is, wide32, agrees_number, agrees_tested}
+use Rattle.memo_spec.proofs.Laws.{memo_taken}
 use Rattle.memo_file.specs.declared.error.ReadError.{ReadError}
 use Rattle.memo_file.specs.declared.error.ReadError.TheVariants as errors
 use Rattle.memo_file.specs.Gives.{Fails}
@@ -47,31 +52,60 @@ history_taken p a b q s high entries rs setup steps count read =
     let within : entries_at s.limit a ≡ Ok (entries, b) = ap (λ (n : ℕ). entries_at n a) (sym steps) ∙ count in
     rw (setup, within) (made_of s (ruled (pool_and_records_at s entries) uses_all b) rs q read)
 
+-- ---- the profile
+
+abbrev pub profile_at : Place → Result (ℕ × Place) Refusal
+profile_at = ruled (number_at w32) (λ n. n == profile)
+
+pub profile_fails : (e : ReadError) (p : Place) → Fails e (profile_at p) → Fails e (behind_version Version2 p)
+unfolding behind_version
+profile_fails errors.NoMemory p h = tt
+profile_fails (errors.Refused why) p h = ap (λ (r : Result (ℕ × Place) Refusal). onward r (λ _. history_at)) h
+
+pub profile_read : (p q : Place) → profile_at p ≡ Ok (profile, q) → behind_version Version2 p ≡ history_at q
+unfolding behind_version
+profile_read p q e = ap (λ (r : Result (ℕ × Place) Refusal). onward r (λ _. history_at)) e
+
+pub profile_leaves : (p q : Place) → ((i : ℕ) → slice_index p.left i < 256) → profile_at p ≡ Ok (profile, q)
+    → (i : ℕ) → slice_index q.left i < 256
+profile_leaves p q bytes e = ((agrees_tested (number_at w32) word (λ n. n < 2 ^ 32) (λ n. n == profile)
+    (λ (r : Place). Field r.taken) (agrees_number w32 (2 ^ 32) wide32)).takes p profile q bytes e).0.rest
+
+pub first_version : (format : Format) (p : Place) → format ≡ Version1 → behind_version format p ≡ history_at p
+unfolding behind_version
+first_version format p e = ap (λ (f : Format). behind_version f p) e
+
+-- ---- what comes behind the records
+
 abbrev pub starts : List ℕ → Place
 starts text = record { taken = 8; left = drop 8 text }
 
-ended_fails : (e : ReadError) (r : Result (History × Place) Refusal) → Fails e r → Fails e (ended r)
-ended_fails errors.NoMemory r h = tt
-ended_fails (errors.Refused why) r h = ap ended h
+ended_fails : (format : Format) (e : ReadError) (r : Result (History × Place) Refusal) → Fails e r
+    → Fails e (ended format r)
+ended_fails format errors.NoMemory r h = tt
+ended_fails format (errors.Refused why) r h = ap (ended format) h
 
-pub history_fails : (e : ReadError) (text : List ℕ) → Fails e (history_at (starts text)) → Fails e (taken_as text)
+pub history_fails : (format : Format) (e : ReadError) (text : List ℕ)
+    → Fails e (behind_version format (starts text)) → Fails e (taken_as format text)
 unfolding taken_as
-history_fails e text h = ended_fails e (history_at (starts text)) h
+history_fails format e text h = ended_fails format e (behind_version format (starts text)) h
 
-pub bytes_left : (text : List ℕ) (h : History) (q : Place) → history_at (starts text) ≡ Ok (h, q) → length q.left ≢ 0
-    → taken_as text ≡ Err (Field q.taken)
+pub bytes_left : (format : Format) (text : List ℕ) (h : History) (q : Place)
+    → behind_version format (starts text) ≡ Ok (h, q) → length q.left ≢ 0
+    → taken_as format text ≡ Err (Field q.taken)
 unfolding taken_as
-bytes_left text h q e ne = rw (e, ne_eqb _ _ ne) refl
+bytes_left format text h q e ne = rw (e, ne_eqb _ _ ne) refl
 
-pub none_left : (text : List ℕ) (h : History) (q : Place) → history_at (starts text) ≡ Ok (h, q)
-    → length q.left ≡ 0 → taken_as text ≡ todays h
+pub none_left : (format : Format) (text : List ℕ) (h : History) (q : Place)
+    → behind_version format (starts text) ≡ Ok (h, q)
+    → length q.left ≡ 0 → taken_as format text ≡ todays format h
 unfolding taken_as
-none_left text h q e none = rw (e, eq-eqb _ _ none) refl
+none_left format text h q e none = rw (e, eq-eqb _ _ none) refl
 
-pub judge_fails : (e : ReadError) (text : List ℕ) (r : Result History Refusal) → taken_as text ≡ r → Fails e r
-    → Fails e (taken_as text)
-judge_fails errors.NoMemory text r same h = tt
-judge_fails (errors.Refused why) text r same h = same ∙ h
+pub judge_fails : (format : Format) (e : ReadError) (text : List ℕ) (r : Result History Refusal)
+    → taken_as format text ≡ r → Fails e r → Fails e (taken_as format text)
+judge_fails format errors.NoMemory text r same h = tt
+judge_fails format (errors.Refused why) text r same h = same ∙ h
 
 pub are_bytes : (text : List ℕ) → ((i : ℕ) → get_or text i 0 < 256) → (i : ℕ) → get_or (drop 8 text) i 0 < 256
 are_bytes text h i = rw get_or-drop (h (8 + i))
@@ -92,3 +126,20 @@ opened text piece old new e t len =
     let left : new.left ≡ drop 8 text = sym (ap (drop 8) front ∙ drop_at piece new.left 8 len) in
     let at : new.taken ≡ 8 = omega (arith, t.count, len, ap (λ (p : Place). p.taken) e) in
     ap (λ (n : ℕ). place n new.left) at ∙ ap (place 8) left
+
+-- ---- what is read
+
+abbrev good : History → Result History Refusal
+good h = Ok h
+
+pub one_reading : (r : Result History Refusal) (k h : History) → r ≡ Ok k → r ≡ Ok h → k ≡ h
+one_reading r k h a b = let e : good k ≡ good h = sym a ∙ b in cc
+
+pub no_refusal : (e : ReadError) (r : Result History Refusal) (h : History) → Fails e r → r ≡ Ok h
+    → e ≡ errors.NoMemory
+no_refusal errors.NoMemory r h fails taken = refl
+no_refusal (errors.Refused why) r h fails taken = absurd cc
+
+pub written_taken : (bytes : List ℕ) (h : History) → IsSpellable h → is_coherent h ≡ true → bytes ≡ memo h
+    → IsTaken bytes h
+written_taken bytes h fit whole is = subst (λ (b : List ℕ). IsTaken b h) (sym is) (memo_taken h fit whole)

@@ -14,7 +14,8 @@ use Rattle.record_spec.specs.Reads.{ReadPage}
 use Rattle.record_spec.specs.Record.{Record}
 use Rattle.machine_spec.specs.Setup.{map_of}
 use Rattle.history_spec.specs.History.{History}
-use Rattle.memo_spec.specs.Spelling.{magic, version, byte, half, word, registers, end_number, page_number, mask, read_page, stored_page, record_bytes, pages_read, pool_of, body, memo, IsStoredPage, IsRecord, IsSpellable}
+use Rattle.memo_spec.specs.Spelling.{head, byte, half, word, registers, end_number, page_number, mask, read_page, stored_page, record_bytes, pages_read, pool_of, body, memo_in, memo, SpellsIn, IsStoredPage, IsRecord, IsSpellable}
+use Rattle.memo_spec.specs.declared.Format.TheVariants.{Version2}
 use Rattle.memo_spec.proofs.Chains.{few_reads, few_stored}
 use Rattle.memo_spec.proofs.Masks.{marks_again}
 use Rattle.memo_spec.proofs.Order.{IsPage}
@@ -115,15 +116,15 @@ length_pool (page ∷ pool) all = omega (arith, length-append page (concat pool)
 pool_pages : (h : History) → IsSpellable h → AllByRecursion IsPage (pool_of h)
 pool_pages h s = fold_pages (pages_read h.records) [] (read_pages (map_of h.setup) h.setup.fuel h.records s.records) tt
 
-thirteen_parts : (a b c d e f g h i j k l : List ℕ)
-    → length (a ++ b ++ c ++ d ++ e ++ f ++ g ++ h ++ i ++ j ++ k ++ l)
-    ≡ length a + length b + length c + length d + length e + length f + length g + length h + length i + length j +
+eleven_parts : (a c d e f g h i j k l : List ℕ)
+    → length (a ++ c ++ d ++ e ++ f ++ g ++ h ++ i ++ j ++ k ++ l)
+    ≡ length a + length c + length d + length e + length f + length g + length h + length i + length j +
     length k + length l
-thirteen_parts a b c d e f g h i j k l = simp length-append
+eleven_parts a c d e f g h i j k l = simp length-append
 
-length_body : (h : History) → IsSpellable h → length (body h) + 32 ≡ memo_size h (length (pool_of h))
+length_body : (h : History) → IsSpellable h → length (body Version2 h) + 32 ≡ memo_size h (length (pool_of h))
 length_body h s =
-    let parts = thirteen_parts magic (word version) (word (length h.setup.elf)) h.setup.elf
+    let parts = eleven_parts (head Version2) (word (length h.setup.elf)) h.setup.elf
     (word (length h.setup.input)) h.setup.input
     (word h.setup.fuel) (word h.setup.limit) (word (length h.records)) (word (length (pool_of h))) (concat (pool_of h))
     (flat_map (record_bytes (map_of h.setup) (pool_of h)) h.records) in
@@ -134,14 +135,20 @@ length_body h s =
     records
   where
     sum_up : (elf input pages pool records size : ℕ) → pages ≡ 4096 * pool → records ≡ size
-        → 4 + 4 + 4 + elf + 4 + input + 4 + 4 + 4 + 4 + pages + records + 32 ≡ 64 + elf + input + 4096 * pool + size
+        → 12 + 4 + elf + 4 + input + 4 + 4 + 4 + 4 + pages + records + 32 ≡ 68 + elf + input + 4096 * pool + size
     sum_up elf input pages pool records size p r = omega arith
+
+-- What spells a history in version 2 is its memo.
+pub second_is : (bytes : List ℕ) (h : History) → SpellsIn Version2 bytes h → bytes ≡ memo h
+unfolding memo
+second_is bytes h s = s.is
 
 -- The length of a memo is its size.
 pub length_memo : (h : History) → IsSpellable h → length (memo h) ≡ memo_size h (length (pool_of h))
-unfolding memo
-length_memo h s = length-append (body h) (sha256 (body h)) ∙ ap (λ n. length (body h) + n) (length-sha256 (body h))
-    ∙ length_body h s
+unfolding memo memo_in
+length_memo h s =
+    let text = body Version2 h in
+    length-append text (sha256 text) ∙ ap (λ n. length text + n) (length-sha256 text) ∙ length_body h s
 
 -- ---- what is known of the records of a history that has a spelling
 

@@ -12,10 +12,10 @@ stored_size d = 516 + length d.bytes
 abbrev pub record_size : Record → ℕ
 record_size r = 266 + 8 * length r.kept.reads + sum_by stored_size r.kept.delta
 
--- A memo whose pool has so many pages: 64 bytes that each has, executable, input, pool and records.
+-- A memo whose pool has so many pages: 68 bytes that each has, executable, input, pool and records.
 abbrev pub memo_size : History → ℕ → ℕ
 memo_size h pool =
-    64 + length h.setup.elf + length h.setup.input + 4096 * pool + sum_by record_size h.records
+    68 + length h.setup.elf + length h.setup.input + 4096 * pool + sum_by record_size h.records
 
 -- Fewer read pages and fewer stored pages than two bytes can count.
 pub record HasFewPages (r : Record) : Type 0 where

@@ -5,12 +5,13 @@ ghost use Rattle.std.specs.List.{count_by};
 ghost use Rattle.memory_spec.specs.Pages.{slot_of};
 ghost use Rattle.machine_spec.specs.Setup.{map_of};
 ghost use Rattle.memo_spec.specs.Old.{is_of_m, stored_byte, read_byte, told_byte, whole_word, told_word, is_old_record, is_old, last_number};
+ghost use Rattle.memo_spec.specs.Reading.{is_old_in};
 ghost use Rattle.memo_spec.specs.declared.Refusal.TheVariants.{Old};
 ghost use Rattle.memo_file.specs.declared.error.ReadError.TheVariants.{Refused};
 
 use crate::error::ReadError;
 use isa_spec::Cause;
-use memo_spec::Refusal;
+use memo_spec::{Format, Refusal};
 use memory_spec::PAGE_SIZE;
 use page_map::PageMap;
 use release_core::History;
@@ -152,7 +153,7 @@ fn is_old_record(slots: &PageMap, rec: &Record) -> bool
 }
 
 /// Refuses a history whose last record ended by an illegal instruction that is one of M today. Takes no memory.
-pub fn refuse_old(slots: &PageMap, history: &History) -> Result<(), ReadError>
+fn refuse_before_m(slots: &PageMap, history: &History) -> Result<(), ReadError>
     requires { slots.now ≡ map_of history.now.setup }
     ensures today { IfOk result (λ _. is_old history.now ≡ false) }
     ensures before { IfErr result (λ e. (is_old history.now ≡ true) × (e ≡ Refused (Old (last_number history.now)))) }
@@ -168,5 +169,18 @@ pub fn refuse_old(slots: &PageMap, history: &History) -> Result<(), ReadError>
         Err(ReadError::Refused(Refusal::Old((count - 1) as u32)))
     } else {
         Ok(())
+    }
+}
+
+/// Refuses a history that is old in a format. In version 2 none is. Takes no memory.
+pub fn refuse_old(format: Format, slots: &PageMap, history: &History) -> Result<(), ReadError>
+    requires { slots.now ≡ map_of history.now.setup }
+    ensures today { IfOk result (λ _. is_old_in format history.now ≡ false) }
+    ensures before { IfErr result
+        (λ e. (is_old_in format history.now ≡ true) × (e ≡ Refused (Old (last_number history.now)))) }
+{
+    match format {
+        Format::Version1 => refuse_before_m(slots, history),
+        Format::Version2 => Ok(()),
     }
 }

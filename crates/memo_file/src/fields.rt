@@ -1,6 +1,6 @@
 //! Single fields of a memo.
 
-ghost use Rattle.std.specs.Prelude.{◌≡◌, ◌≢◌, ◌<◌, ◌≤◌, length, nat_lt, IfOk, IfErr};
+ghost use Rattle.std.specs.Prelude.{◌≡◌, ◌≢◌, ◌<◌, ◌≤◌, ◌==◌, length, nat_lt, IfOk, IfErr};
 ghost use Rattle.std.specs.Int.{w8, w16, w32};
 ghost use Rattle.memo_spec.specs.Reader.{bytes_at, number_at, limited as limited_at, ruled};
 ghost use Rattle.memo_spec.specs.Reading.{is_within, registers_at};
@@ -90,6 +90,20 @@ pub fn word_within(cursor: &mut Cursor, low: u32, high: u32) -> Result<u32, Read
     let value = word(cursor)?;
     if low <= value && value <= high {
         Ok(value)
+    } else {
+        Err(ReadError::Refused(Refusal::Field(at)))
+    }
+}
+
+/// This number. Another one is against its rule.
+pub fn word_that_is(cursor: &mut Cursor, number: u32) -> Result<(), ReadError>
+    ensures given { Gives (λ _. (number, cursor.new)) result (ruled (number_at w32) (λ n. n == number) cursor.old) }
+    ensures no_memory { IfErr result (λ e. e ≢ errors.NoMemory) }
+{
+    let at = cursor.position();
+    let value = word(cursor)?;
+    if value == number {
+        Ok(())
     } else {
         Err(ReadError::Refused(Refusal::Field(at)))
     }

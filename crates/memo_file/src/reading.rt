@@ -3,26 +3,26 @@
 ghost use Rattle.std.specs.Prelude.{◌≡◌, ◌<◌, ◌≤◌, ◌^◌, ℕ, true, false, length, drop, slice_index, All, IfOk, IfErr};
 ghost use Rattle.history_spec.specs.History.{History as Kept, is_coherent};
 ghost use Rattle.machine_spec.specs.Setup.{first, map_of};
-ghost use Rattle.memo_spec.specs.Spelling.{Spells};
-ghost use Rattle.memo_spec.specs.Old.{is_old};
+ghost use Rattle.memo_spec.specs.Spelling.{IsSpellable, memo};
 ghost use Rattle.memo_spec.specs.Reader.{onward, done, ruled};
-ghost use Rattle.memo_spec.specs.Reading.{history_at, pool_and_records_at, taken_as, todays, reading};
+ghost use Rattle.memo_spec.specs.Reading.{history_at, behind_version, pool_and_records_at, taken_as, todays, format_of, reading, IsTaken};
+ghost use Rattle.memo_spec.specs.declared.Format.TheVariants.{Version2};
 ghost use Rattle.memo_file.specs.Gives.{Fails, Gives, IsReadAs};
 ghost use Rattle.memo_file.specs.Wholes.{uses_all};
 
 use crate::age::refuse_old;
 use crate::coherence::hold_together;
 use crate::error::ReadError;
-use crate::fields::{limited, word};
+use crate::fields::{limited, word, word_that_is};
 use crate::growth::Sources;
-use crate::opening::{MAGIC, VERSION};
+use crate::opening::{MAGIC, PROFILE};
 use crate::pool::read_pool;
 use crate::records::read_records;
 use crate::setup::read_setup;
 use byteorder::{ByteOrder, LittleEndian};
 use ith_fields::Cursor;
 use machine_spec::MOST_STEPS;
-use memo_spec::{Limit, Refusal};
+use memo_spec::{Format, Limit, Refusal};
 use page_map::PageMap;
 use release_core::{Core, History, Records, Setup};
 use sha2::{Digest, Sha256};
@@ -74,14 +74,40 @@ fn read_history(alloc: Global, cursor: &mut Cursor) -> Result<(History, Core), R
     Ok((History::new(setup, records), core))
 }
 
-/// Refuses a history that is from before the standard extension M, or else one that doesn't hold together. `core` is
-/// the machine that it starts as.
-#[tactic(auto, using(crate::proofs::Ending::map_is))]
-fn judge(core: Core, history: &History) -> Result<(), ReadError>
-    requires { core ≡ first history.now.setup }
-    ensures { Gives (λ _. history.now) result (todays history.now) }
+/// A history behind its profile, and the machine that it starts as.
+fn read_profiled(alloc: Global, cursor: &mut Cursor) -> Result<(History, Core), ReadError>
+    requires bytes { (i : ℕ) → slice_index cursor.old.left i < 256 }
+    ensures core { IfOk result (λ x. x.1 ≡ first x.0.setup) }
+    ensures given { Gives (λ x. (x.0, cursor.new)) result (behind_version Version2 cursor.old) }
 {
-    refuse_old(core.frame().map(), history)?;
+    word_that_is(cursor, PROFILE)?;
+    read_history(alloc, cursor)
+}
+
+/// A history from behind the version on, and the machine that it starts as.
+fn read_behind_version(
+    alloc: Global,
+    cursor: &mut Cursor,
+    format: Format,
+) -> Result<(History, Core), ReadError>
+    requires bytes { (i : ℕ) → slice_index cursor.old.left i < 256 }
+    ensures core { IfOk result (λ x. x.1 ≡ first x.0.setup) }
+    ensures given { Gives (λ x. (x.0, cursor.new)) result (behind_version format cursor.old) }
+{
+    match format {
+        Format::Version1 => read_history(alloc, cursor),
+        Format::Version2 => read_profiled(alloc, cursor),
+    }
+}
+
+/// Refuses a history that is old in a format, or else one that doesn't hold together. `core` is the machine that it
+/// starts as.
+#[tactic(auto, using(crate::proofs::Ending::map_is))]
+fn judge(core: Core, history: &History, format: Format) -> Result<(), ReadError>
+    requires { core ≡ first history.now.setup }
+    ensures { Gives (λ _. history.now) result (todays format history.now) }
+{
+    refuse_old(format, core.frame().map(), history)?;
     hold_together(core, history)
 }
 
@@ -99,24 +125,37 @@ fn behind_opening<'a>(text: &'a [u8]) -> Cursor<'a>
 
 /// What all bytes but the digest are taken as.
 #[tactic(auto, unfolding(memo_spec::specs::Reading::taken_as))]
-fn read_text(alloc: Global, text: &[u8]) -> Result<History, ReadError>
+fn read_text(alloc: Global, format: Format, text: &[u8]) -> Result<History, ReadError>
     requires { 8 ≤ length text.now }
-    ensures { Gives (λ h. h) result (taken_as text.now) }
+    ensures { Gives (λ h. h) result (taken_as format text.now) }
 {
     let mut cursor = behind_opening(text);
-    let (history, core) = read_history(alloc, &mut cursor)?;
+    let (history, core) = read_behind_version(alloc, &mut cursor, format)?;
     if cursor.remaining() != 0 {
         return Err(ReadError::Refused(Refusal::Field(cursor.position())));
     }
-    judge(core, &history)?;
+    judge(core, &history, format)?;
     Ok(history)
 }
 
-/// All bytes but the digest, where the digest is theirs, behind the magic number and the version.
+/// The format of a version, if there is one.
+fn format_of(version: u32) -> Option<Format>
+    ensures { result ≡ format_of version }
+{
+    if version == 1 {
+        Some(Format::Version1)
+    } else if version == 2 {
+        Some(Format::Version2)
+    } else {
+        None
+    }
+}
+
+/// The format, and all bytes but the digest, where the digest is theirs.
 #[tactic(auto, unfolding(memo_spec::specs::Reading::reading))]
-fn open(bytes: &[u8]) -> Result<&[u8], ReadError>
-    ensures size { IfOk result (λ text. 8 ≤ length text.now) }
-    ensures taken { IfOk result (λ text. reading bytes.now ≡ taken_as text.now) }
+fn open(bytes: &[u8]) -> Result<(Format, &[u8]), ReadError>
+    ensures size { IfOk result (λ x. 8 ≤ length x.1.now) }
+    ensures taken { IfOk result (λ x. reading bytes.now ≡ taken_as x.0 x.1.now) }
     ensures refused { IfErr result (λ e. Fails e (reading bytes.now)) }
 {
     if bytes.len() < 40 {
@@ -126,34 +165,36 @@ fn open(bytes: &[u8]) -> Result<&[u8], ReadError>
         return Err(ReadError::Refused(Refusal::Magic));
     }
     let version = LittleEndian::read_u32(&bytes[4..]);
-    if version != VERSION {
+    let Some(format) = format_of(version) else {
         return Err(ReadError::Refused(Refusal::Version(version)));
-    }
+    };
     let (text, digest) = bytes.split_at(bytes.len() - 32);
     if digest != Sha256::digest(text).as_slice() {
         return Err(ReadError::Refused(Refusal::Digest));
     }
-    Ok(text)
+    Ok((format, text))
 }
 
 /// What bytes are taken as.
 fn all(alloc: Global, bytes: &[u8]) -> Result<History, ReadError>
     ensures { Gives (λ h. h) result (reading bytes.now) }
 {
-    let text = open(bytes)?;
-    read_text(alloc, text)
+    let (format, text) = open(bytes)?;
+    read_text(alloc, format, text)
 }
 
-/// The history that the bytes of a memo spell, which is of today and holds together.
+/// The history that the bytes of a memo spell, in version 1 or 2. It holds together, and in version 1 it isn't old.
+/// What `write` writes of a history that holds together is read as it.
 ///
 /// # Errors
 ///
 /// `Refused` with the first reason not to take the bytes, exactly where there is one, or `NoMemory` where the
 /// host's memory ran out.
 pub fn read(alloc: Global, bytes: &[u8]) -> Result<History, ReadError>
-    ensures spelled { IfOk result (λ h. Spells bytes.now h × (is_old h ≡ false) × (is_coherent h ≡ true)) }
+    ensures spelled { IfOk result (λ h. IsTaken bytes.now h) }
     ensures refused { IfErr result (λ e. Fails e (reading bytes.now)) }
-    ensures accepts { (h : Kept) → Spells bytes.now h → is_old h ≡ false → is_coherent h ≡ true → IsReadAs h result }
+    ensures accepts { (h : Kept) → IsTaken bytes.now h → IsReadAs h result }
+    ensures written { (h : Kept) → IsSpellable h → is_coherent h ≡ true → bytes.now ≡ memo h → IsReadAs h result }
 {
     memo_spec::taken_is_spelled(bytes);
     memo_spec::spelled_is_taken();

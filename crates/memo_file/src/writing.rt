@@ -1,8 +1,9 @@
 //! Writing a memo: its length first, then its bytes.
 
-ghost use Rattle.std.specs.Prelude.{◌≡◌, ◌≤◌, length, IfOk, IfErr};
+ghost use Rattle.std.specs.Prelude.{◌≡◌, ◌≤◌, ℕ, List, length, IfOk, IfErr};
 ghost use Rattle.machine_spec.specs.Setup.{map_of};
-ghost use Rattle.memo_spec.specs.Spelling.{IsSpellable, memo};
+ghost use Rattle.memo_spec.specs.Spelling.{IsSpellable, memo, SpellsIn};
+ghost use Rattle.memo_spec.specs.declared.Format.TheVariants.{Version2};
 ghost use Rattle.memo_file.specs.declared.writing.WriteError.TheVariants.{NoMemory};
 ghost use Rattle.memo_file.specs.WritingErrors.{IsTooLongFor};
 ghost use Rattle.memo_file.specs.WritingPool.{pages_lent, IsPoolOf};
@@ -68,7 +69,8 @@ fn write_all(
     Ok(out)
 }
 
-/// The memo of a history. Its length is found before anything is written.
+/// The memo of a history, in version 2. Its length is found before anything is written. Where the history was read from
+/// bytes of version 2, these are written again.
 ///
 /// # Errors
 ///
@@ -80,6 +82,8 @@ pub fn write(alloc: Global, history: &History) -> Result<Vec<u8>, WriteError>
     ensures within { IfOk result (λ bytes. length bytes.items ≤ MOST_MEMO_BYTES) }
     ensures too_long { IfErr result (λ e. IsTooLongFor (length (memo history.now)) e) }
     ensures fits { length (memo history.now) ≤ MOST_MEMO_BYTES → IfErr result (λ e. e ≡ NoMemory) }
+    ensures again { (bytes : List ℕ) → SpellsIn Version2 bytes history.now → length bytes ≤ MOST_MEMO_BYTES
+        → IfOk result (λ written. written.items ≡ bytes) × IfErr result (λ e. e ≡ NoMemory) }
 {
     let slots = history.setup().page_map(alloc)?;
     let pool = pool_of_history(alloc, history, slots.len())?;

@@ -13,9 +13,10 @@ use Rattle.machine_spec.specs.Setup.{first}
 use Rattle.machine_spec.specs.Step.{lay}
 use Rattle.history_spec.specs.History.{History}
 use Rattle.history_spec.proofs.Examples.{longer, early, early-fits}
+use Rattle.memo_spec.specs.declared.Format.TheVariants.{Version1, Version2}
 use Rattle.memo_spec.specs.declared.Refusal.TheVariants as refusal
 use Rattle.memo_spec.specs.Spelling.{distinct, end_number, mask, record_bytes, body, magic}
-use Rattle.memo_spec.specs.Reading.{incoherent_from, reading}
+use Rattle.memo_spec.specs.Reading.{behind_version, incoherent_from, taken_as, reading}
 use Rattle.memo_spec.specs.Old.{is_of_m, told_word, ends_old}
 
 -- A page that stands twice among the read pages stands once in the pool, where it came first.
@@ -85,14 +86,19 @@ bare = record {
   records = [];
 }
 
--- Magic number and version; the executable and the input, each after its length; fuel, step limit, and how many records
--- and pages of the pool come.
-pub body-bare :
-    body bare
-    ≡ (0x49 ∷ 0x54 ∷ 0x48 ∷ 0x4d ∷ 1 ∷ 0 ∷ 0 ∷ 0 ∷ [])
-    ++ (2 ∷ 0 ∷ 0 ∷ 0 ∷ 0x7f ∷ 0x45 ∷ []) ++ (3 ∷ 0 ∷ 0 ∷ 0 ∷ 1 ∷ 2 ∷ 3 ∷ [])
+-- The executable and the input, each after its length; fuel, step limit, and how many records and pages of the pool come.
+abbrev bare-behind : List ℕ
+bare-behind =
+    (2 ∷ 0 ∷ 0 ∷ 0 ∷ 0x7f ∷ 0x45 ∷ []) ++ (3 ∷ 0 ∷ 0 ∷ 0 ∷ 1 ∷ 2 ∷ 3 ∷ [])
     ++ (0x02 ∷ 0x03 ∷ 0 ∷ 0 ∷ []) ++ (6 ∷ 0 ∷ 0 ∷ 0 ∷ []) ++ (0 ∷ 0 ∷ 0 ∷ 0 ∷ []) ++ (0 ∷ 0 ∷ 0 ∷ 0 ∷ [])
-body-bare = refl
+
+-- Before them magic number and version, and in version 2 the profile.
+pub body-first : body Version1 bare ≡ (0x49 ∷ 0x54 ∷ 0x48 ∷ 0x4d ∷ 1 ∷ 0 ∷ 0 ∷ 0 ∷ []) ++ bare-behind
+body-first = refl
+
+pub body-second :
+    body Version2 bare ≡ (0x49 ∷ 0x54 ∷ 0x48 ∷ 0x4d ∷ 2 ∷ 0 ∷ 0 ∷ 0 ∷ []) ++ (3 ∷ 0 ∷ 0 ∷ 0 ∷ []) ++ bare-behind
+body-second = refl
 
 -- Less than a head and a digest; another magic number; another version. Each is refused before what comes behind it.
 pub short : reading (replicate 39 0) ≡ Err refusal.Short
@@ -103,9 +109,22 @@ pub no-magic : reading (replicate 40 0) ≡ Err refusal.Magic
 unfolding reading
 no-magic = refl
 
-pub later-version : reading (magic ++ (2 ∷ 0 ∷ 0 ∷ 0 ∷ []) ++ replicate 32 0) ≡ Err (refusal.Version 2)
+pub no-version : reading (magic ++ (0 ∷ 0 ∷ 0 ∷ 0 ∷ []) ++ replicate 32 0) ≡ Err (refusal.Version 0)
+unfolding reading
+no-version = refl
+
+pub later-version : reading (magic ++ (3 ∷ 0 ∷ 0 ∷ 0 ∷ []) ++ replicate 32 0) ≡ Err (refusal.Version 3)
 unfolding reading
 later-version = refl
+
+-- Version 2 has a profile, which is 3: one that is cut off or another one is the field at 8.
+pub no-profile : taken_as Version2 (magic ++ (2 ∷ 0 ∷ 0 ∷ 0 ∷ [])) ≡ Err (refusal.Field 8)
+unfolding taken_as behind_version
+no-profile = refl
+
+pub other-profile : taken_as Version2 (magic ++ (2 ∷ 0 ∷ 0 ∷ 0 ∷ []) ++ (2 ∷ 0 ∷ 0 ∷ 0 ∷ [])) ≡ Err (refusal.Field 8)
+unfolding taken_as behind_version
+other-profile = refl
 
 -- The fuel is two, so a record that it ended after one turn doesn't fit.
 pub fuel-incoherent : incoherent_from 0 (first longer) (early ∷ []) ≡ Some 0

@@ -12,27 +12,34 @@ use Rattle.machine_spec.specs.Step.{lay, fits}
 use Rattle.machine_spec.specs.Setup.{first}
 use Rattle.history_spec.specs.History.{History, can_lay_from, laid_from, is_coherent}
 use Rattle.ith_fields.specs.Place.{Place}
+use Rattle.memo_spec.specs.declared.Format.{Format}
+use Rattle.memo_spec.specs.declared.Format.TheVariants.{Version1, Version2}
 use Rattle.memo_spec.specs.declared.Refusal.{Refusal}
 use Rattle.memo_spec.specs.declared.Refusal.TheVariants.{Short, Magic, Version, Digest, Field, Old, Incoherent}
-use Rattle.memo_spec.specs.Spelling.{magic, version, word, body, memo, IsSpellable, Spells}
-use Rattle.memo_spec.specs.Old.{is_old, last_number}
-use Rattle.memo_spec.specs.Reading.{history_at, incoherent_from, coherent_or, todays, ended, taken_as, reading}
+use Rattle.memo_spec.specs.Spelling.{magic, word, body, memo_in, memo, IsSpellable, SpellsIn, Spells}
+use Rattle.memo_spec.specs.Old.{last_number}
+use Rattle.memo_spec.specs.Reading.{behind_version, incoherent_from, coherent_or, is_old_in, todays, ended, taken_as, version_of, format_of, reading_in, reading, IsTaken}
 use Rattle.memo_spec.proofs.Formats.{IsBytes, IsBytes-drop, IsBytes-take, wide32, behind, ok_is}
 use Rattle.memo_spec.proofs.Pool.{bytes_tell}
-use Rattle.memo_spec.proofs.Top.{head, raw_bytes, body_is, agrees_history}
+use Rattle.memo_spec.proofs.Top.{number, first_eight, rest_bytes, body_is, agrees_behind}
 
 abbrev opens : List ℕ → Place
 opens left = record { taken = 8; left = left }
 
-read_again : (h : History) → IsSpellable h
-    → history_at (opens (raw_bytes h)) ≡ Ok (h, behind (opens (raw_bytes h)) (raw_bytes h) [])
-read_again h fit = agrees_history.again (opens (raw_bytes h)) h [] fit (sym (append-nil (raw_bytes h)))
+read_again : (format : Format) (h : History) → IsSpellable h
+    → behind_version format (opens (rest_bytes format h))
+    ≡ Ok (h, behind (opens (rest_bytes format h)) (rest_bytes format h) [])
+read_again format h fit = (agrees_behind format).again (opens (rest_bytes format h)) h [] fit
+    (sym (append-nil (rest_bytes format h)))
 
-body_taken : (h : History) → IsSpellable h → taken_as (body h) ≡ todays h
+rest_is : (format : Format) (h : History) → drop 8 (body format h) ≡ rest_bytes format h
+rest_is format h = ap (drop 8) (body_is format h) ∙ drop_at (first_eight format) (rest_bytes format h) 8 refl
+
+body_taken : (format : Format) (h : History) → IsSpellable h → taken_as format (body format h) ≡ todays format h
 unfolding taken_as
-body_taken h fit =
-    let left : drop 8 (body h) ≡ raw_bytes h = ap (drop 8) (body_is h) ∙ drop_at head (raw_bytes h) 8 refl in
-    ap (λ (l : List ℕ). ended (history_at (opens l))) left ∙ ap ended (read_again h fit)
+body_taken format h fit =
+    ap (λ (l : List ℕ). ended format (behind_version format (opens l))) (rest_is format h)
+    ∙ ap (ended format) (read_again format h fit)
 
 same_bytes : (xs : List ℕ) → bytes_eq xs xs ≡ true
 same_bytes xs = elim (bytes_tell xs xs) [ inl h ↦ h.0 | inr h ↦ absurd (h.1 refl) ]
@@ -45,41 +52,65 @@ digest_parts text =
     (take_at text (sha256 text) _ n, drop_at text (sha256 text) _ n)
 
 -- The four tests of a file that is a memo, up to its fields.
-pass : (bytes text : List ℕ) → 40 ≤ length bytes → take 4 bytes ≡ magic → from_le_bytes w32 (drop 4 bytes) ≡ 1
+pass : (format : Format) (bytes text : List ℕ) → 40 ≤ length bytes → take 4 bytes ≡ magic
+    → format_of (version_of bytes) ≡ Some format
     → take (length bytes - 32) bytes ≡ text → drop (length bytes - 32) bytes ≡ sha256 text
-    → reading bytes ≡ taken_as text
+    → reading bytes ≡ taken_as format text
 unfolding reading
-pass bytes text long m v t d = rw (le-ltb _ _ long, m, v, t, d, same_bytes (sha256 text)) refl
+pass format bytes text long m v t d = rw (le-ltb _ _ long, m, v, t, d, same_bytes (sha256 text)) refl
 
-pub memo_read : (h : History) → IsSpellable h → reading (memo h) ≡ todays h
-unfolding memo
-memo_read h fit =
-    let k = digest_parts (body h) in
-    let n : length (body h) ≡ 8 + length (raw_bytes h) = ap length (body_is h) ∙ length-append head (raw_bytes h) in
-    let long : 40 ≤ length (body h ++ sha256 (body h)) =
-    omega (arith, length-append (body h) (sha256 (body h)), length-sha256 (body h), n) in
-    pass (body h ++ sha256 (body h)) (body h) long refl refl k.0 k.1 ∙ body_taken h fit
+-- The first eight bytes of a memo.
+opens_so : (format : Format) (h : History) → (take 4 (memo_in format h) ≡ magic)
+    × (format_of (version_of (memo_in format h)) ≡ Some format)
+unfolding memo_in
+opens_so Version1 h = (refl, refl)
+opens_so Version2 h = (refl, refl)
+
+memo_read : (format : Format) (h : History) → IsSpellable h → reading (memo_in format h) ≡ todays format h
+unfolding memo_in
+memo_read format h fit =
+    let text = body format h in
+    let k = digest_parts text in
+    let n : length text ≡ 8 + length (rest_bytes format h) =
+    ap length (body_is format h) ∙ length-append (first_eight format) (rest_bytes format h) in
+    let long : 40 ≤ length (text ++ sha256 text) =
+    omega (arith, length-append text (sha256 text), length-sha256 text, n) in
+    let o = opens_so format h in
+    pass format (text ++ sha256 text) text long o.0 o.1 k.0 k.1 ∙ body_taken format h fit
 
 -- The history that bytes spell can be had from them.
-text_of : (h : History) → IsSpellable h → history_at (opens (drop 8 (take (length (memo h) - 32) (memo h)))) ≡ Ok
-    (h, behind (opens (raw_bytes h)) (raw_bytes h) [])
-unfolding memo
-text_of h fit =
-    let left : drop 8 (take (length (memo h) - 32) (memo h)) ≡ raw_bytes h = ap (drop 8) (digest_parts (body h)).0
-    ∙ ap (drop 8) (body_is h) ∙ drop_at head (raw_bytes h) 8 refl in
-    ap (λ (l : List ℕ). history_at (opens l)) left ∙ read_again h fit
+text_of : (format : Format) (h : History) → IsSpellable h
+    → behind_version format (opens (drop 8 (take (length (memo_in format h) - 32) (memo_in format h))))
+    ≡ Ok (h, behind (opens (rest_bytes format h)) (rest_bytes format h) [])
+unfolding memo_in
+text_of format h fit =
+    let left = ap (drop 8) (digest_parts (body format h)).0 ∙ rest_is format h in
+    ap (λ (l : List ℕ). behind_version format (opens l)) left ∙ read_again format h fit
 
 abbrev found : History × Place → Result (History × Place) Refusal
 found x = Ok x
 
+one_in : (format : Format) (bytes : List ℕ) (a b : History) → SpellsIn format bytes a → SpellsIn format bytes b → a ≡ b
+one_in format bytes a b p q =
+    let e : memo_in format a ≡ memo_in format b = sym p.is ∙ q.is in
+    let both : found (a, behind (opens (rest_bytes format a)) (rest_bytes format a) [])
+    ≡ found (b, behind (opens (rest_bytes format b)) (rest_bytes format b) []) =
+    sym (text_of format a p.fits)
+    ∙ ap (λ (l : List ℕ). behind_version format (opens (drop 8 (take (length l - 32) l)))) e
+    ∙ text_of format b q.fits in
+    ap (λ (x : History × Place). x.0) (ok_is _ _ both)
+
+-- The bytes tell the format.
+one_format : (f g : Format) (bytes : List ℕ) (a b : History) → SpellsIn f bytes a → SpellsIn g bytes b → f ≡ g
+one_format f g bytes a b p q =
+    let e : Some f ≡ Some g = sym (opens_so f a).1 ∙ ap (λ (l : List ℕ). format_of (version_of l)) (sym p.is ∙ q.is)
+    ∙ (opens_so g b).1 in
+    cc
+
 pub one_history : (bytes : List ℕ) (a b : History) → Spells bytes a → Spells bytes b → a ≡ b
 one_history bytes a b p q =
-    let e : memo a ≡ memo b = sym p.is ∙ q.is in
-    let both : found (a, behind (opens (raw_bytes a)) (raw_bytes a) []) ≡ found
-    (b, behind (opens (raw_bytes b)) (raw_bytes b) []) =
-    sym (text_of a p.fits) ∙ ap (λ (l : List ℕ). history_at (opens (drop 8 (take (length l - 32) l)))) e
-    ∙ text_of b q.fits in
-    ap (λ (x : History × Place). x.0) (ok_is _ _ both)
+    let same = one_format p.0 q.0 bytes a b p.1 q.1 in
+    one_in q.0 bytes a b (subst (λ (f : Format). SpellsIn f bytes a) same p.1) q.1
 
 -- ---- coherence
 
@@ -110,16 +141,25 @@ whole_taken (Some i) h k e = absurd cc
 abbrev HoldsTogether : History → Type 0
 HoldsTogether h = is_none (incoherent_from 0 (first h.setup) h.records) ≡ true
 
-todays_taken : (h : History) → is_old h ≡ false → HoldsTogether h → todays h ≡ Ok h
-todays_taken h new whole =
+todays_taken : (format : Format) (h : History) → is_old_in format h ≡ false → HoldsTogether h → todays format h ≡ Ok h
+todays_taken format h new whole =
     ap (λ b. cond b (Err (Old (last_number h))) (coherent_or (incoherent_from 0 (first h.setup) h.records) h)) new
     ∙ taken_whole (incoherent_from 0 (first h.setup) h.records) h whole
 
-pub spelled_is_read :
-    (bytes : List ℕ) (h : History) → Spells bytes h → is_old h ≡ false → is_coherent h ≡ true → reading bytes ≡ Ok h
-spelled_is_read bytes h s new coherent =
-    ap reading s.is ∙ memo_read h s.fits
-    ∙ todays_taken h new (coherent_is h.records (first h.setup) 0 ∙ coherent)
+pub spelled_is_read : (bytes : List ℕ) (h : History) → IsTaken bytes h → reading bytes ≡ Ok h
+spelled_is_read bytes h t =
+    ap reading t.spells.is ∙ memo_read t.format h t.spells.fits
+    ∙ todays_taken t.format h t.of_today (coherent_is h.records (first h.setup) 0 ∙ t.coherent)
+
+-- What is written of a history that holds together is taken as it.
+pub memo_taken : (h : History) → IsSpellable h → is_coherent h ≡ true → IsTaken (memo h) h
+unfolding memo
+memo_taken h fit coherent = record {
+  format = Version2;
+  spells = record { fits = fit; is = refl };
+  of_today = refl;
+  coherent = coherent;
+}
 
 -- ---- what is read is spelled so
 
@@ -128,22 +168,24 @@ test_ok : (b : Bool) (e : Refusal) (x : Result History Refusal) (h : History) �
 test_ok true e x h p = absurd cc
 test_ok false e x h p = (refl, p)
 
-todays_ok : (h k : History) → todays h ≡ Ok k → (is_old h ≡ false) × HoldsTogether h × (h ≡ k)
-todays_ok h k e =
+todays_ok : (format : Format) (h k : History) → todays format h ≡ Ok k → (is_old_in format h ≡ false)
+    × HoldsTogether h × (h ≡ k)
+todays_ok format h k e =
     let whole = incoherent_from 0 (first h.setup) h.records in
-    let new = test_ok (is_old h) (Old (last_number h)) (coherent_or whole h) k e in
+    let new = test_ok (is_old_in format h) (Old (last_number h)) (coherent_or whole h) k e in
     let taken = whole_taken whole h k new.1 in
     (new.0, taken.0, taken.1)
 
-ended_ok : (r : Result (History × Place) Refusal) (h : History) → ended r ≡ Ok h → (x : History × Place) × (r ≡ Ok x)
-    × (x.0 ≡ h) × (x.1.left ≡ []) × HoldsTogether x.0 × (is_old x.0 ≡ false)
-ended_ok (Err e) h p = absurd cc
-ended_ok (Ok x) h p = at_end (length x.1.left == 0) refl p
+ended_ok : (format : Format) (r : Result (History × Place) Refusal) (h : History) → ended format r ≡ Ok h
+    → (x : History × Place) × (r ≡ Ok x)
+    × (x.0 ≡ h) × (x.1.left ≡ []) × HoldsTogether x.0 × (is_old_in format x.0 ≡ false)
+ended_ok format (Err e) h p = absurd cc
+ended_ok format (Ok x) h p = at_end (length x.1.left == 0) refl p
   where
-    at_end : (b : Bool) → (length x.1.left == 0) ≡ b → cond b (todays x.0) (Err (Field x.1.taken)) ≡ Ok h
+    at_end : (b : Bool) → (length x.1.left == 0) ≡ b → cond b (todays format x.0) (Err (Field x.1.taken)) ≡ Ok h
         → (y : History × Place) × (found x ≡ Ok y) × (y.0 ≡ h) × (y.1.left ≡ []) × HoldsTogether y.0
-        × (is_old y.0 ≡ false)
-    at_end true e p = let k = todays_ok x.0 h p in
+        × (is_old_in format y.0 ≡ false)
+    at_end true e p = let k = todays_ok format x.0 h p in
         (x, refl, k.2, nil_from_length x.1.left (eqb-true _ _ e), k.1, k.0)
     at_end false e p = absurd cc
 
@@ -158,59 +200,78 @@ equal_bytes xs ys e = elim (bytes_tell xs ys) [ inl h ↦ h.1 | inr h ↦ absurd
     differ true p q = absurd cc
     differ false p q = absurd cc
 
-eight : (bytes text tail : List ℕ) → IsBytes bytes → bytes ≡ text ++ tail → 8 ≤ length text → take 4 bytes ≡ magic
-    → from_le_bytes w32 (drop 4 bytes) ≡ 1 → text ≡ head ++ drop 8 text
-eight bytes text tail fits e le m v =
+-- The format of a version has it for its number.
+version_is : (v : ℕ) (format : Format) → format_of v ≡ Some format → v ≡ number format
+version_is v format e = first_of_two (v == 1) refl e
+  where
+    second : (b : Bool) → (v == 2) ≡ b → cond b (Some Version2) None ≡ Some format → v ≡ number format
+    second true is e = let f : Version2 ≡ format = cc in eqb-true v 2 is ∙ ap number f
+    second false is e = absurd cc
+
+    first_of_two : (b : Bool) → (v == 1) ≡ b
+        → cond b (Some Version1) (cond (v == 2) (Some Version2) None) ≡ Some format → v ≡ number format
+    first_of_two true is e = let f : Version1 ≡ format = cc in eqb-true v 1 is ∙ ap number f
+    first_of_two false is e = second (v == 2) refl e
+
+eight : (v : ℕ) (bytes text tail : List ℕ) → IsBytes bytes → bytes ≡ text ++ tail → 8 ≤ length text
+    → take 4 bytes ≡ magic → version_of bytes ≡ v → text ≡ magic ++ word v ++ drop 8 text
+eight v bytes text tail fits e le m is =
     let whole : length bytes ≡ length text + length tail = ap length e ∙ length-append text tail in
-    let word_is : word 1 ≡ take 4 (drop 4 bytes) = ap word (sym v)
+    let word_is : word v ≡ take 4 (drop 4 bytes) = ap word (sym is)
     ∙ wide32.back (drop 4 bytes) (omega (arith, length-drop 4 bytes, whole)) (IsBytes-drop 4 bytes fits) in
     let first_four : take 4 text ≡ magic = sym (take-append-le 4 text tail (omega arith)) ∙ ap (take 4) (sym e) ∙ m in
     let rest_is : drop 4 bytes ≡ drop 4 text ++ tail = ap (drop 4) e ∙ drop-append-le 4 text tail (omega arith) in
-    let second_four : take 4 (drop 4 text) ≡ word 1 =
+    let second_four : take 4 (drop 4 text) ≡ word v =
     sym (take-append-le 4 (drop 4 text) tail (omega (arith, length-drop 4 text))) ∙ ap (take 4) (sym rest_is)
     ∙ sym word_is in
     sym (take-append-drop 4 text) ∙ ap (λ (l : List ℕ). l ++ drop 4 text) first_four
     ∙ ap (λ (l : List ℕ). magic ++ l)
     (sym (take-append-drop 4 (drop 4 text)) ∙ ap (λ (l : List ℕ). l ++ drop 4 (drop 4 text)) second_four
-    ∙ ap (λ (l : List ℕ). word 1 ++ l) (drop-drop 4 4 text))
+    ∙ ap (λ (l : List ℕ). word v ++ l) (drop-drop 4 4 text))
 
-abbrev IsReadOf : List ℕ → History → Type 0
-IsReadOf bytes h = Spells bytes h × (is_old h ≡ false) × (is_coherent h ≡ true)
-
-taken_ok : (text : List ℕ) (h : History) → IsBytes (drop 8 text) → text ≡ head ++ drop 8 text → taken_as text ≡ Ok h
-    → IsSpellable h × (text ≡ body h) × (is_old h ≡ false) × (is_coherent h ≡ true)
+taken_ok : (format : Format) (text : List ℕ) (h : History) → IsBytes (drop 8 text)
+    → text ≡ first_eight format ++ drop 8 text → taken_as format text ≡ Ok h
+    → IsSpellable h × (text ≡ body format h) × (is_old_in format h ≡ false) × (is_coherent h ≡ true)
 unfolding taken_as
-taken_ok text h fits opening p =
-    let x = ended_ok (history_at (opens (drop 8 text))) h p in
-    let t = agrees_history.takes (opens (drop 8 text)) x.0.0 x.0.1 fits x.1 in
-    let left : drop 8 text ≡ raw_bytes x.0.0 = t.0.takes.front ∙ ap (λ (l : List ℕ). raw_bytes x.0.0 ++ l) x.3
-    ∙ append-nil (raw_bytes x.0.0) in
-    let whole : text ≡ body x.0.0 = opening ∙ ap (λ (l : List ℕ). head ++ l) left ∙ sym (body_is x.0.0) in
+taken_ok format text h fits opening p =
+    let x = ended_ok format (behind_version format (opens (drop 8 text))) h p in
+    let t = (agrees_behind format).takes (opens (drop 8 text)) x.0.0 x.0.1 fits x.1 in
+    let left : drop 8 text ≡ rest_bytes format x.0.0 =
+    t.0.takes.front ∙ ap (λ (l : List ℕ). rest_bytes format x.0.0 ++ l) x.3
+    ∙ append-nil (rest_bytes format x.0.0) in
+    let whole : text ≡ body format x.0.0 =
+    opening ∙ ap (λ (l : List ℕ). first_eight format ++ l) left ∙ sym (body_is format x.0.0) in
     let coherent : is_coherent x.0.0 ≡ true = sym (coherent_is x.0.0.records (first x.0.0.setup) 0) ∙ x.4 in
-    subst (λ (k : History). IsSpellable k × (text ≡ body k) × (is_old k ≡ false) × (is_coherent k ≡ true)) x.2
-    (t.1, whole, x.5, coherent)
+    subst (λ (k : History). IsSpellable k × (text ≡ body format k) × (is_old_in format k ≡ false)
+    × (is_coherent k ≡ true)) x.2 (t.1, whole, x.5, coherent)
 
-pub read_is_spelled : (bytes : List ℕ) (h : History) → IsBytes bytes → reading bytes ≡ Ok h → IsReadOf bytes h
-unfolding reading memo
+format_ok : (o : Option Format) (bytes : List ℕ) (h : History) → reading_in o bytes ≡ Ok h
+    → (format : Format) × (o ≡ Some format) × (reading_in (Some format) bytes ≡ Ok h)
+format_ok None bytes h p = absurd cc
+format_ok (Some format) bytes h p = (format, refl, p)
+
+pub read_is_spelled : (bytes : List ℕ) (h : History) → IsBytes bytes → reading bytes ≡ Ok h → IsTaken bytes h
+unfolding reading memo_in
 read_is_spelled bytes h fits p =
     let n = length bytes - 32 in
     let text = take n bytes in
     let tail = drop n bytes in
     let a = test_ok (ltb (length bytes) 40) Short _ h p in
     let b = test_ok (not (bytes_eq (take 4 bytes) magic)) Magic _ h a.1 in
-    let c = test_ok (not (from_le_bytes w32 (drop 4 bytes) == version))
-    (Version (from_le_bytes w32 (drop 4 bytes))) _ h b.1 in
-    let d = test_ok (not (bytes_eq tail (sha256 text))) Digest _ h c.1 in
+    let c = format_ok (format_of (version_of bytes)) bytes h b.1 in
+    let d = test_ok (not (bytes_eq tail (sha256 text))) Digest _ h c.2 in
     let long : 40 ≤ length bytes = ltb-false _ _ a.0 in
     let e : bytes ≡ text ++ tail = sym (take-append-drop n bytes) in
     let size : 8 ≤ length text = omega (arith, length-take n bytes) in
-    let opening = eight bytes text tail fits e size (equal_bytes _ _ b.0) (eqb-true _ _ (not_false _ c.0)) in
-    let t = taken_ok text h (IsBytes-drop 8 text (IsBytes-take n bytes fits)) opening d.1 in (
-      record {
+    let opening = eight (number c.0) bytes text tail fits e size (equal_bytes _ _ b.0)
+    (version_is (version_of bytes) c.0 c.1) in
+    let t = taken_ok c.0 text h (IsBytes-drop 8 text (IsBytes-take n bytes fits)) opening d.1 in
+    record {
+      format = c.0;
+      spells = record {
         fits = t.0;
-        is = e ∙ ap (λ (l : List ℕ). text ++ l) (equal_bytes _ _ d.0)
-            ∙ ap (λ (l : List ℕ). l ++ sha256 l) t.1;
-      },
-      t.2,
-      t.3,
-    )
+        is = e ∙ ap (λ (l : List ℕ). text ++ l) (equal_bytes _ _ d.0) ∙ ap (λ (l : List ℕ). l ++ sha256 l) t.1;
+      };
+      of_today = t.2;
+      coherent = t.3;
+    }

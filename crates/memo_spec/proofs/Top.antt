@@ -9,11 +9,13 @@ use Rattle.std.proofs.lemmas.List.{append-nil, length-append, nil_from_length}
 use Rattle.record_spec.specs.Record.{Record}
 use Rattle.machine_spec.specs.Setup.{Setup, IsSetup, map_of}
 use Rattle.history_spec.specs.History.{History}
+use Rattle.memo_spec.specs.declared.Format.{Format}
+use Rattle.memo_spec.specs.declared.Format.TheVariants.{Version1, Version2}
 use Rattle.memo_spec.specs.declared.Refusal.TheVariants.{Limit}
 use Rattle.memo_spec.specs.declared.Limit.TheVariants as limit
-use Rattle.memo_spec.specs.Spelling.{AreBytes, word, distinct, pages_read, pool_of, record_bytes, magic, version, body, IsSpellable}
+use Rattle.memo_spec.specs.Spelling.{AreBytes, word, distinct, pages_read, pool_of, record_bytes, magic, profile, head, body, IsSpellable}
 use Rattle.memo_spec.specs.Reader.{Reader, ◌>>=◌, done, number_at, ruled, limited}
-use Rattle.memo_spec.specs.Reading.{RecordState, is_within, pool_and_records_at, setup_at, history_at}
+use Rattle.memo_spec.specs.Reading.{RecordState, is_within, pool_and_records_at, setup_at, history_at, behind_version}
 use Rattle.memo_spec.proofs.Records.{FitsRecord}
 use Rattle.memo_spec.proofs.Formats.{Agrees, Chained, agrees_then, agrees_done, agrees_said, agrees_part, agrees_tested, agrees_number, wide32}
 use Rattle.memo_spec.proofs.Pool.{IsPool}
@@ -178,20 +180,17 @@ concat_is : (pool : Pages) → concat pool ≡ pages_bytes pool
 concat_is [] = refl
 concat_is (p ∷ pool) = ap (λ (l : List ℕ). p ++ l) (concat_is pool)
 
-pieces : (a b c d e f g i j k l m : List ℕ) → (a ++ b) ++ ((c ++ d ++ e ++ f ++ g ++ i) ++ (j ++ (k ++ (l ++ m)))) ≡ a
-    ++ b ++ c ++ d ++ e ++ f ++ g ++ i ++ j ++ k ++ l ++ m
-pieces a b c d e f g i j k l m = simp append_assoc refl
+pieces : (a c d e f g i j k l m : List ℕ) → a ++ ((c ++ d ++ e ++ f ++ g ++ i) ++ (j ++ (k ++ (l ++ m)))) ≡ a
+    ++ c ++ d ++ e ++ f ++ g ++ i ++ j ++ k ++ l ++ m
+pieces a c d e f g i j k l m = simp append_assoc refl
 
-abbrev pub head : List ℕ
-head = magic ++ word version
-
-pub body_is : (h : History) → body h ≡ head ++ raw_bytes h
-body_is h =
-    ap (λ (x : List ℕ). magic ++ word version ++ word (length h.setup.elf) ++ h.setup.elf ++ word (length h.setup.input)
+body_parts : (format : Format) (h : History) → body format h ≡ head format ++ raw_bytes h
+body_parts format h =
+    ap (λ (x : List ℕ). head format ++ word (length h.setup.elf) ++ h.setup.elf ++ word (length h.setup.input)
     ++ h.setup.input ++ word h.setup.fuel ++ word h.setup.limit ++ word (length h.records)
     ++ word (length (pool_of h)) ++ x ++ flat_map (record_bytes (map_of h.setup) (pool_of h)) h.records)
     (concat_is (pool_of h))
-    ∙ sym (pieces magic (word version) (word (length h.setup.elf)) h.setup.elf
+    ∙ sym (pieces (head format) (word (length h.setup.elf)) h.setup.elf
     (word (length h.setup.input)) h.setup.input (word h.setup.fuel) (word h.setup.limit) (word (length h.records))
     (word (length (pool_of h))) (pages_bytes (pool_of h))
     (flat_map (record_bytes (map_of h.setup) (pool_of h)) h.records))
@@ -199,3 +198,37 @@ body_is h =
 pub agrees_history : Agrees history_at raw_bytes IsSpellable
 agrees_history = agrees_said history_at raw_bytes raw_bytes Raw IsSpellable agrees_raw
     (λ h raw. (spellable h raw, refl)) raw_again
+
+-- ---- all behind the version
+
+abbrev pub number : Format → ℕ
+number Version1 = 1
+number Version2 = 2
+
+abbrev pub first_eight : Format → List ℕ
+first_eight format = magic ++ word (number format)
+
+abbrev pub rest_bytes : Format → History → List ℕ
+rest_bytes Version1 h = raw_bytes h
+rest_bytes Version2 h = word profile ++ raw_bytes h
+
+head_is : (format : Format) (h : History) → head format ++ raw_bytes h ≡ first_eight format ++ rest_bytes format h
+head_is Version1 h = refl
+head_is Version2 h = refl
+
+pub body_is : (format : Format) (h : History) → body format h ≡ first_eight format ++ rest_bytes format h
+body_is format h = body_parts format h ∙ head_is format h
+
+abbrev IsProfile : ℕ → Type 0
+IsProfile n = (n < 2 ^ 32) × ((n == profile) ≡ true)
+
+pub agrees_behind : (format : Format) → Agrees (behind_version format) (rest_bytes format) IsSpellable
+unfolding behind_version
+agrees_behind Version1 = agrees_history
+agrees_behind Version2 =
+    agrees_then (ruled (number_at w32) (λ n. n == profile)) word IsProfile (λ _. history_at) (λ _ h. raw_bytes h)
+    (λ _ h. IsSpellable h) (rest_bytes Version2) IsSpellable
+    (agrees_tested (number_at w32) word (λ n. n < 2 ^ 32) (λ n. n == profile) _ (agrees_number w32 (2 ^ 32) wide32))
+    (λ _ _. agrees_history)
+    (λ n h is fit. (fit, ap (λ (m : ℕ). word m ++ raw_bytes h) (eqb-true n profile is.1)))
+    (λ h fit. (profile, (omega arith, refl), fit))

@@ -21,12 +21,14 @@ use Rattle.machine_spec.specs.declared.TheConstants.{MOST_FUEL, MOST_INPUT_BYTES
 use Rattle.machine_spec.specs.Machine.{Machine}
 use Rattle.machine_spec.specs.Step.{lay, fits}
 use Rattle.machine_spec.specs.Setup.{Setup, map_of, first}
-use Rattle.history_spec.specs.History.{History}
+use Rattle.history_spec.specs.History.{History, is_coherent}
 use Rattle.ith_fields.specs.Place.{Place}
+use Rattle.memo_spec.specs.declared.Format.{Format}
+use Rattle.memo_spec.specs.declared.Format.TheVariants.{Version1, Version2}
 use Rattle.memo_spec.specs.declared.Limit.TheVariants as limit
 use Rattle.memo_spec.specs.declared.Refusal.{Refusal}
 use Rattle.memo_spec.specs.declared.Refusal.TheVariants.{Short, Magic, Version, Digest, Limit, Image, Field, Old, Incoherent}
-use Rattle.memo_spec.specs.Spelling.{magic, version, has_page}
+use Rattle.memo_spec.specs.Spelling.{magic, profile, has_page, SpellsIn}
 use Rattle.memo_spec.specs.Old.{is_old, last_number}
 use Rattle.memo_spec.specs.Reader.{Reader, onward, ◌>>=◌, done, bytes_at, number_at, tested, ruled, limited, each, chain}
 
@@ -155,7 +157,7 @@ pool_and_records_at setup entries = do
   records ← chain (record_at (map_of setup) setup.fuel pool.0) entries (record { earlier = []; used = 0 })
   done (pool.0, records.0, records.1)
 
--- All between version and digest. All of the pool has to be used: else its count is against its rule.
+-- All between head and digest. All of the pool has to be used: else its count is against its rule.
 unfoldable pub history_at : Reader History
 history_at = do
   setup ← setup_at
@@ -164,6 +166,13 @@ history_at = do
       ruled (pool_and_records_at setup entries)
       (λ (x : List (List ℕ) × List Record × RecordState). x.2.used == length x.0)
   done (record { setup = setup; records = x.1 })
+
+-- All between version and digest.
+unfoldable pub behind_version : Format → Reader History
+behind_version Version1 = history_at
+behind_version Version2 = do
+  _ ← ruled (number_at w32) (λ n. n == profile)
+  history_at
 
 -- The first record, counted from a number on, that doesn't fit, or the number past the last where no end comes.
 abbrev pub incoherent_from : ℕ → Machine → List Record → Option ℕ
@@ -175,26 +184,51 @@ abbrev pub coherent_or : Option ℕ → History → Result History Refusal
 coherent_or None h = Ok h
 coherent_or (Some i) h = Err (Incoherent i)
 
--- A history that isn't from before the standard extension M, where it holds together.
-abbrev pub todays : History → Result History Refusal
-todays h =
-    if is_old h then Err (Old (last_number h))
+-- Whether a history is old in a format. In version 2 none is.
+abbrev pub is_old_in : Format → History → Bool
+is_old_in Version1 h = is_old h
+is_old_in Version2 h = false
+
+-- A history that isn't old in a format, where it holds together.
+abbrev pub todays : Format → History → Result History Refusal
+todays format h =
+    if is_old_in format h then Err (Old (last_number h))
     else coherent_or (incoherent_from 0 (first h.setup) h.records) h
 
 -- A history that was read to the last byte, where it is of today and holds together.
-abbrev pub ended : Result (History × Place) Refusal → Result History Refusal
-ended (Ok x) = if length x.1.left == 0 then todays x.0 else Err (Field x.1.taken)
-ended (Err refusal) = Err refusal
+abbrev pub ended : Format → Result (History × Place) Refusal → Result History Refusal
+ended format (Ok x) = if length x.1.left == 0 then todays format x.0 else Err (Field x.1.taken)
+ended format (Err refusal) = Err refusal
 
 -- What all bytes but the digest are taken as.
-unfoldable pub taken_as : List ℕ → Result History Refusal
-taken_as text = ended (history_at (record { taken = 8; left = drop 8 text }))
+unfoldable pub taken_as : Format → List ℕ → Result History Refusal
+taken_as format text = ended format (behind_version format (record { taken = 8; left = drop 8 text }))
+
+-- The version of a memo.
+abbrev pub version_of : List ℕ → ℕ
+version_of bytes = from_le_bytes w32 (drop 4 bytes)
+
+-- The format of a version, if there is one.
+abbrev pub format_of : ℕ → Option Format
+format_of version = if version == 1 then Some Version1 else if version == 2 then Some Version2 else None
+
+-- What bytes of a format are taken as, where the last 32 are the digest of those before.
+abbrev pub reading_in : Option Format → List ℕ → Result History Refusal
+reading_in None bytes = Err (Version (version_of bytes))
+reading_in (Some format) bytes =
+    if not (bytes_eq (drop (length bytes - 32) bytes) (sha256 (take (length bytes - 32) bytes))) then Err Digest
+    else taken_as format (take (length bytes - 32) bytes)
 
 -- What bytes are taken as: a history, or the first refusal.
 unfoldable pub reading : List ℕ → Result History Refusal
 reading bytes =
     if nat_lt (length bytes) 40 then Err Short
     else if not (bytes_eq (take 4 bytes) magic) then Err Magic
-    else if not (from_le_bytes w32 (drop 4 bytes) == version) then Err (Version (from_le_bytes w32 (drop 4 bytes)))
-    else if not (bytes_eq (drop (length bytes - 32) bytes) (sha256 (take (length bytes - 32) bytes))) then Err Digest
-    else taken_as (take (length bytes - 32) bytes)
+    else reading_in (format_of (version_of bytes)) bytes
+
+-- Bytes that are to be taken as a history: they spell it, it isn't old in their format, and it holds together.
+pub record IsTaken (bytes : List ℕ) (h : History) : Type 0 where
+  pub format : Format
+  pub spells : SpellsIn format bytes h
+  pub of_today : is_old_in format h ≡ false
+  pub coherent : is_coherent h ≡ true

@@ -1,4 +1,4 @@
--- The one spelling of a history as the bytes of a memo file, and which histories have one.
+-- The spelling of a history as the bytes of a memo file, one in each version, and which histories have one.
 use Rattle.std.specs.Prelude.{◌≡◌, ℕ, ◌+◌, ◌*◌, ◌<◌, ◌≤◌, ◌^◌, ⊤, Bool, true, if◌then◌else◌, List, [], ◌∷◌, ◌++◌, length, map, drop, slice_index, slice_index_or, bytes_eq}
 use Rattle.std.specs.List.{flat_map, fold, concat, list_any, position_or_len, count_by, AllByRecursion}
 use Rattle.std.specs.Int.{w8, w16, w32, to_le_bytes}
@@ -16,6 +16,8 @@ use Rattle.record_spec.specs.Ascending.{reads_ascend, deltas_ascend}
 use Rattle.guest_call.specs.declared.thread_number.TheConstants.{THREADS}
 use Rattle.machine_spec.specs.Setup.{Setup, IsSetup, map_of}
 use Rattle.history_spec.specs.History.{History, is_numbered}
+use Rattle.memo_spec.specs.declared.Format.{Format}
+use Rattle.memo_spec.specs.declared.Format.TheVariants.{Version1, Version2}
 
 -- A number as one byte.
 abbrev pub byte : ℕ → List ℕ
@@ -33,9 +35,14 @@ word n = to_le_bytes w32 n
 abbrev pub magic : List ℕ
 magic = 0x49 ∷ 0x54 ∷ 0x48 ∷ 0x4d ∷ []
 
--- The version of the format.
-abbrev pub version : ℕ
-version = 1
+-- Which machine the history is of, from version 2 on.
+abbrev pub profile : ℕ
+profile = 3
+
+-- The head of a memo: magic number and version, and from version 2 on the profile.
+abbrev pub head : Format → List ℕ
+head Version1 = magic ++ word 1
+head Version2 = magic ++ word 2 ++ word profile
 
 -- Whether a page is among others.
 abbrev pub has_page : List (List ℕ) → List ℕ → Bool
@@ -102,18 +109,22 @@ record_bytes map pool r =
     ++ half (length r.kept.delta) ++ flat_map (stored_page map) r.kept.delta
 
 -- All but the digest.
-abbrev pub body : History → List ℕ
-body h =
-    magic ++ word version
+abbrev pub body : Format → History → List ℕ
+body format h =
+    head format
     ++ word (length h.setup.elf) ++ h.setup.elf
     ++ word (length h.setup.input) ++ h.setup.input
     ++ word h.setup.fuel ++ word h.setup.limit ++ word (length h.records)
     ++ word (length (pool_of h)) ++ concat (pool_of h)
     ++ flat_map (record_bytes (map_of h.setup) (pool_of h)) h.records
 
--- The memo of a history.
+-- The memo of a history in a format.
+unfoldable pub memo_in : Format → History → List ℕ
+memo_in format h = body format h ++ sha256 (body format h)
+
+-- The memo of a history, as it is written.
 unfoldable pub memo : History → List ℕ
-memo h = body h ++ sha256 (body h)
+memo h = memo_in Version2 h
 
 -- Numbers that are bytes.
 abbrev pub AreBytes : List ℕ → Type 0
@@ -170,7 +181,11 @@ pub record IsSpellable (h : History) : Type 0 where
   pub numbered : is_numbered h.records ≡ true
   pub records : AllByRecursion (IsRecord (map_of h.setup) h.setup.fuel) h.records
 
--- These bytes spell this history.
-pub record Spells (bytes : List ℕ) (h : History) : Type 0 where
+-- These bytes spell this history in a format.
+pub record SpellsIn (format : Format) (bytes : List ℕ) (h : History) : Type 0 where
   pub fits : IsSpellable h
-  pub is : bytes ≡ memo h
+  pub is : bytes ≡ memo_in format h
+
+-- These bytes spell this history.
+abbrev pub Spells : List ℕ → History → Type 0
+Spells bytes h = (format : Format) × SpellsIn format bytes h

@@ -1,14 +1,22 @@
 //! The memo file: what its bytes spell, and which refusal bytes get that are taken for none.
 #![tactic(auto)]
 
-ghost use Rattle.std.specs.Prelude.{◌≡◌, ℕ, List, true, false, Ok};
-ghost use Rattle.history_spec.specs.History.{History, is_coherent};
-ghost use Rattle.memo_spec.specs.Spelling.{Spells};
-ghost use Rattle.memo_spec.specs.Reading.{reading};
-ghost use Rattle.memo_spec.specs.Old.{is_old};
+ghost use Rattle.std.specs.Prelude.{◌≡◌, ℕ, List, Ok};
+ghost use Rattle.history_spec.specs.History.{History};
+ghost use Rattle.memo_spec.specs.Spelling.{IsSpellable, memo_in, SpellsIn, Spells};
+ghost use Rattle.memo_spec.specs.Reading.{reading, IsTaken};
 
 /// The most bytes of a memo.
 pub const MOST_MEMO_BYTES: usize = 268_435_456;
+
+/// The format of a memo file, by its version.
+#[derive(Clone, Copy, Debug, PartialEq, Eq)]
+pub enum Format {
+    /// Version 1, which is read and no longer written.
+    Version1,
+    /// Version 2, which has a profile behind the version.
+    Version2,
+}
 
 /// A number that has a limit.
 #[derive(Clone, Copy, Debug, PartialEq, Eq)]
@@ -32,7 +40,7 @@ pub enum Refusal {
     Short,
     /// The first four bytes aren't the magic number.
     Magic,
-    /// The version isn't 1.
+    /// The version is neither 1 nor 2.
     Version(u32),
     /// The last 32 bytes aren't the digest of those before.
     Digest,
@@ -42,31 +50,30 @@ pub enum Refusal {
     Image(elf_spec::Refusal),
     /// The field at this offset is cut off or against its rule.
     Field(usize),
-    /// This record, the last, ended by an illegal instruction that is one of the standard extension M: the memo is from
-    /// before M.
+    /// In a file of version 1 this record, the last, ended by an illegal instruction that is one of the standard
+    /// extension M: the memo is from before M.
     Old(u32),
     /// This record doesn't fit what those before it leave, or no end comes.
     Incoherent(u32),
 }
 
-/// Bytes spell at most one history.
+/// Bytes spell at most one history, whatever the version.
 pub fn bytes_spell_one_history()
     ensures { (bytes : List ℕ) (a b : History) → Spells bytes a → Spells bytes b → a ≡ b }
 {}
 
-/// A history has at most one spelling.
+/// In each version a history has one spelling, if it can be spelled, and else none.
 pub fn history_has_one_spelling()
-    ensures { (a b : List ℕ) (h : History) → Spells a h → Spells b h → a ≡ b }
+    ensures one { (format : Format) (a b : List ℕ) (h : History) → SpellsIn format a h → SpellsIn format b h → a ≡ b }
+    ensures some { (format : Format) (h : History) → IsSpellable h → SpellsIn format (memo_in format h) h }
 {}
 
-/// What spells a history of today that holds together is taken as it.
+/// Bytes are taken as a history that they spell and that holds together, and in version 1 isn't old.
 pub fn spelled_is_taken()
-    ensures { (bytes : List ℕ) (h : History) → Spells bytes h → is_old h ≡ false → is_coherent h ≡ true
-        → reading bytes ≡ Ok h }
+    ensures { (bytes : List ℕ) (h : History) → IsTaken bytes h → reading bytes ≡ Ok h }
 {}
 
-/// What bytes are taken as they spell, and it is of today and holds together.
+/// What bytes are taken as they spell, and it holds together, and in version 1 isn't old.
 pub fn taken_is_spelled(bytes: &[u8])
-    ensures { (h : History) → reading bytes.now ≡ Ok h
-        → Spells bytes.now h × (is_old h ≡ false) × (is_coherent h ≡ true) }
+    ensures { (h : History) → reading bytes.now ≡ Ok h → IsTaken bytes.now h }
 {}

@@ -22,7 +22,7 @@ use Rattle.history_spec.proofs.Truth.{honest-coherent}
 use Rattle.memo_spec.specs.Spelling.{memo, IsSpellable}
 use Rattle.memo_spec.specs.Reading.{reading}
 use Rattle.memo_spec.specs.Old.{is_of_m, told_byte, told_word, is_illegal, tells_m, is_old_record, ends_old, is_old}
-use Rattle.memo_spec.proofs.Laws.{spelled_is_read}
+use Rattle.memo_spec.proofs.Laws.{spelled_is_read, memo_taken}
 use Rattle.round_memo_spec.proofs.Illegal.{StandsAtIllegal, thunk-stands, undecoded-m}
 use Rattle.round_memo_spec.proofs.Telling.{Tells, laid-tells, word-tells}
 
@@ -95,4 +95,4 @@ honest-todays h honest =
 -- and its memo is read as it
 pub honest-read : (h : History) → IsHonest h → IsSpellable h → reading (memo h) ≡ Ok h
 honest-read h honest fit =
-    spelled_is_read (memo h) h (record { fits = fit; is = refl }) (honest-todays h honest) (honest-coherent h honest)
+    spelled_is_read (memo h) h (memo_taken h fit (honest-coherent h honest))

@@ -37,8 +37,8 @@ pub fn what_a_round_leaves_can_be_spelled()
 {}
 
 /// An honest history doesn't come from before the standard extension M: where its last thunk ended by an
-/// illegal instruction, its record tells no word of M there. So its memo isn't refused as an old one, and
-/// is read as the history that it spells.
+/// illegal instruction, its record tells no word of M there. So a memo of version 1 isn't refused as an old
+/// one where it spells such a history. The memo of version 2, in which none is old, is read as it.
 pub fn honest_memo_is_of_today()
     ensures todays { (h : History) → IsHonest h → is_old h ≡ false }
     ensures read { (h : History) → IsHonest h → IsSpellable h → reading (memo h) ≡ Ok h }

@@ -3,13 +3,14 @@
 ghost use Rattle.std.specs.Prelude.{◌≡◌, ◌<◌, ◌≤◌, ◌+◌, ◌++◌, [], ◌^◌, length, OnOk};
 ghost use Rattle.std.specs.List.{flat_map, concat};
 ghost use Rattle.machine_spec.specs.Setup.{map_of};
-ghost use Rattle.memo_spec.specs.Spelling.{IsSpellable, word, magic, version, record_bytes, body};
+ghost use Rattle.memo_spec.specs.Spelling.{IsSpellable, word, magic, profile, record_bytes, body};
+ghost use Rattle.memo_spec.specs.declared.Format.TheVariants.{Version2};
 ghost use Rattle.memo_file.specs.WritingPool.{pages_lent, IsPoolOf};
 
 use super::numbers::put_word;
 use super::pool::Pool;
 use super::record::write_record;
-use crate::opening::{MAGIC, VERSION};
+use crate::opening::{MAGIC, PROFILE, VERSION};
 use page_map::PageMap;
 use release_core::{History, Setup};
 use std::alloc::AllocError;
@@ -25,13 +26,14 @@ fn write_sized(out: &mut Vec<u8>, bytes: &[u8]) -> Result<(), AllocError>
 
 /// Appends all before the number of records.
 fn write_setup(out: &mut Vec<u8>, setup: &Setup) -> Result<(), AllocError>
-    ensures { OnOk result (out.new.items ≡ out.old.items ++ magic ++ word version
+    ensures { OnOk result (out.new.items ≡ out.old.items ++ magic ++ word 2 ++ word profile
         ++ word (length setup.now.elf) ++ setup.now.elf ++ word (length setup.now.input) ++ setup.now.input
         ++ word setup.now.fuel ++ word setup.now.limit) }
 {
     setup.sound();
     out.extend_from_slice(&MAGIC)?;
     put_word(out, VERSION)?;
+    put_word(out, PROFILE)?;
     write_sized(out, setup.elf())?;
     write_sized(out, setup.input())?;
     let limits = setup.limits();
@@ -87,7 +89,7 @@ pub fn write_body(
     requires slots { slots.now ≡ map_of history.now.setup }
     requires pool { IsPoolOf history.now (pages_lent pool.now.pages.items) pool.now.places.items }
     requires empty { out.old.items ≡ [] }
-    ensures { OnOk result (out.new.items ≡ body history.now) }
+    ensures { OnOk result (out.new.items ≡ body Version2 history.now) }
 {
     write_setup(out, history.setup())?;
     history.keeps();

@@ -56,7 +56,7 @@ pub fn size_of_memo(history: &History, pool: usize) -> u64
     let setup = history.setup();
     setup.sound();
     let records = history.records();
-    let mut size = 64 + setup.elf().len() as u64 + setup.input().len() as u64 + 4096 * pool as u64;
+    let mut size = 68 + setup.elf().len() as u64 + setup.input().len() as u64 + 4096 * pool as u64;
     for place in 0..records.len() {
         size += size_of_record(records.at(place));
     }

@@ -1,4 +1,4 @@
--- Answers to the goals that the check leaves of `refuse_old`.
+-- Answers to the goals that the check leaves of `refuse_before_m`.
 use Rattle.std.proofs.Common.{◌≡◌, ℕ, suc, ◌-◌, length, Some, sym, ap, ◌∙◌, arith}
 use Rattle.std.specs.Prelude.{slice_get}
 use Rattle.machine_spec.specs.Setup.{IsSetup}
@@ -6,7 +6,7 @@ use Rattle.memo_spec.specs.declared.Refusal.TheVariants.{Old}
 use Rattle.memo_file.specs.declared.error.ReadError.TheVariants.{Refused}
 use Rattle.memo_file.proofs.Aging.{age_is, none_old}
 use Rattle.memo_file.proofs.Sizes.{small_pages}
-use Rattle.memo_file.proofs.age.refuse_old.Goals as goal
+use Rattle.memo_file.proofs.age.refuse_before_m.Goals as goal
 
 pub returns-then-count-eq0-clause-today : goal.returns-then-count-eq0-clause-today
 returns-then-count-eq0-clause-today c = none_old c.args.history.now
