@@ -428,10 +428,12 @@ def known_byte(memo, record, address):
 
 
 def check_old(memo):
-    """in a file of version 1 an end at a word that wasn't an instruction once, and is one of RV32M: opcode OP, funct7 1"""
+    """in a file of version 1 an end at a word that wasn't an instruction once, and is one of RV32M: opcode OP, funct7 1; or by a call that
+    wasn't one, of a reader-writer lock"""
     _, end, _, _, finish, *_ = memo.records[-1]
     word = [known_byte(memo, memo.records[-1], finish[0] + k) for k in range(4)]
-    if end == 2 and None not in word and word[0] % 128 == 51 and word[3] // 2 == 1:
+    is_of_m = None not in word and word[0] % 128 == 51 and word[3] // 2 == 1
+    if end == 2 and is_of_m or end == 8 and 18 <= finish[17] <= 21:
         raise Refused(f"Old {len(memo.records) - 1}")
 
 

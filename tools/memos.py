@@ -75,7 +75,7 @@ class Memo:
 
     def __init__(self, data):
         self.data, self.start, self.place, self.pool, self.used, self.numbers = data, 0, 0, {}, 0, [-1] * 32
-        self.ended, self.parts, self.elf, self.records = (0, 0, 0), [], b"", []
+        self.ended, self.parts, self.elf, self.records = (0, 0, 0, 0), [], b"", []
 
     def rule(self, holds, why, word=None, at=None):
         at = self.start if at is None else at
@@ -112,7 +112,7 @@ class Memo:
             self.page(writes, mapped)
             self.rule(mask := int.from_bytes(self.take(512, "mask"), "little"), "mask: it marks no byte")
             self.parts.append((writes[-1], mask, self.take(mask.bit_count(), "stored bytes")))
-        self.ended = began, end, registers[32]
+        self.ended = began, end, registers[32], registers[49]
         ended = {8: f"call {registers[49]}", 9: "fuel"}.get(end, f"trap {end}")
         reads, writes = (",".join(f"{page << 12:08x}" for page in pages) or "-" for pages in (reads, writes))
         self.numbers[thread] += 1
@@ -128,9 +128,11 @@ class Memo:
         return byte
 
     def is_old(self):
-        """Whether the last record ended as illegal at a word that is an instruction of the standard extension M."""
+        """Whether the last record ended as illegal at a word that is an instruction of the standard extension M, or by a call of a
+        reader-writer lock."""
         word = [self.byte(self.ended[2] + place) for place in range(4)]
-        return self.ended[1] == 2 and -1 not in word and word[0] & 127 == 0b0110011 and word[3] >> 1 == 0b0000001
+        is_of_m = -1 not in word and word[0] & 127 == 0b0110011 and word[3] >> 1 == 0b0000001
+        return self.ended[1] == 2 and is_of_m or self.ended[1] == 8 and 18 <= self.ended[3] <= 21
 
     def listing(self):
         digest, self.data = self.data[-32:], self.data[:-32]
@@ -153,6 +155,6 @@ class Memo:
         records = [f"entry {entry} {self.record(mapped, fuel, pool)}" for entry in range(count)]
         self.rule(self.used == len(self.pool), f"count of pool pages: only {self.used} are used", at=pool_place)
         self.rule(self.place == len(self.data), "bytes come after the last record", at=self.place)
-        self.rule(version > 1 or not self.is_old(), "the last record ended at a word that is an instruction today", f"Old {count - 1}",
+        self.rule(version > 1 or not self.is_old(), "the last record ended at a word that is an instruction today, or at a call that is one", f"Old {count - 1}",
                   self.ended[0])
         return [f"elf {len(self.elf)}", f"input {size}", f"fuel {fuel}", f"limit {limit}", f"entries {count}", *records]

@@ -13,7 +13,7 @@ use Rattle.history_spec.specs.History.{History}
 use Rattle.machine_spec.specs.Setup.{map_of}
 use Rattle.store_mask.specs.Stored.{delta_in}
 use Rattle.store_mask.specs.declared.stored.StoredPage.{StoredPage}
-use Rattle.memo_spec.specs.Old.{is_old_record, ends_old, is_old}
+use Rattle.memo_spec.specs.Old.{ends_at_m, last_ends_at_m, is_before_m, ends_at_lock, last_ends_at_lock, is_before_locks}
 
 abbrev one : Bool → ℕ
 one mark = cond mark 1 0
@@ -55,20 +55,40 @@ no_slot (m ∷ map) address small far =
 
 -- The last record tells the age of all.
 last_old : (map : List Mapped) (rs : List Record) (k : ℕ) (r : Record) → suc k ≡ length rs → slice_get rs k ≡ Some r
-    → ends_old map rs ≡ is_old_record map r
+    → last_ends_at_m map rs ≡ ends_at_m map r
 last_old map [] k r n e = absurd (omega arith)
 last_old map (q ∷ []) zero r n e =
     let same : q ≡ r = let x : Some q ≡ Some r = e in cc in
-    ap (is_old_record map) same
+    ap (ends_at_m map) same
 last_old map (q ∷ []) (suc k) r n e = absurd (omega arith)
 last_old map (q ∷ p ∷ rs) zero r n e = absurd (omega arith)
 last_old map (q ∷ p ∷ rs) (suc k) r n e = last_old map (p ∷ rs) k r (omega arith) e
 
 pub age_is : (h : History) (map : List Mapped) (k : ℕ) (r : Record) → map ≡ map_of h.setup
-    → suc k ≡ length h.records → slice_get h.records k ≡ Some r → is_old h ≡ is_old_record map r
-unfolding is_old
-age_is h map k r is n e = ap (λ (m : List Mapped). ends_old m h.records) (sym is) ∙ last_old map h.records k r n e
+    → suc k ≡ length h.records → slice_get h.records k ≡ Some r → is_before_m h ≡ ends_at_m map r
+unfolding is_before_m
+age_is h map k r is n e = ap (λ (m : List Mapped). last_ends_at_m m h.records) (sym is) ∙ last_old map h.records k r n e
 
-pub none_old : (h : History) → length h.records ≡ 0 → is_old h ≡ false
-unfolding is_old
-none_old h none = ap (ends_old (map_of h.setup)) (nil_from_length h.records none)
+pub none_old : (h : History) → length h.records ≡ 0 → is_before_m h ≡ false
+unfolding is_before_m
+none_old h none = ap (last_ends_at_m (map_of h.setup)) (nil_from_length h.records none)
+
+-- The last record tells whether a call of a reader-writer lock ended all.
+last_lock : (rs : List Record) (k : ℕ) (r : Record) → suc k ≡ length rs → slice_get rs k ≡ Some r
+    → last_ends_at_lock rs ≡ ends_at_lock r
+last_lock [] k r n e = absurd (omega arith)
+last_lock (q ∷ []) zero r n e =
+    let same : q ≡ r = let x : Some q ≡ Some r = e in cc in
+    ap ends_at_lock same
+last_lock (q ∷ []) (suc k) r n e = absurd (omega arith)
+last_lock (q ∷ p ∷ rs) zero r n e = absurd (omega arith)
+last_lock (q ∷ p ∷ rs) (suc k) r n e = last_lock (p ∷ rs) k r (omega arith) e
+
+pub lock_is : (h : History) (k : ℕ) (r : Record)
+    → suc k ≡ length h.records → slice_get h.records k ≡ Some r → is_before_locks h ≡ ends_at_lock r
+unfolding is_before_locks
+lock_is h k r n e = last_lock h.records k r n e
+
+pub none_locked : (h : History) → length h.records ≡ 0 → is_before_locks h ≡ false
+unfolding is_before_locks
+none_locked h none = ap last_ends_at_lock (nil_from_length h.records none)

@@ -1,10 +1,10 @@
-//! Whether a memo is from before the standard extension M.
+//! Whether a memo is from before the standard extension M, or from before reader-writer locks.
 
 ghost use Rattle.std.specs.Prelude.{◌≡◌, ◌<◌, ◌+◌, ◌^◌, true, false, length, take, slice_get, slice_index_or, None, Some, All, IfOk, IfErr, if◌then◌else◌};
 ghost use Rattle.std.specs.List.{count_by};
 ghost use Rattle.memory_spec.specs.Pages.{slot_of};
 ghost use Rattle.machine_spec.specs.Setup.{map_of};
-ghost use Rattle.memo_spec.specs.Old.{is_of_m, stored_byte, read_byte, told_byte, whole_word, told_word, is_old_record, is_old, last_number};
+ghost use Rattle.memo_spec.specs.Old.{is_of_m, stored_byte, read_byte, told_byte, whole_word, told_word, ends_at_m, is_before_m, ends_at_lock, is_before_locks, last_number};
 ghost use Rattle.memo_spec.specs.Reading.{is_old_in};
 ghost use Rattle.memo_spec.specs.declared.Refusal.TheVariants.{Old};
 ghost use Rattle.memo_file.specs.declared.error.ReadError.TheVariants.{Refused};
@@ -135,9 +135,9 @@ fn told_word(slots: &PageMap, rec: &Record, address: u32) -> Option<u32>
 }
 
 /// Whether a record ended by an illegal instruction where it tells one of M.
-fn is_old_record(slots: &PageMap, rec: &Record) -> bool
+fn ends_at_m(slots: &PageMap, rec: &Record) -> bool
     requires { All (λ m. m.number < 2 ^ 20) slots.now }
-    ensures { result ≡ is_old_record slots.now rec.now }
+    ensures { result ≡ ends_at_m slots.now rec.now }
 {
     match rec.end() {
         ThunkEnd::Trap(Cause::IllegalInstruction) => match told_word(
@@ -155,8 +155,8 @@ fn is_old_record(slots: &PageMap, rec: &Record) -> bool
 /// Refuses a history whose last record ended by an illegal instruction that is one of M today. Takes no memory.
 fn refuse_before_m(slots: &PageMap, history: &History) -> Result<(), ReadError>
     requires { slots.now ≡ map_of history.now.setup }
-    ensures today { IfOk result (λ _. is_old history.now ≡ false) }
-    ensures before { IfErr result (λ e. (is_old history.now ≡ true) × (e ≡ Refused (Old (last_number history.now)))) }
+    ensures today { IfOk result (λ _. is_before_m history.now ≡ false) }
+    ensures before { IfErr result (λ e. (is_before_m history.now ≡ true) × (e ≡ Refused (Old (last_number history.now)))) }
 {
     history.setup().sound();
     let records = history.records();
@@ -165,7 +165,36 @@ fn refuse_before_m(slots: &PageMap, history: &History) -> Result<(), ReadError>
     if count == 0 {
         return Ok(());
     }
-    if is_old_record(slots, records.at(count - 1)) {
+    if ends_at_m(slots, records.at(count - 1)) {
+        Err(ReadError::Refused(Refusal::Old((count - 1) as u32)))
+    } else {
+        Ok(())
+    }
+}
+
+/// Whether a record ended by a call of a reader-writer lock.
+fn ends_at_lock(rec: &Record) -> bool
+    ensures { result ≡ ends_at_lock rec.now }
+{
+    match rec.end() {
+        ThunkEnd::Call => (18..=21).contains(&rec.finish().get(17)),
+        _ => false,
+    }
+}
+
+/// Refuses a history whose last record ended by a call of a reader-writer lock. Takes no memory.
+fn refuse_before_locks(history: &History) -> Result<(), ReadError>
+    ensures today { IfOk result (λ _. is_before_locks history.now ≡ false) }
+    ensures before { IfErr result
+        (λ e. (is_before_locks history.now ≡ true) × (e ≡ Refused (Old (last_number history.now)))) }
+{
+    let records = history.records();
+    records.keeps();
+    let count = records.len();
+    if count == 0 {
+        return Ok(());
+    }
+    if ends_at_lock(records.at(count - 1)) {
         Err(ReadError::Refused(Refusal::Old((count - 1) as u32)))
     } else {
         Ok(())
@@ -180,7 +209,10 @@ pub fn refuse_old(format: Format, slots: &PageMap, history: &History) -> Result<
         (λ e. (is_old_in format history.now ≡ true) × (e ≡ Refused (Old (last_number history.now)))) }
 {
     match format {
-        Format::Version1 => refuse_before_m(slots, history),
+        Format::Version1 => {
+            refuse_before_m(slots, history)?;
+            refuse_before_locks(history)
+        }
         Format::Version2 => Ok(()),
     }
 }

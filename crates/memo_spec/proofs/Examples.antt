@@ -17,7 +17,7 @@ use Rattle.memo_spec.specs.declared.Format.TheVariants.{Version1, Version2}
 use Rattle.memo_spec.specs.declared.Refusal.TheVariants as refusal
 use Rattle.memo_spec.specs.Spelling.{distinct, end_number, mask, record_bytes, body, magic}
 use Rattle.memo_spec.specs.Reading.{behind_version, incoherent_from, taken_as, reading}
-use Rattle.memo_spec.specs.Old.{is_of_m, told_word, ends_old}
+use Rattle.memo_spec.specs.Old.{is_of_m, told_word, last_ends_at_m}
 
 -- A page that stands twice among the read pages stands once in the pool, where it came first.
 pub distinct-two :
@@ -201,31 +201,31 @@ pub told-past : told_word pages (illegal (read (replicate 4094 0 ++ 0x33 ∷ 0x0
 told-past = refl
 
 -- An end by an illegal instruction at a word of M comes from before M.
-pub old-read : ends_old pages (illegal (read mul) [] ∷ []) ≡ true
+pub old-read : last_ends_at_m pages (illegal (read mul) [] ∷ []) ≡ true
 old-read = refl
 
-pub old-last : ends_old pages (one ∷ illegal (read mul) [] ∷ []) ≡ true
+pub old-last : last_ends_at_m pages (one ∷ illegal (read mul) [] ∷ []) ≡ true
 old-last = refl
 
 -- Not so where a byte of the word is missing, at another word, by another end, or before the last record.
 pub missing-not-old :
-    ends_old pages
+    last_ends_at_m pages
     (illegal elsewhere (stored (true ∷ true ∷ false ∷ true ∷ []) (0x33 ∷ 0x05 ∷ 0x02 ∷ [])) ∷ [])
     ≡ false
 missing-not-old = refl
 
 pub stored-over-not-old :
-    ends_old pages (illegal (read mul) (stored (false ∷ false ∷ false ∷ true ∷ []) (0x04 ∷ [])) ∷ []) ≡ false
+    last_ends_at_m pages (illegal (read mul) (stored (false ∷ false ∷ false ∷ true ∷ []) (0x04 ∷ [])) ∷ []) ≡ false
 stored-over-not-old = refl
 
-pub breakpoint-not-old : ends_old pages (left (Trap cause.Breakpoint) (read mul) [] ∷ []) ≡ false
+pub breakpoint-not-old : last_ends_at_m pages (left (Trap cause.Breakpoint) (read mul) [] ∷ []) ≡ false
 breakpoint-not-old = refl
 
-pub call-not-old : ends_old pages (left Call (read mul) [] ∷ []) ≡ false
+pub call-not-old : last_ends_at_m pages (left Call (read mul) [] ∷ []) ≡ false
 call-not-old = refl
 
-pub earlier-not-old : ends_old pages (illegal (read mul) [] ∷ one ∷ []) ≡ false
+pub earlier-not-old : last_ends_at_m pages (illegal (read mul) [] ∷ one ∷ []) ≡ false
 earlier-not-old = refl
 
-pub none-not-old : ends_old pages [] ≡ false
+pub none-not-old : last_ends_at_m pages [] ≡ false
 none-not-old = refl

@@ -1,13 +1,14 @@
--- Memos from before the standard extension M: their last record may have ended by an illegal instruction that is one of
--- M now.
-use Rattle.std.specs.Prelude.{ℕ, ◌+◌, ◌*◌, ◌-◌, ◌%◌, ◌^◌, ◌==◌, Bool, true, false, ◌&&◌, if◌then◌else◌, List, [], ◌∷◌, length, take, slice_get, slice_index_or, Option, Some, None}
+-- Memos from before the standard extension M, or from before reader-writer locks: their last record may have ended by an
+-- illegal instruction that is one of M now, or by a call that was none.
+use Rattle.std.specs.Prelude.{ℕ, ◌+◌, ◌*◌, ◌-◌, ◌%◌, ◌^◌, ◌==◌, nat_le, Bool, true, false, ◌&&◌, ◌||◌, if◌then◌else◌, List, [], ◌∷◌, length, take, slice_get, slice_index_or, Option, Some, None}
 use Rattle.std.specs.List.{count_by}
 use Rattle.isa_spec.specs.declared.Cause.TheVariants.{IllegalInstruction}
 use Rattle.isa_spec.specs.Fields.{opcode_of, funct7_of}
+use Rattle.isa_spec.specs.Registers.{register}
 use Rattle.memory_spec.specs.Pages.{Mapped, slot_of}
 use Rattle.memory_spec.specs.declared.TheConstants.{PAGE_SIZE}
 use Rattle.thunk_spec.specs.declared.ends.ThunkEnd.{ThunkEnd}
-use Rattle.thunk_spec.specs.declared.ends.ThunkEnd.TheVariants.{Trap}
+use Rattle.thunk_spec.specs.declared.ends.ThunkEnd.TheVariants.{Call, Trap}
 use Rattle.record_spec.specs.Delta.{PageDelta}
 use Rattle.record_spec.specs.Reads.{ReadPage}
 use Rattle.record_spec.specs.Record.{Kept, Record}
@@ -68,18 +69,42 @@ tells_m None = false
 tells_m (Some w) = is_of_m w
 
 -- Whether a record ended by an illegal instruction where it tells one of M.
-abbrev pub is_old_record : List Mapped → Record → Bool
-is_old_record map r = is_illegal r.kept.end && tells_m (told_word map r.kept r.kept.finish.pc)
+abbrev pub ends_at_m : List Mapped → Record → Bool
+ends_at_m map r = is_illegal r.kept.end && tells_m (told_word map r.kept r.kept.finish.pc)
 
 -- Whether the last of some records is such a one.
-abbrev pub ends_old : List Mapped → List Record → Bool
-ends_old map [] = false
-ends_old map (r ∷ []) = is_old_record map r
-ends_old map (r ∷ q ∷ rs) = ends_old map (q ∷ rs)
+abbrev pub last_ends_at_m : List Mapped → List Record → Bool
+last_ends_at_m map [] = false
+last_ends_at_m map (r ∷ []) = ends_at_m map r
+last_ends_at_m map (r ∷ q ∷ rs) = last_ends_at_m map (q ∷ rs)
+
+-- Whether an end is that by a call.
+abbrev pub is_call : ThunkEnd → Bool
+is_call Call = true
+is_call _ = false
+
+-- Whether a record ended by a call of a reader-writer lock: those of the numbers 18 to 21, which were no calls before.
+abbrev pub ends_at_lock : Record → Bool
+ends_at_lock r =
+    is_call r.kept.end && nat_le 18 (register r.kept.finish 17) && nat_le (register r.kept.finish 17) 21
+
+-- Whether the last of some records is such a one.
+abbrev pub last_ends_at_lock : List Record → Bool
+last_ends_at_lock [] = false
+last_ends_at_lock (r ∷ []) = ends_at_lock r
+last_ends_at_lock (r ∷ q ∷ rs) = last_ends_at_lock (q ∷ rs)
 
 -- Whether a history comes from before M: its last record ended by an illegal instruction that is one of M now.
-unfoldable pub is_old : History → Bool
-is_old h = ends_old (map_of h.setup) h.records
+unfoldable pub is_before_m : History → Bool
+is_before_m h = last_ends_at_m (map_of h.setup) h.records
+
+-- Whether a history of version 1 may come from before reader-writer locks: its last record ended by a call of one.
+unfoldable pub is_before_locks : History → Bool
+is_before_locks h = last_ends_at_lock h.records
+
+-- Whether a history of version 1 is refused as an old one.
+abbrev pub is_old : History → Bool
+is_old h = is_before_m h || is_before_locks h
 
 -- The number of a history's last record.
 abbrev pub last_number : History → ℕ

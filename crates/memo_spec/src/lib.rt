@@ -51,7 +51,7 @@ pub enum Refusal {
     /// The field at this offset is cut off or against its rule.
     Field(usize),
     /// In a file of version 1 this record, the last, ended by an illegal instruction that is one of the standard
-    /// extension M: the memo is from before M.
+    /// extension M, or by a call of a reader-writer lock: the memo is from before M, or from before these calls.
     Old(u32),
     /// This record doesn't fit what those before it leave, or no end comes.
     Incoherent(u32),

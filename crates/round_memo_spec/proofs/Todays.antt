@@ -21,7 +21,7 @@ use Rattle.history_spec.proofs.Mapped.{first-map}
 use Rattle.history_spec.proofs.Truth.{honest-coherent}
 use Rattle.memo_spec.specs.Spelling.{memo, IsSpellable}
 use Rattle.memo_spec.specs.Reading.{reading}
-use Rattle.memo_spec.specs.Old.{is_of_m, told_byte, told_word, is_illegal, tells_m, is_old_record, ends_old, is_old}
+use Rattle.memo_spec.specs.Old.{is_of_m, told_byte, told_word, is_illegal, tells_m, ends_at_m, last_ends_at_m, is_before_m}
 use Rattle.memo_spec.proofs.Laws.{spelled_is_read, memo_taken}
 use Rattle.round_memo_spec.proofs.Illegal.{StandsAtIllegal, thunk-stands, undecoded-m}
 use Rattle.round_memo_spec.proofs.Telling.{Tells, laid-tells, word-tells}
@@ -64,7 +64,7 @@ kept-todays f view r k whole is = rw is (here (is_illegal (thunk f view r).end) 
 -- nor is the record of a step
 record-todays :
     (m : Machine) (t : ℕ) → IsWhole m → can_step m t ≡ true
-    → is_old_record m.frame.map (record_of m t) ≡ false
+    → ends_at_m m.frame.map (record_of m t) ≡ false
 record-todays m t whole can =
     kept-todays m.frame (hart_of m t).view (hart_of m t).regs (record_of m t).kept
     (hart-at m.frame.map m.steps m.harts t
@@ -73,22 +73,22 @@ record-todays m t whole can =
 
 records-todays :
     (m : Machine) (ts : List ℕ) → IsWhole m → is_permitted_from m ts ≡ true
-    → ends_old m.frame.map (records_from m ts) ≡ false
+    → last_ends_at_m m.frame.map (records_from m ts) ≡ false
 records-todays m [] whole permitted = refl
 records-todays m (t ∷ []) whole permitted =
     record-todays m t whole (and-left (can_step m t) (is_permitted_from (step m t) []) permitted)
 records-todays m (t ∷ u ∷ ts) whole permitted =
     let can : can_step m t ≡ true = and-left (can_step m t) (is_permitted_from (step m t) (u ∷ ts)) permitted in
-    ap (λ (f : Frame). ends_old f.map (records_from (step m t) (u ∷ ts))) (sym (step-frame m t))
+    ap (λ (f : Frame). last_ends_at_m f.map (records_from (step m t) (u ∷ ts))) (sym (step-frame m t))
     ∙ records-todays (step m t) (u ∷ ts) (step-whole m t whole can)
     (and-right (can_step m t) (is_permitted_from (step m t) (u ∷ ts)) permitted)
 
 -- so an honest history isn't from before M
-pub honest-todays : (h : History) → IsHonest h → is_old h ≡ false
-unfolding is_old
+pub honest-todays : (h : History) → IsHonest h → is_before_m h ≡ false
+unfolding is_before_m
 honest-todays h honest =
-    ap (ends_old (map_of h.setup)) honest.recorded
-    ∙ ap (λ (map : List Mapped). ends_old map (records_from (first h.setup) (schedule_of h)))
+    ap (last_ends_at_m (map_of h.setup)) honest.recorded
+    ∙ ap (λ (map : List Mapped). last_ends_at_m map (records_from (first h.setup) (schedule_of h)))
     (sym (first-map h.setup))
     ∙ records-todays (first h.setup) (schedule_of h) (IsWhole-first h.setup honest.valid) honest.permitted
 

@@ -10,7 +10,7 @@ ghost use Rattle.round_spec.specs.Rounds.{round_after, history_of};
 ghost use Rattle.round_spec.specs.Alone.{lone_round};
 ghost use Rattle.memo_spec.specs.Spelling.{IsSpellable, memo};
 ghost use Rattle.memo_spec.specs.Reading.{reading};
-ghost use Rattle.memo_spec.specs.Old.{is_old};
+ghost use Rattle.memo_spec.specs.Old.{is_before_m};
 ghost use Rattle.round_memo_spec.specs.Spelled.{IsSpelledPast, IsSpelledStart};
 
 /// What a round leaves whose machine has an end can be spelled, whatever happened to it, where its setup may be
@@ -37,9 +37,9 @@ pub fn what_a_round_leaves_can_be_spelled()
 {}
 
 /// An honest history doesn't come from before the standard extension M: where its last thunk ended by an
-/// illegal instruction, its record tells no word of M there. So a memo of version 1 isn't refused as an old
-/// one where it spells such a history. The memo of version 2, in which none is old, is read as it.
+/// illegal instruction, its record tells no word of M there. So no memo of version 1 that spells such a
+/// history is refused for that. The memo of version 2, in which none is old, is read as it.
 pub fn honest_memo_is_of_today()
-    ensures todays { (h : History) → IsHonest h → is_old h ≡ false }
+    ensures todays { (h : History) → IsHonest h → is_before_m h ≡ false }
     ensures read { (h : History) → IsHonest h → IsSpellable h → reading (memo h) ≡ Ok h }
 {}
