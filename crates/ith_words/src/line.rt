@@ -34,6 +34,8 @@ pub enum Line<'a> {
     Explain(ExplainLine<'a>),
     /// A memo is audited.
     Audit(AuditLine<'a>),
+    /// It is told which steps race.
+    FindRaces(RacesLine<'a>),
     /// The generated guest is run.
     Generate(GenerateLine),
 }
@@ -120,6 +122,13 @@ pub struct AuditLine<'a> {
     pub workers: u32,
     ghost some_worker: { 1 ≤ workers },
     ghost most_workers: { workers ≤ MOST_WORKERS },
+}
+
+/// A line that tells which steps race.
+#[derive(Debug, Drop)]
+pub struct RacesLine<'a> {
+    /// The name of the memo to read.
+    pub memo: &'a str,
 }
 
 /// A line that runs the generated guest.
