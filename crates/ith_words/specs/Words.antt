@@ -56,6 +56,10 @@ pub record ExplainLine : Type 0 where
   pub memo : Text
   pub edits : Text
 
+-- A line that tells which steps race: the name of the memo to read.
+pub record RacesLine : Type 0 where
+  pub memo : Text
+
 -- A line that runs the generated guest: the number that it is generated from, and how many workers.
 pub record GenerateLine : Type 0 where
   pub number : ℕ
@@ -68,6 +72,7 @@ pub data Line : Type 0 where
   Replays : ReplayLine → Line
   Shows : ShowLine → Line
   Explains : ExplainLine → Line
+  FindsRaces : RacesLine → Line
   Generates : GenerateLine → Line
 
 -- How many workers there are where the line doesn't say.
@@ -155,6 +160,10 @@ show_command = command (codes "show") (operand_rule (codes "MEMO") ∷ [])
 abbrev pub explain_command : App
 explain_command = command (codes "why") (operand_rule (codes "MEMO") ∷ operand_rule (codes "EDITS") ∷ [])
 
+-- The command that tells which steps race: the memo alone.
+abbrev pub races_command : App
+races_command = command (codes "races") (operand_rule (codes "MEMO") ∷ [])
+
 -- The command that runs the generated guest: a number, and an option.
 abbrev pub generate_command : App
 generate_command = command (codes "gen") (number_operand_rule (codes "NUMBER") MOST_NUMBER ∷ workers_rule ∷ [])
@@ -170,7 +179,10 @@ guest_commands =
 
 -- The same, and the commands that look at a memo.
 abbrev pub memo_commands : App
-memo_commands = with_subcommand (with_subcommand guest_commands show_command.top) explain_command.top
+memo_commands =
+    with_subcommand
+    (with_subcommand (with_subcommand guest_commands show_command.top) explain_command.top)
+    races_command.top
 
 -- The program's command line: the program and its commands.
 unfoldable pub command_line : App
@@ -271,6 +283,10 @@ show_line rows = record { memo = operand (codes "MEMO") rows }
 abbrev pub explain_line : List Row → ExplainLine
 explain_line rows = record { memo = operand (codes "MEMO") rows; edits = operand (codes "EDITS") rows }
 
+-- The line of what was found for the operand of the command that tells which steps race.
+abbrev pub races_line : List Row → RacesLine
+races_line rows = record { memo = operand (codes "MEMO") rows }
+
 -- The line of what was found for the operand and the option of the command that runs the generated guest.
 abbrev pub generate_line : List Row → GenerateLine
 generate_line rows = record { number = number_named rows; workers = workers_named rows }
@@ -283,6 +299,7 @@ line_named p =
     else if bytes_eq p.0 (codes "replay") then Some (Replays (replay_line p.1))
     else if bytes_eq p.0 (codes "show") then Some (Shows (show_line p.1))
     else if bytes_eq p.0 (codes "why") then Some (Explains (explain_line p.1))
+    else if bytes_eq p.0 (codes "races") then Some (FindsRaces (races_line p.1))
     else if bytes_eq p.0 (codes "gen") then Some (Generates (generate_line p.1))
     else None
 

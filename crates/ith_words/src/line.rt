@@ -32,6 +32,8 @@ pub enum Line<'a> {
     Show(ShowLine<'a>),
     /// It is told why steps were executed.
     Explain(ExplainLine<'a>),
+    /// It is told which steps race.
+    FindRaces(RacesLine<'a>),
     /// The generated guest is run.
     Generate(GenerateLine),
 }
@@ -104,6 +106,13 @@ pub struct ExplainLine<'a> {
     pub memo: &'a str,
     /// The name of the edit list.
     pub edits: &'a str,
+}
+
+/// A line that tells which steps race.
+#[derive(Debug, Drop)]
+pub struct RacesLine<'a> {
+    /// The name of the memo to read.
+    pub memo: &'a str,
 }
 
 /// A line that runs the generated guest.
