@@ -18,13 +18,13 @@ use Rattle.ith_host.specs.World.{World, Rose}
 use Rattle.elf_spec.specs.Image.{is_image}
 use Rattle.rerun_spec.specs.Inputs.{AreInputs, AreRerunInputs}
 use Rattle.rerun_spec.proofs.Inputs.{inputs-unrefused, rerun-unrefused}
-use Rattle.ith_words.specs.Words.{Text, Line, Runs, Reruns, Replays, Shows, Explains, Generates, RunLine, RerunLine, ReplayLine, ShowLine, ExplainLine, GenerateLine}
+use Rattle.ith_words.specs.Words.{Text, Line, Runs, Reruns, Replays, Shows, Explains, FindsRaces, Generates, RunLine, RerunLine, ReplayLine, ShowLine, ExplainLine, RacesLine, GenerateLine}
 use Rattle.ith_top.specs.declared.status.Status.{Status}
 use Rattle.ith_top.specs.declared.status.Status.TheVariants as status
 use Rattle.ith_top.specs.Statuses.{code_of}
 use Rattle.ith_top.specs.Files.{Named, StopsAt, FailedToRead, IsLong, files_named, lists_named, memo_named}
 use Rattle.ith_top.specs.Contents.{AreLists, ReplayContents, AreReplayContents, replay_setup_of, CanBeReplayed, IsMemoContent, IsMemoOf, as_rerun}
-use Rattle.ith_top.specs.Ends.{OfNone, IsUnkept, IsUnprinted, ScheduleRefusal, Token, Entry, Incomplete, RefusesSchedule, IsRerunListRefused, RoundsEnd, ReplayEnds, ShowEnds, ExplainEnds, GenerateEnds, Answers}
+use Rattle.ith_top.specs.Ends.{OfNone, IsUnkept, IsUnprinted, ScheduleRefusal, Token, Entry, Incomplete, RefusesSchedule, IsRerunListRefused, RoundsEnd, ReplayEnds, ShowEnds, ExplainEnds, RacesEnd, GenerateEnds, Answers}
 use Rattle.ith_top.specs.Completing.{AreTold, HasNoFault, AreAccepted, IsAcceptedMemo, AreRerunAccepted, IsReplayAccepted, IsCompleted, IsTold, IsListed, Completes}
 use Rattle.ith_top.proofs.Permitting.{first-permitted}
 
@@ -222,6 +222,22 @@ show_by line before after answer status.TooLarge is ends memo none =
     (memo-short line.memo before memo, tt) ends.stops)
 show_by line before after answer status.Schedule is ends memo none = absurd ends
 
+races_by :
+    (line : RacesLine) (before after : World) (answer : ℕ) (s : Status)
+    → answer ≡ code_of s → RacesEnd line before after s → IsAcceptedMemo line.memo before
+    → HasNoFault (FindsRaces line) before after → IsListed answer
+races_by line before after answer status.Finished is ends memo none = inl is
+races_by line before after answer status.Memo is ends memo none =
+    absurd (unrefused line.memo before ends.memo ends.why memo ends.read ends.refused)
+races_by line before after answer status.ReadFault is ends memo none =
+    absurd (none_stops (FailedToRead before after) (files_named (FindsRaces line)) before after none.reads ends.stops)
+races_by line before after answer status.WriteFault is ends memo none = absurd (none.prints ends.part.cause)
+races_by line before after answer status.Memory is ends memo none = inr is
+races_by line before after answer status.TooLarge is ends memo none =
+    absurd (none_stops (IsLong before) (files_named (FindsRaces line)) before after
+    (memo-short line.memo before memo, tt) ends.stops)
+races_by line before after answer _ is ends memo none = absurd ends
+
 -- what a schedule to replay says and comes to isn't refused
 schedule-unrefused :
     (setup : Setup) (text threads : List ℕ) (why : ScheduleRefusal) → CanBeReplayed setup text threads
@@ -348,5 +364,7 @@ complete (Some (Generates line)) before after answer answers =
     λ none. generate_by line before after answer answers.0 answers.1 answers.2 none
 complete (Some (Explains line)) before after answer answers =
     λ are none. explain_by line before after answer answers.0 answers.1 answers.2 are none
+complete (Some (FindsRaces line)) before after answer answers =
+    λ memo none. races_by line before after answer answers.0 answers.1 answers.2 memo none
 complete (Some (Shows line)) before after answer answers =
     λ memo none. show_by line before after answer answers.0 answers.1 answers.2 memo none

@@ -11,6 +11,7 @@ pub mod Promises
 pub mod Done
 pub mod Listed
 pub mod Explained
+pub mod Raced
 pub mod Permitting
 pub mod Replayed
 pub mod Generated

@@ -4,7 +4,7 @@ use Rattle.std.specs.List.{AllZip}
 use Rattle.history_spec.specs.History.{History}
 use Rattle.rerun_spec.specs.Inputs.{AreInputs, AreRerunInputs}
 use Rattle.ith_host.specs.World.{World, Rose}
-use Rattle.ith_words.specs.Words.{Text, Line, Runs, Reruns, Replays, Shows, Explains, Generates, RunLine, RerunLine, ReplayLine}
+use Rattle.ith_words.specs.Words.{Text, Line, Runs, Reruns, Replays, Shows, Explains, FindsRaces, Generates, RunLine, RerunLine, ReplayLine}
 use Rattle.ith_top.specs.declared.status.Status.TheVariants as status
 use Rattle.ith_top.specs.Files.{FailedToRead, files_named}
 use Rattle.ith_top.specs.Contents.{AreLists, Contents, WasRead, ReplayContents, WasReplayRead, replay_setup_of, CanBeReplayed, IsMemoContent, IsMemoOf, as_rerun}
@@ -92,3 +92,5 @@ Completes (Some (Shows line)) before after answer =
     IsAcceptedMemo line.memo before → HasNoFault (Shows line) before after → IsListed answer
 Completes (Some (Explains line)) before after answer =
     AreRerunAccepted (as_rerun line) before → HasNoFault (Explains line) before after → IsListed answer
+Completes (Some (FindsRaces line)) before after answer =
+    IsAcceptedMemo line.memo before → HasNoFault (FindsRaces line) before after → IsListed answer

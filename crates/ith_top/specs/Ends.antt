@@ -11,6 +11,7 @@ use Rattle.memo_spec.specs.declared.TheConstants.{MOST_MEMO_BYTES}
 use Rattle.memo_spec.specs.Spelling.{memo}
 use Rattle.memo_spec.specs.Reading.{reading}
 use Rattle.memo_listing.specs.Listing.{listing}
+use Rattle.race_report.specs.Text.{races_listing}
 use Rattle.rerun_spec.specs.Inputs.{Refusal, IsFirstRefused}
 use Rattle.plain_machine.specs.Replaying.{IsFirstForbidden}
 use Rattle.report_spec.specs.Text.{line as text_line}
@@ -19,7 +20,8 @@ use Rattle.round_report.specs.Short.{short_of}
 use Rattle.rerun_spec.specs.Rounds.{Found, Round, IsMade, last_left}
 use Rattle.rerun_spec.specs.Reports.{is_exit, all_exit, made_reports, all_made_exit}
 use Rattle.schedule_list.specs.Schedule.{Says}
-use Rattle.ith_words.specs.Words.{Text, Line, Runs, Reruns, Replays, Shows, Explains, Generates, RunLine, RerunLine, ReplayLine, ShowLine, ExplainLine, GenerateLine}
+use Rattle.ith_words.specs.Words.{Text, Line, Runs, Reruns, Replays, Shows, Explains, FindsRaces, Generates, RunLine, RerunLine, ReplayLine, ShowLine, ExplainLine, RacesLine, GenerateLine}
+use Rattle.ith_top.specs.declared.racing.TheConstants.{MOST_RACES}
 use Rattle.ith_top.specs.declared.status.Status.{Status}
 use Rattle.ith_top.specs.declared.status.Status.TheVariants as status
 use Rattle.ith_top.specs.Files.{Named, files_named, AsksForFiles, AsksForSome, StopsAt, FailedToRead, IsLong}
@@ -60,6 +62,7 @@ kept_by (Reruns line) = line.kept
 kept_by (Replays line) = None
 kept_by (Shows line) = None
 kept_by (Explains line) = None
+kept_by (FindsRaces line) = None
 kept_by (Generates line) = None
 
 -- Of the files nothing changed, and these bytes were printed.
@@ -316,6 +319,22 @@ pub record IsUnexplained (line : ExplainLine) (before after : World) : Type 0 wh
   pub has : HasReasons line before
   pub part : IsPrintedInPart (text_of_reasons line before has ∷ []) before after
 
+-- The line that lists the memo whose races a line tells.
+abbrev pub as_show : RacesLine → ShowLine
+as_show line = record { memo = line.memo }
+
+-- It is told which steps race: exactly the lines of the races of the memo's history were printed.
+pub record IsRaced (line : RacesLine) (before after : World) : Type 0 where
+  pub asked : AsksForFiles (files_named (FindsRaces line)) before after
+  pub has : HasHistory (as_show line) before
+  pub prints : Prints before after (races_listing MOST_RACES has.history)
+
+-- Printing failed, and the first bytes of the lines of the races were printed, any number of them.
+pub record IsUnraced (line : RacesLine) (before after : World) : Type 0 where
+  pub asked : AsksForFiles (files_named (FindsRaces line)) before after
+  pub has : HasHistory (as_show line) before
+  pub part : IsPrintedInPart (races_listing MOST_RACES has.history ∷ []) before after
+
 -- The text that tells of the rounds of the generated guest: a line with the number, and a line for each round, of the
 -- machine from scratch.
 abbrev pub generated_text : ℕ → List Round → List ℕ
@@ -344,6 +363,7 @@ RefusesImage (Reruns line) before after = ⊥
 RefusesImage (Replays line) before after = IsReplayImageRefused line before after
 RefusesImage (Shows line) before after = ⊥
 RefusesImage (Explains line) before after = ⊥
+RefusesImage (FindsRaces line) before after = ⊥
 RefusesImage (Generates line) before after = ⊥
 
 -- A line's memo is refused.
@@ -353,6 +373,7 @@ RefusesMemo (Reruns line) before after = IsRerunMemoRefused line before after
 RefusesMemo (Replays line) before after = ⊥
 RefusesMemo (Shows line) before after = IsMemoRefused line before after
 RefusesMemo (Explains line) before after = IsRerunMemoRefused (as_rerun line) before after
+RefusesMemo (FindsRaces line) before after = IsMemoRefused (as_show line) before after
 RefusesMemo (Generates line) before after = ⊥
 
 -- An edit list of a line is refused.
@@ -362,6 +383,7 @@ RefusesList (Reruns line) before after = IsRerunListRefused line before after
 RefusesList (Replays line) before after = ⊥
 RefusesList (Shows line) before after = ⊥
 RefusesList (Explains line) before after = IsRerunListRefused (as_rerun line) before after
+RefusesList (FindsRaces line) before after = ⊥
 RefusesList (Generates line) before after = ⊥
 
 -- How a line that asks for rounds may end, status by status.
@@ -406,6 +428,20 @@ ExplainEnds line before after status.Memory = IsUnbegun (Explains line) before a
 ExplainEnds line before after status.TooLarge = IsTooLarge (Explains line) before after
 ExplainEnds line before after status.Schedule = ⊥
 
+-- How a line that tells which steps race may end, status by status.
+abbrev pub RacesEnd : RacesLine → World → World → Status → Type 0
+RacesEnd line before after status.Finished = IsRaced line before after
+RacesEnd line before after status.Unfinished = ⊥
+RacesEnd line before after status.Words = ⊥
+RacesEnd line before after status.Image = ⊥
+RacesEnd line before after status.Memo = RefusesMemo (FindsRaces line) before after
+RacesEnd line before after status.EditList = ⊥
+RacesEnd line before after status.ReadFault = IsUnread (FindsRaces line) before after
+RacesEnd line before after status.WriteFault = IsUnraced line before after
+RacesEnd line before after status.Memory = IsUnbegun (FindsRaces line) before after
+RacesEnd line before after status.TooLarge = IsTooLarge (FindsRaces line) before after
+RacesEnd line before after status.Schedule = ⊥
+
 -- How a line that replays a schedule may end, status by status.
 abbrev pub ReplayEnds : ReplayLine → World → World → Status → Type 0
 ReplayEnds line before after status.Finished = IsReplayed line true before after
@@ -447,6 +483,7 @@ Ends (Some (Reruns line)) before after s = RoundsEnd (Reruns line) before after 
 Ends (Some (Replays line)) before after s = ReplayEnds line before after s
 Ends (Some (Shows line)) before after s = ShowEnds line before after s
 Ends (Some (Explains line)) before after s = ExplainEnds line before after s
+Ends (Some (FindsRaces line)) before after s = RacesEnd line before after s
 Ends (Some (Generates line)) before after s = GenerateEnds line before after s
 
 -- An answer is the number of a status by which the call may end.

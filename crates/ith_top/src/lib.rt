@@ -20,6 +20,7 @@ mod keeping;
 mod outside;
 mod plan;
 mod program;
+mod racing;
 mod replaying;
 mod report;
 mod rounds;
@@ -50,6 +51,9 @@ pub use status::Status;
 ///
 /// `why MEMO EDITS` makes the round of one worker that goes by a memo after an edit list, and tells why each of its
 /// executed steps was executed: which register or which byte of a page isn't as it was, and which step stored it.
+///
+/// `races MEMO` tells of a memo how many pairs of its steps touch a page without an order by threads and objects, and
+/// lists the first of them.
 ///
 /// `gen NUMBER --workers W` runs a guest on an input and an edit of it that are generated from the number.
 ///

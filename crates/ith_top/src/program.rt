@@ -16,6 +16,7 @@ use super::explaining::explain;
 use super::generating::generate;
 use super::keeping::keep;
 use super::plan::{Plan, prepare, prepare_rerun};
+use super::racing::find_races;
 use super::replaying::replay;
 use super::rounds::{Outcome, make_rounds};
 use super::showing::show;
@@ -114,6 +115,7 @@ pub fn status_of<R: Threads + Wait + Sync, H: Host, G: Gate + Sync>(
         Ok(Line::Replay(line)) => replay(rt, alloc, host, &line),
         Ok(Line::Show(line)) => show(alloc, host, &line),
         Ok(Line::Explain(line)) => explain(rt, alloc, host, &line),
+        Ok(Line::FindRaces(line)) => find_races(alloc, host, &line),
         Ok(Line::Generate(line)) => generate(
             alloc,
             host,

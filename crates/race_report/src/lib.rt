@@ -1,0 +1,15 @@
+//! Which pairs of a history's steps touch a page without an order by threads and objects: how many, and the first of
+//! them.
+#![tactic(auto)]
+
+mod finding;
+mod found;
+mod list;
+mod pairs;
+mod steps;
+mod telling;
+mod touches;
+
+pub use finding::races;
+pub use list::{RaceList, Races};
+pub use telling::listing;
