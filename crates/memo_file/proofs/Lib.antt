@@ -13,5 +13,6 @@ pub mod Cohering
 pub mod Sizes
 pub mod Counting
 pub mod Accepting
+pub mod Setting
 pub mod Ending
 pub mod Aging

@@ -135,3 +135,11 @@ registers_done p q front ws e h = registers_are p ∙ ap (λ (r : Many ℕ). onw
   where
     found : Place → List ℕ → Result (Registers × Place) Refusal
     found q l = Ok (of_words l, q)
+
+-- ---- one part of several
+
+-- Where a part fails, so does what goes on from it.
+pub part_fails : {A B : Type 0} (e : ReadError) (r : Result (A × Place) Refusal) (next : A → Reader B) → Fails e r
+    → Fails e (onward r next)
+part_fails errors.NoMemory r next h = tt
+part_fails {A = A} (errors.Refused f) r next h = ap (λ (x : Result (A × Place) Refusal). onward x next) h

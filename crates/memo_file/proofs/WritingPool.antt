@@ -162,6 +162,34 @@ places_step pool new page now next places more all place e w i m h =
     (places_from (with_page pool page) next)
     ∙ ap (λ (l : Pages). places ++ places_from pool l) (sym e) ∙ h)
 
+-- After the last read page.
+pub pool_met : (pool all : Pages) (reads : List ReadPage) (k : ℕ) → length reads ≤ k
+    → fold with_page pool (bytes_read (drop k reads)) ≡ all → pool ≡ all
+pool_met pool all reads k le h =
+    ap (λ (l : List ReadPage). fold with_page pool (bytes_read l)) (sym (drop_of_length-le reads le)) ∙ h
+
+pub places_met : (pool : Pages) (places all : List ℕ) (reads : List ReadPage) (k : ℕ) → length reads ≤ k
+    → places ++ places_from pool (bytes_read (drop k reads)) ≡ all → places ≡ all
+places_met pool places all reads k le h =
+    sym (append-nil places)
+    ∙ ap (λ (l : List ReadPage). places ++ places_from pool (bytes_read l)) (sym (drop_of_length-le reads le)) ∙ h
+
+-- A page more makes a pool longer by one at most.
+one_more : (there : Bool) (pool : Pages) (page : List ℕ)
+    → length (cond there pool (pool ++ page ∷ [])) ≤ length pool + 1
+one_more true pool page = omega arith
+one_more false pool page = omega (arith, length-append pool (page ∷ []))
+
+pub few_more : (old new : List (Bor (List ℕ))) (page : List ℕ) → pages_lent new ≡ with_page (pages_lent old) page
+    → length new ≤ length old + 1
+few_more old new page e = omega (
+  arith,
+  one_more (has_page (pages_lent old) page) (pages_lent old) page,
+  ap length e,
+  length-map old (λ (p : Bor (List ℕ)). p.now),
+  length-map new (λ (p : Bor (List ℕ)). p.now),
+)
+
 -- ---- pages that are lent
 
 lent_at : (pool : List (Bor (List ℕ))) (k : ℕ) (d : Bor (List ℕ)) → k < length pool

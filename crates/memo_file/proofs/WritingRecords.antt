@@ -1,11 +1,15 @@
 -- Records written one after the other, and the pages of each.
 use Rattle.std.proofs.Common.{◌≡◌, ℕ, zero, suc, ◌+◌, ◌≤◌, List, [], ◌∷◌, ◌++◌, length, map, drop, Some, None, refl, sym, ap, subst, ◌∙◌, append_assoc, arith}
-use Rattle.std.specs.Prelude.{slice_get, slice_index}
+use Rattle.std.specs.Prelude.{All, slice_get, slice_index}
 use Rattle.std.specs.List.{flat_map}
-use Rattle.std.proofs.lemmas.List.{get_or-drop, drop-drop, length-append, length-map, length-drop}
+use Rattle.std.proofs.Math.ListN.{drop_of_length-le}
+use Rattle.std.proofs.lemmas.List.{append-nil, get_or-drop, drop-drop, length-append, length-map, length-drop}
+use Rattle.std.proofs.lemmas.List.Elements.{All-get_or}
+use Rattle.std.proofs.lemmas.Option.{get_or_from_slice_get, slice_get_within}
 use Rattle.memory_spec.specs.Pages.{Mapped}
 use Rattle.record_spec.specs.Record.{Record}
 use Rattle.record_spec.specs.Reads.{ReadPage}
+use Rattle.history_spec.specs.History.{IsMappedIn}
 use Rattle.memo_spec.specs.Spelling.{word, page_number, index_in, read_page, pages_read}
 use Rattle.memo_file.specs.WritingPool.{bytes_read, ArePlaced}
 use Rattle.memo_file.proofs.WritingPool.{drop_at, pages_from}
@@ -17,6 +21,18 @@ pub one_written : {A : Type 0} (f : A → List ℕ) (xs : List A) (k : ℕ) (x :
 one_written f xs k x out new all e w h =
     rw w (append_assoc out (f x) (flat_map f (drop (k + 1) xs))
     ∙ sym (ap (λ l. out ++ flat_map f l) (drop_at xs k x e)) ∙ h)
+
+-- What was written, after the last one.
+pub all_written : {A : Type 0} (f : A → List ℕ) (xs : List A) (k : ℕ) (out all : List ℕ)
+    → length xs ≤ k → out ++ flat_map f (drop k xs) ≡ all → out ≡ all
+all_written f xs k out all le h =
+    sym (append-nil out) ∙ ap (λ l. out ++ flat_map f l) (sym (drop_of_length-le xs le)) ∙ h
+
+-- Each record of a history that is mapped is mapped.
+pub mapped_in : (n : ℕ) (rs : List Record) (k : ℕ) (r : Record) → slice_get rs k ≡ Some r → All (IsMappedIn n) rs
+    → IsMappedIn n r
+mapped_in n rs k r e all = subst (IsMappedIn n) (get_or_from_slice_get rs k r r e)
+    (All-get_or (IsMappedIn n) rs k r (slice_get_within rs k r e) all)
 
 -- A read page that was written as its number and its place.
 pub read_written : (slots : List Mapped) (pool : List (List ℕ)) (p : ReadPage) (out mid new : List ℕ) (number place : ℕ)

@@ -43,7 +43,6 @@ fn end(number: u8) -> ThunkEnd
 }
 
 /// The record behind others, and how many pages of the pool are used after it.
-#[tactic(auto, unfolding(memo_spec::specs::Reading::record_at))]
 fn record(
     alloc: Global,
     cursor: &mut Cursor,

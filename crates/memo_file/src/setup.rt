@@ -59,7 +59,6 @@ fn read_limits(cursor: &mut Cursor) -> Result<Limits, ReadError>
 }
 
 /// The setup: the executable, which is looked at before the input is read, the input, and the limits.
-#[tactic(auto, unfolding(memo_spec::specs::Reading::setup_at))]
 pub fn read_setup(alloc: Global, cursor: &mut Cursor) -> Result<Setup, ReadError>
     ensures { Gives (λ s. (s, cursor.new)) result (setup_at cursor.old) }
 {
