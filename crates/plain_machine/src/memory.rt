@@ -60,6 +60,24 @@ fn write_number(page: &mut Page, offset: usize, size: Size, value: u32)
     }
 }
 
+/// A copy of a page, with the lowest bytes of a value written at an offset.
+#[cold]
+#[inline(never)]
+fn written_copy(
+    alloc: Global,
+    page: &Page,
+    offset: usize,
+    size: Size,
+    value: u32,
+) -> Result<Rc<Page>, AllocError>
+    requires { offset + byte_count size ≤ PAGE_SIZE }
+    ensures { IfOk result (λ copy. rc_value copy ≡ with_number page.now offset size value) }
+{
+    let mut copy = page.copy();
+    write_number(&mut copy, offset, size, value);
+    Ok(Rc::new(alloc, copy)?)
+}
+
 /// The same pages in another list.
 fn shared(alloc: Global, pages: &[Rc<Page>]) -> Result<Vec<Rc<Page>>, AllocError>
     ensures { IfOk result (λ shared. map rc_value shared.items ≡ map rc_value pages.now) }
@@ -124,32 +142,6 @@ impl Memory {
         &self.pages[slot]
     }
 
-    /// Puts into a slot a copy of its page, with the lowest bytes of a value written at an offset.
-    ///
-    /// # Errors
-    ///
-    /// An error where the host's memory ran out; nothing is written then.
-    #[cold]
-    #[inline(never)]
-    fn write_to_copy(
-        &mut self,
-        slot: usize,
-        offset: usize,
-        size: Size,
-        value: u32,
-    ) -> Result<(), AllocError>
-        requires slot { slot < length self.old }
-        requires inside { offset + byte_count size ≤ PAGE_SIZE }
-        ensures ok { OnOk result (self.new
-            ≡ slice_set self.old slot (with_number (page_of self.old slot) offset size value)) }
-        ensures err { OnErr result (self.new ≡ self.old) }
-    {
-        let mut page = self.page(slot).copy();
-        write_number(&mut page, offset, size, value);
-        self.pages[slot] = Rc::new(self.alloc, page)?;
-        Ok(())
-    }
-
     /// Writes the lowest bytes of a value at an offset into the page in a slot.
     ///
     /// # Errors
@@ -170,11 +162,11 @@ impl Memory {
         ensures err { OnErr result (self.new ≡ self.old) }
     {
         match Rc::get_mut(&mut self.pages[slot]) {
-            Some(page) => {
-                write_number(page, offset, size, value);
-                Ok(())
+            Some(page) => write_number(page, offset, size, value),
+            None => {
+                self.pages[slot] = written_copy(self.alloc, self.page(slot), offset, size, value)?;
             }
-            None => self.write_to_copy(slot, offset, size, value),
         }
+        Ok(())
     }
 }
