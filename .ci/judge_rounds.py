@@ -52,7 +52,7 @@ class Judge:
         told += self.compared(machine, printed)
         if self.machine is not None and self.machine.fuel == self.fuel:
             told += self.bounded(machine, printed, reached)
-        if self.machine is not None and self.data == data and self.machine.fuel == self.fuel:
+        if self.machine is not None and self.data == data and self.machine.fuel == self.fuel and self.machine.limit == self.limit:
             told += self.repeated(printed)
         if self.workers == 1:
             told += self.alone(printed, data)
