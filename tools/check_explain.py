@@ -75,7 +75,7 @@ def lines_of_formats():
 
 def kinds_of(text):
     """The refusals of executables."""
-    table = text[text.index("| refusal | exactly where |"):].split("\n\n")[0]
+    table = text[text.index("| refusal | exactly if |"):].split("\n\n")[0]
     return [written(row.split("|")[1].strip()) for row in table.split("\n")[2:]]
 
 
