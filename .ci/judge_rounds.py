@@ -2,13 +2,10 @@
 rounds of a line. And makes such reports, by drawn workers that share no code with the program: `drawn_rounds`, with what is judged must be right, and
 `falsified`, which the judge must refuse."""
 import dataclasses
-import os
-import sys
 
-sys.path.insert(1, os.path.join(os.path.dirname(os.path.dirname(os.path.abspath(__file__))), "tools"))
-import reports  # noqa: E402
-from reports import end_text  # noqa: E402
-from plain_calls import CallMachine, History, Impossible, lone_pick, read_executable  # noqa: E402
+from plain_calls import CallMachine, History, Impossible, lone_pick, read_executable
+import reports  # in tools/, where plain_calls.py has it looked for
+from reports import end_text
 
 
 def edited(data, edits):
@@ -52,7 +49,7 @@ class Judge:
         told += self.compared(machine, printed)
         if self.machine is not None and self.machine.fuel == self.fuel:
             told += self.bounded(machine, printed, reached)
-        if self.machine is not None and self.data == data and self.machine.fuel == self.fuel:
+        if self.machine is not None and self.data == data and self.machine.fuel == self.fuel and self.machine.limit == self.limit:
             told += self.repeated(printed)
         if self.workers == 1:
             told += self.alone(printed, data)

@@ -250,29 +250,31 @@ class Machine:
             return f"exit {first}"
         if which == 1:
             self.output += put
-            self.answer(t, put_answer(second, put))
+            self.answer(number, put_answer(second, put))
         elif which == 2:
             t_new = len(self.threads)
             if first % 4 == 0:
                 self.threads.append(Thread(t_new, first, second, dict(self.shared)))
-            self.answer(t, t_new if first % 4 == 0 else -22)
+            self.answer(number, t_new if first % 4 == 0 else -22)
         elif which == 3:
             t.status, t.value = "ended", first
             if t.joiner is not None:
-                self.answer(self.threads[t.joiner], 0, first)
+                self.answer(t.joiner, 0, first)
         elif which == 4:
             other = self.threads[first]
             if other.status == "ended":
-                self.answer(t, 0, other.value)
+                self.answer(number, 0, other.value)
             else:
                 other.joiner, t.status = number, "blocked"
         elif which == 5:
-            self.answer(t, 0)
+            self.answer(number, 0)
         else:
             return f"trap {number} {t.pc:08x} 8"
         return None
 
-    def answer(self, t, first, second=None):
+    def answer(self, number, first, second=None):
+        """A call of a thread returns."""
+        t = self.threads[number]
         t.x[10] = first & WORD
         if second is not None:
             t.x[11] = second & WORD

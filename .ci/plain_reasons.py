@@ -19,9 +19,9 @@ class WatchedMachine(CallMachine):
             self.view_given[count] = len(self.entries) - 1
         return ended
 
-    def answer(self, t, first, second=None):
-        super().answer(t, first, second)
-        self.view_given[self.threads.index(t)] = len(self.entries) - 1
+    def answer(self, number, first, second=None):
+        super().answer(number, first, second)
+        self.view_given[number] = len(self.entries) - 1
 
     def storer(self, number, page, place):
         """The last step that stored a byte, of those up to the one that gave a thread its view."""

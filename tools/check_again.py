@@ -94,8 +94,9 @@ def check_edits(checks):
     checks.expect(f"again, on what a pipe gives: {piped}", piped[:2] == (0, bytes([5, 0, 0, 0])))
     (place.kept / "stdin.memo").unlink()
     (place.kept / "stdin.scratch").unlink()
-    place.expect("with a step limit", 12, "the memo has --steps 4096", "--", "--steps=12")
-    place.expect("with the same step limit", 0, "", "--", "--steps", "12")
+    place.expect("with a step limit", 0, "", "--", "--steps=12")
+    with open(place.memo, "rb") as memo:
+        checks.expect("again, with a step limit: it is the memo's", memos.head(memo).steps == 12)
     place.expect("without one", 0)
     shutil.copy(EXAMPLES / "bytes.elf", place.guest)
     place.expect("with another program", 8, "the program has changed")
@@ -138,6 +139,12 @@ def check_limits(checks):
     checks.expect(f"again, where a step was long: {status} {said}", right)
     status, printed, counts, said = again(place.guest, place.data, "--", "--fuel", "1000")
     checks.expect(f"again, where the fuel is said: {status} {said}", status == 213 and "as --fuel allows" in said)
+    place = Place(checks, "steps", EXAMPLES / "pair.elf", (EXAMPLES / "pair.in").read_bytes())
+    place.expect("before a step limit", 12, "there was no memo")
+    status, printed, counts, said = again(place.guest, place.data, "--", "--steps", "5")
+    right = status == 213 and counts and counts[:2] == (5, 0) and "as --steps allows" in said
+    checks.expect(f"again, with a step limit that is reached: {status} {said}", right)
+    place.expect("after it", 7, "a limit was reached, so it ran again with")
 
 
 def check_statuses(checks):

@@ -7,11 +7,13 @@
     reached, and whose stack was too small. A report of another guest is found out.
   - A guest that prints and then traps loses what it printed, but for `guest/build --unbuffered`.
 """
+import ast
 import re
 import shutil
 import subprocess
 
 import sentences
+import tool_lines
 from checking import EXAMPLES, ROOT, SECONDS, program, ran_whole, tool
 
 NUMBERS = {"i": "3", "j": "4", "n": "1200", "V": "7", "O": "99", "I": "2", "N": "300000000", "T": "1"}
@@ -47,6 +49,24 @@ SAID = {
                "step 4095, of thread 0, was the last that --steps allows; it was in main, yields.c:2"],
     "deep": ["thread 2 used more than the 65,536 bytes of its stack", "into the stack of thread 1"],
 }
+SAYING = {  # what says a line, and what stands before its text
+    "refuse": "", "end": "", "say": "", "error": "error: ", "NotBuilt": "", "Ended": "", "NoGuest": "FILE: ",
+    "NoSymbols": "FILE: ", "NotReports": "FILE: ",
+}
+SAID_BY_OTHERS = [
+    "build: there is no clang (package clang)", "build: --wrong is not understood", "tools/explore: 100 tries take some 12 s",
+    "build: there is no picolibc (package picolibc-riscv64-unknown-elf)", "ithreads: built in 3 s",
+    "build: there is no objdump for --notes (packages binutils-riscv64-unknown-elf, llvm)",
+    "ithreads: proves the program's 40 crates and builds it, which takes some 27 minutes on two processors",
+    "ithreads: tools/try runs it before that, without a proof", "trace: proved rv_step (3 of 40, 17 s)",
+    "ithreads: 3 of 40 crates proved, 47 s", "ithreads: the sources can't be copied to /tmp/x",
+    "ithreads: /usr/lib/ithreads/bin/ithreads_cli isn't there: install ithreads again",
+    "tools/report: reports: it stops being a report at byte 3: `round` is wanted, and there stands 'x'",
+    "tools/check-edits: a.edits line 3: BadLine: column 1: expected `set D H`, and there stands `x`",
+    "tools/edits: a.edits line 3: OutOfRange: it writes up to byte 9, and the input has 3 bytes here",
+    "tools/timeline: why: line 2: a reason is wanted, and there stands `x`",
+    "ithreads-why: error: the following arguments are required: MEMO, EDITS",
+]
 LOST = b"""#include <stdio.h>
 int main(void) { printf("printed\\n"); *(volatile int *)1 = 2; return 0; }
 """
@@ -91,6 +111,43 @@ def check_table(checks):
     for line in ("memo: digest", ""):
         status, printed, said = tool("explain", line)
         checks.expect(f"explain `{line}`: {status} {said}", status == 1 and not printed and "no line" in said)
+
+
+def lines_of_tools():
+    """Each line that a tool of this folder says on standard error, with another text for what it puts in, by its source:
+    what it refuses, and what it raises to be refused."""
+    for file in sorted((ROOT / "tools").iterdir()):
+        if file.name.startswith("check_") or file.name == "blocks.py" or not is_python(file):  # which says nothing
+            continue
+        for node in ast.walk(ast.parse(file.read_text())):
+            name = getattr(node.func, "attr", getattr(node.func, "id", "")) if isinstance(node, ast.Call) else ""
+            if name in SAYING and node.args and (text := text_of(node.args[-1])):
+                yield f"tools/{file.name.removesuffix('.py')}: {SAYING[name]}{text}"
+
+
+def is_python(file):
+    return file.is_file() and (file.suffix == ".py" or file.read_bytes().startswith(b"#!/usr/bin/env python3"))
+
+
+def text_of(node):
+    """A text as it is put together, with a number for what is put in; nothing if it has no word of its own."""
+    parts = node.values if isinstance(node, ast.JoinedStr) else [node]
+    texts = [part.value if isinstance(part, ast.Constant) and isinstance(part.value, str) else "3" for part in parts]
+    return "".join(texts) if re.search("[a-z]", "".join(texts)) else None
+
+
+def check_tools(checks):
+    """Each line of a tool has a sentence, and so has what the launcher and guest/build say."""
+    told = [*lines_of_tools(), *SAID_BY_OTHERS]
+    without = [line for line in told if not tool_lines.explained(line)]
+    checks.expect(f"{len(told)} lines of the tools have sentences, but for {without}", not without and len(told) > 60)
+    unknown = [line for line in ("tools/why", "tools/why: ", "why 3", "build", "ithreads: other") if tool_lines.explained(line)]
+    checks.expect(f"other lines have no sentence, but for {unknown}", not unknown)
+    for line, wanted in (("tools/verify: none can't be read: No such file or directory", "there is no file none"),
+                         ("ithreads-timeline: ithreads ended with status 4: memo: Digest", "the memo is damaged"),
+                         ("tools/run: round 0 ended by spent: it had 4096 steps, as many as --steps allows", "--steps 65536")):
+        status, printed, said = tool("explain", line)
+        checks.expect(f"explain `{line}`: {printed} {said}", status == 0 and wanted in printed.decode())
 
 
 def check_files(checks):
@@ -167,6 +224,7 @@ def check_unbuffered(checks):
 
 def check(checks):
     check_table(checks)
+    check_tools(checks)
     check_files(checks)
     check_guests(checks)
     check_built(checks)

@@ -5,6 +5,7 @@
     instructions there are; there is a line for each step that waits, that wakes, or whose reason is known.
   - Rounds of 65,536 steps have few boxes, whose steps are all steps, in time. Of 300 steps, too, and a column in which
     a step was executed shows it. The page of HTML has all steps, and where there is Chromium, it draws them in time.
+  - Steps of one function are one box, with its name, of a guest with symbols.
   - What it says of pair.elf is what ./trace, `show` and `why` say. Its table is that of README.
   - A file of reports, a listing, a trace or the lines of `why` that is cut at any byte is refused, and a line says
     where.
@@ -39,6 +40,14 @@ step 8 thread 2 number 2 register 6 now 13 was 12
 step 10 thread 0 number 4 page 00011000 at 0 now 13 was 12 by 5
 """
 WAKES = {(0, 1), (2, 2), (4, 2), (7, 0)}  # of pair.elf: which step wakes or begins which thread
+
+
+C_FILE = b"""\
+#include "ithreads.h"
+static IT_NOINLINE unsigned early(unsigned n) { for (unsigned k = 0; k < n; k++) it_yield(); return n; }
+static IT_NOINLINE unsigned later(unsigned n) { for (unsigned k = 0; k < n; k++) it_yield(); return n + 1; }
+int main(void) { return (early(120) + later(120)) & 1; }
+"""
 
 
 # The picture, taken apart.
@@ -229,6 +238,28 @@ def check_rerun(checks):
         checks.expect("timeline of a rerun: pages of what is reused", all(has == reused for has, reused in have))
 
 
+def check_functions(checks):
+    """A run of more steps than are drawn one by one, of which two functions have half each: who they are is known of a
+    guest with symbols, and drawn, and so is that a rerun without an edit reuses them."""
+    source, elf, memo = checks.file("turns.c", C_FILE), checks.folder / "turns.elf", checks.folder / "memo"
+    status, _, said = ran(str(ROOT / "guest/build"), "--symbols", str(source), str(elf))
+    if not checks.expect(f"turns.c is built: {status} {said}", status == 0):
+        return
+    words = [elf, EXAMPLES / "empty", checks.file("none.edits", b"")]
+    _, printed, _ = program("run", *words, "--workers", "1", "--memo", memo)
+    status, drawn, said = tool("timeline", checks.file("reports", printed), "--memo", memo, "--symbols", elf)
+    if checks.expect(f"timeline by functions: {status} {said}", status == 0):
+        for one, kind in zip(rounds_of(drawn), ("0 reused, 120 executed", "120 reused, 0 executed")):
+            titles = [title for _, _, title, *_ in boxes_of(one)]
+            names = [text.text for text in one.iter(f"{NAMESPACE}text") if text.get("class") == "call"]
+            checks.expect(f"timeline by functions: the boxes are {titles}, and have the names {names}",
+                          {"early", "later"} <= set(names) and
+                          all(any(kind in it and f"in: 120 {name}" in it for it in titles) for name in ("early", "later")))
+    for more, wanted in ((("--symbols", elf), "usage"), (("--memo", memo, "--symbols", PAIR[0]), "no symbol table")):
+        status, _, said = ran_whole(str(ROOT / "tools/timeline"), str(checks.folder / "reports"), *map(str, more))
+        checks.expect(f"timeline {more}: {status} {said}", status == 2 and wanted in said)
+
+
 def check_limits(checks):
     """A run with other limits than there are by itself."""
     status, printed, said = with_all(checks, PAIR, "1", "--text", "--steps", "12", "--fuel", "7")[1]
@@ -355,6 +386,7 @@ def check(checks):
         check_guest(checks, PAIR, workers)
     check_pair(checks)
     check_rerun(checks)
+    check_functions(checks)
     check_limits(checks)
     check_table(checks)
     check_cut(checks)

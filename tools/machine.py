@@ -7,10 +7,9 @@ import struct
 from dataclasses import dataclass, field
 
 from blocks import EXECUTE, PAGE, READ, WRITE, Trap, translated
+from calls import CALLS, EFAULT, EINVAL, EXIT, MOST_PUT, PUT, THREADS, Calls
 
-HEADER, INPUT_PAGES, STACKS, STACK_PAGES, THREADS, OBJECTS = 0xC0000, 256, 0xD0000, 512, 32, 64
-EPERM, ESRCH, EAGAIN, EFAULT, EBUSY, EINVAL, EDEADLK, EOVERFLOW = -1, -3, -11, -14, -16, -22, -35, -75
-MOST_VALUE, MOST_PUT = 2**31 - 1, 4096
+HEADER, INPUT_PAGES, STACKS, STACK_PAGES = 0xC0000, 256, 0xD0000, 16 * THREADS
 ZEROS = bytes(PAGE)
 
 
@@ -89,10 +88,11 @@ class Step:
     wakes: list = field(default_factory=list)
 
 
-class Machine:
+class Machine(Calls):
     """A run. `ended` is how it ended, as a report has it."""
 
     def __init__(self, image, given, fuel=1_000_000, limit=4096):
+        super().__init__()
         self.image, self.fuel, self.limit = image, fuel, limit
         self.output, self.ended, self.steps = bytearray(), None, []
         self.shared = dict(image.pages)
@@ -101,16 +101,14 @@ class Machine:
             self.shared[HEADER + 1 + start // PAGE] = given[start:start + PAGE].ljust(PAGE, b"\0")
         self.threads, self.instructions = [], 0
         self.is_single, self.on_store = False, None  # each turn by itself; called with a thread and a page, once a step
-        self.owner, self.queues, self.mutex_of = {}, {}, {}
-        self.values, self.needed = [0] * OBJECTS, [0] * OBJECTS
-        self.writer, self.readers = {}, [set() for _ in range(OBJECTS)]
-        self.to_write = set()  # the threads that wait for a reader-writer lock to write
         self.begin(image.entry, HEADER * PAGE)
 
     def begin(self, pc, argument):
         number, x = len(self.threads), [0] * 32
         x[2], x[4], x[10] = STACKS * PAGE + 16 * PAGE * (number + 1), number, argument
         self.threads.append(Thread(pc, x, dict(self.shared)))
+        if self.steps:
+            self.steps[-1].begins = number
 
     def ready(self):
         return [number for number, thread in enumerate(self.threads) if thread.status == "ready"]
@@ -145,7 +143,7 @@ class Machine:
         x, put = thread.x, None
         if end == "call":
             made.end, made.first, made.second = f"call {x[17]}", x[10], x[11]
-            put = self.put(thread, own) if x[17] == 1 else None
+            put = self.put(thread, own) if x[17] == PUT else None
         self.commit(thread.view, own)
         thread.made += 1
         if end == "trap":
@@ -234,26 +232,18 @@ class Machine:
         else:
             self.steps[-1].wakes.append(number)
 
-    def queue(self, kind, place):
-        return self.queues.setdefault((kind, place), [])
-
-    def block(self, number, kind, place):
-        self.queue(kind, place).append(number)
-        self.threads[number].status, self.threads[number].waits = "blocked", (kind, place)
+    def wait(self, number, kind, place):
+        super().wait(number, kind, place)
+        self.threads[number].waits = (kind, place)
 
     def call(self, number, thread, which, put):
         """Does a call."""
-        first, second = thread.x[10:12]
-        if which == 0:
-            self.ended = f"exit {first}"
-        elif which == 3:
-            thread.status, thread.value = "ended", first
-            if thread.joiner is not None:
-                self.answer(thread.joiner, 0, first)
-        elif which not in CALLS:
+        if which == EXIT:
+            self.ended = f"exit {thread.x[10]}"
+        elif which >= len(CALLS):
             self.ended = f"trap {number} {thread.pc:08x} 8"
         else:
-            answer = CALLS[which](self, number, put if which == 1 else first, second)
+            answer = self.written(put) if which == PUT else CALLS[which].does(self, number, *thread.x[10:12])
             if answer is not None:
                 self.answer(number, answer)
         self.steps[-1].waits = self.waiting(number)
@@ -276,194 +266,12 @@ class Machine:
                             for at, holder in enumerate(sorted(self.holders(place))))
         return told
 
-    def written(self, _, put, __):
+    def written(self, put):
+        """Puts bytes out, if they aren't refused."""
         if isinstance(put, int):
             return put
         self.output += put
         return len(put)
-
-    def create(self, _, pc, argument):
-        if pc % 4:
-            return EINVAL
-        if len(self.threads) == THREADS:
-            return EAGAIN
-        self.begin(pc, argument)
-        self.steps[-1].begins = len(self.threads) - 1
-        return len(self.threads) - 1
-
-    def join(self, number, other, _):
-        if other >= len(self.threads):
-            return ESRCH
-        if other == number:
-            return EDEADLK
-        joined = self.threads[other]
-        if joined.joiner is not None:
-            return EINVAL
-        joined.joiner = number
-        if joined.status == "ended":
-            return self.answer(number, 0, joined.value)
-        self.threads[number].status, self.threads[number].waits = "blocked", ("end", other)
-        return None
-
-    def take_turns(self, _, __, ___):
-        return 0
-
-    def lock(self, number, mutex, _):
-        if mutex >= OBJECTS:
-            return EINVAL
-        if mutex not in self.owner:
-            self.owner[mutex] = number
-            return 0
-        return EDEADLK if self.owner[mutex] == number else self.block(number, "mutex", mutex)
-
-    def trylock(self, number, mutex, _):
-        if mutex >= OBJECTS:
-            return EINVAL
-        return EBUSY if mutex in self.owner else self.lock(number, mutex, _)
-
-    def unlock(self, number, mutex, _):
-        if mutex >= OBJECTS:
-            return EINVAL
-        if self.owner.get(mutex) != number:
-            return EPERM
-        self.give_up(mutex)
-        return 0
-
-    def give_up(self, mutex):
-        """A mutex goes to the first who waits, if there is one."""
-        del self.owner[mutex]
-        if queue := self.queue("mutex", mutex):
-            self.owner[mutex] = queue.pop(0)
-            self.answer(self.owner[mutex], 0)
-
-    def sem_wait(self, number, place, _):
-        if place >= OBJECTS:
-            return EINVAL
-        if self.values[place] == 0:
-            return self.block(number, "semaphore", place)
-        self.values[place] -= 1
-        return 0
-
-    def sem_trywait(self, number, place, _):
-        return EAGAIN if place < OBJECTS and self.values[place] == 0 else self.sem_wait(number, place, _)
-
-    def sem_post(self, _, place, __):
-        if place >= OBJECTS:
-            return EINVAL
-        if queue := self.queue("semaphore", place):
-            self.answer(queue.pop(0), 0)
-        elif self.values[place] == MOST_VALUE:
-            return EOVERFLOW
-        else:
-            self.values[place] += 1
-        return 0
-
-    def sem_init(self, _, place, value):
-        if place >= OBJECTS or value > MOST_VALUE:
-            return EINVAL
-        if self.queue("semaphore", place):
-            return EBUSY
-        self.values[place] = value
-        return 0
-
-    def barrier_init(self, _, place, count):
-        if place >= OBJECTS or not 0 < count <= THREADS:
-            return EINVAL
-        if self.queue("barrier", place):
-            return EBUSY
-        self.needed[place] = count
-        return 0
-
-    def barrier_wait(self, number, place, _):
-        if place >= OBJECTS or self.needed[place] == 0:
-            return EINVAL
-        queue = self.queue("barrier", place)
-        if len(queue) + 1 < self.needed[place]:
-            return self.block(number, "barrier", place)
-        while queue:
-            self.answer(queue.pop(0), 0)
-        return 1
-
-    def cond_wait(self, number, condition, mutex):
-        if condition >= OBJECTS or mutex >= OBJECTS:
-            return EINVAL
-        if self.owner.get(mutex) != number:
-            return EPERM
-        if any(self.mutex_of[other] != mutex for other in self.queue("condition", condition)):
-            return EINVAL
-        self.mutex_of[number] = mutex
-        self.block(number, "condition", condition)
-        return self.give_up(mutex)
-
-    def signal(self, _, condition, __):
-        return EINVAL if condition >= OBJECTS else self.wake(condition, 1)
-
-    def broadcast(self, _, condition, __):
-        return EINVAL if condition >= OBJECTS else self.wake(condition, THREADS)
-
-    def wake(self, condition, most):
-        """So many at most leave a condition, and each comes to its mutex."""
-        queue = self.queue("condition", condition)
-        for number in [queue.pop(0) for _ in range(min(most, len(queue)))]:
-            mutex = self.mutex_of.pop(number)
-            if mutex in self.owner:
-                self.block(number, "mutex", mutex)
-            else:
-                self.owner[mutex] = number
-                self.answer(number, 0)
-        return 0
-
-
-    def holders(self, lock):
-        """The readers of a reader-writer lock, or its writer."""
-        return {self.writer[lock]} if lock in self.writer else self.readers[lock]
-
-    def rdlock(self, number, lock, _):
-        if lock >= OBJECTS:
-            return EINVAL
-        if number in self.holders(lock):
-            return EDEADLK if lock in self.writer else EAGAIN
-        if lock in self.writer or self.queue("rwlock", lock):
-            return self.block(number, "rwlock", lock)
-        self.readers[lock].add(number)
-        return 0
-
-    def wrlock(self, number, lock, _):
-        if lock >= OBJECTS:
-            return EINVAL
-        if number in self.holders(lock):
-            return EDEADLK
-        if self.holders(lock):
-            self.to_write.add(number)
-            return self.block(number, "rwlock", lock)
-        self.writer[lock] = number
-        return 0
-
-    def trywrlock(self, number, lock, _):
-        if lock >= OBJECTS:
-            return EINVAL
-        return EBUSY if self.holders(lock) else self.wrlock(number, lock, _)
-
-    def rwunlock(self, number, lock, _):
-        if lock >= OBJECTS:
-            return EINVAL
-        if number not in self.holders(lock):
-            return EPERM
-        self.writer.pop(lock, None)
-        self.readers[lock].discard(number)
-        self.hand_on(lock)
-        return 0
-
-    def hand_on(self, lock):
-        """Who waits to read before the first who waits to write reads now; if then nobody holds the lock, the first writes."""
-        queue = self.queue("rwlock", lock)
-        while queue and queue[0] not in self.to_write:
-            self.readers[lock].add(queue[0])
-            self.answer(queue.pop(0), 0)
-        if queue and not self.holders(lock):
-            self.writer[lock] = queue.pop(0)
-            self.to_write.remove(self.writer[lock])
-            self.answer(self.writer[lock], 0)
 
 
 class Seen:
@@ -474,12 +282,6 @@ class Seen:
 
     def __getitem__(self, page):
         return self.own[page][2] if page in self.own else self.view[page]
-
-
-CALLS = {1: Machine.written, 2: Machine.create, 4: Machine.join, 5: Machine.take_turns, 6: Machine.lock, 7: Machine.trylock,
-         8: Machine.unlock, 9: Machine.sem_wait, 10: Machine.sem_trywait, 11: Machine.sem_post, 12: Machine.sem_init,
-         13: Machine.barrier_init, 14: Machine.barrier_wait, 15: Machine.cond_wait, 16: Machine.signal,
-         17: Machine.broadcast, 18: Machine.rdlock, 19: Machine.wrlock, 20: Machine.rwunlock, 21: Machine.trywrlock}
 
 
 def by_rule(machine, ready):

@@ -3,9 +3,10 @@ in it a box for each step, in the order of the schedule from left to right.
 
 A box is the wider the more instructions its step has, where that is known, by one scale for all rounds. Executed steps
 are orange and hatched, reused ones light blue and plain, which eyes that see fewer colours can tell too. A round of
-more than FOLDED steps is folded by time: in each lane the steps of one column are one box, and the hatched part of a
-box is as high as its share of executed steps, and never too low to be seen; columns that follow each other and have
-steps of one kind alone are one box, too.
+more than FOLDED steps is folded: by function, if functions are known, so that the steps of a lane that follow each
+other in one function, all executed or all reused, are one box; and then by time, so that the boxes of a lane in one
+column are one. The hatched part of a box is as high as its share of executed steps, and never too low to be seen. Boxes
+that touch each other and have steps of one kind and one function alone are one, too.
 """
 from collections import Counter
 from dataclasses import dataclass
@@ -52,21 +53,32 @@ DEFINITIONS = """<defs>
 
 @dataclass
 class Box:
-    """Steps of one lane that are drawn as one: where, and how many of them were executed."""
+    """Steps of one lane that are drawn as one: where, how many of them were executed, and the function that all are in;
+    None if they are in several, or that isn't known."""
 
     steps: list
     left: float
     right: float
     executed: int
+    function: str | None = None
 
     def add(self, other):
         """Takes the steps of another box."""
         self.steps += other.steps
         self.executed += other.executed
+        self.function = self.function if self.function == other.function else None
+
+    def is_as(self, other):
+        """Whether its steps and those of another box are all of one kind and in one function."""
+        return self.kinds() == other.kinds() != (True, True) and self.function == other.function
 
     def kinds(self):
         """Whether there are reused steps, and executed ones."""
         return self.executed < len(self.steps), self.executed > 0
+
+    def name(self):
+        """What is written in it: its step's call, or the function of its steps."""
+        return self.steps[0].call if len(self.steps) == 1 else self.function
 
 
 # Texts.
@@ -85,6 +97,7 @@ def said_of_step(step):
     """All that is known of a step, in lines."""
     lines = [f"step {step.place}: thread {step.thread}, number {step.number}, "
              f"{'reused' if step.is_reused else 'executed'}", step.text]
+    lines += [None if step.function is None else f"in {step.function}"]
     lines += [None if step.count is None else f"{step.count:,} instructions"]
     lines += [None if step.reads is None else f"reads {listed(step.reads)}; writes {listed(step.writes)}"]
     lines += [None if step.reason is None else f"executed, since: {step.reason}", *step.notes]
@@ -98,6 +111,7 @@ def said_of_steps(box):
     lines = [f"steps {first.place} to {last.place} of thread {first.thread}, its numbers {first.number} to "
              f"{last.number}: {len(box.steps) - executed} reused, {executed} executed"]
     lines += [] if None in counts else [f"{sum(counts):,} instructions"]
+    lines += most_of("in", (step.function for step in box.steps if step.function))
     lines += most_of("calls", (step.call for step in box.steps if step.call))
     notes = (step.notes[0] for step in box.steps if step.notes)
     lines += most_of("executed", (note for note in notes if note.startswith("from ")))
@@ -145,11 +159,16 @@ def boxes_of(steps, places, column):
     """The boxes of a round, by lanes: one for each step, where there aren't too many."""
     lanes = {}
     for step in steps:
-        box = Box([step], places[step.place], places[step.place + 1], int(not step.is_reused))
+        box = Box([step], places[step.place], places[step.place + 1], int(not step.is_reused), step.function)
         lanes.setdefault(step.thread, []).append(box)
     if len(steps) > FOLDED:
-        lanes = {thread: joined(in_columns(boxes, column)) for thread, boxes in lanes.items()}
+        lanes = {thread: joined(in_columns(by_function(boxes), column)) for thread, boxes in lanes.items()}
     return lanes
+
+
+def by_function(boxes):
+    """The boxes of a lane, of which those that follow each other in one function and are of one kind are one."""
+    return joined(boxes, lambda before, box: box.function is not None)
 
 
 def in_columns(boxes, column):
@@ -160,7 +179,7 @@ def in_columns(boxes, column):
         if at is not None and at == last:
             made[-1].add(box)
         elif at is not None:
-            made.append(Box(box.steps, at * float(column), (at + 1) * float(column), box.executed))
+            made.append(Box(box.steps, at * float(column), (at + 1) * float(column), box.executed, box.function))
         else:
             made.append(box)
         last = at
@@ -169,12 +188,17 @@ def in_columns(boxes, column):
     return made
 
 
-def joined(boxes):
-    """The boxes of a lane, of which those that touch each other and have steps of the same one kind are one."""
+def touch(before, box):
+    return box.left - before.right < 1
+
+
+def joined(boxes, may=touch):
+    """The boxes of a lane, of which those that follow each other and have steps of one kind and in one function are one,
+    if they may."""
     made = boxes[:1]
     for box in boxes[1:]:
         before = made[-1]
-        if before.kinds() == box.kinds() != (True, True) and box.left - before.right < 1:
+        if before.is_as(box) and may(before, box):
             before.add(box)
             before.right = box.right
         else:
@@ -226,7 +250,7 @@ class Drawing:
         for kind, at, height in (("reused", y, BOX), ("executed", y + BOX - high, high)):
             if height and (kind == "executed" or executed < len(box.steps)):
                 made += element("rect", "", **{"class": kind}, x=box.left, y=at, width=width, height=height)
-        name = box.steps[0].call if len(box.steps) == 1 else None
+        name = box.name()
         if name and width > 5.9 * len(name) + 4:
             made += label(box.left + width / 2, y + BOX / 2 + 4, name, "call")
         return made + "</g>\n"

@@ -8,6 +8,8 @@ its steps have stored there so far. A function of the library saves its return a
 import struct
 from dataclasses import dataclass
 
+import symbols
+
 PAGE = 4096
 STACKS, STACK = 0xD0000000, 0x10000
 HEAD = struct.Struct("<BBI64I")  # thread, end, turns, and the registers at the start and at the end, each with the pc
@@ -96,6 +98,18 @@ class Records:
         return int.from_bytes(kept[address % PAGE:address % PAGE + 4], "little") if kept else 0
 
 
+def symbols_for(tool, name, elf):
+    """The symbols of an executable, which has to load what another one does; the tool ends if it doesn't."""
+    try:
+        found = symbols.Symbols(name, tool.content(name))
+        if found.segments != symbols.segments(elf):
+            tool.refuse(2, f"{name} isn't the memo's guest: it has other code or data")
+    except symbols.NoSymbols as why:
+        tool.refuse(2, f"{name}: {why}")
+    found.read_library()
+    return found
+
+
 class Code:
     """The code of an executable: its functions by `found`, its symbols, and which of them are the library's."""
 
@@ -123,6 +137,11 @@ class Code:
                     break
             self.frames[pc] = (size, saved) if saved is not None else None
         return self.frames[pc]
+
+    def own(self, record):
+        """The address of the guest's own code that a step is of: where it began; and where it ended, if it was its
+        thread's first, or began in the library for no line of the guest's."""
+        return record.caller if record.number == 0 or self.found.is_library(record.begun) else record.begun
 
     def caller(self, pc, sp, word, ra=0):
         """Where the guest's own code called what came to this pc; the pc itself where that isn't found. ra is wanted if

@@ -176,10 +176,15 @@ LINES = [
 ]
 
 
-def explained(line):
-    """The sentence of a line."""
-    for pattern, sentence in LINES:
+def found_in(table, line):
+    """The sentence of the first pattern that the whole line fits."""
+    for pattern, sentence in table:
         found = re.fullmatch(pattern, line, flags=re.S)
         if found:
             return sentence(*found.groups()) if callable(sentence) else sentence.format("", *found.groups())
     return None
+
+
+def explained(line):
+    """The sentence of a line."""
+    return found_in(LINES, line)

@@ -8,10 +8,8 @@ import re
 from dataclasses import dataclass, field
 
 import reports
+from calls import CALLS, CREATE, PUT
 
-CALLS = ("exit put create thread_exit join yield lock trylock unlock sem_wait sem_trywait sem_post sem_init "
-         "barrier_init barrier_wait cond_wait signal broadcast rdlock wrlock rwunlock trywrlock").split()
-ARGUMENTS = {1: 2, 2: 2, 5: 0, 12: 2, 13: 2, 15: 2}  # how many a call has, where it isn't one
 ENTRY = re.compile(r"entry ([0-9]+) thread ([0-9]+) number ([0-9]+) end (call [0-9]+|trap [0-7]|fuel) count ([0-9]+)"
                    r" reads (-|%s(?:,%s)*) writes (-|%s(?:,%s)*)" % (("[0-9a-f]{8}",) * 4))
 HEAD = re.compile(r"(elf|input|fuel|limit|entries) [0-9]+")
@@ -48,6 +46,7 @@ class Step:
     begins: int | None = None
     reads: list | None = None
     writes: list | None = None
+    function: str | None = None
     reason: str | None = None
     notes: list = field(default_factory=list)  # what stands behind the reason
     stored_by: int | None = None  # the step that stored what it was executed for
@@ -59,9 +58,13 @@ def call_text(call):
     if kind != "call":
         return "no call within the fuel" if kind == "fuel" else f"trap at {call.pc:08x}"
     number = int(which)
-    first = f"{call.first:08x}" if number in (1, 2) else str(call.first)
-    arguments = (first, str(call.second))[:ARGUMENTS.get(number, 1)]
-    return f"{CALLS[number] if number < len(CALLS) else f'call {number}'}({', '.join(arguments)})"
+    first = f"{call.first:08x}" if number in (PUT, CREATE) else str(call.first)
+    arguments = (first, str(call.second))[:CALLS[number].arguments if number < len(CALLS) else 1]
+    return f"{call_name(number)}({', '.join(arguments)})"
+
+
+def call_name(number):
+    return CALLS[number].name if number < len(CALLS) else f"call {number}"
 
 
 def steps_of(report):
@@ -98,9 +101,7 @@ def pages(text):
 def end_name(end):
     """How a record ended: the call by its name, a trap or spent fuel."""
     kind, _, number = end.partition(" ")
-    if kind == "call":
-        return CALLS[int(number)] if int(number) < len(CALLS) else f"call {number}"
-    return end
+    return call_name(int(number)) if kind == "call" else end
 
 
 class Rounds:
@@ -131,28 +132,33 @@ class Rounds:
         entries = int(lines[4].partition(" ")[2]) if lines[4:] else 1
         if len(lines) != entries + 5 or len(self.steps.get(number, lines[5:])) != entries:
             raise Refused(len(lines) + 1, f"{entries} entries are wanted, and as many are steps of round {number}")
-        self.spread(number, known)
+        self.spread(number, known, self.add_record)
 
-    def spread(self, number, known):
-        """Lays the records of a round, by thread and number, to its steps, and on to those that have the same: in the
-        rounds behind to what was reused from there, and in those before to what these were reused from."""
+    def add_functions(self, number, functions):
+        """In which function of the guest each step of a round is, by thread and number."""
+        self.spread(number, functions, lambda step, function: setattr(step, "function", function))
+
+    def spread(self, number, known, add):
+        """Adds what is known of the records of a round, by thread and number, to its steps, and to those that have the
+        same records: in the rounds behind what was reused from there, and in those before what these were reused
+        from."""
         for direction in (1, -1):
             at, records = number, known
             while records and (at == number or at in self.steps):
                 for step in self.steps.get(at, []):
-                    self.lay(step, records.get((step.thread, step.number)))
+                    if (step.thread, step.number) in records:
+                        add(step, records[step.thread, step.number])
                 later = self.steps.get(max(at, at + direction), [])
                 reused = {(step.thread, step.number) for step in later if step.is_reused}
                 records = {key: record for key, record in records.items() if key in reused}
                 at += direction
 
     @staticmethod
-    def lay(step, record):
+    def add_record(step, record):
         """What a record says of a step; a call with its arguments stays."""
-        if record:
-            end, count, reads, writes = record
-            step.call, step.text = end_name(end), step.text or end_name(end)
-            step.count, step.reads, step.writes = int(count), pages(reads), pages(writes)
+        end, count, reads, writes = record
+        step.call, step.text = end_name(end), step.text or end_name(end)
+        step.count, step.reads, step.writes = int(count), pages(reads), pages(writes)
 
     def add_trace(self, number, text):
         """What `./trace` says of the schedule of a round."""

@@ -16,9 +16,48 @@ LEAST_SHARE = 50  # a change that saves less than one of so many instructions is
 ROWS = 20
 WIDTH = 100
 MOST_BESIDE = 5  # other variables that are shown of a page
-NO_ADVICE = ("input", "unnamed", "own")  # kinds of rows
-BY_FUNCTION = ("register", "stack", "shared stack", "path", "more")  # kinds of which each function has rows of its own
 OWN_PAGE = "a page of its own (`alignas(4096)`, or IT_PAGE_ALIGNED)"
+
+
+@dataclass(frozen=True)
+class Kind:
+    """A kind of rows: what is advised for them, with names in braces, and whether each function has rows of its own."""
+
+    advice: str = ""
+    is_by_function: bool = False
+
+
+KINDS = {
+    "input": Kind(),
+    "unnamed": Kind(),
+    "own": Kind(),
+    "variable": Kind("move `{name}`{by} to {own_page}. The page also has {beside}: {where} may need only one of these."),
+    "heap": Kind("give {name}{by} pages of its own: one malloc of more than 2,032 bytes, or aligned_alloc(4096, ..), "
+                 "for what one thread or one block of the input needs. {where} reads it."),
+    "stack": Kind("move what {function} computes from its stack to a structure on {own_page}, one for each thread or "
+                  "block of the input.", True),
+    "shared stack": Kind("threads share data on {name}{by}, and {where} reads its page. Make the data static, or take "
+                         "it from malloc, each thread's part on {own_page}.", True),
+    "register": Kind("{where} keeps a value in {name} from call to call: a count, a total, a pointer or a result. Store "
+                     "it before the call, on {own_page}, and load it when it is needed.", True),
+    "length": Kind("{where} asks for the input's length. Ask in one thread only, and store what the others need to know "
+                   "on pages of their own."),
+    "path": Kind("{where} continues after another call than before: which call it makes depends on the edited data. Let "
+                 "it make the same calls for any input.", True),
+    "more": Kind("{where} makes more calls than before, and these steps have no record. Let the number of calls not "
+                 "depend on the edited data.", True),
+    "library": Kind(),
+}
+ALONE = ("`{name}`{by} shares its page with nothing, and {where} reads it. Give each thread, or each block of the input, "
+         "a page of its own to store to, and let one thread add up.")
+OF_LIBRARY = {  # what is advised for the variables of a file of the C library
+    "output.c": "{where} prints. Format by snprintf into memory on {own_page}, and print that in one thread, at the end.",
+    "input.c": "{where} reads stdin in pieces. Read everything by one fread, before the threads are created.",
+    "malloc.c": "{where} takes or frees memory. Take it before the threads are created, as many blocks each time.",
+    "objects.c": "{where} uses objects that get numbers in another order. Initialise them before the threads are "
+                 "created.",
+}
+UNADVISED = {kind for kind, about in KINDS.items() if not about.advice} - {"library"}
 
 
 @dataclass
@@ -76,7 +115,7 @@ class Summary:
         address = int(page, 16) + int(one.group(7)) if page else None
         place = self.explained.works_at(one)
         kind, name = self.target(one, address)
-        function = function_of(place) if kind in BY_FUNCTION else None
+        function = function_of(place) if KINDS[kind].is_by_function else None
         row = self.rows.setdefault((kind, name, function), Row(kind, name))
         row.steps += 1
         row.instructions += count
@@ -93,7 +132,7 @@ class Summary:
         thread, number = map(int, one.group(2, 3))
         origin = self.origins.get((thread, number - 1), row) if row.kind in ("register", "path") else row
         self.origins[thread, number] = origin
-        if origin is not row and origin.kind not in NO_ADVICE:
+        if origin is not row and origin.kind not in UNADVISED:
             origin.carried[0] += 1
             origin.carried[1] += count
             row.carried[1] -= count
@@ -142,52 +181,18 @@ class Summary:
         return told + (f"; stored by {stored}" if stored and row.pages else "")
 
 
-def advice(row):
-    """The change that saves a row's steps, if they don't need what differs; None if there is none, as for what was
+def advice_for(row):
+    """What is advised for a row, with names in braces; nothing if there is no change to advise, as for what was
     edited."""
+    if row.kind == "library":
+        return next((text for file, text in OF_LIBRARY.items() if row.name.startswith(OF_FILES[file])), "")
+    return ALONE if row.kind == "variable" and not row.beside else KINDS[row.kind].advice
+
+
+def advice(row):
+    """The change that saves a row's steps, if they don't need what differs."""
     where, stored = row.where() or "a step", most_of(row.stored)
     by = f", which {stored} stores," if stored else ""
-    if row.kind == "variable":
-        rest = ", ".join(row.beside[:MOST_BESIDE]) + (", .." if row.beside[MOST_BESIDE:] else "")
-        if rest:
-            return (f"move `{row.name}`{by} to {OWN_PAGE}. The page also has {rest}: {where} may need only "
-                    f"one of these.")
-        return (f"`{row.name}`{by} shares its page with nothing, and {where} reads it. Give each thread, or each block "
-                f"of the input, a page of its own to store to, and let one thread add up.")
-    if row.kind == "heap":
-        return (f"give {row.name}{by} pages of its own: one malloc of more than 2,032 bytes, or aligned_alloc(4096, "
-                f"..), for what one thread or one block of the input needs. {where} reads it.")
-    if row.kind == "stack":
-        return (f"move what {function_of(where)} computes from its stack to a structure on {OWN_PAGE}, one for each "
-                f"thread or block of the input.")
-    if row.kind == "shared stack":
-        return (f"threads share data on {row.name}{by}, and {where} reads its page. Make the data static, or take it "
-                f"from malloc, each thread's part on {OWN_PAGE}.")
-    if row.kind == "register":
-        return (f"{where} keeps a value in {row.name} from call to call: a count, a total, a pointer or a result. "
-                f"Store it before the call, on {OWN_PAGE}, and load it when it is needed.")
-    if row.kind == "length":
-        return (f"{where} asks for the input's length. Ask in one thread only, and store what the others need to know "
-                f"on pages of their own.")
-    if row.kind == "path":
-        return (f"{where} continues after another call than before: which call it makes depends on the edited data. "
-                f"Let it make the same calls for any input.")
-    if row.kind == "more":
-        return (f"{where} makes more calls than before, and these steps have no record. Let the number of calls not "
-                f"depend on the edited data.")
-    return library_advice(row.name, where) if row.kind == "library" else None
-
-
-def library_advice(name, where):
-    """What helps against a change in a variable of the C library."""
-    if name.startswith(OF_FILES["output.c"]):
-        return (f"{where} prints. Format by snprintf into memory on {OWN_PAGE}, and print that in one thread, at the "
-                f"end.")
-    if name.startswith(OF_FILES["input.c"]):
-        return f"{where} reads stdin in pieces. Read everything by one fread, before the threads are created."
-    if name.startswith(OF_FILES["malloc.c"]):
-        return f"{where} takes or frees memory. Take it before the threads are created, as many blocks each time."
-    if name.startswith(OF_FILES["objects.c"]):
-        return (f"{where} uses objects that get numbers in another order. Initialise them before the threads are "
-                f"created.")
-    return None
+    beside = ", ".join(row.beside[:MOST_BESIDE]) + (", .." if row.beside[MOST_BESIDE:] else "")
+    return advice_for(row).format(name=row.name, by=by, where=where, function=function_of(where), beside=beside,
+                                  own_page=OWN_PAGE)

@@ -142,7 +142,7 @@ early-not_coherent =
     never true b = refl
     never false b = refl
 
--- Its program may be run on another input, and with another fuel, by the history of the one step.
+-- Its program may be run on another input, and with other limits, by the history of the one step.
 pub goes-edited : CanGoBy (Some only_step) (record shortest { input = 7 ∷ [] })
 goes-edited =
     record {
@@ -152,7 +152,7 @@ goes-edited =
         input_size = omega arith;
         limits = shortest-setup.limits;
       };
-      sound = (only-honest, record { elf = refl; limit = refl });
+      sound = (only-honest, refl);
     }
 
 pub goes-fuel : CanGoBy (Some only_step) longer
@@ -170,12 +170,31 @@ goes-fuel =
               most_steps = omega arith;
             };
       };
-      sound = (only-honest, record { elf = refl; limit = refl });
+      sound = (only-honest, refl);
     }
 
--- With another limit it may not.
-pub goes-limit : CanGoBy (Some only_step) (record shortest { limit = 2 }) → ⊥
-goes-limit can = let other : 1 ≡ 2 = can.sound.1.limit in omega arith
+-- With another step limit it may, too.
+pub goes-limit : CanGoBy (Some only_step) (record shortest { limit = 2 })
+goes-limit =
+    record {
+      valid = record {
+        elf_size = shortest-setup.elf_size;
+        elf_accepted = hi_is_accepted;
+        input_size = shortest-setup.input_size;
+        limits =
+            record {
+              some_fuel = omega arith;
+              most_fuel = omega arith;
+              some_steps = omega arith;
+              most_steps = omega arith;
+            };
+      };
+      sound = (only-honest, refl);
+    }
+
+-- Another executable may not be run by it.
+pub goes-elf : CanGoBy (Some only_step) (record shortest { elf = [] }) → ⊥
+goes-elf can = let same : hi_elf ≡ [] = can.sound.1 in absurd cc
 
 -- By no history, and not by one that isn't honest.
 pub goes-alone : CanGoBy None shortest

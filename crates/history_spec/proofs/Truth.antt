@@ -95,7 +95,7 @@ same-frame :
     (a b : Setup) → IsSameProgram a b
     → record (first a).frame { fuel = (first b).frame.fuel } ≡ (first b).frame
 unfolding first map_of
-same-frame a b same = rw same.elf refl
+same-frame a b same = rw same refl
 
 -- a record that fits ended within the machine's fuel
 pub fits-within : (m : Machine) (r : Record) → fits m r ≡ true → may_end m.frame.fuel r.kept.end r.kept.count ≡ true
@@ -239,6 +239,7 @@ fits-hart m n r fuel same =
     && fits_at r (hart_of m r.thread).number (hart_of m r.thread).regs (hart_of m r.thread).view fuel)
     fuel
 
--- setups of the same program with the same input and fuel
-pub same-setup : (a b : Setup) → IsSameProgram a b → a.input ≡ b.input → a.fuel ≡ b.fuel → a ≡ b
-same-setup a b same input fuel = rw (← same.elf, ← fuel, ← same.limit, ← input) refl
+-- setups of the same program with the same input and limits
+pub same-setup :
+    (a b : Setup) → IsSameProgram a b → a.input ≡ b.input → a.fuel ≡ b.fuel → a.limit ≡ b.limit → a ≡ b
+same-setup a b same input fuel limit = rw (← same, ← fuel, ← limit, ← input) refl

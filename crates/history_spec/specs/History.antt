@@ -41,10 +41,9 @@ can_lay_from m (r ∷ rs) = (is_none m.ending && fits m r) && can_lay_from (lay 
 abbrev pub is_coherent : History → Bool
 is_coherent h = can_lay_from (first h.setup) h.records && is_some (laid_from (first h.setup) h.records).ending
 
--- Two setups that differ in nothing but input and fuel.
-pub record IsSameProgram (a b : Setup) : Type 0 where
-  pub elf : a.elf ≡ b.elf
-  pub limit : a.limit ≡ b.limit
+-- Two setups of one program: their executables are the same; their inputs, fuels and step limits may differ.
+abbrev pub IsSameProgram : Setup → Setup → Type 0
+IsSameProgram a b = a.elf ≡ b.elf
 
 -- What a run of a setup may go by: no history, or an honest one of the same program.
 abbrev pub IsSound : Option History → Setup → Type 0

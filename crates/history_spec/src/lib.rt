@@ -76,9 +76,10 @@ pub fn numbers_count_steps()
     ensures records { (h : History) → IsHonest h → is_numbered h.records ≡ true }
 {}
 
-/// Two setups of the same program, with the same input and fuel, are the same.
-pub fn same_input_and_fuel_is_same_setup()
-    ensures { (a b : Setup) → IsSameProgram a b → a.input ≡ b.input → a.fuel ≡ b.fuel → a ≡ b }
+/// Two setups of the same program, with the same input, fuel and step limit, are the same.
+pub fn same_input_and_limits_is_same_setup()
+    ensures { (a b : Setup)
+        → IsSameProgram a b → a.input ≡ b.input → a.fuel ≡ b.fuel → a.limit ≡ b.limit → a ≡ b }
 {}
 
 /// The slots of a record of a step, those of its read pages and of its stored bytes, are in the map of

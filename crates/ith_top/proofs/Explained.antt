@@ -6,7 +6,7 @@ use Rattle.history_spec.specs.History.{History, IsSound}
 use Rattle.round_spec.specs.Rounds.{RoundState}
 use Rattle.round_spec.specs.Alone.{lone_round}
 use Rattle.rerun_spec.specs.Inputs.{AreRerunInputs}
-use Rattle.rerun_spec.specs.Rounds.{Beginning, after_memo, with_input}
+use Rattle.rerun_spec.specs.Rounds.{Beginning, limits_of, after_memo, with_input}
 use Rattle.rerun_workers.proofs.Made.{alone-setup, alone-past}
 use Rattle.why_report.specs.declared.reason.Reason.{Reason}
 use Rattle.why_report.specs.Reasons.{reasons_of, reasons_by, scratch_before, executed_places, GoesByOldRun}
@@ -104,7 +104,7 @@ explained_by line a p text is tells =
     let h = is.history in
     let goes : GoesByOldRun p.beginning.past (with_input p.beginning.setup tells.input) =
     subst (λ (b : Beginning). GoesByOldRun b.past (with_input b.setup tells.input)) (sym is.beginning)
-    (record { coherent = is.accepted.coherent; program = record { elf = refl; limit = refl }; fuel = refl }) in
+    (record { coherent = is.accepted.coherent; program = refl; fuel = refl }) in
     record {
       plan = p;
       is_plan = is;
@@ -114,11 +114,11 @@ explained_by line a p text is tells =
       are = record {
         each = tells.each goes;
         scratch = λ honest.
-            let begins : BeginsHonestly (after_memo h h.setup.fuel false) =
+            let begins : BeginsHonestly (after_memo h (limits_of h.setup) false) =
             subst (λ (b : Beginning). BeginsHonestly b) is.beginning honest in
             tells.scratch
             (subst (λ (b : Beginning). IsSound b.past (with_input b.setup tells.input)) (sym is.beginning)
-            (begins, record { elf = refl; limit = refl }));
+            (begins, refl));
       };
     }
 

@@ -3,18 +3,18 @@ use Rattle.std.proofs.Common.{◌≡◌, ◌+◌, ◌<◌, ◌≤◌, ◌^◌, �
 use Rattle.std.specs.List.{AllByRecursion}
 use Rattle.std.proofs.lemmas.List.Elements.{All-from_recursion}
 use Rattle.machine_spec.specs.declared.TheConstants.{MOST_INPUT_BYTES}
-use Rattle.machine_spec.specs.Limits.{AreLimits}
+use Rattle.machine_spec.specs.Limits.{Limits, AreLimits}
 use Rattle.machine_spec.specs.Setup.{Setup, IsSetup}
 use Rattle.history_spec.specs.History.{History}
 use Rattle.memo_spec.specs.Spelling.{AreBytes}
 use Rattle.edit_spec.proofs.Bytes.{bytes_of_bytes}
 use Rattle.rerun_spec.specs.Inputs.{AreMade, AreInputs, AreRerunInputs}
-use Rattle.rerun_spec.specs.Rounds.{Beginning, from_scratch, after_memo, with_fuel}
+use Rattle.rerun_spec.specs.Rounds.{Beginning, from_scratch, after_memo, with_limits}
 use Rattle.rerun_spec.proofs.Inputs.{inputs-count, inputs-short, rerun-count, rerun-short}
 use Rattle.rerun_spec.proofs.Rounds.{with-limits}
 use Rattle.ith_host.specs.World.{World}
 use Rattle.ith_words.specs.Words.{RunLine, RerunLine}
-use Rattle.ith_top.specs.Contents.{Contents, AreLists, AreContents, IsMemoContent, IsMemoOf, Plan, IsRunPlan, IsRerunPlan, setup_of, fuel_of}
+use Rattle.ith_top.specs.Contents.{Contents, AreLists, AreContents, IsMemoContent, IsMemoOf, Plan, IsRunPlan, IsRerunPlan, setup_of, limits_for}
 use Rattle.propagate.specs.Kept.{IsOfMap}
 use Rattle.propagate.proofs.Mapped.{same_image}
 use Rattle.round_memo_spec.specs.Spelled.{IsSpelledPast}
@@ -86,7 +86,7 @@ run_spelled s reach lists p valid elf input begins edited =
 pub rerun_plan :
     (line : RerunLine) (a : World) (memo : List ℕ) (lists : List (List ℕ)) (h : History) (p : Plan)
     → IsMemoContent a line.memo memo → AreLists a line.edits lists → IsMemoOf memo h
-    → p.beginning ≡ after_memo h (fuel_of line h) line.reach
+    → p.beginning ≡ after_memo h (limits_for line h) line.reach
     → AreRerunInputs h.setup.input lists p.inputs → IsRerunPlan line a p
 rerun_plan line a memo lists h p read told is begins edited =
     record {
@@ -101,10 +101,10 @@ rerun_plan line a memo lists h p read told is begins edited =
     }
 
 pub rerun_playable :
-    (memo : List ℕ) (lists : List (List ℕ)) (h : History) (fuel : ℕ) (reach : Bool) (p : Plan)
-    → IsMemoOf memo h → p.beginning ≡ after_memo h fuel reach → 1 + length p.inputs < 2 ^ 64
+    (memo : List ℕ) (lists : List (List ℕ)) (h : History) (limits : Limits) (reach : Bool) (p : Plan)
+    → IsMemoOf memo h → p.beginning ≡ after_memo h limits reach → 1 + length p.inputs < 2 ^ 64
     → AreRerunInputs h.setup.input lists p.inputs → CanBePlayed p
-rerun_playable memo lists h fuel reach p is begins few edited =
+rerun_playable memo lists h limits reach p is begins few edited =
     let count = rerun-count h.setup.input lists p.inputs edited in
     record {
       some = omega arith;
@@ -112,19 +112,19 @@ rerun_playable memo lists h fuel reach p is begins few edited =
           (rerun-short h.setup.input lists p.inputs is.spells.fits.setup.input_size edited);
       few = let number : p.beginning.number ≡ 1 = ap (λ (b : Beginning). b.number) begins in omega arith;
       map = subst (λ (b : Beginning). IsOfMap b.past b.setup) (sym begins)
-          (same_image h.setup (with_fuel h.setup fuel) refl);
+          (same_image h.setup (with_limits h.setup limits) refl);
     }
 
 pub rerun_spelled :
-    (memo : List ℕ) (lists : List (List ℕ)) (h : History) (fuel : ℕ) (reach : Bool) (p : Plan)
-    → IsMemoOf memo h → AreLimits fuel h.setup.limit → p.beginning ≡ after_memo h fuel reach
+    (memo : List ℕ) (lists : List (List ℕ)) (h : History) (limits : Limits) (reach : Bool) (p : Plan)
+    → IsMemoOf memo h → AreLimits limits.fuel limits.steps → p.beginning ≡ after_memo h limits reach
     → AreRerunInputs h.setup.input lists p.inputs → CanBeSpelled p
-rerun_spelled memo lists h fuel reach p is limits begins edited =
+rerun_spelled memo lists h limits reach p is within begins edited =
     let fits = is.spells.fits in
     record {
-      valid = subst (λ (b : Beginning). IsSetup b.setup) (sym begins) (with-limits h.setup fuel fits.setup limits);
+      valid = subst (λ (b : Beginning). IsSetup b.setup) (sym begins) (with-limits h.setup limits fits.setup within);
       elf = subst (λ (b : Beginning). AreBytes b.setup.elf) (sym begins) fits.elf_bytes;
       inputs = All-from_recursion AreBytes p.inputs (rerun_bytes lists h.setup.input p.inputs fits.input_bytes edited);
       past = subst (λ (b : Beginning). IsSpelledPast b.past b.setup) (sym begins)
-          (fits, record { elf = refl; limit = refl });
+          (fits, refl);
     }

@@ -3,6 +3,7 @@ use Rattle.std.proofs.Common.{◌≡◌, ◌<◌, ◌≤◌, arith, ℕ, Bool, f
 use Rattle.std.specs.Prelude.{All, slice_get}
 use Rattle.std.specs.List.{AllByRecursion}
 use Rattle.std.proofs.lemmas.List.Elements.{All-from_recursion, recursion_from_All}
+use Rattle.machine_spec.specs.Limits.{Limits}
 use Rattle.machine_spec.specs.Setup.{Setup, IsSetup}
 use Rattle.history_spec.specs.History.{History, IsHonest, IsSameProgram}
 use Rattle.memo_spec.specs.Spelling.{AreBytes, IsSpellable}
@@ -11,7 +12,7 @@ use Rattle.round_spec.specs.Schedules.{events_in}
 use Rattle.worker_spec.proofs.Workers.{workers-permitted, workers-complete}
 use Rattle.reach_spec.proofs.ByWorkers.{reexecutes-made}
 use Rattle.rerun_spec.specs.Inputs.{AreShort}
-use Rattle.rerun_spec.specs.Rounds.{Found, Round, Beginning, IsMade, left_by, with_input, with_fuel, from_scratch, after_memo, CanBegin, round_on, after_round, rounds_after, last_left, IsUneditedRerun}
+use Rattle.rerun_spec.specs.Rounds.{Found, Round, Beginning, IsMade, left_by, limits_of, with_input, with_limits, from_scratch, after_memo, CanBegin, round_on, after_round, rounds_after, last_left, IsUneditedRerun}
 use Rattle.rerun_spec.proofs.Rounds.{IsSoundlyMade, each-round, each-made, each-short, at-place, with-short, first-past, scratch-begins, memo-begins, round-made, round-found, round-alone, round-honest}
 use Rattle.rerun_spec.proofs.Repeating.{IsAgain, repeated-after, rerun-again, again-reuses, again-instructions, after-schedule, after-machine}
 use Rattle.rerun_spec.proofs.Reports.{reports-made, exits-made}
@@ -20,7 +21,7 @@ use Rattle.round_memo_spec.specs.Spelled.{IsSpelledPast}
 use Rattle.round_memo_spec.proofs.Events.{round-spelled}
 use Rattle.ith_host.specs.World.{World}
 use Rattle.ith_words.specs.Words.{Line, Runs, Reruns, Replays, Shows, Explains, Generates, RerunLine}
-use Rattle.ith_top.specs.Contents.{Plan, IsRerunPlan, IsPlan, setup_of, as_rerun, workers_of, fuel_of}
+use Rattle.ith_top.specs.Contents.{Plan, IsRerunPlan, IsPlan, setup_of, as_rerun, workers_of, limits_for}
 use Rattle.ith_top.specs.Rounds.{IsPromised, ArePromised, OnlyRepeats, BeginsHonestly, CanBeKept, rounds_of}
 use Rattle.ith_top.specs.Ends.{left_of}
 use Rattle.ith_top.specs.Playing.{AreFound, CanBePlayed, CanBeSpelled}
@@ -86,23 +87,23 @@ none_unedited s reach inputs found r h first past same =
 
 -- after a memo there is the memo's
 memo_unedited :
-    (workers : ℕ) (h : History) (fuel : ℕ) (reach : Bool) (inputs : List (List ℕ)) (found : List Found) → IsHonest h
-    → All (IsMade workers) (rounds_after (after_memo h fuel reach) inputs found)
-    → Unedited (after_memo h fuel reach) inputs found
-memo_unedited workers h fuel reach inputs found honest made r k first past same =
-    let is : Some h ≡ Some k = sym (first-past (after_memo h fuel reach) inputs found r first) ∙ past in
+    (workers : ℕ) (h : History) (limits : Limits) (reach : Bool) (inputs : List (List ℕ)) (found : List Found) → IsHonest h
+    → All (IsMade workers) (rounds_after (after_memo h limits reach) inputs found)
+    → Unedited (after_memo h limits reach) inputs found
+memo_unedited workers h limits reach inputs found honest made r k first past same =
+    let is : Some h ≡ Some k = sym (first-past (after_memo h limits reach) inputs found r first) ∙ past in
     let one : h ≡ k = cc in
     let its : r.setup ≡ h.setup = same ∙ ap (λ (x : History). x.setup) (sym one) in
-    let unedited : IsUneditedRerun h fuel reach inputs found r =
+    let unedited : IsUneditedRerun h limits reach inputs found r =
     record {
       first = first;
       same_input = ap (λ (s : Setup). s.input) its;
-      same_fuel = ap (λ (s : Setup). s.fuel) its;
+      same_limits = ap limits_of its;
     } in
-    let rounds = rounds_after (after_memo h fuel reach) inputs found in
+    let rounds = rounds_after (after_memo h limits reach) inputs found in
     let this : IsMade workers r = at-place (IsMade workers) rounds 0 r (each-made workers rounds made) first in
     subst (λ (x : History). OnlyRepeats x r) one
-    (again_repeats workers h r (rerun-again h fuel reach inputs found r honest unedited) this)
+    (again_repeats workers h r (rerun-again h limits reach inputs found r honest unedited) this)
 
 -- rounds from scratch
 pub promised_from_scratch :
@@ -124,15 +125,15 @@ promised_rerun :
     → BeginsHonestly p.beginning → ArePromised line.workers (rounds_of p found)
 promised_rerun line a p found is playable spelled are honest =
     let h = is.history in
-    let fuel = fuel_of line h in
+    let limits = limits_for line h in
     let true_of : IsHonest h = subst (λ (b : Beginning). BeginsHonestly b) is.beginning honest in
-    let valid : IsSetup (with_fuel h.setup fuel) =
+    let valid : IsSetup (with_limits h.setup limits) =
     subst (λ (b : Beginning). IsSetup b.setup) is.beginning spelled.valid in
-    let made : All (IsMade line.workers) (rounds_after (after_memo h fuel line.reach) p.inputs found) =
+    let made : All (IsMade line.workers) (rounds_after (after_memo h limits line.reach) p.inputs found) =
     subst (λ (b : Beginning). All (IsMade line.workers) (rounds_after b p.inputs found)) is.beginning are.made in
     subst (λ (b : Beginning). ArePromised line.workers (rounds_after b p.inputs found)) (sym is.beginning)
-    (promised_after line.workers (after_memo h fuel line.reach) p.inputs found
-    (memo-begins h fuel line.reach true_of valid.limits) playable.short made (memo_unedited line.workers h fuel line.reach p.inputs found true_of made))
+    (promised_after line.workers (after_memo h limits line.reach) p.inputs found
+    (memo-begins h limits line.reach true_of valid.limits) playable.short made (memo_unedited line.workers h limits line.reach p.inputs found true_of made))
 
 -- the rounds of a line begin with what its plan says
 pub promised_of :
@@ -166,8 +167,7 @@ any_after workers b (input ∷ inputs) (f ∷ found) valid elf known short bytes
     (record { valid = may; elf_bytes = elf; input_bytes = bytes.0; past = known_on b.past b.setup input known })
     made.0.ended in
     let own = left-own r in
-    let same : IsSameProgram (left_by r).setup b.setup =
-    record { elf = ap (λ (s : Setup). s.elf) own; limit = ap (λ (s : Setup). s.limit) own } in (
+    let same : IsSameProgram (left_by r).setup b.setup = ap (λ (s : Setup). s.elf) own in (
       record { ended = made.0.ended; spelled = left },
       any_after workers (after_round b input f) inputs found valid elf
           (left, same) short.1 bytes.1 made.1,
@@ -176,8 +176,7 @@ any_after workers b (input ∷ inputs) (f ∷ found) valid elf known short bytes
     known_on : (past : Option History) (s : Setup) (input : List ℕ) → IsSpelledPast past s
         → IsSpelledPast past (with_input s input)
     known_on None s input known = tt
-    known_on (Some h) s input known =
-        (known.0, record { elf = known.1.elf; limit = known.1.limit })
+    known_on (Some h) s input known = known
 
 -- what holds of the rounds of any plan
 pub each_kept :

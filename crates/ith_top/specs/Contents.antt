@@ -5,6 +5,7 @@ use Rattle.elf_spec.specs.declared.TheConstants.{MOST_ELF_BYTES}
 use Rattle.elf_spec.specs.Image.{is_image}
 use Rattle.edit_spec.specs.declared.TheConstants.{MOST_LIST_BYTES}
 use Rattle.machine_spec.specs.declared.TheConstants.{MOST_INPUT_BYTES}
+use Rattle.machine_spec.specs.Limits.{Limits}
 use Rattle.machine_spec.specs.Setup.{Setup, is_permitted, is_complete}
 use Rattle.history_spec.specs.History.{History}
 use Rattle.memo_spec.specs.declared.TheConstants.{MOST_MEMO_BYTES}
@@ -101,12 +102,13 @@ pub record IsRunPlan (line : RunLine) (before : World) (p : Plan) : Type 0 where
   pub beginning : p.beginning ≡ from_scratch (setup_of line contents) line.reach
   pub edited : AreInputs contents.input contents.lists p.inputs
 
--- The fuel of a line that reruns a memo: its own, or the memo's where it has none.
-abbrev pub fuel_of : RerunLine → History → ℕ
-fuel_of line h = unwrap_or line.fuel h.setup.fuel
+-- The limits of a line that reruns a memo: each is its own, or the memo's where it has none.
+abbrev pub limits_for : RerunLine → History → Limits
+limits_for line h =
+    record { fuel = unwrap_or line.fuel h.setup.fuel; steps = unwrap_or line.limit h.setup.limit }
 
 -- The plan of a line that reruns a memo: its files were read, and the memo is accepted; round 1 goes by the history
--- that the memo spells, with the line's fuel; and each edit list makes the input of a round, or there is one round on
+-- that the memo spells, with the line's limits; and each edit list makes the input of a round, or there is one round on
 -- the memo's input.
 pub record IsRerunPlan (line : RerunLine) (before : World) (p : Plan) : Type 0 where
   pub memo : List ℕ
@@ -115,13 +117,21 @@ pub record IsRerunPlan (line : RerunLine) (before : World) (p : Plan) : Type 0 w
   pub lists_read : AreLists before line.edits lists
   pub history : History
   pub accepted : IsMemoOf memo history
-  pub beginning : p.beginning ≡ after_memo history (fuel_of line history) line.reach
+  pub beginning : p.beginning ≡ after_memo history (limits_for line history) line.reach
   pub edited : AreRerunInputs history.setup.input lists p.inputs
 
--- The rerun that a line explains: one round after the edit list, by one worker and with the memo's fuel.
+-- The rerun that a line explains: one round after the edit list, by one worker and with the memo's limits.
 abbrev pub as_rerun : ExplainLine → RerunLine
 as_rerun line =
-    record { memo = line.memo; edits = line.edits ∷ []; workers = 1; fuel = None; kept = None; reach = false }
+    record {
+      memo = line.memo;
+      edits = line.edits ∷ [];
+      workers = 1;
+      fuel = None;
+      limit = None;
+      kept = None;
+      reach = false;
+    }
 
 -- The plan for the guest that is generated from a number: round 0 is from scratch, on the generated input, with the
 -- limits of a line that names none; and round 1 is on this input after the generated edit.

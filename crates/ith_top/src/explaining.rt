@@ -27,7 +27,7 @@ use std::thread::Threads;
 use turn_count::Turns;
 use why_report::{reasons, text};
 
-/// The rerun that a line explains: one round after the edit list, by one worker and with the memo's fuel.
+/// The rerun that a line explains: one round after the edit list, by one worker and with the memo's limits.
 fn as_rerun<'a>(alloc: Global, line: &ExplainLine<'a>) -> Result<RerunLine<'a>, AllocError>
     ensures { IfOk result (λ rerun. rerun_said rerun ≡ as_rerun (explain_said line.now)) }
 {
@@ -38,6 +38,7 @@ fn as_rerun<'a>(alloc: Global, line: &ExplainLine<'a>) -> Result<RerunLine<'a>, 
         edits,
         workers: 1,
         fuel: None,
+        steps: None,
         kept: None,
         reach: false,
     })

@@ -33,8 +33,9 @@ pub use status::Status;
 /// `run ELF INPUT [EDITS].. --workers W --fuel F --steps S --memo FILE --reach` runs the executable on the input from
 /// scratch, and then once for each edit list, on the input of the round before after the list's edits.
 ///
-/// `rerun MEMO [EDITS].. --workers W --fuel F --memo FILE --reach` goes on from the round that a memo holds: once for
-/// each edit list, or once without an edit; with the memo's fuel where the line names none.
+/// `rerun MEMO [EDITS].. --workers W --fuel F --steps S --memo FILE --reach` goes on from the round that a memo holds: once for
+/// each edit list, or once without an edit; with the memo's fuel and step limit where the line names
+/// none.
 ///
 /// The line's workers make each round together: it takes from the round before it the steps whose records fit, and
 /// they execute the others, where each comes to the gate before it executes a thunk. The report of each round tells the

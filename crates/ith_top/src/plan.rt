@@ -12,7 +12,7 @@ ghost use Rattle.round_inputs.specs.Lists.{bytes_of_each};
 ghost use Rattle.ith_words.specs.Words.{Runs, Reruns};
 ghost use Rattle.ith_words.specs.Said.{run_said, rerun_said};
 ghost use Rattle.ith_top.specs.Files.{files_named, AsksForFiles};
-ghost use Rattle.ith_top.specs.Contents.{IsMemoOf, IsRunPlan, IsRerunPlan, fuel_of};
+ghost use Rattle.ith_top.specs.Contents.{IsMemoOf, IsRunPlan, IsRerunPlan, limits_for};
 ghost use Rattle.ith_top.specs.Refusals.{WhyNoSetup, WhyNoHistory, WhyUnedited, WhyUnplanned};
 ghost use Rattle.ith_top.specs.Playing.{beginning_said, plan_said, CanBePlayed, CanBeSpelled};
 
@@ -162,33 +162,33 @@ fn edit_again<H: Host>(
     }
 }
 
-/// The most turns of a thunk in the rounds of a line that reruns a memo: the line's, or the memo's where it has none.
-fn fuel_of(line: &RerunLine<'_>, history: &History) -> u32
-    ensures value { result ≡ fuel_of (rerun_said line.now) history.now }
-    ensures within { AreLimits result history.now.setup.limit }
+/// The limits of the rounds of a line that reruns a memo: each is the line's, or the memo's where it has none.
+fn limits_for(line: &RerunLine<'_>, history: &History) -> Limits
+    ensures value { result ≡ limits_for (rerun_said line.now) history.now }
+    ensures within { AreLimits result.fuel result.steps }
 {
-    let limits = history.setup().limits();
-    limits.sound();
-    match line.fuel {
-        Some(fuel) => fuel,
-        None => limits.fuel(),
+    let kept = history.setup().limits();
+    kept.sound();
+    let fuel = line.fuel.unwrap_or(kept.fuel());
+    let steps = line.steps.unwrap_or(kept.steps());
+    match Limits::new(fuel, steps) {
+        Some(limits) => limits,
+        None => unreachable!(),
     }
 }
 
-/// The plan of rounds of this fuel on these inputs, of which the first goes by a memo.
+/// The plan of rounds with these limits on these inputs, of which the first goes by a memo.
 fn after_memo(
     alloc: Global,
     history: History,
     inputs: Inputs,
-    fuel: u32,
+    limits: Limits,
     reach: bool,
 ) -> Result<Plan, AllocError>
-    requires { AreLimits fuel history.setup.limit }
-    ensures beginning { IfOk result (λ plan. beginning_said plan ≡ begin.after_memo history fuel reach) }
+    ensures beginning { IfOk result (λ plan. beginning_said plan ≡ begin.after_memo history limits reach) }
     ensures inputs { IfOk result (λ plan. plan.inputs ≡ inputs) }
 {
     history.setup().sound();
-    let limits = history.setup().limits().with_fuel(fuel);
     let input = Vec::from_slice(alloc, history.setup().input())?;
     let setup = history.setup().with(input, limits)?;
     let past = Arc::new(alloc, history)?;
@@ -268,8 +268,8 @@ pub fn prepare_rerun<H: Host>(
         lists.as_slice(),
         line.edits.as_slice(),
     )?;
-    let fuel = fuel_of(line, &history);
-    match after_memo(alloc, history, inputs, fuel, line.reach) {
+    let limits = limits_for(line, &history);
+    match after_memo(alloc, history, inputs, limits, line.reach) {
         Ok(plan) => Ok(plan),
         Err(_) => {
             host.complain(NO_MEMORY);

@@ -29,6 +29,7 @@ rerun_said l = record {
   edits = map (λ name. name.now) l.edits.items;
   workers = l.workers;
   fuel = l.fuel;
+  limit = l.steps;
   kept = option_map (λ name. name.now) l.kept;
   reach = l.reach;
 }

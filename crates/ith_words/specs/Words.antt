@@ -29,13 +29,14 @@ pub record RunLine : Type 0 where
   pub reach : Bool
 
 -- A line that goes on from a memo: the names of the memo to read and of the edit lists, in order, how many workers,
--- the fuel, if it isn't to be the memo's, the name of the memo to write, if there is to be one, and whether the reports
--- tell what an edit reaches.
+-- the fuel and the step limit, each if it isn't to be the memo's, the name of the memo to write, if there is to be one,
+-- and whether the reports tell what an edit reaches.
 pub record RerunLine : Type 0 where
   pub memo : Text
   pub edits : List Text
   pub workers : ℕ
   pub fuel : Option ℕ
+  pub limit : Option ℕ
   pub kept : Option Text
   pub reach : Bool
 
@@ -134,11 +135,11 @@ run_command =
     (operand_rule (codes "ELF") ∷ operand_rule (codes "INPUT") ∷ edits_rule ∷ workers_rule ∷ fuel_rule ∷ steps_rule
     ∷ memo_rule ∷ reach_rule ∷ [])
 
--- The command that goes on from a memo: the memo, any number of edit lists, and four options.
+-- The command that goes on from a memo: the memo, any number of edit lists, and five options.
 abbrev pub rerun_command : App
 rerun_command =
     command (codes "rerun")
-    (operand_rule (codes "MEMO") ∷ edits_rule ∷ workers_rule ∷ fuel_rule ∷ memo_rule ∷ reach_rule ∷ [])
+    (operand_rule (codes "MEMO") ∷ edits_rule ∷ workers_rule ∷ fuel_rule ∷ steps_rule ∷ memo_rule ∷ reach_rule ∷ [])
 
 -- The command that replays a schedule: three operands, and two options.
 abbrev pub replay_command : App
@@ -210,9 +211,13 @@ fuel_given rows = number_given 1 MOST_FUEL (one_of (codes "fuel") rows)
 abbrev pub fuel_named : List Row → ℕ
 fuel_named rows = unwrap_or (fuel_given rows) default_fuel
 
+-- The most steps of a run, if the line says.
+abbrev pub limit_given : List Row → Option ℕ
+limit_given rows = number_given 1 MOST_STEPS (one_of (codes "steps") rows)
+
 -- The most steps of a run.
 abbrev pub limit_named : List Row → ℕ
-limit_named rows = number_or MOST_STEPS default_limit (one_of (codes "steps") rows)
+limit_named rows = unwrap_or (limit_given rows) default_limit
 
 -- The name of the memo to write, if the line has one.
 abbrev pub memo_named : List Row → Option Text
@@ -248,6 +253,7 @@ rerun_line rows =
       edits = edits_named rows;
       workers = workers_named rows;
       fuel = fuel_given rows;
+      limit = limit_given rows;
       kept = memo_named rows;
       reach = reach_named rows;
     }

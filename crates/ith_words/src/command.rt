@@ -66,16 +66,11 @@ fn workers<'a>(alloc: Global) -> Arg<'a>
 }
 
 /// The option for the most steps of a run.
-fn steps<'a>(alloc: Global) -> Arg<'a>
+fn steps<'a>(alloc: Global, help: &'a str) -> Arg<'a>
     ensures rule { rule_of result ≡ line.steps_rule }
     ensures local { result.global ≡ false }
 {
-    number(
-        alloc,
-        "steps",
-        MOST_STEPS,
-        "The most steps of a run, 1 to 65536 [default: 4096]",
-    )
+    number(alloc, "steps", MOST_STEPS, help)
 }
 
 /// The option for the memo to write.
@@ -121,13 +116,14 @@ fn run_command<'a>(alloc: Global) -> Result<Command<'a>, AllocError>
     ensures local { IfOk result (λ c. (out-Command c).has_globals ≡ false) }
 {
     let fuel = "The most turns of a thunk, 1 to 16777216 [default: 1000000]";
+    let most = "The most steps of a run, 1 to 65536 [default: 4096]";
     let args = vec![in alloc;
         operand(alloc, "ELF", "The name of the executable"),
         operand(alloc, "INPUT", "The name of the input"),
         edits(alloc),
         workers(alloc),
         number(alloc, "fuel", MOST_FUEL, fuel),
-        steps(alloc),
+        steps(alloc, most),
         memo(alloc),
         reach(alloc),
     ]?;
@@ -140,11 +136,13 @@ fn rerun_command<'a>(alloc: Global) -> Result<Command<'a>, AllocError>
     ensures local { IfOk result (λ c. (out-Command c).has_globals ≡ false) }
 {
     let fuel = "The most turns of a thunk, 1 to 16777216 [default: the memo's]";
+    let most = "The most steps of a run, 1 to 65536 [default: the memo's]";
     let args = vec![in alloc;
         operand(alloc, "MEMO", "The name of the memo to read"),
         edits(alloc),
         workers(alloc),
         number(alloc, "fuel", MOST_FUEL, fuel),
+        steps(alloc, most),
         memo(alloc),
         reach(alloc),
     ]?;
@@ -158,12 +156,13 @@ fn replay_command<'a>(alloc: Global) -> Result<Command<'a>, AllocError>
 {
     let about = "Executes each instruction of a schedule, from scratch";
     let fuel = "The most turns of a thunk, 1 to 16777216 [default: 1000000]";
+    let most = "The most steps of a run, 1 to 65536 [default: 4096]";
     let args = vec![in alloc;
         operand(alloc, "ELF", "The name of the executable"),
         operand(alloc, "INPUT", "The name of the input"),
         operand(alloc, "SCHEDULE", "The name of the schedule"),
         number(alloc, "fuel", MOST_FUEL, fuel),
-        steps(alloc),
+        steps(alloc, most),
     ]?;
     command(alloc, "replay", about, args)
 }

@@ -86,13 +86,21 @@ pub fn fuel_of(given: &ArgMatches<'_>) -> Option<u32>
     number_of(given, "fuel", 1, MOST_FUEL)
 }
 
+/// The most steps of a run, if the line says.
+pub fn steps_of(given: &ArgMatches<'_>) -> Option<u32>
+    ensures value { result ≡ line.limit_given (rows_of (found_of given.now)) }
+    ensures within { IfSome result (λ steps. (1 ≤ steps) × (steps ≤ MOST_STEPS)) }
+{
+    number_of(given, "steps", 1, MOST_STEPS)
+}
+
 /// The limits of the run.
 pub fn limits_of(given: &ArgMatches<'_>) -> Limits
     ensures fuel { result.fuel ≡ line.fuel_named (rows_of (found_of given.now)) }
     ensures steps { result.steps ≡ line.limit_named (rows_of (found_of given.now)) }
 {
     let fuel = fuel_of(given).unwrap_or(DEFAULT_FUEL);
-    let steps = number_of(given, "steps", 1, MOST_STEPS).unwrap_or(DEFAULT_STEPS);
+    let steps = steps_of(given).unwrap_or(DEFAULT_STEPS);
     match Limits::new(fuel, steps) {
         Some(limits) => limits,
         None => unreachable!(),

@@ -2,7 +2,7 @@
 
 ghost use Rattle.std.specs.Prelude.{◌≡◌, ◌≤◌, ◌-◌, ◌^◌, IfSome};
 ghost use Rattle.std.proofs.Props.{props};
-ghost use Rattle.machine_spec.specs.declared.TheConstants.{MOST_FUEL};
+ghost use Rattle.machine_spec.specs.declared.TheConstants.{MOST_FUEL, MOST_STEPS};
 ghost use Rattle.ith_words.specs.declared.line.TheConstants.{MOST_WORKERS, MOST_NUMBER};
 
 use machine_spec::Limits;
@@ -68,6 +68,8 @@ pub struct RerunLine<'a> {
     pub workers: u32,
     /// The most turns of a thunk, if it isn't to be the memo's.
     pub fuel: Option<u32>,
+    /// The most steps of a run, if it isn't to be the memo's.
+    pub steps: Option<u32>,
     /// The name of the memo to write, if there is to be one.
     pub kept: Option<&'a str>,
     /// Whether the reports tell what an edit reaches.
@@ -75,6 +77,7 @@ pub struct RerunLine<'a> {
     ghost some_worker: { 1 ≤ workers },
     ghost most_workers: { workers ≤ MOST_WORKERS },
     ghost fuel_within: { IfSome fuel (λ f. (1 ≤ f) × (f ≤ MOST_FUEL)) } by { Prim.hlevel props },
+    ghost steps_within: { IfSome steps (λ s. (1 ≤ s) × (s ≤ MOST_STEPS)) } by { Prim.hlevel props },
 }
 
 /// A line that replays a schedule.

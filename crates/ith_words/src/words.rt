@@ -8,7 +8,8 @@ ghost use Rattle.ith_words.specs.Refusals.{WhyNoLine, WhyFault};
 
 use super::command::command_line;
 use super::given::{
-    edits_of, fuel_of, generator_of, limits_of, memo_of, operand_of, reach_of, workers_of,
+    edits_of, fuel_of, generator_of, limits_of, memo_of, operand_of, reach_of, steps_of,
+    workers_of,
 };
 use super::line::{ExplainLine, GenerateLine, Line, ReplayLine, RerunLine, RunLine, ShowLine};
 use clap::error::ErrorKind;
@@ -94,6 +95,7 @@ fn rerun_line<'a>(alloc: Global, given: &ArgMatches<'a>) -> Result<RerunLine<'a>
         edits,
         workers: workers_of(given),
         fuel: fuel_of(given),
+        steps: steps_of(given),
         kept: memo_of(given),
         reach: reach_of(given),
     })

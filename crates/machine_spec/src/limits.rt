@@ -54,15 +54,6 @@ impl Limits {
         self.steps
     }
 
-    /// The same step limit, and another fuel.
-    pub fn with_fuel(self, fuel: u32) -> Limits
-        requires some { 1 ≤ fuel }
-        requires most { fuel ≤ MOST_FUEL }
-        ensures { result ≡ record { fuel = fuel; steps = self.steps } }
-    {
-        Limits { fuel, ..self }
-    }
-
     /// They are in range: what a caller learns of any limits.
     pub fn sound(&self)
         ensures { AreLimits self.now.fuel self.now.steps }

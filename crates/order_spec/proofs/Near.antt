@@ -22,7 +22,7 @@ use Rattle.order_spec.specs.Facts.{ask_of, acted, effect_of, served_by, read_slo
 use Rattle.order_spec.specs.Before.{is_in}
 use Rattle.order_spec.proofs.Lists.{or-left, or-right, is_or_not}
 use Rattle.order_spec.proofs.Pages.{length-masked, masked-other, masked-same}
-use Rattle.order_spec.proofs.After.{woken_at, settled_at, created_at, ran_at, after_at, lay-at, lay-length, lay-memory, lay-objects, lay-steps, lay-limit, lay-ending, own_end_of}
+use Rattle.order_spec.proofs.After.{woken_at, settled_at, created_at, ran_at, after_at, lay-at, lay-length, lay-memory, lay-objects, lay-steps, lay-ending, own_end_of}
 use Rattle.order_spec.proofs.Local.{acted-like}
 use Rattle.order_spec.proofs.Alike.{touched, untouched-after, touched-served, has-like, fits-parts, fits-from}
 use Rattle.order_spec.proofs.Simulate.{none-is, end_after-none, fate-none}
@@ -39,7 +39,6 @@ other_record r start kept = record { thread = r.thread; number = r.number; start
 -- and outside of some pages memory is, and what the thunks outside of the set read of their views
 pub record IsNear (reads : ℕ → ℕ → List ℕ) (among : ℕ → ℕ → Bool) (taint : ℕ → Bool) (m n : Machine) : Type 0 where
   pub frame : n.frame ≡ m.frame
-  pub limit : n.limit ≡ m.limit
   pub steps : n.steps ≡ m.steps
   pub objects : n.objects ≡ m.objects
   pub size : length n.memory ≡ length m.memory
@@ -357,7 +356,6 @@ module _
   near-lay =
       record {
         frame = lay-frame n (other_record r start kept) ∙ near.frame ∙ sym (lay-frame m r);
-        limit = lay-limit n (other_record r start kept) ∙ near.limit ∙ sym (lay-limit m r);
         steps = lay-steps n (other_record r start kept) ∙ ap suc near.steps ∙ sym (lay-steps m r);
         objects =
             lay-objects n (other_record r start kept) ∙ ap (λ (x : Effect × Objects). x.1) same_act

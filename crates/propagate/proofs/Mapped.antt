@@ -96,4 +96,4 @@ of_map-mapped w h false m n on there mapped first second equal = tt
 -- a sound history has the setup's page map
 pub sound_map : (past : Option History) (s : Setup) → IsSound past s → IsOfMap past s
 sound_map None s sound = tt
-sound_map (Some h) s sound = same_image h.setup s (ap image_pages sound.1.elf)
+sound_map (Some h) s sound = same_image h.setup s (ap image_pages sound.1)

@@ -67,7 +67,6 @@ near-weaken :
 near-weaken reads among taint more m n clean near =
     record {
       frame = near.frame;
-      limit = near.limit;
       steps = near.steps;
       objects = near.objects;
       size = near.size;

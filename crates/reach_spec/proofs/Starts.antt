@@ -21,7 +21,7 @@ use Rattle.reach_spec.specs.Reach.{changed_slots, changed}
 
 same-map : (a b : Setup) → IsSameProgram a b → map_of b ≡ map_of a
 unfolding map_of
-same-map a b same = rw (← same.elf) refl
+same-map a b same = rw (← same) refl
 
 same-size : (a b : Setup) → IsSameProgram a b → length (start_memory b) ≡ length (start_memory a)
 same-size a b same =
@@ -72,7 +72,7 @@ unchanged-same a b p size out =
 
 same-frame : (a b : Setup) → IsSameProgram a b → a.fuel ≡ b.fuel → (first b).frame ≡ (first a).frame
 unfolding first map_of
-same-frame a b same fuel = rw (same.elf, fuel) refl
+same-frame a b same fuel = rw (same, fuel) refl
 
 -- the start memories differ on the changed pages alone
 pub unchanged-start :
@@ -91,7 +91,6 @@ unfolding first
 near-first reads among taint a b same fuel pages clean =
     record {
       frame = same-frame a b same fuel;
-      limit = sym same.limit;
       steps = refl;
       objects = refl;
       size = same-size a b same;
@@ -108,7 +107,7 @@ near-first reads among taint a b same fuel pages clean =
 
     regs :
         (u : ℕ) → among u (hart_of (first a) u).number ≡ false → (hart_of (first b) u).regs ≡ (hart_of (first a) u).regs
-    regs zero out = ap (λ (elf : List ℕ). (first_hart [] 0 (entry_of elf) 0xC0000000).regs) (sym same.elf)
+    regs zero out = ap (λ (elf : List ℕ). (first_hart [] 0 (entry_of elf) 0xC0000000).regs) (sym same)
     regs (suc u) out = refl
 
     views :

@@ -136,11 +136,7 @@ left-own r = made-setup r
 program-left :
     (b : Beginning) (input : List ℕ) (f : Found) → IsSameProgram (left_by (round_on b input f)).setup b.setup
 program-left b input f =
-    let same = left-own (round_on b input f) in
-    record {
-      elf = ap (λ (t : Setup). t.elf) same;
-      limit = ap (λ (t : Setup). t.limit) same;
-    }
+    ap (λ (t : Setup). t.elf) (left-own (round_on b input f))
 
 program-each :
     (b : Beginning) (inputs : List (List ℕ)) (found : List Found)
@@ -162,7 +158,7 @@ other-input :
     (past : Option History) (s : Setup) (input : List ℕ)
     → IsOfProgram past s → IsOfProgram past (with_input s input)
 other-input None s input of = tt
-other-input (Some h) s input of = record { elf = of.elf; limit = of.limit }
+other-input (Some h) s input of = of
 
 past-each :
     (b : Beginning) (inputs : List (List ℕ)) (found : List Found) → IsOfProgram b.past b.setup

@@ -4,6 +4,7 @@ use Rattle.std.proofs.lemmas.Option.{same_Some}
 use Rattle.std.specs.Prelude.{codes, decimal}
 use Rattle.std.specs.Fmt.{digits}
 use Rattle.machine_spec.specs.declared.states.End.TheVariants.{Exit, Deadlock, Spent}
+use Rattle.machine_spec.specs.Limits.{Limits}
 use Rattle.machine_spec.specs.Setup.{Setup}
 use Rattle.history_spec.specs.History.{History}
 use Rattle.edit_spec.specs.Edit.{Edit, Set, Size}
@@ -11,7 +12,7 @@ use Rattle.edit_spec.specs.Grammar.{Spells, IsEdit, Says, SpellBytes, lines}
 use Rattle.edit_spec.proofs.Spelling.{digits-decimal, same_around_space, other_word}
 use Rattle.edit_spec.proofs.Examples.{five, zero_is_spelled}
 use Rattle.rerun_spec.specs.Inputs.{Makes, AreInputs, AreRerunInputs, BadLine, OutOfRange, IsFirstRefused}
-use Rattle.rerun_spec.specs.Rounds.{Found, Round, with_input, with_fuel, left_by, from_scratch, after_memo, round_on, after_round, rounds_after, after_rounds, last_left, IsRepeated, IsUneditedRerun}
+use Rattle.rerun_spec.specs.Rounds.{Found, Round, limits_of, with_input, with_limits, left_by, from_scratch, after_memo, round_on, after_round, rounds_after, after_rounds, last_left, IsRepeated, IsUneditedRerun}
 use Rattle.rerun_spec.specs.Reports.{is_exit}
 use Rattle.edit_spec.proofs.Deciding.{no-byte-odd}
 
@@ -100,22 +101,22 @@ pub rounds-two :
     ∷ []
 rounds-two s reach a b f g = refl
 
--- After a memo, round 1 goes by its history, and round 2 by what round 1 leaves; both have the fuel that is asked for.
+-- After a memo, round 1 goes by its history, and round 2 by what round 1 leaves; both have the limits that are asked for.
 pub reruns-two :
-    (h : History) (fuel : ℕ) (reach : Bool) (a b : List ℕ) (f g : Found)
-    → rounds_after (after_memo h fuel reach) (a ∷ b ∷ []) (f ∷ g ∷ [])
-    ≡ record { number = 1; setup = with_input (with_fuel h.setup fuel) a; past = Some h; reach = reach; found = f }
+    (h : History) (limits : Limits) (reach : Bool) (a b : List ℕ) (f g : Found)
+    → rounds_after (after_memo h limits reach) (a ∷ b ∷ []) (f ∷ g ∷ [])
+    ≡ record { number = 1; setup = with_input (with_limits h.setup limits) a; past = Some h; reach = reach; found = f }
     ∷ record {
       number = 2;
-      setup = with_input (with_fuel h.setup fuel) b;
+      setup = with_input (with_limits h.setup limits) b;
       past =
           Some (left_by
-          (record { number = 1; setup = with_input (with_fuel h.setup fuel) a; past = Some h; reach = reach; found = f }));
+          (record { number = 1; setup = with_input (with_limits h.setup limits) a; past = Some h; reach = reach; found = f }));
       reach = reach;
       found = g;
     }
     ∷ []
-reruns-two h fuel reach a b f g = refl
+reruns-two h limits reach a b f g = refl
 
 -- Where one thing was found so far, there is one round, whatever inputs are to come.
 pub rounds-one_of_two :
@@ -126,21 +127,21 @@ rounds-one_of_two s reach a b f = refl
 
 -- The last of them leaves what round 2 does; and with no round the memo's history is left.
 pub left-two :
-    (h : History) (fuel : ℕ) (reach : Bool) (a b : List ℕ) (f g : Found)
-    → last_left (after_memo h fuel reach) (a ∷ b ∷ []) (f ∷ g ∷ [])
+    (h : History) (limits : Limits) (reach : Bool) (a b : List ℕ) (f g : Found)
+    → last_left (after_memo h limits reach) (a ∷ b ∷ []) (f ∷ g ∷ [])
     ≡ left_by (record {
       number = 2;
-      setup = with_input (with_fuel h.setup fuel) b;
+      setup = with_input (with_limits h.setup limits) b;
       past =
           Some (left_by
-          (record { number = 1; setup = with_input (with_fuel h.setup fuel) a; past = Some h; reach = reach; found = f }));
+          (record { number = 1; setup = with_input (with_limits h.setup limits) a; past = Some h; reach = reach; found = f }));
       reach = reach;
       found = g;
     })
-left-two h fuel reach a b f g = refl
+left-two h limits reach a b f g = refl
 
-pub left-none : (h : History) (fuel : ℕ) (reach : Bool) (found : List Found) → last_left (after_memo h fuel reach) [] found ≡ h
-left-none h fuel reach found = refl
+pub left-none : (h : History) (limits : Limits) (reach : Bool) (found : List Found) → last_left (after_memo h limits reach) [] found ≡ h
+left-none h limits reach found = refl
 
 -- From scratch and with no round a history of no steps is left.
 pub left-scratch :
@@ -162,13 +163,13 @@ rerun-emptied = (record { edits = record { line = 1; edit = Size 0 } ∷ []; sai
 pub rerun-unedited : AreRerunInputs five [] (five ∷ [])
 rerun-unedited = refl
 
--- A rerun with another fuel than the memo's isn't without an edit.
-pub rerun-fuel :
-    (h : History) (fuel : ℕ) (reach : Bool) (input : List ℕ) (f : Found) (r : Round)
-    → IsUneditedRerun h fuel reach (input ∷ []) (f ∷ []) r → fuel ≡ h.setup.fuel
-rerun-fuel h fuel reach input f r rerun =
-    ap (λ (q : Round). q.setup.fuel) (same_Some (round_on (after_memo h fuel reach) input f) r rerun.first)
-    ∙ rerun.same_fuel
+-- A rerun with another fuel or another step limit than the memo's isn't without an edit.
+pub rerun-limits :
+    (h : History) (limits : Limits) (reach : Bool) (input : List ℕ) (f : Found) (r : Round)
+    → IsUneditedRerun h limits reach (input ∷ []) (f ∷ []) r → limits ≡ limits_of h.setup
+rerun-limits h limits reach input f r rerun =
+    ap (λ (q : Round). limits_of q.setup) (same_Some (round_on (after_memo h limits reach) input f) r rerun.first)
+    ∙ rerun.same_limits
 
 -- An exit with another code than 0 is an exit; no other end is one.
 pub exit-five : is_exit (Some (Exit 5)) ≡ true

@@ -1,6 +1,7 @@
--- A round on the input of the round before it, or on input and fuel of the memo that it goes by, reuses every step.
+-- A round on the input of the round before it, or on input and limits of the memo that it goes by, reuses every step.
 use Rattle.std.proofs.Common.{◌≡◌, ◌≢◌, ℕ, suc, Bool, List, [], ◌∷◌, All, Option, Some, None, ap, sym, ◌∙◌, subst}
 use Rattle.std.proofs.lemmas.Option.{same_Some}
+use Rattle.machine_spec.specs.Limits.{Limits}
 use Rattle.machine_spec.specs.Setup.{Setup, first, scratch}
 use Rattle.history_spec.specs.History.{History, IsHonest, schedule_of}
 use Rattle.report_spec.specs.Report.{instructions_from}
@@ -16,7 +17,7 @@ use Rattle.worker_spec.proofs.Unedited.{unedited-marks, reused-instructions, une
 use Rattle.worker_spec.proofs.Workers.{workers-threads, workers-reuse}
 use Rattle.worker_spec.specs.Workers.{IsMadeBy}
 use Rattle.rerun_spec.specs.Inputs.{AreShort}
-use Rattle.rerun_spec.specs.Rounds.{with_input, with_fuel, Found, Round, made, IsMade, left_by, Beginning, after_memo, CanBegin, round_on, rounds_after, schedule_in, entries_of, machine_of, IsRepeated, IsUneditedRerun}
+use Rattle.rerun_spec.specs.Rounds.{limits_of, with_input, with_limits, Found, Round, made, IsMade, left_by, Beginning, after_memo, CanBegin, round_on, rounds_after, schedule_in, entries_of, machine_of, IsRepeated, IsUneditedRerun}
 use Rattle.rerun_spec.proofs.Rounds.{IsSoundlyMade, round-honest, left-setup, left-schedule, each-round, IsNext, next-after, at-place}
 
 -- a round goes by an honest history, on its very setup
@@ -58,29 +59,29 @@ repeated-after b inputs found workers before after can short made repeated =
       schedule = left-schedule workers before is;
     }
 
--- so does the first round of a rerun on the memo's input with its fuel
+-- so does the first round of a rerun on the memo's input with its limits
 rerun-round :
-    (h : History) (fuel : ℕ) (reach : Bool) (r : Round) (input : List ℕ) (f : Found)
-    → round_on (after_memo h fuel reach) input f ≡ r → r.setup.input ≡ h.setup.input → r.setup.fuel ≡ h.setup.fuel
-    → IsHonest h → IsAgain h r
-rerun-round h fuel reach r input f is same_input same_fuel honest =
-    let made : with_input (with_fuel h.setup fuel) input ≡ r.setup = ap (λ (q : Round). q.setup) is in
-    let asked : h.setup.fuel ≡ fuel = sym same_fuel ∙ sym (ap (λ (s : Setup). s.fuel) made) in
+    (h : History) (limits : Limits) (reach : Bool) (r : Round) (input : List ℕ) (f : Found)
+    → round_on (after_memo h limits reach) input f ≡ r → r.setup.input ≡ h.setup.input
+    → limits_of r.setup ≡ limits_of h.setup → IsHonest h → IsAgain h r
+rerun-round h limits reach r input f is same_input same_limits honest =
+    let made : with_input (with_limits h.setup limits) input ≡ r.setup = ap (λ (q : Round). q.setup) is in
+    let asked : limits_of h.setup ≡ limits = sym same_limits ∙ sym (ap limits_of made) in
     let read : h.setup.input ≡ input = sym same_input ∙ sym (ap (λ (s : Setup). s.input) made) in
     record {
       honest = honest;
       past = sym (ap (λ (q : Round). q.past) is);
-      setup = ap (with_fuel h.setup) asked ∙ ap (with_input (with_fuel h.setup fuel)) read ∙ made;
+      setup = ap (with_limits h.setup) asked ∙ ap (with_input (with_limits h.setup limits)) read ∙ made;
     }
 
 pub rerun-again :
-    (h : History) (fuel : ℕ) (reach : Bool) (inputs : List (List ℕ)) (found : List Found) (r : Round)
-    → IsHonest h → IsUneditedRerun h fuel reach inputs found r → IsAgain h r
-rerun-again h fuel reach [] found r honest rerun = absurd (let no : None ≡ Some r = rerun.first in cc)
-rerun-again h fuel reach (input ∷ inputs) [] r honest rerun = absurd (let no : None ≡ Some r = rerun.first in cc)
-rerun-again h fuel reach (input ∷ inputs) (f ∷ found) r honest rerun =
-    rerun-round h fuel reach r input f (same_Some (round_on (after_memo h fuel reach) input f) r rerun.first) rerun.same_input
-    rerun.same_fuel honest
+    (h : History) (limits : Limits) (reach : Bool) (inputs : List (List ℕ)) (found : List Found) (r : Round)
+    → IsHonest h → IsUneditedRerun h limits reach inputs found r → IsAgain h r
+rerun-again h limits reach [] found r honest rerun = absurd (let no : None ≡ Some r = rerun.first in cc)
+rerun-again h limits reach (input ∷ inputs) [] r honest rerun = absurd (let no : None ≡ Some r = rerun.first in cc)
+rerun-again h limits reach (input ∷ inputs) (f ∷ found) r honest rerun =
+    rerun-round h limits reach r input f (same_Some (round_on (after_memo h limits reach) input f) r rerun.first) rerun.same_input
+    rerun.same_limits honest
 
 -- what holds of the history's own setup holds of the round
 carried :

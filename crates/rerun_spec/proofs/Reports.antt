@@ -6,6 +6,7 @@ use Rattle.std.proofs.lemmas.List.{length-map, map-append}
 use Rattle.std.proofs.lemmas.List.Folds.{list_all-append}
 use Rattle.machine_spec.specs.Machine.{Machine}
 use Rattle.machine_spec.specs.Step.{step}
+use Rattle.machine_spec.specs.Limits.{Limits}
 use Rattle.machine_spec.specs.Setup.{Setup, IsSetup, first, scratch}
 use Rattle.machine_spec.specs.Choice.{alone}
 use Rattle.report_spec.specs.declared.Entry.{Entry}
@@ -18,7 +19,7 @@ use Rattle.round_spec.proofs.Agreeing.{one_worker-nothing}
 use Rattle.round_spec.proofs.Executed.{round-executed}
 use Rattle.round_spec.proofs.Leaving.{round-setup, round-past}
 use Rattle.rerun_spec.specs.Inputs.{AreInputs, AreRerunInputs, AreShort}
-use Rattle.rerun_spec.specs.Rounds.{with_fuel, Found, Round, made, IsMade, Beginning, from_scratch, after_memo, CanBegin, round_on, rounds_after, after_rounds, entries_of, IsUneditedRerun}
+use Rattle.rerun_spec.specs.Rounds.{limits_of, with_limits, Found, Round, made, IsMade, Beginning, from_scratch, after_memo, CanBegin, round_on, rounds_after, after_rounds, entries_of, IsUneditedRerun}
 use Rattle.rerun_spec.specs.Reports.{all_executed, told_reach, reach_in, report_of, reports_of, is_exit, exits, all_exit, told_as_made, made_report, made_reports, made_exits, all_made_exit}
 use Rattle.rerun_spec.proofs.Inputs.{only-input}
 use Rattle.rerun_spec.proofs.Rounds.{IsSoundlyMade, each-made, each-round, count-after, scratch-begins, round-threads, round-entries, round-machine, round-alone}
@@ -129,22 +130,22 @@ alone-exits setup reach inputs f valid are made =
     only-exits setup reach inputs f are
     ∙ ap (λ (ts : List ℕ). is_exit (scratch setup ts).ending) (only-alone setup reach inputs f valid are made).threads
 
--- without lists a rerun is one round, without an edit where its fuel is the memo's
+-- without lists a rerun is one round, without an edit where its limits are the memo's
 pub only-rerun :
-    (h : History) (fuel : ℕ) (reach : Bool) (inputs : List (List ℕ)) (f : Found) → AreRerunInputs h.setup.input [] inputs
-    → rounds_after (after_memo h fuel reach) inputs (f ∷ [])
-    ≡ record { number = 1; setup = with_fuel h.setup fuel; past = Some h; reach = reach; found = f } ∷ []
-only-rerun h fuel reach inputs f are = ap (λ (is : List (List ℕ)). rounds_after (after_memo h fuel reach) is (f ∷ [])) are
+    (h : History) (limits : Limits) (reach : Bool) (inputs : List (List ℕ)) (f : Found) → AreRerunInputs h.setup.input [] inputs
+    → rounds_after (after_memo h limits reach) inputs (f ∷ [])
+    ≡ record { number = 1; setup = with_limits h.setup limits; past = Some h; reach = reach; found = f } ∷ []
+only-rerun h limits reach inputs f are = ap (λ (is : List (List ℕ)). rounds_after (after_memo h limits reach) is (f ∷ [])) are
 
 pub only-unedited :
     (h : History) (reach : Bool) (inputs : List (List ℕ)) (f : Found) → AreRerunInputs h.setup.input [] inputs
-    → IsUneditedRerun h h.setup.fuel reach inputs (f ∷ [])
+    → IsUneditedRerun h (limits_of h.setup) reach inputs (f ∷ [])
     (record { number = 1; setup = h.setup; past = Some h; reach = reach; found = f })
 only-unedited h reach inputs f are =
     record {
-      first = ap (λ (rs : List Round). slice_get rs 0) (only-rerun h h.setup.fuel reach inputs f are);
+      first = ap (λ (rs : List Round). slice_get rs 0) (only-rerun h (limits_of h.setup) reach inputs f are);
       same_input = refl;
-      same_fuel = refl;
+      same_limits = refl;
     }
 
 -- counts

@@ -5,7 +5,7 @@ use Rattle.std.proofs.lemmas.Option.{same_Some}
 use Rattle.std.proofs.lemmas.List.{length-replicate}
 use Rattle.std.proofs.lemmas.List.Elements.{All-from_recursion, recursion_from_All}
 use Rattle.edit_spec.specs.Editing.{longest_input}
-use Rattle.machine_spec.specs.Limits.{AreLimits}
+use Rattle.machine_spec.specs.Limits.{Limits, AreLimits}
 use Rattle.machine_spec.specs.Setup.{Setup, IsSetup, first, scratch, is_permitted, is_complete, records}
 use Rattle.history_spec.specs.History.{History, IsHonest, IsSound, CanGoBy, schedule_of, threads_of_records}
 use Rattle.history_spec.proofs.Scratch.{records-threads}
@@ -18,7 +18,7 @@ use Rattle.worker_spec.proofs.Lone.{rounds-made}
 use Rattle.worker_spec.proofs.Workers.{lone-made, workers-round, workers-permitted, workers-complete, workers-marks, workers-honest, workers-alone}
 use Rattle.worker_spec.proofs.Cost.{rounds-cost}
 use Rattle.rerun_spec.specs.Inputs.{AreInputs, AreShort}
-use Rattle.rerun_spec.specs.Rounds.{with_input, with_fuel, Found, Round, made, IsMade, IsPickedRightly, left_by, Beginning, from_scratch, after_memo, CanBegin, round_on, after_round, rounds_after, after_rounds, last_left, schedule_in, entries_of, machine_of}
+use Rattle.rerun_spec.specs.Rounds.{with_input, with_limits, Found, Round, made, IsMade, IsPickedRightly, left_by, Beginning, from_scratch, after_memo, CanBegin, round_on, after_round, rounds_after, after_rounds, last_left, schedule_in, entries_of, machine_of}
 
 -- a round that its workers made by a history that its setup can go by
 pub record IsSoundlyMade (workers : ℕ) (r : Round) : Type 0 where
@@ -38,7 +38,7 @@ with-short s input valid short =
 -- a history that is sound is so for any input
 sound-any : (past : Option History) (s : Setup) (input : List ℕ) → IsSound past s → IsSound past (with_input s input)
 sound-any None s input sound = tt
-sound-any (Some h) s input sound = (sound.0, record { elf = sound.1.elf; limit = sound.1.limit })
+sound-any (Some h) s input sound = sound
 
 -- a round as its workers make it is the one that their schedule makes
 pub round-made :
@@ -67,10 +67,7 @@ goes-on b input f workers can is =
       valid = can.valid;
       sound = (
         round-honest workers (round_on b input f) is,
-        record {
-          elf = ap (λ (t : Setup). t.elf) same;
-          limit = ap (λ (t : Setup). t.limit) same;
-        },
+        ap (λ (t : Setup). t.elf) same,
       );
     }
 
@@ -143,14 +140,15 @@ each-holds P holds b inputs found workers can short made = λ k d below.
     (All-from_recursion (IsSoundlyMade workers) (rounds_after b inputs found)
     (each-round b inputs found workers can short made) k d below)
 
--- a setup with another fuel in range may be run, where it may be
-pub with-limits : (s : Setup) (fuel : ℕ) → IsSetup s → AreLimits fuel s.limit → IsSetup (with_fuel s fuel)
-with-limits s fuel valid limits =
+-- a setup with other limits in range may be run, where it may be
+pub with-limits :
+    (s : Setup) (limits : Limits) → IsSetup s → AreLimits limits.fuel limits.steps → IsSetup (with_limits s limits)
+with-limits s limits valid within =
     record {
       elf_size = valid.elf_size;
       elf_accepted = valid.elf_accepted;
       input_size = valid.input_size;
-      limits = limits;
+      limits = within;
     }
 
 -- what a beginning from scratch, and one after a memo, need
@@ -158,12 +156,12 @@ pub scratch-begins : (s : Setup) (reach : Bool) → IsSetup s → CanBegin (from
 scratch-begins s reach valid = record { valid = valid; sound = tt }
 
 pub memo-begins :
-    (h : History) (fuel : ℕ) (reach : Bool) → IsHonest h → AreLimits fuel h.setup.limit
-    → CanBegin (after_memo h fuel reach)
-memo-begins h fuel reach honest limits =
+    (h : History) (limits : Limits) (reach : Bool) → IsHonest h → AreLimits limits.fuel limits.steps
+    → CanBegin (after_memo h limits reach)
+memo-begins h limits reach honest within =
     record {
-      valid = with-limits h.setup fuel honest.valid limits;
-      sound = (honest, record { elf = refl; limit = refl });
+      valid = with-limits h.setup limits honest.valid within;
+      sound = (honest, refl);
     }
 
 -- what the last one leaves is honest

@@ -1,6 +1,7 @@
 -- The rounds of a line on some inputs, one after the other, from scratch or by a history that was read, each by the
 -- schedule that its workers found.
 use Rattle.std.specs.Prelude.{ℕ, suc, ◌+◌, ◌≡◌, Bool, List, [], ◌∷◌, slice_get, Option, Some, None, unwrap_or, ⊤}
+use Rattle.machine_spec.specs.Limits.{Limits}
 use Rattle.machine_spec.specs.Machine.{Machine}
 use Rattle.machine_spec.specs.Setup.{Setup, scratch}
 use Rattle.history_spec.specs.History.{History, IsSameProgram, CanGoBy}
@@ -16,9 +17,13 @@ use Rattle.worker_spec.specs.Workers.{IsMadeBy}
 abbrev pub with_input : Setup → List ℕ → Setup
 with_input setup input = record setup { input = input }
 
--- A setup with another fuel: the same executable, input and limit.
-abbrev pub with_fuel : Setup → ℕ → Setup
-with_fuel setup fuel = record setup { fuel = fuel }
+-- A setup's limits.
+abbrev pub limits_of : Setup → Limits
+limits_of setup = record { fuel = setup.fuel; steps = setup.limit }
+
+-- A setup with other limits: the same executable and input.
+abbrev pub with_limits : Setup → Limits → Setup
+with_limits setup limits = record setup { fuel = limits.fuel; limit = limits.steps }
 
 -- What the workers of a round found: a schedule with its marks, and how many of its steps each of them made.
 pub record Found : Type 0 where
@@ -62,10 +67,10 @@ pub record Beginning : Type 0 where
 abbrev pub from_scratch : Setup → Bool → Beginning
 from_scratch setup reach = record { number = 0; past = None; setup = setup; reach = reach }
 
--- After a memo, which holds a round by its history: round 1 goes by this history, and the program is its own; the fuel
--- is the one that is asked for.
-abbrev pub after_memo : History → ℕ → Bool → Beginning
-after_memo h fuel reach = record { number = 1; past = Some h; setup = with_fuel h.setup fuel; reach = reach }
+-- After a memo, which holds a round by its history: round 1 goes by this history, and the program is its own; the
+-- limits are those that are asked for.
+abbrev pub after_memo : History → Limits → Bool → Beginning
+after_memo h limits reach = record { number = 1; past = Some h; setup = with_limits h.setup limits; reach = reach }
 
 -- A beginning of which rounds may be made: its setup can go by its history.
 abbrev pub CanBegin : Beginning → Type 0
@@ -119,16 +124,16 @@ entries_of r = marked r.past r.setup (schedule_in r)
 abbrev pub machine_of : Round → Machine
 machine_of r = scratch r.setup (schedule_in r)
 
--- Of some rounds, which have one fuel, one and the next after it, without an edit in between: their inputs are equal.
+-- Of some rounds, which have the same limits, one and the next after it, without an edit in between: their inputs are equal.
 pub record IsRepeated (rounds : List Round) (before after : Round) : Type 0 where
   pub place : ℕ
   pub one : slice_get rounds place ≡ Some before
   pub next : slice_get rounds (suc place) ≡ Some after
   pub same : after.setup.input ≡ before.setup.input
 
--- Of rounds that go by a memo, the first, without an edit: its input and its fuel are those of the memo's round.
-pub record IsUneditedRerun (h : History) (fuel : ℕ) (reach : Bool) (inputs : List (List ℕ)) (found : List Found)
+-- Of rounds that go by a memo, the first, without an edit: its input and its limits are those of the memo's round.
+pub record IsUneditedRerun (h : History) (limits : Limits) (reach : Bool) (inputs : List (List ℕ)) (found : List Found)
     (r : Round) : Type 0 where
-  pub first : slice_get (rounds_after (after_memo h fuel reach) inputs found) 0 ≡ Some r
+  pub first : slice_get (rounds_after (after_memo h limits reach) inputs found) 0 ≡ Some r
   pub same_input : r.setup.input ≡ h.setup.input
-  pub same_fuel : r.setup.fuel ≡ h.setup.fuel
+  pub same_limits : limits_of r.setup ≡ limits_of h.setup

@@ -9,7 +9,7 @@
 ghost use Rattle.std.specs.Prelude.{◌≡◌, ◌≢◌, ◌≤◌, ◌<◌, ◌+◌, ℕ, suc, min, max, Bool, true, ◌&&◌, List, [], ◌∷◌, ◌++◌, All, length, map, take, drop, sum, slice_get, Option, Some, None, is_some, ◌⊎◌};
 ghost use Rattle.std.specs.List.{range_with_len};
 ghost use Rattle.edit_spec.specs.Editing.{longest_input};
-ghost use Rattle.machine_spec.specs.Limits.{AreLimits};
+ghost use Rattle.machine_spec.specs.Limits.{Limits, AreLimits};
 ghost use Rattle.machine_spec.specs.Setup.{Setup, IsSetup, first, scratch, is_permitted, is_complete, records};
 ghost use Rattle.machine_spec.specs.Choice.{alone};
 ghost use Rattle.history_spec.specs.History.{History, IsHonest, IsSameProgram, CanGoBy, schedule_of};
@@ -25,7 +25,7 @@ ghost use Rattle.round_spec.specs.Unedited.{OnlyReuses};
 ghost use Rattle.worker_spec.specs.OneWorker.{executed_in};
 ghost use Rattle.reach_spec.specs.Working.{ReexecutesLeast};
 ghost use Rattle.rerun_spec.specs.Inputs.{Makes, AreInputs, AreRerunInputs, AreShort, Refusal, Refuses, IsFirstRefused};
-ghost use Rattle.rerun_spec.specs.Rounds.{Found, Round, Beginning, with_input, with_fuel, made, IsMade, IsPickedRightly, left_by, from_scratch, after_memo, CanBegin, round_on, after_round, rounds_after, after_rounds, IsOfProgram, last_left, schedule_in, entries_of, machine_of, IsRepeated, IsUneditedRerun};
+ghost use Rattle.rerun_spec.specs.Rounds.{Found, Round, Beginning, limits_of, with_input, with_limits, made, IsMade, IsPickedRightly, left_by, from_scratch, after_memo, CanBegin, round_on, after_round, rounds_after, after_rounds, IsOfProgram, last_left, schedule_in, entries_of, machine_of, IsRepeated, IsUneditedRerun};
 ghost use Rattle.rerun_spec.specs.Reports.{all_executed, told_reach, reach_in, report_of, reports_of, is_exit, exits, all_exit, made_report, made_reports, made_exits, all_made_exit};
 
 /// For each first input and lists of edits either the inputs of the rounds are there, or a list is the
@@ -248,15 +248,15 @@ pub fn each_round_comes_to_an_end()
 {}
 
 /// Rounds may begin from scratch with a setup that may be run, and after a memo whose history is honest, with
-/// any fuel in range. Then each round that workers make may be made: its setup can go by its history. So each law of
+/// any limits in range. Then each round that workers make may be made: its setup can go by its history. So each law of
 /// a round that goes by a sound history holds of it. What it leaves is honest. However many workers there are, one or
 /// more, they can make a round of each input.
 pub fn each_round_may_be_made()
     ensures scratch { (setup : Setup) (reach : Bool) → IsSetup setup → CanBegin (from_scratch setup reach) }
-    ensures memo { (h : History) (fuel : ℕ) (reach : Bool)
+    ensures memo { (h : History) (limits : Limits) (reach : Bool)
         → IsHonest h
-        → AreLimits fuel h.setup.limit
-        → CanBegin (after_memo h fuel reach) }
+        → AreLimits limits.fuel limits.steps
+        → CanBegin (after_memo h limits reach) }
     ensures sound { (b : Beginning) (inputs : List (List ℕ)) (found : List Found) (workers : ℕ)
         → CanBegin b
         → AreShort inputs
@@ -455,50 +455,50 @@ pub fn repeated_round_executes_nothing()
         → machine_of after ≡ machine_of before }
 {}
 
-/// Where input and fuel of the first round of a rerun are those of the memo's round, and the memo's history is
+/// Where input and limits of the first round of a rerun are those of the memo's round, and the memo's history is
 /// honest, the round is all reuse of it, however many workers there are: no instruction is executed and nothing
 /// is discarded; and schedule and machine (so its end, output and final memory) are those of the memo's round. One
 /// worker would pick no step to be executed.
 pub fn unedited_rerun_executes_nothing()
-    ensures reuses { (h : History) (fuel : ℕ) (reach : Bool) (inputs : List (List ℕ)) (found : List Found)
+    ensures reuses { (h : History) (limits : Limits) (reach : Bool) (inputs : List (List ℕ)) (found : List Found)
         (workers : ℕ) (r : Round)
         → IsHonest h
-        → IsUneditedRerun h fuel reach inputs found r
+        → IsUneditedRerun h limits reach inputs found r
         → IsMade workers r
         → OnlyReuses h (made r) }
-    ensures schedule { (h : History) (fuel : ℕ) (reach : Bool) (inputs : List (List ℕ)) (found : List Found)
+    ensures schedule { (h : History) (limits : Limits) (reach : Bool) (inputs : List (List ℕ)) (found : List Found)
         (workers : ℕ) (r : Round)
         → IsHonest h
-        → IsUneditedRerun h fuel reach inputs found r
+        → IsUneditedRerun h limits reach inputs found r
         → IsMade workers r
         → schedule_in r ≡ schedule_of h }
-    ensures never_runs { (h : History) (fuel : ℕ) (reach : Bool) (inputs : List (List ℕ)) (found : List Found)
+    ensures never_runs { (h : History) (limits : Limits) (reach : Bool) (inputs : List (List ℕ)) (found : List Found)
         (r : Round) (n t : ℕ)
         → IsHonest h
-        → IsUneditedRerun h fuel reach inputs found r
+        → IsUneditedRerun h limits reach inputs found r
         → pick_of (after_picks n (opening r.setup r.past)) ≢ pick.Run t }
-    ensures executed { (h : History) (fuel : ℕ) (reach : Bool) (inputs : List (List ℕ)) (found : List Found) (r : Round)
+    ensures executed { (h : History) (limits : Limits) (reach : Bool) (inputs : List (List ℕ)) (found : List Found) (r : Round)
         → IsHonest h
-        → IsUneditedRerun h fuel reach inputs found r
+        → IsUneditedRerun h limits reach inputs found r
         → executed_in r.setup.limit (opening r.setup r.past) ≡ 0 }
-    ensures instructions { (h : History) (fuel : ℕ) (reach : Bool) (inputs : List (List ℕ)) (found : List Found)
+    ensures instructions { (h : History) (limits : Limits) (reach : Bool) (inputs : List (List ℕ)) (found : List Found)
         (workers : ℕ) (r : Round)
         → IsHonest h
-        → IsUneditedRerun h fuel reach inputs found r
+        → IsUneditedRerun h limits reach inputs found r
         → IsMade workers r
         → instructions_from (first r.setup) (entries_of r) ≡ 0 }
-    ensures machine { (h : History) (fuel : ℕ) (reach : Bool) (inputs : List (List ℕ)) (found : List Found)
+    ensures machine { (h : History) (limits : Limits) (reach : Bool) (inputs : List (List ℕ)) (found : List Found)
         (workers : ℕ) (r : Round)
         → IsHonest h
-        → IsUneditedRerun h fuel reach inputs found r
+        → IsUneditedRerun h limits reach inputs found r
         → IsMade workers r
         → machine_of r ≡ scratch h.setup (schedule_of h) }
 {}
 
 /// Without lists of edits there is one round, a run from scratch: with no history each entry is executed, and report
 /// and end are that run's, under the schedule that its workers found; with one worker that is the run that follows the
-/// choice. A rerun without lists is one round, round 1, on the memo's input; with the memo's fuel it is without an
-/// edit.
+/// choice. A rerun without lists is one round, round 1, on the memo's input; with the memo's limits it is without
+/// an edit.
 pub fn no_edit_list_is_one_round()
     ensures marks { (setup : Setup) (schedule : List ℕ) → marked None setup schedule ≡ all_executed schedule }
     ensures reports { (setup : Setup) (reach : Bool) (inputs : List (List ℕ)) (f : Found)
@@ -521,13 +521,13 @@ pub fn no_edit_list_is_one_round()
         → All (IsMade 1) (rounds_after (from_scratch setup reach) inputs (f ∷ []))
         → all_exit (rounds_after (from_scratch setup reach) inputs (f ∷ []))
         ≡ is_exit (scratch setup (alone setup)).ending }
-    ensures rerun { (h : History) (fuel : ℕ) (reach : Bool) (inputs : List (List ℕ)) (f : Found)
+    ensures rerun { (h : History) (limits : Limits) (reach : Bool) (inputs : List (List ℕ)) (f : Found)
         → AreRerunInputs h.setup.input [] inputs
-        → rounds_after (after_memo h fuel reach) inputs (f ∷ [])
-        ≡ record { number = 1; setup = with_fuel h.setup fuel; past = Some h; reach = reach; found = f } ∷ [] }
+        → rounds_after (after_memo h limits reach) inputs (f ∷ [])
+        ≡ record { number = 1; setup = with_limits h.setup limits; past = Some h; reach = reach; found = f } ∷ [] }
     ensures unedited { (h : History) (reach : Bool) (inputs : List (List ℕ)) (f : Found)
         → AreRerunInputs h.setup.input [] inputs
-        → IsUneditedRerun h h.setup.fuel reach inputs (f ∷ [])
+        → IsUneditedRerun h (limits_of h.setup) reach inputs (f ∷ [])
         (record { number = 1; setup = h.setup; past = Some h; reach = reach; found = f }) }
 {}
 

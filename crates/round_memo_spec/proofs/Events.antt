@@ -206,7 +206,7 @@ frame_of s = record { map = map_of s; fuel = s.fuel }
 
 same-map : (a b : Setup) → IsSameProgram a b → map_of a ≡ map_of b
 unfolding map_of
-same-map a b same = rw same.elf refl
+same-map a b same = rw same refl
 
 past-records :
     (past : Option History) (setup : Setup) → IsSpelledPast past setup

@@ -71,7 +71,7 @@ second-start =
       input_bytes = (omega arith, tt);
       past =
           round-next shortest longer None (events_in first-entries) first-start
-          (entries-end shortest None shortest-setup) (record { elf = refl; limit = refl });
+          (entries-end shortest None shortest-setup) refl;
     }
 
 abbrev second-entries : List Entry

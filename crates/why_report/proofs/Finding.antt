@@ -60,7 +60,7 @@ pub found-mapped :
     → All (λ (p : ReadPage). p.slot < length (map_of setup)) r.kept.reads
 found-mapped h setup t number r mapped old there =
     subst (λ (map : List Mapped). All (λ (p : ReadPage). p.slot < length map) r.kept.reads)
-    (map_of-program h.setup setup old.program.elf)
+    (map_of-program h.setup setup old.program)
     (find-passes (is_of t number) (IsMappedIn (length (map_of h.setup))) h.records r there mapped).1.reads
 
 -- its thunk may have ended as it did, under the fuel of a history that holds together

@@ -25,7 +25,7 @@ use Rattle.worker_spec.proofs.Cost.{rounds-cost}
 use Rattle.worker_spec.proofs.Following.{honest-next, honest-whole, honest-end, honest-length, next-fits, next-chosen, can_step-none, follow, follow-marks}
 
 pub honest-sound : (h : History) → IsHonest h → IsSound (Some h) h.setup
-honest-sound h honest = (honest, record { elf = refl; limit = refl })
+honest-sound h honest = (honest, refl)
 
 pub unedited-schedule : (h : History) → IsHonest h → one_worker h.setup (Some h) ≡ schedule_of h
 unedited-schedule h honest =

@@ -2,11 +2,12 @@
 use Rattle.std.proofs.Common.{rules, ◌≡◌, ◌∙◌, ℕ, ap}
 use Rattle.std.proofs.lemmas.Result.{err_from_is_err_and}
 use Rattle.round_inputs.specs.Lists.{bytes_of_each}
+use Rattle.machine_spec.specs.Limits.{Limits}
 use Rattle.ith_words.specs.Words.{Reruns}
 use Rattle.ith_words.specs.Said.{rerun_said}
 use Rattle.rerun_spec.specs.Inputs.{AreRerunInputs}
 use Rattle.rerun_spec.specs.Rounds.{after_memo}
-use Rattle.ith_top.specs.Contents.{IsMemoOf, Plan, fuel_of}
+use Rattle.ith_top.specs.Contents.{IsMemoOf, Plan, limits_for}
 use Rattle.ith_top.specs.Playing.{plan_said}
 use Rattle.ith_top.specs.Refusals.{WhyNoHistory, WhyUnedited}
 use Rattle.ith_top.proofs.Worlds.{stays_trans}
@@ -61,9 +62,9 @@ returns-in-Ok-clause-plan g c =
     let made : AreRerunInputs c.in_ok-history.history.setup.input (bytes_of_each files.lists.items) p.inputs =
     rw c.in-Ok.ensures.inputs edited in
     let begins : p.beginning ≡ after_memo c.in_ok-history.history
-    (fuel_of (rerun_said c.args.line.now) c.in_ok-history.history) c.args.line.now.reach =
+    (limits_for (rerun_said c.args.line.now) c.in_ok-history.history) c.args.line.now.reach =
     c.in-Ok.ensures.beginning
-    ∙ ap (λ (fuel : ℕ). after_memo c.in_ok-history.history fuel c.args.line.now.reach) c.fuel_of-fuel.ensures.value in
+    ∙ ap (λ (l : Limits). after_memo c.in_ok-history.history l c.args.line.now.reach) c.limits_for-limits.ensures.value in
     rerun_plan (rerun_said c.args.line.now) (w c.args.host.now) files.memo.items
     (bytes_of_each files.lists.items) c.in_ok-history.history p
     c.in_ok-memo.ensures.memo c.in_ok-memo.ensures.lists is begins made
@@ -79,7 +80,7 @@ returns-in-Ok-clause-playable g c =
     let made : AreRerunInputs c.in_ok-history.history.setup.input (bytes_of_each files.lists.items) p.inputs =
     rw c.in-Ok.ensures.inputs edited in
     rerun_playable files.memo.items
-    (bytes_of_each files.lists.items) c.in_ok-history.history c.fuel_of-fuel.result
+    (bytes_of_each files.lists.items) c.in_ok-history.history c.limits_for-limits.result
     c.args.line.now.reach p is c.in-Ok.ensures.beginning
     (rw c.in-Ok.ensures.inputs c.in_ok-inputs.ensures.few) made
 
@@ -94,8 +95,8 @@ returns-in-Ok-clause-spelled g c =
     let made : AreRerunInputs c.in_ok-history.history.setup.input (bytes_of_each files.lists.items) p.inputs =
     rw c.in-Ok.ensures.inputs edited in
     rerun_spelled files.memo.items
-    (bytes_of_each files.lists.items) c.in_ok-history.history c.fuel_of-fuel.result
-    c.args.line.now.reach p is c.fuel_of-fuel.ensures.within c.in-Ok.ensures.beginning made
+    (bytes_of_each files.lists.items) c.in_ok-history.history c.limits_for-limits.result
+    c.args.line.now.reach p is c.limits_for-limits.ensures.within c.in-Ok.ensures.beginning made
 
 pub returns-clause-refused : goal.returns-clause-refused
 returns-clause-refused g c =

@@ -1,6 +1,0 @@
--- Answers to the goals that the check leaves of `same_input_and_fuel_is_same_setup`.
-use Rattle.history_spec.proofs.Truth.{same-setup}
-use Rattle.history_spec.proofs.same_input_and_fuel_is_same_setup.Goals as goal
-
-pub returns : goal.returns
-returns c = same-setup

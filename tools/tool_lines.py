@@ -1,0 +1,118 @@
+"""What the lines of the tools on standard error mean, and what to do, as sentences.py has it for those of the program:
+`explained(line)` gives the sentence; None if it is no line of a tool's."""
+import re
+
+import sentences
+from sentences import BUILD
+
+NAME = r"(?:tools/|ithreads-)([a-z-]+)"
+RUN = "`ithreads run` or `ithreads rerun`"
+AS_RUN = "Give ELF, INPUT and the edit lists as the run had them; of a rerun, INPUT is the memo's input"
+HOW_FAR = "the proved program is being built, and this says how far it is: wait, or use tools/try meanwhile"
+
+
+def of_program(line):
+    """What a line of the program means that stands in one of a tool's."""
+    line = line.strip()
+    return sentences.explained(line) or f"the program's line is `{line}`; `ithreads --help` has its words"
+
+
+def ended(status, why):
+    """A tool that runs the program ends since that did."""
+    return of_program(why) if why else (f"ithreads ended with status {status} before a report was whole; its own line "
+                                        f"stands above")
+
+
+def how_it_ended(end):
+    if end == "trap":
+        return ("the guest did what the line says. With --guest ELF INPUT and the report on standard input, "
+                "tools/explain says in which line, and what is at the address")
+    return sentences.explained(f"end {end}")
+
+
+LINES = [
+    (r"(.*) can't be read: .*", sentences.file_named),
+    (r"(.*) can't be written: .*",
+     "{1} can't be written: the folder isn't there or may not be written to, or the disk is full"),
+    (r"printing failed: .*", sentences.explained("write output")),
+    (r"(.*): it stops being a report at byte (\d+): .*",
+     f"{{1}} isn't what {RUN} printed, from byte {{2}} on. Give standard output alone, in a file of its own; a run that "
+     "was interrupted prints no whole report"),
+    (r"(.*) has no round (\d+), but (\d+) to (\d+)",
+     "the reports have rounds {3} to {4}: `run` counts from 0, and `rerun` from 1"),
+    (r"(.*): the reports have no round (\d+)",
+     "{1} is given for round {2}, which isn't among the reports: write another number before the colon of N:FILE"),
+    (r"(.*) line (\d+): BadLine: .*", sentences.bad_line),
+    (r"(.*) line (\d+): OutOfRange: .*", sentences.out_of_range),
+    (r"(.*) has (?:more than )?[\d,]+ bytes, (?:the most of|and an input has at most) .*", sentences.too_large),
+    (r"the shortest list has .*", "so much differs that one list can't hold it: give --into NAME, and give all lists to "
+                                  "one `ithreads run` or `rerun`; or run the guest on the new input from scratch"),
+    (r"(.*) is there, and is none of the \d+ that are to be written: .*",
+     "`NAME.*.edits` would name more lists than are written: remove {1}, or give another NAME"),
+    (r"there are (\d+) rounds, and with (\d+) edit lists .*",
+     f"the reports have {{1}} rounds, and each edit list makes one. {AS_RUN}"),
+    (r"no line of the program is among these",
+     "give a line that `ithreads`, ./trace or a tool printed on standard error, or the line `end` of a report, to the "
+     "letter"),
+    (r"(.*): it is no executable.*", f"{{1}} is no guest. {BUILD}"),
+    (r"(.*): it has no symbol table; .*", "build the guest from the same files by guest/build --symbols: code and data "
+                                          "stay where they are, so the memo is of both"),
+    (r"(.*): its symbol table can't be read", f"{{1}} is damaged, or another linker wrote it. {BUILD}"),
+    (r"(.*) isn't the memo's guest: .*", "build {1} from the same files and by the same words as the memo's guest, and "
+                                         "--symbols; or make the memo anew by this guest"),
+    (r"a line isn't understood: .*", "the tool and the program are of different versions: install both again"),
+    (r"\w+ ended with status (\d+): (.*)", ended),
+    (r"round (\d+) can't be replayed: status \d+: (.*)", lambda _, line: of_program(line)),
+    (r"what is printed by the replay of round \d+ isn't understood: .*",
+     "the tool and the program are of different versions: install both again"),
+    (r"the trace of round (\d+): .*", f"the trace has other steps than round {{1}} of the reports. {AS_RUN}"),
+    (r"(.*): line (\d+): .*", "{1} isn't of this round from line {2} on: give what `ithreads show`, `ithreads why` or "
+                              "./trace printed for it, whole, or put the round's number before its name, as N:FILE"),
+    (r"round \d+ ended by (exit \d+|deadlock|spent|trap)\b.*", how_it_ended),
+    (r"[\d,]+ steps reused, [\d,]+ executed, .*",
+     "so many steps were taken from the run that was kept, and so many executed. Many executed ones after a small edit: "
+     "tools/why says what they read"),
+    (r"guest/build refuses (.*)",
+     "the lines before this one say what is wrong with {1}, and what to write in its place"),
+    (r"(?:the following arguments are required|unrecognized arguments|argument|expected|ambiguous option|--build is) ?.*",
+     "the words aren't understood; --help behind the tool's name shows them"),
+    (r"(\d+) tries take some (\d+) s",
+     "that is how long it takes; fewer --tries take less, and so does a smaller input"),
+    (r"nothing of this build is proved; .*", "the program is compiled without a proof, for trying it out; ./ithreads "
+                                             "proves it"),
+    (r"there is no 'rt' to compile it: .*", sentences.explained("ithreads: the program is not built, and there is no "
+                                                                "'rt' to build it")),
+    (r"the program was not compiled", "the lines before this one say why; after a change of the code, mend that"),
+    (r"the program of \./(\w+) isn't built, and can't be", "./{1} says why: call it, then install again"),
+    (r"there is no installation in (.*): .* isn't there",
+     "give the --prefix and the --destdir with which it was installed; of a Debian package, `apt-get remove ithreads`"),
+    (r"(.*) has .*, which is no file of an installation",
+     "{1} was changed, and nothing was removed: remove by hand what it lists below its own folder"),
+    (r"(.*): (?:Permission denied|Read-only file system|No space left on device)",
+     "{1} can't be written: be root, give a --prefix of your own, such as ~/.local, or make room"),
+]
+OF_LAUNCH = [
+    (r"proves the program's \d+ crates .*|tools/try runs it .*|proved \w+ \(.*|\d+ of \d+ crates proved, .*|.*: another run "
+     r"on this machine .*", HOW_FAR),
+    (r"built in \d+ s", "the program is proved and built; later calls start at once"),
+    (r"the sources can't be copied to (.*)", "{1}, for temporary files, is full or may not be written to: set TMPDIR"),
+    (r"(.*) isn't there: install ithreads again", "a file of the installation was removed: install it again"),
+]
+OF_BUILD = [
+    (r"there is no .* \((?:package|packages) (.*)\)", "install it: `apt-get install` with {1}, as root"),
+    (r".* is not understood", "the words of guest/build aren't understood; guest/build --help shows them"),
+    (r"the guest for --notes was not built", "with --notes the guest is built once more, with symbols; the lines before "
+                                             "this one say why that failed"),
+]
+TABLES = [(NAME + ": ", LINES), ("(ithreads|trace): ", OF_LAUNCH), ("(build): ", OF_BUILD)]
+WORDS = re.compile(r"(?:tools/|ithreads-)?([a-z-]+): error: .*", flags=re.S)
+
+
+def explained(line):
+    """The sentence of a tool's line."""
+    if found := WORDS.fullmatch(line):
+        return f"the words aren't understood; `{found.group(1)} --help` shows them"
+    for prefix, table in TABLES:
+        if (begun := re.match(prefix, line)) and (found := sentences.found_in(table, line[begun.end():])):
+            return found
+    return None
