@@ -85,6 +85,9 @@ part == "stacks" {
     next
 }
 
+# behind a header that isn't for this machine nothing else means anything
+stop { next }
+
 # gcc and ld say in which function something is, before they say what
 /: [Ii]n function [`']/ {
     flush()
@@ -115,13 +118,29 @@ skipped && (/^ *[0-9]* \|/ || skipped++ < 3 && clang) { next }
 }
 /some warnings being treated as errors|^[0-9]+ errors? generated/ && stacks { next }
 
+# lld says behind a name who wants it: the file, and then the object with the function
+/undefined symbol: / {
+    wanted = $0
+    sub(/.*undefined symbol: /, "", wanted)
+    next
+}
+/^>>> referenced by / { user = $4; next }
+/^>>> .*:\(.*\)$/ {
+    where = user
+    if (match($0, /:\([a-zA-Z_][a-zA-Z_0-9]*\)$/))
+        where = user ", in " substr($0, RSTART + 2, RLENGTH - 3)
+    if (wanted == "main" || wanted == "_start")
+        no_start = 1
+    else
+        missing(wanted, where)
+    next
+}
+/^$/ && wanted { next }
+
 /more undefined references to / { next }
-/undefined reference to / || /undefined symbol: / {
+/undefined reference to / {
     held = where = ""
-    name = $0
-    if (/undefined reference/)
-        name = quoted("undefined reference to ")
-    sub(/.*undefined symbol: /, "", name)
+    name = quoted("undefined reference to ")
     if (library == "") {
         where = $0
         sub(/:? *undefined .*/, "", where)
@@ -137,20 +156,31 @@ skipped && (/^ *[0-9]* \|/ || skipped++ < 3 && clang) { next }
     next
 }
 /cannot find entry symbol/ { no_start = 1; next }
-/^>>> / || /collect2: error: ld returned|error: linker command failed/ { next }
+/^>>> / || /collect2: error: ld returned|error: (linker|ld\.lld) command failed/ { next }
 
-/fatal error: .*: No such file or directory|' file not found|#error "<dirent\.h> not supported"/ {
+# who includes what isn't there: the last of these lines has the program's own file
+/^In file included from |^ +from [^ ]+:[0-9]+[,:]$/ {
+    held = held (held == "" ? "" : "\n") $0
+    includer = $NF
+    sub(/[,:]$/, "", includer)
+    next
+}
+/fatal error: .*: No such file or directory|' file not found|#error "<dirent\.h> not supported"|error: "This header is only/ {
     header = 1
     name = where = $0
     sub(/.*fatal error: '?/, "", name)
     sub(/(: No such file|' file not found).*/, "", name)
-    sub(/:[0-9]+:[0-9]+: (fatal )?error: .*/, "", where)
-    if (/#error/)
-        name = "dirent.h"
+    sub(/:[0-9]+: (fatal )?error: .*/, "", where)
+    if (/error: (#error )?"/) {
+        name = where
+        sub(/:[0-9]+$/, "", name)
+        sub(/.*\//, "", name)
+        stop = 1
+    }
     if (name in gap) {
+        missing(name, held == "" ? where : includer)
         held = ""
         skipped = 1
-        missing(name, where)
         next
     }
 }
@@ -166,6 +196,11 @@ skipped && (/^ *[0-9]* \|/ || skipped++ < 3 && clang) { next }
         next
     }
 }
+/makes pointer from integer without a cast/ && unseen && index($0, place[unseen] ":") == 1 {
+    held = ""
+    skipped = 1
+    next
+}
 
 /error: unknown type name '|error: '[^']*' undeclared/ {
     name = quoted(/unknown type/ ? "unknown type name " : "error: ")
@@ -180,7 +215,6 @@ skipped && (/^ *[0-9]* \|/ || skipped++ < 3 && clang) { next }
 }
 /note: each undeclared identifier is reported only once/ && all_known() { skipped = 1; next }
 /^compilation terminated\.$/ && header { next }
-/In file included from / && !/:[0-9]+:$/ { held = held (held == "" ? "" : "\n") $0; next }
 
 /multiple definition of / {
     name = quoted("multiple definition of ")
@@ -189,6 +223,9 @@ skipped && (/^ *[0-9]* \|/ || skipped++ < 3 && clang) { next }
         say("build:", name " is there twice. malloc, free and their like, exit, and what is of stdio.h and pthread.h are guest/lib's: a program can't have its own.")
     next
 }
+
+/impossible constraint in 'asm'|invalid (input|output) constraint .* in asm/ { foreign = 1 }
+/__int128' is not supported|__int128 is not supported/ { wide = 1 }
 
 /a guest has at most 1,024 pages/ {
     held = ""
@@ -228,6 +265,10 @@ END {
         say("build:", "a thread's stack has 65,536 bytes, and stacks lie one upon the other: a thread that needs more writes into the stack of the thread before it, and nothing says so. Of an array whose length is known only when the guest runs, and of alloca, nobody looks after the size. Make large arrays static, or take them from malloc.")
     if (header && !libc && !all)
         say("build:", "without --libc there are ithreads.h and the headers that come with clang, and no C library.")
+    if (foreign)
+        say("build:", "a guest has the instructions of RV32I, and with --march rv32im those of RV32IM. Write in C what another processor has instructions for.")
+    if (wide)
+        say("build:", "a number has 64 bits at most. Put a larger one together from several.")
     if (undeclared)
         say("build:", "of threads there is what guest/include/pthread.h declares.")
 }

@@ -54,7 +54,8 @@ SAYING = {  # what says a line, and what stands before its text
     "NoSymbols": "FILE: ", "NotReports": "FILE: ",
 }
 SAID_BY_OTHERS = [
-    "build: there is no clang (package clang)", "build: --wrong is not understood", "tools/explore: 100 tries take some 12 s",
+    "build: there is no clang (package clang)", "build: --wrong is not understood",
+    "tools/explore: 100 tries take some 12 s",
     "build: there is no picolibc (package picolibc-riscv64-unknown-elf)", "ithreads: built in 3 s",
     "build: there is no objdump for --notes (packages binutils-riscv64-unknown-elf, llvm)",
     "ithreads: proves the program's 40 crates and builds it, which takes some 27 minutes on two processors",
@@ -141,11 +142,12 @@ def check_tools(checks):
     told = [*lines_of_tools(), *SAID_BY_OTHERS]
     without = [line for line in told if not tool_lines.explained(line)]
     checks.expect(f"{len(told)} lines of the tools have sentences, but for {without}", not without and len(told) > 60)
-    unknown = [line for line in ("tools/why", "tools/why: ", "why 3", "build", "ithreads: other") if tool_lines.explained(line)]
+    others = ("tools/why", "tools/why: ", "why 3", "build", "ithreads: other")
+    unknown = [line for line in others if tool_lines.explained(line)]
     checks.expect(f"other lines have no sentence, but for {unknown}", not unknown)
     for line, wanted in (("tools/verify: none can't be read: No such file or directory", "there is no file none"),
                          ("ithreads-timeline: ithreads ended with status 4: memo: Digest", "the memo is damaged"),
-                         ("tools/run: round 0 ended by spent: it had 4096 steps, as many as --steps allows", "--steps 65536")):
+                         ("tools/run: round 0 ended by spent: it had 4096 steps", "--steps 65536")):
         status, printed, said = tool("explain", line)
         checks.expect(f"explain `{line}`: {printed} {said}", status == 0 and wanted in printed.decode())
 

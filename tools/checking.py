@@ -22,7 +22,7 @@ class Checks:
             self.passed += 1
         else:
             self.failed += 1
-            print(f"failed: {what}")
+            print(f"failed: {what}", flush=True)
         return right
 
     def file(self, name, data):

@@ -164,6 +164,8 @@ LINES = [
     (r"schedule: incomplete",
      "the schedule ends before the run does: it is cut off, or of another guest or input, or --fuel is larger than "
      "that of the run"),
+    (r"false (\d+)",
+     f"record {{1}} of the memo, counted from 0, isn't what its step does: another program wrote or changed it; {AGAIN}"),
     (r"words: .*", "the command line isn't understood; `./ithreads --help` shows the commands and their options"),
     (r"end exit (\d+)", exited),
     (r"end trap (\d+) ([0-9a-f]{8}) ([0-8])", trap),

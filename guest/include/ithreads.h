@@ -357,6 +357,9 @@ static inline int it_rwlock_trywrlock(unsigned lock)
     return it_call(IT_CALL_TRYWRLOCK, lock, 0);
 }
 
+/* There is no call that only tries to read: the compiler refuses this one. */
+int it_rwlock_tryrdlock(unsigned lock) __attribute__((error("a read lock can't be tried. Wait for it by it_rwlock_rdlock, or try to write by it_rwlock_trywrlock.")));
+
 /* Lets go of a lock that the caller holds. Who waits to read, before the first who waits to write, reads then; and where nobody holds the lock, who
    waits first writes. Answers 0; -IT_EINVAL: number above 63; -IT_EPERM: the caller doesn't hold it. */
 static inline int it_rwlock_unlock(unsigned lock)

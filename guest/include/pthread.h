@@ -1,12 +1,12 @@
 /* POSIX threads for guests with a C library: what of POSIX.1-2017 <pthread.h> this machine has. Each function is that
    of the same name in POSIX.1-2017, System Interfaces; the comments say what it answers here. What isn't declared isn't
-   there: cancelling, robust mutexes, and a read lock that is only tried. A wait with a time is there with `guest/build --time counted`
-   alone. Names that end in _np or _NP are Linux's.
+   there: cancelling, robust mutexes, and a read lock that is only tried or waited for up to a time. Other waits with a
+   time are there with `guest/build --time counted` alone. Names that end in _np or _NP are Linux's.
 
    Answers are 0 or one of errno.h's numbers, and errno isn't set. A program has at most 32 threads, ended ones and
    main's counted, and of mutexes, conditions, semaphores, barriers and reader-writer locks 63 of each at once. A mutex, a
-   condition or a reader-writer lock has one of them from its first use or its init on, until it is destroyed. Where all are in use an init answers EAGAIN,
-   and the first use of a static one ends the guest with a message.
+   condition or a reader-writer lock has one of them from its first use or its init on, until it is destroyed. Where all
+   are in use an init answers EAGAIN, and the first use of a static one ends the guest with a message.
 
    Before each call here the library puts out what the thread has printed: so prints of several threads come in the
    order of their calls. */
@@ -355,6 +355,11 @@ int pthread_rwlock_wrlock(pthread_rwlock_t *lock);
 
 /* Answers 0; EBUSY: somebody holds it, maybe the caller. */
 int pthread_rwlock_trywrlock(pthread_rwlock_t *lock);
+
+/* Yields until the lock is the caller's alone. Answers 0; ETIMEDOUT: the time is over; EINVAL: it is no time. */
+int pthread_rwlock_timedwrlock(pthread_rwlock_t *__restrict lock, const struct timespec *__restrict time);
+int pthread_rwlock_clockwrlock(pthread_rwlock_t *__restrict lock, clockid_t clock,
+                               const struct timespec *__restrict time);
 
 /* Answers 0; EPERM: the caller doesn't hold it. */
 int pthread_rwlock_unlock(pthread_rwlock_t *lock);

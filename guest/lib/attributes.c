@@ -1,7 +1,6 @@
 /* Attributes of threads, mutexes, conditions and barriers. They change nothing but a mutex's type and whether a thread
    is detached; what would change something else is refused. */
-#include <errno.h>
-#include <pthread.h>
+#include "attributes.h"
 #include "library.h"
 
 enum { LOWEST = 1, HIGHEST = 99 }; /* priorities */
@@ -12,12 +11,6 @@ static int one_of_two(int asked, int taken, int refused)
     if (asked == taken)
         return 0;
     return asked == refused ? ENOTSUP : EINVAL;
-}
-
-/* There is one process, so that what is shared between processes is as what isn't. */
-static int process(int asked)
-{
-    return asked == PTHREAD_PROCESS_PRIVATE || asked == PTHREAD_PROCESS_SHARED ? 0 : EINVAL;
 }
 
 int pthread_attr_init(pthread_attr_t *attributes)
@@ -40,11 +33,7 @@ int pthread_attr_setdetachstate(pthread_attr_t *attributes, int state)
     return 0;
 }
 
-int pthread_attr_getdetachstate(const pthread_attr_t *attributes, int *state)
-{
-    *state = attributes->detached;
-    return 0;
-}
+IT_ATTRIBUTE(, pthread_attr_getdetachstate, pthread_attr_t, int, detached)
 
 int pthread_attr_setstacksize(pthread_attr_t *restrict attributes, size_t size)
 {
@@ -54,11 +43,7 @@ int pthread_attr_setstacksize(pthread_attr_t *restrict attributes, size_t size)
     return 0;
 }
 
-int pthread_attr_getstacksize(const pthread_attr_t *restrict attributes, size_t *restrict size)
-{
-    *size = attributes->stack;
-    return 0;
-}
+IT_ATTRIBUTE(, pthread_attr_getstacksize, pthread_attr_t, size_t, stack)
 
 int pthread_attr_setstack(pthread_attr_t *attributes, void *address, size_t size)
 {
@@ -82,11 +67,7 @@ int pthread_attr_setguardsize(pthread_attr_t *attributes, size_t size)
     return 0;
 }
 
-int pthread_attr_getguardsize(const pthread_attr_t *restrict attributes, size_t *restrict size)
-{
-    *size = attributes->guard;
-    return 0;
-}
+IT_ATTRIBUTE(, pthread_attr_getguardsize, pthread_attr_t, size_t, guard)
 
 int pthread_attr_setscope(pthread_attr_t *attributes, int scope)
 {
@@ -129,11 +110,7 @@ int pthread_mutexattr_settype(pthread_mutexattr_t *attributes, int type)
     return 0;
 }
 
-int pthread_mutexattr_gettype(const pthread_mutexattr_t *restrict attributes, int *restrict type)
-{
-    *type = attributes->type;
-    return 0;
-}
+IT_ATTRIBUTE(, pthread_mutexattr_gettype, pthread_mutexattr_t, int, type)
 
 int pthread_mutexattr_setprotocol(pthread_mutexattr_t *attributes, int protocol)
 {
@@ -143,11 +120,7 @@ int pthread_mutexattr_setprotocol(pthread_mutexattr_t *attributes, int protocol)
     return 0;
 }
 
-int pthread_mutexattr_getprotocol(const pthread_mutexattr_t *restrict attributes, int *restrict protocol)
-{
-    *protocol = attributes->protocol;
-    return 0;
-}
+IT_ATTRIBUTE(, pthread_mutexattr_getprotocol, pthread_mutexattr_t, int, protocol)
 
 int pthread_mutexattr_setprioceiling(pthread_mutexattr_t *attributes, int ceiling)
 {
@@ -157,50 +130,17 @@ int pthread_mutexattr_setprioceiling(pthread_mutexattr_t *attributes, int ceilin
     return 0;
 }
 
-int pthread_mutexattr_getprioceiling(const pthread_mutexattr_t *restrict attributes, int *restrict ceiling)
-{
-    *ceiling = attributes->ceiling;
-    return 0;
-}
+IT_ATTRIBUTE(, pthread_mutexattr_getprioceiling, pthread_mutexattr_t, int, ceiling)
 
 int pthread_mutexattr_setpshared(pthread_mutexattr_t *attributes, int shared)
 {
-    int answer = process(shared);
+    int answer = it_process(shared);
     if (answer == 0)
         attributes->shared = (short)shared;
     return answer;
 }
 
-int pthread_mutexattr_getpshared(const pthread_mutexattr_t *restrict attributes, int *restrict shared)
-{
-    *shared = attributes->shared;
-    return 0;
-}
+IT_ATTRIBUTE(, pthread_mutexattr_getpshared, pthread_mutexattr_t, int, shared)
 
-/* Attributes of a condition and of a barrier are alike. */
-#define ATTRIBUTES_OF(kind, type_of_kind)                                                                              \
-    int pthread_##kind##_init(type_of_kind *attributes)                                                                \
-    {                                                                                                                  \
-        attributes->shared = PTHREAD_PROCESS_PRIVATE;                                                                  \
-        return 0;                                                                                                      \
-    }                                                                                                                  \
-    int pthread_##kind##_destroy(type_of_kind *attributes)                                                             \
-    {                                                                                                                  \
-        (void)attributes;                                                                                              \
-        return 0;                                                                                                      \
-    }                                                                                                                  \
-    int pthread_##kind##_setpshared(type_of_kind *attributes, int shared)                                              \
-    {                                                                                                                  \
-        int answer = process(shared);                                                                                  \
-        if (answer == 0)                                                                                               \
-            attributes->shared = shared;                                                                               \
-        return answer;                                                                                                 \
-    }                                                                                                                  \
-    int pthread_##kind##_getpshared(const type_of_kind *restrict attributes, int *restrict shared)                     \
-    {                                                                                                                  \
-        *shared = attributes->shared;                                                                                  \
-        return 0;                                                                                                      \
-    }
-
-ATTRIBUTES_OF(condattr, pthread_condattr_t)
-ATTRIBUTES_OF(barrierattr, pthread_barrierattr_t)
+IT_ATTRIBUTES_OF(, condattr)
+IT_ATTRIBUTES_OF(, barrierattr)

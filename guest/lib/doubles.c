@@ -4,21 +4,18 @@
    A step may take only so many instructions: therefore a call of the library's own ends the step after some of either.
    The count of them is back at 0 when a call of the program's begins, so that a step doesn't differ by what was done
    before. */
-#include <stdbool.h>
 #include <stdint.h>
-#include "library.h"
 
-enum { MOST = 256, OF_EACH = 2 };
+enum { OF_EACH = 2, WORDS = 34, WHOLE_DIGITS = 310, MANTISSA = 52, BIAS = 1075, SPECIAL = 2047 };
 
-static void breathe(unsigned share)
-{
-    it_self.doubles += share;
-    it_self.settle = 1;
-    if (it_self.doubles < MOST)
-        return;
-    it_self.doubles = 0;
-    it_call(IT_CALL_YIELD, 0, 0);
-}
+/* A double without its sign. */
+struct parts {
+    unsigned char digits[WHOLE_DIGITS];
+    unsigned at, end, part[WORDS], words;
+};
+
+#define AFTER_WORDS(parts, count) (void)0
+#include "digits.h"
 
 typedef unsigned word;
 
@@ -26,41 +23,11 @@ typedef unsigned word;
 unsigned long long __real___atod_engine(word a, word b, word c, word d, word e, word f, word g, word h);
 unsigned long long __wrap___atod_engine(word a, word b, word c, word d, word e, word f, word g, word h)
 {
-    breathe(OF_EACH);
+    count_numbers(OF_EACH);
     return __real___atod_engine(a, b, c, d, e, f, g, h);
 }
 
 /* ------------------------------------------------------------------------------------------- a double in parts ---- */
-
-enum { WORDS = 34, WHOLE_DIGITS = 310, MANTISSA = 52, BIAS = 1075, SPECIAL = 2047 };
-
-/* A double without its sign: the digits before the point, of which those from `at` on aren't used yet; and what is
-   behind the point, in binary, the highest word first. */
-struct parts {
-    unsigned char digits[WHOLE_DIGITS];
-    unsigned at, end;
-    word part[WORDS];
-    unsigned parts;
-};
-
-/* Writes the decimal digits of a number of some words, the highest first, which ends as 0. */
-static void whole_digits(struct parts *parts, word *whole, unsigned words)
-{
-    unsigned first = 0;
-    parts->at = parts->end = WHOLE_DIGITS;
-    for (;;) {
-        while (first < words && !whole[first])
-            first++;
-        if (first == words)
-            return;
-        unsigned left = 0;
-        for (unsigned k = first; k < words; k++) {
-            unsigned high = it_tenth(left << 16 | whole[k] >> 16, &left);
-            whole[k] = high << 16 | it_tenth(left << 16 | (whole[k] & 0xFFFF), &left);
-        }
-        parts->digits[--parts->at] = (unsigned char)left;
-    }
-}
 
 /* Puts a number of 64 bits into words, so many bits above the end of the last. */
 static void lay(word *words, unsigned count, unsigned long long number, unsigned shift)
@@ -80,44 +47,16 @@ static void split(struct parts *parts, unsigned long long mantissa, int exponent
 {
     word whole[WORDS];
     unsigned words = 2, below = exponent < 0 ? (unsigned)-exponent : 0;
-    parts->parts = (below + 31) / 32;
+    parts->words = (below + 31) / 32;
     if (exponent >= 0) {
         words = ((unsigned)exponent + MANTISSA + 32) / 32 + 1;
         lay(whole, words, mantissa, (unsigned)exponent);
     } else {
         unsigned long long above = below > MANTISSA ? 0 : mantissa >> below;
         lay(whole, words, above, 0);
-        lay(parts->part, parts->parts, mantissa - (below > MANTISSA ? 0 : above << below), 32 * parts->parts - below);
+        lay(parts->part, parts->words, mantissa - (below > MANTISSA ? 0 : above << below), 32 * parts->words - below);
     }
     whole_digits(parts, whole, words);
-}
-
-/* The next digit. Ten times what is behind the point has it before the point. */
-static unsigned next_digit(struct parts *parts)
-{
-    unsigned carry = 0;
-    if (parts->at < parts->end)
-        return parts->digits[parts->at++];
-    while (parts->parts && !parts->part[parts->parts - 1])
-        parts->parts--;
-    for (unsigned k = parts->parts; k--;) {
-        unsigned low = (parts->part[k] & 0xFFFF) * 10 + carry, high = (parts->part[k] >> 16) * 10 + (low >> 16);
-        parts->part[k] = high << 16 | (low & 0xFFFF);
-        carry = high >> 16;
-    }
-    return carry;
-}
-
-/* Whether only zeros are left. */
-static bool is_zero(const struct parts *parts)
-{
-    for (unsigned k = parts->at; k < parts->end; k++)
-        if (parts->digits[k])
-            return false;
-    for (unsigned k = 0; k < parts->parts; k++)
-        if (parts->part[k])
-            return false;
-    return true;
 }
 
 /* Whether what is left, and the digit before it, is more than half of the unit of the digit before that; or half of it,
@@ -179,9 +118,9 @@ static int round_digits(struct dtoa *to, struct parts *parts, int most, bool fix
 static unsigned share_of(const struct parts *parts)
 {
     unsigned digits = parts->end - parts->at;
-    if (parts->parts <= 4 && digits <= 20)
+    if (parts->words <= 4 && digits <= 20)
         return OF_EACH;
-    return OF_EACH + parts->parts * parts->parts / 4 + digits * digits / 256;
+    return OF_EACH + parts->words * parts->words / 4 + digits * digits / 256;
 }
 
 int __dtoa_engine(double number, struct dtoa *to, int most, bool fixed_point, int decimals)
@@ -206,6 +145,6 @@ int __dtoa_engine(double number, struct dtoa *to, int most, bool fixed_point, in
     else
         biased = 1;
     split(&parts, mantissa, (int)biased - BIAS);
-    breathe(share_of(&parts));
+    count_numbers(share_of(&parts));
     return round_digits(to, &parts, most, fixed_point, decimals);
 }

@@ -61,6 +61,13 @@ static inline void it_unlock_library(void)
 /* A function that isn't of ISO C: a program may have one of its own by that name. */
 #define IT_REPLACEABLE __attribute__((weak))
 
+/* One that only gives a value. */
+#define IT_GIVES(type, function, parameters, value)                                                                    \
+    IT_REPLACEABLE type function parameters                                                                            \
+    {                                                                                                                  \
+        return value;                                                                                                  \
+    }
+
 /* The kinds of numbered objects. */
 enum it_kind { IT_MUTEX, IT_SEMAPHORE, IT_BARRIER, IT_CONDITION };
 

@@ -1,5 +1,9 @@
 //! What a step does, as far as other steps can depend on it.
 
+ghost use Rattle.std.specs.Prelude.{◌≡◌, IfOk};
+ghost use Rattle.race_spec.specs.Sync.{sync_fact};
+
+use std::alloc::{AllocError, Global};
 use std::marker::Model;
 use sync_objects::ActedOn;
 
@@ -34,4 +38,24 @@ impl Model for Fact {
       opened = f.opened.items;
       last = f.last;
     } };
+}
+
+impl Fact {
+    /// What threads and objects order the step by: the fact without its pages, and without whether it ends the run.
+    ///
+    /// # Errors
+    ///
+    /// An error where the host's memory ran out.
+    pub fn without_pages(&self, alloc: Global) -> Result<Fact, AllocError>
+        ensures { IfOk result (λ fact. fact ≡ sync_fact self.now) }
+    {
+        Ok(Fact {
+            thread: self.thread,
+            objects: self.objects,
+            given: self.given.clone()?,
+            written: Vec::new(alloc),
+            opened: Vec::new(alloc),
+            last: false,
+        })
+    }
 }

@@ -4,6 +4,7 @@ ghost use Rattle.std.specs.Prelude.{◌≡◌, ℕ, ◌<◌, ◌≤◌, All, len
 ghost use Rattle.order_spec.specs.Facts.{Fact as StepFact};
 ghost use Rattle.order_spec.specs.Ancestors.{clock_at, edges_at};
 ghost use Rattle.reach_spec.specs.Reach.{reach as reached_by};
+ghost use Rattle.race_spec.specs.Sync.{sync_facts};
 ghost use Rattle.depend_graph.specs.Reaching.{slots_of_each};
 
 use super::before::is_before;
@@ -62,6 +63,24 @@ impl Graph {
             facts,
             clocks,
         })
+    }
+
+    /// The graph of these facts by threads and objects alone: a step comes directly before a later one where both are
+    /// of one thread, where it gave the later one's thunk its view, or where both act on one object. One pass over them.
+    ///
+    /// # Errors
+    ///
+    /// An error where the host's memory ran out.
+    pub fn of_sync(alloc: Global, facts: &[Fact]) -> Result<Graph, AllocError>
+        requires few { length facts.now ≤ MOST_FACTS }
+        requires threads { All (λ (f : StepFact). f.thread < THREADS) facts.now }
+        ensures { IfOk result (λ graph. graph ≡ sync_facts facts.now) }
+    {
+        let mut synced = Vec::with_capacity(alloc, facts.len())?;
+        for fact in facts {
+            synced.push(fact.without_pages(alloc)?)?;
+        }
+        Graph::of(alloc, synced)
     }
 
     /// How many steps there are.

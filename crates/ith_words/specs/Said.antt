@@ -6,8 +6,10 @@ use Rattle.ith_words.specs.declared.line.RerunLine.{RerunLine as rerun_line}
 use Rattle.ith_words.specs.declared.line.ReplayLine.{ReplayLine as replay_line}
 use Rattle.ith_words.specs.declared.line.ShowLine.{ShowLine as show_line}
 use Rattle.ith_words.specs.declared.line.ExplainLine.{ExplainLine as explain_line}
+use Rattle.ith_words.specs.declared.line.AuditLine.{AuditLine as audit_line}
 use Rattle.ith_words.specs.declared.line.GenerateLine.{GenerateLine as generate_line}
-use Rattle.ith_words.specs.Words.{Line, Runs, Reruns, Replays, Shows, Explains, Generates, RunLine, RerunLine, ReplayLine, ShowLine, ExplainLine, GenerateLine}
+use Rattle.ith_words.specs.Words.{Line, Runs, Reruns, Replays, Shows, Explains, Audits, FindsRaces, Generates, RunLine, RerunLine, ReplayLine, ShowLine, ExplainLine, AuditLine, RacesLine, GenerateLine}
+use Rattle.ith_words.specs.declared.line.RacesLine.{RacesLine as races_line}
 
 -- The line that runs a guest, in code, as a line of the definitions.
 abbrev pub run_said : run_line → RunLine
@@ -52,6 +54,14 @@ show_said l = record { memo = l.memo.now }
 abbrev pub explain_said : explain_line → ExplainLine
 explain_said l = record { memo = l.memo.now; edits = l.edits.now }
 
+-- The line that audits a memo, in the same way.
+abbrev pub audit_said : audit_line → AuditLine
+audit_said l = record { memo = l.memo.now; workers = l.workers }
+
+-- The line that tells which steps race, in the same way.
+abbrev pub races_said : races_line → RacesLine
+races_said l = record { memo = l.memo.now }
+
 -- The line that runs the generated guest, in the same way.
 abbrev pub generate_said : generate_line → GenerateLine
 generate_said l = record { number = l.number; workers = l.workers }
@@ -63,4 +73,6 @@ line_said (line.Rerun l) = Reruns (rerun_said l)
 line_said (line.Replay l) = Replays (replay_said l)
 line_said (line.Show l) = Shows (show_said l)
 line_said (line.Explain l) = Explains (explain_said l)
+line_said (line.Audit l) = Audits (audit_said l)
+line_said (line.FindRaces l) = FindsRaces (races_said l)
 line_said (line.Generate l) = Generates (generate_said l)

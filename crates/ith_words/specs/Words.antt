@@ -57,6 +57,15 @@ pub record ExplainLine : Type 0 where
   pub memo : Text
   pub edits : Text
 
+-- A line that audits a memo: the name of the memo to read, and how many workers.
+pub record AuditLine : Type 0 where
+  pub memo : Text
+  pub workers : ℕ
+
+-- A line that tells which steps race: the name of the memo to read.
+pub record RacesLine : Type 0 where
+  pub memo : Text
+
 -- A line that runs the generated guest: the number that it is generated from, and how many workers.
 pub record GenerateLine : Type 0 where
   pub number : ℕ
@@ -69,6 +78,8 @@ pub data Line : Type 0 where
   Replays : ReplayLine → Line
   Shows : ShowLine → Line
   Explains : ExplainLine → Line
+  Audits : AuditLine → Line
+  FindsRaces : RacesLine → Line
   Generates : GenerateLine → Line
 
 -- How many workers there are where the line doesn't say.
@@ -156,6 +167,14 @@ show_command = command (codes "show") (operand_rule (codes "MEMO") ∷ [])
 abbrev pub explain_command : App
 explain_command = command (codes "why") (operand_rule (codes "MEMO") ∷ operand_rule (codes "EDITS") ∷ [])
 
+-- The command that audits a memo: the memo, and an option.
+abbrev pub audit_command : App
+audit_command = command (codes "audit") (operand_rule (codes "MEMO") ∷ workers_rule ∷ [])
+
+-- The command that tells which steps race: the memo alone.
+abbrev pub races_command : App
+races_command = command (codes "races") (operand_rule (codes "MEMO") ∷ [])
+
 -- The command that runs the generated guest: a number, and an option.
 abbrev pub generate_command : App
 generate_command = command (codes "gen") (number_operand_rule (codes "NUMBER") MOST_NUMBER ∷ workers_rule ∷ [])
@@ -171,7 +190,11 @@ guest_commands =
 
 -- The same, and the commands that look at a memo.
 abbrev pub memo_commands : App
-memo_commands = with_subcommand (with_subcommand guest_commands show_command.top) explain_command.top
+memo_commands =
+    with_subcommand
+    (with_subcommand
+    (with_subcommand (with_subcommand guest_commands show_command.top) explain_command.top) audit_command.top)
+    races_command.top
 
 -- The program's command line: the program and its commands.
 unfoldable pub command_line : App
@@ -277,6 +300,14 @@ show_line rows = record { memo = operand (codes "MEMO") rows }
 abbrev pub explain_line : List Row → ExplainLine
 explain_line rows = record { memo = operand (codes "MEMO") rows; edits = operand (codes "EDITS") rows }
 
+-- The line of what was found for the operand and the option of the command that audits a memo.
+abbrev pub audit_line : List Row → AuditLine
+audit_line rows = record { memo = operand (codes "MEMO") rows; workers = workers_named rows }
+
+-- The line of what was found for the operand of the command that tells which steps race.
+abbrev pub races_line : List Row → RacesLine
+races_line rows = record { memo = operand (codes "MEMO") rows }
+
 -- The line of what was found for the operand and the option of the command that runs the generated guest.
 abbrev pub generate_line : List Row → GenerateLine
 generate_line rows = record { number = number_named rows; workers = workers_named rows }
@@ -289,6 +320,8 @@ line_named p =
     else if bytes_eq p.0 (codes "replay") then Some (Replays (replay_line p.1))
     else if bytes_eq p.0 (codes "show") then Some (Shows (show_line p.1))
     else if bytes_eq p.0 (codes "why") then Some (Explains (explain_line p.1))
+    else if bytes_eq p.0 (codes "audit") then Some (Audits (audit_line p.1))
+    else if bytes_eq p.0 (codes "races") then Some (FindsRaces (races_line p.1))
     else if bytes_eq p.0 (codes "gen") then Some (Generates (generate_line p.1))
     else None
 

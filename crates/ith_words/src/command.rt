@@ -193,6 +193,32 @@ fn explain_command<'a>(alloc: Global) -> Result<Command<'a>, AllocError>
     )
 }
 
+/// The command that audits a memo.
+fn audit_command<'a>(alloc: Global) -> Result<Command<'a>, AllocError>
+    ensures shape { IfOk result (λ c. app_of c ≡ line.audit_command) }
+    ensures local { IfOk result (λ c. (out-Command c).has_globals ≡ false) }
+{
+    let args = vec![in alloc;
+        operand(alloc, "MEMO", "The name of the memo to read"),
+        workers(alloc),
+    ]?;
+    command(alloc, "audit", "Tells whether a memo is honest", args)
+}
+
+/// The command that tells which steps race.
+fn races_command<'a>(alloc: Global) -> Result<Command<'a>, AllocError>
+    ensures shape { IfOk result (λ c. app_of c ≡ line.races_command) }
+    ensures local { IfOk result (λ c. (out-Command c).has_globals ≡ false) }
+{
+    let args = vec![in alloc; operand(alloc, "MEMO", "The name of the memo to read")]?;
+    command(
+        alloc,
+        "races",
+        "Lists steps that touch a page without an order",
+        args,
+    )
+}
+
 /// The command that runs the generated guest.
 fn generate_command<'a>(alloc: Global) -> Result<Command<'a>, AllocError>
     ensures shape { IfOk result (λ c. app_of c ≡ line.generate_command) }
@@ -233,7 +259,9 @@ fn memo_commands<'a>(alloc: Global) -> Result<Command<'a>, AllocError>
     ensures { IfOk result (λ c. app_of c ≡ line.memo_commands) }
 {
     let program = with_command(guest_commands(alloc)?, show_command(alloc)?)?;
-    with_command(program, explain_command(alloc)?)
+    let program = with_command(program, explain_command(alloc)?)?;
+    let program = with_command(program, audit_command(alloc)?)?;
+    with_command(program, races_command(alloc)?)
 }
 
 /// The program's command line.

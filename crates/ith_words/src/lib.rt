@@ -8,7 +8,7 @@ mod words;
 
 pub use given::default_limits;
 pub use line::{
-    ExplainLine, GenerateLine, Line, MOST_NUMBER, MOST_WORKERS, ReplayLine, RerunLine, RunLine,
-    ShowLine, limits_are_as_documented,
+    AuditLine, ExplainLine, GenerateLine, Line, MOST_NUMBER, MOST_WORKERS, RacesLine, ReplayLine,
+    RerunLine, RunLine, ShowLine, limits_are_as_documented,
 };
 pub use words::{LineFault, line_of};

@@ -32,6 +32,10 @@ pub enum Line<'a> {
     Show(ShowLine<'a>),
     /// It is told why steps were executed.
     Explain(ExplainLine<'a>),
+    /// A memo is audited.
+    Audit(AuditLine<'a>),
+    /// It is told which steps race.
+    FindRaces(RacesLine<'a>),
     /// The generated guest is run.
     Generate(GenerateLine),
 }
@@ -107,6 +111,24 @@ pub struct ExplainLine<'a> {
     pub memo: &'a str,
     /// The name of the edit list.
     pub edits: &'a str,
+}
+
+/// A line that audits a memo.
+#[derive(Debug, Drop)]
+pub struct AuditLine<'a> {
+    /// The name of the memo to read.
+    pub memo: &'a str,
+    /// How many workers there are.
+    pub workers: u32,
+    ghost some_worker: { 1 ≤ workers },
+    ghost most_workers: { workers ≤ MOST_WORKERS },
+}
+
+/// A line that tells which steps race.
+#[derive(Debug, Drop)]
+pub struct RacesLine<'a> {
+    /// The name of the memo to read.
+    pub memo: &'a str,
 }
 
 /// A line that runs the generated guest.

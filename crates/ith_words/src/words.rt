@@ -3,15 +3,16 @@
 ghost use Rattle.std.specs.Prelude.{◌≡◌, map, string_bytes, [], IfOk, IfErr};
 ghost use Rattle.clap.specs.Words.{fault_of, found_of, rows_of, subcommand_of, subcommand_rows_of};
 ghost use Rattle.ith_words.specs.Words as line;
-ghost use Rattle.ith_words.specs.Said.{run_said, rerun_said, replay_said, show_said, explain_said, generate_said, line_said};
+ghost use Rattle.ith_words.specs.Said.{run_said, rerun_said, replay_said, show_said, explain_said, audit_said, races_said, generate_said, line_said};
 ghost use Rattle.ith_words.specs.Refusals.{WhyNoLine, WhyFault};
 
 use super::command::command_line;
 use super::given::{
-    edits_of, fuel_of, generator_of, limits_of, memo_of, operand_of, reach_of, steps_of,
-    workers_of,
+    edits_of, fuel_of, generator_of, limits_of, memo_of, operand_of, reach_of, steps_of, workers_of,
 };
-use super::line::{ExplainLine, GenerateLine, Line, ReplayLine, RerunLine, RunLine, ShowLine};
+use super::line::{
+    AuditLine, ExplainLine, GenerateLine, Line, RacesLine, ReplayLine, RerunLine, RunLine, ShowLine,
+};
 use clap::error::ErrorKind;
 use clap::{ArgMatches, Error};
 use std::alloc::{AllocError, Global};
@@ -132,6 +133,25 @@ fn explain_line<'a>(given: &ArgMatches<'a>) -> ExplainLine<'a>
     }
 }
 
+/// The line of what was found for the command that audits a memo.
+fn audit_line<'a>(given: &ArgMatches<'a>) -> AuditLine<'a>
+    ensures { audit_said result ≡ line.audit_line (rows_of (found_of given.now)) }
+{
+    AuditLine {
+        memo: operand_of(given, "MEMO"),
+        workers: workers_of(given),
+    }
+}
+
+/// The line of what was found for the command that tells which steps race.
+fn races_line<'a>(given: &ArgMatches<'a>) -> RacesLine<'a>
+    ensures { races_said result ≡ line.races_line (rows_of (found_of given.now)) }
+{
+    RacesLine {
+        memo: operand_of(given, "MEMO"),
+    }
+}
+
 /// The line of what was found for the command that runs the generated guest.
 fn generate_line(given: &ArgMatches<'_>) -> GenerateLine
     ensures { generate_said result ≡ line.generate_line (rows_of (found_of given.now)) }
@@ -168,6 +188,8 @@ pub fn line_of<'a>(alloc: Global, words: &'a [String]) -> Result<Line<'a>, LineF
         Some((name, below)) if name == "replay" => Ok(Line::Replay(replay_line(below))),
         Some((name, below)) if name == "show" => Ok(Line::Show(show_line(below))),
         Some((name, below)) if name == "why" => Ok(Line::Explain(explain_line(below))),
+        Some((name, below)) if name == "audit" => Ok(Line::Audit(audit_line(below))),
+        Some((name, below)) if name == "races" => Ok(Line::FindRaces(races_line(below))),
         Some((name, below)) if name == "gen" => Ok(Line::Generate(generate_line(below))),
         // the parser takes no other command
         _ => Err(LineFault::Refused(refusal(alloc, "no command"))),

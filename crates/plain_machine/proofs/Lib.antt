@@ -6,5 +6,6 @@ mod Merging
 mod Placing
 mod Putting
 mod Schedules
+mod Sharing
 mod Stepping
 mod Turning

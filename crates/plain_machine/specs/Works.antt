@@ -16,12 +16,12 @@ stored_of w = marked (arc_value w.map) (on_each no_marks (arc_value w.map)) (byt
 -- The workspace: nobody asks for the view again, and no read pages are noted.
 abbrev pub workspace_of : Inside → Workspace
 workspace_of w =
-    record { map = arc_value w.map; view = []; memory = w.memory.items; stored = stored_of w; taken = [] }
+    record { map = arc_value w.map; view = []; memory = w.memory; stored = stored_of w; taken = [] }
 
 -- There is a page for each of the map; what the stores leave on any memory is what they left on this one at the places
 -- that they stored to; and the page that was fetched from last is where it is said to be.
 pub record Keeps (w : Inside) : Type 0 where
-  pub count : length w.memory.items ≡ length (arc_value w.map)
+  pub count : length w.memory ≡ length (arc_value w.map)
   pub lays : (shared : Memory) → IsMemory (arc_value w.map) shared
-      → laid (arc_value w.map) shared (bytes_of w.stores.items) ≡ merged (stored_of w) w.memory.items shared
+      → laid (arc_value w.map) shared (bytes_of w.stores.items) ≡ merged (stored_of w) w.memory shared
   pub last : IsLast (arc_value w.map) w.last

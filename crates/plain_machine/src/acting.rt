@@ -10,6 +10,7 @@ ghost use Rattle.machine_spec.specs.Whole.{IsTied};
 ghost use Rattle.plain_machine.specs.Doing.{harts_after, objects_after, own_end, effect_made};
 
 use super::hart::Hart;
+use super::memory::Memory;
 use super::performing::settle;
 use super::put::appends_all;
 use call_effect::Effect;
@@ -17,9 +18,8 @@ use guest_call::{Call, EFAULT, EINVAL, Fate};
 use isa_spec::Cause;
 use machine_spec::{Asked, End, Status};
 use page_map::PageMap;
-use page_store::Page;
 use rv_alu::Regs;
-use std::alloc::{AllocError, Global};
+use std::alloc::AllocError;
 use sync_objects::Objects;
 use thunk_spec::ThunkEnd;
 
@@ -148,7 +148,7 @@ pub(super) struct Written<'a> {
     /// The page map.
     pub(super) map: &'a PageMap,
     /// Shared memory, with the thunk's stores.
-    pub(super) memory: &'a [Page],
+    pub(super) memory: &'a Memory,
     /// The most steps of the run.
     pub(super) limit: u32,
     /// How many steps were made, this one among them.
@@ -171,7 +171,6 @@ pub(super) struct Acted {
 /// An error where the host's memory ran out.
 #[tactic(auto, using(crate::proofs::Asking::exists, crate::proofs::Asking::free, crate::proofs::Asking::below))]
 pub(super) fn do_as_asked(
-    alloc: Global,
     harts: &mut Vec<Hart>,
     objects: &mut Objects,
     written: &Written<'_>,
@@ -191,7 +190,7 @@ pub(super) fn do_as_asked(
     match asked {
         Asked::Asks(call) => {
             let effect = effect_of(written.map, objects, t, call);
-            settle(alloc, harts, written.memory, t, &effect)?;
+            settle(harts, written.memory, t, &effect)?;
             let ending = end_after(
                 effect.fate(),
                 harts.as_slice(),

@@ -4,9 +4,9 @@ ghost use Rattle.std.specs.Prelude.{◌≡◌, ◌<◌, ◌+◌, ◌*◌, ◌-�
 ghost use Rattle.machine_spec.specs.Performing.{answered, returned, first_registers, first_hart};
 ghost use Rattle.machine_spec.specs.Machine.{Hart as HartState};
 
+use super::memory::Memory;
 use guest_call::THREADS;
 use machine_spec::Status;
-use page_store::Page;
 use rv_alu::Regs;
 use std::marker::Model;
 
@@ -28,10 +28,10 @@ const STACKS: u32 = 0xD000_0000;
 /// How many bytes each stack has.
 const STACK_SIZE: u32 = 0x1_0000;
 
-/// A hart, as the thread that runs on it has it between two steps. Its view is a copy of its own.
+/// A hart, as the thread that runs on it has it between two steps. Its view is a memory of its own.
 #[derive(Drop)]
 pub(super) struct Hart {
-    view: Vec<Page>,
+    view: Memory,
     regs: Regs,
     number: u32,
     status: Status,
@@ -42,7 +42,7 @@ impl Model for Hart {
 
     ghost Value = { HartState };
 
-    ghost view = { λ h. record { view = h.view.items; regs = h.regs; number = h.number; status = h.status } };
+    ghost view = { λ h. record { view = h.view; regs = h.regs; number = h.number; status = h.status } };
 }
 
 /// The registers after an answer.
@@ -72,9 +72,9 @@ fn registers_of(t: u8, pc: u32, argument: u32) -> Regs
 
 impl Hart {
     /// A hart at the start of thread `t`.
-    pub(super) fn first(view: Vec<Page>, t: u8, pc: u32, argument: u32) -> Hart
+    pub(super) fn first(view: Memory, t: u8, pc: u32, argument: u32) -> Hart
         requires { t < THREADS }
-        ensures { result ≡ first_hart view.items t pc argument }
+        ensures { result ≡ first_hart view t pc argument }
     {
         Hart {
             view,
@@ -85,8 +85,8 @@ impl Hart {
     }
 
     /// Its call returns: it has the answer and a new view, and is ready.
-    pub(super) fn return_with(&mut self, view: Vec<Page>, a0: u32, a1: Option<u32>)
-        ensures { self.new ≡ returned view.items a0 a1 self.old }
+    pub(super) fn return_with(&mut self, view: Memory, a0: u32, a1: Option<u32>)
+        ensures { self.new ≡ returned view a0 a1 self.old }
     {
         self.view = view;
         answer(&mut self.regs, a0, a1);
@@ -131,9 +131,9 @@ impl Hart {
     }
 
     /// Its view.
-    pub(super) fn view(&self) -> &[Page]
+    pub(super) fn view(&self) -> &Memory
         ensures { result.now ≡ self.now.view }
     {
-        self.view.as_slice()
+        &self.view
     }
 }

@@ -12,14 +12,14 @@ ghost use Rattle.plain_machine.specs.Making.{IsMade, asked_by};
 
 use super::acting::{Written, asked, do_as_asked};
 use super::hart::Hart;
+use super::memory::Memory;
 use super::start::memory_of;
 use super::stores::lay_all;
 use super::thunk::{Done, run};
-use super::work::copy_of;
 use call_effect::Effect;
 use machine_spec::{Asked, End, Status};
 use page_map::PageMap;
-use page_store::{Page, PageTable};
+use page_store::PageTable;
 use release_core::Setup;
 use rv_alu::Regs;
 use std::alloc::{AllocError, Global};
@@ -40,14 +40,14 @@ pub struct Made {
     pub effect: Option<Effect>,
 }
 
-/// The guest machine between two steps, with all memories whole: shared memory, and a view for each thread.
+/// The guest machine between two steps: shared memory, and a view for each thread, each a memory of its own.
 #[derive(Drop)]
 pub struct PlainMachine {
     alloc: Global,
     map: Arc<PageMap>,
     fuel: u32,
     limit: u32,
-    memory: Vec<Page>,
+    memory: Memory,
     harts: Vec<Hart>,
     objects: Objects,
     output: Vec<u8>,
@@ -65,7 +65,7 @@ impl Model for PlainMachine {
     ghost view = { λ m. record {
       frame = record { map = arc_value m.map; fuel = m.fuel };
       limit = m.limit;
-      memory = m.memory.items;
+      memory = m.memory;
       harts = m.harts.items;
       objects = m.objects;
       output = m.output.items;
@@ -150,8 +150,8 @@ impl PlainMachine {
         ensures { IfOk result (λ table. table ≡ self.now.memory) }
     {
         let mut table = PageTable::empty(self.alloc);
-        for page in &self.memory {
-            table.push(page.copy())?;
+        for slot in 0..self.memory.len() {
+            table.push(self.memory.page(slot).copy())?;
         }
         Ok(table)
     }
@@ -165,12 +165,11 @@ impl PlainMachine {
 }
 
 /// Thread 0 alone, at the executable's entry.
-fn first_harts(alloc: Global, memory: &[Page], entry: u32) -> Result<Vec<Hart>, AllocError>
+fn first_harts(alloc: Global, memory: &Memory, entry: u32) -> Result<Vec<Hart>, AllocError>
     ensures { IfOk result (λ harts. harts.items ≡ first_hart memory.now 0 entry 0xC0000000 ∷ []) }
 {
-    let view = copy_of(alloc, memory)?;
     let mut harts = Vec::new(alloc);
-    harts.push(Hart::first(view, 0, entry, 0xC000_0000))?;
+    harts.push(Hart::first(memory.copy()?, 0, entry, 0xC000_0000))?;
     Ok(harts)
 }
 
@@ -188,7 +187,7 @@ impl PlainMachine {
         machine_spec::first_is_whole();
         let map = Arc::new(alloc, setup.page_map(alloc)?)?;
         let memory = memory_of(alloc, setup)?;
-        let harts = first_harts(alloc, memory.as_slice(), setup.image().entry)?;
+        let harts = first_harts(alloc, &memory, setup.image().entry)?;
         Ok(PlainMachine {
             alloc,
             map,
@@ -229,7 +228,6 @@ fn write_back(harts: &mut Vec<Hart>, t: u8, regs: Regs)
 ///
 /// An error where the host's memory ran out.
 fn finish(
-    alloc: Global,
     harts: &mut Vec<Hart>,
     objects: &mut Objects,
     written: &Written<'_>,
@@ -250,7 +248,7 @@ fn finish(
         ≡ effect_made written.now.map.now objects.old t (asked_by t done.now)) }
 {
     let asked = asked(t, done.end, &done.regs);
-    let acted = do_as_asked(alloc, harts, objects, written, t, asked)?;
+    let acted = do_as_asked(harts, objects, written, t, asked)?;
     let made = Made {
         count: done.count,
         asked,
@@ -294,16 +292,16 @@ impl PlainMachine {
         } = self;
         let hart = hart_at(&harts, t);
         let done = run(alloc, &map, fuel, hart.view(), *hart.regs(), turns)?;
-        lay_all(&map, memory.as_mut_slice(), done.stores.as_slice());
+        lay_all(&map, &mut memory, done.stores.as_slice())?;
         output.extend_from_slice(done.put.as_slice())?;
         write_back(&mut harts, t, done.regs);
         let written = Written {
             map: &map,
-            memory: memory.as_slice(),
+            memory: &memory,
             limit,
             steps: steps + 1,
         };
-        let (made, ending) = finish(alloc, &mut harts, &mut objects, &written, t, &done)?;
+        let (made, ending) = finish(&mut harts, &mut objects, &written, t, &done)?;
         let machine = PlainMachine {
             alloc,
             map,

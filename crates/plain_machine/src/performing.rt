@@ -5,20 +5,19 @@ ghost use Rattle.machine_spec.specs.Performing.{fated, woken, with_created, sett
 ghost use Rattle.guest_call.specs.Objects.{created_count};
 
 use super::hart::Hart;
-use super::work::copy_of;
+use super::memory::Memory;
 use call_effect::Effect;
 use guest_call::{Fate, THREADS};
 use machine_spec::Status;
-use page_store::Page;
-use std::alloc::{AllocError, Global};
+use std::alloc::AllocError;
 use wait_queue::Queue;
 
 /// What becomes of the caller's hart.
-fn meet_fate(alloc: Global, hart: &mut Hart, memory: &[Page], fate: Fate) -> Result<(), AllocError>
+fn meet_fate(hart: &mut Hart, memory: &Memory, fate: Fate) -> Result<(), AllocError>
     ensures { OnOk result (hart.new ≡ fated fate memory.now hart.old) }
 {
     match fate {
-        Fate::Returns(a0, a1) => hart.return_with(copy_of(alloc, memory)?, a0, a1),
+        Fate::Returns(a0, a1) => hart.return_with(memory.copy()?, a0, a1),
         Fate::Blocks => hart.set_status(Status::Blocked),
         Fate::Ends(value) => hart.set_status(Status::Ended(value)),
         Fate::Exits(_) => {}
@@ -28,9 +27,8 @@ fn meet_fate(alloc: Global, hart: &mut Hart, memory: &[Page], fate: Fate) -> Res
 
 /// The calls of waiting threads return with 0, and each is told something or nothing.
 fn wake(
-    alloc: Global,
     harts: &mut [Hart],
-    memory: &[Page],
+    memory: &Memory,
     threads: &Queue,
     told: Option<u32>,
 ) -> Result<(), AllocError>
@@ -38,7 +36,7 @@ fn wake(
 {
     for i in 0..threads.len() {
         let thread = usize::from(threads.at(i).number());
-        let view = copy_of(alloc, memory)?;
+        let view = memory.copy()?;
         if thread < harts.len() {
             let hart = &mut harts[thread];
             hart.return_with(view, 0, told);
@@ -49,16 +47,15 @@ fn wake(
 
 /// A thread begins, where one is created: it has the least number that is unused.
 fn begin(
-    alloc: Global,
     harts: &mut Vec<Hart>,
-    memory: &[Page],
+    memory: &Memory,
     created: Option<(u32, u32)>,
 ) -> Result<(), AllocError>
     requires { length harts.old.items + created_count created ≤ THREADS }
     ensures { OnOk result (harts.new.items ≡ with_created memory.now created harts.old.items) }
 {
     if let Some((pc, argument)) = created {
-        let view = copy_of(alloc, memory)?;
+        let view = memory.copy()?;
         harts.push(Hart::first(view, harts.len() as u8, pc, argument))?;
     }
     Ok(())
@@ -70,9 +67,8 @@ fn begin(
 ///
 /// An error where the host's memory ran out.
 pub(super) fn settle(
-    alloc: Global,
     harts: &mut Vec<Hart>,
-    memory: &[Page],
+    memory: &Memory,
     t: u8,
     effect: &Effect,
 ) -> Result<(), AllocError>
@@ -81,13 +77,7 @@ pub(super) fn settle(
     ensures { OnOk result (harts.new.items ≡ settled effect.now memory.now t harts.old.items) }
 {
     let hart = &mut harts[usize::from(t)];
-    meet_fate(alloc, hart, memory, effect.fate())?;
-    wake(
-        alloc,
-        harts.as_mut_slice(),
-        memory,
-        effect.woken(),
-        effect.told(),
-    )?;
-    begin(alloc, harts, memory, effect.created())
+    meet_fate(hart, memory, effect.fate())?;
+    wake(harts.as_mut_slice(), memory, effect.woken(), effect.told())?;
+    begin(harts, memory, effect.created())
 }

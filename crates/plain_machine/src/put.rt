@@ -6,10 +6,10 @@ ghost use Rattle.memory_spec.specs.Pages.{allows, read_right, permission_at};
 ghost use Rattle.thunk_spec.specs.Put as rows;
 ghost use Rattle.guest_call.specs.Objects.{appends};
 
+use super::memory::Memory;
 use guest_call::Call;
 use memory_spec::PAGE_SIZE;
 use page_map::PageMap;
-use page_store::Page;
 use rv_alu::Regs;
 use std::alloc::{AllocError, Global};
 use thunk_spec::ThunkEnd;
@@ -50,12 +50,12 @@ pub(super) fn appends_all(map: &PageMap, start: u32, count: u32) -> bool
 
 /// The byte at an address, or zero where no page has it.
 #[tactic(auto, using(crate::proofs::Putting::no_byte))]
-fn byte_at(map: &PageMap, memory: &[Page], address: u32) -> u8
+fn byte_at(map: &PageMap, memory: &Memory, address: u32) -> u8
     requires { length memory.now ≡ length map.now }
     ensures { result ≡ rows.byte_at map.now memory.now address }
 {
     match map.slot_of(address) {
-        Some(slot) => memory[slot].get((address % PAGE_SIZE as u32) as usize),
+        Some(slot) => memory.page(slot).get((address % PAGE_SIZE as u32) as usize),
         None => 0,
     }
 }
@@ -64,7 +64,7 @@ fn byte_at(map: &PageMap, memory: &[Page], address: u32) -> u8
 fn bytes_from(
     alloc: Global,
     map: &PageMap,
-    memory: &[Page],
+    memory: &Memory,
     start: u32,
     count: u32,
 ) -> Result<Vec<u8>, AllocError>
@@ -83,7 +83,7 @@ fn bytes_from(
 fn bytes_of_call(
     alloc: Global,
     map: &PageMap,
-    memory: &[Page],
+    memory: &Memory,
     call: Option<Call>,
 ) -> Result<Vec<u8>, AllocError>
     requires { length memory.now ≡ length map.now }
@@ -110,7 +110,7 @@ fn bytes_of_call(
 pub(super) fn put_bytes(
     alloc: Global,
     map: &PageMap,
-    memory: &[Page],
+    memory: &Memory,
     end: ThunkEnd,
     regs: &Regs,
 ) -> Result<Vec<u8>, AllocError>

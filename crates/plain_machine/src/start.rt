@@ -3,6 +3,7 @@
 ghost use Rattle.std.specs.Prelude.{◌≡◌, ◌<◌, ◌≤◌, ◌+◌, ◌*◌, ◌^◌, [], ◌∷◌, ◌++◌, length, slice_index, IfOk, OnOk};
 ghost use Rattle.machine_spec.specs.Setup as starts;
 
+use super::memory::Memory;
 use page_store::{Page, PageTable};
 use release_core::Setup;
 use std::alloc::{AllocError, Global};
@@ -43,8 +44,8 @@ fn header_page(input: &[u8]) -> [u8; 4096]
 }
 
 /// Puts copies of the image's pages behind the others.
-fn push_image(memory: &mut Vec<Page>, image: &PageTable) -> Result<(), AllocError>
-    ensures { OnOk result (memory.new.items ≡ memory.old.items ++ image.now) }
+fn push_image(memory: &mut Memory, image: &PageTable) -> Result<(), AllocError>
+    ensures { OnOk result (memory.new ≡ memory.old ++ image.now) }
 {
     for slot in 0..image.len() {
         memory.push(image.page(slot).copy())?;
@@ -54,8 +55,8 @@ fn push_image(memory: &mut Vec<Page>, image: &PageTable) -> Result<(), AllocErro
 
 /// Puts the pages of the input behind the others.
 #[tactic(auto, unfolding(machine_spec::specs::Setup::input_memory))]
-fn push_input(memory: &mut Vec<Page>, input: &[u8]) -> Result<(), AllocError>
-    ensures { OnOk result (memory.new.items ≡ memory.old.items ++ starts.input_memory input.now) }
+fn push_input(memory: &mut Memory, input: &[u8]) -> Result<(), AllocError>
+    ensures { OnOk result (memory.new ≡ memory.old ++ starts.input_memory input.now) }
 {
     for k in 0..256usize {
         memory.push(Page::new(input_page(input, k)))?;
@@ -65,8 +66,8 @@ fn push_input(memory: &mut Vec<Page>, input: &[u8]) -> Result<(), AllocError>
 
 /// Puts the pages of all stacks behind the others.
 #[tactic(auto, unfolding(machine_spec::specs::Setup::stack_memory))]
-fn push_stacks(memory: &mut Vec<Page>) -> Result<(), AllocError>
-    ensures { OnOk result (memory.new.items ≡ memory.old.items ++ starts.stack_memory) }
+fn push_stacks(memory: &mut Memory) -> Result<(), AllocError>
+    ensures { OnOk result (memory.new ≡ memory.old ++ starts.stack_memory) }
 {
     for _ in 0..512usize {
         memory.push(Page::zero())?;
@@ -80,12 +81,12 @@ fn push_stacks(memory: &mut Vec<Page>) -> Result<(), AllocError>
 ///
 /// An error where the host's memory ran out.
 #[tactic(auto, unfolding(machine_spec::specs::Setup::start_memory))]
-pub(super) fn memory_of(alloc: Global, setup: &Setup) -> Result<Vec<Page>, AllocError>
-    ensures { IfOk result (λ memory. memory.items ≡ starts.start_memory setup.now) }
+pub(super) fn memory_of(alloc: Global, setup: &Setup) -> Result<Memory, AllocError>
+    ensures { IfOk result (λ memory. memory ≡ starts.start_memory setup.now) }
 {
     setup.sound();
     let input = setup.input();
-    let mut memory = Vec::new(alloc);
+    let mut memory = Memory::empty(alloc);
     push_image(&mut memory, &setup.image().pages)?;
     memory.push(Page::new(header_page(input)))?;
     push_input(&mut memory, input)?;

@@ -1,14 +1,15 @@
 //! Stores, listed in order, and laid on a memory one after the other.
 
-ghost use Rattle.std.specs.Prelude.{◌≡◌, ◌+◌, ◌%◌, ◌<◌, ◌≤◌, length};
+ghost use Rattle.std.specs.Prelude.{◌≡◌, ◌%◌, length, OnOk, OnErr};
 ghost use Rattle.memory_spec.specs.Access.{byte_count, bytes_stored};
 ghost use Rattle.memory_spec.specs.Stores.{laid};
-ghost use Rattle.plain_machine.specs.Stored.{bytes_of, byte_of, with_number};
+ghost use Rattle.plain_machine.specs.Stored.{bytes_of};
 
+use super::memory::Memory;
 use super::pages::offset_of;
-use memory_spec::{PAGE_SIZE, Size};
+use memory_spec::Size;
 use page_map::PageMap;
-use page_store::Page;
+use std::alloc::AllocError;
 use std::marker::Model;
 
 /// One store: its address, which is a multiple of the number of bytes, how many bytes, and the value whose lowest they
@@ -49,52 +50,40 @@ impl Stored {
     }
 }
 
-/// One byte of a value, counted from the least.
-#[inline(always)]
-fn byte_at(value: u32, k: u32) -> u8
-    requires { k < 4 }
-    ensures { result ≡ byte_of value k }
-{
-    ((value >> (8 * k)) & 0xff) as u8
-}
-
-/// Writes the lowest bytes of a value into a page, byte after byte.
-#[inline(always)]
-#[tactic(auto, unfolding(crate::specs::Stored::with_number))]
-fn write_number(page: &mut Page, offset: usize, size: Size, value: u32)
-    requires { offset + byte_count size ≤ PAGE_SIZE }
-    ensures { page.new ≡ with_number page.old offset size value }
-{
-    page.set(offset, byte_at(value, 0));
-    match size {
-        Size::One => {}
-        Size::Two => page.set(offset + 1, byte_at(value, 1)),
-        Size::Four => {
-            page.set(offset + 1, byte_at(value, 1));
-            page.set(offset + 2, byte_at(value, 2));
-            page.set(offset + 3, byte_at(value, 3));
-        }
-    }
-}
-
 /// Lays a store on a memory, in the page that has all its bytes; one that no page has changes nothing.
+///
+/// # Errors
+///
+/// An error where the host's memory ran out; nothing is laid then.
 #[inline(always)]
-pub(super) fn lay(map: &PageMap, memory: &mut [Page], stored: Stored)
+pub(super) fn lay(map: &PageMap, memory: &mut Memory, stored: Stored) -> Result<(), AllocError>
     requires { length memory.old ≡ length map.now }
-    ensures { memory.new ≡ laid map.now memory.old (bytes_stored stored.address stored.size stored.value) }
+    ensures ok { OnOk result (memory.new
+        ≡ laid map.now memory.old (bytes_stored stored.address stored.size stored.value)) }
+    ensures err { OnErr result (memory.new ≡ memory.old) }
 {
     if let Some(slot) = map.slot_of(stored.address) {
         let offset = offset_of(stored.address, stored.size);
-        write_number(&mut memory[slot], offset, stored.size, stored.value);
+        memory.write(slot, offset, stored.size, stored.value)?;
     }
+    Ok(())
 }
 
 /// Lays stores on a memory, one after the other.
-pub(super) fn lay_all(map: &PageMap, memory: &mut [Page], stores: &[Stored])
+///
+/// # Errors
+///
+/// An error where the host's memory ran out; some of them may have been laid then.
+pub(super) fn lay_all(
+    map: &PageMap,
+    memory: &mut Memory,
+    stores: &[Stored],
+) -> Result<(), AllocError>
     requires { length memory.old ≡ length map.now }
-    ensures { memory.new ≡ laid map.now memory.old (bytes_of stores.now) }
+    ensures { OnOk result (memory.new ≡ laid map.now memory.old (bytes_of stores.now)) }
 {
     for stored in stores {
-        lay(map, memory, *stored);
+        lay(map, memory, *stored)?;
     }
+    Ok(())
 }

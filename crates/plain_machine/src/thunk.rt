@@ -5,11 +5,11 @@ ghost use Rattle.std.specs.Arc.{arc_value};
 ghost use Rattle.memory_spec.specs.Pages.{IsMemory};
 ghost use Rattle.plain_machine.specs.Turning.{left_after, IsDone};
 
+use super::memory::Memory;
 use super::put::put_bytes;
 use super::stores::Stored;
 use super::work::Work;
 use page_map::PageMap;
-use page_store::Page;
 use rv_alu::Regs;
 use rv_step::step;
 use std::alloc::{AllocError, Global};
@@ -97,7 +97,7 @@ pub(super) fn run<L: Ledger>(
     alloc: Global,
     map: &Arc<PageMap>,
     fuel: u32,
-    view: &[Page],
+    view: &Memory,
     start: Regs,
     turns: &mut Turns<L>,
 ) -> Result<Done, AllocError>

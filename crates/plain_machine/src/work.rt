@@ -9,6 +9,7 @@ ghost use Rattle.memory_spec.specs.Workspace.{no_marks};
 ghost use Rattle.plain_machine.specs.Merging.{merged};
 ghost use Rattle.plain_machine.specs.Stored.{bytes_of};
 
+use super::memory::Memory;
 use super::pages::{LastPage, code_slot, offset_of, permitted};
 use super::stores::{Stored, lay};
 use memory_spec::{MemoryError, PAGE_SIZE, Size};
@@ -18,12 +19,12 @@ use std::alloc::{AllocError, Global};
 use std::marker::Model;
 use std::sync::Arc;
 
-/// A whole copy of a view with the thread's own stores laid on it, the list of the stores, and the page that was fetched
+/// A copy of a view with the thread's own stores laid on it, the list of the stores, and the page that was fetched
 /// from last. A clause sees a `Workspace` of `memory_spec`, in which the view and the read pages are left out.
 #[derive(Drop)]
 pub(super) struct Work {
     map: Arc<PageMap>,
-    memory: Vec<Page>,
+    memory: Memory,
     stores: Vec<Stored>,
     last: LastPage,
 }
@@ -37,17 +38,6 @@ impl Model for Work {
     ghost view = { workspace_of };
 
     ghost invariant = { Keeps };
-}
-
-/// A copy of all pages of a memory.
-pub(super) fn copy_of(alloc: Global, memory: &[Page]) -> Result<Vec<Page>, AllocError>
-    ensures { IfOk result (λ copy. copy.items ≡ memory.now) }
-{
-    let mut copy = Vec::with_capacity(alloc, memory.len())?;
-    for page in memory {
-        copy.push(page.copy())?;
-    }
-    Ok(copy)
 }
 
 /// The word that stands in a page from an offset on, least byte first.
@@ -92,7 +82,7 @@ impl Mem for Work {
             None => Err(MemoryError::Access),
             Some(slot) => {
                 let offset = offset_of(address, Size::Four);
-                Ok(word_at(&self.memory[slot], offset))
+                Ok(word_at(self.memory.page(slot), offset))
             }
         }
     }
@@ -107,7 +97,7 @@ impl Mem for Work {
                     return Err(MemoryError::Access);
                 }
                 let offset = offset_of(address, size);
-                Ok(number_at(&self.memory[slot], offset, size))
+                Ok(number_at(self.memory.page(slot), offset, size))
             }
         }
     }
@@ -125,7 +115,10 @@ impl Mem for Work {
                 let Ok(()) = self.stores.push(stored) else {
                     return Err(MemoryError::NoMemory);
                 };
-                lay(&self.map, self.memory.as_mut_slice(), stored);
+                let Ok(()) = lay(&self.map, &mut self.memory, stored) else {
+                    self.stores.pop();
+                    return Err(MemoryError::NoMemory);
+                };
                 Ok(())
             }
         }
@@ -148,7 +141,7 @@ impl Work {
     /// # Errors
     ///
     /// An error where the host's memory ran out.
-    pub(super) fn new(alloc: Global, map: &Arc<PageMap>, view: &[Page]) -> Result<Work, AllocError>
+    pub(super) fn new(alloc: Global, map: &Arc<PageMap>, view: &Memory) -> Result<Work, AllocError>
         requires { IsMemory (arc_value map.now) view.now }
         ensures { IfOk result (λ work. work ≡ record {
           map = arc_value map.now;
@@ -160,18 +153,18 @@ impl Work {
     {
         Ok(Work {
             map: Arc::try_clone(map)?,
-            memory: copy_of(alloc, view)?,
+            memory: view.copy()?,
             stores: Vec::new(alloc),
             last: LastPage::none(),
         })
     }
 
     /// Its pages, with the stores.
-    pub(super) fn memory(&self) -> &[Page]
+    pub(super) fn memory(&self) -> &Memory
         ensures value { result.now ≡ self.now.memory }
         ensures count { length self.now.memory ≡ length self.now.map }
     {
-        self.memory.as_slice()
+        &self.memory
     }
 
     /// The stores, in order.

@@ -1,6 +1,5 @@
 /* The clock of a condition's attributes: it is kept for who asks. */
-#include <errno.h>
-#include <pthread.h>
+#include "../attributes.h"
 #include "counted.h"
 
 int __real_pthread_condattr_init(pthread_condattr_t *attributes);
@@ -18,8 +17,4 @@ IT_REPLACEABLE int pthread_condattr_setclock(pthread_condattr_t *attributes, clo
     return 0;
 }
 
-IT_REPLACEABLE int pthread_condattr_getclock(const pthread_condattr_t *restrict attributes, clockid_t *restrict clock)
-{
-    *clock = attributes->clock;
-    return 0;
-}
+IT_ATTRIBUTE(IT_REPLACEABLE, pthread_condattr_getclock, pthread_condattr_t, clockid_t, clock)

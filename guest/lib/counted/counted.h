@@ -2,6 +2,7 @@
 #ifndef IT_COUNTED_H
 #define IT_COUNTED_H
 
+#include <errno.h>
 #include <time.h>
 #include "../library.h"
 
@@ -54,5 +55,21 @@ static inline struct timespec it_difference(struct timespec later, struct timesp
     }
     return rest;
 }
+
+/* A function that tries a lock until it is the caller's, or until the time is over: then it answers ETIMEDOUT. */
+#define IT_TIMED_LOCK(replaceable, function, type, try)                                                                \
+    replaceable int function(type *restrict lock, const struct timespec *restrict time)                                \
+    {                                                                                                                  \
+        int answer = try(lock);                                                                                        \
+        if (answer != EBUSY)                                                                                           \
+            return answer;                                                                                             \
+        if (!it_is_time(time))                                                                                         \
+            return EINVAL;                                                                                             \
+        struct it_wait wait = it_begin_wait(*time);                                                                    \
+        while (answer == EBUSY && it_wait_on(&wait))                                                                   \
+            answer = try(lock);                                                                                        \
+        it_end_wait(&wait, answer == EBUSY);                                                                           \
+        return answer == EBUSY ? ETIMEDOUT : answer;                                                                   \
+    }
 
 #endif

@@ -3,7 +3,6 @@
 
    The machine's conditions wake only who waits in the machine. So a thread that waits for one with a time stands in a
    list, and a signal looks there first; guest/build has the linker bring each signal and broadcast here. */
-#include <errno.h>
 #include <pthread.h>
 #include <semaphore.h>
 #include "counted.h"
@@ -98,19 +97,7 @@ int pthread_cond_timedwait(pthread_cond_t *restrict condition, pthread_mutex_t *
     return answer;
 }
 
-int pthread_mutex_timedlock(pthread_mutex_t *restrict mutex, const struct timespec *restrict time)
-{
-    int answer = pthread_mutex_trylock(mutex);
-    if (answer != EBUSY)
-        return answer;
-    if (!it_is_time(time))
-        return EINVAL;
-    struct it_wait wait = it_begin_wait(*time);
-    while (answer == EBUSY && it_wait_on(&wait))
-        answer = pthread_mutex_trylock(mutex);
-    it_end_wait(&wait, answer == EBUSY);
-    return answer == EBUSY ? ETIMEDOUT : answer;
-}
+IT_TIMED_LOCK(, pthread_mutex_timedlock, pthread_mutex_t, pthread_mutex_trylock)
 
 static int failed(int error)
 {

@@ -15,15 +15,8 @@ IT_REPLACEABLE int thrd_create(thrd_t *thread, thrd_start_t function, void *argu
     return answered(pthread_create(thread, NULL, (void *(*)(void *))(void *)function, argument));
 }
 
-IT_REPLACEABLE int thrd_equal(thrd_t one, thrd_t other)
-{
-    return one == other;
-}
-
-IT_REPLACEABLE thrd_t thrd_current(void)
-{
-    return pthread_self();
-}
+IT_GIVES(int, thrd_equal, (thrd_t one, thrd_t other), one == other)
+IT_GIVES(thrd_t, thrd_current, (void), pthread_self())
 
 IT_REPLACEABLE void thrd_yield(void)
 {
@@ -35,10 +28,7 @@ IT_REPLACEABLE void thrd_exit(int value)
     pthread_exit((void *)value);
 }
 
-IT_REPLACEABLE int thrd_detach(thrd_t thread)
-{
-    return answered(pthread_detach(thread));
-}
+IT_GIVES(int, thrd_detach, (thrd_t thread), answered(pthread_detach(thread)))
 
 IT_REPLACEABLE int thrd_join(thrd_t thread, int *value)
 {
@@ -66,69 +56,34 @@ IT_REPLACEABLE void mtx_destroy(mtx_t *mutex)
     pthread_mutex_destroy(mutex);
 }
 
-IT_REPLACEABLE int mtx_lock(mtx_t *mutex)
-{
-    return answered(pthread_mutex_lock(mutex));
-}
-
-IT_REPLACEABLE int mtx_trylock(mtx_t *mutex)
-{
-    return answered(pthread_mutex_trylock(mutex));
-}
-
-IT_REPLACEABLE int mtx_unlock(mtx_t *mutex)
-{
-    return answered(pthread_mutex_unlock(mutex));
-}
+IT_GIVES(int, mtx_lock, (mtx_t *mutex), answered(pthread_mutex_lock(mutex)))
+IT_GIVES(int, mtx_trylock, (mtx_t *mutex), answered(pthread_mutex_trylock(mutex)))
+IT_GIVES(int, mtx_unlock, (mtx_t *mutex), answered(pthread_mutex_unlock(mutex)))
 
 /* ---------------------------------------------------------------------------------------------- conditions ---- */
 
-IT_REPLACEABLE int cnd_init(cnd_t *condition)
-{
-    return answered(pthread_cond_init(condition, NULL));
-}
+IT_GIVES(int, cnd_init, (cnd_t *condition), answered(pthread_cond_init(condition, NULL)))
 
 IT_REPLACEABLE void cnd_destroy(cnd_t *condition)
 {
     pthread_cond_destroy(condition);
 }
 
-IT_REPLACEABLE int cnd_signal(cnd_t *condition)
-{
-    return answered(pthread_cond_signal(condition));
-}
-
-IT_REPLACEABLE int cnd_broadcast(cnd_t *condition)
-{
-    return answered(pthread_cond_broadcast(condition));
-}
-
-IT_REPLACEABLE int cnd_wait(cnd_t *condition, mtx_t *mutex)
-{
-    return answered(pthread_cond_wait(condition, mutex));
-}
+IT_GIVES(int, cnd_signal, (cnd_t *condition), answered(pthread_cond_signal(condition)))
+IT_GIVES(int, cnd_broadcast, (cnd_t *condition), answered(pthread_cond_broadcast(condition)))
+IT_GIVES(int, cnd_wait, (cnd_t *condition, mtx_t *mutex), answered(pthread_cond_wait(condition, mutex)))
 
 /* ---------------------------------------------------------------------------------------------- keys, and once ---- */
 
-IT_REPLACEABLE int tss_create(tss_t *key, tss_dtor_t destructor)
-{
-    return answered(pthread_key_create(key, destructor));
-}
+IT_GIVES(int, tss_create, (tss_t *key, tss_dtor_t destructor), answered(pthread_key_create(key, destructor)))
 
 IT_REPLACEABLE void tss_delete(tss_t key)
 {
     pthread_key_delete(key);
 }
 
-IT_REPLACEABLE void *tss_get(tss_t key)
-{
-    return pthread_getspecific(key);
-}
-
-IT_REPLACEABLE int tss_set(tss_t key, void *value)
-{
-    return answered(pthread_setspecific(key, value));
-}
+IT_GIVES(void *, tss_get, (tss_t key), pthread_getspecific(key))
+IT_GIVES(int, tss_set, (tss_t key, void *value), answered(pthread_setspecific(key, value)))
 
 IT_REPLACEABLE void call_once(once_flag *once, void (*function)(void))
 {

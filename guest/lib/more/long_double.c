@@ -11,7 +11,6 @@
 #include <stdio.h>
 #include <stdlib.h>
 #include <string.h>
-#include "../library.h"
 
 int it_vfprintf(FILE *stream, const char *format, va_list arguments);
 int __real_vfprintf(FILE *stream, const char *format, va_list arguments);
@@ -21,29 +20,29 @@ typedef unsigned word;
 
 enum {
     FRACTION = 112, BIAS = 16383, SPECIAL = 32767, LIMBS = 4, WORDS = 518, WHOLE_DIGITS = 4934, MOST_DIGITS = 6000,
-    MOST = 256, OF_EACH = 4, AT_ONCE = 4096 /* words that are gone through for one of MOST */
+    OF_EACH = 4, AT_ONCE = 4096 /* words that are gone through for a quarter of MOST */
 };
 
-/* A step may take only so many instructions: see doubles.c. */
-static void breathe(unsigned share)
-{
-    it_self.doubles += share;
-    it_self.settle = 1;
-    if (it_self.doubles < MOST)
-        return;
-    it_self.doubles = 0;
-    it_call(IT_CALL_YIELD, 0, 0);
-}
-
-/* ------------------------------------------------------------------------------------------- digits ---- */
-
-/* A number's digits from the first that isn't 0 on, of which that at `at` comes next; and what is behind the point, in
-   binary, the highest word first. */
 struct parts {
-    char digits[WHOLE_DIGITS];
+    unsigned char digits[WHOLE_DIGITS];
     unsigned at, end, words, done;
     word part[WORDS];
 };
+
+static void work(struct parts *parts, unsigned words);
+#define AFTER_WORDS work
+#include "../digits.h"
+
+static void work(struct parts *parts, unsigned words)
+{
+    parts->done += words;
+    if (parts->done < AT_ONCE)
+        return;
+    parts->done -= AT_ONCE;
+    count_numbers(MOST / 4);
+}
+
+/* ------------------------------------------------------------------------------------------- digits ---- */
 
 /* A number's sign, and mantissa * 2^exponent, the lowest word first. */
 struct binary {
@@ -81,35 +80,6 @@ static word bits_at(const struct binary *it, int place)
     return (word)(both >> (place - 32 * limb));
 }
 
-static void work(struct parts *parts, unsigned words)
-{
-    parts->done += words;
-    if (parts->done < AT_ONCE)
-        return;
-    parts->done -= AT_ONCE;
-    breathe(MOST / 4);
-}
-
-/* The decimal digits before the point; `whole` has them in words, the highest first, and ends as 0. */
-static void whole_digits(struct parts *parts, word *whole, unsigned words)
-{
-    unsigned first = 0;
-    parts->at = parts->end = WHOLE_DIGITS;
-    for (;;) {
-        while (first < words && !whole[first])
-            first++;
-        if (first == words)
-            return;
-        unsigned left = 0;
-        for (unsigned k = first; k < words; k++) {
-            unsigned high = it_tenth(left << 16 | whole[k] >> 16, &left);
-            whole[k] = high << 16 | it_tenth(left << 16 | (whole[k] & 0xFFFF), &left);
-        }
-        work(parts, words - first);
-        parts->digits[--parts->at] = (char)left;
-    }
-}
-
 static IT_NOINLINE void split(struct parts *parts, const struct binary *it)
 {
     word whole[WORDS];
@@ -121,34 +91,6 @@ static IT_NOINLINE void split(struct parts *parts, const struct binary *it)
     parts->words = it->exponent < 0 ? (unsigned)(31 - it->exponent) / 32 : 0;
     for (unsigned k = 0; k < parts->words; k++)
         parts->part[k] = bits_at(it, -it->exponent - 32 * (int)(k + 1));
-}
-
-/* The next digit. Ten times what is behind the point has it before the point. */
-static unsigned next_digit(struct parts *parts)
-{
-    unsigned carry = 0;
-    if (parts->at < parts->end)
-        return (unsigned char)parts->digits[parts->at++];
-    while (parts->words && !parts->part[parts->words - 1])
-        parts->words--;
-    for (unsigned k = parts->words; k--;) {
-        unsigned low = (parts->part[k] & 0xFFFF) * 10 + carry, high = (parts->part[k] >> 16) * 10 + (low >> 16);
-        parts->part[k] = high << 16 | (low & 0xFFFF);
-        carry = high >> 16;
-    }
-    work(parts, parts->words);
-    return carry;
-}
-
-static bool is_zero(const struct parts *parts)
-{
-    for (unsigned k = parts->at; k < parts->end; k++)
-        if (parts->digits[k])
-            return false;
-    for (unsigned k = 0; k < parts->words; k++)
-        if (parts->part[k])
-            return false;
-    return true;
 }
 
 /* Digits d.ddd and the first one's power of ten. Behind them there are zeros. */
@@ -403,7 +345,7 @@ static void put_hexadecimal(struct out *out, const struct conversion *by, struct
 static IT_NOINLINE void put_long(struct out *out, const struct conversion *by, long double number)
 {
     struct binary it = binary_of(number);
-    breathe(OF_EACH);
+    count_numbers(OF_EACH);
     if (it.special) {
         bool infinite = !(it.mantissa[0] | it.mantissa[1] | it.mantissa[2] | (it.mantissa[3] & 0xFFFF));
         struct text text = { .suffix = "" };
@@ -636,7 +578,7 @@ static int scan_long(FILE *stream, int width, long double *number, int *taken)
     read_text(&reading);
     reading.text[reading.count] = 0;
     *taken += reading.taken;
-    breathe(OF_EACH);
+    count_numbers(OF_EACH);
     *number = strtold(reading.text, &end);
     return reading.count && end == reading.text + reading.count;
 }

@@ -1,7 +1,8 @@
-/* Reader-writer locks: each call is the machine's of the same name, with the lock's number. A lock's number is found as a
-   mutex's is, in a table of their own: a program without such locks hasn't its page. */
+/* Reader-writer locks: each call is the machine's of the same name, with the lock's number. A lock's number is found as
+   a mutex's is, in a table of their own: a program without such locks hasn't its page. */
 #include <errno.h>
 #include <pthread.h>
+#include "../attributes.h"
 #include "../library.h"
 #include "../table.h"
 
@@ -60,48 +61,9 @@ IT_REPLACEABLE int pthread_rwlock_destroy(pthread_rwlock_t *lock)
     return 0;
 }
 
-IT_REPLACEABLE int pthread_rwlock_rdlock(pthread_rwlock_t *lock)
-{
-    return call(IT_CALL_RDLOCK, lock);
-}
+IT_GIVES(int, pthread_rwlock_rdlock, (pthread_rwlock_t *lock), call(IT_CALL_RDLOCK, lock))
+IT_GIVES(int, pthread_rwlock_wrlock, (pthread_rwlock_t *lock), call(IT_CALL_WRLOCK, lock))
+IT_GIVES(int, pthread_rwlock_trywrlock, (pthread_rwlock_t *lock), call(IT_CALL_TRYWRLOCK, lock))
+IT_GIVES(int, pthread_rwlock_unlock, (pthread_rwlock_t *lock), call(IT_CALL_RWUNLOCK, lock))
 
-IT_REPLACEABLE int pthread_rwlock_wrlock(pthread_rwlock_t *lock)
-{
-    return call(IT_CALL_WRLOCK, lock);
-}
-
-IT_REPLACEABLE int pthread_rwlock_trywrlock(pthread_rwlock_t *lock)
-{
-    return call(IT_CALL_TRYWRLOCK, lock);
-}
-
-IT_REPLACEABLE int pthread_rwlock_unlock(pthread_rwlock_t *lock)
-{
-    return call(IT_CALL_RWUNLOCK, lock);
-}
-
-IT_REPLACEABLE int pthread_rwlockattr_init(pthread_rwlockattr_t *attributes)
-{
-    attributes->shared = PTHREAD_PROCESS_PRIVATE;
-    return 0;
-}
-
-IT_REPLACEABLE int pthread_rwlockattr_destroy(pthread_rwlockattr_t *attributes)
-{
-    (void)attributes;
-    return 0;
-}
-
-IT_REPLACEABLE int pthread_rwlockattr_setpshared(pthread_rwlockattr_t *attributes, int shared)
-{
-    if (shared != PTHREAD_PROCESS_PRIVATE && shared != PTHREAD_PROCESS_SHARED)
-        return EINVAL;
-    attributes->shared = shared;
-    return 0;
-}
-
-IT_REPLACEABLE int pthread_rwlockattr_getpshared(const pthread_rwlockattr_t *restrict attributes, int *restrict shared)
-{
-    *shared = attributes->shared;
-    return 0;
-}
+IT_ATTRIBUTES_OF(IT_REPLACEABLE, rwlockattr)

@@ -4,6 +4,7 @@
 #include <pthread.h>
 #include <sched.h>
 #include <string.h>
+#include "../attributes.h"
 #include "../library.h"
 
 enum { STACKS = 0xD0000000, LOWEST = 1, HIGHEST = 99, NAME = 16 };
@@ -30,11 +31,7 @@ int pthread_attr_setschedpolicy(pthread_attr_t *attributes, int policy)
     return 0;
 }
 
-int pthread_attr_getschedpolicy(const pthread_attr_t *restrict attributes, int *restrict policy)
-{
-    *policy = attributes->policy;
-    return 0;
-}
+IT_ATTRIBUTE(, pthread_attr_getschedpolicy, pthread_attr_t, int, policy)
 
 int pthread_attr_setschedparam(pthread_attr_t *restrict attributes, const struct sched_param *restrict parameters)
 {
@@ -58,11 +55,7 @@ int pthread_attr_setinheritsched(pthread_attr_t *attributes, int inherit)
     return 0;
 }
 
-int pthread_attr_getinheritsched(const pthread_attr_t *restrict attributes, int *restrict inherit)
-{
-    *inherit = attributes->inherit;
-    return 0;
-}
+IT_ATTRIBUTE(, pthread_attr_getinheritsched, pthread_attr_t, int, inherit)
 
 /* ---------------------------------------------------------------------------------------------- threads ---- */
 

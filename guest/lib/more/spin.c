@@ -24,17 +24,6 @@ IT_REPLACEABLE int pthread_spin_destroy(pthread_spinlock_t *lock)
     return 0;
 }
 
-IT_REPLACEABLE int pthread_spin_lock(pthread_spinlock_t *lock)
-{
-    return call(IT_CALL_LOCK, lock);
-}
-
-IT_REPLACEABLE int pthread_spin_trylock(pthread_spinlock_t *lock)
-{
-    return call(IT_CALL_TRYLOCK, lock);
-}
-
-IT_REPLACEABLE int pthread_spin_unlock(pthread_spinlock_t *lock)
-{
-    return call(IT_CALL_UNLOCK, lock);
-}
+IT_GIVES(int, pthread_spin_lock, (pthread_spinlock_t *lock), call(IT_CALL_LOCK, lock))
+IT_GIVES(int, pthread_spin_trylock, (pthread_spinlock_t *lock), call(IT_CALL_TRYLOCK, lock))
+IT_GIVES(int, pthread_spin_unlock, (pthread_spinlock_t *lock), call(IT_CALL_UNLOCK, lock))

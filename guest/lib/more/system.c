@@ -89,20 +89,9 @@ IT_REPLACEABLE long sysconf(int name)
 
 /* ---------------------------------------------------------------------------------------------- who it is ---- */
 
-IT_REPLACEABLE pid_t getpid(void)
-{
-    return PROCESS;
-}
-
-IT_REPLACEABLE pid_t getppid(void)
-{
-    return PARENT;
-}
-
-IT_REPLACEABLE pid_t getpgrp(void)
-{
-    return PROCESS;
-}
+IT_GIVES(pid_t, getpid, (void), PROCESS)
+IT_GIVES(pid_t, getppid, (void), PARENT)
+IT_GIVES(pid_t, getpgrp, (void), PROCESS)
 
 static pid_t of_process(pid_t process)
 {
@@ -112,35 +101,12 @@ static pid_t of_process(pid_t process)
     return -1;
 }
 
-IT_REPLACEABLE pid_t getpgid(pid_t process)
-{
-    return of_process(process);
-}
-
-IT_REPLACEABLE pid_t getsid(pid_t process)
-{
-    return of_process(process);
-}
-
-IT_REPLACEABLE uid_t getuid(void)
-{
-    return USER;
-}
-
-IT_REPLACEABLE uid_t geteuid(void)
-{
-    return USER;
-}
-
-IT_REPLACEABLE gid_t getgid(void)
-{
-    return USER;
-}
-
-IT_REPLACEABLE gid_t getegid(void)
-{
-    return USER;
-}
+IT_GIVES(pid_t, getpgid, (pid_t process), of_process(process))
+IT_GIVES(pid_t, getsid, (pid_t process), of_process(process))
+IT_GIVES(uid_t, getuid, (void), USER)
+IT_GIVES(uid_t, geteuid, (void), USER)
+IT_GIVES(gid_t, getgid, (void), USER)
+IT_GIVES(gid_t, getegid, (void), USER)
 
 /* To become who one is changes nothing. -1 among two: that one stays. */
 static int become(unsigned real, unsigned effective, unsigned stay)
@@ -151,35 +117,12 @@ static int become(unsigned real, unsigned effective, unsigned stay)
     return -1;
 }
 
-IT_REPLACEABLE int setuid(uid_t user)
-{
-    return become(user, USER, USER);
-}
-
-IT_REPLACEABLE int seteuid(uid_t user)
-{
-    return become(user, USER, USER);
-}
-
-IT_REPLACEABLE int setgid(gid_t group)
-{
-    return become(group, USER, USER);
-}
-
-IT_REPLACEABLE int setegid(gid_t group)
-{
-    return become(group, USER, USER);
-}
-
-IT_REPLACEABLE int setreuid(uid_t real, uid_t effective)
-{
-    return become(real, effective, (uid_t)-1);
-}
-
-IT_REPLACEABLE int setregid(gid_t real, gid_t effective)
-{
-    return become(real, effective, (gid_t)-1);
-}
+IT_GIVES(int, setuid, (uid_t user), become(user, USER, USER))
+IT_GIVES(int, seteuid, (uid_t user), become(user, USER, USER))
+IT_GIVES(int, setgid, (gid_t group), become(group, USER, USER))
+IT_GIVES(int, setegid, (gid_t group), become(group, USER, USER))
+IT_GIVES(int, setreuid, (uid_t real, uid_t effective), become(real, effective, (uid_t)-1))
+IT_GIVES(int, setregid, (gid_t real, gid_t effective), become(real, effective, (gid_t)-1))
 
 IT_REPLACEABLE int gethostname(char *name, size_t size)
 {

@@ -10,6 +10,6 @@ loop-k-preserved c =
     let more : map (input_page c.args.input.now) (range_with_len 0 (c.loop-k.k + 1)) ≡ map (input_page c.args.input.now)
     (range_with_len 0 c.loop-k.k) ++ input_page c.args.input.now c.loop-k.k ∷ [] =
     map-range_with_len_more (input_page c.args.input.now) 0 c.loop-k.k c.loop-k.k (omega arith) in
-    rw (more, c.in_ok-push.ensures.items, c.loop-k.invariant, c.new.ensures, c.input_page.ensures)
-    (append_assoc c.args.memory.now.items (map (input_page c.args.input.now) (range_with_len 0 c.loop-k.k))
+    rw (more, c.in_ok-push.ensures, c.loop-k.invariant, c.new.ensures, c.input_page.ensures)
+    (append_assoc c.args.memory.now (map (input_page c.args.input.now) (range_with_len 0 c.loop-k.k))
     (input_page c.args.input.now c.loop-k.k ∷ []))

@@ -14,12 +14,12 @@ loop-stored-preserved c =
     let s : StoredNumber = c.stored-item.result in
     let rest = drop (c.loop-stored.stored-index + 1) c.args.stores.now in
     let item : get_or c.args.stores.now c.loop-stored.stored-index s ≡ s = sym c.stored-item.is in (
-      ap (λ (m : Memory). laid map m (bytes_of rest)) c.lay.ensures
+      ap (λ (m : Memory). laid map m (bytes_of rest)) c.in_ok-lay.ensures.ok
           ∙ sym (laid-append map c.loop-stored.memory (bytes_stored s.address s.size s.value) (bytes_of rest))
           ∙ ap (λ (x : StoredNumber). laid map c.loop-stored.memory (bytes_of (x ∷ rest))) (sym item)
           ∙ sym (at_drop_more (λ stores. laid map c.loop-stored.memory (bytes_of stores)) c.args.stores.now
           c.loop-stored.stored-index s (omega arith))
           ∙ c.loop-stored.invariant.0,
-      ap length c.lay.ensures ∙ laid_count map c.loop-stored.memory (bytes_stored s.address s.size s.value)
+      ap length c.in_ok-lay.ensures.ok ∙ laid_count map c.loop-stored.memory (bytes_stored s.address s.size s.value)
           ∙ c.loop-stored.invariant.1,
     )

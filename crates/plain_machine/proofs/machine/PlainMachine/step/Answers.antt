@@ -2,9 +2,7 @@
 use Rattle.std.proofs.Common.{◌≡◌, ◌+◌, ◌<◌, ◌++◌, true, List, length, refl, ap, sym, subst, ◌∙◌, arith}
 use Rattle.std.proofs.lemmas.Bool.{and_parts}
 use Rattle.std.proofs.lemmas.Grind.{common_steps}
-use Rattle.std.proofs.lemmas.List.{with_items_is}
 use Rattle.std.specs.Arc.{arc_value}
-use Rattle.std.specs.Vec.{with_items}
 use Rattle.isa_spec.specs.Registers.{Registers}
 use Rattle.memory_spec.specs.Pages.{Mapped, Memory, IsMemory}
 use Rattle.memory_spec.specs.Stores.{laid}
@@ -19,7 +17,6 @@ use Rattle.plain_machine.specs.Stored.{bytes_of}
 use Rattle.plain_machine.specs.Turning.{IsDone}
 use Rattle.plain_machine.specs.Doing.{harts_after, objects_after, own_end, effect_made}
 use Rattle.plain_machine.specs.Making.{IsMade, asked_by}
-use Rattle.plain_machine.proofs.Laying.{laid_count}
 use Rattle.plain_machine.proofs.Stepping.{stepped, told}
 use Rattle.plain_machine.proofs.machine.PlainMachine.step.Goals as goal
 
@@ -29,7 +26,7 @@ run-requires g c =
     let m : Machine = record {
       frame = record { map = map; fuel = c.self.inside.fuel };
       limit = c.self.inside.limit;
-      memory = c.self.inside.memory.items;
+      memory = c.self.inside.memory;
       harts = c.self.inside.harts.items;
       objects = c.self.inside.objects;
       output = c.self.inside.output.items;
@@ -56,7 +53,7 @@ invariant_of-machine g c =
     let m : Machine = record {
       frame = record { map = map; fuel = c.self.inside.fuel };
       limit = c.self.inside.limit;
-      memory = c.self.inside.memory.items;
+      memory = c.self.inside.memory;
       harts = c.self.inside.harts.items;
       objects = c.self.inside.objects;
       output = c.self.inside.output.items;
@@ -76,26 +73,17 @@ invariant_of-machine g c =
     (subst (λ (v : Memory). IsDone m.frame v c.regs.result.now c.in_ok-done.done) view_is c.in_ok-done.ensures.done) in
     let stores = bytes_of c.in_ok-done.done.stores.items in
     let asks : Asked = asked_by c.args.t c.in_ok-done.done in
-    let lay_is : c.lay_all.new.memory ≡ laid map c.self.inside.memory.items stores =
-    c.lay_all.ensures
-    ∙ ap (λ (p : List Mapped). laid p c.as_mut_slice.result.now (bytes_of c.as_slice.result.now)) c.deref.ensures
-    ∙ ap (λ (x : Memory). laid map x (bytes_of c.as_slice.result.now)) c.as_mut_slice.ensures.value
-    ∙ ap (λ x. laid map c.self.inside.memory.items (bytes_of x)) c.as_slice.ensures.value in
-    let same_count : length c.lay_all.new.memory ≡ length c.self.inside.memory.items =
-    ap length lay_is ∙ laid_count map c.self.inside.memory.items stores in
-    let is_memory : (with_items c.self.inside.memory c.lay_all.new.memory).items
-    ≡ laid map c.self.inside.memory.items stores =
-    with_items_is c.self.inside.memory c.lay_all.new.memory (omega (arith, same_count)) ∙ lay_is in
+    let is_memory : c.lay_all.new.memory ≡ laid map c.self.inside.memory stores =
+    c.in_ok-lay_all.ensures
+    ∙ ap (λ (p : List Mapped). laid p c.self.inside.memory (bytes_of c.as_slice.result.now)) c.deref.ensures
+    ∙ ap (λ x. laid map c.self.inside.memory (bytes_of x)) c.as_slice.ensures.value in
     let is_output : c.extend_from_slice.new.self.items ≡ c.self.inside.output.items ++ c.in_ok-done.done.put.items =
     grind (arith, common_steps, c.in_ok-extend_from_slice.ensures.items, c.as_slice-2.ensures.value) in
-    let is_harts : c.finish.new.harts.items ≡ harts_after map c.self.inside.objects
-    (with_items c.self.inside.memory c.lay_all.new.memory).items c.args.t c.write_back.new.harts.items
-    asks =
+    let is_harts : c.finish.new.harts.items ≡ harts_after map c.self.inside.objects c.lay_all.new.memory c.args.t
+    c.write_back.new.harts.items asks =
     c.in_ok-made.ensures.harts
-    ∙ ap (λ (p : List Mapped). harts_after p c.self.inside.objects c.as_slice-3.result.now c.args.t
-    c.write_back.new.harts.items asks) c.deref-2.ensures
-    ∙ ap (λ (x : Memory). harts_after map c.self.inside.objects x c.args.t
-    c.write_back.new.harts.items asks) c.as_slice-3.ensures.value in
+    ∙ ap (λ (p : List Mapped). harts_after p c.self.inside.objects c.lay_all.new.memory c.args.t
+    c.write_back.new.harts.items asks) c.deref-2.ensures in
     let is_objects : c.finish.new.objects ≡ objects_after map c.self.inside.objects c.args.t
     asks =
     c.in_ok-made.ensures.objects
@@ -107,7 +95,7 @@ invariant_of-machine g c =
     ∙ ap (λ (p : List Mapped). step.end_after (own_end p c.self.inside.objects c.args.t asks)
     c.finish.new.harts.items c.self.inside.limit (c.self.inside.steps + 1)) c.deref-2.ensures in
     subst IsWhole
-    (sym (stepped m c.args.t c.in_ok-done.done (with_items c.self.inside.memory c.lay_all.new.memory).items
+    (sym (stepped m c.args.t c.in_ok-done.done c.lay_all.new.memory
     c.write_back.new.harts.items c.finish.new.harts.items c.finish.new.objects
     c.extend_from_slice.new.self.items c.in_ok-made.ending asks
     c.self.invariant.memory is_done is_memory c.write_back.ensures refl is_output is_harts is_objects
@@ -120,7 +108,7 @@ returns-clause-machine g c =
     let m : Machine = record {
       frame = record { map = map; fuel = c.self.inside.fuel };
       limit = c.self.inside.limit;
-      memory = c.self.inside.memory.items;
+      memory = c.self.inside.memory;
       harts = c.self.inside.harts.items;
       objects = c.self.inside.objects;
       output = c.self.inside.output.items;
@@ -138,26 +126,17 @@ returns-clause-machine g c =
     (subst (λ (v : Memory). IsDone m.frame v c.regs.result.now c.in_ok-done.done) view_is c.in_ok-done.ensures.done) in
     let stores = bytes_of c.in_ok-done.done.stores.items in
     let asks : Asked = asked_by c.args.t c.in_ok-done.done in
-    let lay_is : c.lay_all.new.memory ≡ laid map c.self.inside.memory.items stores =
-    c.lay_all.ensures
-    ∙ ap (λ (p : List Mapped). laid p c.as_mut_slice.result.now (bytes_of c.as_slice.result.now)) c.deref.ensures
-    ∙ ap (λ (x : Memory). laid map x (bytes_of c.as_slice.result.now)) c.as_mut_slice.ensures.value
-    ∙ ap (λ x. laid map c.self.inside.memory.items (bytes_of x)) c.as_slice.ensures.value in
-    let same_count : length c.lay_all.new.memory ≡ length c.self.inside.memory.items =
-    ap length lay_is ∙ laid_count map c.self.inside.memory.items stores in
-    let is_memory : (with_items c.self.inside.memory c.lay_all.new.memory).items
-    ≡ laid map c.self.inside.memory.items stores =
-    with_items_is c.self.inside.memory c.lay_all.new.memory (omega (arith, same_count)) ∙ lay_is in
+    let is_memory : c.lay_all.new.memory ≡ laid map c.self.inside.memory stores =
+    c.in_ok-lay_all.ensures
+    ∙ ap (λ (p : List Mapped). laid p c.self.inside.memory (bytes_of c.as_slice.result.now)) c.deref.ensures
+    ∙ ap (λ x. laid map c.self.inside.memory (bytes_of x)) c.as_slice.ensures.value in
     let is_output : c.extend_from_slice.new.self.items ≡ c.self.inside.output.items ++ c.in_ok-done.done.put.items =
     grind (arith, common_steps, c.in_ok-extend_from_slice.ensures.items, c.as_slice-2.ensures.value) in
-    let is_harts : c.finish.new.harts.items ≡ harts_after map c.self.inside.objects
-    (with_items c.self.inside.memory c.lay_all.new.memory).items c.args.t c.write_back.new.harts.items
-    asks =
+    let is_harts : c.finish.new.harts.items ≡ harts_after map c.self.inside.objects c.lay_all.new.memory c.args.t
+    c.write_back.new.harts.items asks =
     c.in_ok-made.ensures.harts
-    ∙ ap (λ (p : List Mapped). harts_after p c.self.inside.objects c.as_slice-3.result.now c.args.t
-    c.write_back.new.harts.items asks) c.deref-2.ensures
-    ∙ ap (λ (x : Memory). harts_after map c.self.inside.objects x c.args.t
-    c.write_back.new.harts.items asks) c.as_slice-3.ensures.value in
+    ∙ ap (λ (p : List Mapped). harts_after p c.self.inside.objects c.lay_all.new.memory c.args.t
+    c.write_back.new.harts.items asks) c.deref-2.ensures in
     let is_objects : c.finish.new.objects ≡ objects_after map c.self.inside.objects c.args.t
     asks =
     c.in_ok-made.ensures.objects
@@ -168,7 +147,7 @@ returns-clause-machine g c =
     c.in_ok-made.ensures.ending
     ∙ ap (λ (p : List Mapped). step.end_after (own_end p c.self.inside.objects c.args.t asks)
     c.finish.new.harts.items c.self.inside.limit (c.self.inside.steps + 1)) c.deref-2.ensures in
-    stepped m c.args.t c.in_ok-done.done (with_items c.self.inside.memory c.lay_all.new.memory).items
+    stepped m c.args.t c.in_ok-done.done c.lay_all.new.memory
     c.write_back.new.harts.items c.finish.new.harts.items c.finish.new.objects
     c.extend_from_slice.new.self.items c.in_ok-made.ending asks
     c.self.invariant.memory is_done is_memory c.write_back.ensures refl is_output is_harts is_objects
@@ -181,7 +160,7 @@ returns-clause-made g c =
     let m : Machine = record {
       frame = record { map = map; fuel = c.self.inside.fuel };
       limit = c.self.inside.limit;
-      memory = c.self.inside.memory.items;
+      memory = c.self.inside.memory;
       harts = c.self.inside.harts.items;
       objects = c.self.inside.objects;
       output = c.self.inside.output.items;

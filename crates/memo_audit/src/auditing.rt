@@ -1,0 +1,64 @@
+//! The audit of a history.
+
+ghost use Rattle.std.specs.Prelude.{◌≡◌, None, IfOk};
+ghost use Rattle.history_spec.specs.History.{IsHonest};
+ghost use Rattle.audit_spec.specs.Audit.{IsFirstFalse, IsFirstFalseFrom, turns_of, turns_from};
+
+use super::claims::claims_from;
+use super::executing::audit_together;
+use super::verdict::Verdict;
+use release_core::{Core, History, Records};
+use std::alloc::{AllocError, Global};
+use std::thread::Threads;
+
+/// The first false one of some records, which are laid from a machine on, and how many turns their thunks make.
+fn verdict_from<R: Threads + Sync>(
+    rt: &R,
+    alloc: Global,
+    mut core: Core,
+    records: &Records,
+    workers: u32,
+) -> Result<Verdict, AllocError>
+    ensures first { IfOk result (λ verdict. IsFirstFalseFrom core records.now verdict.first) }
+    ensures instructions { IfOk result (λ verdict. verdict.instructions ≡ turns_from core records.now) }
+{
+    records.keeps();
+    let mut found = Verdict::of_none();
+    let mut place = 0;
+    while place < records.len() {
+        let claims = claims_from(alloc, &mut core, records, place)?;
+        if claims.is_empty() {
+            return Ok(found.closed(place as u32, true));
+        }
+        let more = audit_together(rt, alloc, claims.as_slice(), workers)?;
+        found = found.and(place as u32, more);
+        place += claims.len();
+    }
+    Ok(found.closed(place as u32, core.ended().is_none()))
+}
+
+/// Whether a history is honest: its records are laid one after the other, the thunk of each is executed again on what
+/// it was laid on, by so many workers side by side, and what it makes is compared with the record. The verdict depends on
+/// the history alone, and not on the number of workers or on what they do first. The memory that it takes is that of a run
+/// of the history, and of the views of 4,096 steps.
+///
+/// # Errors
+///
+/// An error where the host's memory ran out.
+pub fn audit<R: Threads + Sync>(
+    rt: &R,
+    alloc: Global,
+    history: &History,
+    workers: u32,
+) -> Result<Verdict, AllocError>
+    ensures honest { IfOk result (λ verdict. verdict.first ≡ None → IsHonest history.now) }
+    ensures untrue { IfOk result (λ verdict. IsHonest history.now → verdict.first ≡ None) }
+    ensures first { IfOk result (λ verdict. IsFirstFalse history.now verdict.first) }
+    ensures instructions { IfOk result (λ verdict. verdict.instructions ≡ turns_of history.now) }
+{
+    history.setup().sound();
+    audit_spec::honest_has_no_false_record();
+    audit_spec::audits_agree();
+    let core = Core::new(alloc, history.setup())?;
+    verdict_from(rt, alloc, core, history.records(), workers)
+}

@@ -1,0 +1,14 @@
+//! The audit of a history: whether its records are those that the machine makes from scratch, and which is the first that
+//! isn't. Its records are laid one after the other, and their thunks are executed again, side by side.
+#![tactic(auto)]
+
+mod auditing;
+mod claims;
+mod executing;
+mod same;
+mod telling;
+mod verdict;
+
+pub use auditing::audit;
+pub use telling::text;
+pub use verdict::Verdict;
