@@ -96,7 +96,7 @@ def lines_of_formats():
 
 def kinds_of(text):
     """The refusals of executables."""
-    table = text[text.index("| refusal | exactly where |"):].split("\n\n")[0]
+    table = text[text.index("| refusal | exactly if |"):].split("\n\n")[0]
     return [written(row.split("|")[1].strip()) for row in table.split("\n")[2:]]
 
 
@@ -186,8 +186,8 @@ def check_guests(checks):
     shown = ("round 0: thread 0 waits for mutex 1, held by thread 1, in 00010028\n"
              "round 0: thread 1 waits for mutex 0, held by thread 0, in 00010070\n")
     checks.expect(f"who waits in cross.elf: {status} {told}", status == 0 and told.endswith(shown))
-    guide = (ROOT / "docs/GUESTS.md").read_text()
-    checks.expect("docs/GUESTS.md shows who waits in cross.elf", f"```\n{shown}```" in guide)
+    guide = (ROOT / "tools/README.md").read_text()
+    checks.expect("tools/README.md shows who waits in cross.elf", f"```\n{shown}```" in guide)
     status, told = explained(("--guest", *pair), report)
     checks.expect(f"the report of another guest: {status} {told}", "the schedule is of another guest" in told)
     _, report, _ = program("run", *pair, EXAMPLES / "pair.edits", "--workers", "1")

@@ -6,7 +6,7 @@
     of guests that are made to order, with the same memory too.
   - The groups hold all tries; where two part, they have the same entries before that, and others there.
   - One seed gives one answer, whatever the number of processes, and another seed another.
-  - docs/GUESTS.md shows what is found of examples/schedules: a deadlock and a race.
+  - tools/README.md shows what is found of examples/schedules: a deadlock and a race.
 """
 import hashlib
 import re
@@ -114,15 +114,15 @@ def check_refused(checks):
 def check_guide(checks):
     """What the guide shows of the two examples."""
     if not shutil.which("riscv64-unknown-elf-gcc"):
-        print("skipped: the schedules that docs/GUESTS.md shows, since there is no riscv64-unknown-elf-gcc")
+        print("skipped: the schedules that tools/README.md shows, since there is no riscv64-unknown-elf-gcc")
         return
-    guide = (ROOT / "docs/GUESTS.md").read_text()
+    guide = (ROOT / "tools/README.md").read_text()
     for name in SHOWN:
         elf = checks.folder / f"{name}.elf"
         ran_whole(str(ROOT / "guest/build"), "--libc", "--symbols", str(EXAMPLES / f"schedules/{name}.c"), str(elf))
         status, printed, said = tool("explore", elf, EXAMPLES / "empty", "--check")
         shown = printed.decode().replace("    replayed: the same\n", "")
-        checks.expect(f"docs/GUESTS.md shows what is found of {name}.c: {status} {said}\n{shown}",
+        checks.expect(f"tools/README.md shows what is found of {name}.c: {status} {said}\n{shown}",
                       status == 1 and f"```\n{shown}```\n" in guide)
 
 

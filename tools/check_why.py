@@ -9,7 +9,7 @@ behind that guest here.
   - Where there is clang with lld and llvm-symbolizer, lines of a C file are named.
   - With a C library, the guest's own lines are told, and the one that allocated a block.
   - What docs/GUESTS.md shows of three edits is what the program prints for the committed executable, and the tool
-    where the guest that is built here is that one; so is the summary that it shows.
+    where the guest that is built here is that one; so is the summary that tools/README.md shows.
 """
 import os
 import re
@@ -311,12 +311,12 @@ def check_guide(checks):
 def check_shown_summary(checks, memo, built):
     """The summary that the guide shows."""
     shown = re.search(r"^tools/why orders\.memo (\S+) --symbols orders\.elf --summary\n```\n.*?^```\n"
-                      r"(why [0-9]+\n.*?)^```$", (ROOT / "docs/GUESTS.md").read_text(), flags=re.S | re.M)
+                      r"(why [0-9]+\n.*?)^```$", (ROOT / "tools/README.md").read_text(), flags=re.S | re.M)
     status, printed, said = tool("why", memo, ROOT / shown.group(1), "--symbols", built, "--summary")
     if status == 2 and "isn't the memo's guest" in said:
-        print("skipped: the summary that docs/GUESTS.md shows: clang writes another guest here")
+        print("skipped: the summary that tools/README.md shows: clang writes another guest here")
     else:
-        checks.expect(f"docs/GUESTS.md has the summary: {status} {said}", printed.decode() == shown.group(2))
+        checks.expect(f"tools/README.md has the summary: {status} {said}", printed.decode() == shown.group(2))
 
 
 def check(checks):

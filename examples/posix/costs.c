@@ -1,6 +1,6 @@
 /* What some lines of C cost as a guest. Each is between two calls of sched_yield, so that it is a step of its own, and a
    step behind it has nothing between its calls: examples/posix/check takes the one from the other for the table in
-   docs/GUESTS.md. Everything is volatile, or else the compiler would do it. */
+   guest/README.md. Everything is volatile, or else the compiler would do it. */
 #include <sched.h>
 #include <stdint.h>
 #include <stdio.h>
