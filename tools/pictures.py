@@ -35,6 +35,7 @@ text { font: 12px system-ui, 'DejaVu Sans', sans-serif; fill: #222; }
 .forever { marker-end: url(#never); }
 .wakes { stroke: #333; stroke-width: 1.3; fill: none; marker-end: url(#woken); }
 .why { stroke: #b3123a; stroke-width: 2; stroke-linejoin: round; fill: none; marker-end: url(#cause); }
+.race { stroke: #7a3db8; stroke-width: 1.5; stroke-dasharray: 4 3; fill: none; }
 .edit { fill: #b3123a; }
 g:hover > rect { stroke-width: 3; }
 """
@@ -294,6 +295,15 @@ class Drawing:
                 yield element("path", f"step {step.place}: {step.reason}", **{"class": "edit"},
                               d=f"M{x:.1f} {y}l-5 -8h10z")
 
+    def races(self):
+        """For each pair of steps that touch a page without an order, a line between their boxes."""
+        for step in self.steps:
+            for place, page in step.races:
+                later = self.steps[place]
+                yield element("path", f"step {step.place} races with step {place} for page {page}", **{"class": "race"},
+                              d=f"M{self.middle(step):.1f} {self.lanes[step.thread]}"
+                                f"L{self.middle(later):.1f} {self.lanes[later.thread]}")
+
     def middle(self, step):
         return (self.places[step.place] + self.places[step.place + 1]) / 2
 
@@ -323,6 +333,7 @@ class Drawing:
         yield from self.boxes(column)
         yield from self.wakes() if lines else ()
         yield from self.reasons() if lines else ()
+        yield from self.races() if lines else ()
 
 
 SIGNS = [("reused", '<rect class="reused" x="0" y="-10" width="22" height="14"/>', "reused"),
@@ -331,7 +342,8 @@ SIGNS = [("reused", '<rect class="reused" x="0" y="-10" width="22" height="14"/>
          ("forever", '<path class="forever" d="M0 -4H18"/>', "waits for ever"),
          ("wakes", '<path class="wakes" d="M0 -4H22"/>', "wakes, or begins"),
          ("edit", '<path class="edit" d="M11 2l-5 -8h10z"/>', "reads what was edited"),
-         ("why", '<path class="why" d="M0 -4H22"/>', "changed what the other reads")]
+         ("why", '<path class="why" d="M0 -4H22"/>', "changed what the other reads"),
+         ("race", '<path class="race" d="M0 -4H22"/>', "touch a page without an order")]
 
 
 def legend(drawn, x, y):

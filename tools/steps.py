@@ -19,6 +19,7 @@ WAKES = re.compile(r", wakes thread ([0-9]+) with ")
 BEGINS = re.compile(r"create\(.*\) = ([0-9]+), begins at ")
 REASON = re.compile(r"step ([0-9]+) thread ([0-9]+) number ([0-9]+) (none|register ([0-9]+) now [0-9]+ was [0-9]+|"
                     r"page ([0-9a-f]{8}) at ([0-9]+) now [0-9]+ was [0-9]+ by (start|[0-9]+))")
+RACES, RACE = re.compile("races [0-9]+"), re.compile("race ([0-9]+) ([0-9]+) page ([0-9a-f]{8} [rw]{2})")
 REASON_OR_NOTE = re.compile(REASON.pattern + "|    (?P<note>.*)")
 
 
@@ -50,6 +51,7 @@ class Step:
     reason: str | None = None
     notes: list = field(default_factory=list)  # what stands behind the reason
     stored_by: int | None = None  # the step that stored what it was executed for
+    races: list = field(default_factory=list)  # the later steps that it races with, each with the page and who writes
 
 
 def call_text(call):
@@ -188,6 +190,17 @@ class Rounds:
                 reasons[-1].notes.append(found.group("note"))
         if reasons != executed:
             raise Refused(len(lines) + 1, f"a reason for each executed step of round {number} is wanted, in order")
+
+    def add_races(self, number, text):
+        """The races of the steps of a round."""
+        lines, steps = lines_of(text), self.steps[number]
+        if not RACES.fullmatch(lines[0]):
+            raise Refused(1, f"the number of races is wanted, and there stands `{lines[0][:40]}`")
+        for line, found in found_in(lines[1:], 2, RACE, "a race"):
+            first, second = map(int, found.group(1, 2))
+            if not first < second < len(steps):
+                raise Refused(line, f"round {number} has no steps {first} and {second}, one before the other")
+            steps[first].races.append((second, found.group(3)))
 
     def reason(self, number, line, found):
         """The step that a reason is of, with the reason."""

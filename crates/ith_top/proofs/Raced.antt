@@ -7,8 +7,8 @@ use Rattle.ith_words.specs.Words.{FindsRaces, RacesLine}
 use Rattle.ith_top.specs.declared.status.Status.{Status}
 use Rattle.ith_top.specs.declared.status.Status.TheVariants as status
 use Rattle.ith_top.specs.Files.{files_named, AsksForFiles}
-use Rattle.ith_top.specs.Contents.{IsMemoContent, IsMemoOf}
-use Rattle.ith_top.specs.Ends.{Prints, HasHistory, as_show, RacesEnd}
+use Rattle.ith_top.specs.Contents.{IsMemoContent, IsMemoOf, as_show}
+use Rattle.ith_top.specs.Ends.{Prints, HasHistory, RacesEnd}
 use Rattle.ith_top.specs.Refusals.{WhyUnread, WhyNoHistory, WhyUnprinted}
 use Rattle.ith_top.proofs.Worlds.{rose_before, stays_trans}
 use Rattle.ith_top.proofs.Going.{prints_after}
@@ -47,7 +47,7 @@ races_forgotten line a b c memo status.Memory asked none stays then read why = r
 races_forgotten line a b c memo _ asked none stays then read why = absurd why
 
 has_history : (line : RacesLine) (a : World) (memo : List ℕ) (h : History) → IsMemoContent a line.memo memo
-    → IsMemoOf memo h → HasHistory (as_show line) a
+    → IsMemoOf memo h → HasHistory (as_show line.memo) a
 has_history line a memo h read is = record { memo = memo; read = read; history = h; accepted = is }
 
 -- the lines were printed

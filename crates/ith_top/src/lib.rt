@@ -11,6 +11,7 @@ use std::alloc::Global;
 use std::sync::Wait;
 use std::thread::Threads;
 
+mod auditing;
 mod complaints;
 mod crew;
 mod explaining;
@@ -54,6 +55,8 @@ pub use status::Status;
 ///
 /// `races MEMO` tells of a memo how many pairs of its steps touch a page without an order by threads and objects, and
 /// lists the first of them.
+/// `audit MEMO --workers W` executes the steps of a memo again, and tells whether the memo is honest, or which of its
+/// records is the first that isn't as the machine makes it.
 ///
 /// `gen NUMBER --workers W` runs a guest on an input and an edit of it that are generated from the number.
 ///

@@ -1,16 +1,18 @@
 -- A round after an entry was appended.
-use Rattle.std.proofs.Common.{◌≡◌, ◌≤◌, ◌+◌, ℕ, Bool, true, false, List, [], ◌∷◌, ◌++◌, length, set, Some, ap, sym, ◌∙◌, subst, arith}
+use Rattle.std.proofs.Common.{◌≡◌, ◌≤◌, ◌+◌, ℕ, Bool, true, false, List, [], ◌∷◌, ◌++◌, length, set, Some, refl, ap, sym, ◌∙◌, subst, arith}
+use Rattle.std.proofs.lemmas.List.{length-append}
+use Rattle.report_spec.specs.declared.Entry.{Entry}
 use Rattle.thunk_spec.specs.Thunk.{Frame}
 use Rattle.record_spec.specs.Record.{Record, IsTrue}
 use Rattle.machine_spec.specs.Step.{lay}
 use Rattle.order_spec.specs.Facts.{Fact}
-use Rattle.round_spec.specs.declared.events.Event.TheVariants.{Reuse, Commit}
+use Rattle.round_spec.specs.declared.events.Event.TheVariants.{Reuse, Commit, GiveBack}
 use Rattle.round_spec.specs.Marks.{record_for}
-use Rattle.round_spec.specs.Rounds.{RoundState, can_reuse, happens, taken_when}
-use Rattle.round_spec.proofs.Conditions.{happens-reuse, commit-lays}
+use Rattle.round_spec.specs.Rounds.{RoundState, can_reuse, happens, is_out, taken_when, given_back}
+use Rattle.round_spec.proofs.Conditions.{happens-reuse, happens-give_back, commit-lays}
 use Rattle.propagate.specs.Kept.{IsKept}
-use Rattle.propagate.specs.Committing.{CanCommit}
-use Rattle.propagate.proofs.Keeping.{kept-more, laid-round}
+use Rattle.propagate.specs.Committing.{CanCommit, GoesOn}
+use Rattle.propagate.proofs.Keeping.{kept-happens, kept-more, laid-round}
 use Rattle.propagate.proofs.Appending.{CanAppend, fitting-append, Reusable, reusable, going-none, can-apply, reuse-can}
 
 -- a round with an entry, its record and when it was picked
@@ -102,3 +104,40 @@ reuse-kept w v i t fs r kept can there is =
     (ap (λ (x : RoundState). x.setup) is) (ap (λ (x : RoundState). x.machine) is)
     (ap (λ (x : RoundState). x.records) is))
     (omega arith) (omega arith)
+
+-- a step that is discarded
+
+pub discarded-kept :
+    (w v : RoundState) (i t : ℕ) (fs : List Fact)
+    → IsKept w i fs → is_out w t ≡ true → v ≡ given_back w t → IsKept v i fs
+discarded-kept w v i t fs kept out is =
+    subst (λ (x : RoundState). IsKept x i fs) (sym is)
+    (kept-happens w (given_back w t) (GiveBack t) i i fs kept (happens-give_back w t out) refl refl
+    (record { machine = kept.laid.machine; can = kept.laid.can }) kept.points kept.executed kept.few)
+
+-- ---- the entries of a round after it
+
+-- a round that is as before has as many
+pub goes-nowhere : (v w : RoundState) → v ≡ w → GoesOn 0 w v
+goes-nowhere v w is =
+    record {
+      setup = ap (λ (x : RoundState). x.setup) is;
+      past = ap (λ (x : RoundState). x.past) is;
+      entries = omega (arith, ap (λ (x : RoundState). length x.schedule) is);
+    }
+
+-- one with an entry more
+pub goes-more :
+    (v w u : RoundState) (e : Entry)
+    → v.setup ≡ w.setup → v.past ≡ w.past → v.schedule ≡ w.schedule ++ e ∷ [] → w ≡ u → GoesOn 1 u v
+goes-more v w u e setup past more is =
+    record {
+      setup = setup ∙ ap (λ (x : RoundState). x.setup) is;
+      past = past ∙ ap (λ (x : RoundState). x.past) is;
+      entries = omega (
+        arith,
+        ap (λ (l : List Entry). length l) more,
+        length-append w.schedule (e ∷ []),
+        ap (λ (x : RoundState). length x.schedule) is,
+      );
+    }

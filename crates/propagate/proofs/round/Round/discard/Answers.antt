@@ -1,7 +1,9 @@
 -- What is left to prove of `Round::discard`.
-use Rattle.std.proofs.Common.{sym, ◌∙◌, arith}
+use Rattle.std.proofs.Common.{◌≡◌, true, refl, add-one, sym, subst, ◌∙◌, arith}
 use Rattle.std.proofs.lemmas.Grind.{common_steps}
+use Rattle.round_spec.specs.Rounds.{RoundState, is_out}
 use Rattle.round_spec.proofs.Conditions.{happens-give_back, happens-give_back_not}
+use Rattle.propagate.proofs.Making.{discarded-kept}
 use Rattle.propagate.proofs.round.Round.discard.Goals as goal
 
 pub returns-then-is_out-clause-event : goal.returns-then-is_out-clause-event
@@ -12,3 +14,10 @@ returns-then-is_out-clause-event c =
 pub returns-else-is_out-clause-event : goal.returns-else-is_out-clause-event
 returns-else-is_out-clause-event c =
     sym (happens-give_back_not c.args.self.now c.args.t (sym c.is_out.ensures ∙ c.if-is_out.false))
+
+pub invariant_of-self : goal.invariant_of-self
+invariant_of-self c =
+    discarded-kept _ _ _ c.args.t _ c.self.invariant
+    (subst (λ (w : RoundState). is_out w c.args.t ≡ true) (sym c.self.view_is)
+    (sym c.is_out.ensures ∙ c.if-is_out.true))
+    (rw (c.from.ensures, c.from-then-is_out.ensures, c.saturating_add-self-inside.ensures, add-one) refl)

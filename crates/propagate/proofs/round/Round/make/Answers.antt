@@ -1,11 +1,60 @@
 -- What is left to prove of `Round::make`.
 use Rattle.std.proofs.Common.{◌≡◌, ◌≤◌, ◌+◌, false, set, option_map, refl, ap, sym, subst, ◌∙◌, arith}
+use Rattle.std.proofs.lemmas.Result.{err_from_is_err_and}
 use Rattle.std.specs.Arc.{arc_value}
 use Rattle.round_spec.specs.declared.events.Event.TheVariants.{Commit}
 use Rattle.round_spec.specs.Rounds.{RoundState, happens}
+use Rattle.propagate.specs.Appending.{Trail}
 use Rattle.propagate.specs.Committing.{CanCommit}
-use Rattle.propagate.proofs.Making.{handed_in, commit-append, commit-happens, commit-kept}
+use Rattle.propagate.proofs.Keeping.{few_entries}
+use Rattle.propagate.proofs.Making.{handed_in, commit-append, commit-happens, commit-kept, goes-nowhere, goes-more}
 use Rattle.propagate.proofs.round.Round.make.Goals as goal
+
+-- where memory ran out before the entry was made, the round is as before
+
+pub invariant_of-self : goal.invariant_of-self
+invariant_of-self c = rw c.in_err-reserve.ensures.items c.self.invariant
+
+pub returns-in_err-reserve-clause-same : goal.returns-in_err-reserve-clause-same
+returns-in_err-reserve-clause-same c =
+    let p = err_from_is_err_and c.from_residual.result c.from_residual.ensures.1 in
+    rw (p.1, c.in_err-reserve.ensures.items) (goes-nowhere _ c.args.self.now c.self.view_is)
+
+pub returns-in_err-reserve-clause-err : goal.returns-in_err-reserve-clause-err
+returns-in_err-reserve-clause-err c =
+    let p = err_from_is_err_and c.from_residual.result c.from_residual.ensures.1 in
+    rw (p.1, c.in_err-reserve.ensures.items) c.self.view_is
+
+pub returns-in_err-append-clause-same : goal.returns-in_err-append-clause-same
+returns-in_err-append-clause-same c =
+    let p = err_from_is_err_and c.from_residual-in_err-append.result c.from_residual-in_err-append.ensures.1 in
+    let err = c.in_err-append.ensures.err in
+    rw (
+      p.1,
+      ap (λ (t : Trail). t.machine) err,
+      ap (λ (t : Trail). t.schedule) err,
+      ap (λ (t : Trail). t.records) err,
+      c.in_ok-reserve.ensures.items,
+    )
+    (goes-nowhere _ c.args.self.now c.self.view_is)
+
+pub append-requires-clause-can : goal.append-requires-clause-can
+append-requires-clause-can c =
+    (commit-append _ _ _ _ _ c.self.invariant
+    (subst (λ (w : RoundState). CanCommit w (arc_value c.args.run.now.frame) (arc_value c.args.run.now.rec))
+    (sym c.self.view_is) c.requires)).can
+
+pub append-requires-clause-few : goal.append-requires-clause-few
+append-requires-clause-few c =
+    (commit-append _ _ _ _ _ c.self.invariant
+    (subst (λ (w : RoundState). CanCommit w (arc_value c.args.run.now.frame) (arc_value c.args.run.now.rec))
+    (sym c.self.view_is) c.requires)).few
+
+pub append-requires-clause-thread : goal.append-requires-clause-thread
+append-requires-clause-thread c =
+    (commit-append _ _ _ _ _ c.self.invariant
+    (subst (λ (w : RoundState). CanCommit w (arc_value c.args.run.now.frame) (arc_value c.args.run.now.rec))
+    (sym c.self.view_is) c.requires)).thread
 
 pub append-requires-clause-number : goal.append-requires-clause-number
 append-requires-clause-number c =
@@ -76,3 +125,17 @@ returns-clause-ok c =
     (arc_value c.args.run.now.rec)
     c.self.invariant (can c) c.args.run.now.honest)
     ∙ ap (λ (w : RoundState). happens w (Commit (arc_value c.args.run.now.rec).thread)) c.self.view_is
+
+pub overflow_add-self : goal.overflow_add-self
+overflow_add-self c =
+    omega (
+      arith,
+      c.self.invariant.few,
+      few_entries _ c.self.invariant.in_order c.self.invariant.counted,
+      c.count.type_inv,
+      c.from.ensures,
+    )
+
+pub returns-clause-same : goal.returns-clause-same
+returns-clause-same c =
+    goes-more (after c) (before c) c.args.self.now _ refl refl (ap (λ (w : RoundState). w.schedule) (made c)) c.self.view_is

@@ -1,12 +1,14 @@
 -- What is left to prove of `Round::reuse`.
 use Rattle.std.proofs.Common.{◌≡◌, length, true, Some, option_map, refl, ap, sym, subst, ◌∙◌}
+use Rattle.std.proofs.lemmas.Result.{err_from_is_err_and}
 use Rattle.std.specs.Arc.{arc_value}
 use Rattle.record_spec.specs.Record.{Record}
 use Rattle.round_spec.specs.declared.events.Event.TheVariants.{Reuse}
 use Rattle.round_spec.specs.Marks.{record_for}
 use Rattle.round_spec.specs.Rounds.{RoundState, can_reuse, happens}
+use Rattle.propagate.specs.Appending.{Trail}
 use Rattle.propagate.proofs.Appending.{Reusable}
-use Rattle.propagate.proofs.Making.{appended, reuse-append, reuse-happens, reuse-kept}
+use Rattle.propagate.proofs.Making.{appended, reuse-append, reuse-happens, reuse-kept, goes-nowhere, goes-more}
 use Rattle.propagate.proofs.round.Round.reuse.Goals as goal
 
 -- the round before, by its parts; what holds of it; and the record that is reused
@@ -44,6 +46,9 @@ reusable c =
 
 pub append-requires-clause-can : goal.append-requires-clause-can
 append-requires-clause-can c = (reusable c).append.can
+
+pub append-requires-clause-few : goal.append-requires-clause-few
+append-requires-clause-few c = (reusable c).append.few
 
 pub append-requires-clause-thread : goal.append-requires-clause-thread
 append-requires-clause-thread c = (reusable c).append.thread
@@ -111,3 +116,33 @@ returns-clause-ok c =
     reuse-happens (start c) (after c) c.self.inside.instructions c.args.t c.self.inside.graph
     (arc_value c.in_ok-rec-in-Some.rec) c.self.invariant (can-2 c) (there-2 c) (made c)
     ∙ ap (λ (w : RoundState). happens w (Reuse c.args.t)) c.self.view_is
+
+pub returns-clause-same : goal.returns-clause-same
+returns-clause-same c =
+    goes-more (after c) (start c) c.args.self.now _ refl refl (ap (λ (w : RoundState). w.schedule) (made c)) c.self.view_is
+
+-- where memory ran out, the round is as before
+
+pub invariant_of-self : goal.invariant_of-self
+invariant_of-self c = rw c.in_err-reserve.ensures.items c.self.invariant
+
+pub invariant_of-self-2 : goal.invariant_of-self-2
+invariant_of-self-2 c = rw c.in_ok-reserve.ensures.items c.self.invariant
+
+pub returns-in_err-reserve-clause-same : goal.returns-in_err-reserve-clause-same
+returns-in_err-reserve-clause-same c =
+    let p = err_from_is_err_and c.from_residual-in_err-reserve.result c.from_residual-in_err-reserve.ensures.1 in
+    rw (p.1, c.in_err-reserve.ensures.items) (goes-nowhere _ c.args.self.now c.self.view_is)
+
+pub returns-in_err-append-clause-same : goal.returns-in_err-append-clause-same
+returns-in_err-append-clause-same c =
+    let p = err_from_is_err_and c.from_residual-in_err-append.result c.from_residual-in_err-append.ensures.1 in
+    let err = c.in_err-append.ensures.err in
+    rw (
+      p.1,
+      ap (λ (t : Trail). t.machine) err,
+      ap (λ (t : Trail). t.schedule) err,
+      ap (λ (t : Trail). t.records) err,
+      c.in_ok-reserve.ensures.items,
+    )
+    (goes-nowhere _ c.args.self.now c.self.view_is)
