@@ -66,4 +66,20 @@ IT_GIVES(int, pthread_rwlock_wrlock, (pthread_rwlock_t *lock), call(IT_CALL_WRLO
 IT_GIVES(int, pthread_rwlock_trywrlock, (pthread_rwlock_t *lock), call(IT_CALL_TRYWRLOCK, lock))
 IT_GIVES(int, pthread_rwlock_unlock, (pthread_rwlock_t *lock), call(IT_CALL_RWUNLOCK, lock))
 
+IT_REPLACEABLE int pthread_rwlockattr_init(pthread_rwlockattr_t *attributes)
+{
+    *attributes = (pthread_rwlockattr_t) { PTHREAD_PROCESS_PRIVATE, PTHREAD_RWLOCK_DEFAULT_NP };
+    return 0;
+}
+
 IT_ATTRIBUTES_OF(IT_REPLACEABLE, rwlockattr)
+
+IT_REPLACEABLE int pthread_rwlockattr_setkind_np(pthread_rwlockattr_t *attributes, int kind)
+{
+    if (kind < PTHREAD_RWLOCK_PREFER_READER_NP || kind > PTHREAD_RWLOCK_PREFER_WRITER_NONRECURSIVE_NP)
+        return EINVAL;
+    attributes->kind = kind;
+    return 0;
+}
+
+IT_ATTRIBUTE(IT_REPLACEABLE, pthread_rwlockattr_getkind_np, pthread_rwlockattr_t, int, kind)
