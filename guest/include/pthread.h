@@ -355,8 +355,8 @@ int pthread_rwlock_init(pthread_rwlock_t *__restrict lock, const pthread_rwlocka
 /* Answers 0; EBUSY: somebody holds it. */
 int pthread_rwlock_destroy(pthread_rwlock_t *lock);
 
-/* Waits until no thread writes and none that came before waits, and reads from then on beside other readers. Answers 0;
-   EDEADLK: the caller writes; EAGAIN: the caller reads already, and a thread has one read lock of it at most. */
+/* Waits until no thread writes and none that came before waits, and reads from then on beside other readers. Who reads
+   already has one read lock more, and doesn't wait. Answers 0; EDEADLK: the caller writes. */
 int pthread_rwlock_rdlock(pthread_rwlock_t *lock);
 
 /* Waits until the lock is the caller's alone, and writes from then on. Answers 0; EDEADLK: the caller holds it. */

@@ -84,7 +84,13 @@ int main(void)
     tried_by_another("tried while free");
     tell("read", pthread_rwlock_rdlock(&lock));
     tried_by_another("tried while read");
+    tell("read more", pthread_rwlock_rdlock(&lock));
+    tell("and more", pthread_rwlock_rdlock(&lock));
     tell("unlocked", pthread_rwlock_unlock(&lock));
+    tell("unlocked", pthread_rwlock_unlock(&lock));
+    tried_by_another("tried while read once");
+    tell("unlocked", pthread_rwlock_unlock(&lock));
+    tried_by_another("tried while free again");
     tell("written", pthread_rwlock_wrlock(&lock));
     tried_by_another("tried while written");
     tell("written again", pthread_rwlock_wrlock(&lock));
