@@ -34,6 +34,9 @@ extern "C" {
 #ifndef _POSIX_BARRIERS
 #define _POSIX_BARRIERS 200809L
 #endif
+#ifndef _POSIX_READER_WRITER_LOCKS
+#define _POSIX_READER_WRITER_LOCKS 200809L
+#endif
 
 /* ---------------------------------------------------------------------------------------------- threads ---- */
 
@@ -336,9 +339,15 @@ int pthread_barrierattr_getpshared(const pthread_barrierattr_t *__restrict attri
 /* ---------------------------------------------------------------------------------------------- reader-writer locks ---- */
 
 typedef struct { int unused; } pthread_rwlock_t;
-typedef struct { int shared; } pthread_rwlockattr_t;
+typedef struct { int shared, kind; } pthread_rwlockattr_t;
 
 #define PTHREAD_RWLOCK_INITIALIZER { 0 }
+
+#define PTHREAD_RWLOCK_PREFER_READER_NP 0
+#define PTHREAD_RWLOCK_PREFER_WRITER_NP 1
+#define PTHREAD_RWLOCK_PREFER_WRITER_NONRECURSIVE_NP 2
+#define PTHREAD_RWLOCK_DEFAULT_NP PTHREAD_RWLOCK_PREFER_READER_NP
+#define PTHREAD_RWLOCK_WRITER_NONRECURSIVE_INITIALIZER_NP { 0 }
 
 /* Answers 0; EAGAIN: 63 are in use. */
 int pthread_rwlock_init(pthread_rwlock_t *__restrict lock, const pthread_rwlockattr_t *__restrict attributes);
@@ -346,8 +355,8 @@ int pthread_rwlock_init(pthread_rwlock_t *__restrict lock, const pthread_rwlocka
 /* Answers 0; EBUSY: somebody holds it. */
 int pthread_rwlock_destroy(pthread_rwlock_t *lock);
 
-/* Waits until no thread writes and none that came before waits, and reads from then on beside other readers. Answers 0;
-   EDEADLK: the caller writes; EAGAIN: the caller reads already, and a thread has one read lock of it at most. */
+/* Waits until no thread writes and none that came before waits, and reads from then on beside other readers. Who reads
+   already has one read lock more, and doesn't wait. Answers 0; EDEADLK: the caller writes. */
 int pthread_rwlock_rdlock(pthread_rwlock_t *lock);
 
 /* Waits until the lock is the caller's alone, and writes from then on. Answers 0; EDEADLK: the caller holds it. */
@@ -368,16 +377,20 @@ int pthread_rwlock_unlock(pthread_rwlock_t *lock);
 int pthread_rwlockattr_init(pthread_rwlockattr_t *attributes);
 int pthread_rwlockattr_destroy(pthread_rwlockattr_t *attributes);
 
+/* Who came first has the lock first, whatever kind is asked for. One of the kinds: 0. Else EINVAL. */
+int pthread_rwlockattr_setkind_np(pthread_rwlockattr_t *attributes, int kind);
+int pthread_rwlockattr_getkind_np(const pthread_rwlockattr_t *__restrict attributes, int *__restrict kind);
+
 /* PTHREAD_PROCESS_PRIVATE and PTHREAD_PROCESS_SHARED: 0; there is one process. Else EINVAL. */
 int pthread_rwlockattr_setpshared(pthread_rwlockattr_t *attributes, int shared);
 int pthread_rwlockattr_getpshared(const pthread_rwlockattr_t *__restrict attributes, int *__restrict shared);
 
 /* ---------------------------------------------------------------------------------------------- once, and keys ---- */
 
-typedef struct { int done; } pthread_once_t;
+typedef int pthread_once_t; /* whether the function has been called */
 typedef unsigned pthread_key_t;
 
-#define PTHREAD_ONCE_INIT { 0 }
+#define PTHREAD_ONCE_INIT 0
 
 /* Calls the function in the first call alone; no call returns before that is done. Answers 0. It takes a mutex's
    number, and keeps it. */

@@ -142,5 +142,18 @@ int pthread_mutexattr_setpshared(pthread_mutexattr_t *attributes, int shared)
 
 IT_ATTRIBUTE(, pthread_mutexattr_getpshared, pthread_mutexattr_t, int, shared)
 
+int pthread_condattr_init(pthread_condattr_t *attributes)
+{
+    attributes->shared = PTHREAD_PROCESS_PRIVATE;
+    return 0;
+}
+
 IT_ATTRIBUTES_OF(, condattr)
+
+int pthread_barrierattr_init(pthread_barrierattr_t *attributes)
+{
+    attributes->shared = PTHREAD_PROCESS_PRIVATE;
+    return 0;
+}
+
 IT_ATTRIBUTES_OF(, barrierattr)

@@ -19,14 +19,9 @@ static inline int it_process(int asked)
         return 0;                                                                                                      \
     }
 
-/* All functions of attributes that only say whether processes share an object: of conditions, barriers and reader-writer
-   locks. */
+/* What the attributes of conditions, barriers and reader-writer locks have, beside their init: whether processes share
+   an object. */
 #define IT_ATTRIBUTES_OF(replaceable, kind)                                                                            \
-    replaceable int pthread_##kind##_init(pthread_##kind##_t *attributes)                                              \
-    {                                                                                                                  \
-        attributes->shared = PTHREAD_PROCESS_PRIVATE;                                                                  \
-        return 0;                                                                                                      \
-    }                                                                                                                  \
     replaceable int pthread_##kind##_destroy(pthread_##kind##_t *attributes)                                           \
     {                                                                                                                  \
         (void)attributes;                                                                                              \

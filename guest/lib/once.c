@@ -5,13 +5,13 @@
 
 int pthread_once(pthread_once_t *once, void (*function)(void))
 {
-    if (once->done)
+    if (*once)
         return 0;
     unsigned number = it_number_or_end(IT_MUTEX, once);
     it_ordered_call(IT_CALL_LOCK, number, 0);
-    if (!once->done) {
+    if (!*once) {
         function();
-        once->done = 1;
+        *once = 1;
     }
     return it_ordered_call(IT_CALL_UNLOCK, number, 0);
 }

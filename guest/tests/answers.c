@@ -148,6 +148,8 @@ static void others(void)
     calls = 0;
     tell("once", pthread_once(&once, count));
     tell("once more", pthread_once(&once, count));
+    once = PTHREAD_ONCE_INIT;
+    tell("once anew", pthread_once(&once, count));
     printf("calls %d\n", calls);
     tell("key", pthread_key_create(&key, NULL));
     printf("at first null: %d\n", pthread_getspecific(key) == NULL);

@@ -79,11 +79,18 @@ static void threads_share(void)
 int main(void)
 {
     pthread_rwlockattr_t attributes;
+    int kind = -1;
     threads_share();
     tried_by_another("tried while free");
     tell("read", pthread_rwlock_rdlock(&lock));
     tried_by_another("tried while read");
+    tell("read more", pthread_rwlock_rdlock(&lock));
+    tell("and more", pthread_rwlock_rdlock(&lock));
     tell("unlocked", pthread_rwlock_unlock(&lock));
+    tell("unlocked", pthread_rwlock_unlock(&lock));
+    tried_by_another("tried while read once");
+    tell("unlocked", pthread_rwlock_unlock(&lock));
+    tried_by_another("tried while free again");
     tell("written", pthread_rwlock_wrlock(&lock));
     tried_by_another("tried while written");
     tell("written again", pthread_rwlock_wrlock(&lock));
@@ -92,6 +99,12 @@ int main(void)
     tell("destroyed", pthread_rwlock_destroy(&lock));
     tell("attributes", pthread_rwlockattr_init(&attributes));
     tell("shared", pthread_rwlockattr_setpshared(&attributes, PTHREAD_PROCESS_SHARED));
+    tell("first kind", pthread_rwlockattr_getkind_np(&attributes, &kind));
+    printf("kind %d\n", kind == PTHREAD_RWLOCK_DEFAULT_NP);
+    tell("kind", pthread_rwlockattr_setkind_np(&attributes, PTHREAD_RWLOCK_PREFER_WRITER_NONRECURSIVE_NP));
+    tell("another kind", pthread_rwlockattr_setkind_np(&attributes, 7));
+    tell("kept kind", pthread_rwlockattr_getkind_np(&attributes, &kind));
+    printf("kind %d\n", kind == PTHREAD_RWLOCK_PREFER_WRITER_NONRECURSIVE_NP);
     tell("init", pthread_rwlock_init(&lock, &attributes));
     tell("read", pthread_rwlock_rdlock(&lock));
     tell("unlocked", pthread_rwlock_unlock(&lock));

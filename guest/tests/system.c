@@ -47,6 +47,7 @@ int main(void)
     printf("page: %ld %d\n", sysconf(_SC_PAGESIZE), sysconf(_SC_PAGESIZE) == getpagesize());
     printf("processors: %d\n", sysconf(_SC_NPROCESSORS_ONLN) > 0);
     printf("threads, semaphores: %ld %ld\n", sysconf(_SC_THREADS), sysconf(_SC_SEMAPHORES));
+    printf("reader-writer locks: %ld %ld\n", sysconf(_SC_READER_WRITER_LOCKS), (long)_POSIX_READER_WRITER_LOCKS);
     printf("rounds of destructors: %ld\n", sysconf(_SC_THREAD_DESTRUCTOR_ITERATIONS));
     errno = 0;
     long answer = sysconf(-1);

@@ -8,6 +8,9 @@
 
 static struct table locks;
 
+/* How many read locks the thread has of each lock beside the machine's one. */
+static _Thread_local unsigned more[IT_OBJECTS];
+
 /* The number of a lock: one that isn't known gets one. -1 if all are given out. */
 static int number_of(const pthread_rwlock_t *lock)
 {
@@ -25,12 +28,17 @@ static int number_of(const pthread_rwlock_t *lock)
     return number;
 }
 
-static int call(enum it_call which, const pthread_rwlock_t *lock)
+static unsigned number_or_end(const pthread_rwlock_t *lock)
 {
     int number = number_of(lock);
     if (number < 0)
         it_end_by("more than 63 reader-writer locks are in use");
-    switch (it_ordered_call(which, (unsigned)number, 0)) {
+    return (unsigned)number;
+}
+
+static int call(enum it_call which, unsigned number)
+{
+    switch (it_ordered_call(which, number, 0)) {
     case 0:
         return 0;
     case -IT_EPERM:
@@ -52,18 +60,53 @@ IT_REPLACEABLE int pthread_rwlock_init(pthread_rwlock_t *restrict lock, const pt
 
 IT_REPLACEABLE int pthread_rwlock_destroy(pthread_rwlock_t *lock)
 {
-    if (call(IT_CALL_TRYWRLOCK, lock) != 0)
+    unsigned number = number_or_end(lock);
+    if (call(IT_CALL_TRYWRLOCK, number) != 0)
         return EBUSY;
-    call(IT_CALL_RWUNLOCK, lock);
+    call(IT_CALL_RWUNLOCK, number);
     it_lock_library();
-    locks.object[number_of(lock)] = GONE;
+    locks.object[number] = GONE;
     it_unlock_library();
     return 0;
 }
 
-IT_GIVES(int, pthread_rwlock_rdlock, (pthread_rwlock_t *lock), call(IT_CALL_RDLOCK, lock))
-IT_GIVES(int, pthread_rwlock_wrlock, (pthread_rwlock_t *lock), call(IT_CALL_WRLOCK, lock))
-IT_GIVES(int, pthread_rwlock_trywrlock, (pthread_rwlock_t *lock), call(IT_CALL_TRYWRLOCK, lock))
-IT_GIVES(int, pthread_rwlock_unlock, (pthread_rwlock_t *lock), call(IT_CALL_RWUNLOCK, lock))
+/* The machine answers EAGAIN to who reads already. */
+IT_REPLACEABLE int pthread_rwlock_rdlock(pthread_rwlock_t *lock)
+{
+    unsigned number = number_or_end(lock);
+    int answer = call(IT_CALL_RDLOCK, number);
+    if (answer != EAGAIN)
+        return answer;
+    more[number]++;
+    return 0;
+}
+
+IT_GIVES(int, pthread_rwlock_wrlock, (pthread_rwlock_t *lock), call(IT_CALL_WRLOCK, number_or_end(lock)))
+IT_GIVES(int, pthread_rwlock_trywrlock, (pthread_rwlock_t *lock), call(IT_CALL_TRYWRLOCK, number_or_end(lock)))
+
+IT_REPLACEABLE int pthread_rwlock_unlock(pthread_rwlock_t *lock)
+{
+    unsigned number = number_or_end(lock);
+    if (more[number] == 0)
+        return call(IT_CALL_RWUNLOCK, number);
+    more[number]--;
+    return 0;
+}
+
+IT_REPLACEABLE int pthread_rwlockattr_init(pthread_rwlockattr_t *attributes)
+{
+    *attributes = (pthread_rwlockattr_t) { PTHREAD_PROCESS_PRIVATE, PTHREAD_RWLOCK_DEFAULT_NP };
+    return 0;
+}
 
 IT_ATTRIBUTES_OF(IT_REPLACEABLE, rwlockattr)
+
+IT_REPLACEABLE int pthread_rwlockattr_setkind_np(pthread_rwlockattr_t *attributes, int kind)
+{
+    if (kind < PTHREAD_RWLOCK_PREFER_READER_NP || kind > PTHREAD_RWLOCK_PREFER_WRITER_NONRECURSIVE_NP)
+        return EINVAL;
+    attributes->kind = kind;
+    return 0;
+}
+
+IT_ATTRIBUTE(IT_REPLACEABLE, pthread_rwlockattr_getkind_np, pthread_rwlockattr_t, int, kind)

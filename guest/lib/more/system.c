@@ -45,6 +45,7 @@ IT_REPLACEABLE long sysconf(int name)
     case _SC_SEMAPHORES:
     case _SC_BARRIERS:
     case _SC_SPIN_LOCKS:
+    case _SC_READER_WRITER_LOCKS:
     case _SC_THREAD_SAFE_FUNCTIONS:
     case _SC_THREAD_PROCESS_SHARED:
     case _SC_THREAD_ATTR_STACKSIZE:
