@@ -48,6 +48,7 @@ static IT_NOINLINE unsigned early(unsigned n) { for (unsigned k = 0; k < n; k++)
 static IT_NOINLINE unsigned later(unsigned n) { for (unsigned k = 0; k < n; k++) it_yield(); return n + 1; }
 int main(void) { return (early(120) + later(120)) & 1; }
 """
+STEPS = {"early": 121, "later": 120}  # the first step, and those behind a call in the function
 
 
 # The picture, taken apart.
@@ -249,12 +250,13 @@ def check_functions(checks):
     _, printed, _ = program("run", *words, "--workers", "1", "--memo", memo)
     status, drawn, said = tool("timeline", checks.file("reports", printed), "--memo", memo, "--symbols", elf)
     if checks.expect(f"timeline by functions: {status} {said}", status == 0):
-        for one, kind in zip(rounds_of(drawn), ("0 reused, 120 executed", "120 reused, 0 executed")):
+        for one, kind in zip(rounds_of(drawn), ("0 reused, {} executed", "{} reused, 0 executed")):
             titles = [title for _, _, title, *_ in boxes_of(one)]
             names = [text.text for text in one.iter(f"{NAMESPACE}text") if text.get("class") == "call"]
+            right = all(f": {kind.format(count)}\n" in title and f"\nin: {count} {name}\n" in title
+                        for title, (name, count) in zip(titles, STEPS.items()))
             checks.expect(f"timeline by functions: the boxes are {titles}, and have the names {names}",
-                          {"early", "later"} <= set(names) and
-                          all(any(kind in it and f"in: 120 {name}" in it for it in titles) for name in ("early", "later")))
+                          right and names == list(STEPS) and len(titles) == len(STEPS))
     for more, wanted in ((("--symbols", elf), "usage"), (("--memo", memo, "--symbols", PAIR[0]), "no symbol table")):
         status, _, said = ran_whole(str(ROOT / "tools/timeline"), str(checks.folder / "reports"), *map(str, more))
         checks.expect(f"timeline {more}: {status} {said}", status == 2 and wanted in said)
