@@ -190,15 +190,15 @@ guest_commands =
 
 -- The same, and the commands that look at a memo.
 abbrev pub memo_commands : App
-memo_commands =
-    with_subcommand
-    (with_subcommand
-    (with_subcommand (with_subcommand guest_commands show_command.top) explain_command.top) audit_command.top)
-    races_command.top
+memo_commands = with_subcommand (with_subcommand guest_commands show_command.top) explain_command.top
+
+-- The same, and the commands that judge the run of a memo.
+abbrev pub judging_commands : App
+judging_commands = with_subcommand (with_subcommand memo_commands audit_command.top) races_command.top
 
 -- The program's command line: the program and its commands.
 unfoldable pub command_line : App
-command_line = with_subcommand memo_commands generate_command.top
+command_line = with_subcommand judging_commands generate_command.top
 
 -- Whether an option that has no argument was given: the parser then has the word true for it.
 abbrev pub flag_given : Option Text → Bool

@@ -259,8 +259,14 @@ fn memo_commands<'a>(alloc: Global) -> Result<Command<'a>, AllocError>
     ensures { IfOk result (λ c. app_of c ≡ line.memo_commands) }
 {
     let program = with_command(guest_commands(alloc)?, show_command(alloc)?)?;
-    let program = with_command(program, explain_command(alloc)?)?;
-    let program = with_command(program, audit_command(alloc)?)?;
+    with_command(program, explain_command(alloc)?)
+}
+
+/// The same, and the commands that judge the run of a memo.
+fn judging_commands<'a>(alloc: Global) -> Result<Command<'a>, AllocError>
+    ensures { IfOk result (λ c. app_of c ≡ line.judging_commands) }
+{
+    let program = with_command(memo_commands(alloc)?, audit_command(alloc)?)?;
     with_command(program, races_command(alloc)?)
 }
 
@@ -273,5 +279,5 @@ fn memo_commands<'a>(alloc: Global) -> Result<Command<'a>, AllocError>
 pub fn command_line<'a>(alloc: Global) -> Result<Command<'a>, AllocError>
     ensures { IfOk result (λ c. app_of c ≡ line.command_line) }
 {
-    with_command(memo_commands(alloc)?, generate_command(alloc)?)
+    with_command(judging_commands(alloc)?, generate_command(alloc)?)
 }
