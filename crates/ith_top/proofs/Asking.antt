@@ -120,6 +120,7 @@ unread_front files more a b status.Memory why =
     }
 unread_front files more a b status.TooLarge why = stops_front (IsLong a) files more a b why
 unread_front files more a b status.Schedule why = why
+unread_front files more a b status.Untrue why = why
 
 stops_more :
     (cause other : Named → Type 0) (done files : List Named) (a b c : World)
@@ -164,6 +165,7 @@ unread_more done files a b c status.Memory stays fell asked within why =
 unread_more done files a b c status.TooLarge stays fell asked within why =
     stops_more (IsLong b) (IsLong a) done files a b c (λ f it. long_before a b f stays it) stays asked within why
 unread_more done files a b c status.Schedule stays fell asked within why = why
+unread_more done files a b c status.Untrue stays fell asked within why = why
 
 -- the names before a place, the one there, and those after it
 pub split_at : (names : List Text) (place : ℕ) (name : Text) → place < length names → name ≡ get_or names place name

@@ -18,14 +18,14 @@ use Rattle.ith_host.specs.World.{World, Rose}
 use Rattle.elf_spec.specs.Image.{is_image}
 use Rattle.rerun_spec.specs.Inputs.{AreInputs, AreRerunInputs}
 use Rattle.rerun_spec.proofs.Inputs.{inputs-unrefused, rerun-unrefused}
-use Rattle.ith_words.specs.Words.{Text, Line, Runs, Reruns, Replays, Shows, Explains, Generates, RunLine, RerunLine, ReplayLine, ShowLine, ExplainLine, GenerateLine}
+use Rattle.ith_words.specs.Words.{Text, Line, Runs, Reruns, Replays, Shows, Explains, Audits, Generates, RunLine, RerunLine, ReplayLine, ShowLine, ExplainLine, AuditLine, GenerateLine}
 use Rattle.ith_top.specs.declared.status.Status.{Status}
 use Rattle.ith_top.specs.declared.status.Status.TheVariants as status
 use Rattle.ith_top.specs.Statuses.{code_of}
 use Rattle.ith_top.specs.Files.{Named, StopsAt, FailedToRead, IsLong, files_named, lists_named, memo_named}
 use Rattle.ith_top.specs.Contents.{AreLists, ReplayContents, AreReplayContents, replay_setup_of, CanBeReplayed, IsMemoContent, IsMemoOf, as_rerun}
-use Rattle.ith_top.specs.Ends.{OfNone, IsUnkept, IsUnprinted, ScheduleRefusal, Token, Entry, Incomplete, RefusesSchedule, IsRerunListRefused, RoundsEnd, ReplayEnds, ShowEnds, ExplainEnds, GenerateEnds, Answers}
-use Rattle.ith_top.specs.Completing.{AreTold, HasNoFault, AreAccepted, IsAcceptedMemo, AreRerunAccepted, IsReplayAccepted, IsCompleted, IsTold, IsListed, Completes}
+use Rattle.ith_top.specs.Ends.{OfNone, IsUnkept, IsUnprinted, ScheduleRefusal, Token, Entry, Incomplete, RefusesSchedule, IsRerunListRefused, RoundsEnd, ReplayEnds, ShowEnds, ExplainEnds, AuditEnds, GenerateEnds, Answers}
+use Rattle.ith_top.specs.Completing.{AreTold, HasNoFault, AreAccepted, IsAcceptedMemo, AreRerunAccepted, IsReplayAccepted, IsCompleted, IsTold, IsListed, IsJudged, Completes}
 use Rattle.ith_top.proofs.Permitting.{first-permitted}
 
 none_there : (fact : Named → Type 0) (earlier : List Named) (file : Named) (later : List Named)
@@ -146,6 +146,7 @@ run_by line before after answer status.TooLarge is ends are none =
       | inr large ↦ inr (inr (inr (is, large)))
     ]
 run_by line before after answer status.Schedule is ends are none = absurd ends
+run_by line before after answer status.Untrue is ends are none = absurd ends
 
 -- one memo, told, is of one history
 one-memo : (memo other : List ℕ) (h k : History) → memo ≡ other → IsMemoOf memo h → IsMemoOf other k → h ≡ k
@@ -201,6 +202,7 @@ rerun_by line before after answer status.TooLarge is ends are none =
       | inr large ↦ inr (inr (inr (is, large)))
     ]
 rerun_by line before after answer status.Schedule is ends are none = absurd ends
+rerun_by line before after answer status.Untrue is ends are none = absurd ends
 
 show_by :
     (line : ShowLine) (before after : World) (answer : ℕ) (s : Status)
@@ -221,6 +223,7 @@ show_by line before after answer status.TooLarge is ends memo none =
     absurd (none_stops (IsLong before) (files_named (Shows line)) before after
     (memo-short line.memo before memo, tt) ends.stops)
 show_by line before after answer status.Schedule is ends memo none = absurd ends
+show_by line before after answer status.Untrue is ends memo none = absurd ends
 
 -- what a schedule to replay says and comes to isn't refused
 schedule-unrefused :
@@ -300,6 +303,7 @@ replay_by line before after answer status.Schedule is ends are none =
     (schedule-unrefused (replay_setup_of line ends.contents) ends.contents.schedule are.threads ends.why
     (subst (λ (c : ReplayContents). CanBeReplayed (replay_setup_of line c) c.schedule are.threads) same are.can)
     ends.refused)
+replay_by line before after answer status.Untrue is ends are none = absurd ends
 
 generate_by :
     (line : GenerateLine) (before after : World) (answer : ℕ) (s : Status)
@@ -315,6 +319,7 @@ generate_by line before after answer status.WriteFault is ends none = absurd (no
 generate_by line before after answer status.Memory is ends none = inr (inr is)
 generate_by line before after answer status.TooLarge is ends none = absurd ends
 generate_by line before after answer status.Schedule is ends none = absurd ends
+generate_by line before after answer status.Untrue is ends none = absurd ends
 
 explain_by :
     (line : ExplainLine) (before after : World) (answer : ℕ) (s : Status)
@@ -335,6 +340,23 @@ explain_by line before after answer status.TooLarge is ends are none =
     ends.stops)
 explain_by line before after answer _ is ends are none = absurd ends
 
+audit_by :
+    (line : AuditLine) (before after : World) (answer : ℕ) (s : Status)
+    → answer ≡ code_of s → AuditEnds line before after s → IsAcceptedMemo line.memo before
+    → HasNoFault (Audits line) before after → IsJudged answer
+audit_by line before after answer status.Finished is ends memo none = inl is
+audit_by line before after answer status.Untrue is ends memo none = inr (inl is)
+audit_by line before after answer status.Memo is ends memo none =
+    absurd (unrefused line.memo before ends.memo ends.why memo ends.read ends.refused)
+audit_by line before after answer status.ReadFault is ends memo none =
+    absurd (none_stops (FailedToRead before after) (files_named (Audits line)) before after none.reads ends.stops)
+audit_by line before after answer status.WriteFault is ends memo none = absurd (none.prints ends.part.cause)
+audit_by line before after answer status.Memory is ends memo none = inr (inr is)
+audit_by line before after answer status.TooLarge is ends memo none =
+    absurd (none_stops (IsLong before) (files_named (Audits line)) before after
+    (memo-short line.memo before memo, tt) ends.stops)
+audit_by line before after answer _ is ends memo none = absurd ends
+
 pub complete : (line : Option Line) (before after : World) (answer : ℕ) → Answers line before after answer
     → Completes line before after answer
 complete None before after answer answers = tt
@@ -350,3 +372,5 @@ complete (Some (Explains line)) before after answer answers =
     λ are none. explain_by line before after answer answers.0 answers.1 answers.2 are none
 complete (Some (Shows line)) before after answer answers =
     λ memo none. show_by line before after answer answers.0 answers.1 answers.2 memo none
+complete (Some (Audits line)) before after answer answers =
+    λ memo none. audit_by line before after answer answers.0 answers.1 answers.2 memo none

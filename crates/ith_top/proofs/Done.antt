@@ -203,6 +203,7 @@ cut_short line a b c p found status.Memory is playable spelled asked none stays 
     })
 cut_short line a b c p found status.TooLarge is playable spelled asked none stays fell are cause = absurd cause
 cut_short line a b c p found status.Schedule is playable spelled asked none stays fell are cause = absurd cause
+cut_short line a b c p found status.Untrue is playable spelled asked none stays fell are cause = absurd cause
 
 -- all texts were printed, and the memo wasn't written
 unkept :
@@ -260,6 +261,7 @@ unkept line a b m c p found name status.TooLarge is can spelled asked none stays
           (prints_after a b m (concat (texts_of p found)) stays prints) cause.stays;
     })
 unkept line a b m c p found name status.Schedule _ _ _ _ _ _ _ _ _ _ _ _ cause = absurd cause
+unkept line a b m c p found name status.Untrue _ _ _ _ _ _ _ _ _ _ _ _ cause = absurd cause
 
 -- not all was done
 pub undone :

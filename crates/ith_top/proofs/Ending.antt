@@ -130,6 +130,7 @@ unread_ends line a b status.WriteFault stays why = absurd why
 unread_ends line a b status.Memory stays why = record { asked = why; stays = stays }
 unread_ends line a b status.TooLarge stays why = record { stops = why; stays = stays }
 unread_ends line a b status.Schedule stays why = absurd why
+unread_ends line a b status.Untrue stays why = absurd why
 
 pub unbegun : (line : Line) (a b : World) → AsksForFiles (files_named line) a b → Stays a b → IsUnbegun line a b
 unbegun line a b asked stays =
@@ -174,6 +175,7 @@ refused_ends line a b c contents status.Memory asked none stays then are why =
     cut_ends (Runs line) a b c asked none stays then
 refused_ends line a b c contents status.TooLarge asked none stays then are why = absurd why
 refused_ends line a b c contents status.Schedule asked none stays then are why = absurd why
+refused_ends line a b c contents status.Untrue asked none stays then are why = absurd why
 
 -- all files were read, and no history was had from the memo
 pub forgotten_ends :
@@ -203,6 +205,7 @@ forgotten_ends line a b c memo lists status.Memory asked none stays then read to
     cut_ends (Reruns line) a b c asked none stays then
 forgotten_ends line a b c memo lists status.TooLarge asked none stays then read told why = absurd why
 forgotten_ends line a b c memo lists status.Schedule asked none stays then read told why = absurd why
+forgotten_ends line a b c memo lists status.Untrue asked none stays then read told why = absurd why
 
 -- the executable was accepted, and the edit lists made no inputs
 pub unedited_ends :
@@ -231,6 +234,7 @@ unedited_ends line a b c contents status.Memory asked none stays then read why =
     cut_ends (Runs line) a b c asked none stays then
 unedited_ends line a b c contents status.TooLarge asked none stays then read why = absurd why
 unedited_ends line a b c contents status.Schedule asked none stays then read why = absurd why
+unedited_ends line a b c contents status.Untrue asked none stays then read why = absurd why
 
 -- the memo was accepted, and the edit lists made no inputs
 pub rerun_unedited_ends :
@@ -263,6 +267,7 @@ rerun_unedited_ends line a b c memo lists h status.Memory asked none stays then 
     cut_ends (Reruns line) a b c asked none stays then
 rerun_unedited_ends line a b c memo lists h status.TooLarge asked none stays then read told is why = absurd why
 rerun_unedited_ends line a b c memo lists h status.Schedule asked none stays then read told is why = absurd why
+rerun_unedited_ends line a b c memo lists h status.Untrue asked none stays then read told is why = absurd why
 
 -- the memo to show wasn't read
 pub show_unread : (line : ShowLine) (a b : World) (s : Status) → Stays a b → WhyUnread (files_named (Shows line)) a b s
@@ -278,6 +283,7 @@ show_unread line a b status.WriteFault stays why = absurd why
 show_unread line a b status.Memory stays why = record { asked = why; stays = stays }
 show_unread line a b status.TooLarge stays why = record { stops = why; stays = stays }
 show_unread line a b status.Schedule stays why = absurd why
+show_unread line a b status.Untrue stays why = absurd why
 
 -- the memo to show was read, and then the host's memory ran out
 pub show_cut : (line : ShowLine) (a b c : World) → AsksForFiles (files_named (Shows line)) a b → AsksNothing b c
@@ -309,3 +315,4 @@ show_forgotten line a b c memo status.WriteFault asked none stays then read why 
 show_forgotten line a b c memo status.Memory asked none stays then read why = show_cut line a b c asked none stays then
 show_forgotten line a b c memo status.TooLarge asked none stays then read why = absurd why
 show_forgotten line a b c memo status.Schedule asked none stays then read why = absurd why
+show_forgotten line a b c memo status.Untrue asked none stays then read why = absurd why

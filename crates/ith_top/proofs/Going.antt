@@ -359,6 +359,7 @@ going_unprinted b workers inputs a w v now input rest exit text ended left earli
 going_unprinted b workers inputs a w v now input rest exit text ended left earlier later status.TooLarge going one count most cause =
     absurd cause
 going_unprinted b workers inputs a w v now input rest exit text ended left earlier later status.Schedule going one count most cause = absurd cause
+going_unprinted b workers inputs a w v now input rest exit text ended left earlier later status.Untrue going one count most cause = absurd cause
 
 -- of short inputs the first is short, and so are the others
 pub short_first : (input : List ℕ) (rest : List (List ℕ)) → AreShort (input ∷ rest) → length input ≤ MOST_INPUT_BYTES

@@ -10,6 +10,7 @@ pub mod Going
 pub mod Promises
 pub mod Done
 pub mod Listed
+pub mod Audited
 pub mod Explained
 pub mod Permitting
 pub mod Replayed

@@ -63,3 +63,4 @@ unshown line a b c memo h status.WriteFault asked none stays fell read is why =
 unshown line a b c memo h status.Memory asked none stays fell read is why = show_cut line a b c asked none stays why
 unshown line a b c memo h status.TooLarge asked none stays fell read is why = absurd why
 unshown line a b c memo h status.Schedule asked none stays fell read is why = absurd why
+unshown line a b c memo h status.Untrue asked none stays fell read is why = absurd why

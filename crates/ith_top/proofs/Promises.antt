@@ -19,7 +19,7 @@ use Rattle.rerun_spec.proofs.Ending.{left-own}
 use Rattle.round_memo_spec.specs.Spelled.{IsSpelledPast}
 use Rattle.round_memo_spec.proofs.Events.{round-spelled}
 use Rattle.ith_host.specs.World.{World}
-use Rattle.ith_words.specs.Words.{Line, Runs, Reruns, Replays, Shows, Explains, Generates, RerunLine}
+use Rattle.ith_words.specs.Words.{Line, Runs, Reruns, Replays, Shows, Explains, Audits, Generates, RerunLine}
 use Rattle.ith_top.specs.Contents.{Plan, IsRerunPlan, IsPlan, setup_of, as_rerun, workers_of, fuel_of}
 use Rattle.ith_top.specs.Rounds.{IsPromised, ArePromised, OnlyRepeats, BeginsHonestly, CanBeKept, rounds_of}
 use Rattle.ith_top.specs.Ends.{left_of}
@@ -147,6 +147,7 @@ promised_of (Replays line) a p found is playable spelled are honest = absurd is
 promised_of (Shows line) a p found is playable spelled are honest = absurd is
 promised_of (Explains line) a p found is playable spelled are honest =
     promised_rerun (as_rerun line) a p found is playable spelled are honest
+promised_of (Audits line) a p found is playable spelled are honest = absurd is
 promised_of (Generates line) a p found is playable spelled are honest =
     promised_from_scratch line.workers _ false p found is.beginning playable spelled are
 

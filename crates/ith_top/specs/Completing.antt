@@ -4,7 +4,7 @@ use Rattle.std.specs.List.{AllZip}
 use Rattle.history_spec.specs.History.{History}
 use Rattle.rerun_spec.specs.Inputs.{AreInputs, AreRerunInputs}
 use Rattle.ith_host.specs.World.{World, Rose}
-use Rattle.ith_words.specs.Words.{Text, Line, Runs, Reruns, Replays, Shows, Explains, Generates, RunLine, RerunLine, ReplayLine}
+use Rattle.ith_words.specs.Words.{Text, Line, Runs, Reruns, Replays, Shows, Explains, Audits, Generates, RunLine, RerunLine, ReplayLine}
 use Rattle.ith_top.specs.declared.status.Status.TheVariants as status
 use Rattle.ith_top.specs.Files.{FailedToRead, files_named}
 use Rattle.ith_top.specs.Contents.{AreLists, Contents, WasRead, ReplayContents, WasReplayRead, replay_setup_of, CanBeReplayed, IsMemoContent, IsMemoOf, as_rerun}
@@ -78,6 +78,11 @@ IsTold answer =
 abbrev pub IsListed : ℕ → Type 0
 IsListed answer = (answer ≡ code_of status.Finished) ⊎ (answer ≡ code_of status.Memory)
 
+-- The verdict of a memo was printed whole, or the host's memory ran out.
+abbrev pub IsJudged : ℕ → Type 0
+IsJudged answer =
+    (answer ≡ code_of status.Finished) ⊎ ((answer ≡ code_of status.Untrue) ⊎ (answer ≡ code_of status.Memory))
+
 -- Where nothing stands in its way, a line is done, or the host's memory ran out.
 abbrev pub Completes : Option Line → World → World → ℕ → Type 0
 Completes None before after answer = Unit {0}
@@ -92,3 +97,5 @@ Completes (Some (Shows line)) before after answer =
     IsAcceptedMemo line.memo before → HasNoFault (Shows line) before after → IsListed answer
 Completes (Some (Explains line)) before after answer =
     AreRerunAccepted (as_rerun line) before → HasNoFault (Explains line) before after → IsListed answer
+Completes (Some (Audits line)) before after answer =
+    IsAcceptedMemo line.memo before → HasNoFault (Audits line) before after → IsJudged answer

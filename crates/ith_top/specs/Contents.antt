@@ -18,7 +18,7 @@ use Rattle.rv_asm.specs.Guest.{IsGuest}
 use Rattle.guest_gen.specs.declared.guest.TheConstants.{BASE, ITEMS, ZEROS}
 use Rattle.guest_gen.specs.Generated.{input_of, list_of}
 use Rattle.ith_host.specs.World.{World, IsContent}
-use Rattle.ith_words.specs.Words.{Text, Line, Runs, Reruns, Replays, Shows, Explains, Generates, RunLine, RerunLine, ReplayLine, ExplainLine, default_fuel, default_limit}
+use Rattle.ith_words.specs.Words.{Text, Line, Runs, Reruns, Replays, Shows, Explains, Audits, Generates, RunLine, RerunLine, ReplayLine, ShowLine, ExplainLine, AuditLine, default_fuel, default_limit}
 
 -- Contents of edit lists, which agree with each that is told, and are within their limit.
 abbrev pub AreLists : World → List Text → List (List ℕ) → Type 0
@@ -123,6 +123,10 @@ abbrev pub as_rerun : ExplainLine → RerunLine
 as_rerun line =
     record { memo = line.memo; edits = line.edits ∷ []; workers = 1; fuel = None; kept = None; reach = false }
 
+-- The line that lists the memo which a line audits.
+abbrev pub as_show : AuditLine → ShowLine
+as_show line = record { memo = line.memo }
+
 -- The plan for the guest that is generated from a number: round 0 is from scratch, on the generated input, with the
 -- limits of a line that names none; and round 1 is on this input after the generated edit.
 pub record IsGeneratedPlan (number : ℕ) (p : Plan) : Type 0 where
@@ -132,13 +136,14 @@ pub record IsGeneratedPlan (number : ℕ) (p : Plan) : Type 0 where
       (record { elf = elf; input = input_of number; fuel = default_fuel; limit = default_limit }) false
   pub edited : AreInputs (input_of number) (list_of number ∷ []) p.inputs
 
--- A plan of a line; lines that replay a schedule or show a memo ask for no rounds.
+-- A plan of a line; lines that replay a schedule, show a memo or audit one ask for no rounds.
 abbrev pub IsPlan : Line → World → Plan → Type 0
 IsPlan (Runs line) before p = IsRunPlan line before p
 IsPlan (Reruns line) before p = IsRerunPlan line before p
 IsPlan (Replays line) before p = ⊥
 IsPlan (Shows line) before p = ⊥
 IsPlan (Explains line) before p = IsRerunPlan (as_rerun line) before p
+IsPlan (Audits line) before p = ⊥
 IsPlan (Generates line) before p = IsGeneratedPlan line.number p
 
 -- How many workers a line that asks for rounds has.
@@ -148,4 +153,5 @@ workers_of (Reruns line) = line.workers
 workers_of (Replays line) = 0
 workers_of (Shows line) = 0
 workers_of (Explains line) = 1
+workers_of (Audits line) = 0
 workers_of (Generates line) = line.workers

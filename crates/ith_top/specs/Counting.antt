@@ -1,6 +1,6 @@
 -- How many rounds the workers of a line make.
 use Rattle.std.specs.Prelude.{◌≡◌, ℕ, ◌+◌, ◌≤◌, length, max}
-use Rattle.ith_words.specs.Words.{Line, Runs, Reruns, Replays, Shows, Explains, Generates}
+use Rattle.ith_words.specs.Words.{Line, Runs, Reruns, Replays, Shows, Explains, Audits, Generates}
 use Rattle.ith_top.specs.declared.status.Status.{Status}
 use Rattle.ith_top.specs.declared.status.Status.TheVariants as status
 
@@ -12,6 +12,7 @@ rounds_asked (Reruns line) = max 1 (length line.edits)
 rounds_asked (Replays line) = 0
 rounds_asked (Shows line) = 0
 rounds_asked (Explains line) = 0
+rounds_asked (Audits line) = 0
 rounds_asked (Generates line) = 2
 
 -- As many rounds were made as a line asks for, where it is done; none where what it names isn't read or is refused; and

@@ -10,6 +10,8 @@ use Rattle.memo_spec.specs.declared.Refusal.{Refusal as MemoRefusal}
 use Rattle.memo_spec.specs.declared.TheConstants.{MOST_MEMO_BYTES}
 use Rattle.memo_spec.specs.Spelling.{memo}
 use Rattle.memo_spec.specs.Reading.{reading}
+use Rattle.audit_spec.specs.Audit.{IsVerdict, turns_of}
+use Rattle.memo_audit.specs.Text.{audit_text}
 use Rattle.memo_listing.specs.Listing.{listing}
 use Rattle.rerun_spec.specs.Inputs.{Refusal, IsFirstRefused}
 use Rattle.plain_machine.specs.Replaying.{IsFirstForbidden}
@@ -19,11 +21,11 @@ use Rattle.round_report.specs.Short.{short_of}
 use Rattle.rerun_spec.specs.Rounds.{Found, Round, IsMade, last_left}
 use Rattle.rerun_spec.specs.Reports.{is_exit, all_exit, made_reports, all_made_exit}
 use Rattle.schedule_list.specs.Schedule.{Says}
-use Rattle.ith_words.specs.Words.{Text, Line, Runs, Reruns, Replays, Shows, Explains, Generates, RunLine, RerunLine, ReplayLine, ShowLine, ExplainLine, GenerateLine}
+use Rattle.ith_words.specs.Words.{Text, Line, Runs, Reruns, Replays, Shows, Explains, Audits, Generates, RunLine, RerunLine, ReplayLine, ShowLine, ExplainLine, AuditLine, GenerateLine}
 use Rattle.ith_top.specs.declared.status.Status.{Status}
 use Rattle.ith_top.specs.declared.status.Status.TheVariants as status
 use Rattle.ith_top.specs.Files.{Named, files_named, AsksForFiles, AsksForSome, StopsAt, FailedToRead, IsLong}
-use Rattle.ith_top.specs.Contents.{AreLists, Contents, AreContents, WasRead, ReplayContents, AreReplayContents, WasReplayRead, replay_setup_of, CanBeReplayed, IsMemoContent, IsMemoOf, Plan, IsPlan, as_rerun, workers_of}
+use Rattle.ith_top.specs.Contents.{AreLists, Contents, AreContents, WasRead, ReplayContents, AreReplayContents, WasReplayRead, replay_setup_of, CanBeReplayed, IsMemoContent, IsMemoOf, Plan, IsPlan, as_rerun, as_show, workers_of}
 use Rattle.ith_top.specs.Rounds.{rounds_of, BeginsHonestly, ArePromised, CanBeKept}
 use Rattle.ith_top.specs.Explaining.{explained_round, AreTheReasons, why_of}
 use Rattle.ith_top.specs.Statuses.{code_of}
@@ -60,6 +62,7 @@ kept_by (Reruns line) = line.kept
 kept_by (Replays line) = None
 kept_by (Shows line) = None
 kept_by (Explains line) = None
+kept_by (Audits line) = None
 kept_by (Generates line) = None
 
 -- Of the files nothing changed, and these bytes were printed.
@@ -232,6 +235,26 @@ pub record IsUnshown (line : ShowLine) (before after : World) : Type 0 where
   pub has : HasHistory line before
   pub part : IsPrintedInPart (listing has.history ∷ []) before after
 
+-- The lines that tell of the audit of a history: how many records it has, how many turns their thunks make, and the
+-- verdict.
+abbrev pub audit_of : History → Option ℕ → List ℕ
+audit_of h place = audit_text (length h.records) (turns_of h) place
+
+-- A memo was audited, with this verdict, which is right: exactly the lines that tell of it were printed.
+pub record IsAudited (line : AuditLine) (place : Option ℕ) (before after : World) : Type 0 where
+  pub asked : AsksForFiles (files_named (Audits line)) before after
+  pub has : HasHistory (as_show line) before
+  pub verdict : IsVerdict has.history place
+  pub prints : Prints before after (audit_of has.history place)
+
+-- Printing failed, and the first bytes of the lines that tell of the audit were printed, any number of them.
+pub record IsUnaudited (line : AuditLine) (before after : World) : Type 0 where
+  pub asked : AsksForFiles (files_named (Audits line)) before after
+  pub has : HasHistory (as_show line) before
+  pub place : Option ℕ
+  pub verdict : IsVerdict has.history place
+  pub part : IsPrintedInPart (audit_of has.history place ∷ []) before after
+
 -- The executable of a line that replays a schedule is refused, and nothing was printed.
 pub record IsReplayImageRefused (line : ReplayLine) (before after : World) : Type 0 where
   pub asked : AsksForFiles (files_named (Replays line)) before after
@@ -344,6 +367,7 @@ RefusesImage (Reruns line) before after = ⊥
 RefusesImage (Replays line) before after = IsReplayImageRefused line before after
 RefusesImage (Shows line) before after = ⊥
 RefusesImage (Explains line) before after = ⊥
+RefusesImage (Audits line) before after = ⊥
 RefusesImage (Generates line) before after = ⊥
 
 -- A line's memo is refused.
@@ -353,6 +377,7 @@ RefusesMemo (Reruns line) before after = IsRerunMemoRefused line before after
 RefusesMemo (Replays line) before after = ⊥
 RefusesMemo (Shows line) before after = IsMemoRefused line before after
 RefusesMemo (Explains line) before after = IsRerunMemoRefused (as_rerun line) before after
+RefusesMemo (Audits line) before after = IsMemoRefused (as_show line) before after
 RefusesMemo (Generates line) before after = ⊥
 
 -- An edit list of a line is refused.
@@ -362,6 +387,7 @@ RefusesList (Reruns line) before after = IsRerunListRefused line before after
 RefusesList (Replays line) before after = ⊥
 RefusesList (Shows line) before after = ⊥
 RefusesList (Explains line) before after = IsRerunListRefused (as_rerun line) before after
+RefusesList (Audits line) before after = ⊥
 RefusesList (Generates line) before after = ⊥
 
 -- How a line that asks for rounds may end, status by status.
@@ -377,6 +403,7 @@ RoundsEnd line before after status.WriteFault = IsUnprinted line before after �
 RoundsEnd line before after status.Memory = IsUnbegun line before after ⊎ IsCutShort line before after
 RoundsEnd line before after status.TooLarge = IsTooLarge line before after ⊎ IsTooLargeToKeep line before after
 RoundsEnd line before after status.Schedule = ⊥
+RoundsEnd line before after status.Untrue = ⊥
 
 -- How a line that shows a memo may end, status by status.
 abbrev pub ShowEnds : ShowLine → World → World → Status → Type 0
@@ -391,6 +418,7 @@ ShowEnds line before after status.WriteFault = IsUnshown line before after
 ShowEnds line before after status.Memory = IsUnbegun (Shows line) before after
 ShowEnds line before after status.TooLarge = IsTooLarge (Shows line) before after
 ShowEnds line before after status.Schedule = ⊥
+ShowEnds line before after status.Untrue = ⊥
 
 -- How a line that tells why steps were executed may end, status by status; however the round ended.
 abbrev pub ExplainEnds : ExplainLine → World → World → Status → Type 0
@@ -405,6 +433,23 @@ ExplainEnds line before after status.WriteFault = IsUnexplained line before afte
 ExplainEnds line before after status.Memory = IsUnbegun (Explains line) before after
 ExplainEnds line before after status.TooLarge = IsTooLarge (Explains line) before after
 ExplainEnds line before after status.Schedule = ⊥
+ExplainEnds line before after status.Untrue = ⊥
+
+-- How a line that audits a memo may end, status by status: as finished where the memo is honest, and as untrue where one
+-- of its records is the first false one.
+abbrev pub AuditEnds : AuditLine → World → World → Status → Type 0
+AuditEnds line before after status.Finished = IsAudited line None before after
+AuditEnds line before after status.Unfinished = ⊥
+AuditEnds line before after status.Words = ⊥
+AuditEnds line before after status.Image = ⊥
+AuditEnds line before after status.Memo = RefusesMemo (Audits line) before after
+AuditEnds line before after status.EditList = ⊥
+AuditEnds line before after status.ReadFault = IsUnread (Audits line) before after
+AuditEnds line before after status.WriteFault = IsUnaudited line before after
+AuditEnds line before after status.Memory = IsUnbegun (Audits line) before after
+AuditEnds line before after status.TooLarge = IsTooLarge (Audits line) before after
+AuditEnds line before after status.Schedule = ⊥
+AuditEnds line before after status.Untrue = (place : ℕ) × IsAudited line (Some place) before after
 
 -- How a line that replays a schedule may end, status by status.
 abbrev pub ReplayEnds : ReplayLine → World → World → Status → Type 0
@@ -419,6 +464,7 @@ ReplayEnds line before after status.WriteFault = IsUnreplayed line before after
 ReplayEnds line before after status.Memory = IsUnbegun (Replays line) before after
 ReplayEnds line before after status.TooLarge = IsTooLarge (Replays line) before after
 ReplayEnds line before after status.Schedule = IsScheduleRefused line before after
+ReplayEnds line before after status.Untrue = ⊥
 
 -- How a line that runs the generated guest may end, status by status.
 abbrev pub GenerateEnds : GenerateLine → World → World → Status → Type 0
@@ -433,6 +479,7 @@ GenerateEnds line before after status.WriteFault = IsUngenerated line before aft
 GenerateEnds line before after status.Memory = IsUnbegun (Generates line) before after
 GenerateEnds line before after status.TooLarge = ⊥
 GenerateEnds line before after status.Schedule = ⊥
+GenerateEnds line before after status.Untrue = ⊥
 
 -- Nothing was printed, and no file was asked for.
 pub record DoesNothing (before after : World) : Type 0 where
@@ -447,6 +494,7 @@ Ends (Some (Reruns line)) before after s = RoundsEnd (Reruns line) before after 
 Ends (Some (Replays line)) before after s = ReplayEnds line before after s
 Ends (Some (Shows line)) before after s = ShowEnds line before after s
 Ends (Some (Explains line)) before after s = ExplainEnds line before after s
+Ends (Some (Audits line)) before after s = AuditEnds line before after s
 Ends (Some (Generates line)) before after s = GenerateEnds line before after s
 
 -- An answer is the number of a status by which the call may end.

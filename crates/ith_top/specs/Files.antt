@@ -6,7 +6,7 @@ use Rattle.machine_spec.specs.declared.TheConstants.{MOST_INPUT_BYTES}
 use Rattle.memo_spec.specs.declared.TheConstants.{MOST_MEMO_BYTES}
 use Rattle.ith_host.specs.World.{World, Rose, AsksFor}
 use Rattle.schedule_list.specs.declared.TheConstants.{MOST_SCHEDULE_BYTES}
-use Rattle.ith_words.specs.Words.{Text, Line, Runs, Reruns, Replays, Shows, Explains, Generates}
+use Rattle.ith_words.specs.Words.{Text, Line, Runs, Reruns, Replays, Shows, Explains, Audits, Generates}
 
 -- A file that a line names to read: its name, and the most bytes that it may have.
 pub record Named : Type 0 where
@@ -40,6 +40,7 @@ files_named (Reruns line) = memo_named line.memo ∷ lists_named line.edits
 files_named (Replays line) = elf_named line.elf ∷ input_named line.input ∷ schedule_named line.schedule ∷ []
 files_named (Shows line) = memo_named line.memo ∷ []
 files_named (Explains line) = memo_named line.memo ∷ lists_named (line.edits ∷ [])
+files_named (Audits line) = memo_named line.memo ∷ []
 files_named (Generates line) = []
 
 -- These files were asked for, in order, and no other.

@@ -16,3 +16,4 @@ code_of status.WriteFault = 7
 code_of status.Memory = 8
 code_of status.TooLarge = 9
 code_of status.Schedule = 10
+code_of status.Untrue = 11

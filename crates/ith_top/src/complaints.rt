@@ -67,6 +67,13 @@ pub fn schedule_line(alloc: Global, part: &str, number: usize) -> Vec<u8> {
     line
 }
 
+/// Which record of a memo is the first false one.
+pub fn false_line(alloc: Global, place: u32) -> Vec<u8> {
+    let mut line = name_line(alloc, "false", "");
+    let _ = append_number(alloc, Some(u64::from(place)), &mut line);
+    line
+}
+
 /// The cause for which a line of an edit list is refused.
 fn cause(why: Why) -> &'static [u8] {
     match why {

@@ -11,6 +11,7 @@ use std::alloc::Global;
 use std::sync::Wait;
 use std::thread::Threads;
 
+mod auditing;
 mod complaints;
 mod crew;
 mod explaining;
@@ -49,6 +50,9 @@ pub use status::Status;
 ///
 /// `why MEMO EDITS` makes the round of one worker that goes by a memo after an edit list, and tells why each of its
 /// executed steps was executed: which register or which byte of a page isn't as it was, and which step stored it.
+///
+/// `audit MEMO --workers W` executes the steps of a memo again, and tells whether the memo is honest, or which of its
+/// records is the first that isn't as the machine makes it.
 ///
 /// `gen NUMBER --workers W` runs a guest on an input and an edit of it that are generated from the number.
 ///

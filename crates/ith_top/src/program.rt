@@ -10,6 +10,7 @@ ghost use Rattle.ith_top.specs.Counting.{MakesRounds};
 ghost use Rattle.ith_top.specs.Refusals.{WhyUndone};
 ghost use Rattle.ith_top.specs.Playing.{plan_said, CanBePlayed, CanBeSpelled, IsCarriedOut};
 
+use super::auditing::audit;
 use super::complaints::NO_MEMORY;
 use super::crew::Crew;
 use super::explaining::explain;
@@ -114,6 +115,7 @@ pub fn status_of<R: Threads + Wait + Sync, H: Host, G: Gate + Sync>(
         Ok(Line::Replay(line)) => replay(rt, alloc, host, &line),
         Ok(Line::Show(line)) => show(alloc, host, &line),
         Ok(Line::Explain(line)) => explain(rt, alloc, host, &line),
+        Ok(Line::Audit(line)) => audit(rt, alloc, host, &line),
         Ok(Line::Generate(line)) => generate(
             alloc,
             host,

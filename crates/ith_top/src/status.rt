@@ -7,8 +7,8 @@ ghost use Rattle.ith_top.specs.Statuses.{code_of};
 #[derive(Clone, Copy, Debug, PartialEq, Eq)]
 pub enum Status {
     /// 0: every report was printed, each round ended by exit, and the memo that was asked for was written; or a
-    /// schedule was replayed, or the generated guest run, to an exit; or a memo was listed, or it was told why steps
-    /// were executed.
+    /// schedule was replayed, or the generated guest run, to an exit; or a memo was listed, or is honest as its audit
+    /// found, or it was told why steps were executed.
     Finished,
     /// 1: the same, but some end isn't an exit.
     Unfinished,
@@ -30,6 +30,8 @@ pub enum Status {
     TooLarge,
     /// 10: the schedule to replay is refused.
     Schedule,
+    /// 11: the memo that was audited isn't honest.
+    Untrue,
 }
 
 impl Status {
@@ -49,6 +51,7 @@ impl Status {
             Status::Memory => 8,
             Status::TooLarge => 9,
             Status::Schedule => 10,
+            Status::Untrue => 11,
         }
     }
 }

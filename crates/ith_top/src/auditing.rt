@@ -1,0 +1,74 @@
+//! What the program does of a line that audits a memo.
+
+ghost use Rattle.std.specs.Prelude.{◌≡◌, ◌≤◌, length, true, IfOk, IfErr};
+ghost use Rattle.history_spec.specs.History.{is_coherent};
+ghost use Rattle.audit_spec.specs.Audit.{IsVerdict};
+ghost use Rattle.ith_host.specs.World.{NoneFell, AsksNothing};
+ghost use Rattle.ith_words.specs.Said.{audit_said};
+ghost use Rattle.ith_top.specs.Ends.{AuditEnds, audit_of};
+
+use super::complaints::{NO_MEMORY, false_line};
+use super::files::read_memo;
+use super::outside::print_text;
+use super::plan::recall;
+use super::status::Status;
+use ith_host::Host;
+use ith_words::AuditLine;
+use memo_audit::Verdict;
+use release_core::History;
+use std::alloc::{AllocError, Global};
+use std::thread::Threads;
+
+/// The verdict of a history that holds together, by so many workers, and the lines that tell of it.
+fn told_of<R: Threads + Sync>(
+    rt: &R,
+    alloc: Global,
+    history: &History,
+    workers: u32,
+) -> Result<(Verdict, Vec<u8>), AllocError>
+    requires { is_coherent history.now ≡ true }
+    ensures verdict { IfOk result (λ r. IsVerdict history.now r.0.first) }
+    ensures text { IfOk result (λ r. r.1.items ≡ audit_of history.now r.0.first) }
+{
+    history.setup().sound();
+    audit_spec::first_false_record_is_the_verdict();
+    let verdict = memo_audit::audit(rt, alloc, history, workers)?;
+    let text = memo_audit::text(alloc, history.records().len() as u64, verdict)?;
+    Ok((verdict, text))
+}
+
+/// All that a line that audits a memo asks for.
+pub fn audit<R: Threads + Sync, H: Host>(
+    rt: &R,
+    alloc: Global,
+    host: &mut H,
+    line: &AuditLine<'_>,
+) -> Status
+    ensures { AuditEnds (audit_said line.now) (H.world host.old) (H.world host.new) result }
+{
+    let memo = match read_memo(alloc, host, line.memo) {
+        Ok(memo) => memo,
+        Err(status) => return status,
+    };
+    let history = match recall(alloc, host, memo.as_slice()) {
+        Ok(history) => history,
+        Err(status) => return status,
+    };
+    let (verdict, text) = match told_of(rt, alloc, &history, line.workers) {
+        Ok(told) => told,
+        Err(_) => {
+            host.complain(NO_MEMORY);
+            return Status::Memory;
+        }
+    };
+    if let Err(status) = print_text(alloc, host, text.as_slice()) {
+        return status;
+    }
+    match verdict.first {
+        None => Status::Finished,
+        Some(place) => {
+            host.complain(&false_line(alloc, place));
+            Status::Untrue
+        }
+    }
+}
