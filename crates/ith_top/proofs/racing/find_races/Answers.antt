@@ -30,9 +30,10 @@ pub returns-in-Err-listing : goal.returns-in-Err-listing
 returns-in-Err-listing g c =
     let w = g.H.Host.world in let a = w c.args.host.now in let b = w c.read_memo.new.host in let d =
     w c.recall.new.host in
-    races_cut (races_said c.args.line.now) a d (w c.complain.new.self)
-    (c.in-Ok-recall.ensures.asked ∙ c.in-Ok.ensures.asked) c.complain.ensures.asked
-    (stays_trans a b d c.in-Ok.ensures.stays c.in-Ok-recall.ensures.stays) c.complain.ensures.stays
+    rw c.no_memory.ensures.status
+    (races_cut (races_said c.args.line.now) a d (w c.no_memory.new.host)
+    (c.in-Ok-recall.ensures.asked ∙ c.in-Ok.ensures.asked) c.no_memory.ensures.asked
+    (stays_trans a b d c.in-Ok.ensures.stays c.in-Ok-recall.ensures.stays) c.no_memory.ensures.stays)
 
 pub returns-in-Ok-print_text : goal.returns-in-Ok-print_text
 returns-in-Ok-print_text g c =
