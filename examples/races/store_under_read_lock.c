@@ -19,10 +19,8 @@ static unsigned look_up(unsigned key)
 
 int main(void)
 {
-    it_rwlock_wrlock(LOCK);
     for (unsigned k = 0; k < 4; k++)
         table[k] = k + 10;
-    it_rwlock_unlock(LOCK);
     it_thread_create(look_up, 1);
     it_thread_create(look_up, 3);
     it_thread_join(1, 0);
