@@ -1,4 +1,5 @@
-/* Readers that store under a read lock: it keeps writers away, and not the other reader. What they look up doesn't race.
+/* Readers that store under a read lock: it keeps writers away, and not the other reader. What they look up doesn't
+   race.
 
    races: hits */
 #include "ithreads.h"
