@@ -8,7 +8,7 @@ WHOLE_PAGE = 2**PAGE - 1
 
 
 class Noted:
-    """A page, as words or as bytes, of which each load is marked; `mask`, if there is one, has the step's own stores."""
+    """A page, as words or as bytes, of which each load is marked; `mask`, if there is one, has the step's stores."""
 
     def __init__(self, data, size, mask, marks):
         self.data, self.size, self.mask, self.marks = data, size, mask, marks
