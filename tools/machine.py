@@ -170,8 +170,7 @@ class Machine(Calls):
         def load(page, pc, turns):
             if not rights.get(page, 0) & READ:
                 raise Trap(5, pc, turns)
-            pages[page] = view[page]
-            words[page] = memoryview(view[page]).cast("I")
+            words[page], pages[page] = self.from_page(page, memoryview(view[page]).cast("I"), view[page], None)
             return words[page], pages[page]
 
         def store(page, pc, turns):
@@ -180,7 +179,7 @@ class Machine(Calls):
             data, mask = bytearray(view[page]), bytearray(PAGE)
             own[page] = made = memoryview(data).cast("I"), memoryview(mask).cast("I"), data, mask
             if rights[page] & READ:
-                words[page], pages[page] = made[0], data
+                words[page], pages[page] = self.from_page(page, made[0], data, mask)
             if self.on_store:
                 self.on_store(number, page)
             return made
@@ -196,6 +195,10 @@ class Machine(Calls):
                 function, size = self.image.block(pc, seen, 1)
             pc, count = function(x, words, pages, own, load, store, count, fuel - size)
         return pc, count
+
+    def from_page(self, page, words, data, mask):
+        """What loads from a page take words and bytes from; a mask, if there is one, has the step's own stores."""
+        return words, data
 
     def put(self, thread, own):
         """The bytes of a put; a number where it is refused."""

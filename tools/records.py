@@ -53,6 +53,7 @@ class Records:
         self.place = 8 if version == 1 else 12  # behind the profile
         self.elf, self.input = self.bytes(), self.bytes()
         self.fuel, self.limit, self.count, pages = struct.unpack_from("<4I", data, self.place)
+        self.pool = self.began = self.place + 16  # where the first page of the pool begins, and the last record read
         self.place += 16 + PAGE * pages
 
     def bytes(self):
@@ -65,6 +66,7 @@ class Records:
         """The records, one after the other. `code` finds who called."""
         callers = {}
         for _ in range(self.count):
+            self.began = self.place
             thread, end, count, *registers = HEAD.unpack_from(self.data, self.place)
             (reads,) = struct.unpack_from("<H", self.data, self.place + HEAD.size)
             self.place += HEAD.size + 2 + 8 * reads
