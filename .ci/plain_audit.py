@@ -66,14 +66,7 @@ class AuditMachine(CallMachine):
         text = {CALL: f"call {t.x[17]}", FUEL: "fuel"}.get(end, f"trap {end}")
         put = self.put_bytes(t) if text == "call 1" else b""
         self.entries.append((number, t.made, text, count, [], sorted(stored)))
-        t.made += 1
-        self.ended = self.done(t, number, text, put)
-        if self.ended is None and all(other.status == "ended" for other in self.threads):
-            self.ended = "exit 0"
-        elif self.ended is None and not any(other.status == "ready" for other in self.threads):
-            self.ended = "deadlock"
-        elif self.ended is None and len(self.entries) == self.limit:
-            self.ended = "spent"
+        self.finish(t, number, text, put)
 
 
 def verdict(memo):

@@ -222,6 +222,10 @@ class Machine:
                 data[place] = self.own[page][place]
             self.shared[page] = bytes(data)
         self.entries.append((number, t.made, end, count, sorted(self.read), sorted(self.stored)))
+        self.finish(t, number, end, put)
+
+    def finish(self, t, number, end, put):
+        """Does what the end of a thread's step asks for, and looks whether the run has ended."""
         t.made += 1
         self.ended = self.done(t, number, end, put)
         if self.ended is None and all(other.status == "ended" for other in self.threads):
