@@ -22,7 +22,7 @@ use Rattle.machine_spec.specs.Step.{step, finished}
 use Rattle.machine_spec.proofs.Guests.{begins}
 use Rattle.report_spec.specs.declared.Entry.{Entry}
 use Rattle.report_spec.specs.Text.{newline, hex8}
-use Rattle.report_spec.specs.Report.{end_text, instructions_from, memory_digest, report_lines}
+use Rattle.report_spec.specs.Report.{no_extras, end_text, instructions_from, memory_digest, report_lines}
 
 abbrev pub executed : ℕ → Entry
 executed t = record { thread = t; reused = false }
@@ -49,7 +49,7 @@ pub report_lines-hi :
     (record {
       ending = Some (Exit 0);
       schedule = executed 0 ∷ executed 0 ∷ [];
-      reached = None;
+      extras = no_extras;
       instructions = 8;
       shares = 2 ∷ [];
       memory = memory;
@@ -69,14 +69,15 @@ pub report_lines-hi :
 unfolding digits
 report_lines-hi memory = refl
 
--- A reused entry has the mark =, four workers have four shares, and what is reached is told behind what was executed.
+-- A reused entry has the mark =, four workers have four shares, what is reached stands behind what was executed, and
+-- what a watcher read behind the shares.
 pub report_lines-reused :
     (memory : Memory)
     → report_lines 12
     (record {
       ending = Some Spent;
       schedule = reused 0 ∷ executed 31 ∷ [];
-      reached = Some 2;
+      extras = record { reached = Some 2; progress = Some (1 ∷ 2 ∷ []) };
       instructions = 7;
       shares = 1 ∷ 0 ∷ 0 ∷ 1 ∷ [];
       memory = memory;
@@ -90,6 +91,7 @@ pub report_lines-reused :
     ∷ (codes "reached 2" ++ newline)
     ∷ (codes "instructions 7" ++ newline)
     ∷ (codes "by 1 0 0 1" ++ newline)
+    ∷ (codes "progress 1 2" ++ newline)
     ∷ (codes "schedule 0= 31+" ++ newline)
     ∷ (codes "memory " ++ memory_digest memory ++ newline)
     ∷ (codes "output 0" ++ newline)

@@ -1,5 +1,5 @@
--- The report of a round, as a function of the round's number, its setup, its schedule with marks, how many old steps it
--- reaches, where that is told, and the workers' shares.
+-- The report of a round, as a function of the round's number, its setup, its schedule with marks, the lines that are
+-- there only if they are asked for, and the workers' shares.
 use Rattle.std.specs.Prelude.{ℕ, ◌+◌, Bool, true, false, not, if◌then◌else◌, List, [], ◌∷◌, ◌++◌, length, map, codes, count_by, Option, Some, None}
 use Rattle.std.specs.List.{concat}
 use Rattle.std.specs.Fmt.{decimal}
@@ -44,23 +44,33 @@ instructions_from m (e ∷ schedule) =
     (if e.reused then 0 else (thunk m.frame (hart_of m e.thread).view (hart_of m e.thread).regs).count)
     + instructions_from (step m e.thread) schedule
 
--- What a report tells of a round; how many old steps it reaches only where that is asked for.
+-- What a report tells only if it is asked for: how many old steps the round reaches, and which numbers of steps a
+-- watcher read while the round was made.
+pub record Extras : Type 0 where
+  pub reached : Option ℕ
+  pub progress : Option (List ℕ)
+
+-- None of that.
+abbrev pub no_extras : Extras
+no_extras = record { reached = None; progress = None }
+
+-- What a report tells of a round.
 pub record Told : Type 0 where
   pub ending : Option End
   pub schedule : List Entry
-  pub reached : Option ℕ
+  pub extras : Extras
   pub instructions : ℕ
   pub shares : List ℕ
   pub memory : Memory
   pub output : List ℕ
 
 -- What there is to tell of the machine from scratch under a schedule.
-abbrev pub told_of : Setup → List Entry → Option ℕ → List ℕ → Told
-told_of setup schedule reached shares =
+abbrev pub told_of : Setup → List Entry → Extras → List ℕ → Told
+told_of setup schedule extras shares =
     record {
       ending = (scratch setup (threads_of schedule)).ending;
       schedule = schedule;
-      reached = reached;
+      extras = extras;
       instructions = instructions_from (first setup) schedule;
       shares = shares;
       memory = (scratch setup (threads_of schedule)).memory;
@@ -83,6 +93,11 @@ abbrev pub reached_lines : Option ℕ → List (List ℕ)
 reached_lines None = []
 reached_lines (Some n) = line (codes "reached") (decimal n) ∷ []
 
+-- The line of the numbers of steps that a watcher read, where it is told.
+abbrev pub progress_lines : Option (List ℕ) → List (List ℕ)
+progress_lines None = []
+progress_lines (Some numbers) = list_line (codes "progress") decimal numbers ∷ []
+
 -- The lines of the report of round n.
 abbrev pub report_lines : ℕ → Told → List (List ℕ)
 report_lines n t =
@@ -91,10 +106,11 @@ report_lines n t =
     ∷ line (codes "steps") (decimal (length t.schedule))
     ∷ line (codes "reused") (decimal (reused_count t.schedule))
     ∷ line (codes "executed") (decimal (executed_count t.schedule))
-    ∷ reached_lines t.reached
+    ∷ reached_lines t.extras.reached
     ++ line (codes "instructions") (decimal t.instructions)
     ∷ list_line (codes "by") decimal t.shares
-    ∷ list_line (codes "schedule") entry_text t.schedule
+    ∷ progress_lines t.extras.progress
+    ++ list_line (codes "schedule") entry_text t.schedule
     ∷ line (codes "memory") (memory_digest t.memory)
     ∷ line (codes "output") (decimal (length t.output))
     ∷ []
@@ -103,7 +119,7 @@ report_lines n t =
 unfoldable pub report_text : ℕ → Told → List ℕ
 report_text n t = concat (report_lines n t) ++ t.output ++ newline
 
--- The report of round n of a setup, whose schedule has these entries, which reaches so many old steps, where that is
--- told, and whose workers had these shares.
-unfoldable pub report : ℕ → Setup → List Entry → Option ℕ → List ℕ → List ℕ
-report n setup schedule reached shares = report_text n (told_of setup schedule reached shares)
+-- The report of round n of a setup, whose schedule has these entries, with what is told only if it is asked for, and
+-- whose workers had these shares.
+unfoldable pub report : ℕ → Setup → List Entry → Extras → List ℕ → List ℕ
+report n setup schedule extras shares = report_text n (told_of setup schedule extras shares)

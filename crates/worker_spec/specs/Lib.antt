@@ -2,3 +2,4 @@
 pub mod OneWorker
 pub mod Replaying
 pub mod Workers
+pub mod Watching

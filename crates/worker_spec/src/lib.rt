@@ -2,7 +2,7 @@
 //! rounds: one worker makes the schedule that follows the choice, which is permitted and complete; what it
 //! executes is what the executed entries sum up to; each entry is picked rightly, by one worker or by many;
 //! and where a setup is run again by its own honest history, each step is reused and nothing is executed,
-//! however many they are. No code.
+//! however many they are. No code but one constant.
 #![tactic(auto)]
 
 ghost use Rattle.std.specs.Prelude.{◌≡◌, ◌≢◌, ◌<◌, ℕ, true, false, List, length, sum, Option, Some, is_some};
@@ -24,6 +24,9 @@ ghost use Rattle.worker_spec.specs.OneWorker.{made_by, executed_in};
 ghost use Rattle.round_spec.specs.Marks.{marked};
 ghost use Rattle.worker_spec.specs.Workers.{IsMadeBy};
 ghost use Rattle.worker_spec.specs.Replaying.{IsReplaying, IsNextStep, goes_on_by};
+
+/// How often a watcher looks at most how many steps of a round were made.
+pub const MOST_LOOKS: usize = 1_024;
 
 /// The schedule that follows the choice is permitted, and there is an end after it, within the step
 /// limit; the round of one worker comes to an end, and at no time has it discarded anything. By which
