@@ -29,6 +29,7 @@ rounds_in line a p found is playable spelled are =
       found = found;
       few = are.few;
       made = are.made;
+      watched = are.watched;
       promised = promised_of line a p found is playable spelled are;
       kept = each_kept (workers_of line) p found playable spelled are;
     }

@@ -14,9 +14,10 @@ use Rattle.guest_gen.specs.declared.making.Generated.{Generated}
 use Rattle.guest_gen.specs.Generated.{IsOf, input_of, list_of, edits_of, next_of}
 use Rattle.guest_gen.proofs.Inputs.{length-input_of, edit-in_range}
 use Rattle.guest_gen.proofs.Lists.{list-says}
+use Rattle.report_spec.specs.Report.{no_extras}
 use Rattle.rerun_spec.specs.Inputs.{Refusal, AreInputs, IsFirstRefused}
 use Rattle.rerun_spec.proofs.Inputs.{inputs-unrefused}
-use Rattle.rerun_spec.specs.Rounds.{Found, Round, Beginning, IsMade, from_scratch, round_on, after_round, rounds_after}
+use Rattle.rerun_spec.specs.Rounds.{Found, Round, Beginning, IsMade, IsWatched, nothing_asked, from_scratch, round_on, after_round, rounds_after}
 use Rattle.rerun_spec.specs.Reports.{made_exits, all_made_exit}
 use Rattle.rerun_spec.proofs.Rounds.{IsSoundlyMade, each-round, scratch-begins, round-machine}
 use Rattle.round_report.specs.Short.{short_text, short_of, made_short}
@@ -38,7 +39,7 @@ unfolding short_text
 short_made workers r is = ap (λ (m : Machine). short_text r.number (record {
   ending = m.ending;
   schedule = [];
-  reached = None;
+  extras = no_extras;
   instructions = 0;
   shares = [];
   memory = m.memory;
@@ -56,16 +57,16 @@ all_short workers (r ∷ rounds) each =
 -- the lines of rounds from scratch
 shorts_made :
     (workers : ℕ) (s : Setup) (p : Plan) (found : List Found)
-    → p.beginning ≡ from_scratch s false → CanBePlayed p → CanBeSpelled p → AreFound workers p found
+    → p.beginning ≡ from_scratch s nothing_asked → CanBePlayed p → CanBeSpelled p → AreFound workers p found
     → map made_short (rounds_of p found) ≡ map short_of (rounds_of p found)
 shorts_made workers s p found begins playable spelled are =
     let valid : IsSetup s = subst (λ (b : Beginning). IsSetup b.setup) begins spelled.valid in
-    let made : All (IsMade workers) (rounds_after (from_scratch s false) p.inputs found) =
+    let made : All (IsMade workers) (rounds_after (from_scratch s nothing_asked) p.inputs found) =
     subst (λ (b : Beginning). All (IsMade workers) (rounds_after b p.inputs found)) begins are.made in
     subst (λ (b : Beginning). map made_short (rounds_after b p.inputs found) ≡ map short_of (rounds_after b p.inputs found))
     (sym begins)
-    (all_short workers (rounds_after (from_scratch s false) p.inputs found)
-    (each-round (from_scratch s false) p.inputs found workers (scratch-begins s false valid) playable.short made))
+    (all_short workers (rounds_after (from_scratch s nothing_asked) p.inputs found)
+    (each-round (from_scratch s nothing_asked) p.inputs found workers (scratch-begins s nothing_asked valid) playable.short made))
 
 -- the generated list of edits makes of the generated input the one after the edit
 pub generated-inputs : (number : ℕ) → AreInputs (input_of number) (list_of number ∷ []) (input_of number ∷ next_of number ∷ [])
@@ -96,13 +97,13 @@ pub generated_plan :
     (number : ℕ) (g : Generated) (s : Setup) (p : Plan)
     → IsOf number g
     → s ≡ record { elf = g.elf.items; input = g.input.items; fuel = default_fuel; limit = default_limit }
-    → p.beginning ≡ from_scratch s false → AreInputs g.input.items (g.edits.items ∷ []) p.inputs
+    → p.beginning ≡ from_scratch s nothing_asked → AreInputs g.input.items (g.edits.items ∷ []) p.inputs
     → IsGeneratedPlan number p
 generated_plan number g s p is same begins edited =
     record {
       elf = g.elf.items;
       guest = is.elf;
-      beginning = begins ∙ ap (λ (t : Setup). from_scratch t false) (same ∙ ap (λ (i : List ℕ). record {
+      beginning = begins ∙ ap (λ (t : Setup). from_scratch t nothing_asked) (same ∙ ap (λ (i : List ℕ). record {
         elf = g.elf.items;
         input = i;
         fuel = default_fuel;
@@ -144,26 +145,28 @@ record TwoRounds (workers : ℕ) (s : Setup) (input next one other : List ℕ) (
   pub second : Round
   pub found : List Found
   pub count : length found ≡ 2
-  pub are : rounds_after (from_scratch s false) (input ∷ next ∷ []) found ≡ first ∷ second ∷ []
+  pub are : rounds_after (from_scratch s nothing_asked) (input ∷ next ∷ []) found ≡ first ∷ second ∷ []
   pub made_first : IsMade workers first
   pub made_second : IsMade workers second
+  pub unwatched_first : IsWatched workers first
+  pub unwatched_second : IsWatched workers second
   pub lines : one ++ other ≡ concat (map made_short (first ∷ second ∷ []))
   pub exits : (exit && ended) ≡ list_all made_exits (first ∷ second ∷ [])
 
 two_rounds :
     (workers : ℕ) (s : Setup) (input next one other : List ℕ) (exit ended : Bool) (left last : History)
-    → IsLineOn workers (from_scratch s false) input one exit left
-    → IsLineOn workers (record { number = 1; past = Some left; setup = s; reach = false }) next other ended last
+    → IsLineOn workers (from_scratch s nothing_asked) input one exit left
+    → IsLineOn workers (record { number = 1; past = Some left; setup = s; asked = nothing_asked }) next other ended last
     → TwoRounds workers s input next one other exit ended
 two_rounds workers s input next one other exit ended left last on on_next =
     let f = on.found in
-    let begins : record { number = 1; past = Some left; setup = s; reach = false }
-    ≡ after_round (from_scratch s false) input f =
-    ap (λ (h : History). record { number = 1; past = Some h; setup = s; reach = false }) on.is_left in
-    let on_second : IsLineOn workers (after_round (from_scratch s false) input f) next other ended last =
+    let begins : record { number = 1; past = Some left; setup = s; asked = nothing_asked }
+    ≡ after_round (from_scratch s nothing_asked) input f =
+    ap (λ (h : History). record { number = 1; past = Some h; setup = s; asked = nothing_asked }) on.is_left in
+    let on_second : IsLineOn workers (after_round (from_scratch s nothing_asked) input f) next other ended last =
     subst (λ (b : Beginning). IsLineOn workers b next other ended last) begins on_next in
-    let first : Round = round_on (from_scratch s false) input f in
-    let second : Round = round_on (after_round (from_scratch s false) input f) next on_second.found in
+    let first : Round = round_on (from_scratch s nothing_asked) input f in
+    let second : Round = round_on (after_round (from_scratch s nothing_asked) input f) next on_second.found in
     record {
       first = first;
       second = second;
@@ -172,6 +175,8 @@ two_rounds workers s input next one other exit ended left last on on_next =
       are = refl;
       made_first = on.made;
       made_second = on_second.made;
+      unwatched_first = λ yes. absurd (let no : false ≡ true = yes in cc);
+      unwatched_second = λ yes. absurd (let no : false ≡ true = yes in cc);
       lines = ap (λ (l : List ℕ). l ++ other) on.is_text
           ∙ ap (λ (l : List ℕ). made_short first ++ l) (on_second.is_text ∙ sym (append-nil (made_short second)));
       exits = ap (λ (b : Bool). b && ended) on.is_exit
@@ -183,8 +188,8 @@ pub both_generated :
     (workers number : ℕ) (p : Plan) (input next : List ℕ) (rest : List (List ℕ)) (one other text : List ℕ)
     (exit ended exits : Bool) (left last : History) (earlier later : ℕ)
     → later ≡ earlier + 2 → IsGeneratedPlan number p → CanBePlayed p → CanBeSpelled p → p.inputs ≡ input ∷ next ∷ rest
-    → IsLineOn workers (from_scratch p.beginning.setup false) input one exit left
-    → IsLineOn workers (record { number = 1; past = Some left; setup = p.beginning.setup; reach = false }) next other
+    → IsLineOn workers (from_scratch p.beginning.setup nothing_asked) input one exit left
+    → IsLineOn workers (record { number = 1; past = Some left; setup = p.beginning.setup; asked = nothing_asked }) next other
     ended last
     → text ≡ text_line (codes "gen") (decimal number) ++ one ++ other
     → exits ≡ (exit && ended)
@@ -192,8 +197,8 @@ pub both_generated :
 unfolding all_made_exit
 both_generated workers number p input next rest one other text exit ended exits left last earlier later rise is playable spelled inputs on on_next told ends =
     let s : Setup = p.beginning.setup in
-    let begins : p.beginning ≡ from_scratch s false =
-    is.beginning ∙ ap (λ (t : Setup). from_scratch t false) (sym (ap (λ (b : Beginning). b.setup) is.beginning)) in
+    let begins : p.beginning ≡ from_scratch s nothing_asked =
+    is.beginning ∙ ap (λ (t : Setup). from_scratch t nothing_asked) (sym (ap (λ (b : Beginning). b.setup) is.beginning)) in
     let all : p.inputs ≡ input ∷ next ∷ [] = one_more _ _ input next rest p.inputs inputs is.edited in
     let two : TwoRounds workers s input next one other exit ended =
     two_rounds workers s input next one other exit ended left last on on_next in
@@ -207,8 +212,10 @@ both_generated workers number p input next rest one other text exit ended exits 
       few = let found = two.count in omega arith;
       made = subst (All (IsMade workers)) (sym rounds)
           (All-from_recursion (IsMade workers) (two.first ∷ two.second ∷ []) (two.made_first, (two.made_second, tt)));
+      watched = subst (All (IsWatched workers)) (sym rounds)
+          (All-from_recursion (IsWatched workers) (two.first ∷ two.second ∷ []) (two.unwatched_first, (two.unwatched_second, tt)));
     } in
-    let promised = promised_from_scratch workers s false p two.found begins playable spelled are in
+    let promised = promised_from_scratch workers s nothing_asked p two.found begins playable spelled are in
     record {
       plan = p;
       is_plan = is;
@@ -236,6 +243,7 @@ has_generated line a earlier later text exits is =
       found = is.found;
       few = is.made.few;
       made = is.made.made;
+      watched = is.made.watched;
       promised = promised_of (Generates line) a is.plan is.found is.is_plan is.playable is.spelled is.made;
       kept = each_kept line.workers is.plan is.found is.playable is.spelled is.made;
     }

@@ -9,7 +9,7 @@ use Rattle.std.proofs.lemmas.List.Elements.{All-from_recursion, recursion_from_A
 use Rattle.machine_spec.specs.declared.TheConstants.{MOST_INPUT_BYTES}
 use Rattle.history_spec.specs.History.{History}
 use Rattle.rerun_spec.specs.Inputs.{AreShort}
-use Rattle.rerun_spec.specs.Rounds.{Found, Round, Beginning, IsMade, round_on, after_round, rounds_after, after_rounds, history_at}
+use Rattle.rerun_spec.specs.Rounds.{Found, Round, Beginning, IsMade, IsWatched, round_on, after_round, rounds_after, after_rounds, history_at}
 use Rattle.rerun_spec.specs.Reports.{made_report, made_reports, made_exits, all_made_exit}
 use Rattle.ith_host.specs.World.{World, NoneFell, Stays, AsksNothing}
 use Rattle.ith_top.specs.declared.status.Status.{Status}
@@ -30,6 +30,7 @@ pub record IsGoing (b : Beginning) (workers : ℕ) (inputs : List (List ℕ)) (a
   pub rounds : (more : List Found) → rounds_after b inputs (found ++ more) ≡ done ++ rounds_after now rest more
   pub last : (more : List Found) → after_rounds b inputs (found ++ more) ≡ after_rounds now rest more
   pub made : AllByRecursion (IsMade workers) done
+  pub watched : AllByRecursion (IsWatched workers) done
   pub prints : Prints a w (concat (map made_report done))
   pub ended : exit ≡ list_all made_exits done
   pub counts : NoneFell a w
@@ -124,6 +125,7 @@ going_start b now workers inputs a first counts =
       rounds = λ more. refl;
       last = λ more. refl;
       made = tt;
+      watched = tt;
       prints = prints_none a;
       ended = refl;
       counts = counts;
@@ -166,6 +168,8 @@ going-found b workers inputs a w now rest exit going =
       few = let count = going.count in omega arith;
       made = subst (All (IsMade workers)) (sym (going-rounds b workers inputs a w now rest exit going))
           (All-from_recursion (IsMade workers) going.done going.made);
+      watched = subst (All (IsWatched workers)) (sym (going-rounds b workers inputs a w now rest exit going))
+          (All-from_recursion (IsWatched workers) going.done going.watched);
     }
 
 all-more :
@@ -183,6 +187,7 @@ record HasNext (b : Beginning) (workers : ℕ) (inputs : List (List ℕ)) (now :
   pub last : (more : List Found) → after_rounds b inputs ((found ++ f ∷ []) ++ more)
       ≡ after_rounds (after_round now input f) rest more
   pub made : AllByRecursion (IsMade workers) (done ++ round_on now input f ∷ [])
+  pub watched : AllByRecursion (IsWatched workers) (done ++ round_on now input f ∷ [])
 
 length-more : (found : List Found) (f : Found) (n : ℕ) → length (found ++ f ∷ []) + n ≡ length found + suc n
 length-more [] f n = omega arith
@@ -192,8 +197,9 @@ has-next :
     (b : Beginning) (workers : ℕ) (inputs : List (List ℕ)) (a w : World) (now : Beginning) (input : List ℕ)
     (rest : List (List ℕ)) (exit : Bool) (going : IsGoing b workers inputs a w now (input ∷ rest) exit) (f : Found)
     → IsMade workers (round_on now input f)
+    → IsWatched workers (round_on now input f)
     → HasNext b workers inputs now input rest going.found going.done f
-has-next b workers inputs a w now input rest exit going f made =
+has-next b workers inputs a w now input rest exit going f made watched =
     let more_found = λ (more : List Found). append_assoc going.found (f ∷ []) more in
     record {
       count = let more = length-more going.found f (length rest) in let count = going.count in omega arith;
@@ -203,6 +209,7 @@ has-next b workers inputs a w now input rest exit going f made =
           (rounds_after (after_round now input f) rest more));
       last = λ more. ap (after_rounds b inputs) (more_found more) ∙ going.last (f ∷ more);
       made = all-more (IsMade workers) going.done (round_on now input f) going.made made;
+      watched = all-more (IsWatched workers) going.done (round_on now input f) going.watched watched;
     }
 
 -- the next round was made and printed
@@ -211,13 +218,13 @@ pub going_next :
     (rest : List (List ℕ)) (exit : Bool) (text : List ℕ) (ended : Bool) (left : History)
     → IsGoing b workers inputs a w now (input ∷ rest) exit
     → IsMadeOn workers now input text ended left
-    → next ≡ record { number = now.number + 1; past = Some left; setup = now.setup; reach = now.reach }
+    → next ≡ record { number = now.number + 1; past = Some left; setup = now.setup; asked = now.asked }
     → Prints w v text → NoneFell w v → AsksNothing w v
     → IsGoing b workers inputs a v next rest (exit && ended)
 going_next b workers inputs a w v now next input rest exit text ended left going one after prints counts asked =
     let f = one.found in
     let r = round_on now input f in
-    let has = has-next b workers inputs a w now input rest exit going f one.made in
+    let has = has-next b workers inputs a w now input rest exit going f one.made one.watched in
     let before = concat (map made_report going.done) in
     let printed : Prints a v (before ++ text) = prints_both a w v before text going.prints prints in
     let texts_are : concat (map made_report (going.done ++ r ∷ [])) ≡ before ++ text =
@@ -228,7 +235,7 @@ going_next b workers inputs a w v now next input rest exit text ended left going
     ∙ ap (λ (c : Bool). list_all made_exits going.done && c) (and-true (made_exits r) ∙ sym one.is_exit)
     ∙ ap (λ (c : Bool). c && ended) (sym going.ended) in
     let leads : next ≡ after_round now input f =
-    after ∙ ap (λ (h : History). record { number = now.number + 1; past = Some h; setup = now.setup; reach = now.reach }) one.is_left in
+    after ∙ ap (λ (h : History). record { number = now.number + 1; past = Some h; setup = now.setup; asked = now.asked }) one.is_left in
     rw leads
     (record {
       found = going.found ++ f ∷ [];
@@ -237,6 +244,7 @@ going_next b workers inputs a w v now next input rest exit text ended left going
       rounds = has.rounds;
       last = has.last;
       made = has.made;
+      watched = has.watched;
       prints = subst (Prints a v) (sym texts_are) printed;
       ended = sym all;
       counts = none_fell_trans a w v going.counts counts;
@@ -325,7 +333,7 @@ going_unprinted b workers inputs a w v now input rest exit text ended left earli
 going_unprinted b workers inputs a w v now input rest exit text ended left earlier later status.WriteFault going one count most cause =
     let f = one.found in
     let r = round_on now input f in
-    let has = has-next b workers inputs a w now input rest exit going f one.made in
+    let has = has-next b workers inputs a w now input rest exit going f one.made one.watched in
     let texts = map made_report going.done in
     let rounds : rounds_after b inputs (going.found ++ f ∷ []) ≡ going.done ++ r ∷ [] =
     next-rounds b workers inputs now input rest going.found going.done f has in
@@ -341,6 +349,8 @@ going_unprinted b workers inputs a w v now input rest exit text ended left earli
         few = let count = has.count in omega arith;
         made = subst (All (IsMade workers)) (sym rounds)
             (All-from_recursion (IsMade workers) (going.done ++ r ∷ []) has.made);
+        watched = subst (All (IsWatched workers)) (sym rounds)
+            (All-from_recursion (IsWatched workers) (going.done ++ r ∷ []) has.watched);
       };
       rounds = let found = has.count in omega arith;
       most = most;

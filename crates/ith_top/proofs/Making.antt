@@ -1,32 +1,33 @@
 -- A round as its workers made it, and the page map of what it goes by and leaves.
-use Rattle.std.proofs.Common.{◌≡◌, ℕ, Bool, false, List, Option, Some, None, refl, ap, sym, ◌∙◌, subst}
+use Rattle.std.proofs.Common.{◌≡◌, ℕ, Bool, true, List, [], length, Option, Some, None, refl, ap, sym, ◌∙◌, subst}
 use Rattle.elf_spec.specs.Image.{image_pages}
 use Rattle.record_spec.specs.Record.{Record}
 use Rattle.machine_spec.specs.Machine.{Machine}
 use Rattle.machine_spec.specs.Setup.{Setup}
 use Rattle.history_spec.specs.History.{History}
 use Rattle.report_spec.specs.declared.Entry.{Entry}
-use Rattle.report_spec.specs.Report.{Told, report_text}
+use Rattle.report_spec.specs.Report.{Told, Extras, no_extras, report_text}
 use Rattle.round_spec.specs.Rounds.{RoundState, history_of}
 use Rattle.round_spec.specs.Instructions.{executed_instructions}
 use Rattle.round_spec.specs.Schedules.{IsBySchedule, events_in, round_by}
 use Rattle.round_spec.proofs.Leaving.{round-past}
 use Rattle.worker_spec.specs.Workers.{IsMadeBy}
+use Rattle.worker_spec.specs.Watching.{IsProgress}
 use Rattle.propagate.specs.Kept.{IsOfMap}
 use Rattle.propagate.proofs.Mapped.{same_image}
 use Rattle.rerun_spec.specs.Rounds.{Found, Round, Beginning, made, left_by, round_on, with_input}
-use Rattle.rerun_spec.specs.Reports.{told_reach, told_as_made, is_exit}
+use Rattle.rerun_spec.specs.Reports.{extras_of, made_extras, told_as_made, is_exit}
 use Rattle.rerun_spec.proofs.Ending.{left-own}
 use Rattle.round_report.specs.Short.{short_text}
 use Rattle.ith_top.specs.Playing.{IsMadeOn, IsLineOn}
 
 -- what is told of a round, part by part
-abbrev told_of : Machine → List Entry → Option ℕ → List Record → List ℕ → Told
-told_of m schedule reached records shares =
+abbrev told_of : Machine → List Entry → Extras → List Record → List ℕ → Told
+told_of m schedule extras records shares =
     record {
       ending = m.ending;
       schedule = schedule;
-      reached = reached;
+      extras = extras;
       instructions = executed_instructions schedule records;
       shares = shares;
       memory = m.memory;
@@ -58,18 +59,19 @@ alike_of r w setup past entries by =
     }
 
 alike-told :
-    (r : Round) (w : RoundState) (reach : Bool) (shares : List ℕ)
-    → IsAlike r w → told_as_made w reach shares ≡ told_as_made (made r) reach shares
-alike-told r w reach shares alike =
-    let reached : told_reach reach w.past w.setup ≡ told_reach reach (made r).past (made r).setup =
-    ap (λ (p : Option History). told_reach reach p w.setup) (sym alike.past)
-    ∙ ap (told_reach reach (made r).past) (sym alike.setup) in
-    ap (λ (m : Machine). told_of m w.schedule (told_reach reach w.past w.setup) w.records shares) (sym alike.machine)
-    ∙ ap (λ (es : List Entry). told_of (made r).machine es (told_reach reach w.past w.setup) w.records shares)
-    (sym alike.schedule)
-    ∙ ap (λ (n : Option ℕ). told_of (made r).machine (made r).schedule n w.records shares) reached
-    ∙ ap (λ (rs : List Record). told_of (made r).machine (made r).schedule
-    (told_reach reach (made r).past (made r).setup) rs shares) (sym alike.records)
+    (r : Round) (w : RoundState) (extras : Extras) (shares : List ℕ)
+    → IsAlike r w → told_as_made w extras shares ≡ told_as_made (made r) extras shares
+alike-told r w extras shares alike =
+    ap (λ (m : Machine). told_of m w.schedule extras w.records shares) (sym alike.machine)
+    ∙ ap (λ (es : List Entry). told_of (made r).machine es extras w.records shares) (sym alike.schedule)
+    ∙ ap (λ (rs : List Record). told_of (made r).machine (made r).schedule extras rs shares) (sym alike.records)
+
+-- and so is what is told of it only if it is asked for
+alike-extras :
+    (r : Round) (w : RoundState) → IsAlike r w → extras_of r.asked w.past w.setup r.found.progress ≡ made_extras r
+alike-extras r w alike =
+    ap (λ (p : Option History). extras_of r.asked p w.setup r.found.progress) (sym alike.past)
+    ∙ ap (λ (s : Setup). extras_of r.asked (made r).past s r.found.progress) (sym alike.setup)
 
 abbrev the_history : Setup → List Record → History
 the_history s rs = record { setup = s; records = rs }
@@ -81,22 +83,25 @@ alike-left r w alike =
 
 -- what workers made of a round, its text, its end and what it leaves
 pub made_on :
-    (workers : ℕ) (b : Beginning) (input : List ℕ) (w : RoundState) (shares text : List ℕ) (exit : Bool)
+    (workers : ℕ) (b : Beginning) (input : List ℕ) (w : RoundState) (f : Found) (text : List ℕ) (exit : Bool)
     (left : History)
-    → w.setup ≡ with_input b.setup input → w.past ≡ b.past → IsBySchedule w
-    → IsMadeBy workers (with_input b.setup input) b.past w.schedule shares
-    → text ≡ report_text b.number (told_as_made w b.reach shares)
+    → w.setup ≡ with_input b.setup input → w.past ≡ b.past → IsBySchedule w → f.entries ≡ w.schedule
+    → IsMadeBy workers (with_input b.setup input) b.past w.schedule f.shares
+    → (b.asked.progress ≡ true → IsProgress workers (length w.schedule) f.progress)
+    → text ≡ report_text b.number (told_as_made w (extras_of b.asked w.past w.setup f.progress) f.shares)
     → exit ≡ is_exit w.machine.ending
     → left ≡ history_of w
     → IsMadeOn workers b input text exit left
-made_on workers b input w shares text exit left setup past by is texts exits leaves =
-    let f : Found = record { entries = w.schedule; shares = shares } in
+made_on workers b input w f text exit left setup past by entries is watched texts exits leaves =
     let r = round_on b input f in
-    let alike : IsAlike r w = alike_of r w setup past refl by in
+    let alike : IsAlike r w = alike_of r w setup past entries by in
     record {
       found = f;
-      made = is;
-      is_text = texts ∙ ap (report_text b.number) (alike-told r w b.reach shares alike);
+      made = subst (λ (es : List Entry). IsMadeBy workers (with_input b.setup input) b.past es f.shares) (sym entries) is;
+      watched = λ yes. subst (λ (es : List Entry). IsProgress workers (length es) f.progress) (sym entries) (watched yes);
+      is_text = texts
+          ∙ ap (λ (e : Extras). report_text b.number (told_as_made w e f.shares)) (alike-extras r w alike)
+          ∙ ap (report_text b.number) (alike-told r w (made_extras r) f.shares alike);
       is_exit = exits ∙ ap (λ (m : Machine). is_exit m.ending) (sym alike.machine);
       is_left = leaves ∙ alike-left r w alike;
     }
@@ -107,18 +112,18 @@ pub line_on :
     (left : History)
     → w.setup ≡ with_input b.setup input → w.past ≡ b.past → IsBySchedule w
     → IsMadeBy workers (with_input b.setup input) b.past w.schedule shares
-    → text ≡ short_text b.number (told_as_made w false shares)
+    → text ≡ short_text b.number (told_as_made w no_extras shares)
     → exit ≡ is_exit w.machine.ending
     → left ≡ history_of w
     → IsLineOn workers b input text exit left
 line_on workers b input w shares text exit left setup past by is texts exits leaves =
-    let f : Found = record { entries = w.schedule; shares = shares } in
+    let f : Found = record { entries = w.schedule; shares = shares; progress = [] } in
     let r = round_on b input f in
     let alike : IsAlike r w = alike_of r w setup past refl by in
     record {
       found = f;
       made = is;
-      is_text = texts ∙ ap (short_text b.number) (alike-told r w false shares alike);
+      is_text = texts ∙ ap (short_text b.number) (alike-told r w no_extras shares alike);
       is_exit = exits ∙ ap (λ (m : Machine). is_exit m.ending) (sym alike.machine);
       is_left = leaves ∙ alike-left r w alike;
     }

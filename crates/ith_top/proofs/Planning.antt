@@ -9,7 +9,8 @@ use Rattle.history_spec.specs.History.{History}
 use Rattle.memo_spec.specs.Spelling.{AreBytes}
 use Rattle.edit_spec.proofs.Bytes.{bytes_of_bytes}
 use Rattle.rerun_spec.specs.Inputs.{AreMade, AreInputs, AreRerunInputs}
-use Rattle.rerun_spec.specs.Rounds.{Beginning, from_scratch, after_memo, with_limits}
+use Rattle.rerun_spec.specs.Rounds.{Beginning, asked_by, from_scratch, after_memo, with_limits}
+use Rattle.rerun_spec.specs.declared.Asked.{Asked}
 use Rattle.rerun_spec.proofs.Inputs.{inputs-count, inputs-short, rerun-count, rerun-short}
 use Rattle.rerun_spec.proofs.Rounds.{with-limits}
 use Rattle.ith_host.specs.World.{World}
@@ -44,22 +45,22 @@ rerun_bytes (list ∷ lists) input inputs bytes are = made_bytes (list ∷ lists
 -- a plan from scratch
 pub run_plan :
     (line : RunLine) (a : World) (c : Contents) (s : Setup) (p : Plan)
-    → AreContents a line c → s ≡ setup_of line c → IsSetup s → p.beginning ≡ from_scratch s line.reach
+    → AreContents a line c → s ≡ setup_of line c → IsSetup s → p.beginning ≡ from_scratch s (asked_by line.reach line.progress)
     → AreInputs s.input c.lists p.inputs
     → IsRunPlan line a p
 run_plan line a c s p are is valid begins edited =
     record {
       contents = c;
       read = record { contents = are; accepted = (subst IsSetup is valid).elf_accepted };
-      beginning = begins ∙ ap (λ (s : Setup). from_scratch s line.reach) is;
+      beginning = begins ∙ ap (λ (s : Setup). from_scratch s (asked_by line.reach line.progress)) is;
       edited = subst (λ (t : Setup). AreInputs t.input c.lists p.inputs) is edited;
     }
 
 pub run_playable :
-    (s : Setup) (reach : Bool) (lists : List (List ℕ)) (p : Plan)
-    → IsSetup s → p.beginning ≡ from_scratch s reach → length p.inputs < 2 ^ 64 → AreInputs s.input lists p.inputs
+    (s : Setup) (asked : Asked) (lists : List (List ℕ)) (p : Plan)
+    → IsSetup s → p.beginning ≡ from_scratch s asked → length p.inputs < 2 ^ 64 → AreInputs s.input lists p.inputs
     → CanBePlayed p
-run_playable s reach lists p valid begins few edited =
+run_playable s asked lists p valid begins few edited =
     let count = inputs-count s.input lists p.inputs edited in
     record {
       some = omega arith;
@@ -70,11 +71,11 @@ run_playable s reach lists p valid begins few edited =
     }
 
 pub run_spelled :
-    (s : Setup) (reach : Bool) (lists : List (List ℕ)) (p : Plan)
-    → IsSetup s → AreBytes s.elf → AreBytes s.input → p.beginning ≡ from_scratch s reach
+    (s : Setup) (asked : Asked) (lists : List (List ℕ)) (p : Plan)
+    → IsSetup s → AreBytes s.elf → AreBytes s.input → p.beginning ≡ from_scratch s asked
     → AreInputs s.input lists p.inputs
     → CanBeSpelled p
-run_spelled s reach lists p valid elf input begins edited =
+run_spelled s asked lists p valid elf input begins edited =
     record {
       valid = subst (λ (b : Beginning). IsSetup b.setup) (sym begins) valid;
       elf = subst (λ (b : Beginning). AreBytes b.setup.elf) (sym begins) elf;
@@ -86,7 +87,7 @@ run_spelled s reach lists p valid elf input begins edited =
 pub rerun_plan :
     (line : RerunLine) (a : World) (memo : List ℕ) (lists : List (List ℕ)) (h : History) (p : Plan)
     → IsMemoContent a line.memo memo → AreLists a line.edits lists → IsMemoOf memo h
-    → p.beginning ≡ after_memo h (limits_for line h) line.reach
+    → p.beginning ≡ after_memo h (limits_for line h) (asked_by line.reach line.progress)
     → AreRerunInputs h.setup.input lists p.inputs → IsRerunPlan line a p
 rerun_plan line a memo lists h p read told is begins edited =
     record {
@@ -101,10 +102,10 @@ rerun_plan line a memo lists h p read told is begins edited =
     }
 
 pub rerun_playable :
-    (memo : List ℕ) (lists : List (List ℕ)) (h : History) (limits : Limits) (reach : Bool) (p : Plan)
-    → IsMemoOf memo h → p.beginning ≡ after_memo h limits reach → 1 + length p.inputs < 2 ^ 64
+    (memo : List ℕ) (lists : List (List ℕ)) (h : History) (limits : Limits) (asked : Asked) (p : Plan)
+    → IsMemoOf memo h → p.beginning ≡ after_memo h limits asked → 1 + length p.inputs < 2 ^ 64
     → AreRerunInputs h.setup.input lists p.inputs → CanBePlayed p
-rerun_playable memo lists h limits reach p is begins few edited =
+rerun_playable memo lists h limits asked p is begins few edited =
     let count = rerun-count h.setup.input lists p.inputs edited in
     record {
       some = omega arith;
@@ -116,10 +117,10 @@ rerun_playable memo lists h limits reach p is begins few edited =
     }
 
 pub rerun_spelled :
-    (memo : List ℕ) (lists : List (List ℕ)) (h : History) (limits : Limits) (reach : Bool) (p : Plan)
-    → IsMemoOf memo h → AreLimits limits.fuel limits.steps → p.beginning ≡ after_memo h limits reach
+    (memo : List ℕ) (lists : List (List ℕ)) (h : History) (limits : Limits) (asked : Asked) (p : Plan)
+    → IsMemoOf memo h → AreLimits limits.fuel limits.steps → p.beginning ≡ after_memo h limits asked
     → AreRerunInputs h.setup.input lists p.inputs → CanBeSpelled p
-rerun_spelled memo lists h limits reach p is within begins edited =
+rerun_spelled memo lists h limits asked p is within begins edited =
     let fits = is.spells.fits in
     record {
       valid = subst (λ (b : Beginning). IsSetup b.setup) (sym begins) (with-limits h.setup limits fits.setup within);

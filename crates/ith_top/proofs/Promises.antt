@@ -12,7 +12,8 @@ use Rattle.round_spec.specs.Schedules.{events_in}
 use Rattle.worker_spec.proofs.Workers.{workers-permitted, workers-complete}
 use Rattle.reach_spec.proofs.ByWorkers.{reexecutes-made}
 use Rattle.rerun_spec.specs.Inputs.{AreShort}
-use Rattle.rerun_spec.specs.Rounds.{Found, Round, Beginning, IsMade, left_by, limits_of, with_input, with_limits, from_scratch, after_memo, CanBegin, round_on, after_round, rounds_after, last_left, IsUneditedRerun}
+use Rattle.rerun_spec.specs.declared.Asked.{Asked}
+use Rattle.rerun_spec.specs.Rounds.{Found, Round, Beginning, IsMade, left_by, limits_of, with_input, with_limits, asked_by, from_scratch, after_memo, CanBegin, round_on, after_round, rounds_after, last_left, IsUneditedRerun}
 use Rattle.rerun_spec.proofs.Rounds.{IsSoundlyMade, each-round, each-made, each-short, at-place, with-short, first-past, scratch-begins, memo-begins, round-made, round-found, round-alone, round-honest}
 use Rattle.rerun_spec.proofs.Repeating.{IsAgain, repeated-after, rerun-again, again-reuses, again-instructions, after-schedule, after-machine}
 use Rattle.rerun_spec.proofs.Reports.{reports-made, exits-made}
@@ -80,43 +81,43 @@ promised_after workers b inputs found can short made unedited =
 
 -- from scratch there is no history to go by
 none_unedited :
-    (s : Setup) (reach : Bool) (inputs : List (List ℕ)) (found : List Found)
-    → Unedited (from_scratch s reach) inputs found
-none_unedited s reach inputs found r h first past same =
-    let none : None ≡ Some h = sym (first-past (from_scratch s reach) inputs found r first) ∙ past in absurd (cc)
+    (s : Setup) (asked : Asked) (inputs : List (List ℕ)) (found : List Found)
+    → Unedited (from_scratch s asked) inputs found
+none_unedited s asked inputs found r h first past same =
+    let none : None ≡ Some h = sym (first-past (from_scratch s asked) inputs found r first) ∙ past in absurd (cc)
 
 -- after a memo there is the memo's
 memo_unedited :
-    (workers : ℕ) (h : History) (limits : Limits) (reach : Bool) (inputs : List (List ℕ)) (found : List Found) → IsHonest h
-    → All (IsMade workers) (rounds_after (after_memo h limits reach) inputs found)
-    → Unedited (after_memo h limits reach) inputs found
-memo_unedited workers h limits reach inputs found honest made r k first past same =
-    let is : Some h ≡ Some k = sym (first-past (after_memo h limits reach) inputs found r first) ∙ past in
+    (workers : ℕ) (h : History) (limits : Limits) (asked : Asked) (inputs : List (List ℕ)) (found : List Found) → IsHonest h
+    → All (IsMade workers) (rounds_after (after_memo h limits asked) inputs found)
+    → Unedited (after_memo h limits asked) inputs found
+memo_unedited workers h limits asked inputs found honest made r k first past same =
+    let is : Some h ≡ Some k = sym (first-past (after_memo h limits asked) inputs found r first) ∙ past in
     let one : h ≡ k = cc in
     let its : r.setup ≡ h.setup = same ∙ ap (λ (x : History). x.setup) (sym one) in
-    let unedited : IsUneditedRerun h limits reach inputs found r =
+    let unedited : IsUneditedRerun h limits asked inputs found r =
     record {
       first = first;
       same_input = ap (λ (s : Setup). s.input) its;
       same_limits = ap limits_of its;
     } in
-    let rounds = rounds_after (after_memo h limits reach) inputs found in
+    let rounds = rounds_after (after_memo h limits asked) inputs found in
     let this : IsMade workers r = at-place (IsMade workers) rounds 0 r (each-made workers rounds made) first in
     subst (λ (x : History). OnlyRepeats x r) one
-    (again_repeats workers h r (rerun-again h limits reach inputs found r honest unedited) this)
+    (again_repeats workers h r (rerun-again h limits asked inputs found r honest unedited) this)
 
 -- rounds from scratch
 pub promised_from_scratch :
-    (workers : ℕ) (s : Setup) (reach : Bool) (p : Plan) (found : List Found)
-    → p.beginning ≡ from_scratch s reach → CanBePlayed p → CanBeSpelled p → AreFound workers p found
+    (workers : ℕ) (s : Setup) (asked : Asked) (p : Plan) (found : List Found)
+    → p.beginning ≡ from_scratch s asked → CanBePlayed p → CanBeSpelled p → AreFound workers p found
     → ArePromised workers (rounds_of p found)
-promised_from_scratch workers s reach p found begins playable spelled are =
+promised_from_scratch workers s asked p found begins playable spelled are =
     let valid : IsSetup s = subst (λ (b : Beginning). IsSetup b.setup) begins spelled.valid in
-    let made : All (IsMade workers) (rounds_after (from_scratch s reach) p.inputs found) =
+    let made : All (IsMade workers) (rounds_after (from_scratch s asked) p.inputs found) =
     subst (λ (b : Beginning). All (IsMade workers) (rounds_after b p.inputs found)) begins are.made in
     subst (λ (b : Beginning). ArePromised workers (rounds_after b p.inputs found)) (sym begins)
-    (promised_after workers (from_scratch s reach) p.inputs found (scratch-begins s reach valid) playable.short made
-    (none_unedited s reach p.inputs found))
+    (promised_after workers (from_scratch s asked) p.inputs found (scratch-begins s asked valid) playable.short made
+    (none_unedited s asked p.inputs found))
 
 -- rounds that go by a memo
 promised_rerun :
@@ -129,11 +130,11 @@ promised_rerun line a p found is playable spelled are honest =
     let true_of : IsHonest h = subst (λ (b : Beginning). BeginsHonestly b) is.beginning honest in
     let valid : IsSetup (with_limits h.setup limits) =
     subst (λ (b : Beginning). IsSetup b.setup) is.beginning spelled.valid in
-    let made : All (IsMade line.workers) (rounds_after (after_memo h limits line.reach) p.inputs found) =
+    let made : All (IsMade line.workers) (rounds_after (after_memo h limits (asked_by line.reach line.progress)) p.inputs found) =
     subst (λ (b : Beginning). All (IsMade line.workers) (rounds_after b p.inputs found)) is.beginning are.made in
     subst (λ (b : Beginning). ArePromised line.workers (rounds_after b p.inputs found)) (sym is.beginning)
-    (promised_after line.workers (after_memo h limits line.reach) p.inputs found
-    (memo-begins h limits line.reach true_of valid.limits) playable.short made (memo_unedited line.workers h limits line.reach p.inputs found true_of made))
+    (promised_after line.workers (after_memo h limits (asked_by line.reach line.progress)) p.inputs found
+    (memo-begins h limits (asked_by line.reach line.progress) true_of valid.limits) playable.short made (memo_unedited line.workers h limits (asked_by line.reach line.progress) p.inputs found true_of made))
 
 -- the rounds of a line begin with what its plan says
 pub promised_of :
@@ -141,7 +142,7 @@ pub promised_of :
     → IsPlan line a p → CanBePlayed p → CanBeSpelled p → AreFound (workers_of line) p found
     → BeginsHonestly p.beginning → ArePromised (workers_of line) (rounds_of p found)
 promised_of (Runs line) a p found is playable spelled are honest =
-    promised_from_scratch line.workers (setup_of line is.contents) line.reach p found is.beginning playable spelled are
+    promised_from_scratch line.workers (setup_of line is.contents) (asked_by line.reach line.progress) p found is.beginning playable spelled are
 promised_of (Reruns line) a p found is playable spelled are honest =
     promised_rerun line a p found is playable spelled are honest
 promised_of (Replays line) a p found is playable spelled are honest = absurd is

@@ -7,7 +7,7 @@ use Rattle.machine_spec.specs.Machine.{Machine}
 use Rattle.machine_spec.specs.Setup.{Setup, first, scratch}
 use Rattle.memory_spec.specs.Pages.{Memory}
 use Rattle.report_spec.specs.declared.Entry.{Entry as Executed}
-use Rattle.report_spec.specs.Report.{Told, threads_of, told_of}
+use Rattle.report_spec.specs.Report.{Told, no_extras, threads_of, told_of}
 use Rattle.rerun_spec.specs.Reports.{is_exit, all_executed}
 use Rattle.plain_machine.specs.declared.replaying.Outcome.{Outcome}
 use Rattle.plain_machine.specs.Replaying.{IsOutcomeOf}
@@ -129,7 +129,7 @@ telling entries ending instructions memory output =
     record {
       ending = ending;
       schedule = entries;
-      reached = None;
+      extras = no_extras;
       instructions = instructions;
       shares = [];
       memory = memory;
@@ -142,7 +142,7 @@ pub replay_told :
     → IsOutcomeOf setup threads o → TellsOfReplay threads o text → text ≡ replay_of setup threads
 replay_told setup threads text o is tells =
     let entries = all_executed threads in
-    let told : Told = told_of setup entries None [] in
+    let told : Told = told_of setup entries no_extras [] in
     let machine : scratch setup threads ≡ scratch setup (threads_of entries) =
     ap (scratch setup) (sym (executed-threads threads)) in
     let ending : Some o.ending ≡ told.ending = sym is.ending ∙ ap (λ (m : Machine). m.ending) machine in

@@ -11,7 +11,7 @@ use Rattle.history_spec.specs.History.{History}
 use Rattle.memo_spec.specs.declared.TheConstants.{MOST_MEMO_BYTES}
 use Rattle.memo_spec.specs.Reading.{IsTaken}
 use Rattle.rerun_spec.specs.Inputs.{AreInputs, AreRerunInputs}
-use Rattle.rerun_spec.specs.Rounds.{Beginning, from_scratch, after_memo}
+use Rattle.rerun_spec.specs.Rounds.{Beginning, asked_by, nothing_asked, from_scratch, after_memo}
 use Rattle.schedule_list.specs.declared.TheConstants.{MOST_SCHEDULE_BYTES}
 use Rattle.schedule_list.specs.Schedule.{Says}
 use Rattle.rv_asm.specs.Items.{items_bytes}
@@ -99,7 +99,7 @@ pub record Plan : Type 0 where
 pub record IsRunPlan (line : RunLine) (before : World) (p : Plan) : Type 0 where
   pub contents : Contents
   pub read : WasRead line before contents
-  pub beginning : p.beginning ≡ from_scratch (setup_of line contents) line.reach
+  pub beginning : p.beginning ≡ from_scratch (setup_of line contents) (asked_by line.reach line.progress)
   pub edited : AreInputs contents.input contents.lists p.inputs
 
 -- The limits of a line that reruns a memo: each is its own, or the memo's where it has none.
@@ -117,7 +117,7 @@ pub record IsRerunPlan (line : RerunLine) (before : World) (p : Plan) : Type 0 w
   pub lists_read : AreLists before line.edits lists
   pub history : History
   pub accepted : IsMemoOf memo history
-  pub beginning : p.beginning ≡ after_memo history (limits_for line history) line.reach
+  pub beginning : p.beginning ≡ after_memo history (limits_for line history) (asked_by line.reach line.progress)
   pub edited : AreRerunInputs history.setup.input lists p.inputs
 
 -- The rerun that a line explains: one round after the edit list, by one worker and with the memo's limits.
@@ -131,6 +131,7 @@ as_rerun line =
       limit = None;
       kept = None;
       reach = false;
+      progress = false;
     }
 
 -- The line that lists the memo of a name.
@@ -143,7 +144,7 @@ pub record IsGeneratedPlan (number : ℕ) (p : Plan) : Type 0 where
   pub elf : List ℕ
   pub guest : IsGuest BASE (items_bytes ITEMS) ZEROS elf
   pub beginning : p.beginning ≡ from_scratch
-      (record { elf = elf; input = input_of number; fuel = default_fuel; limit = default_limit }) false
+      (record { elf = elf; input = input_of number; fuel = default_fuel; limit = default_limit }) nothing_asked
   pub edited : AreInputs (input_of number) (list_of number ∷ []) p.inputs
 
 -- A plan of a line; lines that replay a schedule, and those that show a memo, audit it or find its races, ask for no

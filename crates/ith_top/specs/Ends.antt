@@ -19,7 +19,7 @@ use Rattle.plain_machine.specs.Replaying.{IsFirstForbidden}
 use Rattle.report_spec.specs.Text.{line as text_line}
 use Rattle.round_report.specs.Replay.{replay_of}
 use Rattle.round_report.specs.Short.{short_of}
-use Rattle.rerun_spec.specs.Rounds.{Found, Round, IsMade, last_left}
+use Rattle.rerun_spec.specs.Rounds.{Found, Round, IsMade, IsWatched, last_left}
 use Rattle.rerun_spec.specs.Reports.{is_exit, all_exit, made_reports, all_made_exit}
 use Rattle.schedule_list.specs.Schedule.{Says}
 use Rattle.ith_words.specs.Words.{Text, Line, Runs, Reruns, Replays, Shows, Explains, FindsRaces, Audits, Generates, RunLine, RerunLine, ReplayLine, ShowLine, ExplainLine, RacesLine, AuditLine, GenerateLine}
@@ -33,7 +33,8 @@ use Rattle.ith_top.specs.Explaining.{explained_round, AreTheReasons, why_of}
 use Rattle.ith_top.specs.Statuses.{code_of}
 
 -- What a line's rounds come from, the schedules that its workers found of the first of them, and what is promised of
--- these rounds: so many workers made each of them; they are from scratch where they begin with no history or with an
+-- these rounds: so many workers made each of them; if the progress is asked for, each report tells what was read of it,
+-- of which the last is how many steps the round has; they are from scratch where they begin with no history or with an
 -- honest one; and whatever they begin with, each has an end, and what it leaves can be spelled.
 pub record HasRounds (line : Line) (before : World) : Type 0 where
   pub plan : Plan
@@ -41,6 +42,7 @@ pub record HasRounds (line : Line) (before : World) : Type 0 where
   pub found : List Found
   pub few : length found ≤ length plan.inputs
   pub made : All (IsMade (workers_of line)) (rounds_of plan found)
+  pub watched : All (IsWatched (workers_of line)) (rounds_of plan found)
   pub promised : BeginsHonestly plan.beginning → ArePromised (workers_of line) (rounds_of plan found)
   pub kept : All CanBeKept (rounds_of plan found)
 

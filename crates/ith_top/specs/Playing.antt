@@ -9,8 +9,9 @@ use Rattle.why_report.specs.Reasons.{reasons_of, reasons_by, scratch_before, exe
 use Rattle.memo_spec.specs.Spelling.{AreBytes, memo}
 use Rattle.round_memo_spec.specs.Spelled.{IsSpelledPast}
 use Rattle.propagate.specs.Kept.{IsOfMap}
+use Rattle.report_spec.specs.Report.{no_extras}
 use Rattle.rerun_spec.specs.Inputs.{AreShort}
-use Rattle.rerun_spec.specs.Rounds.{Found, Beginning, IsMade, left_by, round_on, with_input}
+use Rattle.rerun_spec.specs.Rounds.{Found, Beginning, IsMade, IsWatched, left_by, round_on, with_input}
 use Rattle.rerun_spec.specs.Reports.{made_report, made_exits, all_exit, all_made_exit, all_executed}
 use Rattle.plain_machine.specs.declared.replaying.Outcome.{Outcome}
 use Rattle.schedule_list.specs.Schedule.{Says}
@@ -28,7 +29,7 @@ use Rattle.ith_top.specs.Ends.{Prints, PrintsAndKeeps, IsKeptWithin, texts_of, l
 -- What the rounds of a plan in code begin with, as a beginning of the definitions.
 abbrev pub beginning_said : Planned → Beginning
 beginning_said p =
-    record { number = p.number; past = option_map arc_value p.past; setup = p.setup; reach = p.reach }
+    record { number = p.number; past = option_map arc_value p.past; setup = p.setup; asked = p.asked }
 
 -- A plan in code, as one of the definitions.
 abbrev pub plan_said : Planned → Plan
@@ -51,21 +52,24 @@ pub record CanBeSpelled (p : Plan) : Type 0 where
 
 -- What the round that comes next begins with, of a line whose first round has this setup.
 abbrev pub beginning_of : Setup → Next → Beginning
-beginning_of s n = record { number = n.number; past = option_map arc_value n.past; setup = s; reach = n.reach }
+beginning_of s n = record { number = n.number; past = option_map arc_value n.past; setup = s; asked = n.asked }
 
--- So many workers made a round of this beginning, on this input: the text that tells of it, whether it ended by exit,
--- and what it leaves.
+-- So many workers made a round of this beginning, on this input, and it was watched if that is asked for: the text that
+-- tells of it, whether it ended by exit, and what it leaves.
 pub record IsMadeOn (workers : ℕ) (b : Beginning) (input text : List ℕ) (exit : Bool) (left : History) : Type 0 where
   pub found : Found
   pub made : IsMade workers (round_on b input found)
+  pub watched : IsWatched workers (round_on b input found)
   pub is_text : text ≡ made_report (round_on b input found)
   pub is_exit : exit ≡ made_exits (round_on b input found)
   pub is_left : left ≡ left_by (round_on b input found)
 
--- So many workers found these schedules of the first rounds of a plan, one of each.
+-- So many workers found these schedules of the first rounds of a plan, one of each, which were watched if that is asked
+-- for.
 pub record AreFound (workers : ℕ) (p : Plan) (found : List Found) : Type 0 where
   pub few : length found ≤ length p.inputs
   pub made : All (IsMade workers) (rounds_of p found)
+  pub watched : All (IsWatched workers) (rounds_of p found)
 
 -- All rounds of a plan were made by so many workers, which made no other since they had made so many; exactly the texts
 -- of these rounds were printed; whether each ended by exit, and what the last one leaves.
@@ -108,7 +112,7 @@ TellsOfReplay threads o text =
     (record {
       ending = Some o.ending;
       schedule = all_executed threads;
-      reached = None;
+      extras = no_extras;
       instructions = o.instructions;
       shares = [];
       memory = o.memory;

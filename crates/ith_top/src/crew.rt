@@ -1,15 +1,16 @@
 //! Who makes the rounds of a line, and how many were made.
 
-ghost use Rattle.std.specs.Prelude.{◌≡◌, ◌+◌, ◌≤◌, ℕ, option_map, IfOk};
+ghost use Rattle.std.specs.Prelude.{◌≡◌, ◌+◌, ◌≤◌, ℕ, true, length, option_map, IfOk};
 ghost use Rattle.std.specs.Arc.{arc_value};
 ghost use Rattle.std.specs.Borrow.{ftrue};
 ghost use Rattle.round_spec.specs.Schedules.{IsBySchedule};
 ghost use Rattle.worker_spec.specs.Workers.{IsMadeBy};
+ghost use Rattle.worker_spec.specs.Watching.{IsProgress};
 
 use ith_host::Gate;
 use propagate::Round;
 use release_core::{History, Setup};
-use rerun_workers::run_round;
+use rerun_workers::{run_round, run_round_watched};
 use std::alloc::{AllocError, Global};
 use std::marker::{Model, PhantomData};
 use std::sync::{Arc, Wait};
@@ -42,6 +43,17 @@ impl Made {
     {}
 }
 
+/// A round that workers made.
+#[derive(Drop)]
+pub struct Worked {
+    /// The round, which has an end.
+    pub round: Round,
+    /// How many of its steps each worker made.
+    pub shares: Vec<u64>,
+    /// The numbers of steps that were read meanwhile; none if nobody watched.
+    pub progress: Vec<u64>,
+}
+
 /// Who makes the rounds of a line. It alone is lent the runtime for them: nobody else can make a round, and it counts
 /// each.
 #[derive(Drop)]
@@ -67,7 +79,7 @@ impl<'a, R: Threads + Wait + Sync, G: Gate + Sync> Crew<'a, R, G> {
         }
     }
 
-    /// Makes a round, and tells how many of its steps each worker made. It counts, also where the host's memory ran out.
+    /// Makes a round, which is watched if that is asked for. It counts, also if the host's memory ran out.
     ///
     /// # Errors
     ///
@@ -77,16 +89,37 @@ impl<'a, R: Threads + Wait + Sync, G: Gate + Sync> Crew<'a, R, G> {
         alloc: Global,
         setup: Setup,
         past: Option<Arc<History>>,
-    ) -> Result<(Round, Vec<u64>), AllocError>
-        ensures setup { IfOk result (λ r. r.0.setup ≡ setup) }
-        ensures past { IfOk result (λ r. r.0.past ≡ option_map arc_value past) }
-        ensures stands { IfOk result (λ r. IsBySchedule r.0) }
+        watched: bool,
+    ) -> Result<Worked, AllocError>
+        ensures setup { IfOk result (λ r. r.round.setup ≡ setup) }
+        ensures past { IfOk result (λ r. r.round.past ≡ option_map arc_value past) }
+        ensures stands { IfOk result (λ r. IsBySchedule r.round) }
         ensures made { IfOk result (λ r.
-            IsMadeBy self.old.workers setup (option_map arc_value past) r.0.schedule r.1.items) }
+            IsMadeBy self.old.workers setup (option_map arc_value past) r.round.schedule r.shares.items) }
+        ensures watched { IfOk result (λ r.
+            watched ≡ true → IsProgress self.old.workers (length r.round.schedule) r.progress.items) }
         ensures counted { self.new.made.number ≡ self.old.made.number + 1 }
         ensures workers { self.new.workers ≡ self.old.workers }
     {
         self.made.raise();
-        run_round(self.rt, alloc, setup, past, self.workers, self.gate)
+        let Crew {
+            rt, workers, gate, ..
+        } = self;
+        if watched {
+            let (round, shares, progress) =
+                run_round_watched(*rt, alloc, setup, past, *workers, *gate)?;
+            Ok(Worked {
+                round,
+                shares,
+                progress,
+            })
+        } else {
+            let (round, shares) = run_round(*rt, alloc, setup, past, *workers, *gate)?;
+            Ok(Worked {
+                round,
+                shares,
+                progress: Vec::new(alloc),
+            })
+        }
     }
 }

@@ -41,6 +41,7 @@ fn as_rerun<'a>(alloc: Global, line: &ExplainLine<'a>) -> Result<RerunLine<'a>, 
         steps: None,
         kept: None,
         reach: false,
+        progress: false,
     })
 }
 

@@ -1,6 +1,6 @@
 //! What the program does of a line that runs the generated guest.
 
-ghost use Rattle.std.specs.Prelude.{◌≡◌, ◌+◌, ◌≤◌, ◌++◌, false, codes, decimal, length, option_map, IfOk, IfErr};
+ghost use Rattle.std.specs.Prelude.{◌≡◌, ◌+◌, ◌≤◌, ◌++◌, codes, decimal, length, option_map, IfOk, IfErr};
 ghost use Rattle.std.specs.Arc.{arc_value};
 ghost use Rattle.elf_load.specs.Load.{Refuses};
 ghost use Rattle.elf_spec.specs.declared.TheConstants.{MOST_ELF_BYTES};
@@ -9,6 +9,8 @@ ghost use Rattle.machine_spec.specs.Setup.{IsSetup};
 ghost use Rattle.memo_spec.specs.Spelling.{AreBytes};
 ghost use Rattle.report_spec.specs.Text.{line as text_line};
 ghost use Rattle.propagate.specs.Kept.{IsOfMap};
+ghost use Rattle.report_spec.specs.Report.{no_extras};
+ghost use Rattle.rerun_spec.specs.Rounds.{nothing_asked};
 ghost use Rattle.rerun_spec.specs.Reports.{told_as_made};
 ghost use Rattle.round_report.specs.Short.{short_text};
 ghost use Rattle.ith_words.specs.Words.{Generates, default_fuel, default_limit};
@@ -18,7 +20,7 @@ ghost use Rattle.ith_top.specs.Ends.{GenerateEnds};
 ghost use Rattle.ith_top.specs.Counting.{MakesRounds};
 ghost use Rattle.ith_top.specs.Playing.{plan_said, beginning_of, CanBePlayed, CanBeSpelled, IsLineOn, AreTheGenerated};
 
-use super::crew::Crew;
+use super::crew::{Crew, Worked};
 use super::outside::print_text;
 use super::plan::{Plan, from_scratch};
 use super::report::{Next, Played, is_exit};
@@ -31,6 +33,7 @@ use ith_text::decimal;
 use ith_words::{GenerateLine, default_limits};
 use propagate::Round;
 use release_core::Setup;
+use rerun_spec::Asked;
 use round_inputs::{InputsError, inputs_of};
 use round_report::{Told, short};
 use std::alloc::{AllocError, Global};
@@ -69,9 +72,19 @@ fn prepare(alloc: Global, number: u32) -> Result<Plan, AllocError>
         Err(LoadError::NoMemory) => return Err(AllocError),
     };
     match inputs_of(alloc, copy, &[edits]) {
-        Ok(inputs) => Ok(from_scratch(setup, inputs, false)),
+        Ok(inputs) => Ok(from_scratch(setup, inputs, nothing_asked())),
         Err(InputsError::Refused { .. }) => unreachable!(),
         Err(InputsError::NoMemory) => Err(AllocError),
+    }
+}
+
+/// No line that is there only if it is asked for.
+fn nothing_asked() -> Asked
+    ensures { result ≡ nothing_asked }
+{
+    Asked {
+        reach: false,
+        progress: false,
     }
 }
 
@@ -82,12 +95,13 @@ fn round_line(
     round: &Round,
     shares: &[u64],
 ) -> Result<Vec<u8>, AllocError>
-    ensures { IfOk result (λ text. text.items ≡ short_text number (told_as_made round.now false shares.now)) }
+    ensures { IfOk result (λ text. text.items ≡ short_text number (told_as_made round.now no_extras shares.now)) }
 {
     let told = Told {
         ending: round.end(),
         schedule: round.schedule(),
         reached: None,
+        progress: None,
         instructions: round.instructions(),
         shares,
         memory: round.memory(),
@@ -118,7 +132,7 @@ fn make_line<R: Threads + Wait + Sync, G: Gate + Sync>(
         ..
     } = next;
     let start = setup.with(input, setup.limits())?;
-    let (round, shares) = crew.make(alloc, start, past)?;
+    let Worked { round, shares, .. } = crew.make(alloc, start, past, false)?;
     let text = round_line(alloc, number as u64, &round, shares.as_slice())?;
     let exited = is_exit(round.end());
     let Some(left) = round.into_history() else {
@@ -175,14 +189,14 @@ fn make_both<R: Threads + Wait + Sync, G: Gate + Sync>(
         number: 0,
         input,
         past: None,
-        reach: false,
+        asked: nothing_asked(),
     };
     let first = make_line(alloc, &setup, next, crew)?;
     let next = Next {
         number: 1,
         input: edited,
         past: Some(first.left),
-        reach: false,
+        asked: nothing_asked(),
     };
     let second = make_line(alloc, &setup, next, crew)?;
     let text = text_of(alloc, number, first.text.as_slice(), second.text.as_slice())?;

@@ -32,17 +32,17 @@ pub use status::Status;
 
 /// Does what the words ask for, and gives the exit status. The words begin with the program's name.
 ///
-/// `run ELF INPUT [EDITS].. --workers W --fuel F --steps S --memo FILE --reach` runs the executable on the input from
-/// scratch, and then once for each edit list, on the input of the round before after the list's edits.
+/// `run ELF INPUT [EDITS].. --workers W --fuel F --steps S --memo FILE --reach --progress` runs the executable on the input
+/// from scratch, and then once for each edit list, on the input of the round before after the list's edits.
 ///
-/// `rerun MEMO [EDITS].. --workers W --fuel F --steps S --memo FILE --reach` goes on from the round that a memo holds: once for
-/// each edit list, or once without an edit; with the memo's fuel and step limit where the line names
+/// `rerun MEMO [EDITS].. --workers W --fuel F --steps S --memo FILE --reach --progress` goes on from the round that a memo
+/// holds: once for each edit list, or once without an edit; with the memo's fuel and step limit where the line names
 /// none.
 ///
 /// The line's workers make each round together: it takes from the round before it the steps whose records fit, and
 /// they execute the others, where each comes to the gate before it executes a thunk. The report of each round tells the
-/// schedule that they found and how many steps each of them made, and with `--reach` how many steps of the round before
-/// its edit reaches. It is printed before the next round begins; after the last one the memo of what it leaves is
+/// schedule that they found and how many steps each of them made, with `--reach` how many steps of the round before its
+/// edit reaches, and with `--progress` how many steps were made as often as somebody looked. It is printed before the next round begins; after the last one the memo of what it leaves is
 /// written, where the line names one. The options may be left out.
 ///
 /// `replay ELF INPUT SCHEDULE --fuel F --steps S` executes each instruction of the executable on the input, in the order
@@ -55,6 +55,7 @@ pub use status::Status;
 ///
 /// `races MEMO` tells of a memo how many pairs of its steps touch a page without an order by threads and objects, and
 /// lists the first of them.
+///
 /// `audit MEMO --workers W` executes the steps of a memo again, and tells whether the memo is honest, or which of its
 /// records is the first that isn't as the machine makes it.
 ///

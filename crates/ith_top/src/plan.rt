@@ -26,6 +26,7 @@ use ith_words::{RerunLine, RunLine};
 use machine_spec::{Limits, MOST_INPUT_BYTES};
 use memo_file::{ReadError, read};
 use release_core::{History, Setup};
+use rerun_spec::Asked;
 use round_inputs::{Inputs, InputsError, inputs_of};
 use std::alloc::{AllocError, Global};
 use std::sync::Arc;
@@ -41,8 +42,8 @@ pub struct Plan {
     pub setup: Setup,
     /// Their inputs, in order, each made when the one before it is taken out.
     pub inputs: Inputs,
-    /// Whether their reports tell what is reached.
-    pub reach: bool,
+    /// Which lines are asked for in their reports.
+    pub asked: Asked,
 }
 
 /// Makes a setup of what was read, with the limits of a line.
@@ -183,9 +184,9 @@ fn after_memo(
     history: History,
     inputs: Inputs,
     limits: Limits,
-    reach: bool,
+    asked: Asked,
 ) -> Result<Plan, AllocError>
-    ensures beginning { IfOk result (λ plan. beginning_said plan ≡ begin.after_memo history limits reach) }
+    ensures beginning { IfOk result (λ plan. beginning_said plan ≡ begin.after_memo history limits asked) }
     ensures inputs { IfOk result (λ plan. plan.inputs ≡ inputs) }
 {
     history.setup().sound();
@@ -197,13 +198,13 @@ fn after_memo(
         past: Some(past),
         setup,
         inputs,
-        reach,
+        asked,
     })
 }
 
 /// The plan of rounds from scratch on these inputs.
-pub fn from_scratch(setup: Setup, inputs: Inputs, reach: bool) -> Plan
-    ensures beginning { beginning_said result ≡ begin.from_scratch setup reach }
+pub fn from_scratch(setup: Setup, inputs: Inputs, asked: Asked) -> Plan
+    ensures beginning { beginning_said result ≡ begin.from_scratch setup asked }
     ensures inputs { result.inputs ≡ inputs }
     ensures few { length inputs < 2 ^ 64 }
 {
@@ -213,7 +214,7 @@ pub fn from_scratch(setup: Setup, inputs: Inputs, reach: bool) -> Plan
         past: None,
         setup,
         inputs,
-        reach,
+        asked,
     }
 }
 
@@ -239,7 +240,11 @@ pub fn prepare<H: Host>(alloc: Global, host: &mut H, line: &RunLine<'_>) -> Resu
         lists.as_slice(),
         line.edits.as_slice(),
     )?;
-    Ok(from_scratch(setup, inputs, line.reach))
+    let asked = Asked {
+        reach: line.reach,
+        progress: line.progress,
+    };
+    Ok(from_scratch(setup, inputs, asked))
 }
 
 /// What rounds a line asks for that reruns a memo: its files are read, the memo is looked at, and then the edit lists
@@ -269,7 +274,11 @@ pub fn prepare_rerun<H: Host>(
         line.edits.as_slice(),
     )?;
     let limits = limits_for(line, &history);
-    match after_memo(alloc, history, inputs, limits, line.reach) {
+    let asked = Asked {
+        reach: line.reach,
+        progress: line.progress,
+    };
+    match after_memo(alloc, history, inputs, limits, asked) {
         Ok(plan) => Ok(plan),
         Err(_) => {
             host.complain(NO_MEMORY);

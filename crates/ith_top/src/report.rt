@@ -3,16 +3,16 @@
 ghost use Rattle.std.specs.Prelude.{◌≡◌, ◌+◌, ◌≤◌, length, option_map, IfOk};
 ghost use Rattle.std.specs.Arc.{arc_value};
 ghost use Rattle.machine_spec.specs.declared.TheConstants.{MOST_INPUT_BYTES};
-ghost use Rattle.report_spec.specs.Report.{report_text};
 ghost use Rattle.propagate.specs.Kept.{IsOfMap};
 ghost use Rattle.rerun_spec.specs.Reports as reports;
 ghost use Rattle.ith_top.specs.Playing.{beginning_of, IsMadeOn};
 
-use super::crew::Crew;
+use super::crew::{Crew, Worked};
 use ith_host::Gate;
 use machine_spec::End;
 use propagate::Round;
 use release_core::{History, Setup};
+use rerun_spec::Asked;
 use round_report::{Digested, Told, text};
 use std::alloc::{AllocError, Global};
 use std::sync::{Arc, Wait};
@@ -30,7 +30,7 @@ pub struct Played {
 }
 
 /// A round that comes next, of a line's program: its number, its input, and the history that it goes by, if there is
-/// one; and whether its report tells what is reached.
+/// one; and which lines are asked for in its report.
 #[derive(Drop)]
 pub struct Next {
     /// How many rounds come before it.
@@ -39,33 +39,31 @@ pub struct Next {
     pub input: Vec<u8>,
     /// What the round before it left.
     pub past: Option<Arc<History>>,
-    /// Whether its report tells what is reached.
-    pub reach: bool,
+    /// Which lines are asked for in its report.
+    pub asked: Asked,
 }
 
-/// The text that tells of a round, of what it reaches where that is asked for, and of the shares of its workers. The
-/// digest of its memory is kept.
-fn round_text(
-    alloc: Global,
-    number: u64,
-    round: &Round,
-    reach: bool,
-    shares: &[u64],
-    last: &mut Option<Digested>,
-) -> Result<Vec<u8>, AllocError>
-    ensures { IfOk result (λ text. text.items ≡ report_text number (reports.told_as_made round.now reach shares.now)) }
+/// What there is to tell of a round, with the lines that are asked for, and with the shares of its workers.
+fn told_of<'a>(
+    round: &'a Round,
+    asked: Asked,
+    shares: &'a [u64],
+    progress: &'a [u64],
+) -> Result<Told<'a>, AllocError>
+    ensures { IfOk result (λ told. told ≡ reports.told_as_made round.now
+        (reports.extras_of asked round.now.past round.now.setup progress.now) shares.now) }
 {
-    let reached = if reach { Some(round.reached()?) } else { None };
-    let told = Told {
+    let reached = if asked.reach { Some(round.reached()?) } else { None };
+    Ok(Told {
         ending: round.end(),
         schedule: round.schedule(),
         reached,
+        progress: if asked.progress { Some(progress) } else { None },
         instructions: round.instructions(),
         shares,
         memory: round.memory(),
         output: round.output(),
-    };
-    text(alloc, number, &told, last)
+    })
 }
 
 /// Whether an end is an exit.
@@ -100,11 +98,16 @@ pub fn make_round<R: Threads + Wait + Sync, G: Gate + Sync>(
         number,
         input,
         past,
-        reach,
+        asked,
     } = next;
     let start = setup.with(input, setup.limits())?;
-    let (round, shares) = crew.make(alloc, start, past)?;
-    let text = round_text(alloc, number as u64, &round, reach, shares.as_slice(), last)?;
+    let Worked {
+        round,
+        shares,
+        progress,
+    } = crew.make(alloc, start, past, asked.progress)?;
+    let told = told_of(&round, asked, shares.as_slice(), progress.as_slice())?;
+    let text = text(alloc, number as u64, &told, last)?;
     let exited = is_exit(round.end());
     let Some(left) = round.into_history() else {
         unreachable!()

@@ -60,7 +60,7 @@ pub fn make_rounds<R: Threads + Wait + Sync, H: Host, G: Gate + Sync>(
         mut past,
         setup,
         mut inputs,
-        reach,
+        asked,
     } = plan;
     let mut last = None;
     let mut exits = true;
@@ -74,7 +74,7 @@ pub fn make_rounds<R: Threads + Wait + Sync, H: Host, G: Gate + Sync>(
             number: first + place,
             input,
             past,
-            reach,
+            asked,
         };
         let Played { text, exited, left } = match make_round(
             alloc, &setup, ahead, crew, &mut last,

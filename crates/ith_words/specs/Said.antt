@@ -22,6 +22,7 @@ run_said l = record {
   limit = l.limits.steps;
   kept = option_map (λ name. name.now) l.kept;
   reach = l.reach;
+  progress = l.progress;
 }
 
 -- The line that goes on from a memo, in the same way.
@@ -34,6 +35,7 @@ rerun_said l = record {
   limit = l.steps;
   kept = option_map (λ name. name.now) l.kept;
   reach = l.reach;
+  progress = l.progress;
 }
 
 -- The line that replays a schedule, in the same way.

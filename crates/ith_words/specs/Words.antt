@@ -17,7 +17,7 @@ Text = List ℕ
 
 -- A line that runs a guest: the names of the executable, of the input and of the edit lists, in order, how many
 -- workers, the limits, the name of the memo to write, if there is to be one, and whether the reports tell what an edit
--- reaches.
+-- reaches and what was read of the progress.
 pub record RunLine : Type 0 where
   pub elf : Text
   pub input : Text
@@ -27,10 +27,11 @@ pub record RunLine : Type 0 where
   pub limit : ℕ
   pub kept : Option Text
   pub reach : Bool
+  pub progress : Bool
 
 -- A line that goes on from a memo: the names of the memo to read and of the edit lists, in order, how many workers,
 -- the fuel and the step limit, each if it isn't to be the memo's, the name of the memo to write, if there is to be one,
--- and whether the reports tell what an edit reaches.
+-- and whether the reports tell what an edit reaches and what was read of the progress.
 pub record RerunLine : Type 0 where
   pub memo : Text
   pub edits : List Text
@@ -39,6 +40,7 @@ pub record RerunLine : Type 0 where
   pub limit : Option ℕ
   pub kept : Option Text
   pub reach : Bool
+  pub progress : Bool
 
 -- A line that replays a schedule: the names of the executable, of the input and of the schedule, and the limits.
 pub record ReplayLine : Type 0 where
@@ -126,9 +128,9 @@ steps_rule = number_rule (codes "steps") MOST_STEPS
 abbrev pub memo_rule : Rule
 memo_rule = record (new_rule (codes "memo")) { long = Some (codes "memo"); action = Some Set }
 
--- The option to tell what an edit reaches, which has no argument.
-abbrev pub reach_rule : Rule
-reach_rule = record (new_rule (codes "reach")) { long = Some (codes "reach"); action = Some SetTrue }
+-- An option that has no argument.
+abbrev pub flag_rule : List ℕ → Rule
+flag_rule name = record (new_rule name) { long = Some name; action = Some SetTrue }
 
 -- A command with arguments more, in their order.
 abbrev pub with_rules : App → List Rule → App
@@ -139,18 +141,19 @@ with_rules command (rule ∷ rules) = with_rules (with_rule command rule) rules
 abbrev pub command : Text → List Rule → App
 command name rules = with_rules (new_app name) rules
 
--- The command that runs a guest: the executable, the input, any number of edit lists, and five options.
+-- The command that runs a guest: the executable, the input, any number of edit lists, and six options.
 abbrev pub run_command : App
 run_command =
     command (codes "run")
     (operand_rule (codes "ELF") ∷ operand_rule (codes "INPUT") ∷ edits_rule ∷ workers_rule ∷ fuel_rule ∷ steps_rule
-    ∷ memo_rule ∷ reach_rule ∷ [])
+    ∷ memo_rule ∷ flag_rule (codes "reach") ∷ flag_rule (codes "progress") ∷ [])
 
--- The command that goes on from a memo: the memo, any number of edit lists, and five options.
+-- The command that goes on from a memo: the memo, any number of edit lists, and six options.
 abbrev pub rerun_command : App
 rerun_command =
     command (codes "rerun")
-    (operand_rule (codes "MEMO") ∷ edits_rule ∷ workers_rule ∷ fuel_rule ∷ steps_rule ∷ memo_rule ∷ reach_rule ∷ [])
+    (operand_rule (codes "MEMO") ∷ edits_rule ∷ workers_rule ∷ fuel_rule ∷ steps_rule ∷ memo_rule
+    ∷ flag_rule (codes "reach") ∷ flag_rule (codes "progress") ∷ [])
 
 -- The command that replays a schedule: three operands, and two options.
 abbrev pub replay_command : App
@@ -246,9 +249,9 @@ limit_named rows = unwrap_or (limit_given rows) default_limit
 abbrev pub memo_named : List Row → Option Text
 memo_named rows = first_of (codes "memo") rows
 
--- Whether the reports tell what an edit reaches.
-abbrev pub reach_named : List Row → Bool
-reach_named rows = flag_given (one_of (codes "reach") rows)
+-- Whether the line has an option that has no argument.
+abbrev pub flag_named : List ℕ → List Row → Bool
+flag_named name rows = flag_given (one_of name rows)
 
 -- The number to generate from, which has to be there.
 abbrev pub number_named : List Row → ℕ
@@ -265,7 +268,8 @@ run_line rows =
       fuel = fuel_named rows;
       limit = limit_named rows;
       kept = memo_named rows;
-      reach = reach_named rows;
+      reach = flag_named (codes "reach") rows;
+      progress = flag_named (codes "progress") rows;
     }
 
 -- The line of what was found for the operands and options of the command that goes on from a memo.
@@ -278,7 +282,8 @@ rerun_line rows =
       fuel = fuel_given rows;
       limit = limit_given rows;
       kept = memo_named rows;
-      reach = reach_named rows;
+      reach = flag_named (codes "reach") rows;
+      progress = flag_named (codes "progress") rows;
     }
 
 -- The line of what was found for the operands and options of the command that replays a schedule.

@@ -1,6 +1,6 @@
 //! The command line that the program takes, as a command of `clap`.
 
-ghost use Rattle.std.specs.Prelude.{◌≡◌, All, map, IfOk, false};
+ghost use Rattle.std.specs.Prelude.{◌≡◌, All, map, codes, IfOk, false};
 ghost use Rattle.clap.specs.Words.{app_of, rule_of, shape_of, with_subcommand};
 ghost use Rattle.clap.specs.declared.builder.command.Command.TheViews.{out-Command};
 ghost use Rattle.ith_words.specs.Words as line;
@@ -84,15 +84,31 @@ fn memo<'a>(alloc: Global) -> Arg<'a>
         .help("The name of the memo to write")
 }
 
-/// The option to tell what an edit reaches.
-fn reach<'a>(alloc: Global) -> Arg<'a>
-    ensures rule { rule_of result ≡ line.reach_rule }
+/// An option that has no argument.
+fn flag<'a>(alloc: Global, name: &'a str, help: &'a str) -> Arg<'a>
+    ensures rule { rule_of result ≡ line.flag_rule name.entry.now }
     ensures local { result.global ≡ false }
 {
-    Arg::new(alloc, "reach")
-        .long("reach")
+    Arg::new(alloc, name)
+        .long(name)
         .action(ArgAction::SetTrue)
-        .help("Tells how many old steps an edit reaches")
+        .help(help)
+}
+
+/// The option to tell what an edit reaches.
+fn reach<'a>(alloc: Global) -> Arg<'a>
+    ensures rule { rule_of result ≡ line.flag_rule (codes "reach") }
+    ensures local { result.global ≡ false }
+{
+    flag(alloc, "reach", "Tells how many old steps an edit reaches")
+}
+
+/// The option to tell how many steps were made, as often as that was looked at.
+fn progress<'a>(alloc: Global) -> Arg<'a>
+    ensures rule { rule_of result ≡ line.flag_rule (codes "progress") }
+    ensures local { result.global ≡ false }
+{
+    flag(alloc, "progress", "Tells how many steps were made, as often as it was looked at")
 }
 
 /// The command of this name with these arguments, in their order.
@@ -126,6 +142,7 @@ fn run_command<'a>(alloc: Global) -> Result<Command<'a>, AllocError>
         steps(alloc, most),
         memo(alloc),
         reach(alloc),
+        progress(alloc),
     ]?;
     command(alloc, "run", "Runs a guest from scratch", args)
 }
@@ -145,6 +162,7 @@ fn rerun_command<'a>(alloc: Global) -> Result<Command<'a>, AllocError>
         steps(alloc, most),
         memo(alloc),
         reach(alloc),
+        progress(alloc),
     ]?;
     command(alloc, "rerun", "Goes on from a memo", args)
 }

@@ -115,10 +115,10 @@ pub fn memo_of<'a>(given: &ArgMatches<'a>) -> Option<&'a str>
     given.get_str("memo")
 }
 
-/// Whether the reports tell what an edit reaches.
-pub fn reach_of(given: &ArgMatches<'_>) -> bool
-    ensures { result ≡ line.reach_named (rows_of (found_of given.now)) }
+/// Whether the line has an option that has no argument.
+pub fn flag_of(given: &ArgMatches<'_>, name: &str) -> bool
+    ensures { result ≡ line.flag_named name.now (rows_of (found_of given.now)) }
 {
     // the contract of `get_flag` says nothing of a text that is no `bool`
-    given.get_one::<bool>("reach").unwrap_or(false)
+    given.get_one::<bool>(name).unwrap_or(false)
 }

@@ -57,6 +57,8 @@ pub struct RunLine<'a> {
     pub kept: Option<&'a str>,
     /// Whether the reports tell what an edit reaches.
     pub reach: bool,
+    /// Whether the reports tell how many steps were made, as often as that was looked at meanwhile.
+    pub progress: bool,
     ghost some_worker: { 1 ≤ workers },
     ghost most_workers: { workers ≤ MOST_WORKERS },
 }
@@ -78,6 +80,8 @@ pub struct RerunLine<'a> {
     pub kept: Option<&'a str>,
     /// Whether the reports tell what an edit reaches.
     pub reach: bool,
+    /// Whether the reports tell how many steps were made, as often as that was looked at meanwhile.
+    pub progress: bool,
     ghost some_worker: { 1 ≤ workers },
     ghost most_workers: { workers ≤ MOST_WORKERS },
     ghost fuel_within: { IfSome fuel (λ f. (1 ≤ f) × (f ≤ MOST_FUEL)) } by { Prim.hlevel props },

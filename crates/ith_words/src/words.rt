@@ -8,7 +8,7 @@ ghost use Rattle.ith_words.specs.Refusals.{WhyNoLine, WhyFault};
 
 use super::command::command_line;
 use super::given::{
-    edits_of, fuel_of, generator_of, limits_of, memo_of, operand_of, reach_of, steps_of, workers_of,
+    edits_of, fuel_of, generator_of, limits_of, memo_of, operand_of, flag_of, steps_of, workers_of,
 };
 use super::line::{
     AuditLine, ExplainLine, GenerateLine, Line, RacesLine, ReplayLine, RerunLine, RunLine, ShowLine,
@@ -79,7 +79,8 @@ fn run_line<'a>(alloc: Global, given: &ArgMatches<'a>) -> Result<RunLine<'a>, Al
         workers: workers_of(given),
         limits: limits_of(given),
         kept: memo_of(given),
-        reach: reach_of(given),
+        reach: flag_of(given, "reach"),
+        progress: flag_of(given, "progress"),
     })
 }
 
@@ -98,7 +99,8 @@ fn rerun_line<'a>(alloc: Global, given: &ArgMatches<'a>) -> Result<RerunLine<'a>
         fuel: fuel_of(given),
         steps: steps_of(given),
         kept: memo_of(given),
-        reach: reach_of(given),
+        reach: flag_of(given, "reach"),
+        progress: flag_of(given, "progress"),
     })
 }
 

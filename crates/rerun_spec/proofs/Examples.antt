@@ -11,6 +11,7 @@ use Rattle.edit_spec.specs.Edit.{Edit, Set, Size}
 use Rattle.edit_spec.specs.Grammar.{Spells, IsEdit, Says, SpellBytes, lines}
 use Rattle.edit_spec.proofs.Spelling.{digits-decimal, same_around_space, other_word}
 use Rattle.edit_spec.proofs.Examples.{five, zero_is_spelled}
+use Rattle.rerun_spec.specs.declared.Asked.{Asked}
 use Rattle.rerun_spec.specs.Inputs.{Makes, AreInputs, AreRerunInputs, BadLine, OutOfRange, IsFirstRefused}
 use Rattle.rerun_spec.specs.Rounds.{Found, Round, limits_of, with_input, with_limits, left_by, from_scratch, after_memo, round_on, after_round, rounds_after, after_rounds, last_left, IsRepeated, IsUneditedRerun}
 use Rattle.rerun_spec.specs.Reports.{is_exit}
@@ -88,73 +89,73 @@ refused-first = inl (half_byte_is_bad, refl)
 
 -- Round 0 goes by nothing, and round 1 by what round 0 leaves.
 pub rounds-two :
-    (s : Setup) (reach : Bool) (a b : List ℕ) (f g : Found)
-    → rounds_after (from_scratch s reach) (a ∷ b ∷ []) (f ∷ g ∷ [])
-    ≡ record { number = 0; setup = with_input s a; past = None; reach = reach; found = f }
+    (s : Setup) (asked : Asked) (a b : List ℕ) (f g : Found)
+    → rounds_after (from_scratch s asked) (a ∷ b ∷ []) (f ∷ g ∷ [])
+    ≡ record { number = 0; setup = with_input s a; past = None; asked = asked; found = f }
     ∷ record {
       number = 1;
       setup = with_input s b;
-      past = Some (left_by (record { number = 0; setup = with_input s a; past = None; reach = reach; found = f }));
-      reach = reach;
+      past = Some (left_by (record { number = 0; setup = with_input s a; past = None; asked = asked; found = f }));
+      asked = asked;
       found = g;
     }
     ∷ []
-rounds-two s reach a b f g = refl
+rounds-two s asked a b f g = refl
 
 -- After a memo, round 1 goes by its history, and round 2 by what round 1 leaves; both have the limits that are asked for.
 pub reruns-two :
-    (h : History) (limits : Limits) (reach : Bool) (a b : List ℕ) (f g : Found)
-    → rounds_after (after_memo h limits reach) (a ∷ b ∷ []) (f ∷ g ∷ [])
-    ≡ record { number = 1; setup = with_input (with_limits h.setup limits) a; past = Some h; reach = reach; found = f }
+    (h : History) (limits : Limits) (asked : Asked) (a b : List ℕ) (f g : Found)
+    → rounds_after (after_memo h limits asked) (a ∷ b ∷ []) (f ∷ g ∷ [])
+    ≡ record { number = 1; setup = with_input (with_limits h.setup limits) a; past = Some h; asked = asked; found = f }
     ∷ record {
       number = 2;
       setup = with_input (with_limits h.setup limits) b;
       past =
           Some (left_by
-          (record { number = 1; setup = with_input (with_limits h.setup limits) a; past = Some h; reach = reach; found = f }));
-      reach = reach;
+          (record { number = 1; setup = with_input (with_limits h.setup limits) a; past = Some h; asked = asked; found = f }));
+      asked = asked;
       found = g;
     }
     ∷ []
-reruns-two h limits reach a b f g = refl
+reruns-two h limits asked a b f g = refl
 
 -- Where one thing was found so far, there is one round, whatever inputs are to come.
 pub rounds-one_of_two :
-    (s : Setup) (reach : Bool) (a b : List ℕ) (f : Found)
-    → rounds_after (from_scratch s reach) (a ∷ b ∷ []) (f ∷ [])
-    ≡ record { number = 0; setup = with_input s a; past = None; reach = reach; found = f } ∷ []
-rounds-one_of_two s reach a b f = refl
+    (s : Setup) (asked : Asked) (a b : List ℕ) (f : Found)
+    → rounds_after (from_scratch s asked) (a ∷ b ∷ []) (f ∷ [])
+    ≡ record { number = 0; setup = with_input s a; past = None; asked = asked; found = f } ∷ []
+rounds-one_of_two s asked a b f = refl
 
 -- The last of them leaves what round 2 does; and with no round the memo's history is left.
 pub left-two :
-    (h : History) (limits : Limits) (reach : Bool) (a b : List ℕ) (f g : Found)
-    → last_left (after_memo h limits reach) (a ∷ b ∷ []) (f ∷ g ∷ [])
+    (h : History) (limits : Limits) (asked : Asked) (a b : List ℕ) (f g : Found)
+    → last_left (after_memo h limits asked) (a ∷ b ∷ []) (f ∷ g ∷ [])
     ≡ left_by (record {
       number = 2;
       setup = with_input (with_limits h.setup limits) b;
       past =
           Some (left_by
-          (record { number = 1; setup = with_input (with_limits h.setup limits) a; past = Some h; reach = reach; found = f }));
-      reach = reach;
+          (record { number = 1; setup = with_input (with_limits h.setup limits) a; past = Some h; asked = asked; found = f }));
+      asked = asked;
       found = g;
     })
-left-two h limits reach a b f g = refl
+left-two h limits asked a b f g = refl
 
-pub left-none : (h : History) (limits : Limits) (reach : Bool) (found : List Found) → last_left (after_memo h limits reach) [] found ≡ h
-left-none h limits reach found = refl
+pub left-none : (h : History) (limits : Limits) (asked : Asked) (found : List Found) → last_left (after_memo h limits asked) [] found ≡ h
+left-none h limits asked found = refl
 
 -- From scratch and with no round a history of no steps is left.
 pub left-scratch :
-    (s : Setup) (reach : Bool) (found : List Found) → last_left (from_scratch s reach) [] found ≡ record { setup = s; records = [] }
-left-scratch s reach found = refl
+    (s : Setup) (asked : Asked) (found : List Found) → last_left (from_scratch s asked) [] found ≡ record { setup = s; records = [] }
+left-scratch s asked found = refl
 
 -- The third round is without an edit, though the second isn't.
 pub repeated-third :
-    (s : Setup) (reach : Bool) (a b : List ℕ) (f g k : Found)
-    → IsRepeated (rounds_after (from_scratch s reach) (a ∷ b ∷ b ∷ []) (f ∷ g ∷ k ∷ []))
-    (round_on (after_round (from_scratch s reach) a f) b g)
-    (round_on (after_rounds (from_scratch s reach) (a ∷ b ∷ []) (f ∷ g ∷ [])) b k)
-repeated-third s reach a b f g k = record { place = 1; one = refl; next = refl; same = refl }
+    (s : Setup) (asked : Asked) (a b : List ℕ) (f g k : Found)
+    → IsRepeated (rounds_after (from_scratch s asked) (a ∷ b ∷ b ∷ []) (f ∷ g ∷ k ∷ []))
+    (round_on (after_round (from_scratch s asked) a f) b g)
+    (round_on (after_rounds (from_scratch s asked) (a ∷ b ∷ []) (f ∷ g ∷ [])) b k)
+repeated-third s asked a b f g k = record { place = 1; one = refl; next = refl; same = refl }
 
 -- A rerun with a list is on what the list makes alone, and one without is on the input itself.
 pub rerun-emptied : AreRerunInputs five (codes "size 0" ∷ []) ([] ∷ [])
@@ -165,10 +166,10 @@ rerun-unedited = refl
 
 -- A rerun with another fuel or another step limit than the memo's isn't without an edit.
 pub rerun-limits :
-    (h : History) (limits : Limits) (reach : Bool) (input : List ℕ) (f : Found) (r : Round)
-    → IsUneditedRerun h limits reach (input ∷ []) (f ∷ []) r → limits ≡ limits_of h.setup
-rerun-limits h limits reach input f r rerun =
-    ap (λ (q : Round). limits_of q.setup) (same_Some (round_on (after_memo h limits reach) input f) r rerun.first)
+    (h : History) (limits : Limits) (asked : Asked) (input : List ℕ) (f : Found) (r : Round)
+    → IsUneditedRerun h limits asked (input ∷ []) (f ∷ []) r → limits ≡ limits_of h.setup
+rerun-limits h limits asked input f r rerun =
+    ap (λ (q : Round). limits_of q.setup) (same_Some (round_on (after_memo h limits asked) input f) r rerun.first)
     ∙ rerun.same_limits
 
 -- An exit with another code than 0 is an exit; no other end is one.

@@ -105,11 +105,11 @@ setup-later b [] found = refl
 setup-later b (input ∷ inputs) [] = refl
 setup-later b (input ∷ inputs) (f ∷ found) = setup-later (after_round b input f) inputs found
 
-pub reach-later :
-    (b : Beginning) (inputs : List (List ℕ)) (found : List Found) → (after_rounds b inputs found).reach ≡ b.reach
-reach-later b [] found = refl
-reach-later b (input ∷ inputs) [] = refl
-reach-later b (input ∷ inputs) (f ∷ found) = reach-later (after_round b input f) inputs found
+pub asked-later :
+    (b : Beginning) (inputs : List (List ℕ)) (found : List Found) → (after_rounds b inputs found).asked ≡ b.asked
+asked-later b [] found = refl
+asked-later b (input ∷ inputs) [] = refl
+asked-later b (input ∷ inputs) (f ∷ found) = asked-later (after_round b input f) inputs found
 
 -- after a round there is a history, which the last round left
 pub past-later :

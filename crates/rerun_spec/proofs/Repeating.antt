@@ -16,6 +16,7 @@ use Rattle.worker_spec.specs.OneWorker.{executed_in}
 use Rattle.worker_spec.proofs.Unedited.{unedited-marks, reused-instructions, unedited-never_runs, unedited-executed}
 use Rattle.worker_spec.proofs.Workers.{workers-threads, workers-reuse}
 use Rattle.worker_spec.specs.Workers.{IsMadeBy}
+use Rattle.rerun_spec.specs.declared.Asked.{Asked}
 use Rattle.rerun_spec.specs.Inputs.{AreShort}
 use Rattle.rerun_spec.specs.Rounds.{limits_of, with_input, with_limits, Found, Round, made, IsMade, left_by, Beginning, after_memo, CanBegin, round_on, rounds_after, schedule_in, entries_of, machine_of, IsRepeated, IsUneditedRerun}
 use Rattle.rerun_spec.proofs.Rounds.{IsSoundlyMade, round-honest, left-setup, left-schedule, each-round, IsNext, next-after, at-place}
@@ -61,10 +62,10 @@ repeated-after b inputs found workers before after can short made repeated =
 
 -- so does the first round of a rerun on the memo's input with its limits
 rerun-round :
-    (h : History) (limits : Limits) (reach : Bool) (r : Round) (input : List ℕ) (f : Found)
-    → round_on (after_memo h limits reach) input f ≡ r → r.setup.input ≡ h.setup.input
+    (h : History) (limits : Limits) (asked : Asked) (r : Round) (input : List ℕ) (f : Found)
+    → round_on (after_memo h limits asked) input f ≡ r → r.setup.input ≡ h.setup.input
     → limits_of r.setup ≡ limits_of h.setup → IsHonest h → IsAgain h r
-rerun-round h limits reach r input f is same_input same_limits honest =
+rerun-round h limits asked r input f is same_input same_limits honest =
     let made : with_input (with_limits h.setup limits) input ≡ r.setup = ap (λ (q : Round). q.setup) is in
     let asked : limits_of h.setup ≡ limits = sym same_limits ∙ sym (ap limits_of made) in
     let read : h.setup.input ≡ input = sym same_input ∙ sym (ap (λ (s : Setup). s.input) made) in
@@ -75,12 +76,12 @@ rerun-round h limits reach r input f is same_input same_limits honest =
     }
 
 pub rerun-again :
-    (h : History) (limits : Limits) (reach : Bool) (inputs : List (List ℕ)) (found : List Found) (r : Round)
-    → IsHonest h → IsUneditedRerun h limits reach inputs found r → IsAgain h r
-rerun-again h limits reach [] found r honest rerun = absurd (let no : None ≡ Some r = rerun.first in cc)
-rerun-again h limits reach (input ∷ inputs) [] r honest rerun = absurd (let no : None ≡ Some r = rerun.first in cc)
-rerun-again h limits reach (input ∷ inputs) (f ∷ found) r honest rerun =
-    rerun-round h limits reach r input f (same_Some (round_on (after_memo h limits reach) input f) r rerun.first) rerun.same_input
+    (h : History) (limits : Limits) (asked : Asked) (inputs : List (List ℕ)) (found : List Found) (r : Round)
+    → IsHonest h → IsUneditedRerun h limits asked inputs found r → IsAgain h r
+rerun-again h limits asked [] found r honest rerun = absurd (let no : None ≡ Some r = rerun.first in cc)
+rerun-again h limits asked (input ∷ inputs) [] r honest rerun = absurd (let no : None ≡ Some r = rerun.first in cc)
+rerun-again h limits asked (input ∷ inputs) (f ∷ found) r honest rerun =
+    rerun-round h limits asked r input f (same_Some (round_on (after_memo h limits asked) input f) r rerun.first) rerun.same_input
     rerun.same_limits honest
 
 -- what holds of the history's own setup holds of the round

@@ -11,16 +11,17 @@ use Rattle.machine_spec.specs.Setup.{Setup, IsSetup, first, scratch}
 use Rattle.machine_spec.specs.Choice.{alone}
 use Rattle.report_spec.specs.declared.Entry.{Entry}
 use Rattle.history_spec.specs.History.{History}
-use Rattle.report_spec.specs.Report.{threads_of, instructions_from, told_of, report_text, report}
+use Rattle.report_spec.specs.Report.{Extras, threads_of, instructions_from, told_of, report_text, report}
 use Rattle.round_spec.specs.Marks.{marked_from}
 use Rattle.round_spec.specs.Schedules.{events_in}
 use Rattle.round_spec.specs.Instructions.{executed_instructions}
 use Rattle.round_spec.proofs.Agreeing.{one_worker-nothing}
 use Rattle.round_spec.proofs.Executed.{round-executed}
 use Rattle.round_spec.proofs.Leaving.{round-setup, round-past}
+use Rattle.rerun_spec.specs.declared.Asked.{Asked}
 use Rattle.rerun_spec.specs.Inputs.{AreInputs, AreRerunInputs, AreShort}
 use Rattle.rerun_spec.specs.Rounds.{limits_of, with_limits, Found, Round, made, IsMade, Beginning, from_scratch, after_memo, CanBegin, round_on, rounds_after, after_rounds, entries_of, IsUneditedRerun}
-use Rattle.rerun_spec.specs.Reports.{all_executed, told_reach, reach_in, report_of, reports_of, is_exit, exits, all_exit, told_as_made, made_report, made_reports, made_exits, all_made_exit}
+use Rattle.rerun_spec.specs.Reports.{all_executed, extras_of, extras_in, made_extras, report_of, reports_of, is_exit, exits, all_exit, told_as_made, made_report, made_reports, made_exits, all_made_exit}
 use Rattle.rerun_spec.proofs.Inputs.{only-input}
 use Rattle.rerun_spec.proofs.Rounds.{IsSoundlyMade, each-made, each-round, count-after, scratch-begins, round-threads, round-entries, round-machine, round-alone}
 use Rattle.rerun_spec.proofs.Going.{rounds-later, rounds-one}
@@ -39,39 +40,39 @@ only-round b inputs f are =
     ap (λ (is : List (List ℕ)). rounds_after b is (f ∷ [])) (only-input b.setup.input inputs are)
 
 first-report :
-    (setup : Setup) (reach : Bool) (f : Found)
-    → reports_of (round_on (from_scratch setup reach) setup.input f ∷ [])
-    ≡ report 0 setup (all_executed (threads_of f.entries)) (told_reach reach None setup) f.shares ∷ []
+    (setup : Setup) (asked : Asked) (f : Found)
+    → reports_of (round_on (from_scratch setup asked) setup.input f ∷ [])
+    ≡ report 0 setup (all_executed (threads_of f.entries)) (extras_of asked None setup f.progress) f.shares ∷ []
 unfolding reports_of
-first-report setup reach f =
-    ap (λ (es : List Entry). report 0 setup es (told_reach reach None setup) f.shares ∷ []) (marks-nothing (first setup) (threads_of f.entries))
+first-report setup asked f =
+    ap (λ (es : List Entry). report 0 setup es (extras_of asked None setup f.progress) f.shares ∷ []) (marks-nothing (first setup) (threads_of f.entries))
 
 pub only-report :
-    (setup : Setup) (reach : Bool) (inputs : List (List ℕ)) (f : Found)
+    (setup : Setup) (asked : Asked) (inputs : List (List ℕ)) (f : Found)
     → AreInputs setup.input [] inputs
-    → reports_of (rounds_after (from_scratch setup reach) inputs (f ∷ []))
-    ≡ report 0 setup (all_executed (threads_of f.entries)) (told_reach reach None setup) f.shares ∷ []
-only-report setup reach inputs f are =
-    ap (λ (rs : List Round). reports_of rs) (only-round (from_scratch setup reach) inputs f are) ∙ first-report setup reach f
+    → reports_of (rounds_after (from_scratch setup asked) inputs (f ∷ []))
+    ≡ report 0 setup (all_executed (threads_of f.entries)) (extras_of asked None setup f.progress) f.shares ∷ []
+only-report setup asked inputs f are =
+    ap (λ (rs : List Round). reports_of rs) (only-round (from_scratch setup asked) inputs f are) ∙ first-report setup asked f
 
 and-true : (b : Bool) → (b && true) ≡ b
 and-true true = refl
 and-true false = refl
 
 first-exits :
-    (setup : Setup) (reach : Bool) (f : Found)
-    → all_exit (round_on (from_scratch setup reach) setup.input f ∷ [])
+    (setup : Setup) (asked : Asked) (f : Found)
+    → all_exit (round_on (from_scratch setup asked) setup.input f ∷ [])
     ≡ is_exit (scratch setup (threads_of f.entries)).ending
 unfolding all_exit
-first-exits setup reach f = and-true (is_exit (scratch setup (threads_of f.entries)).ending)
+first-exits setup asked f = and-true (is_exit (scratch setup (threads_of f.entries)).ending)
 
 pub only-exits :
-    (setup : Setup) (reach : Bool) (inputs : List (List ℕ)) (f : Found)
+    (setup : Setup) (asked : Asked) (inputs : List (List ℕ)) (f : Found)
     → AreInputs setup.input [] inputs
-    → all_exit (rounds_after (from_scratch setup reach) inputs (f ∷ []))
+    → all_exit (rounds_after (from_scratch setup asked) inputs (f ∷ []))
     ≡ is_exit (scratch setup (threads_of f.entries)).ending
-only-exits setup reach inputs f are =
-    ap (λ (rs : List Round). all_exit rs) (only-round (from_scratch setup reach) inputs f are) ∙ first-exits setup reach f
+only-exits setup asked inputs f are =
+    ap (λ (rs : List Round). all_exit rs) (only-round (from_scratch setup asked) inputs f are) ∙ first-exits setup asked f
 
 -- one worker makes it as the choice says, and has all shares
 pub record IsAlone (setup : Setup) (f : Found) : Type 0 where
@@ -84,12 +85,12 @@ only-share (share ∷ []) steps one all = let same : share ≡ steps = omega ari
 only-share (share ∷ other ∷ shares) steps one all = absurd (omega arith)
 
 alone-first :
-    (setup : Setup) (reach : Bool) (f : Found) → IsSetup setup → IsMade 1 (round_on (from_scratch setup reach) setup.input f)
+    (setup : Setup) (asked : Asked) (f : Found) → IsSetup setup → IsMade 1 (round_on (from_scratch setup asked) setup.input f)
     → IsAlone setup f
-alone-first setup reach f valid made =
-    let r = round_on (from_scratch setup reach) setup.input f in
+alone-first setup asked f valid made =
+    let r = round_on (from_scratch setup asked) setup.input f in
     let threads : threads_of f.entries ≡ alone setup =
-    round-alone r (record { can = scratch-begins setup reach valid; made = made }) ∙ one_worker-nothing setup in
+    round-alone r (record { can = scratch-begins setup asked valid; made = made }) ∙ one_worker-nothing setup in
     record {
       threads = threads;
       shares =
@@ -99,51 +100,51 @@ alone-first setup reach f valid made =
     }
 
 pub only-alone :
-    (setup : Setup) (reach : Bool) (inputs : List (List ℕ)) (f : Found)
+    (setup : Setup) (asked : Asked) (inputs : List (List ℕ)) (f : Found)
     → IsSetup setup → AreInputs setup.input [] inputs
-    → All (IsMade 1) (rounds_after (from_scratch setup reach) inputs (f ∷ []))
+    → All (IsMade 1) (rounds_after (from_scratch setup asked) inputs (f ∷ []))
     → IsAlone setup f
-only-alone setup reach inputs f valid are made =
-    let each = each-made 1 (rounds_after (from_scratch setup reach) inputs (f ∷ [])) made in
-    let here : AllByRecursion (IsMade 1) (round_on (from_scratch setup reach) setup.input f ∷ []) =
-    rw (only-round (from_scratch setup reach) inputs f are) at each in
-    alone-first setup reach f valid here.0
+only-alone setup asked inputs f valid are made =
+    let each = each-made 1 (rounds_after (from_scratch setup asked) inputs (f ∷ [])) made in
+    let here : AllByRecursion (IsMade 1) (round_on (from_scratch setup asked) setup.input f ∷ []) =
+    rw (only-round (from_scratch setup asked) inputs f are) at each in
+    alone-first setup asked f valid here.0
 
 pub alone-report :
-    (setup : Setup) (reach : Bool) (inputs : List (List ℕ)) (f : Found)
+    (setup : Setup) (asked : Asked) (inputs : List (List ℕ)) (f : Found)
     → IsSetup setup → AreInputs setup.input [] inputs
-    → All (IsMade 1) (rounds_after (from_scratch setup reach) inputs (f ∷ []))
-    → reports_of (rounds_after (from_scratch setup reach) inputs (f ∷ []))
-    ≡ report 0 setup (all_executed (alone setup)) (told_reach reach None setup) (length (alone setup) ∷ []) ∷ []
-alone-report setup reach inputs f valid are made =
-    let is = only-alone setup reach inputs f valid are made in
-    only-report setup reach inputs f are
-    ∙ ap (λ (ts : List ℕ). report 0 setup (all_executed ts) (told_reach reach None setup) f.shares ∷ []) is.threads
-    ∙ ap (λ (shares : List ℕ). report 0 setup (all_executed (alone setup)) (told_reach reach None setup) shares ∷ []) is.shares
+    → All (IsMade 1) (rounds_after (from_scratch setup asked) inputs (f ∷ []))
+    → reports_of (rounds_after (from_scratch setup asked) inputs (f ∷ []))
+    ≡ report 0 setup (all_executed (alone setup)) (extras_of asked None setup f.progress) (length (alone setup) ∷ []) ∷ []
+alone-report setup asked inputs f valid are made =
+    let is = only-alone setup asked inputs f valid are made in
+    only-report setup asked inputs f are
+    ∙ ap (λ (ts : List ℕ). report 0 setup (all_executed ts) (extras_of asked None setup f.progress) f.shares ∷ []) is.threads
+    ∙ ap (λ (shares : List ℕ). report 0 setup (all_executed (alone setup)) (extras_of asked None setup f.progress) shares ∷ []) is.shares
 
 pub alone-exits :
-    (setup : Setup) (reach : Bool) (inputs : List (List ℕ)) (f : Found)
+    (setup : Setup) (asked : Asked) (inputs : List (List ℕ)) (f : Found)
     → IsSetup setup → AreInputs setup.input [] inputs
-    → All (IsMade 1) (rounds_after (from_scratch setup reach) inputs (f ∷ []))
-    → all_exit (rounds_after (from_scratch setup reach) inputs (f ∷ [])) ≡ is_exit (scratch setup (alone setup)).ending
-alone-exits setup reach inputs f valid are made =
-    only-exits setup reach inputs f are
-    ∙ ap (λ (ts : List ℕ). is_exit (scratch setup ts).ending) (only-alone setup reach inputs f valid are made).threads
+    → All (IsMade 1) (rounds_after (from_scratch setup asked) inputs (f ∷ []))
+    → all_exit (rounds_after (from_scratch setup asked) inputs (f ∷ [])) ≡ is_exit (scratch setup (alone setup)).ending
+alone-exits setup asked inputs f valid are made =
+    only-exits setup asked inputs f are
+    ∙ ap (λ (ts : List ℕ). is_exit (scratch setup ts).ending) (only-alone setup asked inputs f valid are made).threads
 
 -- without lists a rerun is one round, without an edit where its limits are the memo's
 pub only-rerun :
-    (h : History) (limits : Limits) (reach : Bool) (inputs : List (List ℕ)) (f : Found) → AreRerunInputs h.setup.input [] inputs
-    → rounds_after (after_memo h limits reach) inputs (f ∷ [])
-    ≡ record { number = 1; setup = with_limits h.setup limits; past = Some h; reach = reach; found = f } ∷ []
-only-rerun h limits reach inputs f are = ap (λ (is : List (List ℕ)). rounds_after (after_memo h limits reach) is (f ∷ [])) are
+    (h : History) (limits : Limits) (asked : Asked) (inputs : List (List ℕ)) (f : Found) → AreRerunInputs h.setup.input [] inputs
+    → rounds_after (after_memo h limits asked) inputs (f ∷ [])
+    ≡ record { number = 1; setup = with_limits h.setup limits; past = Some h; asked = asked; found = f } ∷ []
+only-rerun h limits asked inputs f are = ap (λ (is : List (List ℕ)). rounds_after (after_memo h limits asked) is (f ∷ [])) are
 
 pub only-unedited :
-    (h : History) (reach : Bool) (inputs : List (List ℕ)) (f : Found) → AreRerunInputs h.setup.input [] inputs
-    → IsUneditedRerun h (limits_of h.setup) reach inputs (f ∷ [])
-    (record { number = 1; setup = h.setup; past = Some h; reach = reach; found = f })
-only-unedited h reach inputs f are =
+    (h : History) (asked : Asked) (inputs : List (List ℕ)) (f : Found) → AreRerunInputs h.setup.input [] inputs
+    → IsUneditedRerun h (limits_of h.setup) asked inputs (f ∷ [])
+    (record { number = 1; setup = h.setup; past = Some h; asked = asked; found = f })
+only-unedited h asked inputs f are =
     record {
-      first = ap (λ (rs : List Round). slice_get rs 0) (only-rerun h (limits_of h.setup) reach inputs f are);
+      first = ap (λ (rs : List Round). slice_get rs 0) (only-rerun h (limits_of h.setup) asked inputs f are);
       same_input = refl;
       same_limits = refl;
     }
@@ -183,16 +184,16 @@ pub round-instructions :
 round-instructions workers r is =
     instructions-made workers r is ∙ ap (instructions_from (first r.setup)) (round-entries workers r is)
 
--- what a round reaches is told by its own setup and history
-reach-made : (r : Round) → told_reach r.reach (made r).past (made r).setup ≡ reach_in r
-reach-made r =
-    ap (λ (p : Option History). told_reach r.reach p (made r).setup) (round-past r.setup r.past (events_in r.found.entries))
-    ∙ ap (told_reach r.reach r.past) (round-setup r.setup r.past (events_in r.found.entries))
+-- what is told only if it is asked for is told by the round's own setup and history
+extras-made : (r : Round) → made_extras r ≡ extras_in r
+extras-made r =
+    ap (λ (p : Option History). extras_of r.asked p (made r).setup r.found.progress) (round-past r.setup r.past (events_in r.found.entries))
+    ∙ ap (λ (s : Setup). extras_of r.asked r.past s r.found.progress) (round-setup r.setup r.past (events_in r.found.entries))
 
 -- what was made is told as the machine from scratch is, under the same schedule
 told-made :
     (workers : ℕ) (r : Round) → IsSoundlyMade workers r
-    → told_as_made (made r) r.reach r.found.shares ≡ told_of r.setup (made r).schedule (reach_in r) r.found.shares
+    → told_as_made (made r) (made_extras r) r.found.shares ≡ told_of r.setup (made r).schedule (extras_in r) r.found.shares
 told-made workers r is =
     let es = (made r).schedule in
     let shares = r.found.shares in
@@ -202,7 +203,7 @@ told-made workers r is =
     ap (λ (n : ℕ). record {
       ending = (made r).machine.ending;
       schedule = es;
-      reached = told_reach r.reach (made r).past (made r).setup;
+      extras = made_extras r;
       instructions = n;
       shares = shares;
       memory = (made r).machine.memory;
@@ -211,30 +212,30 @@ told-made workers r is =
     ∙ ap (λ (m : Machine). record {
       ending = m.ending;
       schedule = es;
-      reached = told_reach r.reach (made r).past (made r).setup;
+      extras = made_extras r;
       instructions = instructions_from (first r.setup) es;
       shares = shares;
       memory = m.memory;
       output = m.output;
     }) machine
-    ∙ ap (λ (reached : Option ℕ). told_of r.setup es reached shares) (reach-made r)
+    ∙ ap (λ (extras : Extras). told_of r.setup es extras shares) (extras-made r)
 
 report-told :
-    (number : ℕ) (s : Setup) (es : List Entry) (reached : Option ℕ) (shares : List ℕ)
-    → report_text number (told_of s es reached shares) ≡ report number s es reached shares
+    (number : ℕ) (s : Setup) (es : List Entry) (extras : Extras) (shares : List ℕ)
+    → report_text number (told_of s es extras shares) ≡ report number s es extras shares
 unfolding report
-report-told number s es reached shares = refl
+report-told number s es extras shares = refl
 
 pub report-entries :
     (workers : ℕ) (r : Round)
-    → IsSoundlyMade workers r → report_of r ≡ report r.number r.setup (made r).schedule (reach_in r) r.found.shares
+    → IsSoundlyMade workers r → report_of r ≡ report r.number r.setup (made r).schedule (extras_in r) r.found.shares
 report-entries workers r is =
-    ap (λ (es : List Entry). report r.number r.setup es (reach_in r) r.found.shares) (sym (round-entries workers r is))
+    ap (λ (es : List Entry). report r.number r.setup es (extras_in r) r.found.shares) (sym (round-entries workers r is))
 
 pub report-made : (workers : ℕ) (r : Round) → IsSoundlyMade workers r → made_report r ≡ report_of r
 report-made workers r is =
     ap (report_text r.number) (told-made workers r is)
-    ∙ report-told r.number r.setup (made r).schedule (reach_in r) r.found.shares
+    ∙ report-told r.number r.setup (made r).schedule (extras_in r) r.found.shares
     ∙ sym (report-entries workers r is)
 
 pub exit-made : (workers : ℕ) (r : Round) → IsSoundlyMade workers r → made_exits r ≡ exits r

@@ -17,6 +17,7 @@ use Rattle.worker_spec.proofs.Picks.{marked-threads}
 use Rattle.worker_spec.proofs.Lone.{rounds-made}
 use Rattle.worker_spec.proofs.Workers.{lone-made, workers-round, workers-permitted, workers-complete, workers-marks, workers-honest, workers-alone}
 use Rattle.worker_spec.proofs.Cost.{rounds-cost}
+use Rattle.rerun_spec.specs.declared.Asked.{Asked}
 use Rattle.rerun_spec.specs.Inputs.{AreInputs, AreShort}
 use Rattle.rerun_spec.specs.Rounds.{with_input, with_limits, Found, Round, made, IsMade, IsPickedRightly, left_by, Beginning, from_scratch, after_memo, CanBegin, round_on, after_round, rounds_after, after_rounds, last_left, schedule_in, entries_of, machine_of}
 
@@ -152,13 +153,13 @@ with-limits s limits valid within =
     }
 
 -- what a beginning from scratch, and one after a memo, need
-pub scratch-begins : (s : Setup) (reach : Bool) → IsSetup s → CanBegin (from_scratch s reach)
-scratch-begins s reach valid = record { valid = valid; sound = tt }
+pub scratch-begins : (s : Setup) (asked : Asked) → IsSetup s → CanBegin (from_scratch s asked)
+scratch-begins s asked valid = record { valid = valid; sound = tt }
 
 pub memo-begins :
-    (h : History) (limits : Limits) (reach : Bool) → IsHonest h → AreLimits limits.fuel limits.steps
-    → CanBegin (after_memo h limits reach)
-memo-begins h limits reach honest within =
+    (h : History) (limits : Limits) (asked : Asked) → IsHonest h → AreLimits limits.fuel limits.steps
+    → CanBegin (after_memo h limits asked)
+memo-begins h limits asked honest within =
     record {
       valid = with-limits h.setup limits honest.valid within;
       sound = (honest, refl);
@@ -282,6 +283,7 @@ found_alone workers s past =
     record {
       entries = (lone_round s past).schedule;
       shares = shares_of_first workers (length (lone_round s past).schedule);
+      progress = length (lone_round s past).schedule ∷ [];
     }
 
 alone-made :
@@ -312,7 +314,7 @@ some-made b inputs workers valid short some =
     let is = some-after b inputs workers valid (each-short inputs short) some in
     (is.0, is.1, All-from_recursion (IsMade workers) (rounds_after b inputs is.0) is.2)
 
--- numbers, setups, what was found, and whether reach is told
+-- numbers, setups, what was found, and which lines are asked for
 pub numbers-after :
     (b : Beginning) (inputs : List (List ℕ)) (found : List Found)
     → map (λ (r : Round). r.number) (rounds_after b inputs found)
@@ -342,18 +344,18 @@ founds-after b (input ∷ inputs) [] = refl
 founds-after b (input ∷ inputs) (f ∷ found) =
     ap (λ (fs : List Found). f ∷ fs) (founds-after (after_round b input f) inputs found)
 
-reach-each :
+asked-each :
     (b : Beginning) (inputs : List (List ℕ)) (found : List Found)
-    → AllByRecursion (λ (r : Round). r.reach ≡ b.reach) (rounds_after b inputs found)
-reach-each b [] found = tt
-reach-each b (input ∷ inputs) [] = tt
-reach-each b (input ∷ inputs) (f ∷ found) = (refl, reach-each (after_round b input f) inputs found)
+    → AllByRecursion (λ (r : Round). r.asked ≡ b.asked) (rounds_after b inputs found)
+asked-each b [] found = tt
+asked-each b (input ∷ inputs) [] = tt
+asked-each b (input ∷ inputs) (f ∷ found) = (refl, asked-each (after_round b input f) inputs found)
 
-pub reach-after :
+pub asked-after :
     (b : Beginning) (inputs : List (List ℕ)) (found : List Found)
-    → All (λ (r : Round). r.reach ≡ b.reach) (rounds_after b inputs found)
-reach-after b inputs found =
-    All-from_recursion (λ (r : Round). r.reach ≡ b.reach) (rounds_after b inputs found) (reach-each b inputs found)
+    → All (λ (r : Round). r.asked ≡ b.asked) (rounds_after b inputs found)
+asked-after b inputs found =
+    All-from_recursion (λ (r : Round). r.asked ≡ b.asked) (rounds_after b inputs found) (asked-each b inputs found)
 
 pub count-after :
     (b : Beginning) (inputs : List (List ℕ)) (found : List Found)

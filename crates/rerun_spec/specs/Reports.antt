@@ -6,27 +6,33 @@ use Rattle.machine_spec.specs.declared.states.End.TheVariants.{Exit}
 use Rattle.machine_spec.specs.Setup.{Setup}
 use Rattle.history_spec.specs.History.{History}
 use Rattle.report_spec.specs.declared.Entry.{Entry}
-use Rattle.report_spec.specs.Report.{Told, report, report_text}
+use Rattle.report_spec.specs.Report.{Told, Extras, report, report_text}
 use Rattle.round_spec.specs.Rounds.{RoundState}
 use Rattle.round_spec.specs.Instructions.{executed_instructions}
 use Rattle.reach_spec.specs.Reach.{reached_count}
+use Rattle.rerun_spec.specs.declared.Asked.{Asked}
 use Rattle.rerun_spec.specs.Rounds.{Round, made, entries_of, machine_of}
 
 -- A schedule of which each step is executed.
 abbrev pub all_executed : List ℕ → List Entry
 all_executed schedule = map (λ t. record { thread = t; reused = false }) schedule
 
--- How many steps of the history that a round goes by its setup reaches, where that is to be told.
-abbrev pub told_reach : Bool → Option History → Setup → Option ℕ
-told_reach reach past setup = if reach then Some (reached_count past setup) else None
+-- What a report tells only if it is asked for, of a round that goes by a history, has a setup, and was watched: how many
+-- steps of the history the setup reaches, and what was read of the round's progress.
+abbrev pub extras_of : Asked → Option History → Setup → List ℕ → Extras
+extras_of asked past setup progress =
+    record {
+      reached = if asked.reach then Some (reached_count past setup) else None;
+      progress = if asked.progress then Some progress else None;
+    }
 
--- What a round's report tells of it.
-abbrev pub reach_in : Round → Option ℕ
-reach_in r = told_reach r.reach r.past r.setup
+-- What a round's report tells of it only if it is asked for.
+abbrev pub extras_in : Round → Extras
+extras_in r = extras_of r.asked r.past r.setup r.found.progress
 
 -- The report of a round: that of the machine from scratch under the schedule that its workers found, with their shares.
 abbrev pub report_of : Round → List ℕ
-report_of r = report r.number r.setup (entries_of r) (reach_in r) r.found.shares
+report_of r = report r.number r.setup (entries_of r) (extras_in r) r.found.shares
 
 -- The reports of some rounds, in order.
 unfoldable pub reports_of : List Round → List (List ℕ)
@@ -45,23 +51,27 @@ exits r = is_exit (machine_of r).ending
 unfoldable pub all_exit : List Round → Bool
 all_exit rounds = list_all exits rounds
 
--- What there is to tell of a round as it stands, with what it reaches, where that is asked for, and the shares of its
+-- What there is to tell of a round as it stands, with what is told only if it is asked for, and the shares of its
 -- workers; its instructions are those that the records of the executed entries count.
-abbrev pub told_as_made : RoundState → Bool → List ℕ → Told
-told_as_made w reach shares =
+abbrev pub told_as_made : RoundState → Extras → List ℕ → Told
+told_as_made w extras shares =
     record {
       ending = w.machine.ending;
       schedule = w.schedule;
-      reached = told_reach reach w.past w.setup;
+      extras = extras;
       instructions = executed_instructions w.schedule w.records;
       shares = shares;
       memory = w.machine.memory;
       output = w.machine.output;
     }
 
+-- What is told of a round as it was made only if it is asked for.
+abbrev pub made_extras : Round → Extras
+made_extras r = extras_of r.asked (made r).past (made r).setup r.found.progress
+
 -- The text that is told of a round as it was made, by whatever history it went.
 abbrev pub made_report : Round → List ℕ
-made_report r = report_text r.number (told_as_made (made r) r.reach r.found.shares)
+made_report r = report_text r.number (told_as_made (made r) (made_extras r) r.found.shares)
 
 -- The texts that are told of some rounds as they were made, in order.
 unfoldable pub made_reports : List Round → List (List ℕ)

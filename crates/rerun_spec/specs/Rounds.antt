@@ -1,6 +1,6 @@
 -- The rounds of a line on some inputs, one after the other, from scratch or by a history that was read, each by the
 -- schedule that its workers found.
-use Rattle.std.specs.Prelude.{ℕ, suc, ◌+◌, ◌≡◌, Bool, List, [], ◌∷◌, slice_get, Option, Some, None, unwrap_or, ⊤}
+use Rattle.std.specs.Prelude.{ℕ, suc, ◌+◌, ◌≡◌, Bool, true, false, List, [], ◌∷◌, length, slice_get, Option, Some, None, unwrap_or, ⊤}
 use Rattle.machine_spec.specs.Limits.{Limits}
 use Rattle.machine_spec.specs.Machine.{Machine}
 use Rattle.machine_spec.specs.Setup.{Setup, scratch}
@@ -12,6 +12,8 @@ use Rattle.round_spec.specs.Rounds.{RoundState, history_of}
 use Rattle.round_spec.specs.Schedules.{round_by}
 use Rattle.round_spec.specs.Picking.{ArePicked}
 use Rattle.worker_spec.specs.Workers.{IsMadeBy}
+use Rattle.worker_spec.specs.Watching.{IsProgress}
+use Rattle.rerun_spec.specs.declared.Asked.{Asked}
 
 -- A setup with another input: the same executable, fuel and limit.
 abbrev pub with_input : Setup → List ℕ → Setup
@@ -25,18 +27,27 @@ limits_of setup = record { fuel = setup.fuel; steps = setup.limit }
 abbrev pub with_limits : Setup → Limits → Setup
 with_limits setup limits = record setup { fuel = limits.fuel; limit = limits.steps }
 
--- What the workers of a round found: a schedule with its marks, and how many of its steps each of them made.
+-- What the workers of a round found: a schedule with its marks, how many of its steps each of them made, and the numbers
+-- of steps that a watcher read meanwhile, which are none where it wasn't asked for.
 pub record Found : Type 0 where
   pub entries : List Entry
   pub shares : List ℕ
+  pub progress : List ℕ
 
--- A round: its number, what it starts from, the history that it goes by, if there is one, whether its report tells how
--- many steps of that are reached, and what its workers found.
+-- What is asked for by these two answers, and nothing.
+abbrev pub asked_by : Bool → Bool → Asked
+asked_by reach progress = record { reach = reach; progress = progress }
+
+abbrev pub nothing_asked : Asked
+nothing_asked = asked_by false false
+
+-- A round: its number, what it starts from, the history that it goes by, if there is one, which lines are asked for in
+-- its report, and what its workers found.
 pub record Round : Type 0 where
   pub number : ℕ
   pub setup : Setup
   pub past : Option History
-  pub reach : Bool
+  pub asked : Asked
   pub found : Found
 
 -- A round as it was made, entry by entry of the schedule that its workers found.
@@ -47,6 +58,10 @@ made r = round_by r.setup r.past r.found.entries
 abbrev pub IsMade : ℕ → Round → Type 0
 IsMade workers r = IsMadeBy workers r.setup r.past r.found.entries r.found.shares
 
+-- If its progress is asked for, what was read of it meanwhile is its progress.
+abbrev pub IsWatched : ℕ → Round → Type 0
+IsWatched workers r = r.asked.progress ≡ true → IsProgress workers (length r.found.entries) r.found.progress
+
 -- Each entry of a round was picked rightly, when there were as many entries as the point of it says.
 abbrev pub IsPickedRightly : Round → Type 0
 IsPickedRightly r = (points : List ℕ) × ArePicked r.setup r.past r.found.entries points
@@ -56,21 +71,21 @@ abbrev pub left_by : Round → History
 left_by r = history_of (made r)
 
 -- What rounds begin with: the number of the first, the history that it goes by, if there is one, the setup whose
--- program all of them run, each on its own input, and whether their reports tell what is reached.
+-- program all of them run, each on its own input, and which lines are asked for in their reports.
 pub record Beginning : Type 0 where
   pub number : ℕ
   pub past : Option History
   pub setup : Setup
-  pub reach : Bool
+  pub asked : Asked
 
 -- From scratch: round 0 goes by no history.
-abbrev pub from_scratch : Setup → Bool → Beginning
-from_scratch setup reach = record { number = 0; past = None; setup = setup; reach = reach }
+abbrev pub from_scratch : Setup → Asked → Beginning
+from_scratch setup asked = record { number = 0; past = None; setup = setup; asked = asked }
 
 -- After a memo, which holds a round by its history: round 1 goes by this history, and the program is its own; the
 -- limits are those that are asked for.
-abbrev pub after_memo : History → Limits → Bool → Beginning
-after_memo h limits reach = record { number = 1; past = Some h; setup = with_limits h.setup limits; reach = reach }
+abbrev pub after_memo : History → Limits → Asked → Beginning
+after_memo h limits asked = record { number = 1; past = Some h; setup = with_limits h.setup limits; asked = asked }
 
 -- A beginning of which rounds may be made: its setup can go by its history.
 abbrev pub CanBegin : Beginning → Type 0
@@ -84,12 +99,12 @@ IsOfProgram (Some h) setup = IsSameProgram h.setup setup
 -- The first round of a beginning, on an input, by what its workers found.
 abbrev pub round_on : Beginning → List ℕ → Found → Round
 round_on b input found =
-    record { number = b.number; setup = with_input b.setup input; past = b.past; reach = b.reach; found = found }
+    record { number = b.number; setup = with_input b.setup input; past = b.past; asked = b.asked; found = found }
 
 -- What the rounds after the first begin with: the next number, and what the first leaves.
 abbrev pub after_round : Beginning → List ℕ → Found → Beginning
 after_round b input found =
-    record { number = b.number + 1; past = Some (left_by (round_on b input found)); setup = b.setup; reach = b.reach }
+    record { number = b.number + 1; past = Some (left_by (round_on b input found)); setup = b.setup; asked = b.asked }
 
 -- The rounds on the first of some inputs, one for each thing that was found, in order: the first goes by the history of
 -- the beginning, if there is one, and each other by what the round before it leaves.
@@ -132,8 +147,8 @@ pub record IsRepeated (rounds : List Round) (before after : Round) : Type 0 wher
   pub same : after.setup.input ≡ before.setup.input
 
 -- Of rounds that go by a memo, the first, without an edit: its input and its limits are those of the memo's round.
-pub record IsUneditedRerun (h : History) (limits : Limits) (reach : Bool) (inputs : List (List ℕ)) (found : List Found)
+pub record IsUneditedRerun (h : History) (limits : Limits) (asked : Asked) (inputs : List (List ℕ)) (found : List Found)
     (r : Round) : Type 0 where
-  pub first : slice_get (rounds_after (after_memo h limits reach) inputs found) 0 ≡ Some r
+  pub first : slice_get (rounds_after (after_memo h limits asked) inputs found) 0 ≡ Some r
   pub same_input : r.setup.input ≡ h.setup.input
   pub same_limits : limits_of r.setup ≡ limits_of h.setup

@@ -3,7 +3,7 @@
 //! read, each going by what the one before it leaves, their reports, and whether each ends by exit; with the
 //! laws that what was proved of one round holds of each of them, that a rerun without an edit executes
 //! nothing, and that without lists there is the one run from scratch; of one worker, that it makes the schedule
-//! that follows the choice. No code.
+//! that follows the choice. No code but one plain type.
 #![tactic(auto)]
 
 ghost use Rattle.std.specs.Prelude.{◌≡◌, ◌≢◌, ◌≤◌, ◌<◌, ◌+◌, ℕ, suc, min, max, Bool, true, ◌&&◌, List, [], ◌∷◌, ◌++◌, All, length, map, take, drop, sum, slice_get, Option, Some, None, is_some, ◌⊎◌};
@@ -25,8 +25,18 @@ ghost use Rattle.round_spec.specs.Unedited.{OnlyReuses};
 ghost use Rattle.worker_spec.specs.OneWorker.{executed_in};
 ghost use Rattle.reach_spec.specs.Working.{ReexecutesLeast};
 ghost use Rattle.rerun_spec.specs.Inputs.{Makes, AreInputs, AreRerunInputs, AreShort, Refusal, Refuses, IsFirstRefused};
+ghost use Rattle.rerun_spec.specs.declared.Asked.{Asked as AskedFor};
 ghost use Rattle.rerun_spec.specs.Rounds.{Found, Round, Beginning, limits_of, with_input, with_limits, made, IsMade, IsPickedRightly, left_by, from_scratch, after_memo, CanBegin, round_on, after_round, rounds_after, after_rounds, IsOfProgram, last_left, schedule_in, entries_of, machine_of, IsRepeated, IsUneditedRerun};
-ghost use Rattle.rerun_spec.specs.Reports.{all_executed, told_reach, reach_in, report_of, reports_of, is_exit, exits, all_exit, made_report, made_reports, made_exits, all_made_exit};
+ghost use Rattle.rerun_spec.specs.Reports.{all_executed, extras_of, extras_in, report_of, reports_of, is_exit, exits, all_exit, made_report, made_reports, made_exits, all_made_exit};
+
+/// Which lines a report has only because they are asked for.
+#[derive(Clone, Copy, Debug, PartialEq, Eq)]
+pub struct Asked {
+    /// How many steps of the history that a round goes by are reached.
+    pub reach: bool,
+    /// How many steps were made, as often as that was looked at while the round was made.
+    pub progress: bool,
+}
 
 /// For each first input and lists of edits either the inputs of the rounds are there, or a list is the
 /// first that is refused; never both; and there is one answer. The place of the refused list is one of
@@ -130,8 +140,8 @@ pub fn rounds_follow_each_other()
         ≡ map (with_input b.setup) (take (length found) inputs) }
     ensures found { (b : Beginning) (inputs : List (List ℕ)) (found : List Found)
         → map (λ (r : Round). r.found) (rounds_after b inputs found) ≡ take (length inputs) found }
-    ensures reach { (b : Beginning) (inputs : List (List ℕ)) (found : List Found)
-        → All (λ (r : Round). r.reach ≡ b.reach) (rounds_after b inputs found) }
+    ensures asked { (b : Beginning) (inputs : List (List ℕ)) (found : List Found)
+        → All (λ (r : Round). r.asked ≡ b.asked) (rounds_after b inputs found) }
     ensures at { (b : Beginning) (inputs : List (List ℕ)) (found : List Found) (place : ℕ) (input : List ℕ) (f : Found)
         → slice_get inputs place ≡ Some input
         → slice_get found place ≡ Some f
@@ -144,8 +154,8 @@ pub fn rounds_follow_each_other()
     ensures past { (b : Beginning) (inputs : List (List ℕ)) (found : List Found) (r : Round)
         → slice_get (rounds_after b inputs found) 0 ≡ Some r
         → r.past ≡ b.past }
-    ensures none { (setup : Setup) (reach : Bool) (inputs : List (List ℕ)) (found : List Found) (r : Round)
-        → slice_get (rounds_after (from_scratch setup reach) inputs found) 0 ≡ Some r
+    ensures none { (setup : Setup) (asked : AskedFor) (inputs : List (List ℕ)) (found : List Found) (r : Round)
+        → slice_get (rounds_after (from_scratch setup asked) inputs found) 0 ≡ Some r
         → r.past ≡ None }
     ensures left { (b : Beginning) (inputs : List (List ℕ)) (found : List Found) (place : ℕ) (before after : Round)
         → slice_get (rounds_after b inputs found) place ≡ Some before
@@ -183,8 +193,8 @@ pub fn rounds_go_on()
         → (after_rounds b inputs found).number ≡ b.number + min (length inputs) (length found) }
     ensures setup { (b : Beginning) (inputs : List (List ℕ)) (found : List Found)
         → (after_rounds b inputs found).setup ≡ b.setup }
-    ensures reach { (b : Beginning) (inputs : List (List ℕ)) (found : List Found)
-        → (after_rounds b inputs found).reach ≡ b.reach }
+    ensures asked { (b : Beginning) (inputs : List (List ℕ)) (found : List Found)
+        → (after_rounds b inputs found).asked ≡ b.asked }
     ensures past { (b : Beginning) (inputs : List (List ℕ)) (found : List Found)
         → inputs ≢ []
         → found ≢ []
@@ -252,11 +262,11 @@ pub fn each_round_comes_to_an_end()
 /// a round that goes by a sound history holds of it. What it leaves is honest. However many workers there are, one or
 /// more, they can make a round of each input.
 pub fn each_round_may_be_made()
-    ensures scratch { (setup : Setup) (reach : Bool) → IsSetup setup → CanBegin (from_scratch setup reach) }
-    ensures memo { (h : History) (limits : Limits) (reach : Bool)
+    ensures scratch { (setup : Setup) (asked : AskedFor) → IsSetup setup → CanBegin (from_scratch setup asked) }
+    ensures memo { (h : History) (limits : Limits) (asked : AskedFor)
         → IsHonest h
         → AreLimits limits.fuel limits.steps
-        → CanBegin (after_memo h limits reach) }
+        → CanBegin (after_memo h limits asked) }
     ensures sound { (b : Beginning) (inputs : List (List ℕ)) (found : List Found) (workers : ℕ)
         → CanBegin b
         → AreShort inputs
@@ -352,7 +362,7 @@ pub fn each_round_is_from_scratch()
         → CanBegin b
         → AreShort inputs
         → All (IsMade workers) (rounds_after b inputs found)
-        → All (λ r. report_of r ≡ report r.number r.setup (made r).schedule (reach_in r) r.found.shares)
+        → All (λ r. report_of r ≡ report r.number r.setup (made r).schedule (extras_in r) r.found.shares)
         (rounds_after b inputs found) }
     ensures exit { (b : Beginning) (inputs : List (List ℕ)) (found : List Found) (workers : ℕ)
         → CanBegin b
@@ -460,37 +470,37 @@ pub fn repeated_round_executes_nothing()
 /// is discarded; and schedule and machine (so its end, output and final memory) are those of the memo's round. One
 /// worker would pick no step to be executed.
 pub fn unedited_rerun_executes_nothing()
-    ensures reuses { (h : History) (limits : Limits) (reach : Bool) (inputs : List (List ℕ)) (found : List Found)
+    ensures reuses { (h : History) (limits : Limits) (asked : AskedFor) (inputs : List (List ℕ)) (found : List Found)
         (workers : ℕ) (r : Round)
         → IsHonest h
-        → IsUneditedRerun h limits reach inputs found r
+        → IsUneditedRerun h limits asked inputs found r
         → IsMade workers r
         → OnlyReuses h (made r) }
-    ensures schedule { (h : History) (limits : Limits) (reach : Bool) (inputs : List (List ℕ)) (found : List Found)
+    ensures schedule { (h : History) (limits : Limits) (asked : AskedFor) (inputs : List (List ℕ)) (found : List Found)
         (workers : ℕ) (r : Round)
         → IsHonest h
-        → IsUneditedRerun h limits reach inputs found r
+        → IsUneditedRerun h limits asked inputs found r
         → IsMade workers r
         → schedule_in r ≡ schedule_of h }
-    ensures never_runs { (h : History) (limits : Limits) (reach : Bool) (inputs : List (List ℕ)) (found : List Found)
+    ensures never_runs { (h : History) (limits : Limits) (asked : AskedFor) (inputs : List (List ℕ)) (found : List Found)
         (r : Round) (n t : ℕ)
         → IsHonest h
-        → IsUneditedRerun h limits reach inputs found r
+        → IsUneditedRerun h limits asked inputs found r
         → pick_of (after_picks n (opening r.setup r.past)) ≢ pick.Run t }
-    ensures executed { (h : History) (limits : Limits) (reach : Bool) (inputs : List (List ℕ)) (found : List Found) (r : Round)
+    ensures executed { (h : History) (limits : Limits) (asked : AskedFor) (inputs : List (List ℕ)) (found : List Found) (r : Round)
         → IsHonest h
-        → IsUneditedRerun h limits reach inputs found r
+        → IsUneditedRerun h limits asked inputs found r
         → executed_in r.setup.limit (opening r.setup r.past) ≡ 0 }
-    ensures instructions { (h : History) (limits : Limits) (reach : Bool) (inputs : List (List ℕ)) (found : List Found)
+    ensures instructions { (h : History) (limits : Limits) (asked : AskedFor) (inputs : List (List ℕ)) (found : List Found)
         (workers : ℕ) (r : Round)
         → IsHonest h
-        → IsUneditedRerun h limits reach inputs found r
+        → IsUneditedRerun h limits asked inputs found r
         → IsMade workers r
         → instructions_from (first r.setup) (entries_of r) ≡ 0 }
-    ensures machine { (h : History) (limits : Limits) (reach : Bool) (inputs : List (List ℕ)) (found : List Found)
+    ensures machine { (h : History) (limits : Limits) (asked : AskedFor) (inputs : List (List ℕ)) (found : List Found)
         (workers : ℕ) (r : Round)
         → IsHonest h
-        → IsUneditedRerun h limits reach inputs found r
+        → IsUneditedRerun h limits asked inputs found r
         → IsMade workers r
         → machine_of r ≡ scratch h.setup (schedule_of h) }
 {}
@@ -501,34 +511,34 @@ pub fn unedited_rerun_executes_nothing()
 /// an edit.
 pub fn no_edit_list_is_one_round()
     ensures marks { (setup : Setup) (schedule : List ℕ) → marked None setup schedule ≡ all_executed schedule }
-    ensures reports { (setup : Setup) (reach : Bool) (inputs : List (List ℕ)) (f : Found)
+    ensures reports { (setup : Setup) (asked : AskedFor) (inputs : List (List ℕ)) (f : Found)
         → AreInputs setup.input [] inputs
-        → reports_of (rounds_after (from_scratch setup reach) inputs (f ∷ []))
-        ≡ report 0 setup (all_executed (threads_of f.entries)) (told_reach reach None setup) f.shares ∷ [] }
-    ensures exits { (setup : Setup) (reach : Bool) (inputs : List (List ℕ)) (f : Found)
+        → reports_of (rounds_after (from_scratch setup asked) inputs (f ∷ []))
+        ≡ report 0 setup (all_executed (threads_of f.entries)) (extras_of asked None setup f.progress) f.shares ∷ [] }
+    ensures exits { (setup : Setup) (asked : AskedFor) (inputs : List (List ℕ)) (f : Found)
         → AreInputs setup.input [] inputs
-        → all_exit (rounds_after (from_scratch setup reach) inputs (f ∷ []))
+        → all_exit (rounds_after (from_scratch setup asked) inputs (f ∷ []))
         ≡ is_exit (scratch setup (threads_of f.entries)).ending }
-    ensures alone { (setup : Setup) (reach : Bool) (inputs : List (List ℕ)) (f : Found)
+    ensures alone { (setup : Setup) (asked : AskedFor) (inputs : List (List ℕ)) (f : Found)
         → IsSetup setup
         → AreInputs setup.input [] inputs
-        → All (IsMade 1) (rounds_after (from_scratch setup reach) inputs (f ∷ []))
-        → reports_of (rounds_after (from_scratch setup reach) inputs (f ∷ []))
-        ≡ report 0 setup (all_executed (alone setup)) (told_reach reach None setup) (length (alone setup) ∷ []) ∷ [] }
-    ensures alone_exits { (setup : Setup) (reach : Bool) (inputs : List (List ℕ)) (f : Found)
+        → All (IsMade 1) (rounds_after (from_scratch setup asked) inputs (f ∷ []))
+        → reports_of (rounds_after (from_scratch setup asked) inputs (f ∷ []))
+        ≡ report 0 setup (all_executed (alone setup)) (extras_of asked None setup f.progress) (length (alone setup) ∷ []) ∷ [] }
+    ensures alone_exits { (setup : Setup) (asked : AskedFor) (inputs : List (List ℕ)) (f : Found)
         → IsSetup setup
         → AreInputs setup.input [] inputs
-        → All (IsMade 1) (rounds_after (from_scratch setup reach) inputs (f ∷ []))
-        → all_exit (rounds_after (from_scratch setup reach) inputs (f ∷ []))
+        → All (IsMade 1) (rounds_after (from_scratch setup asked) inputs (f ∷ []))
+        → all_exit (rounds_after (from_scratch setup asked) inputs (f ∷ []))
         ≡ is_exit (scratch setup (alone setup)).ending }
-    ensures rerun { (h : History) (limits : Limits) (reach : Bool) (inputs : List (List ℕ)) (f : Found)
+    ensures rerun { (h : History) (limits : Limits) (asked : AskedFor) (inputs : List (List ℕ)) (f : Found)
         → AreRerunInputs h.setup.input [] inputs
-        → rounds_after (after_memo h limits reach) inputs (f ∷ [])
-        ≡ record { number = 1; setup = with_limits h.setup limits; past = Some h; reach = reach; found = f } ∷ [] }
-    ensures unedited { (h : History) (reach : Bool) (inputs : List (List ℕ)) (f : Found)
+        → rounds_after (after_memo h limits asked) inputs (f ∷ [])
+        ≡ record { number = 1; setup = with_limits h.setup limits; past = Some h; asked = asked; found = f } ∷ [] }
+    ensures unedited { (h : History) (asked : AskedFor) (inputs : List (List ℕ)) (f : Found)
         → AreRerunInputs h.setup.input [] inputs
-        → IsUneditedRerun h (limits_of h.setup) reach inputs (f ∷ [])
-        (record { number = 1; setup = h.setup; past = Some h; reach = reach; found = f }) }
+        → IsUneditedRerun h (limits_of h.setup) asked inputs (f ∷ [])
+        (record { number = 1; setup = h.setup; past = Some h; asked = asked; found = f }) }
 {}
 
 /// There is a report for each round, and so for each input of which something was found; and the shares in the report

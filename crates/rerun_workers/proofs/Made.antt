@@ -1,5 +1,5 @@
 -- What workers made of a round.
-use Rattle.std.proofs.Common.{◌≡◌, ◌<◌, ℕ, true, List, length, sum, Option, is_some, ap, sym, ◌∙◌, subst}
+use Rattle.std.proofs.Common.{◌≡◌, ◌<◌, ◌≤◌, ◌+◌, ℕ, true, List, [], ◌∷◌, length, sum, Option, Some, is_some, refl, ap, sym, ◌∙◌, subst, arith}
 use Rattle.machine_spec.specs.Setup.{Setup, IsSetup}
 use Rattle.history_spec.specs.History.{History, IsSound}
 use Rattle.round_spec.specs.Rounds.{RoundState}
@@ -10,7 +10,13 @@ use Rattle.worker_spec.specs.Workers.{IsMadeBy}
 use Rattle.worker_spec.proofs.Events.{picks-events}
 use Rattle.worker_spec.proofs.Workers.{lone-made, ended-made}
 use Rattle.round_spec.specs.Picking.{ArePicked, IsPickedSoFar}
+use Rattle.round_spec.specs.Unedited.{IsUnedited, OnlyReuses}
+use Rattle.worker_spec.specs.Watching.{IsProgress}
+use Rattle.worker_spec.proofs.Replay.{replays-end}
+use Rattle.reach_spec.proofs.ByWorkers.{reexecutes-picked}
+use Rattle.propagate.proofs.Executing.{alone-least}
 use Rattle.rerun_workers.specs.Following.{FollowsPicks}
+use Rattle.rerun_workers.specs.Making.{IsRoundBy}
 
 -- the round of one worker is of its setup, and goes by its history
 
@@ -55,3 +61,57 @@ entries-picked setup past w setup_is past_is follows sound =
     let so_far : IsPickedSoFar w = follows.picked sound in
     subst (λ (s : Setup). ArePicked s past w.schedule w.picked) setup_is
     (subst (λ (p : Option History). ArePicked w.setup p w.schedule w.picked) past_is so_far.entries)
+
+-- so the round of one worker is what workers make, and that of several, if it has an end
+
+pub by-one :
+    (workers : ℕ) (setup : Setup) (past : Option History) (w : RoundState) (shares : List ℕ)
+    → w ≡ lone_round setup past → IsSetup setup → IsBySchedule w → length shares ≡ workers → sum shares ≡ length w.schedule
+    → (IsSound past setup → ArePicked setup past w.schedule w.picked) → is_some w.machine.ending ≡ true
+    → ((h : History) → past ≡ Some h → IsUnedited h setup → OnlyReuses h w)
+    → IsRoundBy workers setup past w shares
+by-one workers setup past w shares is valid stands each steps picked ends unedited =
+    record {
+      setup = alone-setup setup past w is;
+      past = alone-past setup past w is;
+      stands = stands;
+      made = alone-made workers setup past w shares is valid each steps;
+      alone = λ one. is;
+      picked = picked;
+      least = alone-least setup past w valid is;
+      ends = ends;
+      unedited = unedited;
+    }
+
+pub by-several :
+    (workers : ℕ) (setup : Setup) (past : Option History) (w : RoundState) (shares : List ℕ)
+    → 1 < workers → IsSetup w.setup → w.setup ≡ setup → w.past ≡ past → IsBySchedule w
+    → is_some w.machine.ending ≡ true → length shares ≡ workers → sum shares ≡ length w.schedule
+    → FollowsPicks setup past w → IsRoundBy workers setup past w shares
+by-several workers setup past w shares many valid is_setup is_past stands ended each steps follows =
+    let own : FollowsPicks w.setup w.past w =
+    subst (λ (s : Setup). FollowsPicks s w.past w) (sym is_setup)
+    (subst (λ (p : Option History). FollowsPicks setup p w) (sym is_past) follows) in
+    record {
+      setup = is_setup;
+      past = is_past;
+      stands = stands;
+      made = together-made workers setup past w shares many is_setup is_past stands ended each steps own;
+      alone = λ one. absurd (let no : 1 < workers = many in omega (arith, one, no));
+      picked = entries-picked setup past w is_setup is_past follows;
+      least = reexecutes-picked w w.picked valid stands (entries-picked w.setup w.past w refl refl own);
+      ends = ended;
+      unedited = λ h is unedited.
+          replays-end h w unedited.honest
+          (own.replays h (is_past ∙ is) (subst (IsUnedited h) (sym is_setup) unedited)) ended;
+    }
+
+-- the number of all steps alone is the progress of a round
+pub only-last : (workers steps : ℕ) → IsProgress workers steps (steps ∷ [])
+only-last workers steps =
+    record {
+      ascends = λ k within. absurd (omega (arith, within));
+      few = omega arith;
+      last = refl;
+      alone = λ one. refl;
+    }

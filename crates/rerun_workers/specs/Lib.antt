@@ -1,3 +1,5 @@
 -- The files of definitions of this crate.
 pub mod Following
 pub mod Locking
+pub mod Watching
+pub mod Making

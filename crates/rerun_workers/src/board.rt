@@ -8,7 +8,7 @@
 //! hold, a worker lets go of the lock and waits in one: so it misses nobody who wakes it for what came after it asked.
 //! A worker that is held at its gate asks and looks only when it is past it.
 
-ghost use Rattle.std.specs.Prelude.{◌≡◌, ◌≢◌, ◌+◌, ◌<◌, ◌≤◌, All, length, map, sum, vec_len, vec_capacity, Some, [], IfOk, Decides};
+ghost use Rattle.std.specs.Prelude.{◌≡◌, ◌≢◌, ◌+◌, ◌<◌, ◌≤◌, All, length, map, replicate, sum, vec_len, vec_capacity, Some, [], IfOk, Decides};
 ghost use Rattle.std.specs.Arc.{arc_value};
 ghost use Rattle.machine_spec.specs.Setup.{first};
 ghost use Rattle.history_spec.specs.History.{History};
@@ -16,10 +16,12 @@ ghost use Rattle.round_spec.specs.Rounds.{opening};
 ghost use Rattle.round_spec.specs.Unedited.{IsUnedited};
 ghost use Rattle.rerun_workers.specs.declared.locked.Task.TheVariants as task;
 ghost use Rattle.rerun_workers.specs.Following.{FollowsPicks};
+ghost use Rattle.rerun_workers.specs.Watching.{IsCounting};
 ghost use Rattle.rerun_workers.specs.Locking.{BeginsIn, BeginsNothing, HandsBack, steps_by};
 
 use super::locked::{Landed, Locked, Task};
 use super::naming::{Naming, Pass};
+use super::watching::{Counter, Watch};
 use propagate::Round;
 use std::alloc::{AllocError, Global};
 use std::sync::ledger::{Blank, Share};
@@ -28,16 +30,17 @@ use thunk_record::Frame;
 use thunk_run::{Job, Run};
 
 /// What workers share: the round under a lock, the condition that there is work or none any more, and the page map and the
-/// fuel of the round's steps. A worker executes outside the lock.
+/// fuel of the round's steps. A worker executes outside the lock, and who watches the round takes none.
 #[derive(Drop)]
 pub struct Board<J: Naming> {
     lock: Mutex<Locked<J>>,
     changed: Condvar,
     frame: Frame,
     shares: Vec<u64>,
+    numbers: Vec<u64>,
     ghost framed: { frame ≡ (first J.setup).frame },
-    ghost none: { shares.items ≡ [] },
-    ghost room: { J.workers ≤ vec_capacity shares },
+    ghost none: { (shares.items ≡ []) × (numbers.items ≡ []) },
+    ghost room: { (J.workers ≤ vec_capacity shares) × (J.watches ≤ vec_capacity numbers) },
 }
 
 /// A pass for each of so many workers, which has made no step.
@@ -77,6 +80,48 @@ fn gather<J: Naming>(mut passes: Vec<Pass<J>>, mut shares: Vec<u64>) -> (Share<J
     (all, shares)
 }
 
+/// So many watches of the word that counts the steps of a round.
+fn watches_of<J: Naming>(
+    alloc: Global,
+    counter: &mut Counter,
+    watches: u32,
+) -> Result<Vec<Watch<J>>, AllocError>
+    requires { counter.old.writer.table ≡ J.table }
+    ensures count { IfOk result (λ seats. vec_len seats ≡ watches) }
+    ensures added { counter.new.writer.added ≡ counter.old.writer.added }
+    ensures table { counter.new.writer.table ≡ counter.old.writer.table }
+{
+    let mut seats = Vec::new(alloc);
+    for made in 0..watches {
+        seats.push(counter.split::<J>())?;
+    }
+    Ok(seats)
+}
+
+/// Takes all watches back. What each of them has seen, the last look at the word sees too, and it stands in the list once
+/// for each.
+fn last_numbers<J: Naming>(
+    mut counter: Counter,
+    mut watches: Vec<Watch<J>>,
+    mut numbers: Vec<u64>,
+) -> Vec<u64>
+    requires table { counter.writer.table ≡ J.table }
+    requires none { numbers.items ≡ [] }
+    requires room { vec_len watches ≤ vec_capacity numbers }
+    ensures numbers { result.items ≡ replicate (vec_len watches) counter.writer.added }
+    ensures seen { All (λ watch. watch.reader.seen ≤ counter.writer.added) watches.items }
+{
+    let many = watches.len();
+    while !watches.is_empty() {
+        counter.join(watches.remove(0));
+    }
+    let number = counter.read();
+    for _ in 0..many {
+        numbers.push_reserved(number);
+    }
+    numbers
+}
+
 impl<J: Naming> Board<J> {
     /// The board of a round before its first step, and a pass for each of its workers, none of whom has made a step.
     ///
@@ -92,21 +137,77 @@ impl<J: Naming> Board<J> {
         requires name { blank.name ≡ J.name }
         requires parts { (blank.parts ≡ J.parts) × (J.parts ≡ workers) }
         requires workers { workers ≡ J.workers }
+        requires unwatched { J.watches ≡ 0 }
         requires opening { round ≡ opening J.setup J.past }
         ensures count { IfOk result (λ made. vec_len made.1 ≡ workers) }
         ensures nothing { IfOk result (λ made. All (λ pass. pass.steps ≡ 0) made.1.items) }
     {
-        let shares = Vec::with_capacity(alloc, workers as usize)?;
-        let frame = round.frame()?;
         let (book, all) = blank.open::<J>();
+        let board = Board::opened(alloc, Locked::new(round, book, None), workers, 0)?;
         let passes = passes_of(alloc, all, workers)?;
-        let board = Board {
-            lock: Mutex::new(Locked::new(round, book)),
+        Ok((board, passes))
+    }
+
+    /// The board of a round before its first step, a pass for each of its workers, none of whom has made a step, and
+    /// so many watches. The counter, which has counted nothing, counts the steps from now on.
+    ///
+    /// # Errors
+    ///
+    /// An error where the host's memory ran out.
+    pub fn with_watches(
+        alloc: Global,
+        round: Round,
+        workers: u32,
+        watches: u32,
+        counter: Counter,
+        blank: Blank,
+    ) -> Result<(Board<J>, Vec<Pass<J>>, Vec<Watch<J>>), AllocError>
+        requires name { blank.name ≡ J.name }
+        requires parts { (blank.parts ≡ J.parts) × (J.parts ≡ workers) }
+        requires workers { (workers ≡ J.workers) × (watches ≡ J.watches) }
+        requires table { (counter.writer.table ≡ J.table) × (counter.writer.added ≡ 0) }
+        requires opening { round ≡ opening J.setup J.past }
+        ensures count { IfOk result (λ made. (vec_len made.1 ≡ workers) × (vec_len made.2 ≡ watches)) }
+        ensures nothing { IfOk result (λ made. All (λ pass. pass.steps ≡ 0) made.1.items) }
+    {
+        let (book, all) = blank.open::<J>();
+        let mut counter = counter;
+        let seats = watches_of(alloc, &mut counter, watches)?;
+        let locked = Locked::new(round, book, Some(counter));
+        let board = Board::opened(alloc, locked, workers, watches)?;
+        let passes = passes_of(alloc, all, workers)?;
+        Ok((board, passes, seats))
+    }
+
+    /// The board of a round under its lock.
+    fn opened(
+        alloc: Global,
+        locked: Locked<J>,
+        workers: u32,
+        watches: u32,
+    ) -> Result<Board<J>, AllocError>
+        requires { (workers ≡ J.workers) × (watches ≡ J.watches) }
+    {
+        let shares = Vec::with_capacity(alloc, workers as usize)?;
+        let numbers = Vec::with_capacity(alloc, watches as usize)?;
+        let frame = locked.round.frame()?;
+        Ok(Board {
+            lock: Mutex::new(locked),
             changed: Condvar::new(),
             frame,
             shares,
-        };
-        Ok((board, passes))
+            numbers,
+        })
+    }
+
+    /// How many steps of the round were made, by one look at the word that counts them. It takes no lock and no memory,
+    /// and waits for nobody.
+    pub fn progress(&self, watch: &mut Watch<J>) -> u64
+        ensures seen { watch.new.reader.seen ≡ result }
+        ensures rises { watch.old.reader.seen ≤ result }
+        ensures looks { watch.new.reader.loads ≡ watch.old.reader.loads + 1 }
+    {
+        watch.look()
     }
 
     /// What a worker is to do next, as the round under the lock tells it. Where it is told to hold, it waits until it
@@ -211,9 +312,50 @@ impl<J: Naming> Board<J> {
         ensures follows { FollowsPicks J.setup J.past result.0 }
     {
         let Board { lock, shares, .. } = self;
-        let Locked { round, mut book } = lock.into_inner();
+        let Locked {
+            round, mut book, ..
+        } = lock.into_inner();
         let (mut all, shares) = gather(passes, shares);
         book.audit(&mut all);
         (round, shares)
+    }
+
+    /// The round, when all of its passes and watches are back, how many steps each worker made, in their order, and for
+    /// each watch how many steps the round has, by one last look at the word, after all that the watches saw. Takes no
+    /// memory.
+    pub fn close_watched(
+        self,
+        passes: Vec<Pass<J>>,
+        watches: Vec<Watch<J>>,
+    ) -> (Round, Vec<u64>, Vec<u64>)
+        requires all { vec_len passes ≡ J.parts }
+        requires workers { (vec_len passes ≡ J.workers) × (0 < vec_len passes) }
+        requires watches { (vec_len watches ≡ J.watches) × (0 < vec_len watches) }
+        ensures setup { result.0.setup ≡ J.setup }
+        ensures past { result.0.past ≡ J.past }
+        ensures shares { result.1.items ≡ map (λ pass. pass.steps) passes.items }
+        ensures steps { sum result.1.items ≡ length result.0.schedule }
+        ensures follows { FollowsPicks J.setup J.past result.0 }
+        ensures numbers { result.2.items ≡ replicate (vec_len watches) (length result.0.schedule) }
+        ensures seen { All (λ watch. watch.reader.seen ≤ length result.0.schedule) watches.items }
+    {
+        let Board {
+            lock,
+            shares,
+            numbers,
+            ..
+        } = self;
+        let Locked {
+            round,
+            mut book,
+            counter,
+        } = lock.into_inner();
+        let (mut all, shares) = gather(passes, shares);
+        book.audit(&mut all);
+        let Some(counter) = counter else {
+            unreachable!()
+        };
+        let numbers = last_numbers(counter, watches, numbers);
+        (round, shares, numbers)
     }
 }

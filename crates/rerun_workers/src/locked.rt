@@ -1,7 +1,8 @@
 //! The round under the lock: each call does some of its events, and names them.
 
-ghost use Rattle.std.specs.Prelude.{◌≡◌, ◌+◌, ◌≤◌, true, length, Some, is_ok, if◌then◌else◌, Decides, OnOk, OnErr};
+ghost use Rattle.std.specs.Prelude.{◌≡◌, ◌+◌, ◌<◌, ◌≤◌, true, length, Some, is_ok, is_some, if◌then◌else◌, Decides, OnOk, OnErr};
 ghost use Rattle.std.specs.Arc.{arc_value};
+ghost use Rattle.machine_spec.specs.declared.TheConstants.{MOST_STEPS};
 ghost use Rattle.machine_spec.specs.Setup.{first};
 ghost use Rattle.history_spec.specs.History.{History};
 ghost use Rattle.round_spec.specs.declared.events.Event.TheVariants as event;
@@ -11,9 +12,11 @@ ghost use Rattle.round_spec.specs.Choice.{pick_of};
 ghost use Rattle.round_spec.specs.Unedited.{IsUnedited};
 ghost use Rattle.propagate.specs.Committing.{GoesOn};
 ghost use Rattle.rerun_workers.specs.Following.{FollowsPicks};
+ghost use Rattle.rerun_workers.specs.Watching.{IsCounting};
 ghost use Rattle.rerun_workers.specs.Locking.{Tells, TellsAfter, BeginsIn, BeginsNothing, is_something, given_up, Lands, HandsBack, steps_by, Counts};
 
 use super::naming::{Naming, Pass};
+use super::watching::{Counter, count};
 use propagate::{Committed, Round};
 use round_spec::Pick;
 use std::alloc::AllocError;
@@ -48,14 +51,17 @@ pub enum Landed {
 }
 
 /// The round that workers make together, as it lies under their lock, with the book of the ledger, whose total is the
-/// length of the schedule. It is of the setup and of the history that its type names, and nothing was begun in it but
+/// length of the schedule. Where anybody watches it, a word that he may read without the lock is that length too. It is of the setup and of the history that its type names, and nothing was begun in it but
 /// what was picked: by a sound history all of it was picked rightly, and without an edit it has done nothing yet but what
 /// the history did.
 #[derive(Drop)]
 pub struct Locked<J: Naming> {
     pub(super) round: Round,
     pub(super) book: Book<J>,
+    pub(super) counter: Option<Counter>,
     ghost counted: { length round.schedule ≡ book.total },
+    ghost watched: { IsCounting J.table (length round.schedule) counter },
+    ghost counts: { 0 < J.watches → is_some counter ≡ true },
     ghost setup: { round.setup ≡ J.setup },
     ghost past: { round.past ≡ J.past },
     ghost follows: { FollowsPicks J.setup J.past round },
@@ -81,13 +87,20 @@ fn give_up(round: &mut Round, t: u8)
 }
 
 impl<J: Naming> Locked<J> {
-    /// A round before its first step, with a book that counts nothing.
+    /// A round before its first step, with a book that counts nothing, and with a word that doesn't either if anybody
+    /// watches.
     #[tactic(auto, using(crate::proofs::Following::follows_opening))]
-    pub(super) fn new(round: Round, book: Book<J>) -> Locked<J>
+    pub(super) fn new(round: Round, book: Book<J>, counter: Option<Counter>) -> Locked<J>
         requires opening { round ≡ opening J.setup J.past }
         requires empty { book.total ≡ 0 }
+        requires watched { IsCounting J.table 0 counter }
+        requires counts { 0 < J.watches → is_some counter ≡ true }
     {
-        Locked { round, book }
+        Locked {
+            round,
+            book,
+            counter,
+        }
     }
 
     /// Reuses the record that is picked, and counts it as a step of this worker.
@@ -98,9 +111,13 @@ impl<J: Naming> Locked<J> {
         ensures err { OnErr result (self.new.round ≡ self.old.round) }
         ensures counts { Counts pass.old.steps self.old.round pass.new.steps self.new.round }
         ensures same { GoesOn (if is_ok result then 1 else 0) self.old.round self.new.round }
-        ensures few { OnOk result (length self.new.round.schedule ≤ 65536) }
+        ensures few { OnOk result (length self.new.round.schedule ≤ MOST_STEPS) }
     {
-        let Locked { round, book } = self;
+        let Locked {
+            round,
+            book,
+            counter,
+        } = self;
         let Pass { share, steps, .. } = pass;
         book.audit(share);
         round.keeps();
@@ -108,6 +125,7 @@ impl<J: Naming> Locked<J> {
         round.keeps();
         book.add(share, 1);
         *steps += 1;
+        count(counter);
         Ok(())
     }
 
@@ -186,7 +204,11 @@ impl<J: Naming> Locked<J> {
         ensures made { pass.new.steps ≡ pass.old.steps + steps_by result }
         ensures counts { Counts pass.old.steps self.old.round pass.new.steps self.new.round }
     {
-        let Locked { round, book } = self;
+        let Locked {
+            round,
+            book,
+            counter,
+        } = self;
         let Pass { share, steps, .. } = pass;
         book.audit(share);
         round.keeps();
@@ -195,6 +217,7 @@ impl<J: Naming> Locked<J> {
                 round.keeps();
                 book.add(share, 1);
                 *steps += 1;
+                count(counter);
                 Landed::Done
             }
             Committed::Stale(run) => Landed::Stale(run),

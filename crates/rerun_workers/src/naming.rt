@@ -5,19 +5,26 @@ ghost use Rattle.std.specs.Arc.{arc_value};
 ghost use Rattle.machine_spec.specs.Setup.{Setup, first};
 ghost use Rattle.history_spec.specs.History.{History};
 ghost use Rattle.thunk_run.specs.declared.job.Job.{Job as Begun};
+ghost use Rattle.atomic_table.specs.Seated.{TableId};
+ghost use Rattle.progress_word.specs.Views.{no_table};
 
 use std::marker::Brand;
 use std::sync::ledger::{Ledger, Share};
 use thunk_run::Job;
 
-/// What the round of a board started from, what it goes by, and how many workers make it. The types of the board and
-/// of its passes name it, so nobody can put a round of another setup or of another history in its place.
+/// What the round of a board started from, what it goes by, how many workers make it, how many watch it, and by which
+/// word. The types of the board, of its passes and of its watches name it, so nobody can put a round of another setup or
+/// of another history in its place, or watch another round.
 pub trait Naming: Ledger {
     ghost setup: { Setup };
 
     ghost past: { Option History };
 
     ghost workers: { ℕ };
+
+    ghost watches: { ℕ };
+
+    ghost table: { TableId };
 }
 
 impl Naming for Brand {
@@ -26,6 +33,10 @@ impl Naming for Brand {
     ghost past = { None };
 
     ghost workers = { 0 };
+
+    ghost watches = { 0 };
+
+    ghost table = { no_table };
 }
 
 /// What a worker holds of a board: how many steps of the round it has made, a share of the ledger, which is one part

@@ -5,16 +5,17 @@ ghost use Rattle.std.specs.Arc.{arc_value};
 ghost use Rattle.history_spec.specs.History.{History as Kept, IsSound};
 ghost use Rattle.round_spec.specs.Rounds.{opening};
 ghost use Rattle.round_spec.specs.Alone.{lone_round};
-ghost use Rattle.round_spec.specs.Schedules.{IsBySchedule};
 ghost use Rattle.round_spec.specs.Picking.{ArePicked};
 ghost use Rattle.round_spec.specs.Unedited.{IsUnedited, OnlyReuses};
-ghost use Rattle.worker_spec.specs.Workers.{IsMadeBy};
-ghost use Rattle.reach_spec.specs.Working.{ReexecutesLeast};
+ghost use Rattle.worker_spec.specs.Watching.{IsProgress};
 ghost use Rattle.rerun_workers.specs.Following.{FollowsPicks};
+ghost use Rattle.rerun_workers.specs.Making.{IsRoundBy};
 
 use super::board::Board;
 use super::naming::Naming;
-use super::working::{make_unshared, work};
+use super::watched::{Watched, run_watched};
+use super::watching::Counter;
+use super::working::work_together;
 use ith_host::Gate;
 use propagate::{Round, run_alone};
 use release_core::{History, Setup};
@@ -22,7 +23,6 @@ use std::alloc::{AllocError, Global};
 use std::marker::Brand;
 use std::sync::ledger::{Blank, Ledger};
 use std::sync::{Arc, Wait};
-use std::thread;
 use std::thread::Threads;
 use turn_count::Turns;
 
@@ -71,24 +71,31 @@ fn run_by_first<R: Threads>(
     workers: u32,
 ) -> Result<(Round, Vec<u64>), AllocError>
     requires { 1 ≤ workers }
-    ensures setup { IfOk result (λ r. r.0.setup ≡ setup) }
-    ensures past { IfOk result (λ r. r.0.past ≡ option_map arc_value past) }
-    ensures stands { IfOk result (λ r. IsBySchedule r.0) }
-    ensures made { IfOk result (λ r.
-        IsMadeBy workers setup (option_map arc_value past) r.0.schedule r.1.items) }
-    ensures alone { IfOk result (λ r. r.0 ≡ lone_round setup (option_map arc_value past)) }
-    ensures picked { IfOk result (λ r. IsSound (option_map arc_value past) setup
-        → ArePicked setup (option_map arc_value past) r.0.schedule r.0.picked) }
-    ensures least { IfOk result (λ r. ReexecutesLeast r.0) }
-    ensures ends { IfOk result (λ r. is_some r.0.machine.ending ≡ true) }
-    ensures unedited { IfOk result (λ r.
-        (h : Kept) → option_map arc_value past ≡ Some h → IsUnedited h setup → OnlyReuses h r.0) }
+    ensures { IfOk result (λ r. IsRoundBy workers setup (option_map arc_value past) r.0 r.1.items) }
 {
     setup.sound();
     let round = counted::<R, Brand>(rt, alloc, setup, past, Blank::new(1))?;
     round.keeps();
     let shares = first_makes(alloc, round.schedule().len() as u64, workers)?;
     Ok((round, shares))
+}
+
+/// The same, of which the number of its steps alone is read, when it is over.
+fn run_by_first_watched<R: Threads>(
+    rt: &R,
+    alloc: Global,
+    setup: Setup,
+    past: Option<Arc<History>>,
+    workers: u32,
+) -> Result<(Round, Vec<u64>, Vec<u64>), AllocError>
+    requires { 1 ≤ workers }
+    ensures round { IfOk result (λ r. IsRoundBy workers setup (option_map arc_value past) r.0 r.1.items) }
+    ensures progress { IfOk result (λ r. IsProgress workers (length r.0.schedule) r.2.items) }
+{
+    let (round, shares) = run_by_first(rt, alloc, setup, past, workers)?;
+    let mut numbers = Vec::new(alloc);
+    numbers.push(round.schedule().len() as u64)?;
+    Ok((round, shares, numbers))
 }
 
 /// A round that so many workers made together until it was over, or until the host's memory ran out.
@@ -103,6 +110,7 @@ fn run_together<J: Naming + Send + Sync, R: Threads + Wait + Sync, G: Gate + Syn
     requires name { blank.name ≡ J.name }
     requires parts { (blank.parts ≡ J.parts) × (J.parts ≡ workers) }
     requires workers { (workers ≡ J.workers) × (1 ≤ workers) }
+    requires unwatched { J.watches ≡ 0 }
     requires opening { round ≡ opening J.setup J.past }
     ensures setup { IfOk result (λ r. r.0.setup ≡ round.setup) }
     ensures past { IfOk result (λ r. r.0.past ≡ round.past) }
@@ -111,16 +119,7 @@ fn run_together<J: Naming + Send + Sync, R: Threads + Wait + Sync, G: Gate + Syn
     ensures follows { IfOk result (λ r. FollowsPicks round.setup round.past r.0) }
 {
     let (board, mut passes) = Board::<J>::new(alloc, round, workers, blank)?;
-    let shared = &board;
-    // As long as there is nothing to share no thread is started: never, where a round only reuses.
-    if make_unshared(rt, alloc, shared, &mut passes[0], gate) {
-        thread::for_each_mut(
-            rt,
-            passes.as_mut_slice(),
-            workers as usize,
-            &|_, pass| { work(rt, alloc, shared, pass, gate) },
-        );
-    }
+    work_together(rt, alloc, &board, passes.as_mut_slice(), gate);
     Ok(board.close(passes))
 }
 
@@ -141,18 +140,7 @@ pub fn run_round<R: Threads + Wait + Sync, G: Gate + Sync>(
     gate: &G,
 ) -> Result<(Round, Vec<u64>), AllocError>
     requires { 1 ≤ workers }
-    ensures setup { IfOk result (λ r. r.0.setup ≡ setup) }
-    ensures past { IfOk result (λ r. r.0.past ≡ option_map arc_value past) }
-    ensures stands { IfOk result (λ r. IsBySchedule r.0) }
-    ensures made { IfOk result (λ r.
-        IsMadeBy workers setup (option_map arc_value past) r.0.schedule r.1.items) }
-    ensures alone { IfOk result (λ r. workers ≡ 1 → r.0 ≡ lone_round setup (option_map arc_value past)) }
-    ensures picked { IfOk result (λ r. IsSound (option_map arc_value past) setup
-        → ArePicked setup (option_map arc_value past) r.0.schedule r.0.picked) }
-    ensures least { IfOk result (λ r. ReexecutesLeast r.0) }
-    ensures ends { IfOk result (λ r. is_some r.0.machine.ending ≡ true) }
-    ensures unedited { IfOk result (λ r.
-        (h : Kept) → option_map arc_value past ≡ Some h → IsUnedited h setup → OnlyReuses h r.0) }
+    ensures { IfOk result (λ r. IsRoundBy workers setup (option_map arc_value past) r.0 r.1.items) }
 {
     if workers == 1 {
         return run_by_first(rt, alloc, setup, past, workers);
@@ -175,4 +163,49 @@ pub fn run_round<R: Threads + Wait + Sync, G: Gate + Sync>(
     }
     let (setup, past) = round.into_setup();
     run_by_first(rt, alloc, setup, past, workers)
+}
+
+/// A round as `run_round` makes it, and the numbers of steps that were read meanwhile: they ascend, and the last is how
+/// many steps it has. Of one worker that number alone is read.
+///
+/// # Errors
+///
+/// An error where the host's memory ran out.
+pub fn run_round_watched<R: Threads + Wait + Sync, G: Gate + Sync>(
+    rt: &R,
+    alloc: Global,
+    setup: Setup,
+    past: Option<Arc<History>>,
+    workers: u32,
+    gate: &G,
+) -> Result<(Round, Vec<u64>, Vec<u64>), AllocError>
+    requires { 1 ≤ workers }
+    ensures round { IfOk result (λ r. IsRoundBy workers setup (option_map arc_value past) r.0 r.1.items) }
+    ensures progress { IfOk result (λ r. IsProgress workers (length r.0.schedule) r.2.items) }
+{
+    if workers == 1 {
+        return run_by_first_watched(rt, alloc, setup, past, workers);
+    }
+    let counter = Counter::new(alloc)?;
+    let opened = Round::new(alloc, setup, past)?;
+    let (round, shares, numbers) = run_watched::<Brand, R, G>(
+        rt,
+        alloc,
+        Watched {
+            round: opened,
+            counter,
+        },
+        workers,
+        gate,
+        Blank::new(u64::from(workers)),
+    )?;
+    round.keeps();
+    if round.end().is_some() {
+        return Ok((round, shares, numbers));
+    }
+    if round.stopped() {
+        return Err(AllocError);
+    }
+    let (setup, past) = round.into_setup();
+    run_by_first_watched(rt, alloc, setup, past, workers)
 }

@@ -1,6 +1,6 @@
 //! A worker: it is told what to do, executes, and hands in what came of it.
 
-ghost use Rattle.std.specs.Prelude.{◌≡◌, ◌<◌, ◌≤◌, IfOk};
+ghost use Rattle.std.specs.Prelude.{◌≡◌, ◌<◌, ◌≤◌, length, IfOk};
 ghost use Rattle.std.specs.Arc.{arc_value};
 ghost use Rattle.machine_spec.specs.Setup.{first};
 ghost use Rattle.thunk_run.specs.Running.{IsRunOf};
@@ -13,6 +13,7 @@ use std::alloc::{AllocError, Global};
 use std::marker::Brand;
 use std::sync::Wait;
 use std::sync::ledger::{Blank, Ledger};
+use std::thread;
 use std::thread::Threads;
 use thunk_run::{Job, Run, Watch, execute_watched};
 use turn_count::Turns;
@@ -137,5 +138,21 @@ pub fn work<J: Naming, R: Threads + Wait, G: Gate>(
         if !make_step(rt, alloc, board, pass, gate, job) {
             return;
         }
+    }
+}
+
+/// So many workers make the round on the board, of which each has one of the passes. As long as there is nothing to share
+/// no thread is started: never, if a round only reuses.
+pub(super) fn work_together<
+    J: Naming + Send + Sync,
+    R: Threads + Wait + Sync,
+    G: Gate + Sync,
+>(rt: &R, alloc: Global, board: &Board<J>, passes: &mut [Pass<J>], gate: &G)
+    requires { 0 < length passes.old }
+    ensures { length passes.new ≡ length passes.old }
+{
+    if make_unshared(rt, alloc, board, &mut passes[0], gate) {
+        let workers = passes.len();
+        thread::for_each_mut(rt, passes, workers, &|_, pass| { work(rt, alloc, board, pass, gate) });
     }
 }

@@ -3,7 +3,7 @@ use Rattle.std.specs.Prelude.{ℕ, List, ◌++◌, length, codes, decimal}
 use Rattle.std.specs.List.{concat}
 use Rattle.report_spec.specs.declared.Entry.{Entry}
 use Rattle.report_spec.specs.Text.{newline, line, list_line}
-use Rattle.report_spec.specs.Report.{Told, ending_text, entry_text, reused_count, executed_count, memory_digest, reached_lines}
+use Rattle.report_spec.specs.Report.{Told, ending_text, entry_text, reused_count, executed_count, memory_digest, reached_lines, progress_lines}
 
 -- The lines that count a schedule's entries: all, the reused, the executed.
 abbrev pub counts_part : List Entry → List ℕ
@@ -17,13 +17,14 @@ abbrev pub steps_part : Told → List ℕ
 steps_part t =
     line (codes "end") (ending_text t.ending)
     ++ counts_part t.schedule
-    ++ concat (reached_lines t.reached)
+    ++ concat (reached_lines t.extras.reached)
 
--- The work: instructions, each worker's share, and the schedule.
+-- The work: instructions, each worker's share, what was read of the progress, where that is told, and the schedule.
 abbrev pub work_part : Told → List ℕ
 work_part t =
     line (codes "instructions") (decimal t.instructions)
     ++ list_line (codes "by") decimal t.shares
+    ++ concat (progress_lines t.extras.progress)
     ++ list_line (codes "schedule") entry_text t.schedule
 
 -- How a replay ended, after how many steps and instructions.

@@ -1,9 +1,9 @@
 -- What a replay tells of a run.
-use Rattle.std.specs.Prelude.{ℕ, List, [], ◌∷◌, ◌++◌, length, codes, decimal, None}
+use Rattle.std.specs.Prelude.{ℕ, List, [], ◌∷◌, ◌++◌, length, codes, decimal}
 use Rattle.std.specs.List.{concat}
 use Rattle.machine_spec.specs.Setup.{Setup}
 use Rattle.report_spec.specs.Text.{newline, line}
-use Rattle.report_spec.specs.Report.{Told, ending_text, memory_digest, told_of}
+use Rattle.report_spec.specs.Report.{Told, no_extras, ending_text, memory_digest, told_of}
 use Rattle.rerun_spec.specs.Reports.{all_executed}
 
 -- The lines that tell of a replay: of a report those that no reuse and no worker can change.
@@ -23,4 +23,4 @@ replay_text t = concat (replay_lines t) ++ t.output ++ newline
 
 -- The text that tells of the machine from scratch under a schedule, of which each step is executed.
 abbrev pub replay_of : Setup → List ℕ → List ℕ
-replay_of setup threads = replay_text (told_of setup (all_executed threads) None [])
+replay_of setup threads = replay_text (told_of setup (all_executed threads) no_extras [])

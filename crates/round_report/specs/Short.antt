@@ -1,8 +1,8 @@
 -- A round in one line: how it ended, and what it put out.
-use Rattle.std.specs.Prelude.{ℕ, false, List, ◌++◌, codes, decimal, None}
+use Rattle.std.specs.Prelude.{ℕ, List, ◌++◌, codes, decimal}
 use Rattle.hex.specs.Hex.{encode_lower}
 use Rattle.report_spec.specs.Text.{space, line}
-use Rattle.report_spec.specs.Report.{Told, ending_text, told_of}
+use Rattle.report_spec.specs.Report.{Told, no_extras, ending_text, told_of}
 use Rattle.rerun_spec.specs.Rounds.{Round, made, entries_of}
 use Rattle.rerun_spec.specs.Reports.{told_as_made}
 
@@ -18,8 +18,8 @@ short_text n t = line (codes "round") (short_words n t)
 
 -- The line of a round: that of the machine from scratch under the schedule that its workers found.
 abbrev pub short_of : Round → List ℕ
-short_of r = short_text r.number (told_of r.setup (entries_of r) None r.found.shares)
+short_of r = short_text r.number (told_of r.setup (entries_of r) no_extras r.found.shares)
 
 -- The line of a round as it was made, by whatever history it went.
 abbrev pub made_short : Round → List ℕ
-made_short r = short_text r.number (told_as_made (made r) false r.found.shares)
+made_short r = short_text r.number (told_as_made (made r) no_extras r.found.shares)

@@ -2,10 +2,10 @@
 //!
 //! Where memory is wanting, a part of the line may stand there: the text is then thrown away.
 
-ghost use Rattle.std.specs.Prelude.{◌≡◌, [], ◌∷◌, ◌++◌, codes, OnOk, decimal};
+ghost use Rattle.std.specs.Prelude.{◌≡◌, [], ◌∷◌, ◌++◌, codes, option_map, OnOk, decimal};
 ghost use Rattle.std.specs.List.{concat};
 ghost use Rattle.report_spec.specs.Text.{space, line, list_line};
-ghost use Rattle.report_spec.specs.Report.{entry_text, reused_count, executed_count, reached_lines};
+ghost use Rattle.report_spec.specs.Report.{entry_text, reused_count, executed_count, reached_lines, progress_lines};
 ghost use Rattle.round_report.specs.Parts.{counts_part};
 
 use ith_text::decimal;
@@ -82,6 +82,21 @@ pub fn shares_line(alloc: Global, shares: &[u64], into: &mut Vec<u8>) -> Result<
     ensures { OnOk result (into.new.items ≡ into.old.items ++ list_line (codes "by") decimal shares.now) }
 {
     ith_text::list(alloc, "by", shares, into)
+}
+
+/// Appends the line of the numbers of steps that a watcher read, where that is told.
+pub fn progress_line(
+    alloc: Global,
+    progress: Option<&[u64]>,
+    into: &mut Vec<u8>,
+) -> Result<(), AllocError>
+    ensures { OnOk result (into.new.items ≡ into.old.items
+        ++ concat (progress_lines (option_map (λ numbers. numbers.now) progress.entry))) }
+{
+    match progress {
+        Some(numbers) => ith_text::list(alloc, "progress", numbers, into),
+        None => Ok(()),
+    }
 }
 
 /// Appends the line of a schedule: each entry's thread and mark after a space.

@@ -6,7 +6,9 @@ ghost use Rattle.round_report.specs.Parts.{steps_part, work_part, outcome_part};
 
 use super::digest::{Digested, memory_line};
 use super::ending::end_line;
-use super::lines::{count_lines, number_line, reached_line, schedule_line, shares_line};
+use super::lines::{
+    count_lines, number_line, progress_line, reached_line, schedule_line, shares_line,
+};
 use super::told::Told;
 use std::alloc::{AllocError, Global};
 
@@ -64,12 +66,13 @@ fn append_steps(alloc: Global, told: &Told<'_>, into: &mut Vec<u8>) -> Result<()
     reached_line(alloc, told.reached, into)
 }
 
-/// Appends the instructions, the shares and the schedule.
+/// Appends the instructions, the shares, what was read of the progress, where that is told, and the schedule.
 fn append_work(alloc: Global, told: &Told<'_>, into: &mut Vec<u8>) -> Result<(), AllocError>
     ensures { OnOk result (into.new.items ≡ into.old.items ++ work_part told.now) }
 {
     number_line(alloc, "instructions", told.instructions, into)?;
     shares_line(alloc, told.shares, into)?;
+    progress_line(alloc, told.progress, into)?;
     schedule_line(alloc, told.schedule, into)
 }
 

@@ -14,6 +14,8 @@ pub struct Told<'a> {
     pub schedule: &'a [Entry],
     /// How many steps of the history that the round goes by are reached, where that is told.
     pub reached: Option<u32>,
+    /// The numbers of steps that a watcher read while the round was made, where they are told.
+    pub progress: Option<&'a [u64]>,
     /// How many instructions the executed steps made.
     pub instructions: u64,
     /// How many steps each worker made, in the workers' order.
@@ -25,6 +27,7 @@ pub struct Told<'a> {
 }
 
 impl<'a> Model for Told<'a> {
+    ghost use Rattle.std.specs.Prelude.{option_map};
     ghost use Rattle.report_spec.specs.Report.{Told as told};
 
     ghost Value = { told };
@@ -32,7 +35,7 @@ impl<'a> Model for Told<'a> {
     ghost view = { λ t. record {
       ending = t.ending;
       schedule = t.schedule.now;
-      reached = t.reached;
+      extras = record { reached = t.reached; progress = option_map (λ numbers. numbers.now) t.progress };
       instructions = t.instructions;
       shares = t.shares.now;
       memory = t.memory.now;

@@ -9,7 +9,7 @@ use Rattle.round_spec.specs.Instructions.{executed_instructions}
 use Rattle.worker_spec.specs.OneWorker.{executed_in}
 use Rattle.rerun_spec.specs.Rounds.{Round, made, IsPickedRightly, rounds_after, entries_of, schedule_in, machine_of}
 use Rattle.rerun_spec.proofs.Rounds.{each-holds, alone-holds, round-threads, round-permitted, round-complete, round-entries, round-found, round-picked, round-machine, round-records, round-ends, round-lone, round-alone, round-cost}
-use Rattle.rerun_spec.specs.Reports.{reach_in, report_of, is_exit, exits}
+use Rattle.rerun_spec.specs.Reports.{extras_in, report_of, is_exit, exits}
 use Rattle.rerun_spec.proofs.Reports.{round-instructions, report-entries, exit-made}
 use Rattle.rerun_spec.proofs.each_round_is_from_scratch.Goals as goal
 
@@ -55,7 +55,7 @@ returns-clause-threads c = round-threads
 
 pub returns-clause-report : goal.returns-clause-report
 returns-clause-report c =
-    each-holds (λ r. report_of r ≡ report r.number r.setup (made r).schedule (reach_in r) r.found.shares) report-entries
+    each-holds (λ r. report_of r ≡ report r.number r.setup (made r).schedule (extras_in r) r.found.shares) report-entries
 
 pub returns-clause-exit : goal.returns-clause-exit
 returns-clause-exit c =

@@ -1,6 +1,6 @@
 -- Answers to the goals that the check leaves of `rounds_follow_each_other`.
 use Rattle.rerun_spec.specs.Rounds.{from_scratch}
-use Rattle.rerun_spec.proofs.Rounds.{numbers-after, setups-after, founds-after, reach-after, at-after, first-past, first-setup, next-after}
+use Rattle.rerun_spec.proofs.Rounds.{numbers-after, setups-after, founds-after, asked-after, at-after, first-past, first-setup, next-after}
 use Rattle.rerun_spec.proofs.rounds_follow_each_other.Goals as goal
 
 pub returns-clause-numbers : goal.returns-clause-numbers
@@ -12,8 +12,8 @@ returns-clause-setups c = setups-after
 pub returns-clause-found : goal.returns-clause-found
 returns-clause-found c = founds-after
 
-pub returns-clause-reach : goal.returns-clause-reach
-returns-clause-reach c = reach-after
+pub returns-clause-asked : goal.returns-clause-asked
+returns-clause-asked c = asked-after
 
 pub returns-clause-at : goal.returns-clause-at
 returns-clause-at c = at-after
@@ -29,4 +29,4 @@ returns-clause-left c = λ b inputs found place before after one next.
     (next-after b inputs found place before after one next).left
 
 pub returns-clause-none : goal.returns-clause-none
-returns-clause-none c = λ setup reach. first-past (from_scratch setup reach)
+returns-clause-none c = λ setup asked. first-past (from_scratch setup asked)

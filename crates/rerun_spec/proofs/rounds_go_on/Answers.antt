@@ -1,5 +1,5 @@
 -- Answers to the goals that the check leaves of `rounds_go_on`.
-use Rattle.rerun_spec.proofs.Going.{rounds-later, after-later, rounds-one, after-one, last-one, rounds-few, after-few, number-later, setup-later, reach-later, past-later}
+use Rattle.rerun_spec.proofs.Going.{rounds-later, after-later, rounds-one, after-one, last-one, rounds-few, after-few, number-later, setup-later, asked-later, past-later}
 use Rattle.rerun_spec.proofs.rounds_go_on.Goals as goal
 
 pub returns-clause-later : goal.returns-clause-later
@@ -29,8 +29,8 @@ returns-clause-number c = number-later
 pub returns-clause-setup : goal.returns-clause-setup
 returns-clause-setup c = setup-later
 
-pub returns-clause-reach : goal.returns-clause-reach
-returns-clause-reach c = reach-later
+pub returns-clause-asked : goal.returns-clause-asked
+returns-clause-asked c = asked-later
 
 pub returns-clause-past : goal.returns-clause-past
 returns-clause-past c = past-later

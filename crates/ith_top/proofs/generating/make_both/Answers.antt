@@ -1,8 +1,8 @@
 -- Both rounds of the generated guest, the second by what the first leaves.
-use Rattle.std.proofs.Common.{rules, ◌≡◌, ◌∷◌, ◌∙◌, ◌&&◌, false, ap, subst, arith}
+use Rattle.std.proofs.Common.{rules, ◌≡◌, ◌∷◌, ◌∙◌, ◌&&◌, ap, subst, arith}
 use Rattle.std.specs.Arc.{arc_value}
 use Rattle.rerun_spec.specs.Inputs.{AreShort}
-use Rattle.rerun_spec.specs.Rounds.{from_scratch}
+use Rattle.rerun_spec.specs.Rounds.{nothing_asked, from_scratch}
 use Rattle.ith_top.specs.Contents.{Plan}
 use Rattle.ith_top.specs.Playing.{plan_said}
 use Rattle.ith_top.proofs.Going.{short_first, short_rest}
@@ -23,7 +23,7 @@ make_line-requires-2-clause-short g c = λ lifetimes bounds.
 
 pub make_line-requires-2-clause-same : goal.make_line-requires-2-clause-same
 make_line-requires-2-clause-same g c = λ lifetimes bounds.
-    line_map c.args.crew.now.workers (from_scratch c.in_ok-setup.field-0.setup false) c.in-Some.input.items
+    line_map c.args.crew.now.workers (from_scratch c.in_ok-setup.field-0.setup nothing_asked) c.in-Some.input.items
     c.in_ok-first.first.text.items c.in_ok-first.first.exited (arc_value c.in_ok-first.first.left) c.in_ok-first.ensures.played
 
 pub returns-clause-lines : goal.returns-clause-lines

@@ -1,11 +1,12 @@
 -- What was made is the round that comes next, told as its definitions say.
-use Rattle.std.proofs.Common.{rules, ◌≡◌, ℕ, false, List, ap, sym, ◌∙◌}
+use Rattle.std.proofs.Common.{rules, ◌≡◌, ℕ, List, ap, sym, ◌∙◌}
 use Rattle.std.specs.Prelude.{option_map}
 use Rattle.std.specs.Arc.{arc_value}
 use Rattle.round_spec.specs.Rounds.{RoundState, history_of}
 use Rattle.worker_spec.specs.Workers.{IsMadeBy}
 use Rattle.propagate.specs.Kept.{IsOfMap}
 use Rattle.rerun_spec.specs.Rounds.{Beginning, with_input}
+use Rattle.report_spec.specs.Report.{no_extras}
 use Rattle.rerun_spec.specs.Reports.{told_as_made, is_exit}
 use Rattle.round_report.specs.Short.{short_text}
 use Rattle.ith_top.specs.Playing.{beginning_of}
@@ -39,7 +40,7 @@ returns-clause-played g c =
     line_on c.args.crew.now.workers begins c.args.next.input.items w c.in_ok-round.shares.items
     c.in_ok-text.text.items c.is_exit-exited.result (arc_value c.in_ok-left.left)
     setup c.in_ok-round.ensures.past c.in_ok-round.ensures.stands is
-    (c.in_ok-text.ensures ∙ ap (λ (shares : List ℕ). short_text c.args.next.number (told_as_made w false shares))
+    (c.in_ok-text.ensures ∙ ap (λ (shares : List ℕ). short_text c.args.next.number (told_as_made w no_extras shares))
     c.as_slice.ensures.value)
     (c.is_exit-exited.ensures ∙ ap is_exit c.end.ensures)
     (shared ∙ left)

@@ -6,6 +6,7 @@ use Rattle.round_inputs.specs.Lists.{bytes_of_each}
 use Rattle.ith_words.specs.Words.{Runs}
 use Rattle.ith_words.specs.Said.{run_said}
 use Rattle.rerun_spec.specs.Inputs.{AreInputs}
+use Rattle.rerun_spec.specs.Rounds.{asked_by}
 use Rattle.ith_top.specs.Contents.{Contents}
 use Rattle.ith_top.specs.Playing.{plan_said}
 use Rattle.ith_top.specs.Refusals.{WhyUnedited}
@@ -73,7 +74,7 @@ returns-clause-playable g c =
     rw c.from_scratch.ensures.inputs edited in
     let few : length c.from_scratch.result.inputs < 2 ^ 64 =
     rw c.from_scratch.ensures.inputs c.from_scratch.ensures.few in
-    run_playable c.in_ok-setup.setup c.args.line.now.reach (bytes_of_each files.lists.items)
+    run_playable c.in_ok-setup.setup (asked_by c.args.line.now.reach c.args.line.now.progress) (bytes_of_each files.lists.items)
     (plan_said c.from_scratch.result) c.in_ok-setup.ensures.sound c.from_scratch.ensures.beginning few made
 
 pub returns-clause-spelled : goal.returns-clause-spelled
@@ -83,6 +84,6 @@ returns-clause-spelled g c =
     search rules in
     let made : AreInputs c.in_ok-setup.setup.input (bytes_of_each files.lists.items) c.from_scratch.result.inputs =
     rw c.from_scratch.ensures.inputs edited in
-    run_spelled c.in_ok-setup.setup c.args.line.now.reach (bytes_of_each files.lists.items)
+    run_spelled c.in_ok-setup.setup (asked_by c.args.line.now.reach c.args.line.now.progress) (bytes_of_each files.lists.items)
     (plan_said c.from_scratch.result) c.in_ok-setup.ensures.sound c.in_ok-setup.ensures.bytes.0 c.in_ok-setup.ensures.bytes.1
     c.from_scratch.ensures.beginning made

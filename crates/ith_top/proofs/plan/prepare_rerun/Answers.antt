@@ -6,7 +6,7 @@ use Rattle.machine_spec.specs.Limits.{Limits}
 use Rattle.ith_words.specs.Words.{Reruns}
 use Rattle.ith_words.specs.Said.{rerun_said}
 use Rattle.rerun_spec.specs.Inputs.{AreRerunInputs}
-use Rattle.rerun_spec.specs.Rounds.{after_memo}
+use Rattle.rerun_spec.specs.Rounds.{asked_by, after_memo}
 use Rattle.ith_top.specs.Contents.{IsMemoOf, Plan, limits_for}
 use Rattle.ith_top.specs.Playing.{plan_said}
 use Rattle.ith_top.specs.Refusals.{WhyNoHistory, WhyUnedited}
@@ -62,9 +62,9 @@ returns-in-Ok-clause-plan g c =
     let made : AreRerunInputs c.in_ok-history.history.setup.input (bytes_of_each files.lists.items) p.inputs =
     rw c.in-Ok.ensures.inputs edited in
     let begins : p.beginning ≡ after_memo c.in_ok-history.history
-    (limits_for (rerun_said c.args.line.now) c.in_ok-history.history) c.args.line.now.reach =
+    (limits_for (rerun_said c.args.line.now) c.in_ok-history.history) (asked_by c.args.line.now.reach c.args.line.now.progress) =
     c.in-Ok.ensures.beginning
-    ∙ ap (λ (l : Limits). after_memo c.in_ok-history.history l c.args.line.now.reach) c.limits_for-limits.ensures.value in
+    ∙ ap (λ (l : Limits). after_memo c.in_ok-history.history l (asked_by c.args.line.now.reach c.args.line.now.progress)) c.limits_for-limits.ensures.value in
     rerun_plan (rerun_said c.args.line.now) (w c.args.host.now) files.memo.items
     (bytes_of_each files.lists.items) c.in_ok-history.history p
     c.in_ok-memo.ensures.memo c.in_ok-memo.ensures.lists is begins made
@@ -81,7 +81,7 @@ returns-in-Ok-clause-playable g c =
     rw c.in-Ok.ensures.inputs edited in
     rerun_playable files.memo.items
     (bytes_of_each files.lists.items) c.in_ok-history.history c.limits_for-limits.result
-    c.args.line.now.reach p is c.in-Ok.ensures.beginning
+    (asked_by c.args.line.now.reach c.args.line.now.progress) p is c.in-Ok.ensures.beginning
     (rw c.in-Ok.ensures.inputs c.in_ok-inputs.ensures.few) made
 
 pub returns-in-Ok-clause-spelled : goal.returns-in-Ok-clause-spelled
@@ -96,7 +96,7 @@ returns-in-Ok-clause-spelled g c =
     rw c.in-Ok.ensures.inputs edited in
     rerun_spelled files.memo.items
     (bytes_of_each files.lists.items) c.in_ok-history.history c.limits_for-limits.result
-    c.args.line.now.reach p is c.limits_for-limits.ensures.within c.in-Ok.ensures.beginning made
+    (asked_by c.args.line.now.reach c.args.line.now.progress) p is c.limits_for-limits.ensures.within c.in-Ok.ensures.beginning made
 
 pub returns-clause-refused : goal.returns-clause-refused
 returns-clause-refused g c =

@@ -1,13 +1,13 @@
 -- What was made is the round that comes next, told as its definitions say.
-use Rattle.std.proofs.Common.{rules, ◌≡◌, ℕ, List, ap, sym, ◌∙◌}
+use Rattle.std.proofs.Common.{rules, ◌≡◌, ap, refl, sym, ◌∙◌}
 use Rattle.std.specs.Prelude.{option_map}
 use Rattle.std.specs.Arc.{arc_value}
 use Rattle.report_spec.specs.Report.{report_text}
 use Rattle.round_spec.specs.Rounds.{RoundState, history_of}
 use Rattle.worker_spec.specs.Workers.{IsMadeBy}
 use Rattle.propagate.specs.Kept.{IsOfMap}
-use Rattle.rerun_spec.specs.Rounds.{Beginning, with_input}
-use Rattle.rerun_spec.specs.Reports.{told_as_made, is_exit}
+use Rattle.rerun_spec.specs.Rounds.{Found, Beginning, with_input}
+use Rattle.rerun_spec.specs.Reports.{is_exit}
 use Rattle.ith_top.specs.Playing.{beginning_of}
 use Rattle.ith_top.proofs.Making.{made_on, round_map, some_is}
 use Rattle.ith_top.proofs.report.make_round.Goals as goal
@@ -36,11 +36,15 @@ returns-clause-played g c =
     let left : c.in-Some.left ≡ history_of w =
     some_is c.in-Some.left (history_of w) (sym c.in-Some.is ∙ c.into_history.ensures.same on) in
     let shared : arc_value c.in_ok-left.left ≡ c.in-Some.left = search rules in
-    made_on c.args.crew.now.workers begins c.args.next.input.items w c.in_ok-round.shares.items
+    let f : Found = record {
+      entries = w.schedule;
+      shares = c.in_ok-round.shares.items;
+      progress = c.in_ok-round.progress.items;
+    } in
+    made_on c.args.crew.now.workers begins c.args.next.input.items w f
     c.in_ok-text.text.items c.is_exit-exited.result (arc_value c.in_ok-left.left)
-    setup c.in_ok-round.ensures.past c.in_ok-round.ensures.stands is
-    (c.in_ok-text.ensures
-    ∙ ap (λ (shares : List ℕ). report_text c.args.next.number (told_as_made w c.args.next.reach shares))
-    c.as_slice.ensures.value)
+    setup c.in_ok-round.ensures.past c.in_ok-round.ensures.stands refl is
+    (λ yes. c.in_ok-round.ensures.watched yes)
+    (c.in_ok-text.ensures.text ∙ ap (report_text c.args.next.number) (let told = c.in_ok-told.ensures in search rules))
     (c.is_exit-exited.ensures ∙ ap is_exit c.end.ensures)
     (shared ∙ left)

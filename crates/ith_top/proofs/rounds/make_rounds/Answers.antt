@@ -1,28 +1,29 @@
 -- Answers to the goals that the check leaves of `make_rounds`.
-use Rattle.std.proofs.Common.{◌≡◌, ◌+◌, ◌∷◌, ℕ, Bool, Option, Some, None, length, refl, ap, subst, ◌∙◌, arith}
+use Rattle.std.proofs.Common.{◌≡◌, ◌+◌, ◌∷◌, ℕ, Option, Some, None, length, refl, ap, subst, ◌∙◌, arith}
 use Rattle.std.specs.Prelude.{option_map}
 use Rattle.std.specs.Arc.{arc_value}
 use Rattle.history_spec.specs.History.{History}
 use Rattle.rerun_spec.specs.Inputs.{AreShort}
 use Rattle.machine_spec.specs.Setup.{Setup}
+use Rattle.rerun_spec.specs.declared.Asked.{Asked}
 use Rattle.rerun_spec.specs.Rounds.{Beginning}
 use Rattle.ith_top.proofs.Reading.{none_fell_same}
 use Rattle.ith_top.proofs.Making.{left_map}
 use Rattle.ith_top.proofs.Going.{going_start, going_next, going_played, going_cut, going_unprinted, none_left, short_first, short_rest}
 use Rattle.ith_top.proofs.rounds.make_rounds.Goals as goal
 
-abbrev begins : ℕ → Option History → Setup → Bool → Beginning
-begins number past setup reach = record { number = number; past = past; setup = setup; reach = reach }
+abbrev begins : ℕ → Option History → Setup → Asked → Beginning
+begins number past setup asked = record { number = number; past = past; setup = setup; asked = asked }
 
 pub loop-place-init : goal.loop-place-init
 loop-place-init g c =
     let w = g.H.Host.world in let coming = c.args.plan in
     let number : coming.number + 0 ≡ coming.number = omega arith in
     record {
-      going = going_start (begins coming.number (option_map arc_value coming.past) c.args.plan.setup coming.reach)
-          (begins (coming.number + 0) (option_map arc_value coming.past) c.args.plan.setup coming.reach)
+      going = going_start (begins coming.number (option_map arc_value coming.past) c.args.plan.setup coming.asked)
+          (begins (coming.number + 0) (option_map arc_value coming.past) c.args.plan.setup coming.asked)
           c.args.crew.now.workers coming.inputs (w c.args.host.now)
-          (ap (λ (n : ℕ). begins n (option_map arc_value coming.past) c.args.plan.setup coming.reach) number)
+          (ap (λ (n : ℕ). begins n (option_map arc_value coming.past) c.args.plan.setup coming.asked) number)
           (none_fell_same (w c.args.host.now));
       left = omega (arith, c.len-place-end.ensures);
       short = c.requires.short;
@@ -36,10 +37,10 @@ pub returns-in-Err-clause-refused : goal.returns-in-Err-clause-refused
 returns-in-Err-clause-refused g c =
     let w = g.H.Host.world in let coming = c.args.plan in
     rw (c.no_memory.ensures.status)
-    (going_cut (begins coming.number (option_map arc_value coming.past) c.args.plan.setup coming.reach)
+    (going_cut (begins coming.number (option_map arc_value coming.past) c.args.plan.setup coming.asked)
     c.args.crew.now.workers coming.inputs
     (w c.args.host.now) (w c.loop-place.host) (w c.no_memory.new.host)
-    (begins (coming.number + c.loop-place.place) (option_map arc_value c.loop-place.past) c.args.plan.setup coming.reach)
+    (begins (coming.number + c.loop-place.place) (option_map arc_value c.loop-place.past) c.args.plan.setup coming.asked)
     c.loop-place.inputs c.loop-place.exits c.args.crew.now.made.number c.loop-place.crew.made.number
     c.loop-place.invariant.going c.no_memory.ensures.stays
     (let made = c.loop-place.invariant.made in omega arith) (let made = c.loop-place.invariant.made in omega arith))
@@ -57,10 +58,10 @@ pub returns-in-Err-make_round-clause-refused : goal.returns-in-Err-make_round-cl
 returns-in-Err-make_round-clause-refused g c =
     let w = g.H.Host.world in let coming = c.args.plan in
     rw (c.no_memory-in-Err-make_round.ensures.status)
-    (going_cut (begins coming.number (option_map arc_value coming.past) c.args.plan.setup coming.reach)
+    (going_cut (begins coming.number (option_map arc_value coming.past) c.args.plan.setup coming.asked)
     c.args.crew.now.workers coming.inputs
     (w c.args.host.now) (w c.loop-place.host) (w c.no_memory-in-Err-make_round.new.host)
-    (begins (coming.number + c.loop-place.place) (option_map arc_value c.loop-place.past) c.args.plan.setup coming.reach)
+    (begins (coming.number + c.loop-place.place) (option_map arc_value c.loop-place.past) c.args.plan.setup coming.asked)
     c.loop-place.inputs c.loop-place.exits c.args.crew.now.made.number c.make_round.new.crew.made.number
     c.loop-place.invariant.going c.no_memory-in-Err-make_round.ensures.stays
     (let made = c.loop-place.invariant.made in let one = c.make_round.ensures.one in omega arith)
@@ -73,9 +74,9 @@ returns-in-Err-print_text-clause-refused g c =
     let w = g.H.Host.world in let coming = c.args.plan in
     let taken : c.loop-place.inputs ≡ c.in-Ok-Some.input.items ∷ c.next.new.self =
     rw c.in-Ok-Some.field-0-is at c.in-Ok-Some.ensures.taken in
-    going_unprinted (begins coming.number (option_map arc_value coming.past) c.args.plan.setup coming.reach)
+    going_unprinted (begins coming.number (option_map arc_value coming.past) c.args.plan.setup coming.asked)
     c.args.crew.now.workers coming.inputs (w c.args.host.now) (w c.loop-place.host) (w c.print_text.new.host)
-    (begins (coming.number + c.loop-place.place) (option_map arc_value c.loop-place.past) c.args.plan.setup coming.reach)
+    (begins (coming.number + c.loop-place.place) (option_map arc_value c.loop-place.past) c.args.plan.setup coming.asked)
     c.in-Ok-Some.input.items c.next.new.self c.loop-place.exits
     c.in-Ok.played.text.items c.in-Ok.played.exited (arc_value c.in-Ok.played.left)
     c.args.crew.now.made.number c.make_round.new.crew.made.number c.in-Err-print_text.status
@@ -97,19 +98,19 @@ loop-place-preserved g c =
     let fewer : length c.loop-place.inputs ≡ length (c.in-Ok-Some.input.items ∷ c.next.new.self) = ap length taken in
     let left : c.loop-place.place + length c.loop-place.inputs ≡ c.len-place-end.result = c.loop-place.invariant.left in
     let now : Beginning =
-    begins (coming.number + c.loop-place.place) (option_map arc_value c.loop-place.past) c.args.plan.setup coming.reach
+    begins (coming.number + c.loop-place.place) (option_map arc_value c.loop-place.past) c.args.plan.setup coming.asked
     in
     let number : coming.number + (c.loop-place.place + 1) ≡ coming.number + c.loop-place.place + 1 = omega arith in
     record {
-      going = going_next (begins coming.number (option_map arc_value coming.past) c.args.plan.setup coming.reach)
+      going = going_next (begins coming.number (option_map arc_value coming.past) c.args.plan.setup coming.asked)
           c.args.crew.now.workers coming.inputs (w c.args.host.now) (w c.loop-place.host) (w c.print_text.new.host)
           now (begins (coming.number + (c.loop-place.place + 1))
-          (Some (arc_value c.in-Ok.played.left)) c.args.plan.setup coming.reach)
+          (Some (arc_value c.in-Ok.played.left)) c.args.plan.setup coming.asked)
           c.in-Ok-Some.input.items c.next.new.self c.loop-place.exits
           c.in-Ok.played.text.items c.in-Ok.played.exited (arc_value c.in-Ok.played.left)
           (rw taken at c.loop-place.invariant.going)
           (rw c.loop-place.invariant.workers at c.in-Ok.ensures.played)
-          (ap (λ (n : ℕ). begins n (Some (arc_value c.in-Ok.played.left)) c.args.plan.setup coming.reach) number)
+          (ap (λ (n : ℕ). begins n (Some (arc_value c.in-Ok.played.left)) c.args.plan.setup coming.asked) number)
           (rw (← c.as_slice.ensures.value) c.in-Ok-print_text.ensures.printed) c.in-Ok-print_text.ensures.counts
           c.in-Ok-print_text.ensures.asked;
       left = omega arith;
@@ -124,9 +125,9 @@ loop-place-preserved g c =
 pub returns-clause-played : goal.returns-clause-played
 returns-clause-played g c =
     let w = g.H.Host.world in let coming = c.args.plan in
-    going_played (begins coming.number (option_map arc_value coming.past) c.args.plan.setup coming.reach)
+    going_played (begins coming.number (option_map arc_value coming.past) c.args.plan.setup coming.asked)
     c.args.crew.now.workers coming.inputs (w c.args.host.now) (w c.loop-place.host)
-    (begins (coming.number + c.loop-place.place) (option_map arc_value c.loop-place.past) c.args.plan.setup coming.reach)
+    (begins (coming.number + c.loop-place.place) (option_map arc_value c.loop-place.past) c.args.plan.setup coming.asked)
     c.loop-place.inputs c.loop-place.exits (arc_value c.in-Some.left)
     c.args.crew.now.made.number c.loop-place.crew.made.number
     (none_left c.loop-place.inputs c.loop-place.place c.len-place-end.result c.loop-place.invariant.left

@@ -19,7 +19,7 @@ invariant-loop-place g l = record {
         number = l.first + l.place;
         past = option_map arc_value l.past;
         setup = l.fn.plan.setup;
-        reach = l.reach;
+        asked = l.asked;
       }) l.inputs l.exits;
   left : l.place + length l.inputs ≡ l.place-end;
   short : AreShort l.inputs;

@@ -3,17 +3,18 @@ use Rattle.std.proofs.Common.{◌≡◌, ℕ, List, [], ◌∷◌, ◌++◌, len
 use Rattle.std.specs.List.{concat}
 use Rattle.std.proofs.lemmas.List.Folds.{concat-append}
 use Rattle.report_spec.specs.Text.{newline, line, list_line}
-use Rattle.report_spec.specs.Report.{Told, ending_text, entry_text, reused_count, executed_count, memory_digest, reached_lines, report_lines, report_text}
+use Rattle.report_spec.specs.Report.{Told, ending_text, entry_text, reused_count, executed_count, memory_digest, reached_lines, progress_lines, report_lines, report_text}
 use Rattle.round_report.specs.Parts.{steps_part, work_part, outcome_part}
 use Rattle.round_report.proofs.report.text_with.Goals as goal
 
--- ten lines, some more in their midst, and what stands behind them, cut into four
+-- ten lines, some more at two places in their midst, and what stands behind them, cut into four
 cut :
-    (a b c d e : List ℕ) (more : List (List ℕ)) (f g h i j output end : List ℕ)
-    → concat (a ∷ b ∷ c ∷ d ∷ e ∷ more ++ f ∷ g ∷ h ∷ i ∷ j ∷ []) ++ output ++ end
-    ≡ a ++ (b ++ (c ++ d ++ e) ++ concat more) ++ (f ++ g ++ h) ++ (i ++ j ++ output ++ end)
-cut a b c d e more f g h i j output end =
-    rw (concat-append (a ∷ b ∷ c ∷ d ∷ e ∷ more) (f ∷ g ∷ h ∷ i ∷ j ∷ [])) (simp append_assoc)
+    (a b c d e : List ℕ) (more : List (List ℕ)) (f g : List ℕ) (others : List (List ℕ)) (h i j output end : List ℕ)
+    → concat (a ∷ b ∷ c ∷ d ∷ e ∷ more ++ f ∷ g ∷ others ++ h ∷ i ∷ j ∷ []) ++ output ++ end
+    ≡ a ++ (b ++ (c ++ d ++ e) ++ concat more) ++ (f ++ g ++ concat others ++ h) ++ (i ++ j ++ output ++ end)
+cut a b c d e more f g others h i j output end =
+    rw (concat-append ((a ∷ b ∷ c ∷ d ∷ e ∷ more) ++ f ∷ g ∷ others) (h ∷ i ∷ j ∷ []),
+    concat-append (a ∷ b ∷ c ∷ d ∷ e ∷ more) (f ∷ g ∷ others)) (simp append_assoc)
 
 -- a report in its parts
 opened : (n : ℕ) (t : Told) → report_text n t ≡ concat (report_lines n t) ++ t.output ++ newline
@@ -31,9 +32,10 @@ in_parts n t =
     (line (codes "steps") (decimal (length t.schedule)))
     (line (codes "reused") (decimal (reused_count t.schedule)))
     (line (codes "executed") (decimal (executed_count t.schedule)))
-    (reached_lines t.reached)
+    (reached_lines t.extras.reached)
     (line (codes "instructions") (decimal t.instructions))
     (list_line (codes "by") decimal t.shares)
+    (progress_lines t.extras.progress)
     (list_line (codes "schedule") entry_text t.schedule)
     (line (codes "memory") (memory_digest t.memory))
     (line (codes "output") (decimal (length t.output)))

@@ -12,6 +12,8 @@ invariant_of-self g c =
       counted = search rules;
       setup = search rules;
       past = search rules;
+      watched = search rules;
+      counts = search rules;
       follows =
           follows-take g.J.Naming.setup g.J.Naming.past c.args.self.now.round c.take.new.self c.args.t
           (record {
@@ -30,6 +32,8 @@ invariant_of-self-in-Err g c =
       counted = search rules;
       setup = search rules;
       past = search rules;
+      watched = search rules;
+      counts = search rules;
       follows =
           follows-stop g.J.Naming.setup g.J.Naming.past c.args.self.now.round c.stop.new.self
           (record {

@@ -18,6 +18,8 @@ invariant_of-self g c =
       counted = search rules;
       setup = search rules;
       past = search rules;
+      watched = search rules;
+      counts = search rules;
       follows =
           follows-commit g.J.Naming.setup g.J.Naming.past c.args.self.now.round c.commit_known.new.self
           (arc_value c.args.run.rec).thread
@@ -37,6 +39,8 @@ invariant_of-self-in-Stale-1 g c =
       counted = search rules;
       setup = search rules;
       past = search rules;
+      watched = search rules;
+      counts = search rules;
       follows =
           follows-give_back g.J.Naming.setup g.J.Naming.past c.args.self.now.round c.commit_known.new.self
           (arc_value c.args.run.rec).thread
@@ -56,6 +60,8 @@ invariant_of-self-in-Memory g c =
       counted = search rules;
       setup = search rules;
       past = search rules;
+      watched = search rules;
+      counts = search rules;
       follows =
           follows-given_up g.J.Naming.setup g.J.Naming.past c.commit_known.new.self c.give_up.new.round _
           (subst (IsUnder g.J.Naming.setup g.J.Naming.past) (sym c.in-Memory.ensures.does.2)

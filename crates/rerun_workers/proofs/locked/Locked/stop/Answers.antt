@@ -9,6 +9,8 @@ invariant_of-self g c =
       counted = search rules;
       setup = search rules;
       past = search rules;
+      watched = search rules;
+      counts = search rules;
       follows =
           follows-stop g.J.Naming.setup g.J.Naming.past c.args.self.now.round c.stop.new.self
           (record {

@@ -1,0 +1,26 @@
+-- What workers make together.
+use Rattle.std.specs.Prelude.{◌≡◌, ℕ, true, List, is_some, Option, Some}
+use Rattle.machine_spec.specs.Setup.{Setup}
+use Rattle.history_spec.specs.History.{History, IsSound}
+use Rattle.round_spec.specs.Rounds.{RoundState}
+use Rattle.round_spec.specs.Schedules.{IsBySchedule}
+use Rattle.round_spec.specs.Alone.{lone_round}
+use Rattle.round_spec.specs.Picking.{ArePicked}
+use Rattle.round_spec.specs.Unedited.{IsUnedited, OnlyReuses}
+use Rattle.worker_spec.specs.Workers.{IsMadeBy}
+use Rattle.reach_spec.specs.Working.{ReexecutesLeast}
+
+-- A round of a setup, by a history if there is one, that so many workers made, and how many of its steps each of them
+-- made: it stands by its schedule; one worker makes the round of the choice; by a sound history each entry was picked
+-- rightly; it executes no more than it must; it has an end; and without an edit it is all reuse of the history.
+pub record IsRoundBy (workers : ℕ) (setup : Setup) (past : Option History) (round : RoundState) (shares : List ℕ) : Type 0
+  where
+    pub setup : round.setup ≡ setup
+    pub past : round.past ≡ past
+    pub stands : IsBySchedule round
+    pub made : IsMadeBy workers setup past round.schedule shares
+    pub alone : workers ≡ 1 → round ≡ lone_round setup past
+    pub picked : IsSound past setup → ArePicked setup past round.schedule round.picked
+    pub least : ReexecutesLeast round
+    pub ends : is_some round.machine.ending ≡ true
+    pub unedited : (h : History) → past ≡ Some h → IsUnedited h setup → OnlyReuses h round

@@ -1,0 +1,86 @@
+//! A round that workers make while somebody watches how many steps there are.
+
+ghost use Rattle.std.specs.Prelude.{◌≡◌, ◌<◌, ◌≤◌, ◌+◌, All, length, sum, vec_len, vec_capacity, Some, None, IfOk};
+ghost use Rattle.std.specs.Thread.{IsSync};
+ghost use Rattle.std.specs.List.{last_or};
+ghost use Rattle.std.specs.List.Sorted.{IsStrictlyIncreasing};
+ghost use Rattle.worker_spec.specs.declared.TheConstants.{MOST_LOOKS};
+ghost use Rattle.round_spec.specs.Rounds.{opening};
+ghost use Rattle.rerun_workers.specs.Following.{FollowsPicks};
+
+use super::board::Board;
+use super::naming::{Naming, Pass};
+use super::watching::{Counter, Watch, note, watch_round};
+use super::working::work_together;
+use ith_host::Gate;
+use propagate::Round;
+use std::alloc::{AllocError, Global};
+use std::sync::Wait;
+use std::sync::atomic::{AtomicBool, Ordering};
+use std::sync::ledger::Blank;
+use std::thread::{Threads, join};
+use worker_spec::MOST_LOOKS;
+
+/// A round before its first step, and what is to count its steps.
+#[derive(Drop)]
+pub(super) struct Watched {
+    pub(super) round: Round,
+    pub(super) counter: Counter,
+}
+
+/// A round that so many workers made together until it was over, or until the host's memory ran out, and the numbers of
+/// its steps that a watcher read meanwhile, of which the last is all of them.
+pub(super) fn run_watched<J: Naming + Send + Sync, R: Threads + Wait + Sync, G: Gate + Sync>(
+    rt: &R,
+    alloc: Global,
+    watched: Watched,
+    workers: u32,
+    gate: &G,
+    blank: Blank,
+) -> Result<(Round, Vec<u64>, Vec<u64>), AllocError>
+    requires name { blank.name ≡ J.name }
+    requires parts { (blank.parts ≡ J.parts) × (J.parts ≡ workers) }
+    requires workers { (workers ≡ J.workers) × (1 ≤ workers) }
+    requires watches { J.watches ≡ 1 }
+    requires table { (watched.counter.writer.table ≡ J.table) × (watched.counter.writer.added ≡ 0) }
+    requires opening { watched.round ≡ opening J.setup J.past }
+    ensures setup { IfOk result (λ r. r.0.setup ≡ watched.round.setup) }
+    ensures past { IfOk result (λ r. r.0.past ≡ watched.round.past) }
+    ensures each { IfOk result (λ r. length r.1.items ≡ workers) }
+    ensures steps { IfOk result (λ r. sum r.1.items ≡ length r.0.schedule) }
+    ensures follows { IfOk result (λ r. FollowsPicks watched.round.setup watched.round.past r.0) }
+    ensures ascends { IfOk result (λ r. IsStrictlyIncreasing r.2.items) }
+    ensures few { IfOk result (λ r. length r.2.items ≤ MOST_LOOKS + 1) }
+    ensures last { IfOk result (λ r. last_or None r.2.items ≡ Some (length r.0.schedule)) }
+{
+    let Watched { round, counter } = watched;
+    let numbers = Vec::with_capacity(alloc, MOST_LOOKS + 1)?;
+    let mut watches = Vec::with_capacity(alloc, 1)?;
+    let (board, mut passes, mut seats) =
+        Board::<J>::with_watches(alloc, round, workers, 1, counter, blank)?;
+    let seat = seats.remove(0);
+    let shared = &board;
+    let over = AtomicBool::new(false);
+    let ((seat, mut numbers), mut passes) = join(
+        rt,
+        || -> (Watch<J>, Vec<u64>)
+            requires { vec_len numbers ≡ 0 × (MOST_LOOKS < vec_capacity numbers) }
+            ensures ascends { IsStrictlyIncreasing result.1.items }
+            ensures few { vec_len result.1 ≤ MOST_LOOKS }
+            ensures room { vec_capacity result.1 ≡ vec_capacity numbers.entry }
+            ensures seen { All (λ n. n ≤ result.0.reader.seen) result.1.items }
+        { watch_round(shared, seat, numbers, &over) },
+        || -> Vec<Pass<J>>
+            requires { IsSync R.row }
+            ensures { vec_len result ≡ vec_len passes.entry }
+        {
+            work_together(rt, alloc, shared, passes.as_mut_slice(), gate);
+            over.store(true, Ordering::Relaxed);
+            passes
+        },
+    );
+    watches.push_reserved(seat);
+    let (round, shares, last) = board.close_watched(passes, watches);
+    note(&mut numbers, last[0]);
+    Ok((round, shares, numbers))
+}

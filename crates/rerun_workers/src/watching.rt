@@ -1,0 +1,177 @@
+//! Who watches a round: a word counts its steps, and a watch reads the word without a lock.
+
+ghost use Rattle.std.specs.Prelude.{◌≡◌, ◌+◌, ◌<◌, ◌≤◌, ℕ, All, [], vec_len, vec_capacity, is_some, Some, None, IfSome, IfOk};
+ghost use Rattle.std.specs.Arc.{arc_value};
+ghost use Rattle.std.specs.List.{last_or};
+ghost use Rattle.std.specs.List.Sorted.{IsStrictlyIncreasing};
+ghost use Rattle.atomic_table.specs.Seated.{TableId};
+ghost use Rattle.machine_spec.specs.declared.TheConstants.{MOST_STEPS};
+ghost use Rattle.worker_spec.specs.declared.TheConstants.{MOST_LOOKS};
+ghost use Rattle.rerun_workers.specs.Watching.{IsCounting};
+
+use super::board::Board;
+use super::naming::Naming;
+use progress_word::{Reader, Word, Writer};
+use std::alloc::{AllocError, Global};
+use std::marker::PhantomData;
+use std::sync::Arc;
+use std::sync::atomic::{AtomicBool, Ordering};
+use std::thread::yield_now;
+use worker_spec::MOST_LOOKS;
+
+/// The word that counts the steps of a watched round, and the seat that alone may raise it.
+#[derive(Drop)]
+pub struct Counter {
+    word: Arc<Word>,
+    writer: Writer,
+    ghost own: { writer.table ≡ arc_value word },
+}
+
+impl Counter {
+    /// A word of its own, which has counted no step.
+    ///
+    /// # Errors
+    ///
+    /// An error where the host's memory ran out.
+    pub(super) fn new(alloc: Global) -> Result<Counter, AllocError>
+        ensures { IfOk result (λ counter. counter.writer.added ≡ 0) }
+    {
+        let (word, writer) = Word::new(alloc)?;
+        let word = Arc::new(alloc, word)?;
+        Ok(Counter { word, writer })
+    }
+
+    /// Counts one step more.
+    fn add(&mut self)
+        requires { self.old.writer.added < MOST_STEPS }
+        ensures added { self.new.writer.added ≡ self.old.writer.added + 1 }
+        ensures table { self.new.writer.table ≡ self.old.writer.table }
+    {
+        let Counter { word, writer } = self;
+        word.add(writer);
+    }
+
+    /// A watch of the word, which has seen what the writer has.
+    pub(super) fn split<J: Naming>(&mut self) -> Watch<J>
+        requires { self.old.writer.table ≡ J.table }
+        ensures added { self.new.writer.added ≡ self.old.writer.added }
+        ensures table { self.new.writer.table ≡ self.old.writer.table }
+        ensures looks { result.reader.loads ≡ 0 }
+    {
+        let Counter { word, writer } = self;
+        let reader = word.split(writer);
+        Watch {
+            word: word.clone(),
+            reader,
+            marker: PhantomData,
+        }
+    }
+
+    /// Takes a watch back: what it has seen the writer has seen too.
+    pub(super) fn join<J: Naming>(&mut self, watch: Watch<J>)
+        requires { self.old.writer.table ≡ J.table }
+        ensures added { self.new.writer.added ≡ self.old.writer.added }
+        ensures table { self.new.writer.table ≡ self.old.writer.table }
+        ensures seen { (watch.reader.seen ≤ self.new.writer.seen) × (self.old.writer.seen ≤ self.new.writer.seen) }
+    {
+        let Counter { word, writer } = self;
+        let Watch { reader, .. } = watch;
+        word.join(writer, reader);
+    }
+
+    /// How many steps were counted, by a look at the word.
+    pub(super) fn read(&mut self) -> u64
+        ensures all { result ≡ self.old.writer.added }
+        ensures seen { self.old.writer.seen ≤ result }
+    {
+        let Counter { word, writer } = self;
+        word.read(writer)
+    }
+}
+
+/// Counts one step more, if anybody may watch.
+pub(super) fn count(counter: &mut Option<Counter>)
+    requires { IfSome counter.old (λ c. c.writer.added < MOST_STEPS) }
+    ensures counts { (table : TableId) (steps : ℕ)
+        → IsCounting table steps counter.old
+        → IsCounting table (steps + 1) counter.new }
+    ensures some { is_some counter.new ≡ is_some counter.old }
+{
+    if let Some(counter) = counter.as_mut() {
+        counter.add();
+    }
+}
+
+/// What a watcher holds of a board: a seat of the word that counts the board's steps.
+#[derive(Drop)]
+pub struct Watch<J: Naming> {
+    word: Arc<Word>,
+    pub(super) reader: Reader,
+    marker: PhantomData<J>,
+    ghost own: { reader.table ≡ arc_value word },
+    ghost named: { reader.table ≡ J.table },
+}
+
+impl<J: Naming> Watch<J> {
+    /// How many steps of the round were made, by one look at the word.
+    pub(super) fn look(&mut self) -> u64
+        ensures seen { self.new.reader.seen ≡ result }
+        ensures rises { self.old.reader.seen ≤ result }
+        ensures looks { self.new.reader.loads ≡ self.old.reader.loads + 1 }
+    {
+        let Watch { word, reader, .. } = self;
+        word.load(reader)
+    }
+}
+
+/// Adds a number that was read if it is more than the last one.
+pub(super) fn note(numbers: &mut Vec<u64>, number: u64)
+    requires room { vec_len numbers.old < vec_capacity numbers.old }
+    requires ascends { IsStrictlyIncreasing numbers.old.items }
+    ensures ascends { IsStrictlyIncreasing numbers.new.items }
+    ensures few { vec_len numbers.new ≤ vec_len numbers.old + 1 }
+    ensures room { vec_capacity numbers.new ≡ vec_capacity numbers.old }
+    ensures last { All (λ n. n ≤ number) numbers.old.items → last_or None numbers.new.items ≡ Some number }
+    ensures below { All (λ n. n ≤ number) numbers.old.items → All (λ n. n ≤ number) numbers.new.items }
+{
+    match numbers.last() {
+        Some(last) if number <= *last => {}
+        _ => numbers.push_reserved(number),
+    }
+}
+
+/// Lets other threads run for a while, which is longer after each look, or until the round is over.
+fn pause(looks: usize, over: &AtomicBool) {
+    for _ in 0..looks {
+        if over.load(Ordering::Relaxed) {
+            return;
+        }
+        yield_now();
+    }
+}
+
+/// Looks how many steps of the round on the board were made, at most so often and until the round is over, and keeps the
+/// numbers that differ.
+pub(super) fn watch_round<J: Naming>(
+    board: &Board<J>,
+    mut watch: Watch<J>,
+    mut numbers: Vec<u64>,
+    over: &AtomicBool,
+) -> (Watch<J>, Vec<u64>)
+    requires none { numbers.items ≡ [] }
+    requires room { MOST_LOOKS < vec_capacity numbers }
+    ensures ascends { IsStrictlyIncreasing result.1.items }
+    ensures few { vec_len result.1 ≤ MOST_LOOKS }
+    ensures room { vec_capacity result.1 ≡ vec_capacity numbers }
+    ensures seen { All (λ n. n ≤ result.0.reader.seen) result.1.items }
+{
+    for looks in 0..MOST_LOOKS {
+        if over.load(Ordering::Relaxed) {
+            break;
+        }
+        let number = board.progress(&mut watch);
+        note(&mut numbers, number);
+        pause(looks, over);
+    }
+    (watch, numbers)
+}
