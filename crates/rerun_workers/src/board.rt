@@ -93,7 +93,7 @@ fn watches_of<J: Naming>(
 {
     let mut seats = Vec::new(alloc);
     for made in 0..watches {
-        seats.push(counter.split::<J>())?;
+        seats.push(counter.split::<J>()?)?;
     }
     Ok(seats)
 }

@@ -52,19 +52,24 @@ impl Counter {
     }
 
     /// A watch of the word, which has seen what the writer has.
-    pub(super) fn split<J: Naming>(&mut self) -> Watch<J>
+    ///
+    /// # Errors
+    ///
+    /// An error where the host's memory ran out.
+    pub(super) fn split<J: Naming>(&mut self) -> Result<Watch<J>, AllocError>
         requires { self.old.writer.table ≡ J.table }
         ensures added { self.new.writer.added ≡ self.old.writer.added }
         ensures table { self.new.writer.table ≡ self.old.writer.table }
-        ensures looks { result.reader.loads ≡ 0 }
+        ensures looks { IfOk result (λ watch. watch.reader.loads ≡ 0) }
     {
         let Counter { word, writer } = self;
+        let shared = word.clone()?;
         let reader = word.split(writer);
-        Watch {
-            word: word.clone(),
+        Ok(Watch {
+            word: shared,
             reader,
             marker: PhantomData,
-        }
+        })
     }
 
     /// Takes a watch back: what it has seen the writer has seen too.
