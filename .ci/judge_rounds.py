@@ -28,8 +28,9 @@ def changed_pages(machine, other):
 class Judge:
     """The rounds of a line, one after the other: `refuse` has what is wrong with one."""
 
-    def __init__(self, elf, workers, fuel=1_000_000, limit=4096, reach=False):
-        self.image, self.workers, self.fuel, self.limit, self.reach = read_executable(elf), workers, fuel, limit, reach
+    def __init__(self, elf, workers, limits=(1_000_000, 4096), reach=False, progress=False):
+        self.image, self.workers, self.reach, self.progress = read_executable(elf), workers, reach, progress
+        self.fuel, self.limit = limits
         self.past, self.machine, self.data = History([]), None, None
 
     def start(self, data):
@@ -45,6 +46,7 @@ class Judge:
         wanted = sum(reached) if self.reach else None
         if printed.reached != wanted:
             told.append(f"reached is {printed.reached}, and should be {wanted}")
+        told += self.watched(printed)
         told += self.made(machine, printed)
         told += self.compared(machine, printed)
         if self.machine is not None and self.machine.fuel == self.fuel:
@@ -54,6 +56,18 @@ class Judge:
         if self.workers == 1:
             told += self.alone(printed, data)
         self.past, self.machine, self.data = History(machine.records), machine, data
+        return told
+
+    def watched(self, printed):
+        """What is wrong with the numbers that were read of the round's progress."""
+        numbers = printed.progress
+        if (numbers is not None) != self.progress:
+            return ["its progress is told, and isn't asked for" if numbers else "its progress isn't told"]
+        if not self.progress:
+            return []
+        told = [] if len(numbers) <= 1025 and all(one < other for one, other in zip(numbers, numbers[1:])) else ["its progress doesn't rise"]
+        if numbers[-1:] != [printed.steps] or self.workers == 1 and len(numbers) > 1:
+            told.append(f"its progress ends in {numbers[-3:]}, of {printed.steps} steps")
         return told
 
     def made(self, machine, printed):
@@ -134,7 +148,8 @@ def text_of(printed):
     entries = " ".join(f"{thread}{mark}" for thread, mark in printed.schedule)
     lines = [f"round {printed.number}", f"end {end_text(printed.end)}", f"steps {printed.steps}", f"reused {printed.reused}",
              f"executed {printed.executed}", *([] if printed.reached is None else [f"reached {printed.reached}"]),
-             f"instructions {printed.instructions}", f"by {' '.join(map(str, printed.by))}", f"schedule {entries}",
+             f"instructions {printed.instructions}", f"by {' '.join(map(str, printed.by))}",
+             *([] if printed.progress is None else [f"progress {' '.join(map(str, printed.progress))}"]), f"schedule {entries}",
              f"memory {printed.memory}", f"output {len(printed.output)}"]
     return "\n".join(lines).encode() + b"\n" + printed.output + b"\n"
 
@@ -146,8 +161,13 @@ def end_of(text):
     return {"kind": kind, **{name: value if name == "pc" else int(value) for name, value in zip(names, values)}}
 
 
-def drawn_rounds(elf, inputs, workers, draw, reach=False):
-    """The reports of rounds on some inputs, one behind the other, as drawn workers make them; and whether they tell what is reached."""
+def drawn_progress(steps, workers, draw):
+    """Numbers of steps that a watcher might read."""
+    return [*sorted(draw.sample(range(steps), draw.randrange(min(steps, 9)) if workers > 1 else 0)), steps]
+
+
+def drawn_rounds(elf, inputs, workers, draw, told=False):
+    """The reports of rounds on some inputs, one behind the other, as drawn workers make them; and whether they have the lines that are asked for."""
     past, made, before = History([]), [], None
     for number, data in enumerate(inputs):
         machine, again = (CallMachine(*read_executable(elf), 1_000_000, 4096, data) for _ in range(2))
@@ -155,7 +175,8 @@ def drawn_rounds(elf, inputs, workers, draw, reach=False):
         schedule, shares = drawn_round(machine, past, workers, draw)
         counts = [entry[3] for entry, (_, mark) in zip(machine.entries, schedule) if mark == "+"]
         made.append(reports.Round(number, end_of(machine.ended), len(schedule), len(schedule) - len(counts), len(counts), sum(counts), shares, schedule,
-                                  machine.digest(), machine.output, b"", sum(past.reached(changed)) if reach else None))
+                                  machine.digest(), machine.output, b"", sum(past.reached(changed)) if told else None,
+                                  drawn_progress(len(schedule), workers, draw) if told else None))
         past = History(machine.records)
     return made
 
@@ -217,3 +238,8 @@ def falsified(first, later, again):
     yield "steps reached from scratch", 0, remade(first, reached=first.steps)
     yield "steps reached without an edit", 2, remade(again, reached=later.reached)
     yield "what is reached untold", 1, remade(later, reached=None)
+    yield "the progress untold", 1, remade(later, progress=None)
+    yield "the last number left out of the progress", 0, remade(first, progress=[0])
+    yield "a number twice", 0, remade(first, progress=[first.steps, first.steps])
+    yield "numbers that aren't in order", 1, remade(later, progress=[2, 1, later.steps])
+    yield "a number above the steps", 2, remade(again, progress=[again.steps + 1, again.steps])

@@ -46,7 +46,9 @@ REFUSED = [
     ("executed 2", "executed 2\nreached 65537", 19), ("executed 2", "executed 2\nreached", 18),
     ("executed 2", "executed 2\nreaches 2", 17), ("executed 2", "executed 2\nreached 2\nreached 2", 21),
     ("instructions 8", "instructions x", 13), ("by 2", "by 1", 2), ("by 2", "by", 2), ("by 2", "by 2 ", 5),
-    ("by 2", "by 2" + " 0" * 16, 2), ("schedule 0+ 0+", "schedule 0+ 0=", 8), ("schedule 0+ 0+", "schedule 0+", 11),
+    ("by 2", "by 2" + " 0" * 16, 2), ("by 2", "by 2\nprogress", 13), ("by 2", "by 2\nprogress 1", 13),
+    ("by 2", "by 2\nprogress 2 2", 13), ("by 2", "by 2\nprogress 1 2 3", 13), ("by 2", "by 2\nprogress 02", 15),
+    ("by 2", "by 2\nprogress 2\nprogress 2", 16), ("schedule 0+ 0+", "schedule 0+ 0=", 8), ("schedule 0+ 0+", "schedule 0+", 11),
     ("schedule 0+ 0+", "schedule 0+ 0+ 0+", 14), ("schedule 0+ 0+", "schedule 0+ 32+", 13),
     ("schedule 0+ 0+", "schedule 0+  0+", 12), ("schedule 0+ 0+", "schedule 0+ 0", 13),
     ("memory " + "0" * 64, "memory " + "0" * 63, 70), ("memory " + "0" * 64, "memory " + "0" * 65, 71),
@@ -87,6 +89,8 @@ def some_round(draw, number):
             "instructions": draw.randrange(10**12), "schedule": schedule, "memory": draw.randbytes(32).hex()}
     if draw.randrange(2):
         told["reached"] = draw.choice([0, steps, 65_536])
+    if draw.randrange(2):
+        told["progress"] = [*sorted(draw.sample(range(steps), min(steps, draw.choice([0, 1, 5])))), steps]
     return report_of(told, said, output), told, output
 
 
@@ -95,7 +99,8 @@ def report_of(told, end, output):
     entries = " ".join(f"{thread}{mark}" for thread, mark in told["schedule"])
     words = ("steps", "reused", "executed", "reached", "instructions")
     counts = "".join(f"{word} {told[word]}\n" for word in words if told.get(word) is not None)
-    lines = (f"round {told['round']}\nend {end}\n{counts}by {' '.join(map(str, told['by']))}\nschedule {entries}\n"
+    progress = f"progress {' '.join(map(str, told['progress']))}\n" if told.get("progress") else ""
+    lines = (f"round {told['round']}\nend {end}\n{counts}by {' '.join(map(str, told['by']))}\n{progress}schedule {entries}\n"
              f"memory {told['memory']}\noutput {len(output)}\n")
     return lines.encode() + output + b"\n"
 

@@ -10,6 +10,7 @@ from dataclasses import dataclass
 ENTRY = rb" (?:[12][0-9]|3[01]|[0-9])[=+]"
 MOST_STEPS = 65_536
 MOST_WORKERS = 16
+MOST_LOOKS = 1_024
 END_WORDS = {b"exit": ["code"], b"trap": ["thread", "pc", "cause"], b"deadlock": [], b"spent": []}
 MOST = {"code": 2**32 - 1, "thread": 31, "cause": 8}
 
@@ -26,7 +27,7 @@ class NotReports(Exception):
 @dataclass
 class Round:
     """What one report says. `end` has its kind, and what comes with it; `lines` are the report without the output;
-    `reached` is None where the report has no such line."""
+    `reached` and `progress` are None where the report has no such line."""
 
     number: int
     end: dict
@@ -40,6 +41,7 @@ class Round:
     output: bytes
     lines: bytes
     reached: int | None = None
+    progress: list | None = None
 
     def tokens(self):
         """The schedule as a line by itself, without its word."""
@@ -125,6 +127,20 @@ class Reader:
         self.rule(len(shares) <= MOST_WORKERS and sum(shares) == steps, f"numbers that make {steps} together", at)
         return shares
 
+    def progress(self, steps):
+        """The numbers of steps that were read while the round was made, if that line is there."""
+        if not self.data.startswith(b"p", self.place):
+            return None
+        self.text(b"progress")
+        at, numbers = self.place, []
+        while not numbers or self.data.startswith(b" ", self.place):
+            self.text(b" ")
+            numbers.append(self.number())
+        self.text(b"\n")
+        rising = all(one < other for one, other in zip(numbers, numbers[1:]))
+        self.rule(rising and len(numbers) <= MOST_LOOKS + 1 and numbers[-1] == steps, f"numbers that rise to {steps}", at)
+        return numbers
+
     def schedule(self, steps, reused):
         self.text(b"schedule")
         at = self.place
@@ -148,10 +164,11 @@ class Reader:
         executed = self.line(b"executed", steps - reused, steps - reused, f"{steps - reused}, which weren't reused")
         reached = self.line(b"reached", 0, MOST_STEPS) if self.data.startswith(b"r", self.place) else None
         instructions, shares = self.line(b"instructions"), self.shares(steps)
+        progress = self.progress(steps)
         schedule, memory, length = self.schedule(steps, reused), self.digest(), self.line(b"output")
         lines = self.data[start:self.place]
         return Round(number, end, steps, reused, executed, instructions, shares, schedule, memory, self.output(length),
-                     lines, reached)
+                     lines, reached, progress)
 
     def digest(self):
         self.text(b"memory ")

@@ -140,7 +140,7 @@ pub fn run_round<R: Threads + Wait + Sync, G: Gate + Sync>(
     gate: &G,
 ) -> Result<(Round, Vec<u64>), AllocError>
     requires { 1 ≤ workers }
-    ensures { IfOk result (λ r. IsRoundBy workers setup (option_map arc_value past) r.0 r.1.items) }
+    ensures round { IfOk result (λ r. IsRoundBy workers setup (option_map arc_value past) r.0 r.1.items) }
 {
     if workers == 1 {
         return run_by_first(rt, alloc, setup, past, workers);

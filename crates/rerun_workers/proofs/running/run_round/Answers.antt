@@ -6,8 +6,8 @@ use Rattle.rerun_workers.specs.Following.{FollowsPicks}
 use Rattle.rerun_workers.proofs.Made.{by-several}
 use Rattle.rerun_workers.proofs.running.run_round.Goals as goal
 
-pub returns-then-is_some : goal.returns-then-is_some
-returns-then-is_some g c =
+pub returns-then-is_some-clause-round : goal.returns-then-is_some-clause-round
+returns-then-is_some-clause-round g c =
     by-several c.args.workers c.args.setup (option_map arc_value c.args.past) c.in_ok-round.round
     c.in_ok-round.shares.items
     (let some = c.requires in let several = c.if-workers-eq1.false in omega (arith, some, several))
