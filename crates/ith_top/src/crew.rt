@@ -6,6 +6,7 @@ ghost use Rattle.std.specs.Borrow.{ftrue};
 ghost use Rattle.round_spec.specs.Schedules.{IsBySchedule};
 ghost use Rattle.worker_spec.specs.Workers.{IsMadeBy};
 ghost use Rattle.worker_spec.specs.Watching.{IsProgress};
+ghost use Rattle.rerun_workers.specs.Making.{IsRoundBy};
 
 use ith_host::Gate;
 use propagate::Round;
@@ -54,6 +55,47 @@ pub struct Worked {
     pub progress: Vec<u64>,
 }
 
+/// A round that so many workers make while it is watched.
+fn make_watched<R: Threads + Wait + Sync, G: Gate + Sync>(
+    rt: &R,
+    alloc: Global,
+    setup: Setup,
+    past: Option<Arc<History>>,
+    workers: u32,
+    gate: &G,
+) -> Result<Worked, AllocError>
+    requires { 1 ≤ workers }
+    ensures round { IfOk result (λ r. IsRoundBy workers setup (option_map arc_value past) r.round r.shares.items) }
+    ensures progress { IfOk result (λ r. IsProgress workers (length r.round.schedule) r.progress.items) }
+{
+    let (round, shares, progress) = run_round_watched(rt, alloc, setup, past, workers, gate)?;
+    Ok(Worked {
+        round,
+        shares,
+        progress,
+    })
+}
+
+/// A round that so many workers make, and nobody watches.
+fn make_unwatched<R: Threads + Wait + Sync, G: Gate + Sync>(
+    rt: &R,
+    alloc: Global,
+    setup: Setup,
+    past: Option<Arc<History>>,
+    workers: u32,
+    gate: &G,
+) -> Result<Worked, AllocError>
+    requires { 1 ≤ workers }
+    ensures round { IfOk result (λ r. IsRoundBy workers setup (option_map arc_value past) r.round r.shares.items) }
+{
+    let (round, shares) = run_round(rt, alloc, setup, past, workers, gate)?;
+    Ok(Worked {
+        round,
+        shares,
+        progress: Vec::new(alloc),
+    })
+}
+
 /// Who makes the rounds of a line. It alone is lent the runtime for them: nobody else can make a round, and it counts
 /// each.
 #[derive(Drop)]
@@ -79,7 +121,8 @@ impl<'a, R: Threads + Wait + Sync, G: Gate + Sync> Crew<'a, R, G> {
         }
     }
 
-    /// Makes a round, which is watched if that is asked for. It counts, also if the host's memory ran out.
+    /// Makes the round of this number, which is shown, and watched if that is asked for. It counts, also if the host's
+    /// memory ran out.
     ///
     /// # Errors
     ///
@@ -87,6 +130,7 @@ impl<'a, R: Threads + Wait + Sync, G: Gate + Sync> Crew<'a, R, G> {
     pub fn make(
         &mut self,
         alloc: Global,
+        number: u64,
         setup: Setup,
         past: Option<Arc<History>>,
         watched: bool,
@@ -102,24 +146,13 @@ impl<'a, R: Threads + Wait + Sync, G: Gate + Sync> Crew<'a, R, G> {
         ensures workers { self.new.workers ≡ self.old.workers }
     {
         self.made.raise();
-        let Crew {
-            rt, workers, gate, ..
-        } = self;
-        if watched {
-            let (round, shares, progress) =
-                run_round_watched(*rt, alloc, setup, past, *workers, *gate)?;
-            Ok(Worked {
-                round,
-                shares,
-                progress,
-            })
+        self.gate.begin(number);
+        let worked = if watched {
+            make_watched(self.rt, alloc, setup, past, self.workers, self.gate)
         } else {
-            let (round, shares) = run_round(*rt, alloc, setup, past, *workers, *gate)?;
-            Ok(Worked {
-                round,
-                shares,
-                progress: Vec::new(alloc),
-            })
-        }
+            make_unwatched(self.rt, alloc, setup, past, self.workers, self.gate)
+        };
+        self.gate.end();
+        worked
     }
 }

@@ -132,7 +132,7 @@ fn make_line<R: Threads + Wait + Sync, G: Gate + Sync>(
         ..
     } = next;
     let start = setup.with(input, setup.limits())?;
-    let Worked { round, shares, .. } = crew.make(alloc, start, past, false)?;
+    let Worked { round, shares, .. } = crew.make(alloc, number as u64, start, past, false)?;
     let text = round_line(alloc, number as u64, &round, shares.as_slice())?;
     let exited = is_exit(round.end());
     let Some(left) = round.into_history() else {

@@ -105,7 +105,7 @@ pub fn make_round<R: Threads + Wait + Sync, G: Gate + Sync>(
         round,
         shares,
         progress,
-    } = crew.make(alloc, start, past, asked.progress)?;
+    } = crew.make(alloc, number as u64, start, past, asked.progress)?;
     let told = told_of(&round, asked, shares.as_slice(), progress.as_slice())?;
     let text = text(alloc, number as u64, &told, last)?;
     let exited = is_exit(round.end());

@@ -1,10 +1,13 @@
-//! The program: its words, the operating system as its host, and the exit status.
+//! The program: its words, the operating system as its host, the line that a terminal shows, and the exit status.
 #![tactic(auto)]
 
-use ith_host::{Host, OpenGate, OsHost};
+mod live;
+
+use ith_host::{Host, OsHost};
 use ith_top::{Status, top};
+use live::Live;
 use std::env;
-use std::io::ErrorKind;
+use std::io::{ErrorKind, IsTerminal};
 use std::process::ExitCode;
 
 fn main(rt: HostRuntime) -> ExitCode {
@@ -21,7 +24,13 @@ fn main(rt: HostRuntime) -> ExitCode {
             return ExitCode::from(Status::Words.code());
         }
     };
-    ExitCode::from(top(&rt, alloc, &words, &mut host, &OpenGate))
+    let live = Live::new(&rt, is_shown(&rt));
+    ExitCode::from(top(&rt, alloc, &words, &mut host, &live))
+}
+
+/// Whether a terminal is to show how far a round is: if standard error is one, unless `ITHREADS_QUIET` is set.
+fn is_shown(rt: &HostRuntime) -> bool {
+    rt.stderr().is_terminal() && env::var(rt, "ITHREADS_QUIET").is_err()
 }
 
 /// The exit status where no memory was there for the words.

@@ -16,6 +16,7 @@ ghost use Rattle.reach_spec.specs.Working.{ReexecutesLeast};
 ghost use Rattle.propagate.specs.Executing.{executed_by, Costs};
 
 use super::round::Round;
+use ith_host::{Gate, OpenGate};
 use release_core::{History, Setup};
 use round_spec::Pick;
 use std::alloc::{AllocError, Global};
@@ -44,12 +45,13 @@ fn run_step<L: Ledger>(
     round.make(&run)
 }
 
-/// Follows one pick: what is picked is reused, or executed and committed. The answer is whether
+/// Follows one pick: what is picked is reused, or executed and committed, and shown. The answer is whether
 /// anything was picked. The counter rises by the instructions that were executed.
-fn follow_pick<L: Ledger>(
+fn follow_pick<L: Ledger, G: Gate>(
     alloc: Global,
     round: &mut Round,
     turns: &mut Turns<L>,
+    gate: &G,
 ) -> Result<bool, AllocError>
     ensures followed { OnOk result (round.new ≡ after_pick round.old (pick_of round.old)) }
     ensures over { IfOk result (λ going. going ≡ false → round.new ≡ round.old) }
@@ -60,22 +62,30 @@ fn follow_pick<L: Ledger>(
     match round.pick() {
         Pick::Reuse(t) => {
             round.reuse(t)?;
+            gate.made(1, true);
             Ok(true)
         }
         Pick::Run(t) => {
             run_step(alloc, round, t, turns)?;
+            gate.made(1, false);
             Ok(true)
         }
         Pick::Hold | Pick::Over => Ok(false),
     }
 }
 
-/// The round of one worker, pick after pick until nothing is picked.
-fn follow_picks<L: Ledger>(
+/// The round of one worker, pick after pick until nothing is picked, of which each step is shown. It passes no gate before
+/// it executes a thunk. What `run_alone` promises of the round follows from its one clause on it.
+///
+/// # Errors
+///
+/// An error where the host's memory ran out; the counter may have risen, and is never lower.
+pub fn run_alone_shown<L: Ledger, G: Gate>(
     alloc: Global,
     setup: Setup,
     past: Option<Arc<History>>,
     turns: &mut Turns<L>,
+    gate: &G,
 ) -> Result<Round, AllocError>
     ensures alone { IfOk result (λ round. round ≡ lone_round setup (option_map arc_value past)) }
     ensures cost { IfOk result (λ round. turns.new ≡ turns.old + executed_by round) }
@@ -84,7 +94,7 @@ fn follow_picks<L: Ledger>(
     let limit = setup.limits().steps();
     let mut round = Round::new(alloc, setup, past)?;
     for followed in 0..limit {
-        if !follow_pick(alloc, &mut round, turns)? {
+        if !follow_pick(alloc, &mut round, turns, gate)? {
             return Ok(round);
         }
     }
@@ -130,6 +140,6 @@ pub fn run_alone<L: Ledger>(
         (h : Kept) → option_map arc_value past ≡ Some h → IsUnedited h setup → turns.new ≡ turns.old) }
 {
     setup.sound();
-    let round = follow_picks(alloc, setup, past, turns)?;
+    let round = run_alone_shown(alloc, setup, past, turns, &OpenGate)?;
     Ok(round)
 }

@@ -11,7 +11,7 @@ mod picking;
 mod reaching;
 mod round;
 
-pub use alone::run_alone;
+pub use alone::{run_alone, run_alone_shown};
 pub use driving::drive;
 pub use events::Committed;
 pub use round::Round;

@@ -10,11 +10,11 @@ use Rattle.worker_spec.specs.Workers.{IsMadeBy}
 use Rattle.worker_spec.proofs.Events.{picks-events}
 use Rattle.worker_spec.proofs.Workers.{lone-made, ended-made}
 use Rattle.round_spec.specs.Picking.{ArePicked, IsPickedSoFar}
-use Rattle.round_spec.specs.Unedited.{IsUnedited, OnlyReuses}
+use Rattle.round_spec.specs.Unedited.{IsUnedited}
 use Rattle.worker_spec.specs.Watching.{IsProgress}
 use Rattle.worker_spec.proofs.Replay.{replays-end}
 use Rattle.reach_spec.proofs.ByWorkers.{reexecutes-picked}
-use Rattle.propagate.proofs.Executing.{alone-least}
+use Rattle.propagate.proofs.Executing.{alone-picked, alone-least, alone-ends, alone-reuses}
 use Rattle.rerun_workers.specs.Following.{FollowsPicks}
 use Rattle.rerun_workers.specs.Making.{IsRoundBy}
 
@@ -67,20 +67,18 @@ entries-picked setup past w setup_is past_is follows sound =
 pub by-one :
     (workers : ℕ) (setup : Setup) (past : Option History) (w : RoundState) (shares : List ℕ)
     → w ≡ lone_round setup past → IsSetup setup → IsBySchedule w → length shares ≡ workers → sum shares ≡ length w.schedule
-    → (IsSound past setup → ArePicked setup past w.schedule w.picked) → is_some w.machine.ending ≡ true
-    → ((h : History) → past ≡ Some h → IsUnedited h setup → OnlyReuses h w)
     → IsRoundBy workers setup past w shares
-by-one workers setup past w shares is valid stands each steps picked ends unedited =
+by-one workers setup past w shares is valid stands each steps =
     record {
       setup = alone-setup setup past w is;
       past = alone-past setup past w is;
       stands = stands;
       made = alone-made workers setup past w shares is valid each steps;
       alone = λ one. is;
-      picked = picked;
+      picked = alone-picked setup past w valid is;
       least = alone-least setup past w valid is;
-      ends = ends;
-      unedited = unedited;
+      ends = alone-ends setup past w valid is;
+      unedited = λ h. alone-reuses setup past w h is;
     }
 
 pub by-several :

@@ -1,12 +1,9 @@
 //! A round by so many workers.
 
-ghost use Rattle.std.specs.Prelude.{◌≡◌, ◌<◌, ◌≤◌, length, sum, true, is_some, option_map, Some, IfOk};
+ghost use Rattle.std.specs.Prelude.{◌≡◌, ◌<◌, ◌≤◌, length, sum, option_map, IfOk};
 ghost use Rattle.std.specs.Arc.{arc_value};
-ghost use Rattle.history_spec.specs.History.{History as Kept, IsSound};
 ghost use Rattle.round_spec.specs.Rounds.{opening};
 ghost use Rattle.round_spec.specs.Alone.{lone_round};
-ghost use Rattle.round_spec.specs.Picking.{ArePicked};
-ghost use Rattle.round_spec.specs.Unedited.{IsUnedited, OnlyReuses};
 ghost use Rattle.worker_spec.specs.Watching.{IsProgress};
 ghost use Rattle.rerun_workers.specs.Following.{FollowsPicks};
 ghost use Rattle.rerun_workers.specs.Making.{IsRoundBy};
@@ -17,7 +14,7 @@ use super::watched::{Watched, run_watched};
 use super::watching::Counter;
 use super::working::work_together;
 use ith_host::Gate;
-use propagate::{Round, run_alone};
+use propagate::{Round, run_alone_shown};
 use release_core::{History, Setup};
 use std::alloc::{AllocError, Global};
 use std::marker::Brand;
@@ -26,26 +23,22 @@ use std::sync::{Arc, Wait};
 use std::thread::Threads;
 use turn_count::Turns;
 
-/// The round of one worker, with a counter that nobody else has.
-fn counted<R: Threads, L: Ledger>(
+/// The round of one worker, with a counter that nobody else has, of which each step is shown.
+fn counted<R: Threads, L: Ledger, G: Gate>(
     rt: &R,
     alloc: Global,
     setup: Setup,
     past: Option<Arc<History>>,
+    gate: &G,
     blank: Blank,
 ) -> Result<Round, AllocError>
     requires name { blank.name ≡ L.name }
     requires parts { blank.parts ≡ L.parts }
     requires some { 0 < L.parts }
-    ensures alone { IfOk result (λ round. round ≡ lone_round setup (option_map arc_value past)) }
-    ensures picked { IfOk result (λ round. IsSound (option_map arc_value past) setup
-        → ArePicked setup (option_map arc_value past) round.schedule round.picked) }
-    ensures ends { IfOk result (λ round. is_some round.machine.ending ≡ true) }
-    ensures unedited { IfOk result (λ round.
-        (h : Kept) → option_map arc_value past ≡ Some h → IsUnedited h setup → OnlyReuses h round) }
+    ensures { IfOk result (λ round. round ≡ lone_round setup (option_map arc_value past)) }
 {
     let mut turns = Turns::<L>::new(rt, blank);
-    run_alone(alloc, setup, past, &mut turns)
+    run_alone_shown(alloc, setup, past, &mut turns, gate)
 }
 
 /// The shares where the first worker made all steps.
@@ -63,36 +56,38 @@ fn first_makes(alloc: Global, steps: u64, workers: u32) -> Result<Vec<u64>, Allo
 }
 
 /// A round of which the first of so many workers makes all steps.
-fn run_by_first<R: Threads>(
+fn run_by_first<R: Threads, G: Gate>(
     rt: &R,
     alloc: Global,
     setup: Setup,
     past: Option<Arc<History>>,
     workers: u32,
+    gate: &G,
 ) -> Result<(Round, Vec<u64>), AllocError>
     requires { 1 ≤ workers }
     ensures { IfOk result (λ r. IsRoundBy workers setup (option_map arc_value past) r.0 r.1.items) }
 {
     setup.sound();
-    let round = counted::<R, Brand>(rt, alloc, setup, past, Blank::new(1))?;
+    let round = counted::<R, Brand, G>(rt, alloc, setup, past, gate, Blank::new(1))?;
     round.keeps();
     let shares = first_makes(alloc, round.schedule().len() as u64, workers)?;
     Ok((round, shares))
 }
 
 /// The same, of which the number of its steps alone is read, when it is over.
-fn run_by_first_watched<R: Threads>(
+fn run_by_first_watched<R: Threads, G: Gate>(
     rt: &R,
     alloc: Global,
     setup: Setup,
     past: Option<Arc<History>>,
     workers: u32,
+    gate: &G,
 ) -> Result<(Round, Vec<u64>, Vec<u64>), AllocError>
     requires { 1 ≤ workers }
     ensures round { IfOk result (λ r. IsRoundBy workers setup (option_map arc_value past) r.0 r.1.items) }
     ensures progress { IfOk result (λ r. IsProgress workers (length r.0.schedule) r.2.items) }
 {
-    let (round, shares) = run_by_first(rt, alloc, setup, past, workers)?;
+    let (round, shares) = run_by_first(rt, alloc, setup, past, workers, gate)?;
     let mut numbers = Vec::new(alloc);
     numbers.push(round.schedule().len() as u64)?;
     Ok((round, shares, numbers))
@@ -143,7 +138,7 @@ pub fn run_round<R: Threads + Wait + Sync, G: Gate + Sync>(
     ensures round { IfOk result (λ r. IsRoundBy workers setup (option_map arc_value past) r.0 r.1.items) }
 {
     if workers == 1 {
-        return run_by_first(rt, alloc, setup, past, workers);
+        return run_by_first(rt, alloc, setup, past, workers, gate);
     }
     let opened = Round::new(alloc, setup, past)?;
     let (round, shares) = run_together::<Brand, R, G>(
@@ -162,7 +157,7 @@ pub fn run_round<R: Threads + Wait + Sync, G: Gate + Sync>(
         return Err(AllocError);
     }
     let (setup, past) = round.into_setup();
-    run_by_first(rt, alloc, setup, past, workers)
+    run_by_first(rt, alloc, setup, past, workers, gate)
 }
 
 /// A round as `run_round` makes it, and the numbers of steps that were read meanwhile: they ascend, and the last is how
@@ -184,7 +179,7 @@ pub fn run_round_watched<R: Threads + Wait + Sync, G: Gate + Sync>(
     ensures progress { IfOk result (λ r. IsProgress workers (length r.0.schedule) r.2.items) }
 {
     if workers == 1 {
-        return run_by_first_watched(rt, alloc, setup, past, workers);
+        return run_by_first_watched(rt, alloc, setup, past, workers, gate);
     }
     let counter = Counter::new(alloc)?;
     let opened = Round::new(alloc, setup, past)?;
@@ -207,5 +202,5 @@ pub fn run_round_watched<R: Threads + Wait + Sync, G: Gate + Sync>(
         return Err(AllocError);
     }
     let (setup, past) = round.into_setup();
-    run_by_first_watched(rt, alloc, setup, past, workers)
+    run_by_first_watched(rt, alloc, setup, past, workers, gate)
 }

@@ -1,9 +1,11 @@
 //! A worker: it is told what to do, executes, and hands in what came of it.
 
-ghost use Rattle.std.specs.Prelude.{◌≡◌, ◌<◌, ◌≤◌, length, IfOk};
+ghost use Rattle.std.specs.Prelude.{◌≡◌, ◌≢◌, ◌<◌, ◌≤◌, length, IfOk};
 ghost use Rattle.std.specs.Arc.{arc_value};
 ghost use Rattle.machine_spec.specs.Setup.{first};
 ghost use Rattle.thunk_run.specs.Running.{IsRunOf};
+ghost use Rattle.rerun_workers.specs.declared.locked.Task.TheVariants as task;
+ghost use Rattle.rerun_workers.specs.Locking.{BeginsIn};
 
 use super::board::Board;
 use super::locked::{Landed, Task};
@@ -76,7 +78,11 @@ fn make_step<J: Naming, R: Threads + Wait, G: Gate>(
     match run_job(rt, alloc, &job, &Sharing { rt, board }) {
         Ok(run) => {
             match board.commit_own(rt, pass, run) {
-                Landed::Done | Landed::Stale(_) => true,
+                Landed::Done => {
+                    gate.made(1, false);
+                    true
+                }
+                Landed::Stale(_) => true,
                 Landed::Memory(_) => false,
             }
         }
@@ -85,6 +91,26 @@ fn make_step<J: Naming, R: Threads + Wait, G: Gate>(
             false
         }
     }
+}
+
+/// What a worker is to do next. What it has reused meanwhile is shown.
+fn next_task<J: Naming, R: Wait, G: Gate>(
+    rt: &R,
+    board: &Board<J>,
+    pass: &mut Pass<J>,
+    gate: &G,
+) -> Task
+    ensures told { result ≢ task.Hold }
+    ensures own { BeginsIn (first J.setup).frame result }
+    ensures never_lower { pass.old.steps ≤ pass.new.steps }
+{
+    let before = pass.steps();
+    let task = board.next(rt, pass);
+    let reused = pass.steps() - before;
+    if reused > 0 {
+        gate.made(reused, true);
+    }
+    task
 }
 
 /// Makes steps of the round on the board as long as there is nothing to share. The answer is whether there is: the pass
@@ -100,7 +126,7 @@ pub(super) fn make_unshared<J: Naming, R: Threads + Wait, G: Gate>(
     ensures never_lower { pass.old.steps ≤ pass.new.steps }
 {
     for _ in rt.forever() {
-        let Task::Begin(job) = board.next(rt, pass) else {
+        let Task::Begin(job) = next_task(rt, board, pass, gate) else {
             return false;
         };
         if board.has_more(rt) {
@@ -132,7 +158,7 @@ pub fn work<J: Naming, R: Threads + Wait, G: Gate>(
         }
     }
     for _ in rt.forever() {
-        let Task::Begin(job) = board.next(rt, pass) else {
+        let Task::Begin(job) = next_task(rt, board, pass, gate) else {
             return;
         };
         if !make_step(rt, alloc, board, pass, gate, job) {

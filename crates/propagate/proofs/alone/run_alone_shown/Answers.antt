@@ -1,8 +1,8 @@
--- What is left to prove of `follow_picks`.
+-- What is left to prove of `run_alone_shown`.
 use Rattle.std.proofs.Common.{◌-◌, ◌+◌, option_map, arith}
 use Rattle.std.specs.Arc.{arc_value}
 use Rattle.propagate.proofs.Executing.{partway-pick, partway-over}
-use Rattle.propagate.proofs.alone.follow_picks.Goals as goal
+use Rattle.propagate.proofs.alone.run_alone_shown.Goals as goal
 
 pub returns-then-not-branch-clause-alone : goal.returns-then-not-branch-clause-alone
 returns-then-not-branch-clause-alone g c =

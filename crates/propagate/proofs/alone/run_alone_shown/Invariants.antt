@@ -1,8 +1,8 @@
--- What holds at the loop of `follow_picks`.
+-- What holds at the loop of `run_alone_shown`.
 use Rattle.std.proofs.Common.{◌-◌, option_map}
 use Rattle.std.specs.Arc.{arc_value}
 use Rattle.propagate.specs.Executing.{IsPartWay}
-use Rattle.propagate.proofs.alone.follow_picks.Given as goal
+use Rattle.propagate.proofs.alone.run_alone_shown.Given as goal
 
 -- so many picks are left
 abbrev pub invariant-loop-followed : goal.invariant-loop-followed
