@@ -1,5 +1,5 @@
 -- The parts of a call that makes rounds.
-use Rattle.std.specs.Prelude.{◌≡◌, ℕ, ◌+◌, ◌^◌, ◌<◌, ◌≤◌, Bool, List, [], ◌∷◌, All, Option, Some, None, length, map, option_map, Ok}
+use Rattle.std.specs.Prelude.{◌≡◌, ℕ, ◌+◌, ◌^◌, ◌<◌, ◌≤◌, Bool, List, [], ◌∷◌, All, Option, Some, length, map, option_map, Ok}
 use Rattle.std.specs.Arc.{arc_value}
 use Rattle.std.specs.List.{concat}
 use Rattle.machine_spec.specs.Setup.{Setup, IsSetup}

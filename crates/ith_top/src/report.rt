@@ -53,7 +53,11 @@ fn told_of<'a>(
     ensures { IfOk result (λ told. told ≡ reports.told_as_made round.now
         (reports.extras_of asked round.now.past round.now.setup progress.now) shares.now) }
 {
-    let reached = if asked.reach { Some(round.reached()?) } else { None };
+    let reached = if asked.reach {
+        Some(round.reached()?)
+    } else {
+        None
+    };
     Ok(Told {
         ending: round.end(),
         schedule: round.schedule(),

@@ -108,7 +108,11 @@ fn progress<'a>(alloc: Global) -> Arg<'a>
     ensures rule { rule_of result ≡ line.flag_rule (codes "progress") }
     ensures local { result.global ≡ false }
 {
-    flag(alloc, "progress", "Tells how many steps were made, as often as it was looked at")
+    flag(
+        alloc,
+        "progress",
+        "Tells how many steps were made, as often as it was looked at",
+    )
 }
 
 /// The command of this name with these arguments, in their order.

@@ -8,7 +8,7 @@ ghost use Rattle.ith_words.specs.Refusals.{WhyNoLine, WhyFault};
 
 use super::command::command_line;
 use super::given::{
-    edits_of, fuel_of, generator_of, limits_of, memo_of, operand_of, flag_of, steps_of, workers_of,
+    edits_of, flag_of, fuel_of, generator_of, limits_of, memo_of, operand_of, steps_of, workers_of,
 };
 use super::line::{
     AuditLine, ExplainLine, GenerateLine, Line, RacesLine, ReplayLine, RerunLine, RunLine, ShowLine,

@@ -1,5 +1,5 @@
 -- Worked examples, on an input of the five bytes 1 to 5. The expected values follow by hand.
-use Rattle.std.proofs.Common.{◌≡◌, ℕ, Bool, true, false, List, [], ◌∷◌, ◌++◌, inl, Some, None, Ok, refl, ap, sym, ◌∙◌, subst, lit<}
+use Rattle.std.proofs.Common.{◌≡◌, ℕ, true, false, List, [], ◌∷◌, ◌++◌, inl, Some, None, Ok, refl, ap, sym, ◌∙◌, subst, lit<}
 use Rattle.std.proofs.lemmas.Option.{same_Some}
 use Rattle.std.specs.Prelude.{codes, decimal}
 use Rattle.std.specs.Fmt.{digits}

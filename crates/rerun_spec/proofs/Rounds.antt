@@ -1,5 +1,5 @@
 -- Each round of a beginning that workers make may be made, and follows the one before it.
-use Rattle.std.proofs.Common.{◌≡◌, ◌≢◌, ◌≤◌, ◌+◌, ◌-◌, ℕ, zero, suc, min, Bool, true, List, [], ◌∷◌, length, map, take, sum, replicate, slice_get, slice_index_or, fold, All, Option, Some, None, is_some, refl, ap, sym, ◌∙◌, subst, arith}
+use Rattle.std.proofs.Common.{◌≡◌, ◌≢◌, ◌≤◌, ◌+◌, ◌-◌, ℕ, zero, suc, min, true, List, [], ◌∷◌, length, map, take, sum, replicate, slice_get, slice_index_or, fold, All, Option, Some, None, is_some, refl, ap, sym, ◌∙◌, subst, arith}
 use Rattle.std.specs.List.{AllByRecursion, range_with_len}
 use Rattle.std.proofs.lemmas.Option.{same_Some}
 use Rattle.std.proofs.lemmas.List.{length-replicate}

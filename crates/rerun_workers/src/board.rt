@@ -313,7 +313,9 @@ impl<J: Naming> Board<J> {
     {
         let Board { lock, shares, .. } = self;
         let Locked {
-            round, mut book, ..
+            round,
+            mut book,
+            ..
         } = lock.into_inner();
         let (mut all, shares) = gather(passes, shares);
         book.audit(&mut all);

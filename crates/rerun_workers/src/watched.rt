@@ -56,8 +56,9 @@ pub(super) fn run_watched<J: Naming + Send + Sync, R: Threads + Wait + Sync, G: 
     let Watched { round, counter } = watched;
     let numbers = Vec::with_capacity(alloc, MOST_LOOKS + 1)?;
     let mut watches = Vec::with_capacity(alloc, 1)?;
-    let (board, mut passes, mut seats) =
-        Board::<J>::with_watches(alloc, round, workers, 1, counter, blank)?;
+    let (board, mut passes, mut seats) = Board::<J>::with_watches(
+        alloc, round, workers, 1, counter, blank,
+    )?;
     let seat = seats.remove(0);
     let shared = &board;
     let over = AtomicBool::new(false);

@@ -169,16 +169,23 @@ pub fn work<J: Naming, R: Threads + Wait, G: Gate>(
 
 /// So many workers make the round on the board, of which each has one of the passes. As long as there is nothing to share
 /// no thread is started: never, if a round only reuses.
-pub(super) fn work_together<
-    J: Naming + Send + Sync,
-    R: Threads + Wait + Sync,
-    G: Gate + Sync,
->(rt: &R, alloc: Global, board: &Board<J>, passes: &mut [Pass<J>], gate: &G)
+pub(super) fn work_together<J: Naming + Send + Sync, R: Threads + Wait + Sync, G: Gate + Sync>(
+    rt: &R,
+    alloc: Global,
+    board: &Board<J>,
+    passes: &mut [Pass<J>],
+    gate: &G,
+)
     requires { 0 < length passes.old }
     ensures { length passes.new ≡ length passes.old }
 {
     if make_unshared(rt, alloc, board, &mut passes[0], gate) {
         let workers = passes.len();
-        thread::for_each_mut(rt, passes, workers, &|_, pass| { work(rt, alloc, board, pass, gate) });
+        thread::for_each_mut(
+            rt,
+            passes,
+            workers,
+            &|_, pass| { work(rt, alloc, board, pass, gate) },
+        );
     }
 }

@@ -1,5 +1,5 @@
 -- Answers to the goals that the check leaves of `flag_of`.
-use Rattle.std.proofs.Common.{◌∙◌, codes}
+use Rattle.std.proofs.Common.{◌∙◌}
 use Rattle.clap.specs.Words.{found_of}
 use Rattle.ith_words.proofs.Rows.{flag_read}
 use Rattle.ith_words.proofs.given.flag_of.Goals as goal

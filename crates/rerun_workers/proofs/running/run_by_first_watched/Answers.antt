@@ -1,5 +1,5 @@
 -- What is left to prove of `run_by_first_watched`.
-use Rattle.std.proofs.Common.{rules, ◌≡◌, List, [], ◌∷◌, length, ℕ, sym, subst}
+use Rattle.std.proofs.Common.{rules, ◌≡◌, [], ◌∷◌, length, sym, subst}
 use Rattle.worker_spec.specs.Watching.{IsProgress}
 use Rattle.rerun_workers.proofs.Made.{only-last}
 use Rattle.rerun_workers.proofs.running.run_by_first_watched.Goals as goal

@@ -1,5 +1,5 @@
 -- What is left to prove of `run_round`.
-use Rattle.std.proofs.Common.{Option, option_map, is_some, ap, sym, subst, ◌∙◌, arith}
+use Rattle.std.proofs.Common.{option_map, is_some, ap, sym, subst, ◌∙◌, arith}
 use Rattle.std.specs.Arc.{arc_value}
 use Rattle.round_spec.specs.Rounds.{RoundState}
 use Rattle.rerun_workers.specs.Following.{FollowsPicks}

@@ -13,8 +13,10 @@ cut :
     → concat (a ∷ b ∷ c ∷ d ∷ e ∷ more ++ f ∷ g ∷ others ++ h ∷ i ∷ j ∷ []) ++ output ++ end
     ≡ a ++ (b ++ (c ++ d ++ e) ++ concat more) ++ (f ++ g ++ concat others ++ h) ++ (i ++ j ++ output ++ end)
 cut a b c d e more f g others h i j output end =
-    rw (concat-append ((a ∷ b ∷ c ∷ d ∷ e ∷ more) ++ f ∷ g ∷ others) (h ∷ i ∷ j ∷ []),
-    concat-append (a ∷ b ∷ c ∷ d ∷ e ∷ more) (f ∷ g ∷ others)) (simp append_assoc)
+    rw (
+      concat-append ((a ∷ b ∷ c ∷ d ∷ e ∷ more) ++ f ∷ g ∷ others) (h ∷ i ∷ j ∷ []),
+      concat-append (a ∷ b ∷ c ∷ d ∷ e ∷ more) (f ∷ g ∷ others),
+    ) (simp append_assoc)
 
 -- a report in its parts
 opened : (n : ℕ) (t : Told) → report_text n t ≡ concat (report_lines n t) ++ t.output ++ newline
