@@ -1,4 +1,5 @@
 -- The files of lemmas of this crate.
 pub mod Following
 pub mod Made
+pub mod Numbers
 pub mod Passes

@@ -13,14 +13,14 @@ use Rattle.reach_spec.specs.Working.{ReexecutesLeast}
 -- A round of a setup, by a history if there is one, that so many workers made, and how many of its steps each of them
 -- made: it stands by its schedule; one worker makes the round of the choice; by a sound history each entry was picked
 -- rightly; it executes no more than it must; it has an end; and without an edit it is all reuse of the history.
-pub record IsRoundBy (workers : ℕ) (setup : Setup) (past : Option History) (round : RoundState) (shares : List ℕ) : Type 0
+pub record IsRoundBy (workers : ℕ) (s : Setup) (before : Option History) (w : RoundState) (shares : List ℕ) : Type 0
   where
-    pub setup : round.setup ≡ setup
-    pub past : round.past ≡ past
-    pub stands : IsBySchedule round
-    pub made : IsMadeBy workers setup past round.schedule shares
-    pub alone : workers ≡ 1 → round ≡ lone_round setup past
-    pub picked : IsSound past setup → ArePicked setup past round.schedule round.picked
-    pub least : ReexecutesLeast round
-    pub ends : is_some round.machine.ending ≡ true
-    pub unedited : (h : History) → past ≡ Some h → IsUnedited h setup → OnlyReuses h round
+    pub setup : w.setup ≡ s
+    pub past : w.past ≡ before
+    pub stands : IsBySchedule w
+    pub made : IsMadeBy workers s before w.schedule shares
+    pub alone : workers ≡ 1 → w ≡ lone_round s before
+    pub picked : IsSound before s → ArePicked s before w.schedule w.picked
+    pub least : ReexecutesLeast w
+    pub ends : is_some w.machine.ending ≡ true
+    pub unedited : (h : History) → before ≡ Some h → IsUnedited h s → OnlyReuses h w

@@ -112,11 +112,11 @@ fn last_numbers<J: Naming>(
     ensures seen { All (λ watch. watch.reader.seen ≤ counter.writer.added) watches.items }
 {
     let many = watches.len();
-    while !watches.is_empty() {
-        counter.join(watches.remove(0));
+    while let Some(watch) = watches.pop() {
+        counter.join(watch);
     }
     let number = counter.read();
-    for _ in 0..many {
+    for given in 0..many {
         numbers.push_reserved(number);
     }
     numbers

@@ -1,7 +1,8 @@
 //! The round under the lock: each call does some of its events, and names them.
 
-ghost use Rattle.std.specs.Prelude.{◌≡◌, ◌+◌, ◌<◌, ◌≤◌, true, length, Some, is_ok, is_some, if◌then◌else◌, Decides, OnOk, OnErr};
+ghost use Rattle.std.specs.Prelude.{◌≡◌, ◌+◌, ◌<◌, ◌≤◌, ℕ, true, length, Some, is_ok, is_some, if◌then◌else◌, IfSome, Decides, OnOk, OnErr};
 ghost use Rattle.std.specs.Arc.{arc_value};
+ghost use Rattle.atomic_table.specs.Seated.{TableId};
 ghost use Rattle.machine_spec.specs.declared.TheConstants.{MOST_STEPS};
 ghost use Rattle.machine_spec.specs.Setup.{first};
 ghost use Rattle.history_spec.specs.History.{History};
@@ -12,11 +13,12 @@ ghost use Rattle.round_spec.specs.Choice.{pick_of};
 ghost use Rattle.round_spec.specs.Unedited.{IsUnedited};
 ghost use Rattle.propagate.specs.Committing.{GoesOn};
 ghost use Rattle.rerun_workers.specs.Following.{FollowsPicks};
+ghost use Rattle.std.proofs.Props.{props};
 ghost use Rattle.rerun_workers.specs.Watching.{IsCounting};
 ghost use Rattle.rerun_workers.specs.Locking.{Tells, TellsAfter, BeginsIn, BeginsNothing, is_something, given_up, Lands, HandsBack, steps_by, Counts};
 
 use super::naming::{Naming, Pass};
-use super::watching::{Counter, count};
+use super::watching::Counter;
 use propagate::{Committed, Round};
 use round_spec::Pick;
 use std::alloc::AllocError;
@@ -60,7 +62,7 @@ pub struct Locked<J: Naming> {
     pub(super) book: Book<J>,
     pub(super) counter: Option<Counter>,
     ghost counted: { length round.schedule ≡ book.total },
-    ghost watched: { IsCounting J.table (length round.schedule) counter },
+    ghost watched: { IsCounting J.table (length round.schedule) counter } by { Prim.hlevel props },
     ghost counts: { 0 < J.watches → is_some counter ≡ true },
     ghost setup: { round.setup ≡ J.setup },
     ghost past: { round.past ≡ J.past },
@@ -84,6 +86,19 @@ fn give_up(round: &mut Round, t: u8)
 {
     discard(round, t);
     round.stop();
+}
+
+/// Counts one step more, if anybody may watch.
+fn count(counter: &mut Option<Counter>)
+    requires { IfSome counter.old (λ c. c.writer.added < MOST_STEPS) }
+    ensures counts { (table : TableId) (steps : ℕ)
+        → IsCounting table steps counter.old
+        → IsCounting table (steps + 1) counter.new }
+    ensures some { is_some counter.new ≡ is_some counter.old }
+{
+    if let Some(counter) = counter.as_mut() {
+        counter.add();
+    }
 }
 
 impl<J: Naming> Locked<J> {

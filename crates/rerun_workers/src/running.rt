@@ -182,12 +182,12 @@ pub fn run_round_watched<R: Threads + Wait + Sync, G: Gate + Sync>(
         return run_by_first_watched(rt, alloc, setup, past, workers, gate);
     }
     let counter = Counter::new(alloc)?;
-    let opened = Round::new(alloc, setup, past)?;
+    let begun = Round::new(alloc, setup, past)?;
     let (round, shares, numbers) = run_watched::<Brand, R, G>(
         rt,
         alloc,
         Watched {
-            round: opened,
+            round: begun,
             counter,
         },
         workers,
@@ -198,9 +198,9 @@ pub fn run_round_watched<R: Threads + Wait + Sync, G: Gate + Sync>(
     if round.end().is_some() {
         return Ok((round, shares, numbers));
     }
-    if round.stopped() {
-        return Err(AllocError);
+    if !round.stopped() {
+        let (setup, past) = round.into_setup();
+        return run_by_first_watched(rt, alloc, setup, past, workers, gate);
     }
-    let (setup, past) = round.into_setup();
-    run_by_first_watched(rt, alloc, setup, past, workers, gate)
+    Err(AllocError)
 }

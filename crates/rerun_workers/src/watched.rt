@@ -68,12 +68,12 @@ pub(super) fn run_watched<J: Naming + Send + Sync, R: Threads + Wait + Sync, G: 
             requires { vec_len numbers ≡ 0 × (MOST_LOOKS < vec_capacity numbers) }
             ensures ascends { IsStrictlyIncreasing result.1.items }
             ensures few { vec_len result.1 ≤ MOST_LOOKS }
-            ensures room { vec_capacity result.1 ≡ vec_capacity numbers.entry }
+            ensures room { vec_capacity result.1 ≡ vec_capacity numbers }
             ensures seen { All (λ n. n ≤ result.0.reader.seen) result.1.items }
         { watch_round(shared, seat, numbers, &over) },
         || -> Vec<Pass<J>>
-            requires { IsSync R.row }
-            ensures { vec_len result ≡ vec_len passes.entry }
+            requires { IsSync R.row × (0 < vec_len passes) }
+            ensures { vec_len result ≡ vec_len passes }
         {
             work_together(rt, alloc, shared, passes.as_mut_slice(), gate);
             over.store(true, Ordering::Relaxed);

@@ -1,13 +1,11 @@
 //! Who watches a round: a word counts its steps, and a watch reads the word without a lock.
 
-ghost use Rattle.std.specs.Prelude.{◌≡◌, ◌+◌, ◌<◌, ◌≤◌, ℕ, All, [], vec_len, vec_capacity, is_some, Some, None, IfSome, IfOk};
+ghost use Rattle.std.specs.Prelude.{◌≡◌, ◌+◌, ◌<◌, ◌≤◌, All, [], vec_len, vec_capacity, Some, None, IfOk};
 ghost use Rattle.std.specs.Arc.{arc_value};
 ghost use Rattle.std.specs.List.{last_or};
 ghost use Rattle.std.specs.List.Sorted.{IsStrictlyIncreasing};
-ghost use Rattle.atomic_table.specs.Seated.{TableId};
 ghost use Rattle.machine_spec.specs.declared.TheConstants.{MOST_STEPS};
 ghost use Rattle.worker_spec.specs.declared.TheConstants.{MOST_LOOKS};
-ghost use Rattle.rerun_workers.specs.Watching.{IsCounting};
 
 use super::board::Board;
 use super::naming::Naming;
@@ -42,7 +40,7 @@ impl Counter {
     }
 
     /// Counts one step more.
-    fn add(&mut self)
+    pub(super) fn add(&mut self)
         requires { self.old.writer.added < MOST_STEPS }
         ensures added { self.new.writer.added ≡ self.old.writer.added + 1 }
         ensures table { self.new.writer.table ≡ self.old.writer.table }
@@ -91,19 +89,6 @@ impl Counter {
     {
         let Counter { word, writer } = self;
         word.read(writer)
-    }
-}
-
-/// Counts one step more, if anybody may watch.
-pub(super) fn count(counter: &mut Option<Counter>)
-    requires { IfSome counter.old (λ c. c.writer.added < MOST_STEPS) }
-    ensures counts { (table : TableId) (steps : ℕ)
-        → IsCounting table steps counter.old
-        → IsCounting table (steps + 1) counter.new }
-    ensures some { is_some counter.new ≡ is_some counter.old }
-{
-    if let Some(counter) = counter.as_mut() {
-        counter.add();
     }
 }
 

@@ -12,13 +12,13 @@ returns-then-is_some-clause-round g c =
     c.in_ok-round.shares.items
     (let some = c.requires in let several = c.if-workers-eq1.false in omega (arith, some, several))
     c.keeps.ensures.setup
-    (c.in_ok-round.ensures.setup ∙ ap (λ (w : RoundState). w.setup) c.in_ok-opened.ensures)
-    (c.in_ok-round.ensures.past ∙ ap (λ (w : RoundState). w.past) c.in_ok-opened.ensures)
+    (c.in_ok-round.ensures.setup ∙ ap (λ (w : RoundState). w.setup) c.in_ok-begun.ensures)
+    (c.in_ok-round.ensures.past ∙ ap (λ (w : RoundState). w.past) c.in_ok-begun.ensures)
     c.keeps.ensures.by_schedule
     (ap is_some (sym c.end.ensures) ∙ sym c.is_some.ensures ∙ c.if-is_some.true)
     c.in_ok-round.ensures.each
     c.in_ok-round.ensures.steps
-    (subst (λ (w : RoundState). FollowsPicks w.setup w.past c.in_ok-round.round) c.in_ok-opened.ensures
+    (subst (λ (w : RoundState). FollowsPicks w.setup w.past c.in_ok-round.round) c.in_ok-begun.ensures
     c.in_ok-round.ensures.follows)
 
 pub returns-then-is_some-clause-progress : goal.returns-then-is_some-clause-progress
