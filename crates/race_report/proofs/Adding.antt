@@ -1,5 +1,5 @@
 -- One step more: its pages, one by one, and what is known after it.
-use Rattle.std.proofs.Common.{◌≡◌, ◌<◌, ◌≤◌, ◌+◌, ◌*◌, ◌^◌, ◌⊎◌, ℕ, zero, suc, Bool, true, false, eqb, cond, List, [], ◌∷◌, ◌++◌, All, length, take, get_or, set, append-nil, append_assoc, refl, ap, ap₂, sym, ◌∙◌, subst, inl, inr, arith}
+use Rattle.std.proofs.Common.{◌≡◌, ◌<◌, ◌≤◌, ◌+◌, ◌*◌, ◌^◌, ◌⊎◌, ℕ, zero, suc, Bool, true, false, eqb, cond, List, [], ◌∷◌, ◌++◌, length, take, get_or, set, append_assoc, refl, ap, ap₂, sym, ◌∙◌, subst, inl, inr, arith}
 use Rattle.std.specs.List.{filter, flat_map, range_with_len, count_by}
 use Rattle.std.proofs.lemmas.Bool.{cases_eq, cases_lt, eq-eqb, ne_eqb}
 use Rattle.std.proofs.lemmas.List.{length-append, length-take, length_push, get_or_default, get_or_append_left, get_or_push, get_or-take, get_or-set_same, get_or-set_other}
@@ -14,12 +14,11 @@ use Rattle.race_report.specs.declared.steps.Step.{Step}
 use Rattle.race_report.specs.declared.past.Access.{Access}
 use Rattle.race_report.specs.declared.past.PagePast.{PagePast}
 use Rattle.race_report.specs.Steps.{IsStep, AreSteps}
-use Rattle.race_report.specs.Past.{IsPagePast, accesses_of, races_with}
-use Rattle.race_report.specs.Rows.{races_in}
-use Rattle.race_report.proofs.Tally.{bit, tally, tally-few, tally-same, sum_below, sum-same, sum-add, sum-none, sum-most, rows-more, rows-length, rows-are, rows-first}
+use Rattle.race_report.specs.Past.{IsPagePast, accesses_of}
+use Rattle.race_report.proofs.Tally.{bit, tally, sum_below, sum-same, sum-add, sum-none, sum-most, rows-more, rows-length, rows-are, rows-first}
 use Rattle.race_report.proofs.Bounds.{between-short, not-early, none-early, rows-short}
 use Rattle.race_report.proofs.Between.{IsTouched, step-touched, step-few, so_far, all-so_far, more-so_far, short-so_far}
-use Rattle.race_report.proofs.Earlier.{HasPast, access_for, racing-counted, row-told, other-page, page-more}
+use Rattle.race_report.proofs.Earlier.{HasPast, access_for, other-page, page-more}
 
 -- a step in the list of them
 pub step-is :

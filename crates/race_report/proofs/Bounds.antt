@@ -1,12 +1,11 @@
 -- How many races there are at most.
-use Rattle.std.proofs.Common.{◌≡◌, ◌<◌, ◌≤◌, ◌+◌, ◌*◌, ◌^◌, All, ℕ, zero, suc, Bool, true, false, ◌||◌, ltb, cond, List, [], ◌∷◌, ◌++◌, length, map, get_or, refl, ap, ap₂, sym, ◌∙◌, arith}
+use Rattle.std.proofs.Common.{◌≡◌, ◌<◌, ◌≤◌, ◌+◌, ◌*◌, All, ℕ, zero, suc, Bool, true, false, ◌||◌, ltb, cond, List, [], ◌∷◌, length, map, refl, ap, ap₂, sym, ◌∙◌, arith}
 use Rattle.std.specs.List.{filter, range_with_len, flat_map}
 use Rattle.std.proofs.lemmas.Bool.Decides.{nat_tests}
-use Rattle.std.proofs.lemmas.List.{length-append, length-map, get_or_default}
+use Rattle.std.proofs.lemmas.List.{length-map, get_or_default}
 use Rattle.std.proofs.lemmas.List.Concat.{length-flat_map}
 use Rattle.std.proofs.lemmas.List.Elements.{recursion_from_All}
 use Rattle.std.proofs.lemmas.List.Sums.{sum_by-le}
-use Rattle.std.proofs.lemmas.Nat.{mul-le}
 use Rattle.memory_spec.specs.Pages.{Mapped, unmapped, ascends_above}
 use Rattle.machine_spec.specs.Setup.{Setup, IsSetup, map_of}
 use Rattle.history_spec.specs.History.{History}

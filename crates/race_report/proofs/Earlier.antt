@@ -1,12 +1,12 @@
 -- The accesses to a page before a step, and which of them race with it.
-use Rattle.std.proofs.Common.{◌≡◌, ◌<◌, ◌≤◌, ◌+◌, ℕ, zero, suc, Bool, true, false, ◌&&◌, ◌||◌, not, eqb, ltb, leb, cond, List, [], ◌∷◌, ◌++◌, length, map, take, get_or, slice_index, refl, ap, ap₂, sym, ◌∙◌, subst, inl, inr, arith}
+use Rattle.std.proofs.Common.{◌≡◌, ◌<◌, ◌≤◌, ◌+◌, ℕ, zero, suc, Bool, true, false, ◌&&◌, ◌||◌, not, eqb, ltb, leb, cond, List, [], ◌∷◌, length, take, get_or, slice_index, refl, ap, ap₂, sym, ◌∙◌, arith}
 use Rattle.std.specs.List.{filter, flat_map, count_by}
 use Rattle.std.proofs.lemmas.Bool.{eqb-true, eq-eqb, ne_eqb, and_parts}
 use Rattle.std.proofs.lemmas.Bool.Decides.{nat_tests}
 use Rattle.std.proofs.lemmas.List.{length-take, take_all}
 use Rattle.std.proofs.lemmas.List.Sums.{sum_by_more, count_by-le-length}
 use Rattle.order_spec.specs.Facts.{Fact}
-use Rattle.order_spec.specs.Before.{is_in, fact_at}
+use Rattle.order_spec.specs.Before.{fact_at}
 use Rattle.order_spec.specs.Ancestors.{count_below, number_at}
 use Rattle.reach_spec.specs.Reach.{read_at}
 use Rattle.race_spec.specs.declared.Race.{Race}
@@ -22,7 +22,7 @@ use Rattle.race_report.specs.Touches.{touch_in}
 use Rattle.race_report.specs.Steps.{IsStep}
 use Rattle.race_report.specs.Past.{IsPagePast, accesses_of, races_with, is_misplaced}
 use Rattle.race_report.specs.Rows.{race_with, races_in}
-use Rattle.race_report.proofs.Tally.{bit, tally, tally-same, tally-none, tally-one, tally-few, count-agree, count-all, count-none, count-filter, filter-both, one-listed}
+use Rattle.race_report.proofs.Tally.{bit, tally, tally-same, tally-none, tally-one, tally-few, count-all, count-none, count-filter, filter-both, one-listed}
 use Rattle.race_report.proofs.Between.{IsTouched, step-counted, step-few}
 
 -- the access of the step at a place to a page
@@ -72,9 +72,6 @@ eqb-self n = grind (arith, nat_tests)
 
 leb-self : (n : ℕ) → leb n n ≡ true
 leb-self n = grind (arith, nat_tests)
-
-ltb-self : (n : ℕ) → ltb n n ≡ false
-ltb-self n = grind (arith, nat_tests)
 
 and-true : (b : Bool) → (b && true) ≡ b
 and-true true = refl

@@ -1,18 +1,17 @@
 -- The accesses of one thread to a page, and those of all.
-use Rattle.std.proofs.Common.{◌≡◌, ◌<◌, ◌≤◌, ◌+◌, ℕ, zero, suc, Bool, true, false, ◌&&◌, ◌||◌, not, eqb, ltb, leb, cond, List, [], ◌∷◌, ◌++◌, All, length, map, take, drop, get_or, set, slice_index, refl, ap, ap₂, sym, ◌∙◌, subst, arith}
-use Rattle.std.specs.List.{AllByRecursion, filter, flat_map, count_by, sum_by}
-use Rattle.std.proofs.lemmas.Bool.Decides.{nat_tests}
+use Rattle.std.proofs.Common.{◌≡◌, ◌<◌, ◌≤◌, ◌+◌, ℕ, Bool, true, false, ◌&&◌, ◌||◌, not, eqb, ltb, leb, List, [], ◌∷◌, ◌++◌, All, length, take, get_or, set, slice_index, refl, ap, sym, ◌∙◌, subst, arith}
+use Rattle.std.specs.List.{AllByRecursion, filter, flat_map, count_by}
 use Rattle.std.proofs.lemmas.Bool.{eqb-true, leb-true, cases_eq, cases_Bool, eq-eqb, and_parts}
 use Rattle.std.proofs.lemmas.List.{take_more, take_all}
 use Rattle.std.proofs.lemmas.List.Concat.{flat_map-append}
 use Rattle.std.proofs.lemmas.List.Elements.{recursion_from_All, All-from_recursion}
-use Rattle.std.proofs.lemmas.List.Sums.{sum_by-set, sum_by-append, get_or-le-sum_by, sum_by_more_le, sum_by_more, count_by-le-length}
+use Rattle.std.proofs.lemmas.List.Sums.{sum_by-set, get_or-le-sum_by, sum_by_more_le}
 use Rattle.race_report.specs.declared.steps.Step.{Step}
 use Rattle.race_report.specs.declared.past.Access.{Access}
 use Rattle.race_report.specs.declared.past.ThreadPast.{ThreadPast}
 use Rattle.race_report.specs.declared.past.PagePast.{PagePast}
 use Rattle.race_report.specs.Past.{IsThreadPast, IsPagePast, races_with, IsAfter, is_misplaced}
-use Rattle.race_report.proofs.Tally.{bit, filter-same, filter-both, filter-flat, count-flat, count-append, count-cons, none-counted}
+use Rattle.race_report.proofs.Tally.{bit, filter-same, filter-both, count-flat, count-append, count-cons, none-counted}
 
 -- what one of a list has, each of a list has
 all-same :
@@ -109,18 +108,6 @@ count-set q ps i p p' a less at more =
     let five = ap (count_by q) more ∙ count-append q p.all.items (a ∷ []) in
     let six = count-cons q a [] in
     let seven : count_by q [] ≡ 0 = refl in
-    omega arith
-
-pub count-push :
-    (q : Access → Bool) (ps : List ThreadPast) (p : ThreadPast) (a : Access) → p.all.items ≡ a ∷ []
-    → count_by q (flat_map (λ (p : ThreadPast). p.all.items) (ps ++ p ∷ []))
-    ≡ count_by q (flat_map (λ (p : ThreadPast). p.all.items) ps) + bit (q a)
-count-push q ps p a is =
-    let f = λ (r : ThreadPast). r.all.items in
-    let one = ap (count_by q) (flat_map-append f ps (p ∷ [])) ∙ count-append q (flat_map f ps) (flat_map f (p ∷ [])) in
-    let two = ap (count_by q) (Rattle.std.proofs.lemmas.List.append-nil p.all.items ∙ is) in
-    let three = count-cons q a [] in
-    let four : count_by q [] ≡ 0 = refl in
     omega arith
 
 -- no access of the thread is after the new one

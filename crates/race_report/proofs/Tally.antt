@@ -1,9 +1,9 @@
 -- Counts in lists and of numbers.
-use Rattle.std.proofs.Common.{◌≡◌, ◌<◌, ◌≤◌, ◌+◌, ◌-◌, ◌*◌, ℕ, zero, suc, Bool, true, false, ◌&&◌, not, eqb, ltb, cond, List, [], ◌∷◌, ◌++◌, length, map, take, drop, get_or, set, refl, ap, ap₂, sym, ◌∙◌, inl, inr, arith}
-use Rattle.std.specs.List.{filter, flat_map, range_with_len, sum_by, count_by, All, AllByRecursion, AllWithin}
-use Rattle.std.proofs.lemmas.Bool.{cases_eq, cases_lt, eq-eqb}
+use Rattle.std.proofs.Common.{◌≡◌, ◌<◌, ◌≤◌, ◌+◌, ◌-◌, ◌*◌, ℕ, zero, suc, Bool, true, false, ◌&&◌, not, eqb, cond, List, [], ◌∷◌, ◌++◌, length, map, take, drop, get_or, set, refl, ap, ap₂, sym, ◌∙◌, inl, inr, arith}
+use Rattle.std.specs.List.{filter, flat_map, range_with_len, sum_by, count_by, AllByRecursion}
+use Rattle.std.proofs.lemmas.Bool.{cases_eq, eq-eqb}
 use Rattle.std.proofs.lemmas.Bool.Decides.{nat_tests}
-use Rattle.std.proofs.lemmas.List.{length-append, append-nil, append_assoc, take-append-le}
+use Rattle.std.proofs.lemmas.List.{length-append, append-nil, take-append-le}
 use Rattle.std.proofs.lemmas.List.Concat.{flat_map-append, length-flat_map}
 use Rattle.std.proofs.lemmas.List.Elements.{filter-append}
 use Rattle.std.proofs.lemmas.List.Sums.{sum_by-cons, sum_by-append, sum_by-set, length-filter}
@@ -14,22 +14,6 @@ count-cons q x xs = sum_by-cons (λ y. cond (q y) 1 0) x xs
 
 pub count-append : {X : Type 0} (q : X → Bool) (xs ys : List X) → count_by q (xs ++ ys) ≡ count_by q xs + count_by q ys
 count-append q xs ys = sum_by-append (λ y. cond (q y) 1 0) xs ys
-
--- tests that agree on each element count the same
-pub count-same :
-    {X : Type 0} (p q : X → Bool) (xs : List X) → AllByRecursion (λ (x : X). p x ≡ q x) xs → count_by p xs ≡ count_by q xs
-count-same p q [] same = refl
-count-same p q (x ∷ xs) same =
-    count-cons p x xs
-    ∙ ap₂ (λ (b : Bool) (n : ℕ). cond b 1 0 + n) same.0 (count-same p q xs same.1)
-    ∙ sym (count-cons q x xs)
-
-pub count-agree : {X : Type 0} (p q : X → Bool) → ((x : X) → p x ≡ q x) → (xs : List X) → count_by p xs ≡ count_by q xs
-count-agree p q same [] = refl
-count-agree p q same (x ∷ xs) =
-    count-cons p x xs
-    ∙ ap₂ (λ (b : Bool) (n : ℕ). cond b 1 0 + n) (same x) (count-agree p q same xs)
-    ∙ sym (count-cons q x xs)
 
 pub count-none : {X : Type 0} (q : X → Bool) → ((x : X) → q x ≡ false) → (xs : List X) → count_by q xs ≡ 0
 count-none q none [] = refl
@@ -98,14 +82,6 @@ filter-both {X = X} p q (x ∷ xs) = here (q x) (filter-both p q xs)
         ≡ cond (b && p x) (x ∷ filter (λ (y : X). q y && p y) xs) (filter (λ (y : X). q y && p y) xs)
     here true rest = ap (λ (ys : List X). cond (p x) (x ∷ ys) ys) rest
     here false rest = rest
-
-pub filter-flat :
-    {X Y : Type 0} (q : Y → Bool) (f : X → List Y) (xs : List X)
-    → filter q (flat_map f xs) ≡ flat_map (λ (x : X). filter q (f x)) xs
-filter-flat q f [] = refl
-filter-flat q f (x ∷ xs) =
-    filter-append q (f x) (flat_map f xs)
-    ∙ ap (λ ys. filter q (f x) ++ ys) (filter-flat q f xs)
 
 -- numbers
 

@@ -17,7 +17,7 @@ fn none_past(alloc: Global, pages: usize) -> Result<Vec<PagePast>, AllocError>
     ensures none { IfOk result (λ past. All (λ (p : Past). p.threads.items ≡ []) past.items) }
 {
     let mut past = Vec::with_capacity(alloc, pages)?;
-    for i in 0..pages {
+    for _page in 0..pages {
         past.push(PagePast::new(alloc))?;
     }
     Ok(past)
@@ -47,8 +47,7 @@ pub fn races(alloc: Global, history: &History, most: usize) -> Result<Races, All
         let step = &steps[place];
         for touch in &step.touches {
             let page = &mut past[touch.slot];
-            total += page.count(step, touch.writes) as u64;
-            first.add(page, step, place, *touch)?;
+            total += first.add(page, step, place, *touch)? as u64;
             page.add(alloc, Access::of(step, place, touch.writes))?;
         }
         first.trim();

@@ -121,19 +121,6 @@ impl PagePast {
         }
     }
 
-    /// How many of the accesses race with one of a later step, by whether that one writes.
-    pub fn count(&self, step: &Step, writes: bool) -> usize
-        requires past { IsPagePast self.now }
-        requires few { length (accesses_of self.now) < 2 ^ 64 }
-        ensures { result ≡ count_by (races_with step.now writes) (accesses_of self.now) }
-    {
-        let mut count = 0;
-        for past in &self.threads {
-            count += past.racing(step, writes).len();
-        }
-        count
-    }
-
     /// Where the accesses of a thread stand, if it has any.
     fn place(&self, thread: u8) -> Option<usize>
         ensures within { IfSome result (λ place. place < length self.now.threads.items) }

@@ -1,6 +1,6 @@
 //! The first races of a history, row by row.
 
-ghost use Rattle.std.specs.Prelude.{◌≡◌, ◌<◌, ◌≤◌, ◌+◌, ◌^◌, ◌==◌, ◌⊎◌, ℕ, List, [], ◌∷◌, ◌++◌, length, take, map, slice_index_or, slice_set, IfOk, OnOk, if◌then◌else◌};
+ghost use Rattle.std.specs.Prelude.{◌≡◌, ◌<◌, ◌≤◌, ◌+◌, ◌^◌, ◌==◌, ◌⊎◌, ℕ, List, [], ◌∷◌, ◌++◌, length, take, count_by, slice_index_or, slice_set, IfOk, OnOk, if◌then◌else◌};
 ghost use Rattle.std.specs.List.{filter, flat_map};
 ghost use Rattle.std.specs.List.Sorted.{IsNonDecreasingBy};
 ghost use Rattle.race_spec.specs.declared.Race.{Race as RaceOf};
@@ -137,14 +137,15 @@ impl FirstRaces {
         Ok(())
     }
 
-    /// The races of the accesses to a page with a later step that touches it.
+    /// The races of the accesses to a page with a later step that touches it. The result is how many there are, those of
+    /// steps without a row too.
     pub fn add(
         &mut self,
         page: &PagePast,
         step: &Step,
         later: usize,
         touch: Touch,
-    ) -> Result<(), AllocError>
+    ) -> Result<usize, AllocError>
         requires past { IsPagePast page.now }
         requires room { self.old.many + length (accesses_of page.now) < 2 ^ 64 }
         requires counted { IsCounted self.old }
@@ -152,15 +153,19 @@ impl FirstRaces {
             → slice_index_or self.new.rows.items i []
             ≡ slice_index_or self.old.rows.items i []
             ++ races_in i later touch (filter (races_with step.now touch.writes) (accesses_of page.now))) }
+        ensures count { IfOk result (λ count. count ≡ count_by (races_with step.now touch.writes) (accesses_of page.now)) }
         ensures long { OnOk result (length self.new.rows.items ≡ length self.old.rows.items) }
         ensures counted { OnOk result (IsCounted self.new) }
         ensures more { OnOk result (self.old.many ≤ self.new.many) }
         ensures most { self.new.most ≡ self.old.most }
     {
+        let mut count = 0;
         for past in &page.threads {
-            self.add_with(past.racing(step, touch.writes), later, touch)?;
+            let racing = past.racing(step, touch.writes);
+            count += racing.len();
+            self.add_with(racing, later, touch)?;
         }
-        Ok(())
+        Ok(count)
     }
 
     /// Lets go of the last rows, as far as those before have enough races.

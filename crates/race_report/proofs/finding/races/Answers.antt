@@ -4,21 +4,19 @@ use Rattle.std.specs.List.{filter, flat_map, range_with_len, count_by}
 use Rattle.std.proofs.lemmas.List.{length-set, get_or_default}
 use Rattle.memory_spec.specs.Pages.{Mapped}
 use Rattle.machine_spec.specs.Setup.{Setup, map_of}
-use Rattle.order_spec.specs.Facts.{Fact, facts}
+use Rattle.order_spec.specs.Facts.{facts}
 use Rattle.reach_spec.specs.Reach.{reads_of}
 use Rattle.race_spec.specs.declared.Race.{Race}
-use Rattle.race_spec.specs.Races.{is_race, races_between, races_from}
+use Rattle.race_spec.specs.Races.{is_race, races_between}
 use Rattle.race_report.specs.declared.touches.Touch.{Touch}
-use Rattle.race_report.specs.declared.steps.Step.{Step}
 use Rattle.race_report.specs.declared.past.Access.{Access}
-use Rattle.race_report.specs.declared.past.PagePast.{PagePast}
-use Rattle.race_report.specs.Past.{IsPagePast, accesses_of, races_with, is_misplaced}
+use Rattle.race_report.specs.Past.{accesses_of, races_with, is_misplaced}
 use Rattle.race_report.specs.Rows.{races_in}
 use Rattle.race_report.proofs.Facts.{fact-count}
 use Rattle.race_report.proofs.Tally.{bit, tally-few}
 use Rattle.race_report.proofs.Bounds.{few-pages, races-summed, whole-races}
 use Rattle.race_report.proofs.Between.{so_far}
-use Rattle.race_report.proofs.Earlier.{access_for, racing-counted, row-told, none-misplaced, past-few, past-next, past-none}
+use Rattle.race_report.proofs.Earlier.{racing-counted, row-told, none-misplaced, past-few, past-next, past-none}
 use Rattle.race_report.proofs.Adding as adding
 use Rattle.race_report.proofs.finding.races.Goals as goal
 
@@ -84,28 +82,6 @@ index_mut-page-requires c =
     let all = c.loop-touch.invariant.long in
     omega arith
 
-pub count-requires-clause-past : goal.count-requires-clause-past
-count-requires-clause-past c =
-    let fs = facts c.args.history.now in
-    let reads = reads_of c.args.history.now in
-    let pages = c.len-pages.result in
-    let j = c.loop-place.place in
-    let n = c.len-place-end.result in
-    let s = c.index-step.result.now in
-    let is =
-    adding.step-is fs reads pages j c.in_ok-steps.steps.items s c.in_ok-steps.ensures
-    (let low = c.loop-place-test.true in let long = c.len-place-end.ensures in omega arith) c.index-step.ensures in
-    let m = c.loop-touch.touch-index in
-    let t = get_or c.deref-touch-items.result.now m none in
-    let touched =
-    adding.touch-is fs reads pages j s is c.deref-touch-items.result.now m none c.deref-touch-items.ensures.value
-    c.loop-touch-test.true in
-    let page = c.index_mut-page.result.now in
-    let has =
-    adding.page-has fs reads t.slot j m s c.loop-touch.past.items page (c.loop-touch.invariant.past t.slot page touched.below)
-    c.index_mut-page.ensures.value in
-    has.past
-
 pub add-requires-clause-past : goal.add-requires-clause-past
 add-requires-clause-past c =
     let fs = facts c.args.history.now in
@@ -150,44 +126,6 @@ add-requires-in-loop-touch-clause-past c =
     c.index_mut-page.ensures.value in
     has.past
 
-pub count-requires-clause-few : goal.count-requires-clause-few
-count-requires-clause-few c =
-    let fs = facts c.args.history.now in
-    let reads = reads_of c.args.history.now in
-    let pages = c.len-pages.result in
-    let j = c.loop-place.place in
-    let n = c.len-place-end.result in
-    let s = c.index-step.result.now in
-    let is =
-    adding.step-is fs reads pages j c.in_ok-steps.steps.items s c.in_ok-steps.ensures
-    (let low = c.loop-place-test.true in let long = c.len-place-end.ensures in omega arith) c.index-step.ensures in
-    let known =
-    adding.threads-known fs reads pages j c.in_ok-steps.steps.items s c.in_ok-steps.ensures
-    (let low = c.loop-place-test.true in let long = c.len-place-end.ensures in omega arith) in
-    let m = c.loop-touch.touch-index in
-    let t = get_or c.deref-touch-items.result.now m none in
-    let touched =
-    adding.touch-is fs reads pages j s is c.deref-touch-items.result.now m none c.deref-touch-items.ensures.value
-    c.loop-touch-test.true in
-    let page = c.index_mut-page.result.now in
-    let has =
-    adding.page-has fs reads t.slot j m s c.loop-touch.past.items page (c.loop-touch.invariant.past t.slot page touched.below)
-    c.index_mut-page.ensures.value in
-    let steps_few : n ≤ 65536 =
-    (let many = c.in_ok-steps.ensures.many in
-    let long = c.len-place-end.ensures in
-    let count = fact-count c.args.history.now in
-    let few = c.keeps.ensures.records.few in
-    omega arith) in
-    let pages_few : pages ≤ 1048576 =
-    (let small =
-    few-pages c.setup-setup.result.now c.in_ok-map.map c.sound.ensures c.in_ok-map.ensures c.len-pages.ensures.ascending in
-    let size = c.len-pages.ensures.count in
-    omega arith) in
-    let long = past-few fs reads pages j s is known t.slot m page has in
-    let low = c.loop-place-test.true in
-    omega arith
-
 pub overflow_add-total : goal.overflow_add-total
 overflow_add-total c =
     let fs = facts c.args.history.now in
@@ -223,10 +161,10 @@ overflow_add-total c =
     let size = c.len-pages.ensures.count in
     omega arith) in
     let low : j < n = c.loop-place-test.true in
-    let count = c.count.ensures ∙ racing-counted fs reads pages j s is known t m page touched has in
+    let count = c.in_ok-total.ensures.count ∙ racing-counted fs reads pages j s is known t m page touched has in
     let at_most = tally-few (λ i. is_race fs reads i j t.slot) j in
     let fits =
-    adding.total-fits fs reads pages n j s is low m c.loop-touch.total c.count.result steps_few pages_few (omega arith)
+    adding.total-fits fs reads pages n j s is low m c.loop-touch.total c.in_ok-total.field-0 steps_few pages_few (omega arith)
     (c.loop-touch.invariant.total
     ∙ ap (λ (ts : List Touch). adding.races_before fs reads pages n j + adding.races_now fs reads n j ts m)
     c.deref-touch-items.ensures.value) in
@@ -350,32 +288,32 @@ loop-touch-preserved c =
       past = λ p d below.
           adding.past-more fs reads pages j m s is known t c.loop-touch.past.items page c.add-in-loop-touch.new.self within at
           (let all = inv.long in let there = touched.below in omega arith) c.index_mut-page.ensures.value
-          c.in_ok-add-2.ensures.past
-          (λ q. c.in_ok-add-2.ensures.counts q ∙ ap (λ (a : Access). count_by q (accesses_of page) + bit (q a)) c.of.ensures)
+          c.in_ok-add.ensures.past
+          (λ q. c.in_ok-add.ensures.counts q ∙ ap (λ (a : Access). count_by q (accesses_of page) + bit (q a)) c.of.ensures)
           p d (inv.past p d below);
       total =
           (let more = adding.now-more fs reads pages n j s is low m t within at in
-          let count = c.count.ensures ∙ racing-counted fs reads pages j s is known t m page touched has in
+          let count = c.in_ok-total.ensures.count ∙ racing-counted fs reads pages j s is known t m page touched has in
           let before = inv.total in
           let one = ap (λ (ts : List Touch). adding.races_now fs reads n j ts m) same in
           let two = ap (λ (ts : List Touch). adding.races_now fs reads n j ts (m + 1)) same in
           omega arith);
-      few = (let long = c.in_ok-add.ensures.long in let few = inv.few in omega arith);
+      few = (let long = c.in_ok-total.ensures.long in let few = inv.few in omega arith);
       rows = λ i less.
-          (let long = c.in_ok-add.ensures.long in
+          (let long = c.in_ok-total.ensures.long in
           let few = inv.few in
           let there : i < length c.loop-touch.first.rows.items = omega arith in
           adding.row-next fs reads i j m c.deref-touch-items.result.now t (get_or c.loop-touch.first.rows.items i [])
           (get_or c.add.new.self.rows.items i []) (flat_map (races_between fs reads pages i) (range_with_len 0 j))
           (races_in i j t (filter (races_with s t.writes) (accesses_of page))) c.loop-touch-test.true
           (get_or_default c.deref-touch-items.result.now m none t c.loop-touch-test.true) (inv.rows i there)
-          (c.in_ok-add.ensures.rows i there) (row-told fs reads pages j s is known t m page touched has i (omega arith)));
-      counted = c.in_ok-add.ensures.counted;
+          (c.in_ok-total.ensures.rows i there) (row-told fs reads pages j s is known t m page touched has i (omega arith)));
+      counted = c.in_ok-total.ensures.counted;
       enough = (elim inv.enough [
-        | inl all ↦ inl (c.in_ok-add.ensures.long ∙ all)
-        | inr much ↦ inr (let more = c.in_ok-add.ensures.more in omega arith)
+        | inl all ↦ inl (c.in_ok-total.ensures.long ∙ all)
+        | inr much ↦ inr (let more = c.in_ok-total.ensures.more in omega arith)
       ]);
-      most = c.in_ok-add.ensures.most ∙ inv.most;
+      most = c.in_ok-total.ensures.most ∙ inv.most;
     }
 
 pub loop-place-preserved : goal.loop-place-preserved
@@ -416,11 +354,11 @@ loop-place-preserved c =
           c.in_ok-open.ensures.rows;
       counted = c.in_ok-open.ensures.counted;
       enough = (let many = c.in_ok-open.ensures.many in
-      subst (λ (k : ℕ). (length opened ≡ j + 1) ⊎ (c.args.most ≤ k)) (sym many)
-      (adding.rows-enough j c.args.most c.loop-touch.first.many c.trim.new.self.many rows kept opened inv.enough inv.counted
-      c.trim.ensures.counted
-      (subst (λ (k : ℕ). (kept ≡ rows) ⊎ (k ≤ c.trim.new.self.many)) inv.most c.trim.ensures.enough)
-      c.in_ok-open.ensures.rows));
+          subst (λ (k : ℕ). (length opened ≡ j + 1) ⊎ (c.args.most ≤ k)) (sym many)
+          (adding.rows-enough j c.args.most c.loop-touch.first.many c.trim.new.self.many rows kept opened inv.enough inv.counted
+          c.trim.ensures.counted
+          (subst (λ (k : ℕ). (kept ≡ rows) ⊎ (k ≤ c.trim.new.self.many)) inv.most c.trim.ensures.enough)
+          c.in_ok-open.ensures.rows));
       most = c.in_ok-open.ensures.most ∙ c.trim.ensures.most ∙ inv.most;
     }
 

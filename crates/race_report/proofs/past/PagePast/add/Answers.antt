@@ -1,8 +1,8 @@
 -- One access more is among those of its thread.
-use Rattle.std.proofs.Common.{◌≡◌, ap, sym, ◌∙◌, subst}
+use Rattle.std.proofs.Common.{ap, sym, ◌∙◌, subst}
 use Rattle.race_report.specs.declared.past.ThreadPast.{ThreadPast}
 use Rattle.race_report.specs.Past.{IsThreadPast}
-use Rattle.race_report.proofs.Own.{all-after, count-set, count-push}
+use Rattle.race_report.proofs.Own.{all-after, count-set}
 use Rattle.race_report.proofs.past.PagePast.add.Goals as goal
 
 pub add-requires-clause-after : goal.add-requires-clause-after

@@ -1,12 +1,11 @@
 -- The accesses that weren't seen are the last ones.
-use Rattle.std.proofs.Common.{◌≡◌, ◌<◌, ◌-◌, ℕ, true, false, not, eqb, ltb, List, [], length, take, drop, slice_index, ap, sym, ◌∙◌, subst, arith}
+use Rattle.std.proofs.Common.{◌≡◌, ℕ, false, not, eqb, ltb, drop, slice_index, ap, sym, ◌∙◌, subst, arith}
 use Rattle.std.specs.List.{filter}
 use Rattle.std.specs.List.Sorted.{IsNonDecreasingBy}
 use Rattle.std.proofs.lemmas.Bool.{eq-eqb, ne_eqb}
 use Rattle.std.proofs.lemmas.List.{take_rest, drop_all}
 use Rattle.std.proofs.lemmas.List.Kept.{IsNonDecreasingBy-filter}
 use Rattle.race_report.specs.declared.past.Access.{Access}
-use Rattle.race_report.specs.Past.{races_with}
 use Rattle.race_report.proofs.Own.{none-racing, racing-all, racing-writing}
 use Rattle.race_report.proofs.past.ThreadPast.racing.Goals as goal
 use Rattle.race_report.proofs.past.ThreadPast.racing.Goals.{then-self-step, else-self-step, then-writes, else-writes}
