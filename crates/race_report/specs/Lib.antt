@@ -1,5 +1,6 @@
 -- The files of definitions of this crate.
 pub mod Touches
 pub mod Steps
-pub mod Found
+pub mod Past
+pub mod Rows
 pub mod Text

@@ -1,14 +1,27 @@
 //! The races of a history.
 
-ghost use Rattle.std.specs.Prelude.{◌≡◌, length, take, IfOk};
+ghost use Rattle.std.specs.Prelude.{◌≡◌, [], All, length, take, IfOk};
 ghost use Rattle.race_spec.specs.Races.{races_of};
+ghost use Rattle.race_report.specs.declared.past.PagePast.{PagePast as Past};
 
-use super::found::Found;
 use super::list::{RaceList, Races};
-use super::pairs::add_between;
+use super::past::{Access, PagePast};
+use super::rows::FirstRaces;
 use super::steps::steps_of;
 use release_core::History;
 use std::alloc::{AllocError, Global};
+
+/// No access to any of so many pages.
+fn none_past(alloc: Global, pages: usize) -> Result<Vec<PagePast>, AllocError>
+    ensures count { IfOk result (λ past. length past.items ≡ pages) }
+    ensures none { IfOk result (λ past. All (λ (p : Past). p.threads.items ≡ []) past.items) }
+{
+    let mut past = Vec::with_capacity(alloc, pages)?;
+    for _page in 0..pages {
+        past.push(PagePast::new(alloc))?;
+    }
+    Ok(past)
+}
 
 /// The races of a history: pairs of steps of different threads that touch one page, of which one writes it, and of which
 /// the earlier one doesn't come before the later one's thunk by threads and objects. The first `most` of them are listed,
@@ -27,14 +40,21 @@ pub fn races(alloc: Global, history: &History, most: usize) -> Result<Races, All
     let map = setup.page_map(alloc)?;
     let pages = map.len();
     let steps = steps_of(alloc, history, pages)?;
-    let mut found = Found::new(alloc, most);
-    for i in 0..steps.len() {
-        for j in i + 1..steps.len() {
-            add_between(&mut found, &steps[i], &steps[j], i, j)?;
+    let mut past = none_past(alloc, pages)?;
+    let mut total: u64 = 0;
+    let mut first = FirstRaces::new(alloc, most);
+    for place in 0..steps.len() {
+        let step = &steps[place];
+        for touch in &step.touches {
+            let page = &mut past[touch.slot];
+            total += first.add(page, step, place, *touch)? as u64;
+            page.add(alloc, Access::of(step, place, touch.writes))?;
         }
+        first.trim();
+        first.open(alloc, place)?;
     }
     Ok(Races {
-        total: found.total,
-        first: RaceList::new(found.first),
+        total,
+        first: RaceList::new(first.listed(alloc)?),
     })
 }

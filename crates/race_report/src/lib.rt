@@ -3,9 +3,9 @@
 #![tactic(auto)]
 
 mod finding;
-mod found;
 mod list;
-mod pairs;
+mod past;
+mod rows;
 mod steps;
 mod telling;
 mod touches;
