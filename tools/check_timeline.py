@@ -9,9 +9,11 @@
   - What it says of pair.elf is what ./trace, `show` and `why` say. Its table is that of README.
   - A file of reports, a listing, a trace or the lines of `why` that is cut at any byte is refused, and a line says
     where.
+  - A memo with a false record: with --audit its step is marked, and what differs is said.
   - Where there is Chromium, it draws the picture as large as that says it is.
 """
 import contextlib
+import hashlib
 import io
 import json
 import re
@@ -21,6 +23,7 @@ import xml.etree.ElementTree as xml
 
 import check_reports
 import command
+import memos
 import pictures
 import reports
 import steps
@@ -239,6 +242,36 @@ def check_rerun(checks):
         checks.expect("timeline of a rerun: pages of what is reused", all(has == reused for has, reused in have))
 
 
+class Places(memos.Memo):
+    """A memo that knows where each record begins."""
+
+    def __init__(self, data):
+        super().__init__(data)
+        self.began = []
+        self.listing()
+
+    def record(self, *more):
+        self.began.append(self.place)
+        return super().record(*more)
+
+
+def check_false(checks):
+    """A memo with a false record: its step is marked, and what differs is said; an honest one has no mark."""
+    memo, false = checks.folder / "honest", checks.folder / "false"
+    _, printed, _ = program("run", *PAIR[:2], "--workers", "1", "--memo", memo)
+    file, data = checks.file("reports", printed), bytearray(memo.read_bytes()[:-32])
+    data[Places(memo.read_bytes()).began[3] + 2] ^= 1  # the count's lowest byte
+    false.write_bytes(data + hashlib.sha256(data).digest())
+    _, drawn, _ = tool("timeline", file, "--memo", memo, "--audit")
+    checks.expect("timeline of an honest memo marks a step", b'class="false"' not in drawn)
+    status, drawn, said = tool("timeline", file, "--memo", false, "--audit")
+    right = (status, said) == (0, "") and drawn.count(b'class="false"') == 2 and b"is false" in drawn
+    checks.expect(f"timeline of a false memo: {status} {said}", right)
+    _, told, _ = tool("timeline", file, "--memo", false, "--audit", "--text")
+    rows = [line for line in told.decode().split("\n") if "is false" in line]
+    checks.expect(f"table of a false memo: {rows}", len(rows) == 1 and rows[0].startswith("  3"))
+
+
 def check_functions(checks):
     """A run of more steps than are drawn one by one, of which two functions have half each: who they are is known of a
     guest with symbols, and drawn, and so is that a rerun without an edit reuses them."""
@@ -388,6 +421,7 @@ def check(checks):
         check_guest(checks, PAIR, workers)
     check_pair(checks)
     check_rerun(checks)
+    check_false(checks)
     check_functions(checks)
     check_limits(checks)
     check_table(checks)

@@ -35,6 +35,7 @@ text { font: 12px system-ui, 'DejaVu Sans', sans-serif; fill: #222; }
 .forever { marker-end: url(#never); }
 .wakes { stroke: #333; stroke-width: 1.3; fill: none; marker-end: url(#woken); }
 .why { stroke: #b3123a; stroke-width: 2; stroke-linejoin: round; fill: none; marker-end: url(#cause); }
+.false { stroke: #d00000; stroke-width: 3; fill: none; }
 .race { stroke: #7a3db8; stroke-width: 1.5; stroke-dasharray: 4 3; fill: none; }
 .edit { fill: #b3123a; }
 g:hover > rect { stroke-width: 3; }
@@ -101,7 +102,7 @@ def said_of_step(step):
     lines += [None if step.function is None else f"in {step.function}"]
     lines += [None if step.count is None else f"{step.count:,} instructions"]
     lines += [None if step.reads is None else f"reads {listed(step.reads)}; writes {listed(step.writes)}"]
-    lines += [None if step.reason is None else f"executed, since: {step.reason}", *step.notes]
+    lines += [None if step.reason is None else f"executed, since: {step.reason}", *step.notes, *step.lies]
     return "\n".join(line for line in lines if line)
 
 
@@ -251,6 +252,8 @@ class Drawing:
         for kind, at, height in (("reused", y, BOX), ("executed", y + BOX - high, high)):
             if height and (kind == "executed" or executed < len(box.steps)):
                 made += element("rect", "", **{"class": kind}, x=box.left, y=at, width=width, height=height)
+        if any(step.lies for step in box.steps):
+            made += element("rect", "", **{"class": "false"}, x=box.left, y=y, width=width, height=BOX)
         name = box.name()
         if name and width > 5.9 * len(name) + 4:
             made += label(box.left + width / 2, y + BOX / 2 + 4, name, "call")
@@ -343,7 +346,8 @@ SIGNS = [("reused", '<rect class="reused" x="0" y="-10" width="22" height="14"/>
          ("wakes", '<path class="wakes" d="M0 -4H22"/>', "wakes, or begins"),
          ("edit", '<path class="edit" d="M11 2l-5 -8h10z"/>', "reads what was edited"),
          ("why", '<path class="why" d="M0 -4H22"/>', "changed what the other reads"),
-         ("race", '<path class="race" d="M0 -4H22"/>', "touch a page without an order")]
+         ("race", '<path class="race" d="M0 -4H22"/>', "touch a page without an order"),
+         ("false", '<rect class="false" x="0" y="-10" width="22" height="14"/>', "is false in the memo")]
 
 
 def legend(drawn, x, y):

@@ -21,7 +21,7 @@ class Table:
         self.threads = sorted({step.thread for step in steps})
         self.name = max(len(name_of(step)) for step in steps)
         self.width = max(len(f"thread {self.threads[-1]}"), self.name + 2) + BETWEEN
-        self.has_reasons = any(step.reason for step in steps)
+        self.has_reasons = any(step.reason or step.lies for step in steps)
 
     def columns(self):
         return self.width * len(self.threads)
@@ -41,7 +41,10 @@ class Table:
         return " " * (self.width * self.threads.index(step.thread)) + name + ("=" if step.is_reused else "+")
 
     def reason(self, place):
-        return (self.steps[place].reason if place < len(self.steps) else None) or ""
+        if place >= len(self.steps):
+            return ""
+        step = self.steps[place]
+        return "; ".join([step.reason] * bool(step.reason) + [line.strip() for line in step.lies])
 
 
 def blocks(made, columns):
