@@ -6,7 +6,7 @@ use Rattle.history_spec.specs.History.{History, IsSound}
 use Rattle.round_spec.specs.Rounds.{RoundState}
 use Rattle.round_spec.specs.Alone.{lone_round}
 use Rattle.rerun_spec.specs.Inputs.{AreRerunInputs}
-use Rattle.rerun_spec.specs.Rounds.{Beginning, limits_of, after_memo, with_input}
+use Rattle.rerun_spec.specs.Rounds.{nothing_asked, Beginning, limits_of, after_memo, with_input}
 use Rattle.rerun_workers.proofs.Made.{alone-setup, alone-past}
 use Rattle.why_report.specs.declared.reason.Reason.{Reason}
 use Rattle.why_report.specs.Reasons.{reasons_of, reasons_by, scratch_before, executed_places, GoesByOldRun}
@@ -114,7 +114,7 @@ explained_by line a p text is tells =
       are = record {
         each = tells.each goes;
         scratch = λ honest.
-            let begins : BeginsHonestly (after_memo h (limits_of h.setup) false) =
+            let begins : BeginsHonestly (after_memo h (limits_of h.setup) nothing_asked) =
             subst (λ (b : Beginning). BeginsHonestly b) is.beginning honest in
             tells.scratch
             (subst (λ (b : Beginning). IsSound b.past (with_input b.setup tells.input)) (sym is.beginning)

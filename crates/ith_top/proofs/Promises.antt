@@ -13,7 +13,7 @@ use Rattle.worker_spec.proofs.Workers.{workers-permitted, workers-complete}
 use Rattle.reach_spec.proofs.ByWorkers.{reexecutes-made}
 use Rattle.rerun_spec.specs.Inputs.{AreShort}
 use Rattle.rerun_spec.specs.declared.Asked.{Asked}
-use Rattle.rerun_spec.specs.Rounds.{Found, Round, Beginning, IsMade, left_by, limits_of, with_input, with_limits, asked_by, from_scratch, after_memo, CanBegin, round_on, after_round, rounds_after, last_left, IsUneditedRerun}
+use Rattle.rerun_spec.specs.Rounds.{Found, Round, Beginning, IsMade, left_by, limits_of, with_input, with_limits, asked_by, nothing_asked, from_scratch, after_memo, CanBegin, round_on, after_round, rounds_after, last_left, IsUneditedRerun}
 use Rattle.rerun_spec.proofs.Rounds.{IsSoundlyMade, each-round, each-made, each-short, at-place, with-short, first-past, scratch-begins, memo-begins, round-made, round-found, round-alone, round-honest}
 use Rattle.rerun_spec.proofs.Repeating.{IsAgain, repeated-after, rerun-again, again-reuses, again-instructions, after-schedule, after-machine}
 use Rattle.rerun_spec.proofs.Reports.{reports-made, exits-made}
@@ -152,7 +152,7 @@ promised_of (Explains line) a p found is playable spelled are honest =
     promised_rerun (as_rerun line) a p found is playable spelled are honest
 promised_of (Audits line) a p found is playable spelled are honest = absurd is
 promised_of (Generates line) a p found is playable spelled are honest =
-    promised_from_scratch line.workers _ false p found is.beginning playable spelled are
+    promised_from_scratch line.workers _ nothing_asked p found is.beginning playable spelled are
 
 any_after :
     (workers : ℕ) (b : Beginning) (inputs : List (List ℕ)) (found : List Found)

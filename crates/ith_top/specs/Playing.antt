@@ -9,7 +9,8 @@ use Rattle.why_report.specs.Reasons.{reasons_of, reasons_by, scratch_before, exe
 use Rattle.memo_spec.specs.Spelling.{AreBytes, memo}
 use Rattle.round_memo_spec.specs.Spelled.{IsSpelledPast}
 use Rattle.propagate.specs.Kept.{IsOfMap}
-use Rattle.report_spec.specs.Report.{no_extras}
+use Rattle.report_spec.specs.declared.Entry.{Entry}
+use Rattle.report_spec.specs.Report.{Told, no_extras}
 use Rattle.rerun_spec.specs.Inputs.{AreShort}
 use Rattle.rerun_spec.specs.Rounds.{Found, Beginning, IsMade, IsWatched, left_by, round_on, with_input}
 use Rattle.rerun_spec.specs.Reports.{made_report, made_exits, all_exit, all_made_exit, all_executed}
@@ -104,20 +105,22 @@ pub record IsAskedReplay (line : ReplayLine) (before : World) (setup : Setup) (t
   pub is_setup : setup ≡ replay_setup_of line contents
   pub said : Says contents.schedule (Ok threads)
 
--- The text that tells of what a schedule came to.
-abbrev pub TellsOfReplay : List ℕ → Outcome → List ℕ → Type 0
-TellsOfReplay threads o text =
-    text
-    ≡ replay_text
-    (record {
+-- What there is to tell of a schedule of these entries, by what it came to.
+abbrev pub told_of_outcome : List Entry → Outcome → Told
+told_of_outcome entries o =
+    record {
       ending = Some o.ending;
-      schedule = all_executed threads;
+      schedule = entries;
       extras = no_extras;
       instructions = o.instructions;
       shares = [];
       memory = o.memory;
       output = o.output.items;
-    })
+    }
+
+-- The text that tells of what a schedule came to.
+abbrev pub TellsOfReplay : List ℕ → Outcome → List ℕ → Type 0
+TellsOfReplay threads o text = text ≡ replay_text (told_of_outcome (all_executed threads) o)
 
 -- A text tells why the executed steps were executed of the one round of a plan, as one worker makes it: each of them
 -- has a reason, and no other step has, where the round goes by a run that holds together; and where it goes by a sound

@@ -89,11 +89,11 @@ fn nothing_asked() -> Asked
 }
 
 /// The line that tells of a round.
-fn round_line(
+fn round_line<'a>(
     alloc: Global,
     number: u64,
-    round: &Round,
-    shares: &[u64],
+    round: &'a Round,
+    shares: &'a [u64],
 ) -> Result<Vec<u8>, AllocError>
     ensures { IfOk result (λ text. text.items ≡ short_text number (told_as_made round.now no_extras shares.now)) }
 {

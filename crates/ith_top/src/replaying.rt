@@ -10,7 +10,7 @@ ghost use Rattle.ith_words.specs.Said.{replay_said};
 ghost use Rattle.ith_top.specs.Files.{files_named, AsksForFiles};
 ghost use Rattle.ith_top.specs.Ends.{ReplayEnds};
 ghost use Rattle.ith_top.specs.Refusals.{WhyNoThreads, WhyUnreplayed};
-ghost use Rattle.ith_top.specs.Playing.{IsAskedReplay, TellsOfReplay};
+ghost use Rattle.ith_top.specs.Playing.{IsAskedReplay, TellsOfReplay, told_of_outcome};
 
 use super::complaints::{INCOMPLETE, NO_MEMORY, schedule_line};
 use super::files::{ReplayFiles, read_replay_files};
@@ -141,22 +141,28 @@ fn all_executed(alloc: Global, threads: &[u8]) -> Result<Vec<Entry>, AllocError>
     Ok(entries)
 }
 
-/// The text that tells what a schedule came to.
-fn text_of(alloc: Global, threads: &[u8], outcome: &Outcome) -> Result<Vec<u8>, AllocError>
-    ensures { IfOk result (λ text. TellsOfReplay threads.now outcome.now text.items) }
+/// What there is to tell of a schedule of these entries, by what it came to.
+fn told_of<'a>(entries: &'a [Entry], outcome: &'a Outcome) -> Told<'a>
+    ensures { result ≡ told_of_outcome entries.now outcome.now }
 {
-    let entries = all_executed(alloc, threads)?;
-    let told = Told {
+    Told {
         ending: Some(outcome.ending),
-        schedule: entries.as_slice(),
+        schedule: entries,
         reached: None,
         progress: None,
         instructions: outcome.instructions,
         shares: &[],
         memory: &outcome.memory,
         output: outcome.output.as_slice(),
-    };
-    replayed(alloc, &told)
+    }
+}
+
+/// The text that tells what a schedule came to.
+fn text_of(alloc: Global, threads: &[u8], outcome: &Outcome) -> Result<Vec<u8>, AllocError>
+    ensures { IfOk result (λ text. TellsOfReplay threads.now outcome.now text.items) }
+{
+    let entries = all_executed(alloc, threads)?;
+    replayed(alloc, &told_of(entries.as_slice(), outcome))
 }
 
 /// All that a line that replays a schedule asks for.

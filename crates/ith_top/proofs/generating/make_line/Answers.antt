@@ -16,7 +16,7 @@ use Rattle.ith_top.proofs.generating.make_line.Goals as goal
 pub unreachable-requires : goal.unreachable-requires
 unreachable-requires g c =
     let begins : Beginning = beginning_of c.args.setup.now c.args.next in
-    let w : RoundState = c.in_ok-round.round in
+    let w : RoundState = c.in_ok-round.field-0.round in
     let start : c.in_ok-start.start ≡ with_input c.args.setup.now c.args.next.input.items = search rules in
     let on : IsOfMap w.past w.setup =
     round_map begins c.args.next.input.items w (c.in_ok-round.ensures.setup ∙ start) c.in_ok-round.ensures.past
@@ -26,18 +26,18 @@ unreachable-requires g c =
 pub returns-clause-played : goal.returns-clause-played
 returns-clause-played g c =
     let begins : Beginning = beginning_of c.args.setup.now c.args.next in
-    let w : RoundState = c.in_ok-round.round in
+    let w : RoundState = c.in_ok-round.field-0.round in
     let start : c.in_ok-start.start ≡ with_input c.args.setup.now c.args.next.input.items = search rules in
     let setup : w.setup ≡ with_input c.args.setup.now c.args.next.input.items = c.in_ok-round.ensures.setup ∙ start in
     let on : IsOfMap w.past w.setup =
     round_map begins c.args.next.input.items w setup c.in_ok-round.ensures.past c.requires.same in
     let is : IsMadeBy c.args.crew.now.workers (with_input c.args.setup.now c.args.next.input.items)
-    (option_map arc_value c.args.next.past) w.schedule c.in_ok-round.shares.items =
+    (option_map arc_value c.args.next.past) w.schedule c.in_ok-round.field-0.shares.items =
     rw start at c.in_ok-round.ensures.made in
     let left : c.in-Some.left ≡ history_of w =
     some_is c.in-Some.left (history_of w) (sym c.in-Some.is ∙ c.into_history.ensures.same on) in
     let shared : arc_value c.in_ok-left.left ≡ c.in-Some.left = search rules in
-    line_on c.args.crew.now.workers begins c.args.next.input.items w c.in_ok-round.shares.items
+    line_on c.args.crew.now.workers begins c.args.next.input.items w c.in_ok-round.field-0.shares.items
     c.in_ok-text.text.items c.is_exit-exited.result (arc_value c.in_ok-left.left)
     setup c.in_ok-round.ensures.past c.in_ok-round.ensures.stands is
     (c.in_ok-text.ensures ∙ ap (λ (shares : List ℕ). short_text c.args.next.number (told_as_made w no_extras shares))

@@ -8,6 +8,7 @@ use Rattle.rerun_spec.specs.Inputs.{AreInputs}
 use Rattle.round_inputs.specs.Refusals.{WhyNoInputs, refusal_of}
 use Rattle.round_inputs.specs.declared.refusal.InputsError.TheVariants as inputs
 use Rattle.guest_gen.specs.declared.making.Generated.{Generated}
+use Rattle.rerun_spec.specs.Rounds.{nothing_asked}
 use Rattle.ith_top.specs.Contents.{Plan}
 use Rattle.ith_top.specs.Playing.{plan_said}
 use Rattle.ith_top.proofs.Ending.{refused_image}
@@ -49,5 +50,5 @@ returns-in-Ok-inputs_of-clause-spelled c =
     let same : AreInputs s.input (g.edits.items ∷ []) p.inputs =
     subst (λ (i : List ℕ). AreInputs i (g.edits.items ∷ []) p.inputs) (sym is_input)
     (subst (λ (i : List ℕ). AreInputs i (g.edits.items ∷ []) p.inputs) copied edited) in
-    run_spelled s false (g.edits.items ∷ []) p c.in-Ok.ensures.sound c.in-Ok.ensures.bytes.0 c.in-Ok.ensures.bytes.1
+    run_spelled s nothing_asked (g.edits.items ∷ []) p c.in-Ok.ensures.sound c.in-Ok.ensures.bytes.0 c.in-Ok.ensures.bytes.1
     c.from_scratch.ensures.beginning same
