@@ -48,12 +48,19 @@ pub struct ThreadPast {
     writing: Vec<Access>,
 }
 
-/// The place of the first access that is no earlier than a number of its thread's steps.
+/// The place of the first access that is no earlier than a number of its thread's steps. Mostly all are, or none.
 fn first_from(accesses: &[Access], number: u32) -> usize
     requires { IsNonDecreasingBy (λ (a : Access). a.number) accesses.now }
     ensures within { result ≤ length accesses.now }
     ensures rest { drop result accesses.now ≡ filter (λ (a : Access). not (nat_lt a.number number)) accesses.now }
 {
+    let count = accesses.len();
+    if count == 0 || number <= accesses[0].number {
+        return 0;
+    }
+    if accesses[count - 1].number < number {
+        return count;
+    }
     accesses.partition_point(|access| access.number < number)
 }
 
