@@ -1,5 +1,5 @@
 -- How a line that tells why steps were executed ends.
-use Rattle.std.proofs.Common.{◌≡◌, ℕ, false, List, [], ◌∷◌, Option, map, refl, sym, ap, subst, ◌∙◌}
+use Rattle.std.proofs.Common.{◌≡◌, ℕ, List, [], ◌∷◌, Option, map, refl, sym, ap, subst, ◌∙◌}
 use Rattle.std.proofs.lemmas.List.{append-nil}
 use Rattle.machine_spec.specs.Setup.{Setup}
 use Rattle.history_spec.specs.History.{History, IsSound}

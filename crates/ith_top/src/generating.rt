@@ -10,7 +10,6 @@ ghost use Rattle.memo_spec.specs.Spelling.{AreBytes};
 ghost use Rattle.report_spec.specs.Text.{line as text_line};
 ghost use Rattle.propagate.specs.Kept.{IsOfMap};
 ghost use Rattle.report_spec.specs.Report.{no_extras};
-ghost use Rattle.rerun_spec.specs.Rounds.{nothing_asked};
 ghost use Rattle.rerun_spec.specs.Reports.{told_as_made};
 ghost use Rattle.round_report.specs.Short.{short_text};
 ghost use Rattle.ith_words.specs.Words.{Generates, default_fuel, default_limit};
@@ -72,19 +71,15 @@ fn prepare(alloc: Global, number: u32) -> Result<Plan, AllocError>
         Err(LoadError::NoMemory) => return Err(AllocError),
     };
     match inputs_of(alloc, copy, &[edits]) {
-        Ok(inputs) => Ok(from_scratch(setup, inputs, nothing_asked())),
+        Ok(inputs) => {
+            let asked = Asked {
+                reach: false,
+                progress: false,
+            };
+            Ok(from_scratch(setup, inputs, asked))
+        }
         Err(InputsError::Refused { .. }) => unreachable!(),
         Err(InputsError::NoMemory) => Err(AllocError),
-    }
-}
-
-/// No line that is there only if it is asked for.
-fn nothing_asked() -> Asked
-    ensures { result ≡ nothing_asked }
-{
-    Asked {
-        reach: false,
-        progress: false,
     }
 }
 
@@ -189,14 +184,20 @@ fn make_both<R: Threads + Wait + Sync, G: Gate + Sync>(
         number: 0,
         input,
         past: None,
-        asked: nothing_asked(),
+        asked: Asked {
+            reach: false,
+            progress: false,
+        },
     };
     let first = make_line(alloc, &setup, next, crew)?;
     let next = Next {
         number: 1,
         input: edited,
         past: Some(first.left),
-        asked: nothing_asked(),
+        asked: Asked {
+            reach: false,
+            progress: false,
+        },
     };
     let second = make_line(alloc, &setup, next, crew)?;
     let text = text_of(alloc, number, first.text.as_slice(), second.text.as_slice())?;
