@@ -31,7 +31,7 @@ impl Counter {
     /// # Errors
     ///
     /// An error where the host's memory ran out.
-    pub(super) fn new(alloc: Global) -> Result<Counter, AllocError>
+    pub fn new(alloc: Global) -> Result<Counter, AllocError>
         ensures { IfOk result (λ counter. counter.writer.added ≡ 0) }
     {
         let (word, writer) = Word::new(alloc)?;

@@ -61,7 +61,7 @@ fn first_run<J: Naming, R: Threads + Wait>(
 ) -> Result<Run, Fail>
     requires name { blank.name ≡ J.name }
     requires parts { (blank.parts ≡ J.parts) × (J.parts ≡ 1) }
-    requires workers { J.workers ≡ 1 }
+    requires workers { (J.workers ≡ 1) × (J.watches ≡ 0) }
     requires opening { round ≡ opening J.setup J.past }
 {
     let (board, mut passes) = Board::<J>::new(alloc, round, 1, blank)?;
@@ -83,7 +83,7 @@ fn handed_back<J: Naming, R: Wait>(
 }
 
 /// Makes the step that a worker is told to execute.
-fn make_next<J: Naming, R: Threads + Wait>(
+pub(super) fn make_next<J: Naming, R: Threads + Wait>(
     rt: &R,
     alloc: Global,
     board: &Board<J>,
@@ -108,7 +108,7 @@ fn after_foreign_run<J: Naming, R: Threads + Wait>(
 ) -> Result<(Round, Run), Fail>
     requires name { blank.name ≡ J.name }
     requires parts { (blank.parts ≡ J.parts) × (J.parts ≡ 1) }
-    requires workers { J.workers ≡ 1 }
+    requires workers { (J.workers ≡ 1) × (J.watches ≡ 0) }
     requires opening { round ≡ opening J.setup J.past }
 {
     let (board, mut passes) = Board::<J>::new(alloc, round, 1, blank)?;
@@ -146,7 +146,7 @@ fn failed<J: Naming, R: Threads + Wait>(
 ) -> Result<(Round, Vec<u64>), Fail>
     requires name { blank.name ≡ J.name }
     requires parts { (blank.parts ≡ J.parts) × (J.parts ≡ 2) }
-    requires workers { J.workers ≡ 2 }
+    requires workers { (J.workers ≡ 2) × (J.watches ≡ 0) }
     requires opening { round ≡ opening J.setup J.past }
 {
     let (board, mut passes) = Board::<J>::new(alloc, round, 2, blank)?;

@@ -19,3 +19,5 @@ mod picks;
 mod reasons;
 #[cfg(test)]
 mod reports;
+#[cfg(test)]
+mod watches;
