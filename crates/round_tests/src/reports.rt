@@ -35,6 +35,7 @@ fn report_of_hi(rt: HostRuntime) -> Result<(), Fail> {
         ending: Some(End::Exit(0)),
         schedule: &[executed, executed],
         reached: None,
+        progress: None,
         instructions: 8,
         shares: &[2],
         memory: &memory,
@@ -60,6 +61,7 @@ hi
     assert_eq!(rt; again.as_slice(), expected.as_bytes());
     let told = Told {
         reached: Some(5),
+        progress: None,
         ..told
     };
     let with_reach = text(alloc, 0, &told, &mut digested)?;
