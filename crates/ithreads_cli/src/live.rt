@@ -70,7 +70,7 @@ impl<'a, R: Clock + Eprint> Live<'a, R> {
     /// The time in milliseconds; 0 if there is none to be had.
     fn now(&self) -> u64 {
         match self.rt.monotonic() {
-            Ok(time) => time.as_millis() as u64,
+            Ok(time) => u64::try_from(time.as_millis()).unwrap_or(u64::MAX),
             Err(_) => 0,
         }
     }
