@@ -54,12 +54,16 @@ fn read<J: Naming, R: Threads + Wait>(
     let (board, mut passes, mut watches) = Board::<J>::with_watches(
         alloc, round, 1, 1, counter, blank,
     )?;
+    let mut pass = passes.remove(0);
+    let mut watch = watches.remove(0);
     let mut numbers = Vec::new(alloc);
-    numbers.push(board.progress(&mut watches[0]))?;
+    numbers.push(board.progress(&mut watch))?;
     for _ in 0..STEPS {
-        make_next(rt, alloc, &board, &mut passes[0])?;
-        numbers.push(board.progress(&mut watches[0]))?;
+        make_next(rt, alloc, &board, &mut pass)?;
+        numbers.push(board.progress(&mut watch))?;
     }
+    passes.push(pass)?;
+    watches.push(watch)?;
     let (_round, _shares, last) = board.close_watched(passes, watches);
     numbers.extend_from_slice(last.as_slice())?;
     Ok(numbers)
