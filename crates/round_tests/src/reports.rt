@@ -21,6 +21,25 @@ fn last_memory(alloc: Global) -> Result<PageTable, AllocError> {
     Ok(memory)
 }
 
+/// What there is to tell of the guest's round.
+fn told_of_hi<'a>(
+    schedule: &'a [Entry],
+    shares: &'a [u64],
+    memory: &'a PageTable,
+    output: &'a [u8],
+) -> Told<'a> {
+    Told {
+        ending: Some(End::Exit(0)),
+        schedule,
+        reached: None,
+        progress: None,
+        instructions: 8,
+        shares,
+        memory,
+        output,
+    }
+}
+
 // The digest is Python's:
 // hashlib.sha256(segment + bytes(4096 - 35) + bytes(4096 * 769)).hexdigest().
 #[test]
@@ -31,16 +50,9 @@ fn report_of_hi(rt: HostRuntime) -> Result<(), Fail> {
         thread: 0,
         reused: false,
     };
-    let told = Told {
-        ending: Some(End::Exit(0)),
-        schedule: &[executed, executed],
-        reached: None,
-        progress: None,
-        instructions: 8,
-        shares: &[2],
-        memory: &memory,
-        output: b"hi\n",
-    };
+    let schedule = [executed, executed];
+    let shares = [2];
+    let told = told_of_hi(&schedule, &shares, &memory, b"hi\n");
     let mut digested = None;
     let report = text(alloc, 0, &told, &mut digested)?;
     let again = text(alloc, 0, &told, &mut digested)?;
