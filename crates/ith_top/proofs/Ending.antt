@@ -10,12 +10,12 @@ use Rattle.elf_spec.specs.declared.Refusal.{Refusal}
 use Rattle.elf_spec.specs.Refusals.{refusal_of}
 use Rattle.elf_spec.specs.Image.{is_image}
 use Rattle.history_spec.specs.History.{History}
-use Rattle.ith_words.specs.Words.{Text, Line, Runs, Reruns, Shows, RunLine, RerunLine, ShowLine}
+use Rattle.ith_words.specs.Words.{Text, Line, Runs, Reruns, Shows, RunLine, RerunLine}
 use Rattle.ith_top.specs.declared.status.Status.{Status}
 use Rattle.ith_top.specs.declared.status.Status.TheVariants as status
 use Rattle.ith_top.specs.Files.{Named, elf_named, input_named, memo_named, lists_named, files_named, AsksForFiles, IsWithin}
-use Rattle.ith_top.specs.Contents.{Contents, AreLists, AreContents, WasRead, IsMemoContent, IsMemoOf}
-use Rattle.ith_top.specs.Ends.{RoundsEnd, ShowEnds, IsUnbegun}
+use Rattle.ith_top.specs.Contents.{Contents, AreLists, AreContents, WasRead, IsMemoContent, IsMemoOf, as_show}
+use Rattle.ith_top.specs.Ends.{RoundsEnd, IsUnbegun}
 use Rattle.ith_top.specs.Refusals.{WhyUnread, WhyNoSetup, WhyNoHistory, WhyUnedited, WhyUnplanned}
 use Rattle.ith_top.proofs.Worlds.{content_before, stays_trans}
 use Rattle.ith_top.proofs.Asking.{within_told, unread_front, unread_more}
@@ -119,18 +119,10 @@ unplanned_ends line a b _ why = absurd why
 -- files of a line that asks for rounds weren't all read
 pub unread_ends : (line : Line) (a b : World) (s : Status) → Stays a b → WhyUnread (files_named line) a b s
     → WhyUnplanned line a b s
-unread_ends line a b status.Finished stays why = absurd why
-unread_ends line a b status.Unfinished stays why = absurd why
-unread_ends line a b status.Words stays why = absurd why
-unread_ends line a b status.Image stays why = absurd why
-unread_ends line a b status.Memo stays why = absurd why
-unread_ends line a b status.EditList stays why = absurd why
 unread_ends line a b status.ReadFault stays why = record { stops = why; stays = stays }
-unread_ends line a b status.WriteFault stays why = absurd why
 unread_ends line a b status.Memory stays why = record { asked = why; stays = stays }
 unread_ends line a b status.TooLarge stays why = record { stops = why; stays = stays }
-unread_ends line a b status.Schedule stays why = absurd why
-unread_ends line a b status.Untrue stays why = absurd why
+unread_ends line a b _ stays why = absurd why
 
 pub unbegun : (line : Line) (a b : World) → AsksForFiles (files_named line) a b → Stays a b → IsUnbegun line a b
 unbegun line a b asked stays =
@@ -155,9 +147,6 @@ pub refused_ends :
     (line : RunLine) (a b c : World) (contents : Contents) (s : Status)
     → AsksForFiles (files_named (Runs line)) a b → AsksNothing b c → Stays a b → Stays b c
     → AreContents a line contents → WhyNoSetup contents.elf s → WhyUnplanned (Runs line) a c s
-refused_ends line a b c contents status.Finished asked none stays then are why = absurd why
-refused_ends line a b c contents status.Unfinished asked none stays then are why = absurd why
-refused_ends line a b c contents status.Words asked none stays then are why = absurd why
 refused_ends line a b c contents status.Image asked none stays then are why =
     record {
       asked = none ∙ asked;
@@ -167,25 +156,15 @@ refused_ends line a b c contents status.Image asked none stays then are why =
       stays =
           stays_trans a b c stays then;
     }
-refused_ends line a b c contents status.Memo asked none stays then are why = absurd why
-refused_ends line a b c contents status.EditList asked none stays then are why = absurd why
-refused_ends line a b c contents status.ReadFault asked none stays then are why = absurd why
-refused_ends line a b c contents status.WriteFault asked none stays then are why = absurd why
 refused_ends line a b c contents status.Memory asked none stays then are why =
     cut_ends (Runs line) a b c asked none stays then
-refused_ends line a b c contents status.TooLarge asked none stays then are why = absurd why
-refused_ends line a b c contents status.Schedule asked none stays then are why = absurd why
-refused_ends line a b c contents status.Untrue asked none stays then are why = absurd why
+refused_ends line a b c contents _ asked none stays then are why = absurd why
 
 -- all files were read, and no history was had from the memo
 pub forgotten_ends :
     (line : RerunLine) (a b c : World) (memo : List ℕ) (lists : List (List ℕ)) (s : Status)
     → AsksForFiles (files_named (Reruns line)) a b → AsksNothing b c → Stays a b → Stays b c
     → IsMemoContent a line.memo memo → AreLists a line.edits lists → WhyNoHistory memo s → WhyUnplanned (Reruns line) a c s
-forgotten_ends line a b c memo lists status.Finished asked none stays then read told why = absurd why
-forgotten_ends line a b c memo lists status.Unfinished asked none stays then read told why = absurd why
-forgotten_ends line a b c memo lists status.Words asked none stays then read told why = absurd why
-forgotten_ends line a b c memo lists status.Image asked none stays then read told why = absurd why
 forgotten_ends line a b c memo lists status.Memo asked none stays then read told why =
     record {
       asked = none ∙ asked;
@@ -198,25 +177,15 @@ forgotten_ends line a b c memo lists status.Memo asked none stays then read told
           why.1;
       stays = stays_trans a b c stays then;
     }
-forgotten_ends line a b c memo lists status.EditList asked none stays then read told why = absurd why
-forgotten_ends line a b c memo lists status.ReadFault asked none stays then read told why = absurd why
-forgotten_ends line a b c memo lists status.WriteFault asked none stays then read told why = absurd why
 forgotten_ends line a b c memo lists status.Memory asked none stays then read told why =
     cut_ends (Reruns line) a b c asked none stays then
-forgotten_ends line a b c memo lists status.TooLarge asked none stays then read told why = absurd why
-forgotten_ends line a b c memo lists status.Schedule asked none stays then read told why = absurd why
-forgotten_ends line a b c memo lists status.Untrue asked none stays then read told why = absurd why
+forgotten_ends line a b c memo lists _ asked none stays then read told why = absurd why
 
 -- the executable was accepted, and the edit lists made no inputs
 pub unedited_ends :
     (line : RunLine) (a b c : World) (contents : Contents) (s : Status)
     → AsksForFiles (files_named (Runs line)) a b → AsksNothing b c → Stays a b → Stays b c
     → WasRead line a contents → WhyUnedited contents.input contents.lists s → WhyUnplanned (Runs line) a c s
-unedited_ends line a b c contents status.Finished asked none stays then read why = absurd why
-unedited_ends line a b c contents status.Unfinished asked none stays then read why = absurd why
-unedited_ends line a b c contents status.Words asked none stays then read why = absurd why
-unedited_ends line a b c contents status.Image asked none stays then read why = absurd why
-unedited_ends line a b c contents status.Memo asked none stays then read why = absurd why
 unedited_ends line a b c contents status.EditList asked none stays then read why =
     record {
       asked = none ∙ asked;
@@ -228,13 +197,9 @@ unedited_ends line a b c contents status.EditList asked none stays then read why
           why.2;
       stays = stays_trans a b c stays then;
     }
-unedited_ends line a b c contents status.ReadFault asked none stays then read why = absurd why
-unedited_ends line a b c contents status.WriteFault asked none stays then read why = absurd why
 unedited_ends line a b c contents status.Memory asked none stays then read why =
     cut_ends (Runs line) a b c asked none stays then
-unedited_ends line a b c contents status.TooLarge asked none stays then read why = absurd why
-unedited_ends line a b c contents status.Schedule asked none stays then read why = absurd why
-unedited_ends line a b c contents status.Untrue asked none stays then read why = absurd why
+unedited_ends line a b c contents _ asked none stays then read why = absurd why
 
 -- the memo was accepted, and the edit lists made no inputs
 pub rerun_unedited_ends :
@@ -242,11 +207,6 @@ pub rerun_unedited_ends :
     → AsksForFiles (files_named (Reruns line)) a b → AsksNothing b c → Stays a b → Stays b c
     → IsMemoContent a line.memo memo → AreLists a line.edits lists → IsMemoOf memo h → WhyUnedited h.setup.input lists s
     → WhyUnplanned (Reruns line) a c s
-rerun_unedited_ends line a b c memo lists h status.Finished asked none stays then read told is why = absurd why
-rerun_unedited_ends line a b c memo lists h status.Unfinished asked none stays then read told is why = absurd why
-rerun_unedited_ends line a b c memo lists h status.Words asked none stays then read told is why = absurd why
-rerun_unedited_ends line a b c memo lists h status.Image asked none stays then read told is why = absurd why
-rerun_unedited_ends line a b c memo lists h status.Memo asked none stays then read told is why = absurd why
 rerun_unedited_ends line a b c memo lists h status.EditList asked none stays then read told is why =
     record {
       asked = none ∙ asked;
@@ -261,58 +221,24 @@ rerun_unedited_ends line a b c memo lists h status.EditList asked none stays the
       refused = why.2;
       stays = stays_trans a b c stays then;
     }
-rerun_unedited_ends line a b c memo lists h status.ReadFault asked none stays then read told is why = absurd why
-rerun_unedited_ends line a b c memo lists h status.WriteFault asked none stays then read told is why = absurd why
 rerun_unedited_ends line a b c memo lists h status.Memory asked none stays then read told is why =
     cut_ends (Reruns line) a b c asked none stays then
-rerun_unedited_ends line a b c memo lists h status.TooLarge asked none stays then read told is why = absurd why
-rerun_unedited_ends line a b c memo lists h status.Schedule asked none stays then read told is why = absurd why
-rerun_unedited_ends line a b c memo lists h status.Untrue asked none stays then read told is why = absurd why
+rerun_unedited_ends line a b c memo lists h _ asked none stays then read told is why = absurd why
 
--- the memo to show wasn't read
-pub show_unread : (line : ShowLine) (a b : World) (s : Status) → Stays a b → WhyUnread (files_named (Shows line)) a b s
-    → ShowEnds line a b s
-show_unread line a b status.Finished stays why = absurd why
-show_unread line a b status.Unfinished stays why = absurd why
-show_unread line a b status.Words stays why = absurd why
-show_unread line a b status.Image stays why = absurd why
-show_unread line a b status.Memo stays why = absurd why
-show_unread line a b status.EditList stays why = absurd why
-show_unread line a b status.ReadFault stays why = record { stops = why; stays = stays }
-show_unread line a b status.WriteFault stays why = absurd why
-show_unread line a b status.Memory stays why = record { asked = why; stays = stays }
-show_unread line a b status.TooLarge stays why = record { stops = why; stays = stays }
-show_unread line a b status.Schedule stays why = absurd why
-show_unread line a b status.Untrue stays why = absurd why
-
--- the memo to show was read, and then the host's memory ran out
-pub show_cut : (line : ShowLine) (a b c : World) → AsksForFiles (files_named (Shows line)) a b → AsksNothing b c
-    → Stays a b → Stays b c → ShowEnds line a c status.Memory
-show_cut line a b c asked none stays then = unbegun (Shows line) a c (none ∙ asked) (stays_trans a b c stays then)
-
--- the memo to show was read, and no history was had from it
-pub show_forgotten :
-    (line : ShowLine) (a b c : World) (memo : List ℕ) (s : Status)
-    → AsksForFiles (files_named (Shows line)) a b → AsksNothing b c → Stays a b → Stays b c
-    → IsMemoContent a line.memo memo → WhyNoHistory memo s → ShowEnds line a c s
-show_forgotten line a b c memo status.Finished asked none stays then read why = absurd why
-show_forgotten line a b c memo status.Unfinished asked none stays then read why = absurd why
-show_forgotten line a b c memo status.Words asked none stays then read why = absurd why
-show_forgotten line a b c memo status.Image asked none stays then read why = absurd why
-show_forgotten line a b c memo status.Memo asked none stays then read why =
+-- the memo of a name was read, and no history was had from it
+pub unremembered :
+    (name : Text) (a b c : World) (memo : List ℕ) (s : Status)
+    → AsksForFiles (memo_named name ∷ []) a b → AsksNothing b c → Stays a b → Stays b c
+    → IsMemoContent a name memo → WhyNoHistory memo s → WhyUnplanned (Shows (as_show name)) a c s
+unremembered name a b c memo status.Memo asked none stays then read why =
     record {
       asked = none ∙ asked;
       memo = memo;
       read = read;
       why = why.0;
       refused = why.1;
-      stays =
-          stays_trans a b c stays then;
+      stays = stays_trans a b c stays then;
     }
-show_forgotten line a b c memo status.EditList asked none stays then read why = absurd why
-show_forgotten line a b c memo status.ReadFault asked none stays then read why = absurd why
-show_forgotten line a b c memo status.WriteFault asked none stays then read why = absurd why
-show_forgotten line a b c memo status.Memory asked none stays then read why = show_cut line a b c asked none stays then
-show_forgotten line a b c memo status.TooLarge asked none stays then read why = absurd why
-show_forgotten line a b c memo status.Schedule asked none stays then read why = absurd why
-show_forgotten line a b c memo status.Untrue asked none stays then read why = absurd why
+unremembered name a b c memo status.Memory asked none stays then read why =
+    cut_ends (Shows (as_show name)) a b c asked none stays then
+unremembered name a b c memo _ asked none stays then read why = absurd why

@@ -22,8 +22,8 @@ use Rattle.ith_top.specs.Explaining.{explained_round, why_of}
 use Rattle.ith_top.specs.Ends.{Prints, HasReasons, ExplainEnds}
 use Rattle.ith_top.specs.Refusals.{WhyUnplanned, WhyUnprinted}
 use Rattle.ith_top.specs.Playing.{TellsReasons}
-use Rattle.ith_top.proofs.Worlds.{stays_trans, rose_before}
-use Rattle.ith_top.proofs.Going.{prints_after}
+use Rattle.ith_top.proofs.Worlds.{stays_trans}
+use Rattle.ith_top.proofs.Going.{in_part, prints_after}
 use Rattle.ith_top.proofs.Ending.{unbegun}
 
 -- the host's memory ran out before a file was asked for
@@ -149,14 +149,7 @@ unexplained line a b c p text status.WriteFault asked none stays fell is tells w
     record {
       asked = none ∙ asked;
       has = explained_by line a p text is tells;
-      part = record {
-        cause = rose_before _ _ _ fell.prints cause.0;
-        whole = 0;
-        next = whole;
-        is_next = refl;
-        count = cause.1.0;
-        prints = prints_after a b c _ stays cause.1.1;
-      };
+      part = in_part whole a b c stays fell cause;
     }
 unexplained line a b c p text status.Memory asked none stays fell is tells why =
     explain_cut line a b c asked none stays why

@@ -14,7 +14,7 @@ use Rattle.rerun_spec.specs.Reports.{made_report, made_reports, made_exits, all_
 use Rattle.ith_host.specs.World.{World, NoneFell, Stays, AsksNothing}
 use Rattle.ith_top.specs.declared.status.Status.{Status}
 use Rattle.ith_top.specs.declared.status.Status.TheVariants as status
-use Rattle.ith_top.specs.Ends.{Prints}
+use Rattle.ith_top.specs.Ends.{Prints, IsPrintedInPart}
 use Rattle.ith_top.specs.Contents.{Plan}
 use Rattle.ith_top.specs.Refusals.{WhyUnprinted, IsPlayedInPart}
 use Rattle.ith_top.specs.Playing.{AreFound, IsMadeOn, IsPlayed}
@@ -75,6 +75,20 @@ prints_after a b c bytes stays prints =
       tells = prints.tells ∙ stays.tells;
       files = prints.files ∙ stays.files;
       printed = subst (λ (told : Option (List ℕ)). Appends told c.printed bytes) stays.printed prints.printed;
+    }
+
+-- a text wasn't printed whole
+pub in_part :
+    (text : List ℕ) (a b c : World) → Stays a b → NoneFell a b → WhyUnprinted text b c status.WriteFault
+    → IsPrintedInPart (text ∷ []) a c
+in_part text a b c stays fell why =
+    record {
+      cause = rose_before _ _ _ fell.prints why.0;
+      whole = 0;
+      next = text;
+      is_next = refl;
+      count = why.1.0;
+      prints = prints_after a b c _ stays why.1.1;
     }
 
 concat-more : (texts : List (List ℕ)) (text : List ℕ) → concat (texts ++ text ∷ []) ≡ concat texts ++ text

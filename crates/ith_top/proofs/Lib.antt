@@ -9,10 +9,8 @@ pub mod Making
 pub mod Going
 pub mod Promises
 pub mod Done
-pub mod Listed
-pub mod Audited
+pub mod OfMemo
 pub mod Explained
-pub mod Raced
 pub mod Permitting
 pub mod Replayed
 pub mod Generated

@@ -22,8 +22,8 @@ use Rattle.ith_top.specs.Contents.{ReplayContents, AreReplayContents, WasReplayR
 use Rattle.ith_top.specs.Ends.{Prints, HasReplay, Token, Entry, Incomplete, IsReplayed, ReplayEnds}
 use Rattle.ith_top.specs.Refusals.{WhyUnread, WhyNoSetup, WhyNoThreads, WhyUnreplayed, WhyUnprinted}
 use Rattle.ith_top.specs.Playing.{IsAskedReplay, TellsOfReplay}
-use Rattle.ith_top.proofs.Worlds.{content_before, stays_trans, rose_before}
-use Rattle.ith_top.proofs.Going.{prints_after}
+use Rattle.ith_top.proofs.Worlds.{content_before, stays_trans}
+use Rattle.ith_top.proofs.Going.{in_part, prints_after}
 use Rattle.ith_top.proofs.Ending.{unbegun}
 use Rattle.ith_top.proofs.Permitting.{executed-turns, executed-threads}
 
@@ -225,14 +225,7 @@ replay_unprinted line a b c setup threads text o status.WriteFault asked none st
     record {
       asked = none ∙ asked;
       has = has_replay line a setup threads o is of;
-      part = record {
-        cause = rose_before _ _ _ fell.prints cause.0;
-        whole = 0;
-        next = replay_of its threads;
-        is_next = refl;
-        count = cause.1.0;
-        prints = prints_after a b c _ stays cause.1.1;
-      };
+      part = in_part (replay_of its threads) a b c stays fell cause;
     }
 replay_unprinted line a b c setup threads text o status.Memory asked none stays fell is of tells why =
     replay_cut line a b c asked none stays why

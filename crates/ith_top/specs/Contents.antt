@@ -89,6 +89,12 @@ pub record IsMemoContent (before : World) (name : Text) (bytes : List ℕ) : Typ
 abbrev pub IsMemoOf : List ℕ → History → Type 0
 IsMemoOf bytes h = IsTaken bytes h
 
+-- The memo of a name was read, and it is accepted as that of a history.
+pub record IsRemembered (before : World) (name : Text) (h : History) : Type 0 where
+  pub memo : List ℕ
+  pub read : IsMemoContent before name memo
+  pub accepted : IsMemoOf memo h
+
 -- The rounds that a line asks for: how the first begins, and the input of each.
 pub record Plan : Type 0 where
   pub beginning : Beginning

@@ -27,7 +27,7 @@ use Rattle.ith_top.specs.declared.racing.TheConstants.{MOST_RACES}
 use Rattle.ith_top.specs.declared.status.Status.{Status}
 use Rattle.ith_top.specs.declared.status.Status.TheVariants as status
 use Rattle.ith_top.specs.Files.{Named, files_named, AsksForFiles, AsksForSome, StopsAt, FailedToRead, IsLong}
-use Rattle.ith_top.specs.Contents.{AreLists, Contents, AreContents, WasRead, ReplayContents, AreReplayContents, WasReplayRead, replay_setup_of, CanBeReplayed, IsMemoContent, IsMemoOf, Plan, IsPlan, as_rerun, as_show, workers_of}
+use Rattle.ith_top.specs.Contents.{AreLists, Contents, AreContents, WasRead, ReplayContents, AreReplayContents, WasReplayRead, replay_setup_of, CanBeReplayed, IsMemoContent, IsMemoOf, IsRemembered, Plan, IsPlan, as_rerun, as_show, workers_of}
 use Rattle.ith_top.specs.Rounds.{rounds_of, BeginsHonestly, ArePromised, CanBeKept}
 use Rattle.ith_top.specs.Explaining.{explained_round, AreTheReasons, why_of}
 use Rattle.ith_top.specs.Statuses.{code_of}
@@ -221,23 +221,21 @@ pub record IsCutShort (line : Line) (before after : World) : Type 0 where
   pub has : HasRounds line before
   pub prints : Prints before after (concat (texts_of has.plan has.found))
 
--- The memo that a line shows was accepted, and is of this history.
-pub record HasHistory (line : ShowLine) (before : World) : Type 0 where
-  pub memo : List ℕ
-  pub read : IsMemoContent before line.memo memo
+-- The memo of a name was accepted, and is of this history.
+pub record HasHistory (name : Text) (before : World) : Type 0 where
   pub history : History
-  pub accepted : IsMemoOf memo history
+  pub remembered : IsRemembered before name history
 
 -- The memo is listed: exactly the lines that list its history were printed.
 pub record IsShown (line : ShowLine) (before after : World) : Type 0 where
   pub asked : AsksForFiles (files_named (Shows line)) before after
-  pub has : HasHistory line before
+  pub has : HasHistory line.memo before
   pub prints : Prints before after (listing has.history)
 
 -- Printing failed, and the first bytes of the lines that list the memo were printed, any number of them.
 pub record IsUnshown (line : ShowLine) (before after : World) : Type 0 where
   pub asked : AsksForFiles (files_named (Shows line)) before after
-  pub has : HasHistory line before
+  pub has : HasHistory line.memo before
   pub part : IsPrintedInPart (listing has.history ∷ []) before after
 
 -- The lines that tell of the audit of a history: how many records it has, how many turns their thunks make, and the
@@ -248,14 +246,14 @@ audit_of h place = audit_text (length h.records) (turns_of h) place
 -- A memo was audited, with this verdict, which is right: exactly the lines that tell of it were printed.
 pub record IsAudited (line : AuditLine) (place : Option ℕ) (before after : World) : Type 0 where
   pub asked : AsksForFiles (files_named (Audits line)) before after
-  pub has : HasHistory (as_show line.memo) before
+  pub has : HasHistory line.memo before
   pub verdict : IsVerdict has.history place
   pub prints : Prints before after (audit_of has.history place)
 
 -- Printing failed, and the first bytes of the lines that tell of the audit were printed, any number of them.
 pub record IsUnaudited (line : AuditLine) (before after : World) : Type 0 where
   pub asked : AsksForFiles (files_named (Audits line)) before after
-  pub has : HasHistory (as_show line.memo) before
+  pub has : HasHistory line.memo before
   pub place : Option ℕ
   pub verdict : IsVerdict has.history place
   pub part : IsPrintedInPart (audit_of has.history place ∷ []) before after
@@ -347,13 +345,13 @@ pub record IsUnexplained (line : ExplainLine) (before after : World) : Type 0 wh
 -- It is told which steps race: exactly the lines of the races of the memo's history were printed.
 pub record IsRaced (line : RacesLine) (before after : World) : Type 0 where
   pub asked : AsksForFiles (files_named (FindsRaces line)) before after
-  pub has : HasHistory (as_show line.memo) before
+  pub has : HasHistory line.memo before
   pub prints : Prints before after (races_listing MOST_RACES has.history)
 
 -- Printing failed, and the first bytes of the lines of the races were printed, any number of them.
 pub record IsUnraced (line : RacesLine) (before after : World) : Type 0 where
   pub asked : AsksForFiles (files_named (FindsRaces line)) before after
-  pub has : HasHistory (as_show line.memo) before
+  pub has : HasHistory line.memo before
   pub part : IsPrintedInPart (races_listing MOST_RACES has.history ∷ []) before after
 
 -- The text that tells of the rounds of the generated guest: a line with the number, and a line for each round, of the

@@ -8,9 +8,8 @@ ghost use Rattle.ith_words.specs.Said.{audit_said};
 ghost use Rattle.ith_top.specs.Ends.{AuditEnds, audit_of};
 
 use super::complaints::{NO_MEMORY, false_line};
-use super::files::read_memo;
 use super::outside::print_text;
-use super::plan::recall;
+use super::plan::remember;
 use super::status::Status;
 use ith_host::Host;
 use ith_words::AuditLine;
@@ -46,11 +45,7 @@ pub fn audit<R: Threads + Sync, H: Host>(
 ) -> Status
     ensures { AuditEnds (audit_said line.now) (H.world host.old) (H.world host.new) result }
 {
-    let memo = match read_memo(alloc, host, line.memo) {
-        Ok(memo) => memo,
-        Err(status) => return status,
-    };
-    let history = match recall(alloc, host, memo.as_slice()) {
+    let history = match remember(alloc, host, line.memo) {
         Ok(history) => history,
         Err(status) => return status,
     };

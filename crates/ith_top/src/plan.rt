@@ -1,7 +1,7 @@
 //! What rounds a line asks for: its files are read, then the executable or the memo is looked at, and then the edit
 //! lists are.
 
-ghost use Rattle.std.specs.Prelude.{◌≡◌, ◌≤◌, ◌<◌, ◌+◌, ◌^◌, length, IfOk, IfErr};
+ghost use Rattle.std.specs.Prelude.{◌≡◌, ◌≤◌, ◌<◌, ◌+◌, ◌^◌, [], ◌∷◌, length, IfOk, IfErr};
 ghost use Rattle.ith_host.specs.World.{Stays, NoneFell, AsksNothing};
 ghost use Rattle.machine_spec.specs.Limits.{AreLimits};
 ghost use Rattle.machine_spec.specs.Setup.{IsSetup};
@@ -9,15 +9,15 @@ ghost use Rattle.memo_spec.specs.Spelling.{AreBytes};
 ghost use Rattle.rerun_spec.specs.Inputs.{AreInputs, AreRerunInputs};
 ghost use Rattle.rerun_spec.specs.Rounds as begin;
 ghost use Rattle.round_inputs.specs.Lists.{bytes_of_each};
-ghost use Rattle.ith_words.specs.Words.{Runs, Reruns};
+ghost use Rattle.ith_words.specs.Words.{Runs, Reruns, Shows};
 ghost use Rattle.ith_words.specs.Said.{run_said, rerun_said};
-ghost use Rattle.ith_top.specs.Files.{files_named, AsksForFiles};
-ghost use Rattle.ith_top.specs.Contents.{IsMemoOf, IsRunPlan, IsRerunPlan, limits_for};
+ghost use Rattle.ith_top.specs.Files.{memo_named, files_named, AsksForFiles};
+ghost use Rattle.ith_top.specs.Contents.{IsMemoOf, IsRemembered, IsRunPlan, IsRerunPlan, limits_for, as_show};
 ghost use Rattle.ith_top.specs.Refusals.{WhyNoSetup, WhyNoHistory, WhyUnedited, WhyUnplanned};
 ghost use Rattle.ith_top.specs.Playing.{beginning_said, plan_said, CanBePlayed, CanBeSpelled};
 
 use super::complaints::{NO_MEMORY, edits_line, image_line, memo_line};
-use super::files::{Files, RerunFiles, read_files, read_rerun_files};
+use super::files::{Files, RerunFiles, read_files, read_memo, read_rerun_files};
 use super::status::Status;
 use elf_load::LoadError;
 use elf_spec::MOST_ELF_BYTES;
@@ -80,7 +80,7 @@ pub fn set_up<H: Host>(
 }
 
 /// The history that a memo spells.
-pub fn recall<H: Host>(alloc: Global, host: &mut H, memo: &[u8]) -> Result<History, Status>
+fn recall<H: Host>(alloc: Global, host: &mut H, memo: &[u8]) -> Result<History, Status>
     ensures history { IfOk result (λ h. IsMemoOf memo.now h) }
     ensures refused { IfErr result (λ status. WhyNoHistory memo.now status) }
     ensures asked { AsksNothing (H.world host.old) (H.world host.new) }
@@ -98,6 +98,20 @@ pub fn recall<H: Host>(alloc: Global, host: &mut H, memo: &[u8]) -> Result<Histo
             Err(Status::Memory)
         }
     }
+}
+
+/// The history that the memo of a name spells. What was read of its file is freed.
+pub fn remember<H: Host>(alloc: Global, host: &mut H, name: &str) -> Result<History, Status>
+    ensures history { IfOk result (λ h. IsRemembered (H.world host.old) name.now h) }
+    ensures asked { IfOk result (λ _. AsksForFiles (memo_named name.now ∷ []) (H.world host.old) (H.world host.new)) }
+    ensures refused { IfErr result (λ status. WhyUnplanned (Shows (as_show name.now))
+        (H.world host.old) (H.world host.new) status) }
+    ensures stays { Stays (H.world host.old) (H.world host.new) }
+    ensures counts { NoneFell (H.world host.old) (H.world host.new) }
+{
+    let memo = read_memo(alloc, host, name)?;
+    let history = recall(alloc, host, memo.as_slice())?;
+    Ok(history)
 }
 
 /// The inputs that edit lists make of the first one. The lists have names.

@@ -5,9 +5,8 @@ ghost use Rattle.ith_host.specs.World.{NoneFell, AsksNothing};
 ghost use Rattle.ith_words.specs.Said.{races_said};
 ghost use Rattle.ith_top.specs.Ends.{RacesEnd};
 
-use super::files::read_memo;
 use super::outside::print_text;
-use super::plan::recall;
+use super::plan::remember;
 use super::rounds::no_memory;
 use super::status::Status;
 use ith_host::Host;
@@ -22,11 +21,7 @@ pub const MOST_RACES: usize = 10_000;
 pub fn find_races<H: Host>(alloc: Global, host: &mut H, line: &RacesLine<'_>) -> Status
     ensures { RacesEnd (races_said line.now) (H.world host.old) (H.world host.new) result }
 {
-    let memo = match read_memo(alloc, host, line.memo) {
-        Ok(memo) => memo,
-        Err(status) => return status,
-    };
-    let history = match recall(alloc, host, memo.as_slice()) {
+    let history = match remember(alloc, host, line.memo) {
         Ok(history) => history,
         Err(status) => return status,
     };

@@ -6,9 +6,8 @@ ghost use Rattle.ith_words.specs.Said.{show_said};
 ghost use Rattle.ith_top.specs.Ends.{ShowEnds};
 
 use super::complaints::NO_MEMORY;
-use super::files::read_memo;
 use super::outside::print_text;
-use super::plan::recall;
+use super::plan::remember;
 use super::status::Status;
 use ith_host::Host;
 use ith_words::ShowLine;
@@ -19,11 +18,7 @@ use std::alloc::Global;
 pub fn show<H: Host>(alloc: Global, host: &mut H, line: &ShowLine<'_>) -> Status
     ensures { ShowEnds (show_said line.now) (H.world host.old) (H.world host.new) result }
 {
-    let memo = match read_memo(alloc, host, line.memo) {
-        Ok(memo) => memo,
-        Err(status) => return status,
-    };
-    let history = match recall(alloc, host, memo.as_slice()) {
+    let history = match remember(alloc, host, line.memo) {
         Ok(history) => history,
         Err(status) => return status,
     };

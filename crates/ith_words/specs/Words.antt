@@ -142,44 +142,44 @@ abbrev pub command : Text → List Rule → App
 command name rules = with_rules (new_app name) rules
 
 -- The command that runs a guest: the executable, the input, any number of edit lists, and six options.
-abbrev pub run_command : App
+unfoldable pub run_command : App
 run_command =
     command (codes "run")
     (operand_rule (codes "ELF") ∷ operand_rule (codes "INPUT") ∷ edits_rule ∷ workers_rule ∷ fuel_rule ∷ steps_rule
     ∷ memo_rule ∷ flag_rule (codes "reach") ∷ flag_rule (codes "progress") ∷ [])
 
 -- The command that goes on from a memo: the memo, any number of edit lists, and six options.
-abbrev pub rerun_command : App
+unfoldable pub rerun_command : App
 rerun_command =
     command (codes "rerun")
     (operand_rule (codes "MEMO") ∷ edits_rule ∷ workers_rule ∷ fuel_rule ∷ steps_rule ∷ memo_rule
     ∷ flag_rule (codes "reach") ∷ flag_rule (codes "progress") ∷ [])
 
 -- The command that replays a schedule: three operands, and two options.
-abbrev pub replay_command : App
+unfoldable pub replay_command : App
 replay_command =
     command (codes "replay")
     (operand_rule (codes "ELF") ∷ operand_rule (codes "INPUT") ∷ operand_rule (codes "SCHEDULE") ∷ fuel_rule
     ∷ steps_rule ∷ [])
 
 -- The command that lists a memo: the memo alone.
-abbrev pub show_command : App
+unfoldable pub show_command : App
 show_command = command (codes "show") (operand_rule (codes "MEMO") ∷ [])
 
 -- The command that tells why steps were executed: the memo, and an edit list.
-abbrev pub explain_command : App
+unfoldable pub explain_command : App
 explain_command = command (codes "why") (operand_rule (codes "MEMO") ∷ operand_rule (codes "EDITS") ∷ [])
 
 -- The command that audits a memo: the memo, and an option.
-abbrev pub audit_command : App
+unfoldable pub audit_command : App
 audit_command = command (codes "audit") (operand_rule (codes "MEMO") ∷ workers_rule ∷ [])
 
 -- The command that tells which steps race: the memo alone.
-abbrev pub races_command : App
+unfoldable pub races_command : App
 races_command = command (codes "races") (operand_rule (codes "MEMO") ∷ [])
 
 -- The command that runs the generated guest: a number, and an option.
-abbrev pub generate_command : App
+unfoldable pub generate_command : App
 generate_command = command (codes "gen") (number_operand_rule (codes "NUMBER") MOST_NUMBER ∷ workers_rule ∷ [])
 
 -- The program, which has to be given one of its commands.
@@ -187,16 +187,16 @@ abbrev pub program : App
 program = on_top (λ s. record s { subcommand_required = true }) (new_app (codes "ithreads"))
 
 -- The program and the commands that run a guest which the line names.
-abbrev pub guest_commands : App
+unfoldable pub guest_commands : App
 guest_commands =
     with_subcommand (with_subcommand (with_subcommand program run_command.top) rerun_command.top) replay_command.top
 
 -- The same, and the commands that look at a memo.
-abbrev pub memo_commands : App
+unfoldable pub memo_commands : App
 memo_commands = with_subcommand (with_subcommand guest_commands show_command.top) explain_command.top
 
 -- The same, and the commands that judge the run of a memo.
-abbrev pub judging_commands : App
+unfoldable pub judging_commands : App
 judging_commands = with_subcommand (with_subcommand memo_commands audit_command.top) races_command.top
 
 -- The program's command line: the program and its commands.

@@ -131,6 +131,7 @@ fn command<'a>(
 }
 
 /// The command that runs a guest.
+#[tactic(auto, unfolding(crate::specs::Words::run_command))]
 fn run_command<'a>(alloc: Global) -> Result<Command<'a>, AllocError>
     ensures shape { IfOk result (λ c. app_of c ≡ line.run_command) }
     ensures local { IfOk result (λ c. (out-Command c).has_globals ≡ false) }
@@ -152,6 +153,7 @@ fn run_command<'a>(alloc: Global) -> Result<Command<'a>, AllocError>
 }
 
 /// The command that goes on from a memo.
+#[tactic(auto, unfolding(crate::specs::Words::rerun_command))]
 fn rerun_command<'a>(alloc: Global) -> Result<Command<'a>, AllocError>
     ensures shape { IfOk result (λ c. app_of c ≡ line.rerun_command) }
     ensures local { IfOk result (λ c. (out-Command c).has_globals ≡ false) }
@@ -172,6 +174,7 @@ fn rerun_command<'a>(alloc: Global) -> Result<Command<'a>, AllocError>
 }
 
 /// The command that replays a schedule.
+#[tactic(auto, unfolding(crate::specs::Words::replay_command))]
 fn replay_command<'a>(alloc: Global) -> Result<Command<'a>, AllocError>
     ensures shape { IfOk result (λ c. app_of c ≡ line.replay_command) }
     ensures local { IfOk result (λ c. (out-Command c).has_globals ≡ false) }
@@ -190,6 +193,7 @@ fn replay_command<'a>(alloc: Global) -> Result<Command<'a>, AllocError>
 }
 
 /// The command that lists a memo.
+#[tactic(auto, unfolding(crate::specs::Words::show_command))]
 fn show_command<'a>(alloc: Global) -> Result<Command<'a>, AllocError>
     ensures shape { IfOk result (λ c. app_of c ≡ line.show_command) }
     ensures local { IfOk result (λ c. (out-Command c).has_globals ≡ false) }
@@ -199,6 +203,7 @@ fn show_command<'a>(alloc: Global) -> Result<Command<'a>, AllocError>
 }
 
 /// The command that tells why steps were executed.
+#[tactic(auto, unfolding(crate::specs::Words::explain_command))]
 fn explain_command<'a>(alloc: Global) -> Result<Command<'a>, AllocError>
     ensures shape { IfOk result (λ c. app_of c ≡ line.explain_command) }
     ensures local { IfOk result (λ c. (out-Command c).has_globals ≡ false) }
@@ -216,6 +221,7 @@ fn explain_command<'a>(alloc: Global) -> Result<Command<'a>, AllocError>
 }
 
 /// The command that audits a memo.
+#[tactic(auto, unfolding(crate::specs::Words::audit_command))]
 fn audit_command<'a>(alloc: Global) -> Result<Command<'a>, AllocError>
     ensures shape { IfOk result (λ c. app_of c ≡ line.audit_command) }
     ensures local { IfOk result (λ c. (out-Command c).has_globals ≡ false) }
@@ -228,6 +234,7 @@ fn audit_command<'a>(alloc: Global) -> Result<Command<'a>, AllocError>
 }
 
 /// The command that tells which steps race.
+#[tactic(auto, unfolding(crate::specs::Words::races_command))]
 fn races_command<'a>(alloc: Global) -> Result<Command<'a>, AllocError>
     ensures shape { IfOk result (λ c. app_of c ≡ line.races_command) }
     ensures local { IfOk result (λ c. (out-Command c).has_globals ≡ false) }
@@ -242,6 +249,7 @@ fn races_command<'a>(alloc: Global) -> Result<Command<'a>, AllocError>
 }
 
 /// The command that runs the generated guest.
+#[tactic(auto, unfolding(crate::specs::Words::generate_command))]
 fn generate_command<'a>(alloc: Global) -> Result<Command<'a>, AllocError>
     ensures shape { IfOk result (λ c. app_of c ≡ line.generate_command) }
     ensures local { IfOk result (λ c. (out-Command c).has_globals ≡ false) }
@@ -267,6 +275,7 @@ fn with_command<'a>(above: Command<'a>, below: Command<'a>) -> Result<Command<'a
 }
 
 /// The program and the commands that run a guest which the line names.
+#[tactic(auto, unfolding(crate::specs::Words::guest_commands))]
 fn guest_commands<'a>(alloc: Global) -> Result<Command<'a>, AllocError>
     ensures { IfOk result (λ c. app_of c ≡ line.guest_commands) }
 {
@@ -277,6 +286,7 @@ fn guest_commands<'a>(alloc: Global) -> Result<Command<'a>, AllocError>
 }
 
 /// The same, and the commands that look at a memo.
+#[tactic(auto, unfolding(crate::specs::Words::memo_commands))]
 fn memo_commands<'a>(alloc: Global) -> Result<Command<'a>, AllocError>
     ensures { IfOk result (λ c. app_of c ≡ line.memo_commands) }
 {
@@ -285,6 +295,7 @@ fn memo_commands<'a>(alloc: Global) -> Result<Command<'a>, AllocError>
 }
 
 /// The same, and the commands that judge the run of a memo.
+#[tactic(auto, unfolding(crate::specs::Words::judging_commands))]
 fn judging_commands<'a>(alloc: Global) -> Result<Command<'a>, AllocError>
     ensures { IfOk result (λ c. app_of c ≡ line.judging_commands) }
 {

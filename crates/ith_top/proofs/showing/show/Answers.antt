@@ -2,64 +2,38 @@
 use Rattle.std.proofs.Common.{◌≡◌, ◌∙◌}
 use Rattle.memo_listing.specs.Listing.{listing}
 use Rattle.ith_words.specs.Said.{show_said}
-use Rattle.ith_top.specs.Contents.{IsMemoOf}
 use Rattle.ith_top.specs.Ends.{Prints}
-use Rattle.ith_top.specs.Refusals.{WhyNoHistory, WhyUnprinted}
-use Rattle.ith_top.proofs.Worlds.{stays_trans, none_fell_trans}
-use Rattle.ith_top.proofs.Ending.{show_unread, show_forgotten, show_cut}
-use Rattle.ith_top.proofs.Listed.{shown, unshown}
+use Rattle.ith_top.specs.Refusals.{WhyUnprinted}
+use Rattle.ith_top.proofs.OfMemo.{show_unbegun, show_cut, shown, unshown}
 use Rattle.ith_top.proofs.showing.show.Goals as goal
 
 pub returns-in-Err : goal.returns-in-Err
 returns-in-Err g c =
     let w = g.H.Host.world in
-    show_unread (show_said c.args.line.now) (w c.args.host.now)
-    (w c.read_memo.new.host) c.in-Err.status c.in-Err.ensures.stays c.in-Err.ensures.refused
-
-pub returns-in-Err-recall : goal.returns-in-Err-recall
-returns-in-Err-recall g c =
-    let w = g.H.Host.world in
-    let why : WhyNoHistory c.in-Ok.memo.items c.in-Err-recall.status =
-    rw (← c.as_slice.ensures.value) c.in-Err-recall.ensures.refused in
-    show_forgotten (show_said c.args.line.now) (w c.args.host.now) (w c.read_memo.new.host)
-    (w c.recall.new.host) c.in-Ok.memo.items c.in-Err-recall.status
-    c.in-Ok.ensures.asked c.in-Err-recall.ensures.asked c.in-Ok.ensures.stays c.in-Err-recall.ensures.stays
-    c.in-Ok.ensures.content why
+    show_unbegun (show_said c.args.line.now) (w c.args.host.now) (w c.remember.new.host) c.in-Err.status
+    c.in-Err.ensures.refused
 
 pub returns-in-Err-listing : goal.returns-in-Err-listing
 returns-in-Err-listing g c =
-    let w = g.H.Host.world in let a = w c.args.host.now in let b = w c.read_memo.new.host in let d =
-    w c.recall.new.host in
-    show_cut (show_said c.args.line.now) a d (w c.complain.new.self)
-    (c.in-Ok-recall.ensures.asked ∙ c.in-Ok.ensures.asked) c.complain.ensures.asked
-    (stays_trans a b d c.in-Ok.ensures.stays c.in-Ok-recall.ensures.stays) c.complain.ensures.stays
+    let w = g.H.Host.world in
+    show_cut (show_said c.args.line.now) (w c.args.host.now) (w c.remember.new.host) (w c.complain.new.self)
+    c.in-Ok.ensures.asked c.complain.ensures.asked c.in-Ok.ensures.stays c.complain.ensures.stays
 
 pub returns-in-Ok-print_text : goal.returns-in-Ok-print_text
 returns-in-Ok-print_text g c =
-    let w = g.H.Host.world in let a = w c.args.host.now in let b = w c.read_memo.new.host in let d =
-    w c.recall.new.host in
-    let is : IsMemoOf c.in-Ok.memo.items c.in-Ok-recall.history =
-    rw (← c.as_slice.ensures.value) c.in-Ok-recall.ensures.history in
-    let text : c.as_slice-2.result.now ≡ listing c.in-Ok-recall.history = c.as_slice-2.ensures.value
-    ∙ c.in-Ok-listing.ensures in
-    let prints : Prints d (w c.print_text.new.host) (listing c.in-Ok-recall.history) =
+    let w = g.H.Host.world in let b = w c.remember.new.host in
+    let text : c.as_slice.result.now ≡ listing c.in-Ok.history = c.as_slice.ensures.value ∙ c.in-Ok-listing.ensures in
+    let prints : Prints b (w c.print_text.new.host) (listing c.in-Ok.history) =
     rw (← text) c.in-Ok-print_text.ensures.printed in
-    shown (show_said c.args.line.now) a d (w c.print_text.new.host) c.in-Ok.memo.items c.in-Ok-recall.history
-    (c.in-Ok-recall.ensures.asked ∙ c.in-Ok.ensures.asked) c.in-Ok-print_text.ensures.asked
-    (stays_trans a b d c.in-Ok.ensures.stays c.in-Ok-recall.ensures.stays) c.in-Ok.ensures.content is prints
+    shown (show_said c.args.line.now) (w c.args.host.now) b (w c.print_text.new.host) c.in-Ok.history
+    c.in-Ok.ensures.asked c.in-Ok-print_text.ensures.asked c.in-Ok.ensures.stays c.in-Ok.ensures.history prints
 
 pub returns : goal.returns
 returns g c =
-    let w = g.H.Host.world in let a = w c.args.host.now in let b = w c.read_memo.new.host in let d =
-    w c.recall.new.host in
-    let is : IsMemoOf c.in-Ok.memo.items c.in-Ok-recall.history =
-    rw (← c.as_slice.ensures.value) c.in-Ok-recall.ensures.history in
-    let text : c.as_slice-2.result.now ≡ listing c.in-Ok-recall.history = c.as_slice-2.ensures.value
-    ∙ c.in-Ok-listing.ensures in
-    let why : WhyUnprinted (listing c.in-Ok-recall.history) d (w c.print_text.new.host) c.in-Err-print_text.status =
+    let w = g.H.Host.world in let b = w c.remember.new.host in
+    let text : c.as_slice.result.now ≡ listing c.in-Ok.history = c.as_slice.ensures.value ∙ c.in-Ok-listing.ensures in
+    let why : WhyUnprinted (listing c.in-Ok.history) b (w c.print_text.new.host) c.in-Err-print_text.status =
     rw (← text) c.in-Err-print_text.ensures.refused in
-    unshown (show_said c.args.line.now) a d
-    (w c.print_text.new.host) c.in-Ok.memo.items c.in-Ok-recall.history c.in-Err-print_text.status
-    (c.in-Ok-recall.ensures.asked ∙ c.in-Ok.ensures.asked) c.in-Err-print_text.ensures.asked
-    (stays_trans a b d c.in-Ok.ensures.stays c.in-Ok-recall.ensures.stays)
-    (none_fell_trans a b d c.in-Ok.ensures.counts c.in-Ok-recall.ensures.counts) c.in-Ok.ensures.content is why
+    unshown (show_said c.args.line.now) (w c.args.host.now) b (w c.print_text.new.host) c.in-Ok.history
+    c.in-Err-print_text.status c.in-Ok.ensures.asked c.in-Err-print_text.ensures.asked c.in-Ok.ensures.stays
+    c.in-Ok.ensures.counts c.in-Ok.ensures.history why

@@ -1,19 +1,20 @@
 -- What is left to prove of `Locked::begin`.
-use Rattle.std.proofs.Common.{rules, ap, ◌∙◌}
+use Rattle.std.proofs.Common.{ap, ◌∙◌}
 use Rattle.machine_spec.specs.Setup.{Setup, first}
 use Rattle.round_spec.specs.declared.events.Event.TheVariants.{Stop}
 use Rattle.round_spec.specs.Rounds.{RoundState, happens}
+use Rattle.rerun_workers.proofs.Under.{counted_on, watched_on}
 use Rattle.rerun_workers.proofs.Following.{follows-take, follows-stop, never-begins}
 use Rattle.rerun_workers.proofs.locked.Locked.begin.Goals as goal
 
 pub invariant_of-self : goal.invariant_of-self
 invariant_of-self g c =
     record {
-      counted = search rules;
-      setup = search rules;
-      past = search rules;
-      watched = search rules;
-      counts = search rules;
+      counted = counted_on c.args.self.now.round _ _ c.take.ensures.same c.args.self.now.counted;
+      setup = c.take.ensures.same.setup ∙ c.args.self.now.setup;
+      past = c.take.ensures.same.past ∙ c.args.self.now.past;
+      watched = watched_on c.args.self.now.round _ _ _ c.take.ensures.same c.args.self.now.watched;
+      counts = c.args.self.now.counts;
       follows =
           follows-take g.J.Naming.setup g.J.Naming.past c.args.self.now.round c.take.new.self c.args.t
           (record {
@@ -29,11 +30,13 @@ invariant_of-self g c =
 pub invariant_of-self-in-Err : goal.invariant_of-self-in-Err
 invariant_of-self-in-Err g c =
     record {
-      counted = search rules;
-      setup = search rules;
-      past = search rules;
-      watched = search rules;
-      counts = search rules;
+      counted = counted_on c.take.new.self _ _ c.stop.ensures.same
+          (counted_on c.args.self.now.round _ _ c.take.ensures.same c.args.self.now.counted);
+      setup = c.stop.ensures.same.setup ∙ c.take.ensures.same.setup ∙ c.args.self.now.setup;
+      past = c.stop.ensures.same.past ∙ c.take.ensures.same.past ∙ c.args.self.now.past;
+      watched = watched_on c.take.new.self _ _ _ c.stop.ensures.same
+          (watched_on c.args.self.now.round _ _ _ c.take.ensures.same c.args.self.now.watched);
+      counts = c.args.self.now.counts;
       follows =
           follows-stop g.J.Naming.setup g.J.Naming.past c.args.self.now.round c.stop.new.self
           (record {

@@ -4,6 +4,7 @@ use Rattle.std.specs.Arc.{arc_value}
 use Rattle.std.specs.Bool.{Decides}
 use Rattle.thunk_spec.specs.Thunk.{Frame}
 use Rattle.machine_spec.specs.Setup.{Setup, first}
+use Rattle.rerun_workers.proofs.Under.{watched_on, watched_more}
 use Rattle.rerun_workers.proofs.Following.{IsUnder, follows-commit, follows-give_back, follows-given_up}
 use Rattle.rerun_workers.proofs.locked.Locked.commit.Goals as goal
 
@@ -16,10 +17,10 @@ pub invariant_of-self : goal.invariant_of-self
 invariant_of-self g c =
     record {
       counted = search rules;
-      setup = search rules;
-      past = search rules;
-      watched = search rules;
-      counts = search rules;
+      setup = c.in-Done.ensures.same.setup ∙ c.args.self.now.setup;
+      past = c.in-Done.ensures.same.past ∙ c.args.self.now.past;
+      watched = watched_more c.args.self.now.round _ _ _ _ c.in-Done.ensures.same c.count.ensures.counts c.args.self.now.watched;
+      counts = λ some. c.count.ensures.some ∙ c.args.self.now.counts some;
       follows =
           follows-commit g.J.Naming.setup g.J.Naming.past c.args.self.now.round c.commit_known.new.self
           (arc_value c.args.run.rec).thread
@@ -37,10 +38,10 @@ pub invariant_of-self-in-Stale-1 : goal.invariant_of-self-in-Stale-1
 invariant_of-self-in-Stale-1 g c =
     record {
       counted = search rules;
-      setup = search rules;
-      past = search rules;
-      watched = search rules;
-      counts = search rules;
+      setup = c.in-Stale.ensures.same.setup ∙ c.args.self.now.setup;
+      past = c.in-Stale.ensures.same.past ∙ c.args.self.now.past;
+      watched = watched_on c.args.self.now.round _ _ _ c.in-Stale.ensures.same c.args.self.now.watched;
+      counts = c.args.self.now.counts;
       follows =
           follows-give_back g.J.Naming.setup g.J.Naming.past c.args.self.now.round c.commit_known.new.self
           (arc_value c.args.run.rec).thread
@@ -58,10 +59,11 @@ pub invariant_of-self-in-Memory : goal.invariant_of-self-in-Memory
 invariant_of-self-in-Memory g c =
     record {
       counted = search rules;
-      setup = search rules;
-      past = search rules;
-      watched = search rules;
-      counts = search rules;
+      setup = c.give_up.ensures.same.setup ∙ c.in-Memory.ensures.same.setup ∙ c.args.self.now.setup;
+      past = c.give_up.ensures.same.past ∙ c.in-Memory.ensures.same.past ∙ c.args.self.now.past;
+      watched = watched_on c.commit_known.new.self _ _ _ c.give_up.ensures.same
+          (watched_on c.args.self.now.round _ _ _ c.in-Memory.ensures.same c.args.self.now.watched);
+      counts = c.args.self.now.counts;
       follows =
           follows-given_up g.J.Naming.setup g.J.Naming.past c.commit_known.new.self c.give_up.new.round _
           (subst (IsUnder g.J.Naming.setup g.J.Naming.past) (sym c.in-Memory.ensures.does.2)

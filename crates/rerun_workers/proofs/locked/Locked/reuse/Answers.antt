@@ -1,5 +1,6 @@
 -- What is left to prove of `Locked::reuse`.
-use Rattle.std.proofs.Common.{rules}
+use Rattle.std.proofs.Common.{rules, ◌∙◌}
+use Rattle.rerun_workers.proofs.Under.{watched_more}
 use Rattle.rerun_workers.proofs.Following.{follows-reuse}
 use Rattle.rerun_workers.proofs.locked.Locked.reuse.Goals as goal
 
@@ -7,10 +8,10 @@ pub invariant_of-self-2 : goal.invariant_of-self-2
 invariant_of-self-2 g c =
     record {
       counted = search rules;
-      setup = search rules;
-      past = search rules;
-      watched = search rules;
-      counts = search rules;
+      setup = c.in_ok-reuse.ensures.same.setup ∙ c.args.self.now.setup;
+      past = c.in_ok-reuse.ensures.same.past ∙ c.args.self.now.past;
+      watched = watched_more c.args.self.now.round _ _ _ _ c.in_ok-reuse.ensures.same c.count.ensures.counts c.args.self.now.watched;
+      counts = λ some. c.count.ensures.some ∙ c.args.self.now.counts some;
       follows =
           follows-reuse g.J.Naming.setup g.J.Naming.past c.args.self.now.round c.reuse.new.self c.args.t
           (record {

@@ -1,16 +1,17 @@
 -- What is left to prove of `Locked::stop`.
-use Rattle.std.proofs.Common.{rules}
+use Rattle.std.proofs.Common.{◌∙◌}
+use Rattle.rerun_workers.proofs.Under.{counted_on, watched_on}
 use Rattle.rerun_workers.proofs.Following.{follows-stop}
 use Rattle.rerun_workers.proofs.locked.Locked.stop.Goals as goal
 
 pub invariant_of-self : goal.invariant_of-self
 invariant_of-self g c =
     record {
-      counted = search rules;
-      setup = search rules;
-      past = search rules;
-      watched = search rules;
-      counts = search rules;
+      counted = counted_on c.args.self.now.round _ _ c.stop.ensures.same c.args.self.now.counted;
+      setup = c.stop.ensures.same.setup ∙ c.args.self.now.setup;
+      past = c.stop.ensures.same.past ∙ c.args.self.now.past;
+      watched = watched_on c.args.self.now.round _ _ _ c.stop.ensures.same c.args.self.now.watched;
+      counts = c.args.self.now.counts;
       follows =
           follows-stop g.J.Naming.setup g.J.Naming.past c.args.self.now.round c.stop.new.self
           (record {

@@ -1,0 +1,34 @@
+-- Why no history was had from the memo of a name.
+use Rattle.std.proofs.Common.{◌∙◌}
+use Rattle.std.proofs.lemmas.Result.{err_from_is_err_and}
+use Rattle.ith_words.specs.Words.{Shows}
+use Rattle.ith_top.specs.Contents.{IsMemoOf, as_show}
+use Rattle.ith_top.specs.Refusals.{WhyNoHistory}
+use Rattle.ith_top.proofs.Ending.{unread_ends, unremembered}
+use Rattle.ith_top.proofs.plan.remember.Goals as goal
+
+pub returns-in_err-memo-clause-refused : goal.returns-in_err-memo-clause-refused
+returns-in_err-memo-clause-refused g c =
+    let w = g.H.Host.world in
+    let p = err_from_is_err_and c.from_residual.result c.from_residual.ensures.1 in
+    rw (p.1, p.2)
+    (unread_ends (Shows (as_show c.args.name.now)) (w c.args.host.now) (w c.read_memo.new.host)
+    c.in_err-memo.field-0.0 c.in_err-memo.ensures.stays c.in_err-memo.ensures.refused)
+
+pub returns-in_err-history-clause-refused : goal.returns-in_err-history-clause-refused
+returns-in_err-history-clause-refused g c =
+    let w = g.H.Host.world in
+    let why : WhyNoHistory c.in_ok-memo.memo.items c.in_err-history.field-0.0 =
+    rw (← c.as_slice.ensures.value) c.in_err-history.ensures.refused in
+    let p = err_from_is_err_and c.from_residual-in_err-history.result c.from_residual-in_err-history.ensures.1 in
+    rw (p.1, p.2)
+    (unremembered c.args.name.now (w c.args.host.now) (w c.read_memo.new.host) (w c.recall.new.host)
+    c.in_ok-memo.memo.items c.in_err-history.field-0.0
+    c.in_ok-memo.ensures.asked c.in_err-history.ensures.asked c.in_ok-memo.ensures.stays c.in_err-history.ensures.stays
+    c.in_ok-memo.ensures.content why)
+
+pub returns-clause-history : goal.returns-clause-history
+returns-clause-history g c =
+    let is : IsMemoOf c.in_ok-memo.memo.items c.in_ok-history.history =
+    rw (← c.as_slice.ensures.value) c.in_ok-history.ensures.history in
+    record { memo = c.in_ok-memo.memo.items; read = c.in_ok-memo.ensures.content; accepted = is }
