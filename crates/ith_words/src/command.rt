@@ -279,7 +279,11 @@ fn with_command<'a>(above: Command<'a>, below: Command<'a>) -> Result<Command<'a
 fn guest_commands<'a>(alloc: Global) -> Result<Command<'a>, AllocError>
     ensures { IfOk result (λ c. app_of c ≡ line.guest_commands) }
 {
-    let program = Command::new(alloc, "ithreads").subcommand_required(true);
+    let about =
+        "Runs a guest, and after an edit of its input what the edit reaches: see ithreads(1)";
+    let program = Command::new(alloc, "ithreads")
+        .about(about)
+        .subcommand_required(true);
     let program = with_command(program, run_command(alloc)?)?;
     let program = with_command(program, rerun_command(alloc)?)?;
     with_command(program, replay_command(alloc)?)

@@ -1,5 +1,4 @@
 -- Why no history was had from the memo of a name.
-use Rattle.std.proofs.Common.{◌∙◌}
 use Rattle.std.proofs.lemmas.Result.{err_from_is_err_and}
 use Rattle.ith_words.specs.Words.{Shows}
 use Rattle.ith_top.specs.Contents.{IsMemoOf, as_show}
