@@ -9,7 +9,7 @@ import re
 
 MIB = 1 << 20
 LIMITS = {"an executable": 16 * MIB, "an input, an edit list or a schedule": MIB, "a memo": 256 * MIB}
-BUILD = "guest/build FILE.c, or guest/build --libc FILE.c, builds one that is taken"
+BUILD = "guest/build FILE.c, or guest/build --libc FILE.c, builds one that ithreads runs"
 AGAIN = "make the memo again by `ithreads run .. --memo FILE`"
 CAUSES = {
     0: "jumps to an address that isn't a multiple of 4: a function pointer or a return address is wrong",
