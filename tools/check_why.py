@@ -8,8 +8,8 @@ behind that guest here.
   - An executable that is cut, has no symbols, or other code, is refused with a line.
   - Where there is clang with lld and llvm-symbolizer, lines of a C file are named.
   - With a C library, the guest's own lines are told, and the one that allocated a block.
-  - What docs/GUESTS.md shows of three edits is what the program prints for the committed executable, and the tool
-    where the guest that is built here is that one; so is the summary that tools/README.md shows.
+  - What docs/GUESTS.md shows of three edits is what the program prints for the committed executable. The names in it
+    are compared by tools/check_documents.py.
 """
 import os
 import re
@@ -285,8 +285,8 @@ def is_shown(printed, block):
 
 
 def check_guide(checks):
-    """The edits of the guide's walk: with the committed executable, and built as it says."""
-    memo, built = checks.folder / "orders.memo", checks.folder / "orders.elf"
+    """The edits of the guide's walk, with the committed executable."""
+    memo = checks.folder / "orders.memo"
     told = re.findall(r"^tools/why orders\.memo (\S+) --symbols orders\.elf\n```\n.*?^```\n(why [0-9]+\n.*?)^```$",
                       (ROOT / "docs/GUESTS.md").read_text(), flags=re.S | re.M)
     checks.expect(f"docs/GUESTS.md has the reasons of three edits, {len(told)}", len(told) == 3)
@@ -295,28 +295,6 @@ def check_guide(checks):
         _, printed, said = program("why", memo, ROOT / edits)
         plain = "".join(line for line in block.splitlines(True) if not line.startswith("    "))
         checks.expect(f"docs/GUESTS.md has the reasons of {edits}: {said}", is_shown(printed, plain))
-    if not (shutil.which("clang") and shutil.which("ld.lld") and shutil.which("llvm-symbolizer")):
-        print("skipped: the names that docs/GUESTS.md shows, since there is no clang with lld and llvm-symbolizer")
-        return
-    ran_whole(str(ROOT / "guest/build"), "--symbols", str(WALK / "first.c"), str(built))
-    for edits, block in told:
-        status, printed, said = tool("why", memo, ROOT / edits, "--symbols", built)
-        if status == 2 and "isn't the memo's guest" in said:
-            print(f"skipped: the names that docs/GUESTS.md shows of {edits}: clang writes another guest here")
-        else:
-            checks.expect(f"docs/GUESTS.md has the names of {edits}: {status} {said}", is_shown(printed, block))
-    check_shown_summary(checks, memo, built)
-
-
-def check_shown_summary(checks, memo, built):
-    """The summary that the guide shows."""
-    shown = re.search(r"^tools/why orders\.memo (\S+) --symbols orders\.elf --summary\n```\n.*?^```\n"
-                      r"(why [0-9]+\n.*?)^```$", (ROOT / "tools/README.md").read_text(), flags=re.S | re.M)
-    status, printed, said = tool("why", memo, ROOT / shown.group(1), "--symbols", built, "--summary")
-    if status == 2 and "isn't the memo's guest" in said:
-        print("skipped: the summary that tools/README.md shows: clang writes another guest here")
-    else:
-        checks.expect(f"tools/README.md has the summary: {status} {said}", printed.decode() == shown.group(2))
 
 
 def check(checks):
