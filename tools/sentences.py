@@ -166,6 +166,11 @@ LINES = [
      "that of the run"),
     (r"false (\d+)",
      f"record {{1}} of the memo, counted from 0, isn't what its step does: another program wrote or changed it; {AGAIN}"),
+    (r"words: error: unexpected argument '--version' .*",
+     "the version isn't printed: the manual page has it, `man ithreads`, and in the repository the file VERSION"),
+    (r"words: error: invalid value .* for '--.*",
+     "--workers is from 1 to 16, --fuel, the most instructions of a step, from 1 to 16777216, and --steps, the most steps "
+     "of a run, from 1 to 65536"),
     (r"words: .*", "the command line isn't understood; `./ithreads --help` shows the commands and their options"),
     (r"end exit (\d+)", exited),
     (r"end trap (\d+) ([0-9a-f]{8}) ([0-8])", trap),
