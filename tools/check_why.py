@@ -56,6 +56,14 @@ step 10 thread 0 number 4 page 00011000 at 16 now 1 was 0 by 8
     stored by step 8, of thread 2, from main on
 step 12 thread 0 number 6 none
 """
+# Two threads read a third one's stack, each in a function of its own: one row, and one change.
+SHARED = """\
+why 3
+step 5 thread 2 number 1 page d001f000 at 4092 now 8 was 7 by start
+step 7 thread 2 number 2 page d001f000 at 4092 now 8 was 7 by 5
+step 9 thread 0 number 3 page d001f000 at 4092 now 13 was 12 by 5
+"""
+SHARED_TOLD = "1. 3 steps, 13 instructions: threads share data on the stack of thread 1: worker stores there, and "
 MANY, SECONDS = 22_000, 8  # steps, and how much of a processor's time they may take; two seconds is what they take
 ROW = re.compile(r" *([0-9,]+) +([0-9,]+)  (?:[0-9a-f]{8}(?: [+][0-9]+)?|-|) .*")
 LIBRARY_FILE = b"""#include <pthread.h>
@@ -199,6 +207,9 @@ def check_summary(checks, place, memo, guest):
                       status == 0 and counted == len(lines) and spent < SECONDS)
     status, printed, said = place.ran("why 0\n", 0, "", memo, "e", "--summary")
     checks.expect(f"a summary of nothing: {printed}", (status, printed) == (0, b"why 0\n"))
+    status, printed, said = place.ran(SHARED, 0, "", memo, "e", "--symbols", guest, "--summary")
+    told = " ".join(printed.decode().split())
+    checks.expect(f"a summary of a stack that threads share: {status} {said} {told}", status == 0 and SHARED_TOLD in told)
 
 
 def check_library(checks):
