@@ -246,7 +246,7 @@ END {
     for (k = 1; k <= unseen && count; k++)
         missing(implicit[k], place[k])
     words["atomic"] = "There are no atomic variables. What several threads change is under a mutex."
-    words["other"] = libc ? "Neither the files nor the library have it. Give guest/build the file that has it, too; of threads there is what guest/include/pthread.h declares." : "Neither the files nor ithreads.h have it. With --libc there is a C library."
+    words["other"] = libc ? "Neither the files nor the library have it. Give guest/build the file that has it, too. Of POSIX threads, a guest has what guest/include/pthread.h declares." : "Neither the files nor ithreads.h have it. With --libc there is a C library."
     for (k = 1; k <= count; k++) {
         name = names[k]
         group = name ~ /^__(atomic|sync)_/ ? "atomic" : name in gap ? gap[name] : "other"
@@ -270,5 +270,5 @@ END {
     if (wide)
         say("build:", "a number has 64 bits at most. Put a larger one together from several.")
     if (undeclared)
-        say("build:", "of threads there is what guest/include/pthread.h declares.")
+        say("build:", "of POSIX threads, a guest has what guest/include/pthread.h declares.")
 }

@@ -2,7 +2,7 @@
 
   - Each refusal of an executable, a memo, an edit list, a schedule, and each line of a status that docs/FORMATS.md has,
     has a sentence; so has each end. A line that is none of these is refused.
-  - Lines of the program, of files that are made wrong here, and what is said of these files.
+  - Lines of the program, of words and files that are made wrong here, and what is said of them.
   - With --guest, of runs of small guests: who waits for whom, the address of a trap and what is there, which limit was
     reached, and whose stack was too small. A report of another guest is found out.
   - A guest that prints and then traps loses what it printed, but for `guest/build --unbuffered`.
@@ -98,6 +98,14 @@ def kinds_of(text):
     """The refusals of executables."""
     table = text[text.index("| refusal | exactly if |"):].split("\n\n")[0]
     return [written(row.split("|")[1].strip()) for row in table.split("\n")[2:]]
+
+
+def check_words(checks):
+    """What is said of words that aren't taken."""
+    for words, wanted in ((["--version"], "file VERSION"), (["gen", "1", "--workers", "17"], "--workers is from 1 to 16,"),
+                          (["run"], "--help` shows")):
+        said = sentences.explained(program(*words)[2])
+        checks.expect(f"what is said of the words {words}: {said}", wanted in said)
 
 
 def check_table(checks):
@@ -226,6 +234,7 @@ def check_unbuffered(checks):
 
 def check(checks):
     check_table(checks)
+    check_words(checks)
     check_tools(checks)
     check_files(checks)
     check_guests(checks)

@@ -8,8 +8,8 @@ behind that guest here.
   - An executable that is cut, has no symbols, or other code, is refused with a line.
   - Where there is clang with lld and llvm-symbolizer, lines of a C file are named.
   - With a C library, the guest's own lines are told, and the one that allocated a block.
-  - What docs/GUESTS.md shows of three edits is what the program prints for the committed executable, and the tool
-    where the guest that is built here is that one; so is the summary that tools/README.md shows.
+  - What docs/GUESTS.md shows of three edits is what the program prints for the committed executable. The names in it
+    are compared by tools/check_documents.py.
 """
 import os
 import re
@@ -56,6 +56,14 @@ step 10 thread 0 number 4 page 00011000 at 16 now 1 was 0 by 8
     stored by step 8, of thread 2, from main on
 step 12 thread 0 number 6 none
 """
+# Two threads read a third one's stack, each in a function of its own: one row, and one change.
+SHARED = """\
+why 3
+step 5 thread 2 number 1 page d001f000 at 4092 now 8 was 7 by start
+step 7 thread 2 number 2 page d001f000 at 4092 now 8 was 7 by 5
+step 9 thread 0 number 3 page d001f000 at 4092 now 13 was 12 by 5
+"""
+SHARED_TOLD = "1. 3 steps, 13 instructions: threads share data on the stack of thread 1: worker stores there, and "
 MANY, SECONDS = 22_000, 8  # steps, and how much of a processor's time they may take; two seconds is what they take
 ROW = re.compile(r" *([0-9,]+) +([0-9,]+)  (?:[0-9a-f]{8}(?: [+][0-9]+)?|-|) .*")
 LIBRARY_FILE = b"""#include <pthread.h>
@@ -199,6 +207,9 @@ def check_summary(checks, place, memo, guest):
                       status == 0 and counted == len(lines) and spent < SECONDS)
     status, printed, said = place.ran("why 0\n", 0, "", memo, "e", "--summary")
     checks.expect(f"a summary of nothing: {printed}", (status, printed) == (0, b"why 0\n"))
+    status, printed, said = place.ran(SHARED, 0, "", memo, "e", "--symbols", guest, "--summary")
+    told = " ".join(printed.decode().split())
+    checks.expect(f"a summary of a stack that threads share: {status} {said} {told}", status == 0 and SHARED_TOLD in told)
 
 
 def check_library(checks):
@@ -285,8 +296,8 @@ def is_shown(printed, block):
 
 
 def check_guide(checks):
-    """The edits of the guide's walk: with the committed executable, and built as it says."""
-    memo, built = checks.folder / "orders.memo", checks.folder / "orders.elf"
+    """The edits of the guide's walk, with the committed executable."""
+    memo = checks.folder / "orders.memo"
     told = re.findall(r"^tools/why orders\.memo (\S+) --symbols orders\.elf\n```\n.*?^```\n(why [0-9]+\n.*?)^```$",
                       (ROOT / "docs/GUESTS.md").read_text(), flags=re.S | re.M)
     checks.expect(f"docs/GUESTS.md has the reasons of three edits, {len(told)}", len(told) == 3)
@@ -295,28 +306,6 @@ def check_guide(checks):
         _, printed, said = program("why", memo, ROOT / edits)
         plain = "".join(line for line in block.splitlines(True) if not line.startswith("    "))
         checks.expect(f"docs/GUESTS.md has the reasons of {edits}: {said}", is_shown(printed, plain))
-    if not (shutil.which("clang") and shutil.which("ld.lld") and shutil.which("llvm-symbolizer")):
-        print("skipped: the names that docs/GUESTS.md shows, since there is no clang with lld and llvm-symbolizer")
-        return
-    ran_whole(str(ROOT / "guest/build"), "--symbols", str(WALK / "first.c"), str(built))
-    for edits, block in told:
-        status, printed, said = tool("why", memo, ROOT / edits, "--symbols", built)
-        if status == 2 and "isn't the memo's guest" in said:
-            print(f"skipped: the names that docs/GUESTS.md shows of {edits}: clang writes another guest here")
-        else:
-            checks.expect(f"docs/GUESTS.md has the names of {edits}: {status} {said}", is_shown(printed, block))
-    check_shown_summary(checks, memo, built)
-
-
-def check_shown_summary(checks, memo, built):
-    """The summary that the guide shows."""
-    shown = re.search(r"^tools/why orders\.memo (\S+) --symbols orders\.elf --summary\n```\n.*?^```\n"
-                      r"(why [0-9]+\n.*?)^```$", (ROOT / "tools/README.md").read_text(), flags=re.S | re.M)
-    status, printed, said = tool("why", memo, ROOT / shown.group(1), "--symbols", built, "--summary")
-    if status == 2 and "isn't the memo's guest" in said:
-        print("skipped: the summary that tools/README.md shows: clang writes another guest here")
-    else:
-        checks.expect(f"tools/README.md has the summary: {status} {said}", printed.decode() == shown.group(2))
 
 
 def check(checks):

@@ -9,7 +9,7 @@ import re
 
 MIB = 1 << 20
 LIMITS = {"an executable": 16 * MIB, "an input, an edit list or a schedule": MIB, "a memo": 256 * MIB}
-BUILD = "guest/build FILE.c, or guest/build --libc FILE.c, builds one that is taken"
+BUILD = "guest/build FILE.c, or guest/build --libc FILE.c, builds one that ithreads runs"
 AGAIN = "make the memo again by `ithreads run .. --memo FILE`"
 CAUSES = {
     0: "jumps to an address that isn't a multiple of 4: a function pointer or a return address is wrong",
@@ -166,6 +166,11 @@ LINES = [
      "that of the run"),
     (r"false (\d+)",
      f"record {{1}} of the memo, counted from 0, isn't what its step does: another program wrote or changed it; {AGAIN}"),
+    (r"words: error: unexpected argument '--version' .*",
+     "the version isn't printed: the manual page has it, `man ithreads`, and in the repository the file VERSION"),
+    (r"words: error: invalid value .* for '--.*",
+     "--workers is from 1 to 16, --fuel, the most instructions of a step, from 1 to 16777216, and --steps, the most steps "
+     "of a run, from 1 to 65536"),
     (r"words: .*", "the command line isn't understood; `./ithreads --help` shows the commands and their options"),
     (r"end exit (\d+)", exited),
     (r"end trap (\d+) ([0-9a-f]{8}) ([0-8])", trap),

@@ -4,6 +4,7 @@ these have, and which changes of the guest would save most.
 A step counts for the first thing that differs, which its line has. Its instructions are those of its record, so of the
 run before; of a step without a record none are known.
 """
+import re
 import textwrap
 from collections import Counter
 from dataclasses import dataclass, field
@@ -36,8 +37,8 @@ KINDS = {
                  "for what one thread or one block of the input needs. {where} reads it."),
     "stack": Kind("move what {function} computes from its stack to a structure on {own_page}, one for each thread or "
                   "block of the input.", True),
-    "shared stack": Kind("threads share data on {name}{by}, and {where} reads its page. Make the data static, or take "
-                         "it from malloc, each thread's part on {own_page}.", True),
+    "shared stack": Kind("threads share data on {name}: {storing}{where} reads its page. Make the data static, or take "
+                         "it from malloc, each thread's part on {own_page}."),
     "register": Kind("{where} keeps a value in {name} from call to call: a count, a total, a pointer or a result. Store "
                      "it before the call, on {own_page}, and load it when it is needed.", True),
     "length": Kind("{where} asks for the input's length. Ask in one thread only, and store what the others need to know "
@@ -93,6 +94,11 @@ class Row:
 
 def most_of(places):
     return places.most_common(1)[0][0] if places else None
+
+
+def in_sentence(text):
+    """A place, or a name that has one, as it is told in a sentence: with the line in parentheses."""
+    return re.sub(r", ([^ ,]+:[0-9]+)", r" (\1)", text)
 
 
 def function_of(place):
@@ -191,8 +197,8 @@ def advice_for(row):
 
 def advice(row):
     """The change that saves a row's steps, if they don't need what differs."""
-    where, stored = row.where() or "a step", most_of(row.stored)
-    by = f", which {stored} stores," if stored else ""
+    where, stored = in_sentence(row.where() or "a step"), in_sentence(most_of(row.stored) or "")
+    by, storing = (f", which {stored} stores,", f"{stored} stores there, and ") if stored else ("", "")
     beside = ", ".join(row.beside[:MOST_BESIDE]) + (", .." if row.beside[MOST_BESIDE:] else "")
-    return advice_for(row).format(name=row.name, by=by, where=where, function=function_of(where), beside=beside,
-                                  own_page=OWN_PAGE)
+    return advice_for(row).format(name=in_sentence(row.name), by=by, storing=storing, where=where, beside=beside,
+                                  own_page=OWN_PAGE, function=function_of(row.where() or "a step"))
