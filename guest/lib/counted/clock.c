@@ -229,9 +229,10 @@ static void sleep_until(struct timespec then)
 {
     struct it_wait wait = it_begin_wait(then);
     it_ordered_call(IT_CALL_YIELD, 0, 0);
-    while (it_wait_on(&wait))
+    while (!it_is_cancelled() && it_wait_on(&wait))
         ;
     it_end_wait(&wait, 1);
+    it_end_if_cancelled();
 }
 
 static void sleep_for(struct timespec length)

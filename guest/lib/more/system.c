@@ -6,6 +6,7 @@
 #include <semaphore.h>
 #include <stdio.h>
 #include <string.h>
+#include <sys/utsname.h>
 #include <unistd.h>
 #include "../library.h"
 
@@ -135,3 +136,11 @@ IT_REPLACEABLE int gethostname(char *name, size_t size)
     memcpy(name, own, sizeof own);
     return 0;
 }
+
+IT_REPLACEABLE int uname(struct utsname *name)
+{
+    *name = (struct utsname) { "ithreads", "guest", "1", "1", "riscv32" };
+    return 0;
+}
+
+IT_GIVES(int, getdtablesize, (void), (int)sysconf(_SC_OPEN_MAX))

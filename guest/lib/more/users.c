@@ -40,3 +40,56 @@ IT_REPLACEABLE char *getlogin(void)
 {
     return name;
 }
+
+/* ---------------------------------------------------------------------------------------------- the list of all ---- */
+
+static int user_told, group_told;
+
+IT_REPLACEABLE void setpwent(void)
+{
+    user_told = 0;
+}
+
+IT_REPLACEABLE void endpwent(void)
+{
+    user_told = 0;
+}
+
+IT_REPLACEABLE struct passwd *getpwent(void)
+{
+    return user_told++ ? NULL : getpwuid(getuid());
+}
+
+IT_REPLACEABLE void setgrent(void)
+{
+    group_told = 0;
+}
+
+IT_REPLACEABLE void endgrent(void)
+{
+    group_told = 0;
+}
+
+IT_REPLACEABLE struct group *getgrent(void)
+{
+    return group_told++ ? NULL : getgrgid(getgid());
+}
+
+/* ---------------------------------------------------------------------------------------------- with memory of one's own ---- */
+
+/* The texts are constants, so that nothing is kept in the caller's memory but the entry. */
+#define BY_VALUE(function, type, key, by)                                                                              \
+    IT_REPLACEABLE int function(key, type *entry, char *memory, size_t size, type **found)                             \
+    {                                                                                                                  \
+        (void)memory, (void)size;                                                                                      \
+        const type *one = by;                                                                                          \
+        if (one)                                                                                                       \
+            *entry = *one;                                                                                             \
+        *found = one ? entry : NULL;                                                                                   \
+        return 0;                                                                                                      \
+    }
+
+BY_VALUE(getpwuid_r, struct passwd, uid_t wanted, getpwuid(wanted))
+BY_VALUE(getpwnam_r, struct passwd, const char *wanted, getpwnam(wanted))
+BY_VALUE(getgrgid_r, struct group, gid_t wanted, getgrgid(wanted))
+BY_VALUE(getgrnam_r, struct group, const char *wanted, getgrnam(wanted))
