@@ -3,7 +3,8 @@
    process ends the guest with a message and the code 128 + the number. A wild access or a division by zero is no signal.
 
    A thread takes a signal of its own, or of the process, before the call returns that sends it, unless it blocks it. A
-   signal to another thread waits until that thread calls a function of this header: nothing interrupts a thread.
+   signal to another thread waits until that thread calls a function of this header or sleeps: nothing interrupts a
+   thread.
 
    An answer is 0; or -1, and errno says why. */
 #ifndef _SIGNAL_H_

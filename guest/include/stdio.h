@@ -25,6 +25,9 @@ void flockfile(FILE *stream);
 int ftrylockfile(FILE *stream);
 void funlockfile(FILE *stream);
 
+/* *text and *size are those of now after each fflush and fclose. */
+FILE *open_memstream(char **text, size_t *size);
+
 int renameat(int directory, const char *old, int other, const char *name);
 
 int getw(FILE *stream);

@@ -107,7 +107,14 @@ void it_keep_scheduling(unsigned thread, unsigned scheduling);
 /* Whether a thread is detached; where guest/build sets IT_DETACHED. */
 int it_is_detached(unsigned thread);
 
-/* The signals that the thread blocks, and SIGABRT for a program that catches it; where guest/build sets IT_SIGNALS. */
+/* Takes the signals that wait for the thread, and answers whether a handler was called; the signals that the thread
+   blocks; and SIGABRT for a program that catches it. guest/build sets IT_SIGNALS where a program handles or blocks
+   signals. */
+#ifdef IT_SIGNALS
+int it_take_signals(void);
+#else
+static inline int it_take_signals(void) { return 0; }
+#endif
 unsigned long long it_blocked_signals(void);
 void it_block_signals(unsigned long long set);
 void it_raise_abort(void);

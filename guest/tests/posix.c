@@ -56,6 +56,22 @@ static void streams(void)
     tell("no such descriptor", (int)writev(77, pieces, 3));
 }
 
+static void memory(void)
+{
+    char *text;
+    size_t size;
+    FILE *stream = open_memstream(&text, &size);
+    fprintf(stream, "hello");
+    fflush(stream);
+    printf("%s, %d\n", text, (int)size);
+    for (int k = 0; k < 100; k++)
+        fprintf(stream, " %d", k);
+    fputc('!', stream);
+    printf("closed %d\n", fclose(stream));
+    printf("%s, %d\n", text, (int)size);
+    free(text);
+}
+
 static void texts(void)
 {
     wchar_t wide[8] = { 0 };
@@ -105,6 +121,7 @@ int main(void)
     pthread_t one, other;
     search();
     streams();
+    memory();
     texts();
     system_has();
     pthread_create(&one, NULL, prints, "a");

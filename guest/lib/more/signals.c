@@ -167,6 +167,16 @@ static void take_all(void)
         handle(&info);
 }
 
+#ifdef IT_SIGNALS
+int it_take_signals(void)
+{
+    unsigned already = caught;
+    if (all.count)
+        take_all();
+    return caught != already;
+}
+#endif
+
 /* ---------------------------------------------------------------------------------------------- sending ---- */
 
 static int put_in(unsigned thread, const siginfo_t *info)
