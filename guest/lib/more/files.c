@@ -235,24 +235,12 @@ IT_REPLACEABLE int flock(int descriptor, int operation)
     return of_open(descriptor, EINVAL);
 }
 
-/* Each piece is written whole, or an error ends all. */
-IT_REPLACEABLE ssize_t writev(int descriptor, const struct iovec *pieces, int count)
+/* One piece after the other, until one isn't whole. */
+static ssize_t each(int descriptor, const struct iovec *pieces, int count, ssize_t (*transfer)(int, void *, size_t))
 {
     ssize_t all = 0;
     for (int k = 0; k < count; k++) {
-        ssize_t some = write(descriptor, pieces[k].iov_base, pieces[k].iov_len);
-        if (some < 0)
-            return -1;
-        all += some;
-    }
-    return all;
-}
-
-IT_REPLACEABLE ssize_t readv(int descriptor, const struct iovec *pieces, int count)
-{
-    ssize_t all = 0;
-    for (int k = 0; k < count; k++) {
-        ssize_t some = read(descriptor, pieces[k].iov_base, pieces[k].iov_len);
+        ssize_t some = transfer(descriptor, pieces[k].iov_base, pieces[k].iov_len);
         if (some < 0)
             return -1;
         all += some;
@@ -261,6 +249,16 @@ IT_REPLACEABLE ssize_t readv(int descriptor, const struct iovec *pieces, int cou
     }
     return all;
 }
+
+static ssize_t put_out(int descriptor, void *bytes, size_t count)
+{
+    return write(descriptor, bytes, count);
+}
+
+IT_GIVES(ssize_t, writev, (int descriptor, const struct iovec *pieces, int count),
+         each(descriptor, pieces, count, put_out))
+IT_GIVES(ssize_t, readv, (int descriptor, const struct iovec *pieces, int count),
+         each(descriptor, pieces, count, read))
 
 IT_REPLACEABLE int lockf(int descriptor, int command, off_t length)
 {

@@ -43,37 +43,21 @@ IT_REPLACEABLE char *getlogin(void)
 
 /* ---------------------------------------------------------------------------------------------- the list of all ---- */
 
-static int user_told, group_told;
+/* A list of one. */
+#define LIST(told, get, set, end, type, one)                                                                           \
+    static int told;                                                                                                   \
+    IT_REPLACEABLE void set(void)                                                                                      \
+    {                                                                                                                  \
+        told = 0;                                                                                                      \
+    }                                                                                                                  \
+    IT_REPLACEABLE void end(void)                                                                                      \
+    {                                                                                                                  \
+        told = 0;                                                                                                      \
+    }                                                                                                                  \
+    IT_GIVES(type *, get, (void), told++ ? NULL : one)
 
-IT_REPLACEABLE void setpwent(void)
-{
-    user_told = 0;
-}
-
-IT_REPLACEABLE void endpwent(void)
-{
-    user_told = 0;
-}
-
-IT_REPLACEABLE struct passwd *getpwent(void)
-{
-    return user_told++ ? NULL : getpwuid(getuid());
-}
-
-IT_REPLACEABLE void setgrent(void)
-{
-    group_told = 0;
-}
-
-IT_REPLACEABLE void endgrent(void)
-{
-    group_told = 0;
-}
-
-IT_REPLACEABLE struct group *getgrent(void)
-{
-    return group_told++ ? NULL : getgrgid(getgid());
-}
+LIST(user_told, getpwent, setpwent, endpwent, struct passwd, getpwuid(getuid()))
+LIST(group_told, getgrent, setgrent, endgrent, struct group, getgrgid(getgid()))
 
 /* ---------------------------------------------------------------------------------------------- with memory of one's own ---- */
 
