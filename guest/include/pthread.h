@@ -1,7 +1,7 @@
 /* POSIX threads for guests with a C library: what of POSIX.1-2017 <pthread.h> this machine has. Each function is that
    of the same name in POSIX.1-2017, System Interfaces; the comments say what it answers here. What isn't declared isn't
-   there: cancelling, robust mutexes, and a read lock that is only tried or waited for up to a time. Other waits with a
-   time are there with `guest/build --time counted` alone. Names that end in _np or _NP are Linux's.
+   there: robust mutexes. Waits with a time are there with `guest/build --time counted` alone. Names that end in _np or
+   _NP are Linux's.
 
    Answers are 0 or one of errno.h's numbers, and errno isn't set. A program has at most 32 threads, ended ones and
    main's counted, and of mutexes, conditions, semaphores, barriers and reader-writer locks 63 of each at once. A mutex, a
@@ -150,13 +150,16 @@ int pthread_yield(void);
 int pthread_setname_np(pthread_t thread, const char *name);
 int pthread_getname_np(pthread_t thread, char *name, size_t size);
 
-/* pthread_cancel isn't there, so nothing is cancelled. The caller's state and type are kept; others than these are
-   EINVAL. */
+/* A cancelled thread ends, as by pthread_exit(PTHREAD_CANCELED), where it waits for a condition, a semaphore or a
+   thread's end, sleeps, or calls pthread_testcancel, which then ends a step. Reading and printing don't end it. With the
+   asynchronous type it also ends at sched_yield; nothing interrupts a thread. Each answers 0; ESRCH: there can't be such
+   a thread; EINVAL: another state or type than these. */
 #define PTHREAD_CANCEL_ENABLE 0
 #define PTHREAD_CANCEL_DISABLE 1
 #define PTHREAD_CANCEL_DEFERRED 0
 #define PTHREAD_CANCEL_ASYNCHRONOUS 1
 #define PTHREAD_CANCELED ((void *)-1)
+int pthread_cancel(pthread_t thread);
 int pthread_setcancelstate(int state, int *old);
 int pthread_setcanceltype(int type, int *old);
 void pthread_testcancel(void);
@@ -365,7 +368,15 @@ int pthread_rwlock_wrlock(pthread_rwlock_t *lock);
 /* Answers 0; EBUSY: somebody holds it, maybe the caller. */
 int pthread_rwlock_trywrlock(pthread_rwlock_t *lock);
 
-/* Yields until the lock is the caller's alone. Answers 0; ETIMEDOUT: the time is over; EINVAL: it is no time. */
+/* Answers 0; EBUSY: somebody writes, or waits to write. The machine can't try to read: in a program that calls this, or a
+   form of rdlock with a time, a lock is a mutex and a condition instead. */
+int pthread_rwlock_tryrdlock(pthread_rwlock_t *lock);
+
+/* Yield until the caller has the lock, to read or to write. Answer 0; ETIMEDOUT: the time is over; EINVAL: it is no
+   time. */
+int pthread_rwlock_timedrdlock(pthread_rwlock_t *__restrict lock, const struct timespec *__restrict time);
+int pthread_rwlock_clockrdlock(pthread_rwlock_t *__restrict lock, clockid_t clock,
+                               const struct timespec *__restrict time);
 int pthread_rwlock_timedwrlock(pthread_rwlock_t *__restrict lock, const struct timespec *__restrict time);
 int pthread_rwlock_clockwrlock(pthread_rwlock_t *__restrict lock, clockid_t clock,
                                const struct timespec *__restrict time);

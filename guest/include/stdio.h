@@ -3,6 +3,7 @@
 #ifndef IT_STDIO_H
 #define IT_STDIO_H
 
+#include <stdarg.h>
 #include <sys/types.h>
 
 #ifdef __cplusplus
@@ -13,6 +14,24 @@ extern "C" {
    how many bytes; -1 at the end. */
 ssize_t getline(char **__restrict line, size_t *__restrict size, FILE *__restrict stream);
 ssize_t getdelim(char **__restrict line, size_t *__restrict size, int delimiter, FILE *__restrict stream);
+
+/* Descriptors 1 and 2 are stdout and stderr. EBADF: another. */
+int dprintf(int descriptor, const char *__restrict format, ...) __attribute__((__format__(__printf__, 2, 3)));
+int vdprintf(int descriptor, const char *__restrict format, va_list arguments)
+    __attribute__((__format__(__printf__, 2, 0)));
+
+/* One of the 63 mutexes for each stream. Only those wait for it who call flockfile, too. */
+void flockfile(FILE *stream);
+int ftrylockfile(FILE *stream);
+void funlockfile(FILE *stream);
+
+/* *text and *size are those of now after each fflush and fclose. */
+FILE *open_memstream(char **text, size_t *size);
+
+int renameat(int directory, const char *old, int other, const char *name);
+
+int getw(FILE *stream);
+int putw(int word, FILE *stream);
 
 /* No call takes a lock for each byte, so these are as the others. */
 #define getc_unlocked(stream) fgetc(stream)

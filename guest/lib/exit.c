@@ -47,8 +47,15 @@ void _Exit(int code)
     _exit(code);
 }
 
+#ifdef IT_ON_EXIT
+int it_exit_code;
+#endif
+
 void exit(int code)
 {
+#ifdef IT_ON_EXIT
+    it_exit_code = code;
+#endif
     if (it_shared.run_handlers)
         it_shared.run_handlers();
     for (void (*const *each)(void) = it_destructors_end; each != it_destructors;)
@@ -57,8 +64,16 @@ void exit(int code)
     _exit(code);
 }
 
+static inline void raise_abort(void)
+{
+#ifdef IT_SIGNALS
+    it_raise_abort();
+#endif
+}
+
 void abort(void)
 {
+    raise_abort();
     it_end_by("abort was called");
 }
 
@@ -75,6 +90,7 @@ void __assert_func(const char *file, int line, const char *function, const char 
 {
     const char *inside = function ? function : "", *colon = function ? ": " : "";
     fprintf(stderr, "%s:%d: %s%sAssertion `%s' failed.\n", file, line, inside, colon, expression);
+    raise_abort();
     it_settle();
     _exit(ABORTED);
 }
@@ -92,5 +108,6 @@ void it_end_thread(void *value)
         it_settle();
     if (it_has_handlers && it_call(IT_CALL_SEM_TRYWAIT, IT_OTHERS, 0) != 0)
         exit(0);
+    it_tell_end();
     it_last_call(IT_CALL_THREAD_EXIT, (unsigned)value);
 }

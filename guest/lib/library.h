@@ -95,6 +95,9 @@ struct it_beginning {
 #ifdef IT_SCHEDULED
     unsigned scheduling;
 #endif
+#ifdef IT_SIGNALS
+    unsigned long long blocked;
+#endif
 };
 
 /* Policy and priority for a thread with the attributes, or null; and keeps them for a thread. */
@@ -103,6 +106,39 @@ void it_keep_scheduling(unsigned thread, unsigned scheduling);
 
 /* Whether a thread is detached; where guest/build sets IT_DETACHED. */
 int it_is_detached(unsigned thread);
+
+/* Takes the signals that wait for the thread, and answers whether a handler was called; the signals that the thread
+   blocks; and SIGABRT for a program that catches it. guest/build sets IT_SIGNALS where a program handles or blocks
+   signals. */
+#ifdef IT_SIGNALS
+int it_take_signals(void);
+#else
+static inline int it_take_signals(void) { return 0; }
+#endif
+unsigned long long it_blocked_signals(void);
+void it_block_signals(unsigned long long set);
+void it_raise_abort(void);
+
+/* Whether somebody has cancelled the thread, and it may be cancelled; what ends it then, or if it may be at any time; and
+   what threads tell each other of their begin and end. guest/build sets IT_CANCEL where a program cancels threads. */
+#ifdef IT_CANCEL
+int it_is_cancelled(void);
+void it_end_if_cancelled(void);
+void it_end_if_at_once(void);
+void it_tell_made(unsigned thread);
+void it_tell_end(void);
+void it_wait_for_end(unsigned thread);
+#else
+static inline int it_is_cancelled(void) { return 0; }
+static inline void it_end_if_cancelled(void) { }
+static inline void it_end_if_at_once(void) { }
+static inline void it_tell_made(unsigned thread) { (void)thread; }
+static inline void it_tell_end(void) { }
+static inline void it_wait_for_end(unsigned thread) { (void)thread; }
+#endif
+
+/* The code of exit, for the handlers of on_exit; where guest/build sets IT_ON_EXIT. */
+extern int it_exit_code;
 
 /* Ends the calling thread. */
 void it_end_thread(void *value) __attribute__((noreturn));

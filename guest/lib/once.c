@@ -3,6 +3,27 @@
 #include <pthread.h>
 #include "library.h"
 
+#ifdef IT_CANCEL
+static void unlock(void *number)
+{
+    it_call(IT_CALL_UNLOCK, (unsigned)number, 0);
+}
+
+/* A function that is cancelled is called by the next. */
+static void call_once(void (*function)(void), unsigned mutex)
+{
+    pthread_cleanup_push(unlock, (void *)mutex);
+    function();
+    pthread_cleanup_pop(0);
+}
+#else
+static inline void call_once(void (*function)(void), unsigned mutex)
+{
+    (void)mutex;
+    function();
+}
+#endif
+
 int pthread_once(pthread_once_t *once, void (*function)(void))
 {
     if (*once)
@@ -10,7 +31,7 @@ int pthread_once(pthread_once_t *once, void (*function)(void))
     unsigned number = it_number_or_end(IT_MUTEX, once);
     it_ordered_call(IT_CALL_LOCK, number, 0);
     if (!*once) {
-        function();
+        call_once(function, number);
         *once = 1;
     }
     return it_ordered_call(IT_CALL_UNLOCK, number, 0);

@@ -62,6 +62,9 @@ static __attribute__((noreturn)) void start_thread(const struct it_beginning *be
 #ifdef IT_SCHEDULED
     it_keep_scheduling(it_self.number, beginning->scheduling);
 #endif
+#ifdef IT_SIGNALS
+    it_block_signals(beginning->blocked);
+#endif
     it_call(IT_CALL_YIELD, 0, 0);
     it_end_thread(function(argument));
 }

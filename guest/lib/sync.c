@@ -133,6 +133,8 @@ int pthread_cond_destroy(pthread_cond_t *condition)
     return 0;
 }
 
+#ifndef IT_CANCEL /* else these are of guest/lib/more/cancel.c */
+
 int pthread_cond_wait(pthread_cond_t *restrict condition, pthread_mutex_t *restrict mutex)
 {
     unsigned number = it_number_or_end(IT_CONDITION, condition);
@@ -148,6 +150,8 @@ int pthread_cond_broadcast(pthread_cond_t *condition)
 {
     return answered(it_ordered_call(IT_CALL_BROADCAST, it_number_or_end(IT_CONDITION, condition), 0));
 }
+
+#endif
 
 /* ---------------------------------------------------------------------------------------------- barriers ---- */
 
@@ -180,6 +184,8 @@ int pthread_barrier_wait(pthread_barrier_t *barrier)
 }
 
 /* ---------------------------------------------------------------------------------------------- semaphores ---- */
+
+#ifndef IT_CANCEL
 
 /* An answer as semaphore.h has it. */
 static int told(int error)
@@ -300,5 +306,7 @@ int sem_post(sem_t *semaphore)
 {
     return semaphore_call(IT_CALL_SEM_POST, semaphore);
 }
+
+#endif
 
 #endif

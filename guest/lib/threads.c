@@ -37,6 +37,9 @@ int pthread_create(pthread_t *restrict thread, const pthread_attr_t *restrict at
 #ifdef IT_SCHEDULED
     beginning.scheduling = it_scheduling_for(attributes);
 #endif
+#ifdef IT_SIGNALS
+    beginning.blocked = it_blocked_signals();
+#endif
     it_shared.threads_made = 1;
     if (it_has_handlers)
         it_call(IT_CALL_SEM_POST, IT_OTHERS, 0);
@@ -49,6 +52,7 @@ int pthread_create(pthread_t *restrict thread, const pthread_attr_t *restrict at
 #ifdef IT_SCHEDULED
     it_keep_scheduling((unsigned)answer, beginning.scheduling);
 #endif
+    it_tell_made((unsigned)answer);
 #ifdef IT_DETACHED
     if (attributes && attributes->detached)
         states.of[answer] = DETACHED;
@@ -67,6 +71,7 @@ int pthread_join(pthread_t thread, void **value)
     if (thread < IT_THREADS && states.of[thread])
         return states.of[thread] == JOINED ? ESRCH : EINVAL;
 #endif
+    it_wait_for_end(thread);
     int answer = it_call_value(IT_CALL_JOIN, thread, 0, &left);
     if (answer == -IT_EDEADLK)
         return EDEADLK;
@@ -82,6 +87,9 @@ int pthread_join(pthread_t thread, void **value)
 
 void pthread_exit(void *value)
 {
+#ifdef IT_CANCEL
+    pthread_setcancelstate(PTHREAD_CANCEL_DISABLE, 0);
+#endif
 #ifdef IT_CLEANUP
     it_run_cleanups();
 #endif
@@ -101,5 +109,7 @@ int pthread_equal(pthread_t one, pthread_t other)
 /* POSIX.1-2017 sched_yield: ends a step, and the thread sees what others stored. Answers 0. */
 int sched_yield(void)
 {
-    return it_ordered_call(IT_CALL_YIELD, 0, 0);
+    int answer = it_ordered_call(IT_CALL_YIELD, 0, 0);
+    it_end_if_at_once();
+    return answer;
 }

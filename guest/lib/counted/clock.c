@@ -224,48 +224,57 @@ IT_REPLACEABLE int getrusage(int who, struct rusage *usage)
 
 /* ---------------------------------------------------------------------------------------------- sleeps ---- */
 
-/* A sleep is a yield at least, and nothing ends it early. */
-static void sleep_until(struct timespec then)
+/* A sleep is a yield at least. Answers whether a signal's handler has ended it. */
+static int sleep_until(struct timespec then)
 {
     struct it_wait wait = it_begin_wait(then);
     it_ordered_call(IT_CALL_YIELD, 0, 0);
-    while (it_wait_on(&wait))
-        ;
-    it_end_wait(&wait, 1);
+    int ended = it_take_signals();
+    while (!ended && !it_is_cancelled() && it_wait_on(&wait))
+        ended = it_take_signals();
+    it_end_wait(&wait, !ended);
+    it_end_if_cancelled();
+    return ended;
 }
 
-static void sleep_for(struct timespec length)
+/* The same, and what is left of the time. */
+static int sleep_for(struct timespec length, struct timespec *rest)
 {
-    sleep_until(it_sum(it_now(), length));
+    struct timespec then = it_sum(it_now(), length);
+    if (!sleep_until(then))
+        return 0;
+    *rest = it_difference(then, it_now());
+    return 1;
 }
 
 IT_REPLACEABLE unsigned sleep(unsigned seconds)
 {
-    sleep_for((struct timespec) { seconds, 0 });
-    return 0;
+    struct timespec rest;
+    return sleep_for((struct timespec) { seconds, 0 }, &rest) ? (unsigned)rest.tv_sec : 0;
 }
 
 IT_REPLACEABLE int usleep(useconds_t microseconds)
 {
-    struct timespec length = { 0, 0 };
+    struct timespec length = { 0, 0 }, rest;
     for (; microseconds >= 1000000; microseconds -= 1000000)
         length.tv_sec++;
     length.tv_nsec = (long)microseconds * 1000;
-    sleep_for(length);
-    return 0;
+    return sleep_for(length, &rest) ? failed(EINTR) : 0;
 }
 
 /* POSIX.1-2017 clock_nanosleep: the answer is the error. */
 IT_REPLACEABLE int clock_nanosleep(clockid_t clock, int flags, const struct timespec *time, struct timespec *rest)
 {
-    (void)rest;
+    struct timespec left;
     if (!it_is_time(time) || time->tv_sec < 0 || !is_clock(clock) || clock == CLOCK_THREAD_CPUTIME_ID)
         return EINVAL;
     if (flags & TIMER_ABSTIME)
-        sleep_until(*time);
-    else
-        sleep_for(*time);
-    return 0;
+        return sleep_until(*time) ? EINTR : 0;
+    if (!sleep_for(*time, &left))
+        return 0;
+    if (rest)
+        *rest = left;
+    return EINTR;
 }
 
 IT_REPLACEABLE int nanosleep(const struct timespec *length, struct timespec *rest)

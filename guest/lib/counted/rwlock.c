@@ -1,4 +1,4 @@
-/* Waits with a time for a reader-writer lock, to write. To read there is none, since a read lock can't be tried. */
+/* Waits with a time for a reader-writer lock. */
 #include <pthread.h>
 #include "counted.h"
 
@@ -11,3 +11,15 @@ IT_REPLACEABLE int pthread_rwlock_clockwrlock(pthread_rwlock_t *restrict lock, c
     (void)clock;
     return pthread_rwlock_timedwrlock(lock, time);
 }
+
+#ifdef IT_READ_TRIES
+int it_try_to_read(pthread_rwlock_t *lock);
+IT_TIMED_LOCK(IT_REPLACEABLE, pthread_rwlock_timedrdlock, pthread_rwlock_t, it_try_to_read)
+
+IT_REPLACEABLE int pthread_rwlock_clockrdlock(pthread_rwlock_t *restrict lock, clockid_t clock,
+                                              const struct timespec *restrict time)
+{
+    (void)clock;
+    return pthread_rwlock_timedrdlock(lock, time);
+}
+#endif

@@ -89,11 +89,12 @@ int pthread_cond_timedwait(pthread_cond_t *restrict condition, pthread_mutex_t *
         return answer;
     }
     struct it_wait wait = it_begin_wait(*time);
-    while (!woken && it_wait_on(&wait))
+    while (!woken && !it_is_cancelled() && it_wait_on(&wait))
         ;
     answer = came_out();
     it_end_wait(&wait, answer == ETIMEDOUT);
     pthread_mutex_lock(mutex);
+    it_end_if_cancelled();
     return answer;
 }
 
@@ -113,9 +114,11 @@ int sem_timedwait(sem_t *restrict semaphore, const struct timespec *restrict tim
     if (!it_is_time(time))
         return failed(EINVAL);
     struct it_wait wait = it_begin_wait(*time);
-    while (answer != 0 && it_wait_on(&wait))
+    while (answer != 0 && !it_is_cancelled() && it_wait_on(&wait))
         answer = sem_trywait(semaphore);
     it_end_wait(&wait, answer != 0);
+    if (answer != 0)
+        it_end_if_cancelled();
     return answer == 0 ? 0 : failed(ETIMEDOUT);
 }
 

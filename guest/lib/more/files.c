@@ -4,9 +4,11 @@
 #include <errno.h>
 #include <fcntl.h>
 #include <stdio.h>
+#include <stdlib.h>
 #include <string.h>
 #include <sys/stat.h>
 #include <sys/time.h>
+#include <sys/uio.h>
 #include <unistd.h>
 #include "../library.h"
 
@@ -233,6 +235,43 @@ IT_REPLACEABLE int flock(int descriptor, int operation)
     return of_open(descriptor, EINVAL);
 }
 
+/* One piece after the other, until one isn't whole. */
+static ssize_t each(int descriptor, const struct iovec *pieces, int count, ssize_t (*transfer)(int, void *, size_t))
+{
+    ssize_t all = 0;
+    for (int k = 0; k < count; k++) {
+        ssize_t some = transfer(descriptor, pieces[k].iov_base, pieces[k].iov_len);
+        if (some < 0)
+            return -1;
+        all += some;
+        if ((size_t)some < pieces[k].iov_len)
+            break;
+    }
+    return all;
+}
+
+static ssize_t put_out(int descriptor, void *bytes, size_t count)
+{
+    return write(descriptor, bytes, count);
+}
+
+IT_GIVES(ssize_t, writev, (int descriptor, const struct iovec *pieces, int count),
+         each(descriptor, pieces, count, put_out))
+IT_GIVES(ssize_t, readv, (int descriptor, const struct iovec *pieces, int count),
+         each(descriptor, pieces, count, read))
+
+IT_REPLACEABLE int lockf(int descriptor, int command, off_t length)
+{
+    (void)command, (void)length;
+    return of_open(descriptor, EINVAL);
+}
+
+IT_REPLACEABLE int ttyname_r(int descriptor, char *name, size_t size)
+{
+    (void)name, (void)size;
+    return is_open(descriptor) ? ENOTTY : EBADF;
+}
+
 /* ---------------------------------------------------------------------------------------------- names ---- */
 
 IT_REPLACEABLE int unlink(const char *path)
@@ -342,3 +381,67 @@ IT_REPLACEABLE mode_t umask(mode_t mask)
     (void)mask;
     return 022;
 }
+
+IT_REPLACEABLE char *realpath(const char *restrict path, char *restrict to)
+{
+    if (!path || !is_root(path)) {
+        errno = path ? ENOENT : EINVAL;
+        return NULL;
+    }
+    return to ? strcpy(to, "/") : strdup("/");
+}
+
+IT_REPLACEABLE char *mkdtemp(char *template)
+{
+    no_place(template);
+    return NULL;
+}
+
+IT_GIVES(int, mkostemp, (char *template, int flags), ((void)flags, no_place(template)))
+
+/* Limits of what there could be, as on Linux. */
+IT_REPLACEABLE long pathconf(const char *path, int name)
+{
+    enum { LINKS = 127, LINE = 255, NAME = 255, PATH = 4096, PIPE = 4096 };
+    (void)path;
+    switch (name) {
+    case _PC_LINK_MAX:
+        return LINKS;
+    case _PC_MAX_CANON:
+    case _PC_MAX_INPUT:
+        return LINE;
+    case _PC_NAME_MAX:
+        return NAME;
+    case _PC_PATH_MAX:
+        return PATH;
+    case _PC_PIPE_BUF:
+        return PIPE;
+    case _PC_CHOWN_RESTRICTED:
+    case _PC_NO_TRUNC:
+        return 1;
+    case _PC_VDISABLE:
+        return 0;
+    default:
+        errno = EINVAL;
+        return -1;
+    }
+}
+
+IT_GIVES(long, fpathconf, (int descriptor, int name), is_open(descriptor) ? pathconf("/", name) : fails(EBADF))
+
+/* ---------------------------------------------------------------------------------------------- from a directory ---- */
+
+/* Those that begin at a descriptor's directory. None of the descriptors has one. */
+#define FROM(function, parameters, by)                                                                                 \
+    IT_REPLACEABLE int function parameters                                                                             \
+    {                                                                                                                  \
+        return directory == AT_FDCWD || *path == '/' ? by : of_open(directory, ENOTDIR);                               \
+    }
+
+FROM(fstatat, (int directory, const char *restrict path, struct stat *restrict status, int flags),
+     ((void)flags, stat(path, status)))
+FROM(faccessat, (int directory, const char *path, int what, int flags), ((void)flags, access(path, what)))
+FROM(mkdirat, (int directory, const char *path, mode_t mode), mkdir(path, mode))
+FROM(unlinkat, (int directory, const char *path, int flags), flags & AT_REMOVEDIR ? rmdir(path) : unlink(path))
+FROM(fchmodat, (int directory, const char *path, mode_t mode, int flags), ((void)flags, chmod(path, mode)))
+FROM(renameat, (int directory, const char *path, int other, const char *name), ((void)other, rename(path, name)))

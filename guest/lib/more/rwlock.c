@@ -4,6 +4,7 @@
 #include <pthread.h>
 #include "../attributes.h"
 #include "../library.h"
+#ifndef IT_READ_TRIES /* else the locks are those of read_tries.c */
 #include "../table.h"
 
 static struct table locks;
@@ -92,6 +93,8 @@ IT_REPLACEABLE int pthread_rwlock_unlock(pthread_rwlock_t *lock)
     more[number]--;
     return 0;
 }
+
+#endif
 
 IT_REPLACEABLE int pthread_rwlockattr_init(pthread_rwlockattr_t *attributes)
 {

@@ -4,8 +4,10 @@
 #include <malloc.h>
 #include <pthread.h>
 #include <semaphore.h>
+#include <signal.h>
 #include <stdio.h>
 #include <string.h>
+#include <sys/utsname.h>
 #include <unistd.h>
 #include "../library.h"
 
@@ -53,6 +55,7 @@ IT_REPLACEABLE long sysconf(int name)
     case _SC_THREAD_PRIORITY_SCHEDULING:
     case _SC_THREAD_PRIO_INHERIT:
     case _SC_PRIORITY_SCHEDULING:
+    case _SC_REALTIME_SIGNALS:
     case _SC_VERSION:
         return POSIX;
     case _SC_THREAD_THREADS_MAX:
@@ -67,6 +70,10 @@ IT_REPLACEABLE long sysconf(int name)
         return IT_FOR_PROGRAMS;
     case _SC_SEM_VALUE_MAX:
         return SEM_VALUE_MAX;
+    case _SC_SIGQUEUE_MAX:
+        return 128;
+    case _SC_RTSIG_MAX:
+        return SIGRTMAX - SIGRTMIN + 1;
     case _SC_OPEN_MAX:
     case _SC_STREAM_MAX:
         return STDERR_FILENO + 1;
@@ -135,3 +142,11 @@ IT_REPLACEABLE int gethostname(char *name, size_t size)
     memcpy(name, own, sizeof own);
     return 0;
 }
+
+IT_REPLACEABLE int uname(struct utsname *name)
+{
+    *name = (struct utsname) { "ithreads", "guest", "1", "1", "riscv32" };
+    return 0;
+}
+
+IT_GIVES(int, getdtablesize, (void), (int)sysconf(_SC_OPEN_MAX))

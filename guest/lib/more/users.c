@@ -40,3 +40,40 @@ IT_REPLACEABLE char *getlogin(void)
 {
     return name;
 }
+
+/* ---------------------------------------------------------------------------------------------- the list of all ---- */
+
+/* A list of one. */
+#define LIST(told, get, set, end, type, one)                                                                           \
+    static int told;                                                                                                   \
+    IT_REPLACEABLE void set(void)                                                                                      \
+    {                                                                                                                  \
+        told = 0;                                                                                                      \
+    }                                                                                                                  \
+    IT_REPLACEABLE void end(void)                                                                                      \
+    {                                                                                                                  \
+        told = 0;                                                                                                      \
+    }                                                                                                                  \
+    IT_GIVES(type *, get, (void), told++ ? NULL : one)
+
+LIST(user_told, getpwent, setpwent, endpwent, struct passwd, getpwuid(getuid()))
+LIST(group_told, getgrent, setgrent, endgrent, struct group, getgrgid(getgid()))
+
+/* ---------------------------------------------------------------------------------------------- with memory of one's own ---- */
+
+/* The texts are constants, so that nothing is kept in the caller's memory but the entry. */
+#define BY_VALUE(function, type, key, by)                                                                              \
+    IT_REPLACEABLE int function(key, type *entry, char *memory, size_t size, type **found)                             \
+    {                                                                                                                  \
+        (void)memory, (void)size;                                                                                      \
+        const type *one = by;                                                                                          \
+        if (one)                                                                                                       \
+            *entry = *one;                                                                                             \
+        *found = one ? entry : NULL;                                                                                   \
+        return 0;                                                                                                      \
+    }
+
+BY_VALUE(getpwuid_r, struct passwd, uid_t wanted, getpwuid(wanted))
+BY_VALUE(getpwnam_r, struct passwd, const char *wanted, getpwnam(wanted))
+BY_VALUE(getgrgid_r, struct group, gid_t wanted, getgrgid(wanted))
+BY_VALUE(getgrnam_r, struct group, const char *wanted, getgrnam(wanted))

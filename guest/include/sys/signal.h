@@ -1,0 +1,2 @@
+/* As on Linux. */
+#include <signal.h>

@@ -1,0 +1,35 @@
+/* Contexts of POSIX.1-2004 <ucontext.h>: a thread's registers, a stack, and which signals it blocks. A stack is memory of
+   the program's, and nothing says that it is full. */
+#ifndef IT_UCONTEXT_H
+#define IT_UCONTEXT_H
+
+#include <signal.h>
+
+#ifdef __cplusplus
+extern "C" {
+#endif
+
+typedef struct {
+    unsigned registers[14]; /* ra, sp, s0 to s11 */
+} mcontext_t;
+
+typedef struct ucontext {
+    mcontext_t uc_mcontext; /* guest/lib/more/contexts.c has it first */
+    struct ucontext *uc_link;
+    stack_t uc_stack;
+    sigset_t uc_sigmask;
+} ucontext_t;
+
+/* Answers 0, and once more for each setcontext. */
+int getcontext(ucontext_t *context) __attribute__((__returns_twice__));
+int setcontext(const ucontext_t *context);
+int swapcontext(ucontext_t *__restrict old, const ucontext_t *__restrict context);
+
+/* The function gets `count` words. When it returns its context's uc_link goes on, or, if that is null, the thread ends. */
+void makecontext(ucontext_t *context, void (*function)(void), int count, ...);
+
+#ifdef __cplusplus
+}
+#endif
+
+#endif

@@ -1,0 +1,15 @@
+/* ISO C mbstowcs where each byte is a character; the C library's takes no null. */
+#include <stdlib.h>
+
+size_t mbstowcs(wchar_t *restrict to, const char *restrict from, size_t most)
+{
+    size_t count = 0;
+    for (; !to || count < most; count++) {
+        unsigned char byte = (unsigned char)from[count];
+        if (to)
+            to[count] = byte;
+        if (!byte)
+            break;
+    }
+    return count;
+}

@@ -1,0 +1,12 @@
+/* The program's name, as glibc and BSD name it. */
+#include <errno.h>
+#include "../library.h"
+
+extern char *it_words[];
+
+IT_REPLACEABLE char *program_invocation_name, *program_invocation_short_name, *__progname, *__progname_full;
+
+static __attribute__((constructor)) void begin(void)
+{
+    program_invocation_name = program_invocation_short_name = __progname = __progname_full = it_words[1];
+}
