@@ -54,6 +54,11 @@ SAYING = {  # what says a line, and what stands before its text
     "NoSymbols": "FILE: ", "NotReports": "FILE: ",
 }
 SAID_BY_OTHERS = [
+    "build: there is nothing to start: a guest has a function main, and without --libc it includes ithreads.h.",
+    "build: not there: time (a.c:3), clock (a.c:4),", "build: malloc is there twice. malloc, free and their like, exit, and",
+    "build: a.c:3: the function main has 70,000 bytes of variables, more than 49,152 bytes.",
+    "build: a guest has at most 1,024 pages.", "build: a thread's stack has 65,536 bytes, and stacks lie one upon",
+    "build: of POSIX threads, a guest has what guest/include/pthread.h declares.",
     "build: there is no clang (package clang)", "build: --wrong is not understood",
     "tools/explore: 100 tries take some 12 s",
     "build: there is no picolibc (package picolibc-riscv64-unknown-elf)", "ithreads: built in 3 s",

@@ -131,10 +131,17 @@ OF_LAUNCH = [
 OF_BUILD = [
     (r"there is no .* \((?:package|packages) (.*)\)", "install it: `apt-get install` with {1}, as root"),
     (r".* is not understood", "the words of guest/build aren't understood; guest/build --help shows them"),
-    (r"not there: (.*)\.", "a guest has no {1}; the lines behind this one say what to take instead"),
+    (r"not there: (.*?)[.,]?", "a guest has no {1}; the lines behind this one say what to take instead"),
     (r"main is there twice\..*", "two of the C files have a main, and a program has one: give the files of one program"),
     (r"(\S+) is there twice\..*", "{1} is in two of the C files, or the C library of guests has its own, which a program "
                                    "can't replace: rename one"),
+    (r"there is nothing to start: .*", "write a function main; include ithreads.h, or build with --libc"),
+    (r"a guest has at most 1,024 pages.*", "code, constants and data have 4 MiB in all: make static arrays smaller"),
+    (r".* has [\d,]+ bytes of variables, .*|a thread's stack has 65,536 bytes.*",
+     "a thread's stack is too small for these variables: make large arrays static, or take them from malloc"),
+    (r"without --libc there are .*", "include ithreads.h alone, or build with --libc"),
+    (r"a guest has the instructions .*|a number has 64 bits .*|of POSIX threads, a guest has .*",
+     "the lines before this one have the place in the C file: change it there"),
     (r"the guest for --notes was not built", "with --notes the guest is built once more, with symbols; the lines before "
                                              "this one say why that failed"),
 ]
