@@ -89,7 +89,8 @@ def check_makefile(place, what, rule):
     (place.folder / "Makefile").write_text(rule)
     data, (at, byte, said_of_it) = place.folder / "mine.in", TOTAL
     before = data.read_bytes()
-    for text, said in ((before, b"from scratch"), (before[:at] + byte + before[at + 1:], said_of_it), (None, b"up to date")):
+    after = before[:at] + byte + before[at + 1:]
+    for text, said in ((before, b"from scratch"), (after, said_of_it), (None, b"up to date")):
         if text is not None:
             data.write_bytes(text)
         status, printed, told = ran_whole("make", cwd=place.folder)
