@@ -4,7 +4,8 @@
     many steps were executed. Its memo has the input of that call, and nothing else is left in the folder.
   - It runs from scratch, and says why, if there is no memo, the program is another, the memo is cut, damaged, of
     another version or a folder, too much differs, or the step limit is another.
-  - A limit that was reached is found out, and isn't reached again.
+  - A limit that was reached is found out, and isn't reached again. Where the largest fuel is, it says what may help.
+  - On a terminal a line says what is going on, and standard output is as ever.
   - Its status is the guest's, or that of its --help.
   - A C file is built if it, a file that it includes or the words are others, and not else; --libc is found out. If
     building fails, what was there stays.
@@ -20,7 +21,7 @@ import time
 
 import building
 import memos
-from checking import EXAMPLES, MOST_INPUT, ROOT, SECONDS, program, ran_whole
+from checking import EXAMPLES, MOST_INPUT, ROOT, SECONDS, on_terminal, program, ran_whole
 
 TOOL = ROOT / "tools/again"
 LINE = re.compile(r"tools/again: ([0-9,]+) steps reused, ([0-9,]+) executed, [0-9.]+ s"
@@ -112,6 +113,8 @@ def check_damage(checks):
     for what, data, word in (("that is empty", b"", "Magic"), ("that is cut at its head", whole[:9], "Short"),
                              ("that is cut", whole[:-1], "Digest"), ("that is cut in its version", whole[:5], "Short"),
                              ("of a later version", whole[:4] + b"\x09" + whole[5:], "Version 9"),
+                             ("with another byte of the executable", whole[:100] + bytes([whole[100] ^ 1]) + whole[101:],
+                              "Digest"),
                              ("with another byte", whole[:at] + bytes([whole[at] ^ 1]) + whole[at + 1:], "Digest")):
         place.memo.write_bytes(data)
         place.expect(f"with a memo {what}", 12, f"{place.memo} is refused: {word}")
@@ -145,6 +148,39 @@ def check_limits(checks):
     right = status == 213 and counts and counts[:2] == (5, 0) and "as --steps allows" in said
     checks.expect(f"again, with a step limit that is reached: {status} {said}", right)
     place.expect("after it", 7, "a limit was reached, so it ran again with")
+
+
+def check_largest(checks):
+    """What may help where a step spends the largest fuel."""
+    if not (shutil.which("clang") and shutil.which("ld.lld")):
+        print("skipped: a step without an end, since there is no clang with lld")
+        return
+    folder = checks.folder / "again largest"
+    folder.mkdir()
+    (folder / "spins.c").write_text('#include "ithreads.h"\nstatic volatile int flag;\n'
+                                        "int main(void) { while (!flag) {} return 0; }\n")
+    for words, wanted in (((), 'no fuel is larger: try --build "--march rv32im", or a call in that step'),
+                          (("--build", "--march rv32im"), "no fuel is larger: try a call in that step"),
+                          (("--", "--fuel", "1000"), None)):
+        status, _, _, said = again(folder / "spins.c", EXAMPLES / "empty", *words)
+        right = wanted in said if wanted else "no fuel is larger" not in said
+        checks.expect(f"again, with a step without an end, {words}: {status} {said}", status == 213 and right)
+
+
+def check_terminal(checks):
+    """What is shown of a program that takes two seconds: what stands in the place of ithreads waits so long."""
+    folder = checks.folder / "again terminal"
+    shutil.copytree(ROOT / "tools", folder / "tools")
+    (folder / "ithreads").write_text(f'#!/bin/sh\nsleep 2\nexec {ROOT / "ithreads"} "$@"\n')
+    (folder / "ithreads").chmod(0o755)
+    shutil.copy(EXAMPLES / "hi.elf", folder)
+    for shown in ("runs from scratch, 1 s", "executes what the change reaches; from scratch took 2."):
+        status, printed, said = on_terminal(folder / "tools/again", folder / "hi.elf", EXAMPLES / "empty")
+        line = said.rpartition("\r\x1b[K")[2].rstrip("\r\n") + "\n"
+        right = (status, printed) == (0, b"hi\n") and f"\rtools/again: {shown}" in said and LINE.fullmatch(line)
+        checks.expect(f"again on a terminal: {status} {printed} {said!r}", right)
+        status, printed, said = ran_whole(folder / "tools/again", folder / "hi.elf", EXAMPLES / "empty")
+        checks.expect(f"again on none: {said!r}", (status, printed) == (0, b"hi\n") and "\r" not in said)
 
 
 def check_statuses(checks):
@@ -288,6 +324,8 @@ def check(checks):
     check_edits(checks)
     check_damage(checks)
     check_limits(checks)
+    check_largest(checks)
+    check_terminal(checks)
     check_statuses(checks)
     check_building(checks)
     check_killed(checks)

@@ -20,7 +20,7 @@ SECONDS = 600  # that a block may take, of which some build several guests
 LINKS = ["docs", "examples", "guest", "ithreads", "tools", "trace"]
 NEEDED = ["clang", "ld.lld", "llvm-symbolizer", "riscv64-unknown-elf-gcc", "cc", "make"]
 BLOCK = re.compile(r"^```([a-z]*)\n(.*?)^```$", flags=re.S | re.M)
-COMMAND = re.compile(r"(?:\./[a-z]+|tools/[a-z-]+|guest/build|cp|cc|diff|head|python3) ")
+COMMAND = re.compile(r"(?:\./[a-z]+|examples/posix/[a-z-]+|tools/[a-z-]+|guest/build|cp|cc|diff|head|python3) ")
 NOT_RUN = ("tools/install", "tools/explore", "audit.elf")
 STATUSES = {"diff <(": 1, "one-word.in": 1}  # of blocks with these words
 SAVED = re.compile(r"[Ss]aved? (?:it )?as `(\w+\.c)`")

@@ -44,7 +44,7 @@ SAID = {
     "constant": ["thread 0 was in main, constant.c:3", "which is a constant"],
     "jump": ["the jump was to 0x00000000: a null pointer"],
     "spins": ["a step of thread 0 had 1,000,000 instructions without a call", "give --fuel 16777216",
-              "step 0, of thread 0, used up its fuel; it was in main, spins.c:3"],
+              "step 0, of thread 0, used up its fuel; after 1,000,000 instructions it was in main, spins.c:3"],
     "yields": ["the run had 4,096 steps, as many as --steps allows: give --steps 65536",
                "step 4095, of thread 0, was the last that --steps allows; it was in main, yields.c:2"],
     "deep": ["thread 2 used more than the 65,536 bytes of its stack", "into the stack of thread 1"],
@@ -54,6 +54,11 @@ SAYING = {  # what says a line, and what stands before its text
     "NoSymbols": "FILE: ", "NotReports": "FILE: ",
 }
 SAID_BY_OTHERS = [
+    "build: there is nothing to start: a guest has a function main, and without --libc it includes ithreads.h.",
+    "build: not there: time (a.c:3), clock (a.c:4),", "build: malloc is there twice. malloc, free and their like, exit, and",
+    "build: a.c:3: the function main has 70,000 bytes of variables, more than 49,152 bytes.",
+    "build: a guest has at most 1,024 pages.", "build: a thread's stack has 65,536 bytes, and stacks lie one upon",
+    "build: of POSIX threads, a guest has what guest/include/pthread.h declares.",
     "build: there is no clang (package clang)", "build: --wrong is not understood",
     "tools/explore: 100 tries take some 12 s",
     "build: there is no picolibc (package picolibc-riscv64-unknown-elf)", "ithreads: built in 3 s",
@@ -218,6 +223,39 @@ def check_built(checks):
         status, told = explained(("--guest", elf, EXAMPLES / "empty"), report)
         without = [said for said in SAID[name] if said not in told]
         checks.expect(f"what is said of {name}.c, but for {without}: {status} {told}", status == 0 and not without)
+    elf = checks.folder / "spins.elf"
+    _, report, _ = program("run", elf, EXAMPLES / "empty", "--workers", "1", "--fuel", "16777216")
+    for words in ((), ("--fuel", "16777216"), ("--guest", elf, EXAMPLES / "empty")):
+        _, told = explained(words, report)
+        right = "16,777,216 instructions without a call" in told and "--yield-every 100000" in told
+        checks.expect(f"the largest fuel, {words}: {told}", right and "give --fuel" not in told)
+
+
+def check_fuel(checks):
+    """Reports of two executed steps, which don't say what the fuel was: as many instructions as both have, or fewer."""
+    for instructions, said, isnt in ((16_777_217, "give --fuel 16777216; if that was given, a step has no more", "1,000,000 instr"),
+                                     (1_000_005, "(1,000,000 unless it is given) without a call: give --fuel 16777216. A",
+                                      "if that was given")):
+        report = (f"round 0\nend spent\nsteps 2\nreused 0\nexecuted 2\ninstructions {instructions}\nby 2\n"
+                  f"schedule 0+ 1+\nmemory {'0' * 64}\noutput 0\n\n")
+        status, told = explained((), report.encode())
+        checks.expect(f"a spent fuel that isn't said: {status} {told}", status == 0 and said in told and isnt not in told)
+
+
+def check_parts(checks):
+    """Lines that have several parts, and some of guest/build."""
+    counts = "tools/again: 0 steps reused, 1 executed, 0.27 s from scratch; there was no memo"
+    for line, wanted in (
+            (f"{counts}; a limit was reached, so it ran again with --fuel 16777216 --steps 65536; round 0 ended by "
+             "spent: thread 3 went on without a call for as many turns as --fuel allows",
+             "a step of thread 3 had as many instructions as --fuel allows without a call. If no --fuel was given"),
+            (f"{counts}; round 0 ended by deadlock", "each thread waits for another"),
+            (counts, "nothing was kept of a call before"),
+            ("tools/again: 8 steps reused, 4 executed, 0.27 s; from scratch 1.00 s", "so many steps were taken"),
+            ("build: not there: time (two.c:3).", "a guest has no time (two.c:3); the lines behind"),
+            ("build: main is there twice. malloc, free and their like, exit,", "two of the C files have a main")):
+        status, printed, said = tool("explain", line)
+        checks.expect(f"explain `{line}`: {printed} {said}", status == 0 and printed.decode().startswith(wanted))
 
 
 def check_unbuffered(checks):
@@ -237,6 +275,8 @@ def check(checks):
     check_words(checks)
     check_tools(checks)
     check_files(checks)
+    check_fuel(checks)
+    check_parts(checks)
     check_guests(checks)
     check_built(checks)
     check_unbuffered(checks)

@@ -12,7 +12,7 @@ import json
 import subprocess
 
 import reports
-from checking import EXAMPLES, ROOT, program, ran_whole, tool
+from checking import EXAMPLES, ROOT, on_terminal, program, ran_whole, tool
 
 DRAWN = 30  # files of reports
 CHANGED = 3000  # copies of one with another byte
@@ -304,6 +304,17 @@ def check_workers(checks):
         checks.expect(f"report of pair.elf with {count} workers", [one["by"] for one in made] == shares)
 
 
+def check_terminal(checks):
+    """On a terminal the line of a long schedule is cut: pair.elf has 12 steps, and creates.elf 66."""
+    for name, more in (("pair", b""), ("creates", b" .. 46 more")):
+        words = [EXAMPLES / f"{name}.elf", EXAMPLES / "empty", "--workers", "1"]
+        whole = ran_whole(ROOT / "tools/run", *words)[2]
+        line = next(line for line in whole.split("\n") if line.startswith("schedule "))
+        cut = (" ".join(line.split()[:21]) + more.decode()) if more else line
+        got = on_terminal(ROOT / "tools/run", *words)[2].replace("\r\n", "\n")
+        checks.expect(f"run {name}.elf on a terminal: {got}", got == whole.replace(line, cut))
+
+
 def check_failures(checks):
     hi, empty, none = EXAMPLES / "hi.elf", EXAMPLES / "empty", checks.folder / "no folder" / "file"
     bad, long = checks.file("bad", b"size x\n"), checks.file("long", b"\0" * 1_048_577)
@@ -334,4 +345,5 @@ def check(checks):
     check_guests(checks)
     check_ends(checks)
     check_workers(checks)
+    check_terminal(checks)
     check_failures(checks)

@@ -395,7 +395,7 @@ def check_words(checks):
             ((file, "--memo", file), 2, "ithreads ended with status 4"), ((file, "--guest", PAIR[0]), 2, "usage"),
             ((file, "--guest", *PAIR[:2]), 2, "there are 2 rounds"), ((file, "--columns", "x"), 2, "usage"),
             ((file, "--guest", *PAIR, none), 2, "can't be read"), ((file, "--fuel", "5"), 2, "usage"),
-            ((file, "--guest", *PAIR, "--steps", "11"), 2, "trace ended with status 10"),
+            ((file, "--guest", *PAIR, "--steps", "11"), 2, "the run has ended before it (of a run with --fuel or --steps, give"),
             ((file, "--guest", *PAIR, "--fuel", "0"), 2, "trace ended with status 2: words: "),
             ((file, "--guest", PAIR[1], *PAIR[1:]), 2, "trace ended with status 3")):
         status, told, said = tool("timeline", *words)

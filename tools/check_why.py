@@ -117,6 +117,20 @@ int main(void) {
 """
 
 
+ALONE_FILE = b"""#include "ithreads.h"
+static struct IT_PAGE_ALIGNED { unsigned char data[IT_PAGE]; } buffer, out;
+int main(void) {
+    memcpy(buffer.data, it_input(), IT_PAGE);
+    for (unsigned k = 0; k < 8; k++) {
+        it_yield();
+        out.data[k] = buffer.data[k];
+    }
+    it_put(out.data, 8);
+    return 0;
+}
+"""
+
+
 def with_symbols(elf, named):
     """An executable with a symbol table behind it: names with their addresses, sizes and kinds."""
     names, table = b"\0", bytes(16)
@@ -286,6 +300,21 @@ def check_source(checks):
     checks.expect(f"a variable's bytes: {names}", names == ["total", "total + 3"])
 
 
+def check_alone(checks):
+    """A page that one thread alone stores to, and eight of its short steps read."""
+    if not (shutil.which("clang") and shutil.which("ld.lld")):
+        print("skipped: what is advised for a page of one thread, since there is no clang with lld")
+        return
+    source, elf, memo = checks.file("alone.c", ALONE_FILE), checks.folder / "alone.elf", checks.folder / "alone.memo"
+    ran_whole(str(ROOT / "guest/build"), "--symbols", str(source), str(elf))
+    program("run", elf, checks.file("page", b"a" * 4096), "--workers", "1", "--memo", memo)
+    status, printed, said = tool("why", memo, checks.file("edits", b"set 100 7a\n"), "--symbols", elf, "--summary")
+    told = " ".join(printed.decode().split())
+    wanted = "8 steps, ", "one thread alone stores `buffer`, which ", "on a page that nothing shares, and 8 steps read that"
+    checks.expect(f"what is advised for a page of one thread: {status} {said} {told}",
+                  status == 0 and all(one in told for one in wanted) and "Give each thread" not in told)
+
+
 def is_shown(printed, block):
     """Whether a block of the guide has these lines, up to a line of two dots where there is one."""
     lines, wanted = printed.decode().split("\n"), block.split("\n")
@@ -317,5 +346,6 @@ def check(checks):
         check_summary(checks, place, memo, guest)
         check_refused(checks, place, memo, guest)
     check_source(checks)
+    check_alone(checks)
     check_library(checks)
     check_guide(checks)

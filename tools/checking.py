@@ -1,5 +1,7 @@
 """What the checks of the tools share: counting, files, random numbers, and running the program or a tool."""
+import os
 import pathlib
+import pty
 import random
 import subprocess
 
@@ -34,6 +36,22 @@ def ran_whole(*words, **how):
     """The status, what was printed, and all of standard error."""
     done = subprocess.run(words, stdin=subprocess.DEVNULL, capture_output=True, timeout=SECONDS, check=False, **how)
     return done.returncode, done.stdout, done.stderr.decode("utf-8", "replace")
+
+
+def on_terminal(*words):
+    """The status, what was printed, and what was said where standard error is a terminal; little may be printed."""
+    own, other = pty.openpty()
+    with subprocess.Popen(words, stdin=subprocess.DEVNULL, stdout=subprocess.PIPE, stderr=other) as started:
+        os.close(other)
+        said = b""
+        try:
+            while part := os.read(own, 65_536):
+                said += part
+        except OSError:  # it has ended
+            pass
+        os.close(own)
+        printed = started.stdout.read()
+    return started.returncode, printed, said.decode("utf-8", "replace")
 
 
 def ran(*words):

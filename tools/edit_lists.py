@@ -48,6 +48,8 @@ class Line:
         self.rule(digits, "a decimal number")
         self.rule(digits == b"0" or digits[:1] != b"0", "a number without a zero before it")
         self.rule(len(digits) <= 7, "a number of at most 7 digits")
+        behind = self.text[self.place + len(digits):self.place + len(digits) + 1]
+        self.rule(not behind or behind not in b"xXabcdefABCDEF", "a decimal number (only the bytes are hexadecimal)")
         self.place += len(digits)
         return int(digits)
 

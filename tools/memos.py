@@ -1,6 +1,7 @@
 """Reads memos, by docs/FORMATS.md; it shares no code with the program. `Memo(bytes).listing()` lists one as `show`
 does, and raises `NotMemo` where it is none. It doesn't look whether a record fits what those before it leave, which
-takes the machine. `head(file)` reads what comes before the records, and leaves the digest to who reads on."""
+takes the machine. `head(file)` reads what comes before the records, and leaves the digest to `has_digest`, or to who
+reads on."""
 import hashlib
 import struct
 from dataclasses import dataclass
@@ -55,6 +56,11 @@ def head(file):
         raise NotMemo("Field 8")
     elf = file.read(number(2**24, "Limit elf"))
     return Head(elf, file.read(number(2**20, "Limit input")), number(), number())
+
+
+def has_digest(data):
+    """Whether a memo ends with the digest of its bytes."""
+    return data[-32:] == hashlib.sha256(data[:-32]).digest()
 
 
 @dataclass

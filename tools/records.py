@@ -45,10 +45,10 @@ def runs(mask):
 
 class Records:
     """The executable and the input of a memo, and its records in order. `stacks` has of each thread what its stack had
-    at the end of the record that was read last."""
+    at the end of the record that was read last, and `storers` of each page the threads that stored to it."""
 
     def __init__(self, data):
-        self.data, self.made, self.stacks = data, [0] * 32, {}
+        self.data, self.made, self.stacks, self.storers = data, [0] * 32, {}, {}
         version, = struct.unpack_from("<I", data, 4)
         self.place = 8 if version == 1 else 12  # behind the profile
         self.elf, self.input = self.bytes(), self.bytes()
@@ -85,6 +85,7 @@ class Records:
         low = (STACKS + thread * STACK) // PAGE
         for _ in range(writes):
             (page,) = struct.unpack_from("<I", self.data, self.place)
+            self.storers.setdefault(page, set()).add(thread)
             mask = self.data[self.place + 4:self.place + 516]
             self.place += 516
             if low <= page < low + STACK // PAGE:

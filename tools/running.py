@@ -20,20 +20,22 @@ class Ran:
         return self.said[-1] if self.said else ""
 
 
-def listen(stream, said):
+def listen(stream, said, live):
     for line in stream:
         line = line.decode("utf-8", "replace").rstrip("\n")
         if line.startswith(OF_BUILDING):
+            if live:
+                live.erase()
             print(line, file=sys.stderr, flush=True)
         else:
             said.append(line)
 
 
-def ran(*words):
-    """Runs it to its end; it is stopped if this tool is."""
+def ran(*words, live=None):
+    """Runs it to its end; it is stopped if this tool is. A line on a terminal is taken away before something is said."""
     child = subprocess.Popen(words, stdin=subprocess.DEVNULL, stdout=subprocess.PIPE, stderr=subprocess.PIPE)
     said = []
-    listener = threading.Thread(target=listen, args=(child.stderr, said), daemon=True)
+    listener = threading.Thread(target=listen, args=(child.stderr, said, live), daemon=True)
     listener.start()
     try:
         printed = child.stdout.read()

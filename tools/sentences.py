@@ -46,6 +46,9 @@ KINDS = {  # of refused executables
 LOOPS = ("A thread may also loop without a call, waiting for a variable: it sees what others store only after its own "
          "next call")
 FUEL = f"give --fuel 16777216. {LOOPS}"
+MOST_FUEL = 16_777_216
+CALL = ("a step has no more than 16,777,216. Make a call in it, such as sched_yield, or build with `guest/build --libc "
+        "--yield-every 100000`, which adds such calls; --march rv32im makes a step with products and quotients shorter")
 STEPS = "give --steps 65536"
 SPENT = ("a limit was reached. If `steps` of the report is as large as --steps (4,096 unless it is given), the run has "
          f"too many steps: {STEPS}. Else a step has more instructions than --fuel (1,000,000 unless it is given): "
@@ -54,13 +57,17 @@ DEADLOCK = ("each thread waits for another. With --guest ELF INPUT and the repor
             "says who waits for what, and where; tools/explore finds orders that end otherwise")
 
 
-def spent(steps, thread, fuel, limit):
-    """What it means that a limit was reached, of a run with so many steps and these limits."""
+def spent(steps, thread, fuel, limit, instructions=MOST_FUEL):
+    """What it means that a limit was reached, of a run with so many steps and these limits. If the fuel isn't known, it
+    was the largest only if so many instructions were executed."""
     if steps == limit:
         return (f"the run had {steps:,} steps, as many as --steps allows: "
                 f"{STEPS if limit < 65_536 else 'make fewer calls'}")
-    return (f"a step of thread {thread} had {fuel:,} instructions without a call, as many as --fuel allows: "
-            f"{FUEL if fuel < 16_777_216 else f'make a call in it, such as sched_yield. {LOOPS}'}")
+    allowed = f"{fuel:,} instructions" if fuel else "as many instructions as --fuel allows (1,000,000 unless it is given)"
+    said = f"a step of thread {thread} had {allowed} without a call{', as many as --fuel allows' if fuel else ''}: "
+    if (fuel or instructions) < MOST_FUEL:
+        return said + FUEL
+    return said + (CALL if fuel else f"give --fuel 16777216; if that was given, {CALL}") + f". {LOOPS}"
 
 
 def file_named(name):
@@ -107,7 +114,7 @@ def bad_line(name, line):
 def out_of_range(name, line):
     return (f"line {line} of {name} writes behind the input's end, or makes the input longer than 1,048,576 bytes. Put "
             f"a line `size LENGTH` before it, if the input is to grow; of a rerun, the memo's input is meant. "
-            f"tools/check-edits {name} LENGTH says more")
+            f"tools/check-edits {name} LENGTH says more; `wc -c <INPUT` prints the input's length")
 
 
 def trap(thread, pc, cause):

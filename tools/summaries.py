@@ -51,6 +51,9 @@ KINDS = {
 }
 ALONE = ("`{name}`{by} shares its page with nothing, and {where} reads it. Give each thread, or each block of the input, "
          "a page of its own to store to, and let one thread add up.")
+BY_ONE = ("one thread alone stores `{name}`{by} on a page that nothing shares, and {steps} steps read that: {where}. Let "
+          "fewer, longer steps read it, with fewer calls between; or store what changes in another place than what these "
+          "steps need.")
 OF_LIBRARY = {  # what is advised for the variables of a file of the C library
     "output.c": "{where} prints. Format by snprintf into memory on {own_page}, and print that in one thread, at the end.",
     "input.c": "{where} reads stdin in pieces. Read everything by one fread, before the threads are created.",
@@ -65,7 +68,7 @@ UNADVISED = {kind for kind, about in KINDS.items() if not about.advice} - {"libr
 class Row:
     """What differed for some steps: of which kind, its name, its pages, the steps, their instructions, where these
     are, and where the steps begin that stored it. `carried` are the steps behind those, and their instructions, that
-    were executed since these left a register otherwise."""
+    were executed since these left a register otherwise. `threads` are those that stored to the pages."""
 
     kind: str
     name: str
@@ -75,6 +78,7 @@ class Row:
     places: Counter = field(default_factory=Counter)
     stored: Counter = field(default_factory=Counter)
     beside: list = field(default_factory=list)
+    threads: set = field(default_factory=set)
     carried: list = field(default_factory=lambda: [0, 0])
 
     def all_instructions(self):
@@ -128,6 +132,7 @@ class Summary:
         row.places[place] += max(count, 1)
         if address is not None:
             row.pages.add(address - address % PAGE)
+            row.threads |= self.explained.memo.storers.get(address // PAGE, set())
             row.beside = row.beside or self.explained.names_beside(address)
         if storer := self.explained.storer(one.group(8)):
             row.stored[storer] += 1
@@ -192,7 +197,9 @@ def advice_for(row):
     edited."""
     if row.kind == "library":
         return next((text for file, text in OF_LIBRARY.items() if row.name.startswith(OF_FILES[file])), "")
-    return ALONE if row.kind == "variable" and not row.beside else KINDS[row.kind].advice
+    if row.kind == "variable" and not row.beside:
+        return BY_ONE if len(row.threads) == 1 and row.steps > 1 else ALONE
+    return KINDS[row.kind].advice
 
 
 def advice(row):
@@ -201,4 +208,4 @@ def advice(row):
     by, storing = (f", which {stored} stores,", f"{stored} stores there, and ") if stored else ("", "")
     beside = ", ".join(row.beside[:MOST_BESIDE]) + (", .." if row.beside[MOST_BESIDE:] else "")
     return advice_for(row).format(name=in_sentence(row.name), by=by, storing=storing, where=where, beside=beside,
-                                  own_page=OWN_PAGE, function=function_of(row.where() or "a step"))
+                                  steps=row.steps, own_page=OWN_PAGE, function=function_of(row.where() or "a step"))

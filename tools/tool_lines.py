@@ -30,6 +30,37 @@ def how_it_ended(end):
     return sentences.explained(f"end {end}")
 
 
+def call_of_again(_, notes):
+    """What tools/again says of a call: the reasons behind the counts are what matters."""
+    told = [sentence for note in notes.split("; ")[::-1] if (sentence := sentences.found_in(OF_AGAIN, note))]
+    return ". ".join([told[0], *(one[:1].upper() + one[1:] for one in told[1:])] if told else [COUNTS])
+
+
+def spent_again(thread):
+    return (f"a step of thread {thread} had as many instructions as --fuel allows without a call. If no --fuel was "
+            f"given, tools/again has tried the largest; {sentences.CALL}. tools/again takes these words in --build "
+            f"\"..\". {sentences.LOOPS}")
+
+
+COUNTS = ("so many steps were taken from the run that was kept, and so many executed. Many executed ones after a small "
+          "edit: tools/why says what they read")
+OF_AGAIN = [
+    (r"round \d+ ended by spent: thread (\d+) went on without a call .*", spent_again),
+    (r"round \d+ ended by spent: it had ([\d,]+) steps, .*",
+     "the run had {1} steps, as many as --steps allows. If no --steps was given, tools/again has tried the largest, "
+     "65,536: make fewer calls"),
+    (r"round \d+ ended by (exit \d+|deadlock|trap)\b.*", how_it_ended),
+    (r"(.*) is refused: (.*)", lambda file, why: f"{file} was no use, so the program ran from scratch: {of_program('memo: ' + why)}"),
+    (r"there was no memo", "nothing was kept of a call before, so the program ran from scratch"),
+    (r"the program has changed", "a memo is of one program, so the changed one ran from scratch"),
+    (r"more of the input has changed than an edit list holds",
+     "the program ran from scratch: an edit list writes 524,284 bytes at most"),
+    (r"no memo is kept: (.*)", lambda why: f"the next call runs from scratch, too: {of_program(why)}"),
+    (r"that is longer than from scratch: .*",
+     "steps are many and short, so that reading and writing the memo takes longer than executing: make fewer calls"),
+]
+
+
 LINES = [
     (r"(.*) can't be read: .*", sentences.file_named),
     (r"(.*) can't be written: .*",
@@ -61,6 +92,7 @@ LINES = [
     (r"(.*) isn't the memo's guest: .*", "build {1} from the same files and by the same words as the memo's guest, and "
                                          "--symbols; or make the memo anew by this guest"),
     (r"a line isn't understood: .*", "the tool and the program are of different versions: install both again"),
+    (r"\w+ ended with status 10: (.*) \(of a run with .*", of_program),
     (r"\w+ ended with status (\d+): (.*)", ended),
     (r"round (\d+) can't be replayed: status \d+: (.*)", lambda _, line: of_program(line)),
     (r"what is printed by the replay of round \d+ isn't understood: .*",
@@ -69,9 +101,7 @@ LINES = [
     (r"(.*): line (\d+): .*", "{1} isn't of this round from line {2} on: give what `ithreads show`, `ithreads why` or "
                               "./trace printed for it, whole, or put the round's number before its name, as N:FILE"),
     (r"round \d+ ended by (exit \d+|deadlock|spent|trap)\b.*", how_it_ended),
-    (r"[\d,]+ steps reused, [\d,]+ executed, .*",
-     "so many steps were taken from the run that was kept, and so many executed. Many executed ones after a small edit: "
-     "tools/why says what they read"),
+    (r"([\d,]+ steps reused, [\d,]+ executed, [^;]*)((?:; .*)?)", call_of_again),
     (r"guest/build refuses (.*)",
      "the lines before this one say what is wrong with {1}, and what to write in its place"),
     (r"(?:the following arguments are required|unrecognized arguments|argument|expected|ambiguous option|--build is) ?.*",
@@ -101,6 +131,17 @@ OF_LAUNCH = [
 OF_BUILD = [
     (r"there is no .* \((?:package|packages) (.*)\)", "install it: `apt-get install` with {1}, as root"),
     (r".* is not understood", "the words of guest/build aren't understood; guest/build --help shows them"),
+    (r"not there: (.*?)[.,]?", "a guest has no {1}; the lines behind this one say what to take instead"),
+    (r"main is there twice\..*", "two of the C files have a main, and a program has one: give the files of one program"),
+    (r"(\S+) is there twice\..*", "{1} is in two of the C files, or the C library of guests has its own, which a program "
+                                   "can't replace: rename one"),
+    (r"there is nothing to start: .*", "write a function main; include ithreads.h, or build with --libc"),
+    (r"a guest has at most 1,024 pages.*", "code, constants and data have 4 MiB in all: make static arrays smaller"),
+    (r".* has [\d,]+ bytes of variables, .*|a thread's stack has 65,536 bytes.*",
+     "a thread's stack is too small for these variables: make large arrays static, or take them from malloc"),
+    (r"without --libc there are .*", "include ithreads.h alone, or build with --libc"),
+    (r"a guest has the instructions .*|a number has 64 bits .*|of POSIX threads, a guest has .*",
+     "the lines before this one have the place in the C file: change it there"),
     (r"the guest for --notes was not built", "with --notes the guest is built once more, with symbols; the lines before "
                                              "this one say why that failed"),
 ]

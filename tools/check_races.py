@@ -1,0 +1,67 @@
+"""Checks how `tools/races` sorts the races of a program with a C library; examples/races/check says what of guests that
+have none.
+
+  - Where three threads lock a mutex around each access to a sum, no race is printed, but how many the library's are.
+  - Where they don't the first time, three pairs of threads race for the sum, and stand before the library's.
+  - With --all each race that `ithreads races` prints has its line.
+"""
+import re
+import shutil
+
+from checking import EXAMPLES, ROOT, program, ran_whole, tool
+
+SOURCE = """#include <pthread.h>
+#include <stdio.h>
+static int sum;
+static pthread_mutex_t lock = PTHREAD_MUTEX_INITIALIZER;
+static void *work(void *nothing)
+{
+    for (int k = FIRST; k < 3; k++) {
+        if (k >= 0)
+            pthread_mutex_lock(&lock);
+        sum++;
+        if (k >= 0)
+            pthread_mutex_unlock(&lock);
+    }
+    return nothing;
+}
+int main(void)
+{
+    pthread_t threads[3];
+    for (int k = 0; k < 3; k++)
+        pthread_create(&threads[k], NULL, work, NULL);
+    for (int k = 0; k < 3; k++)
+        pthread_join(threads[k], NULL);
+    printf("%d\\n", sum);
+    return 0;
+}
+"""
+PAIRS = ["1 2", "1 3", "2 3"]  # of threads, whose first accesses nothing orders
+STEPS = re.compile("    step [0-9]+ of thread ([0-9]+),.*\n    step [0-9]+ of thread ([0-9]+),.*\n    both store to sum\n")
+
+
+def check_sorted(checks, first, pairs):
+    source, elf, memo = checks.file("raced.c", SOURCE.encode()), checks.folder / "raced.elf", checks.folder / "raced.memo"
+    ran_whole(str(ROOT / "guest/build"), "--libc", "--symbols", f"-DFIRST={first}", str(source), str(elf))
+    program("run", elf, EXAMPLES / "empty", "--workers", "1", "--memo", memo)
+    listed = program("races", memo)[1].decode().splitlines()
+    status, printed, said = tool("races", memo)
+    told = printed.decode()
+    checks.expect(f"races, from {first}: {status} {said}\n{told}", status == 0 and told.startswith(listed[0] + "\n"))
+    found = sorted(" ".join(sorted(one.groups())) for one in STEPS.finditer(told))
+    all_of_it = len(listed) - 1
+    last = f"{all_of_it - len(pairs)} of {all_of_it} are the C library's, which --all prints\n"
+    checks.expect(f"races, from {first}: {found}", found == pairs and told.count("\nrace ") == len(pairs))
+    checks.expect(f"races, from {first}: the last line of\n{told}", told.endswith(last) and all_of_it > len(pairs))
+    told = tool("races", memo, "--symbols", elf, "--all")[1].decode()
+    lines = [line for line in told.splitlines() if line.startswith("race ")]
+    checks.expect(f"races --all, from {first}: {lines}", sorted(lines) == sorted(listed[1:]) and
+                  told.count("both store to sum\n", 0, 1000) >= len(pairs))
+
+
+def check(checks):
+    if not (shutil.which("riscv64-unknown-elf-gcc") and shutil.which("llvm-symbolizer")):
+        print("skipped: races of a guest with a C library: no riscv64-unknown-elf-gcc with llvm-symbolizer")
+        return
+    check_sorted(checks, 0, [])
+    check_sorted(checks, -1, PAIRS)
