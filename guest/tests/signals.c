@@ -120,13 +120,16 @@ static void values(void)
     }
     siginfo_t info;
     tell("waited", sigwaitinfo(&set, &info) - SIGRTMIN);
-    printf("with %d\n", info.si_value.sival_int);
+    printf("with %d by %d\n", info.si_value.sival_int, info.si_code);
     int number;
     tell("waited", sigwait(&set, &number));
     printf("for %d\n", number - SIGRTMIN);
     sigprocmask(SIG_UNBLOCK, &set, NULL);
     set = set_of(SIGTERM, 0);
     sigprocmask(SIG_BLOCK, &set, NULL);
+    raise(SIGTERM);
+    tell("waited", sigwaitinfo(&set, &info));
+    printf("by %d\n", info.si_code);
     raise(SIGTERM);
     signal(SIGTERM, SIG_IGN);
     sigpending(&set);

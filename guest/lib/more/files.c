@@ -429,7 +429,7 @@ IT_REPLACEABLE long pathconf(const char *path, int name)
 
 IT_GIVES(long, fpathconf, (int descriptor, int name), is_open(descriptor) ? pathconf("/", name) : fails(EBADF))
 
-/* ---------------------------------------------------------------------------------------------- from a directory ---- */
+/* --------------------------------------------------------------------------------------------- from a directory ---- */
 
 /* Those that begin at a descriptor's directory. None of the descriptors has one. */
 #define FROM(function, parameters, by)                                                                                 \

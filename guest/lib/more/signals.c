@@ -371,6 +371,8 @@ int sigwaitinfo(const sigset_t *restrict set, siginfo_t *restrict info)
     siginfo_t taken;
     while (!take(*set, &taken))
         wait_for(*set);
+    if (taken.si_code == SI_TKILL)
+        taken.si_code = SI_USER; /* as in glibc */
     if (info)
         *info = taken;
     return taken.si_signo;

@@ -59,7 +59,7 @@ IT_REPLACEABLE char *getlogin(void)
 LIST(user_told, getpwent, setpwent, endpwent, struct passwd, getpwuid(getuid()))
 LIST(group_told, getgrent, setgrent, endgrent, struct group, getgrgid(getgid()))
 
-/* ---------------------------------------------------------------------------------------------- with memory of one's own ---- */
+/* ------------------------------------------------------------------------------------------ entries of the caller ---- */
 
 /* The texts are constants, so that nothing is kept in the caller's memory but the entry. */
 #define BY_VALUE(function, type, key, by)                                                                              \
