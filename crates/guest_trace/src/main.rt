@@ -35,9 +35,7 @@ use schedule_list::{MOST_SCHEDULE_BYTES, parse};
 use std::alloc::Global;
 use std::fs::Files;
 use std::io::{BufWriter, Eprint, Print, Write};
-use std::marker::Brand;
 use std::process::ExitCode;
-use std::sync::ledger::{Blank, Ledger};
 use std::thread::Threads;
 use std::{env, io};
 use tracing::trace;
@@ -124,28 +122,6 @@ fn wanted<H: Host>(alloc: Global, host: &mut H, words: &[String]) -> Result<Aske
     Ok(Asked { setup, schedule })
 }
 
-/// Traces a run with a counter that the runtime made.
-fn counted<R: Threads, W: Write, L: Ledger>(
-    rt: &R,
-    alloc: Global,
-    out: &mut W,
-    asked: &Asked,
-    blank: Blank,
-) -> Result<(), Refusal>
-    requires name { blank.name ≡ L.name }
-    requires parts { blank.parts ≡ L.parts }
-    requires some { 0 < L.parts }
-{
-    let mut turns = Turns::<L>::new(rt, blank);
-    trace(
-        alloc,
-        out,
-        &asked.setup,
-        asked.schedule.as_slice(),
-        &mut turns,
-    )
-}
-
 /// Traces the run that the words name.
 fn answer<R: Threads + Files + Print + Eprint>(
     rt: &R,
@@ -155,7 +131,13 @@ fn answer<R: Threads + Files + Print + Eprint>(
     let mut host = OsHost::new(rt);
     let asked = wanted(alloc, &mut host, words)?;
     let mut out = BufWriter::new(alloc, io::writer(rt))?;
-    let traced = counted::<R, _, Brand>(rt, alloc, &mut out, &asked, Blank::new(1));
+    let traced = trace(
+        alloc,
+        &mut out,
+        &asked.setup,
+        asked.schedule.as_slice(),
+        &mut Turns::new(rt),
+    );
     out.flush()?;
     traced
 }

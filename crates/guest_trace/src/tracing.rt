@@ -11,7 +11,6 @@ use release_core::Setup;
 use std::alloc::Global;
 use std::io;
 use std::io::Write;
-use std::sync::ledger::Ledger;
 use turn_count::Turns;
 
 /// Writes who holds a reader-writer lock.
@@ -157,12 +156,12 @@ fn number_of(machine: &PlainMachine, thread: u8) -> Result<u32, Why> {
 ///
 /// The first entry that isn't permitted, or that no end comes after the last; the lines of the steps before it were
 /// written. Or a fault of the output, or want of memory.
-pub fn trace<W: Write, L: Ledger>(
+pub fn trace<W: Write>(
     alloc: Global,
     out: &mut W,
     setup: &Setup,
     schedule: &[u8],
-    turns: &mut Turns<L>,
+    turns: &mut Turns,
 ) -> Result<(), Refusal> {
     let mut machine = PlainMachine::new(alloc, setup)?;
     let mut waits = Waits::none();

@@ -8,10 +8,8 @@ use page_store::{Page, PageTable};
 use rv_alu::Regs;
 use rv_code::Code;
 use std::alloc::{AllocError, Global};
-use std::marker::Brand;
 use std::sync::Arc;
 use std::sync::atomic::{AtomicU64, Ordering};
-use std::sync::ledger::{Blank, Ledger};
 use std::thread::Threads;
 use thunk_record::Frame;
 use thunk_run::{Job, LONG_TURNS, Run, Watch, execute, execute_watched};
@@ -48,24 +46,10 @@ fn job_of(alloc: Global, code: &[u8], fuel: u32) -> Result<Job, AllocError> {
     Ok(Job::new(frame, 3, 7, Regs::new(0x10000), view))
 }
 
-/// A job run with a counter that the runtime made.
-fn counted<R: Threads, L: Ledger>(
-    rt: &R,
-    alloc: Global,
-    job: &Job,
-    blank: Blank,
-) -> Result<Run, AllocError>
-    requires name { blank.name ≡ L.name }
-    requires parts { blank.parts ≡ L.parts }
-    requires some { 0 < L.parts }
-{
-    execute(alloc, job, &mut Turns::<L>::new(rt, blank))
-}
-
 /// The first thunk of a guest with this code, run with nobody who looks at the counter.
 fn run_of<R: Threads>(rt: &R, alloc: Global, code: &[u8], fuel: u32) -> Result<Run, AllocError> {
     let job = job_of(alloc, code, fuel)?;
-    counted::<R, Brand>(rt, alloc, &job, Blank::new(1))
+    execute(alloc, &job, &mut Turns::new(rt))
 }
 
 /// Whether a run ended so after so many turns.
@@ -117,21 +101,6 @@ impl Watch for Told {
     }
 }
 
-/// A job run under a watch, with a counter that the runtime made.
-fn watched<R: Threads, L: Ledger>(
-    rt: &R,
-    alloc: Global,
-    job: &Job,
-    told: &Told,
-    blank: Blank,
-) -> Result<Run, AllocError>
-    requires name { blank.name ≡ L.name }
-    requires parts { blank.parts ≡ L.parts }
-    requires some { 0 < L.parts }
-{
-    execute_watched(alloc, job, &mut Turns::<L>::new(rt, blank), told)
-}
-
 /// How often a watch is told by the first thunk of a guest with this code, which makes so many turns.
 fn times_told<R: Threads>(
     rt: &R,
@@ -143,7 +112,7 @@ fn times_told<R: Threads>(
         times: AtomicU64::new(0),
     };
     let job = job_of(alloc, code, fuel)?;
-    let run = watched::<R, Brand>(rt, alloc, &job, &told, Blank::new(1))?;
+    let run = execute_watched(alloc, &job, &mut Turns::new(rt), &told)?;
     Ok((run.rec.count(), told.times.load(Ordering::SeqCst)))
 }
 

@@ -2,42 +2,22 @@
 
 ghost use Rattle.std.specs.Thread.{IsSync};
 ghost use Rattle.std.specs.Prelude.{◌≡◌, ◌<◌, ◌≤◌, [], ◌∷◌, length, take, drop, IfOk};
-ghost use Rattle.std.specs.Arc.{arc_value};
 ghost use Rattle.machine_spec.specs.declared.TheConstants.{MOST_STEPS};
-ghost use Rattle.thunk_run.specs.Running.{IsRunOf};
 ghost use Rattle.memo_audit.specs.Claims.{IsFoundIn};
 
 use super::claims::Claim;
 use super::same::is_same;
 use super::verdict::Verdict;
 use std::alloc::{AllocError, Global};
-use std::marker::Brand;
-use std::sync::ledger::{Blank, Ledger};
 use std::thread::{Threads, join};
-use thunk_run::{Job, Run, execute};
+use thunk_run::execute;
 use turn_count::Turns;
-
-/// Runs the thunk of a job with a counter that nobody else has.
-fn counted<R: Threads, L: Ledger>(
-    rt: &R,
-    alloc: Global,
-    job: &Job,
-    blank: Blank,
-) -> Result<Run, AllocError>
-    requires name { blank.name ≡ L.name }
-    requires parts { blank.parts ≡ L.parts }
-    requires some { 0 < L.parts }
-    ensures { IfOk result (λ run. IsRunOf job.now run) }
-{
-    let mut turns = Turns::<L>::new(rt, blank);
-    execute(alloc, job, &mut turns)
-}
 
 /// What is found where the thunk of a claim is executed.
 fn audit_one<R: Threads>(rt: &R, alloc: Global, claim: &Claim) -> Result<Verdict, AllocError>
     ensures { IfOk result (IsFoundIn (claim.now ∷ [])) }
 {
-    let run = counted::<R, Brand>(rt, alloc, &claim.job, Blank::new(1))?;
+    let run = execute(alloc, &claim.job, &mut Turns::new(rt))?;
     let first = if is_same(&claim.rec, &run.rec) {
         None
     } else {

@@ -25,7 +25,6 @@ use rv_alu::Regs;
 use std::alloc::{AllocError, Global};
 use std::marker::Model;
 use std::sync::Arc;
-use std::sync::ledger::Ledger;
 use sync_objects::Objects;
 use turn_count::Turns;
 
@@ -265,11 +264,7 @@ impl PlainMachine {
     ///
     /// An error where the host's memory ran out; the machine is gone then.
     #[tactic(auto, using(crate::proofs::Asking::below))]
-    pub fn step<L: Ledger>(
-        self,
-        t: u8,
-        turns: &mut Turns<L>,
-    ) -> Result<(PlainMachine, Made), AllocError>
+    pub fn step(self, t: u8, turns: &mut Turns) -> Result<(PlainMachine, Made), AllocError>
         requires { step.can_step self t ≡ true }
         ensures machine { IfOk result (λ r. r.0 ≡ step.step self t) }
         ensures made { IfOk result (λ r. IsMade self t r.1) }

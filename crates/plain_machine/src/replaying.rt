@@ -8,7 +8,6 @@ use machine_spec::End;
 use page_store::PageTable;
 use release_core::Setup;
 use std::alloc::{AllocError, Global};
-use std::sync::ledger::Ledger;
 use turn_count::Turns;
 
 /// What a schedule from scratch comes to.
@@ -71,11 +70,11 @@ fn outcome_of(machine: PlainMachine, instructions: u64) -> Result<Outcome, Repla
 ///
 /// `Forbidden` exactly where an entry isn't permitted, with the first such; `Incomplete` exactly where all are and no
 /// end comes after the last; and `NoMemory` where the host's memory ran out.
-pub fn replay<L: Ledger>(
+pub fn replay(
     alloc: Global,
     setup: &Setup,
     schedule: &[u8],
-    turns: &mut Turns<L>,
+    turns: &mut Turns,
 ) -> Result<Outcome, ReplayError>
     ensures outcome { IfOk result (λ o. IsOutcomeOf setup.now schedule.now o) }
     ensures cause { IfErr result (λ e. IsCauseOf setup.now schedule.now e) }

@@ -14,7 +14,6 @@ use rv_alu::Regs;
 use rv_step::step;
 use std::alloc::{AllocError, Global};
 use std::sync::Arc;
-use std::sync::ledger::Ledger;
 use thunk_spec::{Outcome, ThunkEnd};
 use turn_count::Turns;
 
@@ -34,11 +33,11 @@ struct Ended {
 ///
 /// An error where the host's memory ran out.
 #[inline(never)]
-fn make_turns<L: Ledger>(
+fn make_turns(
     fuel: u32,
     regs: &mut Regs,
     work: &mut Work,
-    turns: &mut Turns<L>,
+    turns: &mut Turns,
 ) -> Result<Ended, AllocError>
     ensures cost { IfOk result (λ e. turns.new ≡ turns.old + e.count) }
     ensures never_lower { turns.old ≤ turns.new }
@@ -93,13 +92,13 @@ pub(super) struct Done {
 /// # Errors
 ///
 /// An error where the host's memory ran out.
-pub(super) fn run<L: Ledger>(
+pub(super) fn run(
     alloc: Global,
     map: &Arc<PageMap>,
     fuel: u32,
     view: &Memory,
     start: Regs,
-    turns: &mut Turns<L>,
+    turns: &mut Turns,
 ) -> Result<Done, AllocError>
     requires { IsMemory (arc_value map.now) view.now }
     ensures done { IfOk result (λ d. IsDone (record { map = arc_value map.now; fuel = fuel }) view.now start d) }

@@ -21,18 +21,12 @@ use release_core::{History, Setup};
 use round_spec::Pick;
 use std::alloc::{AllocError, Global};
 use std::sync::Arc;
-use std::sync::ledger::Ledger;
 use thunk_run::execute;
 use turn_count::Turns;
 
 /// Takes, executes and commits the next step of thread `t`, which may be taken. The counter rises by
 /// the instructions that it made.
-fn run_step<L: Ledger>(
-    alloc: Global,
-    round: &mut Round,
-    t: u8,
-    turns: &mut Turns<L>,
-) -> Result<(), AllocError>
+fn run_step(alloc: Global, round: &mut Round, t: u8, turns: &mut Turns) -> Result<(), AllocError>
     requires { can_take round.old t ≡ true }
     ensures ok { OnOk result (round.new ≡ after_pick round.old (pick.Run t)) }
     ensures cost { OnOk result (Costs turns.old round.old turns.new round.new) }
@@ -47,10 +41,10 @@ fn run_step<L: Ledger>(
 
 /// Follows one pick: what is picked is reused, or executed and committed, and shown. The answer is whether
 /// anything was picked. The counter rises by the instructions that were executed.
-fn follow_pick<L: Ledger, G: Gate>(
+fn follow_pick<G: Gate>(
     alloc: Global,
     round: &mut Round,
-    turns: &mut Turns<L>,
+    turns: &mut Turns,
     gate: &G,
 ) -> Result<bool, AllocError>
     ensures followed { OnOk result (round.new ≡ after_pick round.old (pick_of round.old)) }
@@ -80,11 +74,11 @@ fn follow_pick<L: Ledger, G: Gate>(
 /// # Errors
 ///
 /// An error where the host's memory ran out; the counter may have risen, and is never lower.
-pub fn run_alone_shown<L: Ledger, G: Gate>(
+pub fn run_alone_shown<G: Gate>(
     alloc: Global,
     setup: Setup,
     past: Option<Arc<History>>,
-    turns: &mut Turns<L>,
+    turns: &mut Turns,
     gate: &G,
 ) -> Result<Round, AllocError>
     ensures alone { IfOk result (λ round. round ≡ lone_round setup (option_map arc_value past)) }
@@ -113,11 +107,11 @@ pub fn run_alone_shown<L: Ledger, G: Gate>(
 /// # Errors
 ///
 /// An error where the host's memory ran out; the counter may have risen, and is never lower.
-pub fn run_alone<L: Ledger>(
+pub fn run_alone(
     alloc: Global,
     setup: Setup,
     past: Option<Arc<History>>,
-    turns: &mut Turns<L>,
+    turns: &mut Turns,
 ) -> Result<Round, AllocError>
     ensures alone { IfOk result (λ round. round ≡ lone_round setup (option_map arc_value past)) }
     ensures cost { IfOk result (λ round. turns.new ≡ turns.old + executed_by round) }

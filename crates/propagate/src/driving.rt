@@ -21,7 +21,6 @@ use round_spec::Event;
 use std::alloc::{AllocError, Global};
 use std::array;
 use std::sync::Arc;
-use std::sync::ledger::Ledger;
 use thunk_run::{Job, execute};
 use turn_count::Turns;
 
@@ -72,12 +71,7 @@ impl Driven {
 
     /// Executes and commits the job that is out for thread `t`, if one is. After the round is over it
     /// is discarded. The counter rises by the instructions that it made.
-    fn on_commit<L: Ledger>(
-        &mut self,
-        alloc: Global,
-        t: u8,
-        turns: &mut Turns<L>,
-    ) -> Result<(), AllocError>
+    fn on_commit(&mut self, alloc: Global, t: u8, turns: &mut Turns) -> Result<(), AllocError>
         ensures round { OnOk result (self.new.round ≡ happens self.old.round (event.Commit t)) }
         ensures cost { OnOk result (Costs turns.old self.old.round turns.new self.new.round) }
         ensures never_lower { turns.old ≤ turns.new }
@@ -120,12 +114,7 @@ impl Driven {
     }
 
     /// Does an event; one whose condition doesn't hold changes nothing.
-    fn happen<L: Ledger>(
-        &mut self,
-        alloc: Global,
-        event: Event,
-        turns: &mut Turns<L>,
-    ) -> Result<(), AllocError>
+    fn happen(&mut self, alloc: Global, event: Event, turns: &mut Turns) -> Result<(), AllocError>
         ensures round { OnOk result (self.new.round ≡ happens self.old.round event) }
         ensures cost { OnOk result (Costs turns.old self.old.round turns.new self.new.round) }
         ensures never_lower { turns.old ≤ turns.new }
@@ -157,12 +146,12 @@ impl Driven {
 /// # Errors
 ///
 /// An error where the host's memory ran out; the counter may have risen, and is never lower.
-pub fn drive<L: Ledger>(
+pub fn drive(
     alloc: Global,
     setup: Setup,
     past: Option<Arc<History>>,
     events: &[Event],
-    turns: &mut Turns<L>,
+    turns: &mut Turns,
 ) -> Result<Round, AllocError>
     ensures round { IfOk result (λ round. round ≡ round_after setup (option_map arc_value past) events.now) }
     ensures cost { IfOk result (λ round. turns.new ≡ turns.old + executed_by round) }

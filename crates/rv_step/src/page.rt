@@ -15,7 +15,6 @@ use page_map::Mem;
 use rv_alu::Regs;
 use rv_code::CodePage;
 use std::alloc::AllocError;
-use std::sync::ledger::Ledger;
 use turn_count::Turns;
 
 /// Why turns in a page ended.
@@ -60,7 +59,7 @@ fn operation_at(page: &CodePage, number: u32, index: usize) -> Placed
 
 /// Ends turns in a page: so many were made, and the next is at this pc.
 #[inline(always)]
-fn leave<L: Ledger>(regs: &mut Regs, turns: &mut Turns<L>, left: Left, count: u32, pc: u32) -> Ran
+fn leave(regs: &mut Regs, turns: &mut Turns, left: Left, count: u32, pc: u32) -> Ran
     ensures left { result.left ≡ left }
     ensures count { result.count ≡ count }
     ensures registers { regs.new ≡ with_pc regs.old pc }
@@ -73,7 +72,7 @@ fn leave<L: Ledger>(regs: &mut Regs, turns: &mut Turns<L>, left: Left, count: u3
 
 /// Ends turns in a page where memory ran out in the one at this pc: so many were made before it, and it counts too.
 #[cold]
-fn fail<L: Ledger>(regs: &mut Regs, turns: &mut Turns<L>, made: u32, pc: u32) -> AllocError
+fn fail(regs: &mut Regs, turns: &mut Turns, made: u32, pc: u32) -> AllocError
     ensures registers { regs.new ≡ with_pc regs.old pc }
     ensures cost { turns.new ≡ turns.old + (made + 1) }
 {
@@ -91,12 +90,12 @@ fn fail<L: Ledger>(regs: &mut Regs, turns: &mut Turns<L>, made: u32, pc: u32) ->
 /// An error where the host's memory ran out in a turn: those before it were made, and nothing changed in it. The counter
 /// rises by their number and by one.
 #[inline(never)]
-pub fn run_page<M: Mem, L: Ledger>(
+pub fn run_page<M: Mem>(
     regs: &mut Regs,
     mem: &mut M,
     page: &CodePage,
     room: u32,
-    turns: &mut Turns<L>,
+    turns: &mut Turns,
 ) -> Result<Ran, AllocError>
     requires here { regs.old.pc / 4096 ≡ page.now.number }
     requires aligned { regs.old.pc % 4 ≡ 0 }

@@ -17,7 +17,6 @@ use page_map::Mem;
 use rv_alu::Regs;
 use rv_decode::decode;
 use std::alloc::AllocError;
-use std::sync::ledger::Ledger;
 use thunk_spec::Outcome;
 use turn_count::Turns;
 
@@ -85,11 +84,7 @@ fn execute<M: Mem>(regs: &mut Regs, mem: &mut M, instr: Instr) -> Result<Outcome
 /// pc may have been noted as read.
 #[inline(always)]
 #[tactic(auto, unfolding(thunk_spec::specs::Turn::turn))]
-pub fn step<M: Mem, L: Ledger>(
-    regs: &mut Regs,
-    mem: &mut M,
-    turns: &mut Turns<L>,
-) -> Result<Outcome, AllocError>
+pub fn step<M: Mem>(regs: &mut Regs, mem: &mut M, turns: &mut Turns) -> Result<Outcome, AllocError>
     ensures count { turns.new ≡ turns.old + 1 }
     ensures ok { IfOk result (λ outcome.
         Makes (turn (M.workspace mem.old).map (M.workspace mem.old).memory regs.old)

@@ -11,7 +11,6 @@ use rv_alu::Regs;
 use rv_code::{Code, CodePage};
 use rv_step::{Left, run_page};
 use std::alloc::AllocError;
-use std::sync::ledger::Ledger;
 use turn_count::Turns;
 
 /// How many turns there must be room for before a page is run from.
@@ -104,13 +103,13 @@ fn enter_page<'a, M: Mem>(
 ///
 /// An error where the host's memory ran out.
 #[inline(always)]
-pub(super) fn run_pages<M: Mem, L: Ledger>(
+pub(super) fn run_pages<M: Mem>(
     regs: &mut Regs,
     mem: &mut M,
     code: &Code,
     seen: &mut [Seen],
     room: u32,
-    turns: &mut Turns<L>,
+    turns: &mut Turns,
 ) -> Result<u32, AllocError>
     requires { AreSeen code.now (M.workspace mem.old).view seen.old }
     ensures few { IfOk result (λ count. count ≤ room) }

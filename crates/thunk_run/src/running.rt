@@ -13,7 +13,6 @@ use priv_space::Space;
 use rv_alu::Regs;
 use std::alloc::{AllocError, Global};
 use std::sync::Arc;
-use std::sync::ledger::Ledger;
 use thunk_record::{Frame, Kept, Record};
 use turn_count::Turns;
 
@@ -44,10 +43,10 @@ impl Job {
 /// # Errors
 ///
 /// An error where the host's memory ran out.
-fn run_thunk<L: Ledger, W: Watch>(
+fn run_thunk<W: Watch>(
     alloc: Global,
     job: &Job,
-    turns: &mut Turns<L>,
+    turns: &mut Turns,
     watch: &W,
 ) -> Result<Kept, AllocError>
     ensures cost { IfOk result (λ kept. turns.new ≡ turns.old + kept.count) }
@@ -76,7 +75,7 @@ fn run_thunk<L: Ledger, W: Watch>(
 /// # Errors
 ///
 /// An error where the host's memory ran out; the counter may have risen, and is never lower.
-pub fn execute<L: Ledger>(alloc: Global, job: &Job, turns: &mut Turns<L>) -> Result<Run, AllocError>
+pub fn execute(alloc: Global, job: &Job, turns: &mut Turns) -> Result<Run, AllocError>
     ensures run { IfOk result (λ run. IsRunOf job.now run) }
     ensures within { IfOk result (λ run. IsWithinFuel (arc_value job.now.frame).fuel (arc_value run.rec).kept.count) }
     ensures cost { IfOk result (λ run. turns.new ≡ turns.old + (arc_value run.rec).kept.count) }
@@ -91,10 +90,10 @@ pub fn execute<L: Ledger>(alloc: Global, job: &Job, turns: &mut Turns<L>) -> Res
 ///
 /// An error where the host's memory ran out; the counter may have risen, and is never lower.
 #[tactic(auto, using(crate::proofs::Counting::kept_within))]
-pub fn execute_watched<L: Ledger, W: Watch>(
+pub fn execute_watched<W: Watch>(
     alloc: Global,
     job: &Job,
-    turns: &mut Turns<L>,
+    turns: &mut Turns,
     watch: &W,
 ) -> Result<Run, AllocError>
     ensures run { IfOk result (λ run. IsRunOf job.now run) }

@@ -10,7 +10,6 @@ use page_map::Mem;
 use rv_alu::Regs;
 use rv_step::step;
 use std::alloc::{AllocError, Global};
-use std::sync::ledger::Ledger;
 use thunk_record::Frame;
 use thunk_spec::{Outcome, ThunkEnd};
 use turn_count::Turns;
@@ -34,12 +33,12 @@ const FIRST_TURNS: u32 = LONG_TURNS + PAGE_TURNS;
 /// # Errors
 ///
 /// An error where the host's memory ran out.
-pub(super) fn make_turns<M: Mem, L: Ledger, W: Watch>(
+pub(super) fn make_turns<M: Mem, W: Watch>(
     alloc: Global,
     frame: &Frame,
     regs: &mut Regs,
     mem: &mut M,
-    turns: &mut Turns<L>,
+    turns: &mut Turns,
     watch: &W,
 ) -> Result<Turned, AllocError>
     ensures cost { IfOk result (λ turned. turns.new ≡ turns.old + turned.count) }
@@ -93,12 +92,12 @@ pub(super) fn make_turns<M: Mem, L: Ledger, W: Watch>(
 /// # Errors
 ///
 /// An error where the host's memory ran out.
-pub(super) fn make_thunk<M: Mem, L: Ledger, W: Watch>(
+pub(super) fn make_thunk<M: Mem, W: Watch>(
     alloc: Global,
     frame: &Frame,
     regs: &mut Regs,
     mem: &mut M,
-    turns: &mut Turns<L>,
+    turns: &mut Turns,
     watch: &W,
 ) -> Result<Turned, AllocError>
     requires { (M.workspace mem.old).map ≡ frame.now.map }

@@ -9,27 +9,10 @@ use machine_spec::{End, Limits};
 use plain_machine::{Outcome, ReplayError, replay};
 use release_core::Setup;
 use std::alloc::{AllocError, Global};
-use std::marker::Brand;
-use std::sync::ledger::{Blank, Ledger};
 use std::test::Fail;
 use std::thread::Threads;
 use turn_count::Turns;
 use worked_guests::guests::CROSS;
-
-/// A replay, with a counter that the runtime made.
-fn counted<R: Threads, L: Ledger>(
-    rt: &R,
-    alloc: Global,
-    setup: &Setup,
-    schedule: &[u8],
-    blank: Blank,
-) -> Result<Outcome, ReplayError>
-    requires name { blank.name ≡ L.name }
-    requires parts { blank.parts ≡ L.parts }
-    requires some { 0 < L.parts }
-{
-    replay(alloc, setup, schedule, &mut Turns::<L>::new(rt, blank))
-}
 
 /// What a setup comes to under a schedule.
 fn outcome_of<R: Threads>(
@@ -38,7 +21,7 @@ fn outcome_of<R: Threads>(
     setup: &Setup,
     schedule: &[u8],
 ) -> Result<Outcome, ReplayError> {
-    counted::<R, Brand>(rt, alloc, setup, schedule, Blank::new(1))
+    replay(alloc, setup, schedule, &mut Turns::new(rt))
 }
 
 #[test]

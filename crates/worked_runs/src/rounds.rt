@@ -7,9 +7,7 @@ use propagate::{Round, drive};
 use release_core::{History, Setup};
 use round_spec::Event;
 use std::alloc::{AllocError, Global};
-use std::marker::Brand;
 use std::sync::Arc;
-use std::sync::ledger::{Blank, Ledger};
 use std::test::Fail;
 use std::thread::Threads;
 use turn_count::Turns;
@@ -33,22 +31,6 @@ pub(super) fn setup_of(
     }
 }
 
-/// The round that events make, with a counter that the runtime made.
-fn counted<R: Threads, L: Ledger>(
-    rt: &R,
-    alloc: Global,
-    setup: Setup,
-    past: Option<Arc<History>>,
-    events: &[Event],
-    blank: Blank,
-) -> Result<Round, AllocError>
-    requires name { blank.name ≡ L.name }
-    requires parts { blank.parts ≡ L.parts }
-    requires some { 0 < L.parts }
-{
-    drive(alloc, setup, past, events, &mut Turns::<L>::new(rt, blank))
-}
-
 /// The round of a guest that these events make, by a history if there is one.
 pub(super) fn driven<R: Threads>(
     rt: &R,
@@ -59,7 +41,7 @@ pub(super) fn driven<R: Threads>(
     events: &[Event],
 ) -> Result<Round, Fail> {
     match setup_of(alloc, guest, input)? {
-        Some(setup) => Ok(counted::<R, Brand>(rt, alloc, setup, past, events, Blank::new(1))?),
+        Some(setup) => Ok(drive(alloc, setup, past, events, &mut Turns::new(rt))?),
         None => Err(Fail::new("the guest isn't taken")),
     }
 }

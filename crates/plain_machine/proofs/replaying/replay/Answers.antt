@@ -10,7 +10,7 @@ use Rattle.plain_machine.proofs.replaying.replay.Goals as goal
 
 pub loop-i-init : goal.loop-i-init
 unfolding first
-loop-i-init g c =
+loop-i-init c =
     record {
       machine = c.in_ok-machine.ensures;
       permitted = refl;
@@ -21,7 +21,7 @@ loop-i-init g c =
     }
 
 pub loop-i-preserved : goal.loop-i-preserved
-loop-i-preserved g c =
+loop-i-preserved c =
     let m : Machine = first c.args.setup.now in
     let all = c.args.schedule.now in
     let i = c.loop-i.i in

@@ -7,7 +7,7 @@ use Rattle.plain_machine.proofs.replaying.replay.Given as goal
 
 -- the machine is that of the entries so far, which are permitted, and has made their turns and as many steps
 abbrev pub invariant-loop-i : goal.invariant-loop-i
-invariant-loop-i g l = record {
+invariant-loop-i l = record {
   machine : l.machine ≡ scratch_from (first l.setup) (take l.i l.schedule);
   permitted : is_permitted_from (first l.setup) (take l.i l.schedule) ≡ true;
   instructions : l.instructions ≡ turns_from (first l.setup) (take l.i l.schedule);

@@ -5,7 +5,7 @@ use Rattle.plain_machine.proofs.Turning.{turns-next}
 use Rattle.plain_machine.proofs.thunk.make_turns.Goals as goal
 
 pub loop-count-preserved : goal.loop-count-preserved
-loop-count-preserved g c =
+loop-count-preserved c =
     record {
       few = omega arith;
       counter = omega (arith, c.step.ensures.count);

@@ -4,7 +4,7 @@ use Rattle.plain_machine.specs.Turning.{left_after, counted}
 use Rattle.plain_machine.proofs.thunk.make_turns.Given as goal
 
 abbrev pub invariant-loop-count : goal.invariant-loop-count
-invariant-loop-count g l = record {
+invariant-loop-count l = record {
   few : l.count ≤ l.fuel;
   counter : l.turns ≡ l.fn.turns + l.count;
   map : l.work.map ≡ l.fn.work.map;
@@ -13,4 +13,4 @@ invariant-loop-count g l = record {
 }
 
 abbrev pub decreases-loop-count : goal.decreases-loop-count
-decreases-loop-count g l = l.fuel - l.count
+decreases-loop-count l = l.fuel - l.count

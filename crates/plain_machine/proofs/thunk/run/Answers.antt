@@ -7,7 +7,7 @@ use Rattle.plain_machine.proofs.Turning.{is-done}
 use Rattle.plain_machine.proofs.thunk.run.Goals as goal
 
 pub returns-clause-done : goal.returns-clause-done
-returns-clause-done g c =
+returns-clause-done c =
     is-done (record { map = arc_value c.args.map.now; fuel = c.args.fuel }) c.args.view.now c.args.start c.in_ok-work.work
     c.make_turns.new.work
     (record {

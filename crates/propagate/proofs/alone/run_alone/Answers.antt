@@ -6,43 +6,43 @@ use Rattle.propagate.proofs.Executing.{alone-threads, alone-permitted, alone-com
 use Rattle.propagate.proofs.alone.run_alone.Goals as goal
 
 pub returns-clause-threads : goal.returns-clause-threads
-returns-clause-threads g c =
+returns-clause-threads c =
     alone-threads c.args.setup (option_map arc_value c.args.past) _ c.sound.ensures c.in_ok-round.ensures.alone
 
 pub returns-clause-permitted : goal.returns-clause-permitted
-returns-clause-permitted g c =
+returns-clause-permitted c =
     alone-permitted c.args.setup (option_map arc_value c.args.past) _ c.sound.ensures c.in_ok-round.ensures.alone
 
 pub returns-clause-complete : goal.returns-clause-complete
-returns-clause-complete g c =
+returns-clause-complete c =
     alone-complete c.args.setup (option_map arc_value c.args.past) _ c.sound.ensures c.in_ok-round.ensures.alone
 
 pub returns-clause-scratch : goal.returns-clause-scratch
-returns-clause-scratch g c =
+returns-clause-scratch c =
     alone-scratch c.args.setup (option_map arc_value c.args.past) _ c.sound.ensures c.in_ok-round.ensures.alone
 
 pub returns-clause-picked : goal.returns-clause-picked
-returns-clause-picked g c =
+returns-clause-picked c =
     alone-picked c.args.setup (option_map arc_value c.args.past) _ c.sound.ensures c.in_ok-round.ensures.alone
 
 pub returns-clause-least : goal.returns-clause-least
-returns-clause-least g c =
+returns-clause-least c =
     alone-least c.args.setup (option_map arc_value c.args.past) _ c.sound.ensures c.in_ok-round.ensures.alone
 
 pub returns-clause-ends : goal.returns-clause-ends
-returns-clause-ends g c =
+returns-clause-ends c =
     alone-ends c.args.setup (option_map arc_value c.args.past) _ c.sound.ensures c.in_ok-round.ensures.alone
 
 pub returns-clause-discarded : goal.returns-clause-discarded
-returns-clause-discarded g c =
+returns-clause-discarded c =
     alone-discarded c.args.setup (option_map arc_value c.args.past) _ c.sound.ensures c.in_ok-round.ensures.alone
 
 pub returns-clause-unedited : goal.returns-clause-unedited
-returns-clause-unedited g c =
+returns-clause-unedited c =
     λ h. alone-reuses c.args.setup (option_map arc_value c.args.past) c.in_ok-round.round h c.in_ok-round.ensures.alone
 
 pub returns-clause-executes_nothing : goal.returns-clause-executes_nothing
-returns-clause-executes_nothing g c = λ h there unedited.
+returns-clause-executes_nothing c = λ h there unedited.
     let reuses : OnlyReuses h c.in_ok-round.round =
     alone-reuses c.args.setup (option_map arc_value c.args.past) c.in_ok-round.round h c.in_ok-round.ensures.alone
     there unedited in

@@ -10,7 +10,7 @@ use Rattle.propagate.proofs.Executing.{run-record, own-commits, own-counts}
 use Rattle.propagate.proofs.alone.run_step.Goals as goal
 
 pub make-requires : goal.make-requires
-make-requires g c =
+make-requires c =
     let own : arc_value c.in_ok-run.run'.rec ≡ record_of c.args.round.now.machine c.args.t =
     run-record c.args.round.now.machine c.args.t c.in_ok-job.job c.in_ok-run.run' c.in_ok-job.ensures.job
     c.in_ok-run.ensures.run in
@@ -24,7 +24,7 @@ with_ok (Ok done) f p = f p
 with_ok (Err e) f p = tt
 
 pub returns-clause-cost : goal.returns-clause-cost
-returns-clause-cost g c =
+returns-clause-cost c =
     with_ok c.make.result
     (λ committed.
     let counts =

@@ -14,14 +14,14 @@ use Rattle.round_spec.proofs.Reusing.{reused-whole}
 use Rattle.propagate.proofs.driving.drive.Goals as goal
 
 pub returns-clause-scratch : goal.returns-clause-scratch
-returns-clause-scratch g c = λ sound.
+returns-clause-scratch c = λ sound.
     subst IsFromScratch
     (sym c.loop-event.invariant.0 ∙ ap (all_happen c.loop-event.driven.round)
     (drop_all c.loop-event.event-index c.args.events.now c.loop-event-test.false))
     (round-scratch c.args.setup (option_map arc_value c.args.past) c.args.events.now c.sound.ensures sound)
 
 pub returns-clause-every_order : goal.returns-clause-every_order
-returns-clause-every_order g c = λ h places past unedited order are.
+returns-clause-every_order c = λ h places past unedited order are.
     subst (ReusesInOrder h places)
     (ap (λ (s : Setup). round_after s (Some h) (reuses_of h places)) unedited.same
     ∙ ap (λ (p : Option History). round_after c.args.setup p (reuses_of h places)) (sym past)

@@ -7,7 +7,7 @@ use Rattle.propagate.proofs.driving.drive.Given as goal
 
 -- what the events so far did, followed by what the rest does, is all; and the counter has risen by what was executed
 abbrev pub invariant-loop-event : goal.invariant-loop-event
-invariant-loop-event g l =
+invariant-loop-event l =
     (all_happen l.driven.round (drop l.event-index l.events)
     ≡ round_after l.fn.setup (option_map arc_value l.fn.past) l.events)
     × (l.turns ≡ l.fn.turns + executed_by l.driven.round)

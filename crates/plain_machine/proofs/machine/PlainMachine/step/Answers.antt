@@ -21,7 +21,7 @@ use Rattle.plain_machine.proofs.Stepping.{stepped, told}
 use Rattle.plain_machine.proofs.machine.PlainMachine.step.Goals as goal
 
 pub run-requires : goal.run-requires
-run-requires g c =
+run-requires c =
     let map : List Mapped = arc_value c.self.inside.map in
     let m : Machine = record {
       frame = record { map = map; fuel = c.self.inside.fuel };
@@ -43,12 +43,12 @@ run-requires g c =
     (hart-at map c.self.inside.steps c.self.inside.harts.items c.args.t below c.self.invariant.harts).view
 
 pub finish-requires-clause-tied : goal.finish-requires-clause-tied
-finish-requires-clause-tied g c =
+finish-requires-clause-tied c =
     rw c.write_back.ensures
     (tied-written c.self.inside.objects c.self.inside.harts.items c.args.t _ refl c.self.invariant.tied)
 
 pub invariant_of-machine : goal.invariant_of-machine
-invariant_of-machine g c =
+invariant_of-machine c =
     let map : List Mapped = arc_value c.self.inside.map in
     let m : Machine = record {
       frame = record { map = map; fuel = c.self.inside.fuel };
@@ -103,7 +103,7 @@ invariant_of-machine g c =
     (c.step_keeps_whole.ensures m c.args.t c.self.invariant may)
 
 pub returns-clause-machine : goal.returns-clause-machine
-returns-clause-machine g c =
+returns-clause-machine c =
     let map : List Mapped = arc_value c.self.inside.map in
     let m : Machine = record {
       frame = record { map = map; fuel = c.self.inside.fuel };
@@ -155,7 +155,7 @@ returns-clause-machine g c =
     ∙ ap (λ (x : Machine). step.step x c.args.t) c.self.view_is
 
 pub returns-clause-made : goal.returns-clause-made
-returns-clause-made g c =
+returns-clause-made c =
     let map : List Mapped = arc_value c.self.inside.map in
     let m : Machine = record {
       frame = record { map = map; fuel = c.self.inside.fuel };

@@ -11,31 +11,31 @@ use Rattle.propagate.proofs.driving.Driven.on_commit.Goals as goal
 use Rattle.propagate.proofs.driving.Driven.on_commit.Goals.{in-Done, in-Memory}
 
 pub returns-then-not-is_out-clause-round : goal.returns-then-not-is_out-clause-round
-returns-then-not-is_out-clause-round g c =
+returns-then-not-is_out-clause-round c =
     sym (happens-commit_not c.args.self.now.round c.args.t (sym c.is_out.ensures ∙ c.if-not-is_out.true))
 
 pub invariant_of-self : goal.invariant_of-self
-invariant_of-self g c =
+invariant_of-self c =
     record {
       held = jobs-stay c.args.self.now.round c.give_back.new.self (GiveBack c.args.t) c.args.self.now.jobs tt
           c.keeps.ensures.in_order c.give_back.ensures.event c.args.self.now.held;
     }
 
 pub returns-then-is_over-clause-round : goal.returns-then-is_over-clause-round
-returns-then-is_over-clause-round g c =
+returns-then-is_over-clause-round c =
     c.give_back.ensures.event
     ∙ over-discards c.args.self.now.round c.args.t (sym c.is_out.ensures ∙ c.if-not-is_out.false)
     (sym c.is_over.ensures ∙ c.if-is_over.true)
 
 pub invariant_of-self-2 : goal.invariant_of-self-2
-invariant_of-self-2 g c =
+invariant_of-self-2 c =
     record {
       held = jobs-commit c.args.self.now.round c.commit.new.self c.in_ok-run-in-Some.run' c.args.self.now.jobs
           c.commit.result c.keeps.ensures.in_order c.commit.ensures.does c.args.self.now.held;
     }
 
 pub unreachable-requires-in-Stale : goal.unreachable-requires-in-Stale
-unreachable-requires-in-Stale g c =
+unreachable-requires-in-Stale c =
     let out : is_out c.args.self.now.round c.args.t ≡ true = sym c.is_out.ensures ∙ c.if-not-is_out.false in
     c.in-Stale.ensures.does.0
     (run-commits c.args.self.now.round c.args.t c.in-Some.job c.in_ok-run-in-Some.run' c.keeps.ensures.in_order out
@@ -46,13 +46,13 @@ unreachable-requires-in-Stale g c =
     c.in_ok-run-in-Some.ensures.run)
 
 pub returns-then-is_over-clause-cost : goal.returns-then-is_over-clause-cost
-returns-then-is_over-clause-cost g c =
+returns-then-is_over-clause-cost c =
     costs-nothing c.args.turns.now c.args.self.now.round c.give_back.new.self (GiveBack c.args.t)
     c.keeps.ensures.counted tt
     c.give_back.ensures.event
 
 pub returns-clause-cost : goal.returns-clause-cost
-returns-clause-cost g c =
+returns-clause-cost c =
     elim c.match-commit.branch [
       | in-Done w ↦
           (let out : is_out c.args.self.now.round c.args.t ≡ true = sym c.is_out.ensures ∙ c.if-not-is_out.false in
