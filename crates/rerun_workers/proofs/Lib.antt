@@ -2,5 +2,4 @@
 pub mod Following
 pub mod Made
 pub mod Numbers
-pub mod Passes
 pub mod Under

@@ -1,5 +1,6 @@
 -- What workers made of a round.
-use Rattle.std.proofs.Common.{◌≡◌, ◌<◌, ℕ, true, List, [], ◌∷◌, length, sum, Option, is_some, refl, ap, sym, ◌∙◌, subst, arith}
+use Rattle.std.proofs.Common.{◌≡◌, ◌+◌, ◌-◌, ◌<◌, ◌≤◌, ℕ, zero, suc, true, List, [], ◌∷◌, ◌++◌, length, sum, replicate, fold, Option, Some, is_some, refl, ap, sym, ◌∙◌, subst, arith}
+use Rattle.std.proofs.lemmas.List.{length-replicate}
 use Rattle.machine_spec.specs.Setup.{Setup, IsSetup}
 use Rattle.history_spec.specs.History.{History, IsSound}
 use Rattle.round_spec.specs.Rounds.{RoundState}
@@ -10,13 +11,14 @@ use Rattle.worker_spec.specs.Workers.{IsMadeBy}
 use Rattle.worker_spec.proofs.Events.{picks-events}
 use Rattle.worker_spec.proofs.Workers.{lone-made, ended-made}
 use Rattle.round_spec.specs.Picking.{ArePicked, IsPickedSoFar}
-use Rattle.round_spec.specs.Unedited.{IsUnedited}
+use Rattle.round_spec.specs.Unedited.{IsUnedited, OnlyReuses}
 use Rattle.worker_spec.specs.Watching.{IsProgress}
 use Rattle.worker_spec.proofs.Replay.{replays-end}
 use Rattle.reach_spec.proofs.ByWorkers.{reexecutes-picked}
+use Rattle.propagate.specs.Executing.{executed_by}
 use Rattle.propagate.proofs.Executing.{alone-picked, alone-least, alone-ends, alone-reuses}
 use Rattle.rerun_workers.specs.Following.{FollowsPicks}
-use Rattle.rerun_workers.specs.Making.{IsRoundBy}
+use Rattle.rerun_workers.specs.Making.{IsRoundBy, IsClosed, IsCostOf}
 
 -- the round of one worker is of its setup, and goes by its history
 
@@ -83,10 +85,13 @@ by-one workers setup past w shares is valid stands each steps =
 
 pub by-several :
     (workers : ℕ) (setup : Setup) (past : Option History) (w : RoundState) (shares : List ℕ)
-    → 1 < workers → IsSetup w.setup → w.setup ≡ setup → w.past ≡ past → IsBySchedule w
-    → is_some w.machine.ending ≡ true → length shares ≡ workers → sum shares ≡ length w.schedule
-    → FollowsPicks setup past w → IsRoundBy workers setup past w shares
-by-several workers setup past w shares many valid is_setup is_past stands ended each steps follows =
+    (turns : ℕ)
+    → 1 < workers → IsSetup w.setup → IsClosed setup past w shares turns → IsBySchedule w
+    → is_some w.machine.ending ≡ true → length shares ≡ workers → IsRoundBy workers setup past w shares
+by-several workers setup past w shares turns many valid closed stands ended each =
+    let is_setup = closed.setup in
+    let is_past = closed.past in
+    let follows = closed.follows in
     let own : FollowsPicks w.setup w.past w =
     subst (λ (s : Setup). FollowsPicks s w.past w) (sym is_setup)
     (subst (λ (p : Option History). FollowsPicks setup p w) (sym is_past) follows) in
@@ -94,7 +99,7 @@ by-several workers setup past w shares many valid is_setup is_past stands ended 
       setup = is_setup;
       past = is_past;
       stands = stands;
-      made = together-made workers setup past w shares many is_setup is_past stands ended each steps own;
+      made = together-made workers setup past w shares many is_setup is_past stands ended each closed.steps own;
       alone = λ one. absurd (let no : 1 < workers = many in omega (arith, one, no));
       picked = entries-picked setup past w is_setup is_past follows;
       least = reexecutes-picked w w.picked valid stands (entries-picked w.setup w.past w refl refl own);
@@ -102,6 +107,61 @@ by-several workers setup past w shares many valid is_setup is_past stands ended 
       unedited = λ h is unedited.
           replays-end h w unedited.honest
           (own.replays h (is_past ∙ is) (subst (IsUnedited h) (sym is_setup) unedited)) ended;
+    }
+
+-- the shares where the first made all
+
+replicate-more : (n : ℕ) → replicate {A = ℕ} (suc n) 0 ≡ replicate {A = ℕ} n 0 ++ 0 ∷ []
+replicate-more zero = refl
+replicate-more (suc n) = ap (λ (l : List ℕ). 0 ∷ l) (replicate-more n)
+
+pub first-each :
+    (workers steps : ℕ) (shares : List ℕ) → 1 ≤ workers → shares ≡ steps ∷ replicate (workers - 1) 0 → length shares ≡ workers
+first-each workers steps shares some is =
+    let rest : length (replicate {A = ℕ} (workers - 1) 0) ≡ workers - 1 = length-replicate (workers - 1) 0 in
+    ap (length {A = ℕ}) is ∙ omega arith
+
+pub first-more :
+    (made steps : ℕ) (shares next : List ℕ)
+    → 1 ≤ made → shares ≡ steps ∷ replicate (made - 1) 0 → next ≡ shares ++ 0 ∷ []
+    → next ≡ steps ∷ replicate (made + 1 - 1) 0
+first-more made steps shares next some is more =
+    let count : suc (made - 1) ≡ made + 1 - 1 = omega arith in
+    more ∙ ap (λ (l : List ℕ). l ++ 0 ∷ []) is
+    ∙ ap (λ (l : List ℕ). steps ∷ l) (sym (replicate-more (made - 1)) ∙ ap (λ (n : ℕ). replicate {A = ℕ} n 0) count)
+
+zeros-sum : (n a : ℕ) → fold (λ (s : ℕ) (x : ℕ). s + x) a (replicate n 0) ≡ a
+zeros-sum zero a = refl
+zeros-sum (suc n) a = let rest = zeros-sum n (a + 0) in omega arith
+
+pub first-sum : (workers steps : ℕ) (shares : List ℕ) → shares ≡ steps ∷ replicate (workers - 1) 0 → sum shares ≡ steps
+first-sum workers steps shares is =
+    let rest = zeros-sum (workers - 1) (0 + steps) in ap sum is ∙ omega arith
+
+-- what a round cost that one worker made, beside turns that were made before
+pub cost-first :
+    (workers spent turns : ℕ) (s : Setup) (before : Option History) (w : RoundState) (shares : List ℕ)
+    → IsRoundBy workers s before w shares → turns ≡ spent + executed_by w
+    → (workers ≡ 1 → spent ≡ 0) → ((h : History) → before ≡ Some h → IsUnedited h s → spent ≡ 0)
+    → IsCostOf workers s before w turns
+cost-first workers spent turns s before w shares by rise one none =
+    record {
+      alone = λ single. let zero = one single in omega (arith, rise, zero);
+      idle = λ h there unedited.
+          let zero = none h there unedited in
+          let reuses : OnlyReuses h w = by.unedited h there unedited in
+          let executed = reuses.executed in
+          omega (arith, rise, zero, executed);
+    }
+
+-- and one that several made together
+pub cost-several :
+    (workers turns : ℕ) (s : Setup) (before : Option History) (w : RoundState) (shares : List ℕ)
+    → 1 < workers → IsClosed s before w shares turns → IsCostOf workers s before w turns
+cost-several workers turns s before w shares many closed =
+    record {
+      alone = λ one. absurd (let no : 1 < workers = many in omega (arith, one, no));
+      idle = closed.idle;
     }
 
 -- the number of all steps alone is the progress of a round

@@ -1,5 +1,6 @@
 -- The files of definitions of this crate.
 pub mod Following
 pub mod Locking
+pub mod Passes
 pub mod Watching
 pub mod Making

@@ -1,5 +1,5 @@
 -- What the calls of a worker do to the round under the lock.
-use Rattle.std.specs.Prelude.{◌≡◌, ◌+◌, ℕ, zero, suc, ⊤, Bool, true, false, length}
+use Rattle.std.specs.Prelude.{◌≡◌, ◌+◌, ◌<◌, ℕ, zero, suc, ⊤, Bool, true, false, length}
 use Rattle.std.specs.Arc.{arc_value}
 use Rattle.thunk_spec.specs.Thunk.{Frame}
 use Rattle.release_core.specs.Jobs.{IsJobOf}
@@ -54,6 +54,20 @@ BeginsNothing (task.Begin job) = ⊥
 BeginsNothing task.Hold = ⊤
 BeginsNothing task.Over = ⊤
 BeginsNothing task.Memory = ⊤
+
+-- How many steps a worker is told to begin.
+abbrev pub begun_by : Task → ℕ
+begun_by (task.Begin job) = 1
+begun_by task.Hold = 0
+begun_by task.Over = 0
+begun_by task.Memory = 0
+
+-- A worker that is told to begin a step has executed, and has in hand, fewer steps than it was told to begin.
+abbrev pub IsReady : Task → ℕ → ℕ → Type 0
+IsReady (task.Begin job) ran taken = ran < taken
+IsReady task.Hold ran taken = ⊤
+IsReady task.Over ran taken = ⊤
+IsReady task.Memory ran taken = ⊤
 
 -- A step to begin has this page map and this fuel.
 abbrev pub BeginsIn : Frame → Task → Type 0

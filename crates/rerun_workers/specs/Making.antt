@@ -1,5 +1,5 @@
 -- What workers make together.
-use Rattle.std.specs.Prelude.{◌≡◌, ℕ, true, List, is_some, Option, Some}
+use Rattle.std.specs.Prelude.{◌≡◌, ℕ, true, List, length, sum, is_some, Option, Some}
 use Rattle.machine_spec.specs.Setup.{Setup}
 use Rattle.history_spec.specs.History.{History, IsSound}
 use Rattle.round_spec.specs.Rounds.{RoundState}
@@ -9,6 +9,8 @@ use Rattle.round_spec.specs.Picking.{ArePicked}
 use Rattle.round_spec.specs.Unedited.{IsUnedited, OnlyReuses}
 use Rattle.worker_spec.specs.Workers.{IsMadeBy}
 use Rattle.reach_spec.specs.Working.{ReexecutesLeast}
+use Rattle.propagate.specs.Executing.{executed_by}
+use Rattle.rerun_workers.specs.Following.{FollowsPicks}
 
 -- A round of a setup, by a history if there is one, that so many workers made, and how many of its steps each of them
 -- made: it stands by its schedule; one worker makes the round of the choice; by a sound history each entry was picked
@@ -24,3 +26,18 @@ pub record IsRoundBy (workers : ℕ) (s : Setup) (before : Option History) (w : 
     pub least : ReexecutesLeast w
     pub ends : is_some w.machine.ending ≡ true
     pub unedited : (h : History) → before ≡ Some h → IsUnedited h s → OnlyReuses h w
+
+-- A round after its board was closed, over or not, the shares of its workers and their counters of turns as one: only
+-- what was picked was begun; the shares add up to the steps; and without an edit the counter is 0.
+pub record IsClosed (s : Setup) (before : Option History) (w : RoundState) (shares : List ℕ) (turns : ℕ) : Type 0 where
+  pub setup : w.setup ≡ s
+  pub past : w.past ≡ before
+  pub steps : sum shares ≡ length w.schedule
+  pub follows : FollowsPicks s before w
+  pub idle : (h : History) → before ≡ Some h → IsUnedited h s → turns ≡ 0
+
+-- What is known of how many turns so many workers made for a round: one worker those of the executed steps; without an
+-- edit there are none; else they may be any number.
+pub record IsCostOf (workers : ℕ) (s : Setup) (before : Option History) (w : RoundState) (turns : ℕ) : Type 0 where
+  pub alone : workers ≡ 1 → turns ≡ executed_by w
+  pub idle : (h : History) → before ≡ Some h → IsUnedited h s → turns ≡ 0

@@ -8,26 +8,29 @@
 //! hold, a worker lets go of the lock and waits in one: so it misses nobody who wakes it for what came after it asked.
 //! A worker that is held at its gate asks and looks only when it is past it.
 
-ghost use Rattle.std.specs.Prelude.{◌≡◌, ◌≢◌, ◌+◌, ◌<◌, ◌≤◌, All, length, map, replicate, sum, vec_len, vec_capacity, Some, [], IfOk, Decides};
+ghost use Rattle.std.specs.Prelude.{◌≡◌, ◌≢◌, ◌+◌, ◌<◌, ◌≤◌, All, length, map, replicate, sum, sum_by, vec_len, vec_capacity, Some, [], IfOk, Decides};
 ghost use Rattle.std.specs.Arc.{arc_value};
 ghost use Rattle.machine_spec.specs.Setup.{first};
 ghost use Rattle.history_spec.specs.History.{History};
 ghost use Rattle.round_spec.specs.Rounds.{opening};
 ghost use Rattle.round_spec.specs.Unedited.{IsUnedited};
 ghost use Rattle.rerun_workers.specs.declared.locked.Task.TheVariants as task;
-ghost use Rattle.rerun_workers.specs.Following.{FollowsPicks};
+ghost use Rattle.rerun_workers.specs.Making.{IsClosed};
 ghost use Rattle.rerun_workers.specs.Watching.{IsCounting};
-ghost use Rattle.rerun_workers.specs.Locking.{BeginsIn, BeginsNothing, HandsBack, steps_by};
+ghost use Rattle.rerun_workers.specs.Passes.{held};
+ghost use Rattle.rerun_workers.specs.Locking.{BeginsIn, BeginsNothing, begun_by, IsReady, HandsBack, steps_by};
 
 use super::locked::{Landed, Locked, Task};
 use super::naming::{Naming, Pass};
-use super::watching::{Counter, Watch};
+use super::watching::{Counter, Watch, Watched};
 use propagate::Round;
 use std::alloc::{AllocError, Global};
 use std::sync::ledger::{Blank, Share};
 use std::sync::{Condvar, Mutex, Wait};
+use std::thread::Threads;
 use thunk_record::Frame;
 use thunk_run::{Job, Run};
+use turn_count::Turns;
 
 /// What workers share: the round under a lock, the condition that there is work or none any more, and the page map and the
 /// fuel of the round's steps. A worker executes outside the lock, and who watches the round takes none.
@@ -43,8 +46,20 @@ pub struct Board<J: Naming> {
     ghost room: { (J.workers ≤ vec_capacity shares) × (J.watches ≤ vec_capacity numbers) },
 }
 
-/// A pass for each of so many workers, which has made no step.
-fn passes_of<J: Naming>(
+/// A round that workers made.
+#[derive(Drop)]
+pub struct Worked {
+    /// The round.
+    pub round: Round,
+    /// How many of its steps each worker made.
+    pub shares: Vec<u64>,
+    /// The counters of its workers as one.
+    pub turns: Turns,
+}
+
+/// A pass for each of so many workers, which has made no step, each with a new counter of turns.
+fn passes_of<J: Naming, R: Threads>(
+    rt: &R,
     alloc: Global,
     mut all: Share<J>,
     workers: u32,
@@ -57,27 +72,42 @@ fn passes_of<J: Naming>(
     let mut passes = Vec::new(alloc);
     for made in 0..workers {
         let share = all.split_off(1, 0);
-        passes.push(Pass::new(share))?;
+        passes.push(Pass::new(share, Turns::new(rt)))?;
     }
     Ok(passes)
 }
 
-/// All shares as one, and the steps of each pass in their order.
-fn gather<J: Naming>(mut passes: Vec<Pass<J>>, mut shares: Vec<u64>) -> (Share<J>, Vec<u64>)
+/// All shares as one, the steps of each pass in their order, and all counters of turns as one, which is 0 without an
+/// edit.
+fn gather<J: Naming>(mut passes: Vec<Pass<J>>, mut shares: Vec<u64>) -> (Share<J>, Vec<u64>, Turns)
     requires some { 0 < vec_len passes }
     requires none { shares.items ≡ [] }
     requires room { vec_len passes ≤ vec_capacity shares }
     ensures parts { result.0.parts ≡ vec_len passes }
     ensures amount { result.0.amount ≡ sum result.1.items }
     ensures shares { result.1.items ≡ map (λ pass. pass.steps) passes.items }
+    ensures turns { result.2 ≡ sum_by (λ pass. pass.turns) passes.items }
+    ensures idle { (h : History) → J.past ≡ Some h → IsUnedited h J.setup → result.2 ≡ 0 }
 {
-    let mut all = passes[0].empty();
+    let Pass {
+        share: mut all,
+        mut turns,
+        steps,
+        ..
+    } = passes.remove(0);
+    shares.push_reserved(steps);
     while !passes.is_empty() {
-        let Pass { share, steps, .. } = passes.remove(0);
+        let Pass {
+            share,
+            turns: more,
+            steps,
+            ..
+        } = passes.remove(0);
         all.merge(share);
+        turns.merge(more);
         shares.push_reserved(steps);
     }
-    (all, shares)
+    (all, shares, turns)
 }
 
 /// So many watches of the word that counts the steps of a round.
@@ -128,7 +158,8 @@ impl<J: Naming> Board<J> {
     /// # Errors
     ///
     /// An error where the host's memory ran out.
-    pub fn new(
+    pub fn new<R: Threads>(
+        rt: &R,
         alloc: Global,
         round: Round,
         workers: u32,
@@ -144,38 +175,38 @@ impl<J: Naming> Board<J> {
     {
         let (book, all) = blank.open::<J>();
         let board = Board::opened(alloc, Locked::new(round, book, None), workers, 0)?;
-        let passes = passes_of(alloc, all, workers)?;
+        let passes = passes_of(rt, alloc, all, workers)?;
         Ok((board, passes))
     }
 
     /// The board of a round before its first step, a pass for each of its workers, none of whom has made a step, and
-    /// so many watches. The counter, which has counted nothing, counts the steps from now on.
+    /// so many watches. The round's counter, which has counted nothing, counts the steps from now on.
     ///
     /// # Errors
     ///
     /// An error where the host's memory ran out.
-    pub fn with_watches(
+    pub fn with_watches<R: Threads>(
+        rt: &R,
         alloc: Global,
-        round: Round,
+        watched: Watched,
         workers: u32,
         watches: u32,
-        counter: Counter,
         blank: Blank,
     ) -> Result<(Board<J>, Vec<Pass<J>>, Vec<Watch<J>>), AllocError>
         requires name { blank.name ≡ J.name }
         requires parts { (blank.parts ≡ J.parts) × (J.parts ≡ workers) }
         requires workers { (workers ≡ J.workers) × (watches ≡ J.watches) }
-        requires table { (counter.writer.table ≡ J.table) × (counter.writer.added ≡ 0) }
-        requires opening { round ≡ opening J.setup J.past }
+        requires table { (watched.counter.writer.table ≡ J.table) × (watched.counter.writer.added ≡ 0) }
+        requires opening { watched.round ≡ opening J.setup J.past }
         ensures count { IfOk result (λ made. (vec_len made.1 ≡ workers) × (vec_len made.2 ≡ watches)) }
         ensures nothing { IfOk result (λ made. All (λ pass. pass.steps ≡ 0) made.1.items) }
     {
+        let Watched { round, mut counter } = watched;
         let (book, all) = blank.open::<J>();
-        let mut counter = counter;
         let seats = watches_of(alloc, &mut counter, watches)?;
         let locked = Locked::new(round, book, Some(counter));
         let board = Board::opened(alloc, locked, workers, watches)?;
-        let passes = passes_of(alloc, all, workers)?;
+        let passes = passes_of(rt, alloc, all, workers)?;
         Ok((board, passes, seats))
     }
 
@@ -223,6 +254,9 @@ impl<J: Naming> Board<J> {
         ensures own { BeginsIn (first J.setup).frame result }
         ensures never_lower { pass.old.steps ≤ pass.new.steps }
         ensures unedited { (h : History) → J.past ≡ Some h → IsUnedited h J.setup → BeginsNothing result }
+        ensures asked { pass.old.asked.number < pass.new.asked.number }
+        ensures taken { pass.new.taken.number ≡ pass.old.taken.number + begun_by result }
+        ensures ready { IsReady result (pass.new.ran.number + held pass.new.begun) pass.new.taken.number }
     {
         let mut locked = self.lock.lock(rt);
         for _ in rt.forever() {
@@ -258,6 +292,8 @@ impl<J: Naming> Board<J> {
         requires own { arc_value run.frame ≡ (first J.setup).frame }
         ensures back { HandsBack run result }
         ensures counts { pass.new.steps ≡ pass.old.steps + steps_by result }
+        ensures handed { pass.new.handed.number ≡ pass.old.handed.number + 1 }
+        ensures taken { pass.new.taken.number ≡ pass.old.taken.number }
     {
         self.commit_known(rt, pass, run, true)
     }
@@ -267,6 +303,8 @@ impl<J: Naming> Board<J> {
     pub fn commit<R: Wait>(&self, rt: &R, pass: &mut Pass<J>, run: Run) -> Landed
         ensures back { HandsBack run result }
         ensures counts { pass.new.steps ≡ pass.old.steps + steps_by result }
+        ensures handed { pass.new.handed.number ≡ pass.old.handed.number + 1 }
+        ensures taken { pass.new.taken.number ≡ pass.old.taken.number }
     {
         let same_frame = *run.frame == self.frame;
         self.commit_known(rt, pass, run, same_frame)
@@ -284,6 +322,8 @@ impl<J: Naming> Board<J> {
         requires { Decides same_frame (arc_value run.frame ≡ (first J.setup).frame) }
         ensures back { HandsBack run result }
         ensures counts { pass.new.steps ≡ pass.old.steps + steps_by result }
+        ensures handed { pass.new.handed.number ≡ pass.old.handed.number + 1 }
+        ensures taken { pass.new.taken.number ≡ pass.old.taken.number }
     {
         let landed = self.lock.lock(rt).commit(pass, run, same_frame);
         if matches!(landed, Landed::Memory(_)) {
@@ -294,22 +334,22 @@ impl<J: Naming> Board<J> {
 
     /// Discards the step of a job that couldn't be executed, and stops the round under the lock.
     pub fn fail<R: Wait>(&self, rt: &R, pass: &mut Pass<J>, job: Job)
-        ensures { pass.new.steps ≡ pass.old.steps }
+        ensures counts { pass.new.steps ≡ pass.old.steps }
+        ensures handed { pass.new.handed.number ≡ pass.old.handed.number + 1 }
+        ensures taken { pass.new.taken.number ≡ pass.old.taken.number }
     {
         self.lock.lock(rt).fail(pass, &job);
         self.changed.notify_all();
     }
 
-    /// The round, when all of its passes are back, and how many steps each of them made, in their order.
-    /// Takes no memory.
-    pub fn close(self, passes: Vec<Pass<J>>) -> (Round, Vec<u64>)
+    /// When all passes are back: the round, how many steps each worker made, in the order of the passes, and their
+    /// counters of turns as one, which is 0 without an edit. Takes no memory.
+    pub fn close(self, passes: Vec<Pass<J>>) -> Worked
         requires all { vec_len passes ≡ J.parts }
         requires workers { (vec_len passes ≡ J.workers) × (0 < vec_len passes) }
-        ensures setup { result.0.setup ≡ J.setup }
-        ensures past { result.0.past ≡ J.past }
-        ensures shares { result.1.items ≡ map (λ pass. pass.steps) passes.items }
-        ensures steps { sum result.1.items ≡ length result.0.schedule }
-        ensures follows { FollowsPicks J.setup J.past result.0 }
+        ensures closed { IsClosed J.setup J.past result.round result.shares.items result.turns }
+        ensures shares { result.shares.items ≡ map (λ pass. pass.steps) passes.items }
+        ensures turns { result.turns ≡ sum_by (λ pass. pass.turns) passes.items }
     {
         let Board { lock, shares, .. } = self;
         let Locked {
@@ -317,29 +357,26 @@ impl<J: Naming> Board<J> {
             mut book,
             ..
         } = lock.into_inner();
-        let (mut all, shares) = gather(passes, shares);
+        let (mut all, shares, turns) = gather(passes, shares);
         book.audit(&mut all);
-        (round, shares)
+        Worked {
+            round,
+            shares,
+            turns,
+        }
     }
 
-    /// The round, when all of its passes and watches are back, how many steps each worker made, in their order, and for
-    /// each watch how many steps the round has, by one last look at the word, after all that the watches saw. Takes no
-    /// memory.
-    pub fn close_watched(
-        self,
-        passes: Vec<Pass<J>>,
-        watches: Vec<Watch<J>>,
-    ) -> (Round, Vec<u64>, Vec<u64>)
+    /// As `close`, and for each watch, when all are back, how many steps the round has, by one last look at the word,
+    /// after all that the watches saw. Takes no memory.
+    pub fn close_watched(self, passes: Vec<Pass<J>>, watches: Vec<Watch<J>>) -> (Worked, Vec<u64>)
         requires all { vec_len passes ≡ J.parts }
         requires workers { (vec_len passes ≡ J.workers) × (0 < vec_len passes) }
         requires watches { (vec_len watches ≡ J.watches) × (0 < vec_len watches) }
-        ensures setup { result.0.setup ≡ J.setup }
-        ensures past { result.0.past ≡ J.past }
-        ensures shares { result.1.items ≡ map (λ pass. pass.steps) passes.items }
-        ensures steps { sum result.1.items ≡ length result.0.schedule }
-        ensures follows { FollowsPicks J.setup J.past result.0 }
-        ensures numbers { result.2.items ≡ replicate (vec_len watches) (length result.0.schedule) }
-        ensures seen { All (λ watch. watch.reader.seen ≤ length result.0.schedule) watches.items }
+        ensures closed { IsClosed J.setup J.past result.0.round result.0.shares.items result.0.turns }
+        ensures shares { result.0.shares.items ≡ map (λ pass. pass.steps) passes.items }
+        ensures turns { result.0.turns ≡ sum_by (λ pass. pass.turns) passes.items }
+        ensures numbers { result.1.items ≡ replicate (vec_len watches) (length result.0.round.schedule) }
+        ensures seen { All (λ watch. watch.reader.seen ≤ length result.0.round.schedule) watches.items }
     {
         let Board {
             lock,
@@ -352,12 +389,17 @@ impl<J: Naming> Board<J> {
             mut book,
             counter,
         } = lock.into_inner();
-        let (mut all, shares) = gather(passes, shares);
+        let (mut all, shares, turns) = gather(passes, shares);
         book.audit(&mut all);
         let Some(counter) = counter else {
             unreachable!()
         };
         let numbers = last_numbers(counter, watches, numbers);
-        (round, shares, numbers)
+        let worked = Worked {
+            round,
+            shares,
+            turns,
+        };
+        (worked, numbers)
     }
 }

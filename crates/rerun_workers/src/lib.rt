@@ -1,7 +1,8 @@
 //! A round that several workers make. They share it on a board, under one lock: each is told there what to do next,
-//! executes it outside the lock, and hands it in. The type of what lies under the lock keeps that it is the round of the given
-//! setup and history, and counts each worker's steps; so nobody can put another round back, or drop a step. Who watches the round reads a word that counts its steps, without
-//! the lock.
+//! executes it outside the lock, and hands it in. The type of what lies under the lock keeps that it is the round of the
+//! given setup and history, and counts each worker's steps; so nobody can put another round back, or drop a step. Who
+//! watches the round reads a word that counts its steps, without the lock. Each worker has one counter of turns, and
+//! can't make another.
 #![tactic(auto)]
 
 mod board;
@@ -12,9 +13,9 @@ mod watched;
 mod watching;
 mod working;
 
-pub use board::Board;
+pub use board::{Board, Worked};
 pub use locked::{Landed, Locked, Task};
 pub use naming::{Naming, Pass};
 pub use running::{run_round, run_round_watched};
-pub use watching::{Counter, Watch};
+pub use watching::{Counter, Watch, Watched};
 pub use working::work;

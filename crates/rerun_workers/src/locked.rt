@@ -15,7 +15,8 @@ ghost use Rattle.propagate.specs.Committing.{GoesOn};
 ghost use Rattle.rerun_workers.specs.Following.{FollowsPicks};
 ghost use Rattle.std.proofs.Props.{props};
 ghost use Rattle.rerun_workers.specs.Watching.{IsCounting};
-ghost use Rattle.rerun_workers.specs.Locking.{Tells, TellsAfter, BeginsIn, BeginsNothing, is_something, given_up, Lands, HandsBack, steps_by, Counts};
+ghost use Rattle.rerun_workers.specs.Passes.{held};
+ghost use Rattle.rerun_workers.specs.Locking.{Tells, TellsAfter, BeginsIn, BeginsNothing, begun_by, IsReady, is_something, given_up, Lands, HandsBack, steps_by, Counts};
 
 use super::naming::{Naming, Pass};
 use super::watching::Counter;
@@ -53,9 +54,9 @@ pub enum Landed {
 }
 
 /// The round that workers make together, as it lies under their lock, with the book of the ledger, whose total is the
-/// length of the schedule. Where anybody watches it, a word that he may read without the lock is that length too. It is of the setup and of the history that its type names, and nothing was begun in it but
-/// what was picked: by a sound history all of it was picked rightly, and without an edit it has done nothing yet but what
-/// the history did.
+/// length of the schedule. Where anybody watches it, a word that he may read without the lock is that length too. It is
+/// of the setup and of the history that its type names, and nothing was begun in it but what was picked: by a sound
+/// history all of it was picked rightly, and without an edit it has done nothing yet but what the history did.
 #[derive(Drop)]
 pub struct Locked<J: Naming> {
     pub(super) round: Round,
@@ -127,6 +128,8 @@ impl<J: Naming> Locked<J> {
         ensures counts { Counts pass.old.steps self.old.round pass.new.steps self.new.round }
         ensures same { GoesOn (if is_ok result then 1 else 0) self.old.round self.new.round }
         ensures few { OnOk result (length self.new.round.schedule ≤ MOST_STEPS) }
+        ensures asked { pass.new.asked.number ≡ pass.old.asked.number }
+        ensures taken { pass.new.taken.number ≡ pass.old.taken.number }
     {
         let Locked {
             round,
@@ -184,7 +187,11 @@ impl<J: Naming> Locked<J> {
         ensures counts { Counts pass.old.steps self.old.round pass.new.steps self.new.round }
         ensures never_lower { pass.old.steps ≤ pass.new.steps }
         ensures unedited { (h : History) → J.past ≡ Some h → IsUnedited h J.setup → BeginsNothing result }
+        ensures asked { pass.new.asked.number ≡ pass.old.asked.number + 1 }
+        ensures taken { pass.new.taken.number ≡ pass.old.taken.number + begun_by result }
+        ensures ready { IsReady result (pass.new.ran.number + held pass.new.begun) pass.new.taken.number }
     {
+        pass.asked.raise(1);
         loop {
             match self.round.pick() {
                 Pick::Reuse(t) => {
@@ -193,7 +200,13 @@ impl<J: Naming> Locked<J> {
                         return Task::Memory;
                     };
                 }
-                Pick::Run(t) => return self.begin(t),
+                Pick::Run(t) => {
+                    let task = self.begin(t);
+                    if matches!(task, Task::Begin(_)) {
+                        pass.taken.raise(1);
+                    }
+                    return task;
+                }
                 Pick::Hold => return Task::Hold,
                 Pick::Over => return Task::Over,
             }
@@ -217,6 +230,8 @@ impl<J: Naming> Locked<J> {
         ensures does { Lands self.old.round run result self.new.round }
         ensures back { HandsBack run result }
         ensures made { pass.new.steps ≡ pass.old.steps + steps_by result }
+        ensures handed { pass.new.handed.number ≡ pass.old.handed.number + 1 }
+        ensures taken { pass.new.taken.number ≡ pass.old.taken.number }
         ensures counts { Counts pass.old.steps self.old.round pass.new.steps self.new.round }
     {
         let Locked {
@@ -224,7 +239,13 @@ impl<J: Naming> Locked<J> {
             book,
             counter,
         } = self;
-        let Pass { share, steps, .. } = pass;
+        let Pass {
+            share,
+            steps,
+            handed,
+            ..
+        } = pass;
+        handed.raise(1);
         book.audit(share);
         round.keeps();
         match round.commit_known(run, same_frame) {
@@ -244,10 +265,13 @@ impl<J: Naming> Locked<J> {
     }
 
     /// Discards the step of a job that couldn't be executed, if its thread is out, and stops the round.
-    pub fn fail(&mut self, _pass: &mut Pass<J>, job: &Job)
+    pub fn fail(&mut self, pass: &mut Pass<J>, job: &Job)
         ensures does { self.new.round ≡ given_up self.old.round job.now.thread }
-        ensures counts { _pass.new.steps ≡ _pass.old.steps }
+        ensures counts { pass.new.steps ≡ pass.old.steps }
+        ensures handed { pass.new.handed.number ≡ pass.old.handed.number + 1 }
+        ensures taken { pass.new.taken.number ≡ pass.old.taken.number }
     {
+        pass.handed.raise(1);
         let Locked { round, .. } = self;
         round.keeps();
         give_up(round, job.thread);

@@ -1,16 +1,19 @@
 //! Which round workers make together, as the types that they share name it.
 
-ghost use Rattle.std.specs.Prelude.{◌≡◌, ℕ, [], Option, None, Some};
+ghost use Rattle.std.specs.Prelude.{◌≡◌, ◌+◌, ◌≤◌, ℕ, [], Option, None, Some};
 ghost use Rattle.std.specs.Arc.{arc_value};
 ghost use Rattle.machine_spec.specs.Setup.{Setup, first};
 ghost use Rattle.history_spec.specs.History.{History};
+ghost use Rattle.round_spec.specs.Unedited.{IsUnedited};
 ghost use Rattle.thunk_run.specs.declared.job.Job.{Job as Begun};
 ghost use Rattle.atomic_table.specs.Seated.{TableId};
 ghost use Rattle.progress_word.specs.Views.{no_table};
+ghost use Rattle.rerun_workers.specs.Passes.{held};
 
 use std::marker::Brand;
 use std::sync::ledger::{Ledger, Share};
 use thunk_run::Job;
+use turn_count::{Tally, Turns};
 
 /// What the round of a board started from, what it goes by, how many workers make it, how many watch it, and by which
 /// word. The types of the board, of its passes and of its watches name it, so nobody can put a round of another setup or
@@ -39,28 +42,42 @@ impl Naming for Brand {
     ghost table = { no_table };
 }
 
-/// What a worker holds of a board: how many steps of the round it has made, a share of the ledger, which is one part
-/// with as many, and the step of the round that it is to execute first, where one was begun for it before it set to
-/// work.
+/// What a worker holds of a board: how many steps of the round it has made, which its share of the ledger counts too; a
+/// step that was begun for it before it set to work, if there is one; and its counter of turns, which is 0 without an
+/// edit. Four tallies count how often it asked what to do, was told to begin a step, executed one, and handed one in.
 #[derive(Drop)]
 pub struct Pass<J: Naming> {
     pub(super) share: Share<J>,
+    pub(super) turns: Turns,
+    pub(super) asked: Tally,
+    pub(super) taken: Tally,
+    pub(super) ran: Tally,
+    pub(super) handed: Tally,
     pub(super) steps: u64,
     pub(super) begun: Option<Job>,
     ghost one: { share.parts ≡ 1 },
     ghost counted: { steps ≡ share.amount },
     ghost own: { (job : Begun) → begun ≡ Some job → arc_value job.frame ≡ (first J.setup).frame },
+    ghost edited: { (job : Begun) → begun ≡ Some job → (h : History) → J.past ≡ Some h → IsUnedited h J.setup → ⊥ },
+    ghost once: { ran.number + held begun ≤ taken.number },
+    ghost idle: { (h : History) → J.past ≡ Some h → IsUnedited h J.setup → turns ≡ 0 },
 }
 
 impl<J: Naming> Pass<J> {
-    /// A pass of a share that counts nothing.
-    pub(super) fn new(share: Share<J>) -> Pass<J>
+    /// A pass of a share and of a counter that count nothing.
+    pub(super) fn new(share: Share<J>, turns: Turns) -> Pass<J>
         requires one { share.parts ≡ 1 }
         requires nothing { share.amount ≡ 0 }
+        requires unused { turns ≡ 0 }
         ensures { result.steps ≡ 0 }
     {
         Pass {
             share,
+            turns,
+            asked: Tally::none(),
+            taken: Tally::none(),
+            ran: Tally::none(),
+            handed: Tally::none(),
             steps: 0,
             begun: None,
         }
@@ -71,14 +88,5 @@ impl<J: Naming> Pass<J> {
         ensures { result ≡ self.now.steps }
     {
         self.steps
-    }
-
-    /// A share of the same ledger with no part.
-    pub(super) fn empty(&mut self) -> Share<J>
-        ensures parts { result.parts ≡ 0 }
-        ensures amount { result.amount ≡ 0 }
-        ensures steps { self.new.steps ≡ self.old.steps }
-    {
-        self.share.empty()
     }
 }

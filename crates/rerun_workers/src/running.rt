@@ -1,51 +1,32 @@
 //! A round by so many workers.
 
-ghost use Rattle.std.specs.Prelude.{◌≡◌, ◌<◌, ◌≤◌, length, sum, option_map, IfOk};
+ghost use Rattle.std.specs.Prelude.{◌≡◌, ◌-◌, ◌<◌, ◌≤◌, ◌∷◌, Some, length, replicate, option_map, IfOk};
 ghost use Rattle.std.specs.Arc.{arc_value};
+ghost use Rattle.history_spec.specs.History.{History as Kept};
 ghost use Rattle.round_spec.specs.Rounds.{opening};
-ghost use Rattle.round_spec.specs.Alone.{lone_round};
+ghost use Rattle.round_spec.specs.Unedited.{IsUnedited};
 ghost use Rattle.worker_spec.specs.Watching.{IsProgress};
-ghost use Rattle.rerun_workers.specs.Following.{FollowsPicks};
-ghost use Rattle.rerun_workers.specs.Making.{IsRoundBy};
+ghost use Rattle.rerun_workers.specs.Making.{IsRoundBy, IsClosed, IsCostOf};
 
-use super::board::Board;
+use super::board::{Board, Worked};
 use super::naming::Naming;
-use super::watched::{Watched, run_watched};
-use super::watching::Counter;
+use super::watched::run_watched;
+use super::watching::{Counter, Watched};
 use super::working::work_together;
 use ith_host::Gate;
 use propagate::{Round, run_alone_shown};
 use release_core::{History, Setup};
 use std::alloc::{AllocError, Global};
 use std::marker::Brand;
-use std::sync::ledger::{Blank, Ledger};
+use std::sync::ledger::Blank;
 use std::sync::{Arc, Wait};
 use std::thread::Threads;
 use turn_count::Turns;
 
-/// The round of one worker, with a counter that nobody else has, of which each step is shown.
-fn counted<R: Threads, L: Ledger, G: Gate>(
-    rt: &R,
-    alloc: Global,
-    setup: Setup,
-    past: Option<Arc<History>>,
-    gate: &G,
-    blank: Blank,
-) -> Result<Round, AllocError>
-    requires name { blank.name ≡ L.name }
-    requires parts { blank.parts ≡ L.parts }
-    requires some { 0 < L.parts }
-    ensures { IfOk result (λ round. round ≡ lone_round setup (option_map arc_value past)) }
-{
-    let mut turns = Turns::<L>::new(rt, blank);
-    run_alone_shown(alloc, setup, past, &mut turns, gate)
-}
-
 /// The shares where the first worker made all steps.
 fn first_makes(alloc: Global, steps: u64, workers: u32) -> Result<Vec<u64>, AllocError>
     requires { 1 ≤ workers }
-    ensures each { IfOk result (λ shares. length shares.items ≡ workers) }
-    ensures steps { IfOk result (λ shares. sum shares.items ≡ steps) }
+    ensures { IfOk result (λ shares. shares.items ≡ steps ∷ replicate (workers - 1) 0) }
 {
     let mut shares = Vec::new(alloc);
     shares.push(steps)?;
@@ -55,42 +36,57 @@ fn first_makes(alloc: Global, steps: u64, workers: u32) -> Result<Vec<u64>, Allo
     Ok(shares)
 }
 
-/// A round of which the first of so many workers makes all steps.
-fn run_by_first<R: Threads, G: Gate>(
-    rt: &R,
+/// A round of which the first of so many workers makes all steps. The counter rises by the round's turns; it is 0 before,
+/// if there is one worker or no edit.
+fn run_by_first<G: Gate>(
     alloc: Global,
     setup: Setup,
     past: Option<Arc<History>>,
     workers: u32,
     gate: &G,
-) -> Result<(Round, Vec<u64>), AllocError>
-    requires { 1 ≤ workers }
-    ensures { IfOk result (λ r. IsRoundBy workers setup (option_map arc_value past) r.0 r.1.items) }
+    mut turns: Turns,
+) -> Result<Worked, AllocError>
+    requires some { 1 ≤ workers }
+    requires unused { workers ≡ 1 → turns ≡ 0 }
+    requires idle { (h : Kept) → option_map arc_value past ≡ Some h → IsUnedited h setup → turns ≡ 0 }
+    ensures round { IfOk result (λ r.
+        IsRoundBy workers setup (option_map arc_value past) r.round r.shares.items) }
+    ensures shares { IfOk result (λ r. r.shares.items ≡ length r.round.schedule ∷ replicate (workers - 1) 0) }
+    ensures cost { IfOk result (λ r. IsCostOf workers setup (option_map arc_value past) r.round r.turns) }
 {
     setup.sound();
-    let round = counted::<R, Brand, G>(rt, alloc, setup, past, gate, Blank::new(1))?;
+    let round = run_alone_shown(alloc, setup, past, &mut turns, gate)?;
     round.keeps();
     let shares = first_makes(alloc, round.schedule().len() as u64, workers)?;
-    Ok((round, shares))
+    Ok(Worked {
+        round,
+        shares,
+        turns,
+    })
 }
 
 /// The same, of which the number of its steps alone is read, when it is over.
-fn run_by_first_watched<R: Threads, G: Gate>(
-    rt: &R,
+fn run_by_first_watched<G: Gate>(
     alloc: Global,
     setup: Setup,
     past: Option<Arc<History>>,
     workers: u32,
     gate: &G,
-) -> Result<(Round, Vec<u64>, Vec<u64>), AllocError>
-    requires { 1 ≤ workers }
-    ensures round { IfOk result (λ r. IsRoundBy workers setup (option_map arc_value past) r.0 r.1.items) }
-    ensures progress { IfOk result (λ r. IsProgress workers (length r.0.schedule) r.2.items) }
+    turns: Turns,
+) -> Result<(Worked, Vec<u64>), AllocError>
+    requires some { 1 ≤ workers }
+    requires unused { workers ≡ 1 → turns ≡ 0 }
+    requires idle { (h : Kept) → option_map arc_value past ≡ Some h → IsUnedited h setup → turns ≡ 0 }
+    ensures round { IfOk result (λ r.
+        IsRoundBy workers setup (option_map arc_value past) r.0.round r.0.shares.items) }
+    ensures shares { IfOk result (λ r. r.0.shares.items ≡ length r.0.round.schedule ∷ replicate (workers - 1) 0) }
+    ensures cost { IfOk result (λ r. IsCostOf workers setup (option_map arc_value past) r.0.round r.0.turns) }
+    ensures progress { IfOk result (λ r. IsProgress workers (length r.0.round.schedule) r.1.items) }
 {
-    let (round, shares) = run_by_first(rt, alloc, setup, past, workers, gate)?;
+    let worked = run_by_first(alloc, setup, past, workers, gate, turns)?;
     let mut numbers = Vec::new(alloc);
-    numbers.push(round.schedule().len() as u64)?;
-    Ok((round, shares, numbers))
+    numbers.push(worked.round.schedule().len() as u64)?;
+    Ok((worked, numbers))
 }
 
 /// A round that so many workers made together until it was over, or until the host's memory ran out.
@@ -101,19 +97,16 @@ fn run_together<J: Naming + Send + Sync, R: Threads + Wait + Sync, G: Gate + Syn
     workers: u32,
     gate: &G,
     blank: Blank,
-) -> Result<(Round, Vec<u64>), AllocError>
+) -> Result<Worked, AllocError>
     requires name { blank.name ≡ J.name }
     requires parts { (blank.parts ≡ J.parts) × (J.parts ≡ workers) }
     requires workers { (workers ≡ J.workers) × (1 ≤ workers) }
     requires unwatched { J.watches ≡ 0 }
     requires opening { round ≡ opening J.setup J.past }
-    ensures setup { IfOk result (λ r. r.0.setup ≡ round.setup) }
-    ensures past { IfOk result (λ r. r.0.past ≡ round.past) }
-    ensures each { IfOk result (λ r. length r.1.items ≡ workers) }
-    ensures steps { IfOk result (λ r. sum r.1.items ≡ length r.0.schedule) }
-    ensures follows { IfOk result (λ r. FollowsPicks round.setup round.past r.0) }
+    ensures closed { IfOk result (λ r. IsClosed J.setup J.past r.round r.shares.items r.turns) }
+    ensures each { IfOk result (λ r. length r.shares.items ≡ workers) }
 {
-    let (board, mut passes) = Board::<J>::new(alloc, round, workers, blank)?;
+    let (board, mut passes) = Board::<J>::new(rt, alloc, round, workers, blank)?;
     work_together(rt, alloc, &board, passes.as_mut_slice(), gate);
     Ok(board.close(passes))
 }
@@ -121,7 +114,8 @@ fn run_together<J: Naming + Send + Sync, R: Threads + Wait + Sync, G: Gate + Syn
 /// A round that so many workers make, and how many of its steps each of them made, in their order. It has an end. One
 /// worker makes it without a lock and without the gate, and discards nothing. By a sound history each entry was picked
 /// rightly: its thread was due, or nobody was. However many the workers are, they execute again no more than they must;
-/// and without an edit it is all reuse of the history, and nothing is discarded.
+/// and without an edit it is all reuse of the history, and nothing is discarded. The counter that comes with it has the
+/// turns of the executed steps if there is one worker, and 0 without an edit.
 ///
 /// # Errors
 ///
@@ -133,15 +127,17 @@ pub fn run_round<R: Threads + Wait + Sync, G: Gate + Sync>(
     past: Option<Arc<History>>,
     workers: u32,
     gate: &G,
-) -> Result<(Round, Vec<u64>), AllocError>
+) -> Result<Worked, AllocError>
     requires { 1 ≤ workers }
-    ensures round { IfOk result (λ r. IsRoundBy workers setup (option_map arc_value past) r.0 r.1.items) }
+    ensures round { IfOk result (λ r.
+        IsRoundBy workers setup (option_map arc_value past) r.round r.shares.items) }
+    ensures cost { IfOk result (λ r. IsCostOf workers setup (option_map arc_value past) r.round r.turns) }
 {
     if workers == 1 {
-        return run_by_first(rt, alloc, setup, past, workers, gate);
+        return run_by_first(alloc, setup, past, workers, gate, Turns::new(rt));
     }
     let opened = Round::new(alloc, setup, past)?;
-    let (round, shares) = run_together::<Brand, R, G>(
+    let worked = run_together::<Brand, R, G>(
         rt,
         alloc,
         opened,
@@ -149,15 +145,16 @@ pub fn run_round<R: Threads + Wait + Sync, G: Gate + Sync>(
         gate,
         Blank::new(u64::from(workers)),
     )?;
-    round.keeps();
-    if round.end().is_some() {
-        return Ok((round, shares));
+    worked.round.keeps();
+    if worked.round.end().is_some() {
+        return Ok(worked);
     }
+    let Worked { round, turns, .. } = worked;
     if round.stopped() {
         return Err(AllocError);
     }
     let (setup, past) = round.into_setup();
-    run_by_first(rt, alloc, setup, past, workers, gate)
+    run_by_first(alloc, setup, past, workers, gate, turns)
 }
 
 /// A round as `run_round` makes it, and the numbers of steps that were read meanwhile: they ascend, and the last is how
@@ -173,17 +170,19 @@ pub fn run_round_watched<R: Threads + Wait + Sync, G: Gate + Sync>(
     past: Option<Arc<History>>,
     workers: u32,
     gate: &G,
-) -> Result<(Round, Vec<u64>, Vec<u64>), AllocError>
+) -> Result<(Worked, Vec<u64>), AllocError>
     requires { 1 ≤ workers }
-    ensures round { IfOk result (λ r. IsRoundBy workers setup (option_map arc_value past) r.0 r.1.items) }
-    ensures progress { IfOk result (λ r. IsProgress workers (length r.0.schedule) r.2.items) }
+    ensures round { IfOk result (λ r.
+        IsRoundBy workers setup (option_map arc_value past) r.0.round r.0.shares.items) }
+    ensures cost { IfOk result (λ r. IsCostOf workers setup (option_map arc_value past) r.0.round r.0.turns) }
+    ensures progress { IfOk result (λ r. IsProgress workers (length r.0.round.schedule) r.1.items) }
 {
     if workers == 1 {
-        return run_by_first_watched(rt, alloc, setup, past, workers, gate);
+        return run_by_first_watched(alloc, setup, past, workers, gate, Turns::new(rt));
     }
     let counter = Counter::new(alloc)?;
     let begun = Round::new(alloc, setup, past)?;
-    let (round, shares, numbers) = run_watched::<Brand, R, G>(
+    let (worked, numbers) = run_watched::<Brand, R, G>(
         rt,
         alloc,
         Watched {
@@ -194,13 +193,14 @@ pub fn run_round_watched<R: Threads + Wait + Sync, G: Gate + Sync>(
         gate,
         Blank::new(u64::from(workers)),
     )?;
-    round.keeps();
-    if round.end().is_some() {
-        return Ok((round, shares, numbers));
+    worked.round.keeps();
+    if worked.round.end().is_some() {
+        return Ok((worked, numbers));
     }
-    if !round.stopped() {
-        let (setup, past) = round.into_setup();
-        return run_by_first_watched(rt, alloc, setup, past, workers, gate);
+    let Worked { round, turns, .. } = worked;
+    if round.stopped() {
+        return Err(AllocError);
     }
-    Err(AllocError)
+    let (setup, past) = round.into_setup();
+    run_by_first_watched(alloc, setup, past, workers, gate, turns)
 }

@@ -6,27 +6,19 @@ ghost use Rattle.std.specs.List.{last_or};
 ghost use Rattle.std.specs.List.Sorted.{IsStrictlyIncreasing};
 ghost use Rattle.worker_spec.specs.declared.TheConstants.{MOST_LOOKS};
 ghost use Rattle.round_spec.specs.Rounds.{opening};
-ghost use Rattle.rerun_workers.specs.Following.{FollowsPicks};
+ghost use Rattle.rerun_workers.specs.Making.{IsClosed};
 
-use super::board::Board;
+use super::board::{Board, Worked};
 use super::naming::{Naming, Pass};
-use super::watching::{Counter, Watch, note, watch_round};
+use super::watching::{Watch, Watched, note, watch_round};
 use super::working::work_together;
 use ith_host::Gate;
-use propagate::Round;
 use std::alloc::{AllocError, Global};
 use std::sync::Wait;
 use std::sync::atomic::{AtomicBool, Ordering};
 use std::sync::ledger::Blank;
 use std::thread::{Threads, join};
 use worker_spec::MOST_LOOKS;
-
-/// A round before its first step, and what is to count its steps.
-#[derive(Drop)]
-pub(super) struct Watched {
-    pub(super) round: Round,
-    pub(super) counter: Counter,
-}
 
 /// A round that so many workers made together until it was over, or until the host's memory ran out, and the numbers of
 /// its steps that a watcher read meanwhile, of which the last is all of them.
@@ -37,27 +29,23 @@ pub(super) fn run_watched<J: Naming + Send + Sync, R: Threads + Wait + Sync, G: 
     workers: u32,
     gate: &G,
     blank: Blank,
-) -> Result<(Round, Vec<u64>, Vec<u64>), AllocError>
+) -> Result<(Worked, Vec<u64>), AllocError>
     requires name { blank.name ≡ J.name }
     requires parts { (blank.parts ≡ J.parts) × (J.parts ≡ workers) }
     requires workers { (workers ≡ J.workers) × (1 ≤ workers) }
     requires watches { J.watches ≡ 1 }
     requires table { (watched.counter.writer.table ≡ J.table) × (watched.counter.writer.added ≡ 0) }
     requires opening { watched.round ≡ opening J.setup J.past }
-    ensures setup { IfOk result (λ r. r.0.setup ≡ watched.round.setup) }
-    ensures past { IfOk result (λ r. r.0.past ≡ watched.round.past) }
-    ensures each { IfOk result (λ r. length r.1.items ≡ workers) }
-    ensures steps { IfOk result (λ r. sum r.1.items ≡ length r.0.schedule) }
-    ensures follows { IfOk result (λ r. FollowsPicks watched.round.setup watched.round.past r.0) }
-    ensures ascends { IfOk result (λ r. IsStrictlyIncreasing r.2.items) }
-    ensures few { IfOk result (λ r. length r.2.items ≤ MOST_LOOKS + 1) }
-    ensures last { IfOk result (λ r. last_or None r.2.items ≡ Some (length r.0.schedule)) }
+    ensures closed { IfOk result (λ r. IsClosed J.setup J.past r.0.round r.0.shares.items r.0.turns) }
+    ensures each { IfOk result (λ r. length r.0.shares.items ≡ workers) }
+    ensures ascends { IfOk result (λ r. IsStrictlyIncreasing r.1.items) }
+    ensures few { IfOk result (λ r. length r.1.items ≤ MOST_LOOKS + 1) }
+    ensures last { IfOk result (λ r. last_or None r.1.items ≡ Some (length r.0.round.schedule)) }
 {
-    let Watched { round, counter } = watched;
     let numbers = Vec::with_capacity(alloc, MOST_LOOKS + 1)?;
     let mut watches = Vec::with_capacity(alloc, 1)?;
     let (board, mut passes, mut seats) = Board::<J>::with_watches(
-        alloc, round, workers, 1, counter, blank,
+        rt, alloc, watched, workers, 1, blank,
     )?;
     let seat = seats.remove(0);
     let shared = &board;
@@ -81,7 +69,7 @@ pub(super) fn run_watched<J: Naming + Send + Sync, R: Threads + Wait + Sync, G: 
         },
     );
     watches.push_reserved(seat);
-    let (round, shares, last) = board.close_watched(passes, watches);
+    let (worked, last) = board.close_watched(passes, watches);
     note(&mut numbers, last[0]);
-    Ok((round, shares, numbers))
+    Ok((worked, numbers))
 }

@@ -10,6 +10,7 @@ ghost use Rattle.worker_spec.specs.declared.TheConstants.{MOST_LOOKS};
 use super::board::Board;
 use super::naming::Naming;
 use progress_word::{Reader, Word, Writer};
+use propagate::Round;
 use std::alloc::{AllocError, Global};
 use std::marker::PhantomData;
 use std::sync::Arc;
@@ -23,6 +24,15 @@ pub struct Counter {
     word: Arc<Word>,
     writer: Writer,
     ghost own: { writer.table ≡ arc_value word },
+}
+
+/// A round before its first step, and what is to count its steps.
+#[derive(Drop)]
+pub struct Watched {
+    /// The round.
+    pub round: Round,
+    /// What is to count its steps, and has counted none.
+    pub counter: Counter,
 }
 
 impl Counter {

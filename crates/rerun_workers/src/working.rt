@@ -1,24 +1,24 @@
 //! A worker: it is told what to do, executes, and hands in what came of it.
 
-ghost use Rattle.std.specs.Prelude.{◌≡◌, ◌≢◌, ◌<◌, ◌≤◌, length, IfOk};
+ghost use Rattle.std.specs.Prelude.{◌≡◌, ◌≢◌, ◌+◌, ◌<◌, ◌≤◌, Some, length, IfOk};
 ghost use Rattle.std.specs.Arc.{arc_value};
 ghost use Rattle.machine_spec.specs.Setup.{first};
+ghost use Rattle.history_spec.specs.History.{History};
+ghost use Rattle.round_spec.specs.Unedited.{IsUnedited};
 ghost use Rattle.thunk_run.specs.Running.{IsRunOf};
 ghost use Rattle.rerun_workers.specs.declared.locked.Task.TheVariants as task;
-ghost use Rattle.rerun_workers.specs.Locking.{BeginsIn};
+ghost use Rattle.rerun_workers.specs.Passes.{held};
+ghost use Rattle.rerun_workers.specs.Locking.{BeginsIn, BeginsNothing, IsReady};
 
 use super::board::Board;
 use super::locked::{Landed, Task};
 use super::naming::{Naming, Pass};
 use ith_host::Gate;
 use std::alloc::{AllocError, Global};
-use std::marker::Brand;
 use std::sync::Wait;
-use std::sync::ledger::{Blank, Ledger};
 use std::thread;
 use std::thread::Threads;
 use thunk_run::{Job, Run, Watch, execute_watched};
-use turn_count::Turns;
 
 /// Who looks while a worker's step runs long whether there is something for another worker, and wakes it.
 #[derive(Drop)]
@@ -33,37 +33,27 @@ impl<'a, J: Naming, R: Wait> Watch for Sharing<'a, J, R> {
     }
 }
 
-/// Runs the thunk of a job with a counter that nobody else has.
-fn counted<R: Threads, L: Ledger, W: Watch>(
-    rt: &R,
+/// Runs the thunk of a job, under a watch, for a worker that has executed fewer steps than it was told to begin. The
+/// counter of its pass counts the turns.
+fn run_job<J: Naming, W: Watch>(
     alloc: Global,
     job: &Job,
-    watch: &W,
-    blank: Blank,
-) -> Result<Run, AllocError>
-    requires name { blank.name ≡ L.name }
-    requires parts { blank.parts ≡ L.parts }
-    requires some { 0 < L.parts }
-    ensures { IfOk result (λ run. IsRunOf job.now run) }
-{
-    let mut turns = Turns::<L>::new(rt, blank);
-    execute_watched(alloc, job, &mut turns, watch)
-}
-
-/// Runs the thunk of a job, under a watch.
-pub(super) fn run_job<R: Threads, W: Watch>(
-    rt: &R,
-    alloc: Global,
-    job: &Job,
+    pass: &mut Pass<J>,
     watch: &W,
 ) -> Result<Run, AllocError>
-    ensures { IfOk result (λ run. IsRunOf job.now run) }
+    requires edited { (h : History) → J.past ≡ Some h → IsUnedited h J.setup → ⊥ }
+    requires ready { pass.old.ran.number + held pass.old.begun < pass.old.taken.number }
+    ensures run { IfOk result (λ run. IsRunOf job.now run) }
+    ensures cost { IfOk result (λ run. pass.new.turns ≡ pass.old.turns + (arc_value run.rec).kept.count) }
+    ensures same { pass.new.steps ≡ pass.old.steps }
 {
-    counted::<R, Brand, W>(rt, alloc, job, watch, Blank::new(1))
+    let Pass { turns, ran, .. } = pass;
+    ran.raise(1);
+    execute_watched(alloc, job, turns, watch)
 }
 
 /// Executes a job of the round past the gate, and hands in what came of it. The answer is whether the worker goes on.
-fn make_step<J: Naming, R: Threads + Wait, G: Gate>(
+fn make_step<J: Naming, R: Wait, G: Gate>(
     rt: &R,
     alloc: Global,
     board: &Board<J>,
@@ -71,11 +61,13 @@ fn make_step<J: Naming, R: Threads + Wait, G: Gate>(
     gate: &G,
     job: Job,
 ) -> bool
-    requires { arc_value job.frame ≡ (first J.setup).frame }
+    requires own { arc_value job.frame ≡ (first J.setup).frame }
+    requires edited { (h : History) → J.past ≡ Some h → IsUnedited h J.setup → ⊥ }
+    requires ready { pass.old.ran.number + held pass.old.begun < pass.old.taken.number }
     ensures never_lower { pass.old.steps ≤ pass.new.steps }
 {
     gate.enter(job.thread, job.number);
-    match run_job(rt, alloc, &job, &Sharing { rt, board }) {
+    match run_job(alloc, &job, pass, &Sharing { rt, board }) {
         Ok(run) => {
             match board.commit_own(rt, pass, run) {
                 Landed::Done => {
@@ -103,6 +95,8 @@ fn next_task<J: Naming, R: Wait, G: Gate>(
     ensures told { result ≢ task.Hold }
     ensures own { BeginsIn (first J.setup).frame result }
     ensures never_lower { pass.old.steps ≤ pass.new.steps }
+    ensures unedited { (h : History) → J.past ≡ Some h → IsUnedited h J.setup → BeginsNothing result }
+    ensures ready { IsReady result (pass.new.ran.number + held pass.new.begun) pass.new.taken.number }
 {
     let before = pass.steps();
     let task = board.next(rt, pass);
@@ -116,7 +110,7 @@ fn next_task<J: Naming, R: Wait, G: Gate>(
 /// Makes steps of the round on the board as long as there is nothing to share. The answer is whether there is: the pass
 /// holds then the step that it is to execute first, and another worker has something to do meanwhile. There never is
 /// where the round is over or the host's memory ran out.
-pub(super) fn make_unshared<J: Naming, R: Threads + Wait, G: Gate>(
+pub(super) fn make_unshared<J: Naming, R: Wait, G: Gate>(
     rt: &R,
     alloc: Global,
     board: &Board<J>,
@@ -142,8 +136,8 @@ pub(super) fn make_unshared<J: Naming, R: Threads + Wait, G: Gate>(
 
 /// Makes steps of the round on the board until it is over or the host's memory runs out: takes what it is told to, passes
 /// the gate, executes it with no lock held, and hands it in. A step that was begun for it comes first. Its pass counts the
-/// steps that it makes, and never fewer than before.
-pub fn work<J: Naming, R: Threads + Wait, G: Gate>(
+/// steps that it makes, never fewer than before, and the turns that it executes; it can't make another counter.
+pub fn work<J: Naming, R: Wait, G: Gate>(
     rt: &R,
     alloc: Global,
     board: &Board<J>,

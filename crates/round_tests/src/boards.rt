@@ -6,12 +6,12 @@ ghost use Rattle.round_spec.specs.Rounds.{opening};
 use super::fixtures::{is_round, setup};
 use ith_host::{Gate, OpenGate};
 use propagate::Round;
-use rerun_workers::{Board, Landed, Naming, Pass, Task, run_round};
+use rerun_workers::{Board, Landed, Naming, Pass, Task, Worked, run_round};
 use std::alloc::{AllocError, Global};
 use std::marker::Brand;
 use std::process::Abort;
 use std::sync::atomic::{AtomicU64, Ordering};
-use std::sync::ledger::{Blank, Ledger};
+use std::sync::ledger::Blank;
 use std::sync::{Arc, Wait};
 use std::test::Fail;
 use std::thread::Threads;
@@ -33,23 +33,9 @@ fn begun<J: Naming, R: Wait>(rt: &R, board: &Board<J>, pass: &mut Pass<J>) -> Re
     }
 }
 
-/// A job run with a counter that the runtime made.
-fn counted<R: Threads, L: Ledger>(
-    rt: &R,
-    alloc: Global,
-    job: &Job,
-    blank: Blank,
-) -> Result<Run, AllocError>
-    requires name { blank.name ≡ L.name }
-    requires parts { blank.parts ≡ L.parts }
-    requires some { 0 < L.parts }
-{
-    execute(alloc, job, &mut Turns::<L>::new(rt, blank))
-}
-
 /// The run of a job, with nobody who looks at the counter.
 fn run_of<R: Threads>(rt: &R, alloc: Global, job: &Job) -> Result<Run, AllocError> {
-    counted::<R, Brand>(rt, alloc, job, Blank::new(1))
+    execute(alloc, job, &mut Turns::new(rt))
 }
 
 /// The run of the first step of a round.
@@ -64,7 +50,7 @@ fn first_run<J: Naming, R: Threads + Wait>(
     requires workers { (J.workers ≡ 1) × (J.watches ≡ 0) }
     requires opening { round ≡ opening J.setup J.past }
 {
-    let (board, mut passes) = Board::<J>::new(alloc, round, 1, blank)?;
+    let (board, mut passes) = Board::<J>::new(rt, alloc, round, 1, blank)?;
     let job = begun(rt, &board, &mut passes[0])?;
     Ok(run_of(rt, alloc, &job)?)
 }
@@ -111,12 +97,12 @@ fn after_foreign_run<J: Naming, R: Threads + Wait>(
     requires workers { (J.workers ≡ 1) × (J.watches ≡ 0) }
     requires opening { round ≡ opening J.setup J.past }
 {
-    let (board, mut passes) = Board::<J>::new(alloc, round, 1, blank)?;
+    let (board, mut passes) = Board::<J>::new(rt, alloc, round, 1, blank)?;
     let _taken = begun(rt, &board, &mut passes[0])?;
     let back = handed_back(rt, &board, &mut passes[0], foreign)?;
     make_next(rt, alloc, &board, &mut passes[0])?;
-    let (round, _shares) = board.close(passes);
-    Ok((round, back))
+    let worked = board.close(passes);
+    Ok((worked.round, back))
 }
 
 #[test]
@@ -143,13 +129,13 @@ fn failed<J: Naming, R: Threads + Wait>(
     alloc: Global,
     round: Round,
     blank: Blank,
-) -> Result<(Round, Vec<u64>), Fail>
+) -> Result<Worked, Fail>
     requires name { blank.name ≡ J.name }
     requires parts { (blank.parts ≡ J.parts) × (J.parts ≡ 2) }
     requires workers { (J.workers ≡ 2) × (J.watches ≡ 0) }
     requires opening { round ≡ opening J.setup J.past }
 {
-    let (board, mut passes) = Board::<J>::new(alloc, round, 2, blank)?;
+    let (board, mut passes) = Board::<J>::new(rt, alloc, round, 2, blank)?;
     make_next(rt, alloc, &board, &mut passes[1])?;
     let job = begun(rt, &board, &mut passes[0])?;
     board.fail(rt, &mut passes[0], job);
@@ -165,7 +151,12 @@ fn failed<J: Naming, R: Threads + Wait>(
 #[test]
 fn a_job_that_fails_ends_the_round(rt: HostRuntime) -> Result<(), Fail> {
     let alloc = rt.alloc();
-    let (round, shares) = failed::<Brand, _>(&rt, alloc, opened(alloc, 1_000_000)?, Blank::new(2))?;
+    let Worked { round, shares, .. } = failed::<Brand, _>(
+        &rt,
+        alloc,
+        opened(alloc, 1_000_000)?,
+        Blank::new(2),
+    )?;
     assert!(&rt; round.schedule().len() == 1);
     assert!(&rt; round.discarded() == 1);
     assert!(&rt; round.stopped() && round.end() == None);
@@ -193,7 +184,14 @@ fn compare<R: Abort>(rt: &R, round: &Round, shares: &[u64], workers: usize, reus
 #[test]
 fn four_workers_make_a_round(rt: HostRuntime) -> Result<(), Fail> {
     let alloc = rt.alloc();
-    let (round, shares) = run_round(&rt, alloc, setup(alloc, 1_000_000)?, None, 4, &OpenGate)?;
+    let Worked { round, shares, .. } = run_round(
+        &rt,
+        alloc,
+        setup(alloc, 1_000_000)?,
+        None,
+        4,
+        &OpenGate,
+    )?;
     compare(&rt, &round, shares.as_slice(), 4, false);
     Ok(())
 }
@@ -218,7 +216,14 @@ fn without_an_edit_nobody_passes_the_gate(rt: HostRuntime) -> Result<(), Fail> {
     };
     let mut past = None;
     for (passed, reused) in [(2, false), (2, true), (2, true)] {
-        let (round, shares) = run_round(&rt, alloc, setup(alloc, 1_000_000)?, past, 2, &gate)?;
+        let Worked { round, shares, .. } = run_round(
+            &rt,
+            alloc,
+            setup(alloc, 1_000_000)?,
+            past,
+            2,
+            &gate,
+        )?;
         compare(&rt, &round, shares.as_slice(), 2, reused);
         assert!(&rt; gate.passed.load(Ordering::SeqCst) == passed);
         past = match round.into_history() {

@@ -4,12 +4,10 @@ ghost use Rattle.std.specs.Prelude.{◌≡◌, ◌<◌};
 
 use super::fixtures::{is_round, setup};
 use propagate::{Round, drive, run_alone};
-use release_core::{History, Setup};
+use release_core::History;
 use round_spec::{Event, Pick};
-use std::alloc::{AllocError, Global};
-use std::marker::Brand;
+use std::alloc::Global;
 use std::sync::Arc;
-use std::sync::ledger::{Blank, Ledger};
 use std::test::Fail;
 use std::thread::Threads;
 use turn_count::Turns;
@@ -21,27 +19,7 @@ enum By {
     Events(&'static [Event]),
 }
 
-/// A round with a counter that the runtime made.
-fn counted<R: Threads, L: Ledger>(
-    rt: &R,
-    alloc: Global,
-    setup: Setup,
-    past: Option<Arc<History>>,
-    by: By,
-    blank: Blank,
-) -> Result<Round, AllocError>
-    requires name { blank.name ≡ L.name }
-    requires parts { blank.parts ≡ L.parts }
-    requires some { 0 < L.parts }
-{
-    let mut turns = Turns::<L>::new(rt, blank);
-    match by {
-        By::Worker => run_alone(alloc, setup, past, &mut turns),
-        By::Events(events) => drive(alloc, setup, past, events, &mut turns),
-    }
-}
-
-/// The round of the guest, with nobody who looks at the counter.
+/// The round of the guest, with nobody who looks at the counter of turns.
 fn made<R: Threads>(
     rt: &R,
     alloc: Global,
@@ -49,7 +27,12 @@ fn made<R: Threads>(
     by: By,
 ) -> Result<Round, Fail> {
     let setup = setup(alloc, 1_000_000)?;
-    Ok(counted::<R, Brand>(rt, alloc, setup, past, by, Blank::new(1))?)
+    let mut turns = Turns::new(rt);
+    let round = match by {
+        By::Worker => run_alone(alloc, setup, past, &mut turns),
+        By::Events(events) => drive(alloc, setup, past, events, &mut turns),
+    };
+    Ok(round?)
 }
 
 #[test]

@@ -8,7 +8,7 @@ use super::boards::make_next;
 use machine_spec::Limits;
 use propagate::Round;
 use release_core::Setup;
-use rerun_workers::{Board, Counter, Naming};
+use rerun_workers::{Board, Counter, Naming, Watched};
 use std::alloc::Global;
 use std::marker::Brand;
 use std::sync::Wait;
@@ -51,8 +51,9 @@ fn read<J: Naming, R: Threads + Wait>(
     requires table { (counter.writer.table ≡ J.table) × (counter.writer.added ≡ 0) }
     requires opening { round ≡ opening J.setup J.past }
 {
+    let watched = Watched { round, counter };
     let (board, mut passes, mut watches) = Board::<J>::with_watches(
-        alloc, round, 1, 1, counter, blank,
+        rt, alloc, watched, 1, 1, blank,
     )?;
     let mut pass = passes.remove(0);
     let mut watch = watches.remove(0);
@@ -64,7 +65,7 @@ fn read<J: Naming, R: Threads + Wait>(
     }
     passes.push(pass)?;
     watches.push(watch)?;
-    let (_round, _shares, last) = board.close_watched(passes, watches);
+    let (_worked, last) = board.close_watched(passes, watches);
     numbers.extend_from_slice(last.as_slice())?;
     Ok(numbers)
 }

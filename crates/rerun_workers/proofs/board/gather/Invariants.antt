@@ -1,8 +1,11 @@
 -- What holds at the loop of `gather`.
-use Rattle.std.specs.Prelude.{◌≡◌, ◌+◌, ◌≤◌, ◌++◌, map, sum, vec_len, vec_capacity}
+use Rattle.std.specs.Prelude.{◌≡◌, ◌+◌, ◌≤◌, ◌++◌, map, sum, sum_by, vec_len, vec_capacity, Some}
+use Rattle.history_spec.specs.History.{History}
+use Rattle.round_spec.specs.Unedited.{IsUnedited}
 use Rattle.rerun_workers.proofs.board.gather.Given as goal
 
--- the passes that are gone are merged, and their steps listed, and there is room for the others
+-- the passes that are gone are merged, and their steps listed, and there is room for the others; without an edit they
+-- made no turn
 abbrev pub invariant-loop-passes : goal.invariant-loop-passes
 invariant-loop-passes g l =
     (l.all.parts + vec_len l.passes ≡ vec_len l.fn.passes)
@@ -10,6 +13,8 @@ invariant-loop-passes g l =
     × (vec_len l.shares + vec_len l.passes ≡ vec_len l.fn.passes)
     × (vec_len l.fn.passes ≤ vec_capacity l.shares)
     × (l.shares.items ++ map (λ pass. pass.steps) l.passes.items ≡ map (λ pass. pass.steps) l.fn.passes.items)
+    × (l.turns + sum_by (λ pass. pass.turns) l.passes.items ≡ sum_by (λ pass. pass.turns) l.fn.passes.items)
+    × ((h : History) → g.J.Naming.past ≡ Some h → IsUnedited h g.J.Naming.setup → l.turns ≡ 0)
 
 abbrev pub decreases-loop-passes : goal.decreases-loop-passes
 decreases-loop-passes g l = vec_len l.passes

@@ -1,12 +1,21 @@
 -- What is left to prove of `run_by_first`.
-use Rattle.std.proofs.Common.{option_map, rules}
+use Rattle.std.proofs.Common.{option_map, rules, ◌≡◌, ◌-◌, ◌∷◌, length}
+use Rattle.std.specs.Prelude.{replicate}
 use Rattle.std.specs.Arc.{arc_value}
-use Rattle.rerun_workers.proofs.Made.{by-one}
+use Rattle.rerun_workers.proofs.Made.{by-one, first-each, first-sum, cost-first}
 use Rattle.rerun_workers.proofs.running.run_by_first.Goals as goal
 
-pub returns : goal.returns
-returns g c =
+pub returns-clause-round : goal.returns-clause-round
+returns-clause-round g c =
+    let steps = length c.in_ok-round.round.schedule in
+    let shares : c.in_ok-shares.shares.items ≡ steps ∷ replicate (c.args.workers - 1) 0 = search rules in
     by-one c.args.workers c.args.setup (option_map arc_value c.args.past) c.in_ok-round.round
-    c.in_ok-shares.shares.items c.in_ok-round.ensures c.sound.ensures c.keeps.ensures.by_schedule
-    c.in_ok-shares.ensures.each
-    (let steps = c.in_ok-shares.ensures.steps in search rules)
+    c.in_ok-shares.shares.items c.in_ok-round.ensures.alone c.sound.ensures c.keeps.ensures.by_schedule
+    (first-each c.args.workers steps c.in_ok-shares.shares.items c.requires.some shares)
+    (first-sum c.args.workers steps c.in_ok-shares.shares.items shares)
+
+pub returns-clause-cost : goal.returns-clause-cost
+returns-clause-cost g c =
+    cost-first c.args.workers c.args.turns c.run_alone_shown.new.turns c.args.setup (option_map arc_value c.args.past)
+    c.in_ok-round.round c.in_ok-shares.shares.items (returns-clause-round g c) c.in_ok-round.ensures.cost
+    c.requires.unused c.requires.idle

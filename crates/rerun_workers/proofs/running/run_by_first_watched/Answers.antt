@@ -6,6 +6,6 @@ use Rattle.rerun_workers.proofs.running.run_by_first_watched.Goals as goal
 
 pub returns-clause-progress : goal.returns-clause-progress
 returns-clause-progress g c =
-    let is : c.push.new.self.items ≡ length c.in_ok-round.round.schedule ∷ [] = search rules in
-    subst (IsProgress c.args.workers (length c.in_ok-round.round.schedule)) (sym is)
-    (only-last c.args.workers (length c.in_ok-round.round.schedule))
+    let steps = length c.in_ok-worked.worked.round.schedule in
+    let is : c.push.new.self.items ≡ steps ∷ [] = search rules in
+    subst (IsProgress c.args.workers steps) (sym is) (only-last c.args.workers steps)

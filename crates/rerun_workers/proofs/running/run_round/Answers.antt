@@ -1,25 +1,34 @@
 -- What is left to prove of `run_round`.
-use Rattle.std.proofs.Common.{option_map, is_some, ap, sym, subst, ◌∙◌, arith}
+use Rattle.std.proofs.Common.{◌≡◌, ℕ, List, Option, option_map, is_some, ap, sym, subst, ◌∙◌, arith}
 use Rattle.std.specs.Arc.{arc_value}
-use Rattle.round_spec.specs.Rounds.{RoundState}
-use Rattle.rerun_workers.specs.Following.{FollowsPicks}
-use Rattle.rerun_workers.proofs.Made.{by-several}
+use Rattle.machine_spec.specs.Setup.{Setup}
+use Rattle.history_spec.specs.History.{History}
+use Rattle.round_spec.specs.Rounds.{RoundState, opening}
+use Rattle.rerun_workers.specs.Making.{IsClosed}
+use Rattle.rerun_workers.proofs.Made.{by-several, cost-several}
 use Rattle.rerun_workers.proofs.running.run_round.Goals as goal
 
-pub returns-then-is_some : goal.returns-then-is_some
-returns-then-is_some g c =
-    record {
-      round =
-          by-several c.args.workers c.args.setup (option_map arc_value c.args.past) c.in_ok-round.round
-          c.in_ok-round.shares.items
-          (let some = c.requires in let several = c.if-workers-eq1.false in omega (arith, some, several))
-          c.keeps.ensures.setup
-          (c.in_ok-round.ensures.setup ∙ ap (λ (w : RoundState). w.setup) c.in_ok-opened.ensures)
-          (c.in_ok-round.ensures.past ∙ ap (λ (w : RoundState). w.past) c.in_ok-opened.ensures)
-          c.keeps.ensures.by_schedule
-          (ap is_some (sym c.end.ensures) ∙ sym c.is_some.ensures ∙ c.if-is_some.true)
-          c.in_ok-round.ensures.each
-          c.in_ok-round.ensures.steps
-          (subst (λ (w : RoundState). FollowsPicks w.setup w.past c.in_ok-round.round) c.in_ok-opened.ensures
-          c.in_ok-round.ensures.follows);
-    }
+closed :
+    (w : RoundState) (shares : List ℕ) (turns : ℕ) (setup : Setup) (past : Option History) (first : RoundState)
+    → first ≡ opening setup past → IsClosed first.setup first.past w shares turns → IsClosed setup past w shares turns
+closed w shares turns setup past first is by = subst (λ (x : RoundState). IsClosed x.setup x.past w shares turns) is by
+
+pub returns-then-is_some-clause-round : goal.returns-then-is_some-clause-round
+returns-then-is_some-clause-round g c =
+    let worked = c.in_ok-worked.worked in
+    by-several c.args.workers c.args.setup (option_map arc_value c.args.past) worked.round worked.shares.items worked.turns
+    (let some = c.requires in let several = c.if-workers-eq1.false in omega (arith, some, several))
+    c.keeps.ensures.setup
+    (closed worked.round worked.shares.items worked.turns c.args.setup (option_map arc_value c.args.past)
+    c.in_ok-opened.opened c.in_ok-opened.ensures c.in_ok-worked.ensures.closed)
+    c.keeps.ensures.by_schedule
+    (ap is_some (sym c.end.ensures) ∙ sym c.is_some.ensures ∙ c.if-is_some.true)
+    c.in_ok-worked.ensures.each
+
+pub returns-then-is_some-clause-cost : goal.returns-then-is_some-clause-cost
+returns-then-is_some-clause-cost g c =
+    let worked = c.in_ok-worked.worked in
+    cost-several c.args.workers worked.turns c.args.setup (option_map arc_value c.args.past) worked.round worked.shares.items
+    (let some = c.requires in let several = c.if-workers-eq1.false in omega (arith, some, several))
+    (closed worked.round worked.shares.items worked.turns c.args.setup (option_map arc_value c.args.past)
+    c.in_ok-opened.opened c.in_ok-opened.ensures c.in_ok-worked.ensures.closed)

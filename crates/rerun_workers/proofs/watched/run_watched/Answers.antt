@@ -7,14 +7,14 @@ use Rattle.rerun_workers.proofs.watched.run_watched.Goals as goal
 
 pub returns-clause-last : goal.returns-clause-last
 returns-clause-last g c =
-    let steps : ℕ = length c.close_watched-round.result.0.schedule in
+    let steps : ℕ = length c.close_watched-worked.result.0.round.schedule in
     let seat = c.join-seat.result.0.0 in
     let numbers : List ℕ = c.join-seat.result.0.1.items in
     let watches : c.push_reserved.new.self.items ≡ seat ∷ [] = search rules in
     let seen : seat.reader.seen ≤ steps =
     All-head (λ watch. watch.reader.seen ≤ steps) seat []
     (All-same (λ watch. watch.reader.seen ≤ steps) (seat ∷ []) c.push_reserved.new.self.items (sym watches)
-    c.close_watched-round.ensures.seen) in
+    c.close_watched-worked.ensures.seen) in
     let read : All (λ n. n ≤ seat.reader.seen) numbers = search rules in
     let number : c.index.result.now ≡ steps = search rules in
     let below : All (λ n. n ≤ c.index.result.now) numbers =

@@ -22,4 +22,6 @@ loop-t-preserved g c = (
       let more = c.in-Ok.ensures.same.entries in
       omega (arith, before, counts, more)
       ),
+  c.reuse.ensures.asked ∙ c.loop-t.invariant.3,
+  c.reuse.ensures.taken ∙ c.loop-t.invariant.4,
 )

@@ -1,0 +1,14 @@
+-- What is left to prove of `run_job`.
+use Rattle.std.proofs.Common.{arith}
+use Rattle.rerun_workers.proofs.working.run_job.Goals as goal
+
+pub invariant_of-pass : goal.invariant_of-pass
+invariant_of-pass g c =
+    record {
+      one = c.args.pass.now.one;
+      counted = c.args.pass.now.counted;
+      own = c.args.pass.now.own;
+      edited = c.args.pass.now.edited;
+      once = let ready = c.requires.ready in let one = c.raise.ensures in omega (arith, ready, one);
+      idle = λ h past unedited. absurd (c.requires.edited h past unedited);
+    }
