@@ -6,7 +6,7 @@ use Rattle.ith_words.specs.Words.{Text, Line, Runs, Reruns, RunLine, RerunLine}
 use Rattle.ith_top.specs.declared.status.Status.{Status}
 use Rattle.ith_top.specs.declared.status.Status.TheVariants as status
 use Rattle.ith_top.specs.Contents.{AreLists, Plan, IsRunPlan, IsRerunPlan}
-use Rattle.ith_top.specs.Counting.{MakesRounds, rounds_asked}
+use Rattle.ith_top.specs.Counting.{Work, MakesRounds, rounds_asked}
 use Rattle.ith_top.specs.Refusals.{WhyUndone, WhyUnplanned}
 use Rattle.ith_top.specs.Playing.{IsCarriedOut}
 
@@ -44,17 +44,17 @@ counted_none line a b count _ why = absurd why
 
 -- all were made
 pub counted_all :
-    (line : Line) (name : Option Text) (workers : ℕ) (p : Plan) (a b : World) (earlier later : ℕ) (exits : Bool)
+    (line : Line) (name : Option Text) (workers : ℕ) (p : Plan) (a b : World) (earlier later : Work) (exits : Bool)
     → length p.inputs ≡ rounds_asked line → IsCarriedOut name workers p a b earlier later exits
-    → later ≡ earlier + rounds_asked line
+    → later.rounds ≡ earlier.rounds + rounds_asked line
 counted_all line name workers p a b earlier later exits count done =
     let all = done.all in let rounds = done.rounds in omega arith
 
 -- some were made
 some_counted :
-    (line : Line) (name : Option Text) (workers : ℕ) (p : Plan) (a b : World) (earlier later : ℕ) (s : Status)
+    (line : Line) (name : Option Text) (workers : ℕ) (p : Plan) (a b : World) (earlier later : Work) (s : Status)
     → length p.inputs ≡ rounds_asked line → WhyUndone name workers p a b earlier later s
-    → later ≤ earlier + rounds_asked line
+    → later.rounds ≤ earlier.rounds + rounds_asked line
 some_counted line name workers p a b earlier later s count why =
     elim why [
       | inl part ↦ (let most = part.most in omega arith)
@@ -62,9 +62,9 @@ some_counted line name workers p a b earlier later s count why =
     ]
 
 pub counted_some :
-    (line : Line) (name : Option Text) (workers : ℕ) (p : Plan) (a b : World) (earlier later : ℕ) (s : Status)
+    (line : Line) (name : Option Text) (workers : ℕ) (p : Plan) (a b : World) (earlier later : Work) (s : Status)
     → length p.inputs ≡ rounds_asked line → WhyUndone name workers p a b earlier later s
-    → MakesRounds line earlier later s
+    → MakesRounds line earlier.rounds later.rounds s
 counted_some line name workers p a b earlier later status.WriteFault count why =
     some_counted line name workers p a b earlier later status.WriteFault count why
 counted_some line name workers p a b earlier later status.Memory count why =

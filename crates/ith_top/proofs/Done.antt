@@ -12,6 +12,7 @@ use Rattle.ith_top.specs.declared.status.Status.TheVariants as status
 use Rattle.ith_top.specs.Files.{files_named, AsksForFiles}
 use Rattle.ith_top.specs.Contents.{Plan, IsPlan, workers_of}
 use Rattle.ith_top.specs.Ends.{HasRounds, texts_of, left_of, kept_by, Prints, PrintsAndKeeps, IsKeptWithin, IsDone, RoundsEnd}
+use Rattle.ith_top.specs.Counting.{Work, SpendsTurns, RoundsSpend}
 use Rattle.ith_top.specs.Refusals.{Keeps, WhyCutShort, WhyUnkept, WhyUndone}
 use Rattle.ith_top.specs.Playing.{CanBePlayed, CanBeSpelled, AreFound, IsPlayed, IsCarriedOut}
 use Rattle.ith_top.proofs.Worlds.{rose_before}
@@ -71,7 +72,7 @@ kept_after name content a b c bytes stays keeps =
 
 -- all rounds were made, and the memo of what the last one leaves was written, where it has a name
 pub carried_out :
-    (name : Option Text) (workers : ℕ) (p : Plan) (a b : World) (earlier later : ℕ) (exits : Bool) (left : History)
+    (name : Option Text) (workers : ℕ) (p : Plan) (a b : World) (earlier later : Work) (exits : Bool) (left : History)
     (played : IsPlayed workers p a b earlier later exits left) (c : World)
     → PrintsAndKeeps name (memo left) a c (concat (texts_of p played.found))
     → IsKeptWithin name (memo left)
@@ -82,6 +83,7 @@ carried_out name workers p a b earlier later exits left played c keeps within =
       made = played.made;
       all = played.all;
       rounds = played.rounds;
+      turns = played.turns;
       keeps = subst (λ (h : History). PrintsAndKeeps name (memo h) a c (concat (texts_of p played.found)))
           played.is_left keeps;
       within = subst (λ (h : History). IsKeptWithin name (memo h)) played.is_left within;
@@ -90,7 +92,7 @@ carried_out name workers p a b earlier later exits left played c keeps within =
 
 -- and it was
 pub carried_and_kept :
-    (name : Text) (workers : ℕ) (p : Plan) (a b c : World) (earlier later : ℕ) (exits : Bool) (left : History)
+    (name : Text) (workers : ℕ) (p : Plan) (a b c : World) (earlier later : Work) (exits : Bool) (left : History)
     → IsPlayed workers p a b earlier later exits left → Keeps name (memo left) b c
     → IsKeptWithin (Some name) (memo left)
     → IsCarriedOut (Some name) workers p a c earlier later exits
@@ -100,7 +102,7 @@ carried_and_kept name workers p a b c earlier later exits left played keeps with
 
 -- and none was asked for
 pub carried_alone :
-    (workers : ℕ) (p : Plan) (a b : World) (earlier later : ℕ) (exits : Bool) (left : History)
+    (workers : ℕ) (p : Plan) (a b : World) (earlier later : Work) (exits : Bool) (left : History)
     → IsPlayed workers p a b earlier later exits left → IsCarriedOut None workers p a b earlier later exits
 carried_alone workers p a b earlier later exits left played =
     carried_out None workers p a b earlier later exits left played b
@@ -108,7 +110,7 @@ carried_alone workers p a b earlier later exits left played =
 
 -- and it wasn't
 pub carried_unkept :
-    (name : Text) (workers : ℕ) (p : Plan) (a b c : World) (earlier later : ℕ) (exits : Bool) (left : History)
+    (name : Text) (workers : ℕ) (p : Plan) (a b c : World) (earlier later : Work) (exits : Bool) (left : History)
     (why : Status)
     → IsPlayed workers p a b earlier later exits left → NoneFell a b → WhyUnkept name (memo left) b c why
     → WhyUndone (Some name) workers p a c earlier later why
@@ -128,7 +130,7 @@ carried_unkept name workers p a b c earlier later exits left why played counts c
     })
 
 done_by :
-    (line : Line) (a b c : World) (p : Plan) (earlier later : ℕ) (exits : Bool)
+    (line : Line) (a b c : World) (p : Plan) (earlier later : Work) (exits : Bool)
     → IsPlan line a p → CanBePlayed p → CanBeSpelled p → AsksForFiles (files_named line) a b → AsksNothing b c
     → Stays a b
     → IsCarriedOut (kept_by line) (workers_of line) p b c earlier later exits → IsDone line exits a c
@@ -144,9 +146,44 @@ done_by line a b c p earlier later exits is playable spelled asked none stays do
       ends = done.are_exits;
     }
 
+-- and the counter rose by the turns of its rounds
+spent_by :
+    (line : Line) (a b c : World) (p : Plan) (earlier later : Work) (exits : Bool)
+    (is : IsPlan line a p) (playable : CanBePlayed p) (spelled : CanBeSpelled p) (asked : AsksForFiles (files_named line) a b)
+    (none : AsksNothing b c) (stays : Stays a b)
+    (done : IsCarriedOut (kept_by line) (workers_of line) p b c earlier later exits)
+    → SpendsTurns line a (done_by line a b c p earlier later exits is playable spelled asked none stays done).has earlier later
+unfolding rounds_in done_by
+spent_by line a b c p earlier later exits is playable spelled asked none stays done =
+    record { counted = done.made.counted; turns = done.turns }
+
+pub spent_finished :
+    (line : Line) (a b c : World) (p : Plan) (earlier later : Work) (exits : Bool)
+    → IsPlan line a p → CanBePlayed p → CanBeSpelled p → AsksForFiles (files_named line) a b → AsksNothing b c
+    → Stays a b
+    → IsCarriedOut (kept_by line) (workers_of line) p b c earlier later exits
+    → exits ≡ true → RoundsSpend line a c earlier later status.Finished
+spent_finished line a b c p earlier later exits is playable spelled asked none stays done ends =
+    let all = subst (IsCarriedOut (kept_by line) (workers_of line) p b c earlier later) ends done in (
+      done_by line a b c p earlier later true is playable spelled asked none stays all,
+      spent_by line a b c p earlier later true is playable spelled asked none stays all,
+    )
+
+pub spent_unfinished :
+    (line : Line) (a b c : World) (p : Plan) (earlier later : Work) (exits : Bool)
+    → IsPlan line a p → CanBePlayed p → CanBeSpelled p → AsksForFiles (files_named line) a b → AsksNothing b c
+    → Stays a b
+    → IsCarriedOut (kept_by line) (workers_of line) p b c earlier later exits
+    → exits ≡ false → RoundsSpend line a c earlier later status.Unfinished
+spent_unfinished line a b c p earlier later exits is playable spelled asked none stays done ends =
+    let all = subst (IsCarriedOut (kept_by line) (workers_of line) p b c earlier later) ends done in (
+      done_by line a b c p earlier later false is playable spelled asked none stays all,
+      spent_by line a b c p earlier later false is playable spelled asked none stays all,
+    )
+
 -- all was done, and each round ended by exit
 pub finished :
-    (line : Line) (a b c : World) (p : Plan) (earlier later : ℕ) (exits : Bool)
+    (line : Line) (a b c : World) (p : Plan) (earlier later : Work) (exits : Bool)
     → IsPlan line a p → CanBePlayed p → CanBeSpelled p → AsksForFiles (files_named line) a b → AsksNothing b c
     → Stays a b
     → IsCarriedOut (kept_by line) (workers_of line) p b c earlier later exits
@@ -157,7 +194,7 @@ finished line a b c p earlier later exits is playable spelled asked none stays d
 
 -- all was done, and some round ended otherwise
 pub unfinished :
-    (line : Line) (a b c : World) (p : Plan) (earlier later : ℕ) (exits : Bool)
+    (line : Line) (a b c : World) (p : Plan) (earlier later : Work) (exits : Bool)
     → IsPlan line a p → CanBePlayed p → CanBeSpelled p → AsksForFiles (files_named line) a b → AsksNothing b c
     → Stays a b
     → IsCarriedOut (kept_by line) (workers_of line) p b c earlier later exits
@@ -266,7 +303,7 @@ unkept line a b m c p found name status.Untrue _ _ _ _ _ _ _ _ _ _ _ _ cause = a
 
 -- not all was done
 pub undone :
-    (line : Line) (a b c : World) (p : Plan) (earlier later : ℕ) (why : Status)
+    (line : Line) (a b c : World) (p : Plan) (earlier later : Work) (why : Status)
     → IsPlan line a p → CanBePlayed p → CanBeSpelled p → AsksForFiles (files_named line) a b → AsksNothing b c
     → Stays a b → NoneFell a b
     → WhyUndone (kept_by line) (workers_of line) p b c earlier later why → RoundsEnd line a c why

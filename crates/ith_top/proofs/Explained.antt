@@ -1,5 +1,5 @@
 -- How a line that tells why steps were executed ends.
-use Rattle.std.proofs.Common.{◌≡◌, ℕ, List, [], ◌∷◌, Option, map, refl, sym, ap, subst, ◌∙◌}
+use Rattle.std.proofs.Common.{◌≡◌, ◌+◌, ℕ, List, [], ◌∷◌, Option, map, refl, sym, ap, subst, ◌∙◌}
 use Rattle.std.proofs.lemmas.List.{append-nil}
 use Rattle.machine_spec.specs.Setup.{Setup}
 use Rattle.history_spec.specs.History.{History, IsSound}
@@ -11,6 +11,7 @@ use Rattle.rerun_workers.proofs.Made.{alone-setup, alone-past}
 use Rattle.why_report.specs.declared.reason.Reason.{Reason}
 use Rattle.why_report.specs.Reasons.{reasons_of, reasons_by, scratch_before, executed_places, GoesByOldRun}
 use Rattle.why_report.specs.Text.{why_text}
+use Rattle.propagate.specs.Executing.{executed_by}
 use Rattle.ith_host.specs.World.{World, NoneFell, Stays, AsksNothing}
 use Rattle.ith_words.specs.Words.{Text, Reruns, Explains, ExplainLine}
 use Rattle.ith_top.specs.declared.status.Status.{Status}
@@ -20,6 +21,7 @@ use Rattle.ith_top.specs.Contents.{Plan, AreLists, IsPlan, as_rerun}
 use Rattle.ith_top.specs.Rounds.{BeginsHonestly}
 use Rattle.ith_top.specs.Explaining.{explained_round, why_of}
 use Rattle.ith_top.specs.Ends.{Prints, HasReasons, ExplainEnds}
+use Rattle.ith_top.specs.Counting.{ExplainSpends}
 use Rattle.ith_top.specs.Refusals.{WhyUnplanned, WhyUnprinted}
 use Rattle.ith_top.specs.Playing.{TellsReasons}
 use Rattle.ith_top.proofs.Worlds.{stays_trans}
@@ -135,6 +137,18 @@ explained line a b c p text asked none stays is tells prints =
       has = explained_by line a p text is tells;
       prints = prints_after a b c whole stays (subst (Prints b c) tells.is_text prints);
     }
+
+-- and the counter rose by the turns of its executed steps
+pub explained_spent :
+    (line : ExplainLine) (a b c : World) (p : Plan) (text : List ℕ) (before after : ℕ)
+    → AsksForFiles (files_named (Explains line)) a b → AsksNothing b c → Stays a b → IsPlan (Explains line) a p
+    → TellsReasons p text → Prints b c text
+    → ((input : List ℕ) (later : List (List ℕ)) → p.inputs ≡ input ∷ later
+    → after ≡ before + executed_by (explained_round p.beginning input))
+    → ExplainSpends line a c before after status.Finished
+unfolding explained_by explained
+explained_spent line a b c p text before after asked none stays is tells prints cost =
+    (explained line a b c p text asked none stays is tells prints, cost tells.input tells.later tells.first)
 
 -- it wasn't told whole
 pub unexplained :

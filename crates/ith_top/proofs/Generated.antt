@@ -29,6 +29,7 @@ use Rattle.ith_top.specs.Contents.{Plan, IsGeneratedPlan}
 use Rattle.ith_top.specs.Ends.{Prints, HasRounds, GenerateEnds, IsGenerated, generated_text}
 use Rattle.ith_top.specs.Rounds.{rounds_of}
 use Rattle.ith_top.specs.Refusals.{WhyUnprinted}
+use Rattle.ith_top.specs.Counting.{Work, IsCounted, turns_for, SpendsTurns, GenerateSpends}
 use Rattle.ith_top.specs.Playing.{AreFound, AreTheGenerated, CanBePlayed, CanBeSpelled, IsLineOn}
 use Rattle.ith_top.proofs.Ending.{unbegun}
 use Rattle.ith_top.proofs.Promises.{promised_from_scratch, promised_of, each_kept}
@@ -140,31 +141,36 @@ and-true true = refl
 and-true false = refl
 
 -- two rounds, of which the second goes by what the first left
-record TwoRounds (workers : ℕ) (s : Setup) (input next one other : List ℕ) (exit ended : Bool) : Type 0 where
-  pub first : Round
-  pub second : Round
-  pub found : List Found
-  pub count : length found ≡ 2
-  pub are : rounds_after (from_scratch s nothing_asked) (input ∷ next ∷ []) found ≡ first ∷ second ∷ []
-  pub made_first : IsMade workers first
-  pub made_second : IsMade workers second
-  pub unwatched_first : IsWatched workers first
-  pub unwatched_second : IsWatched workers second
-  pub lines : one ++ other ≡ concat (map made_short (first ∷ second ∷ []))
-  pub exits : (exit && ended) ≡ list_all made_exits (first ∷ second ∷ [])
+record TwoRounds (workers : ℕ) (s : Setup) (input next : List ℕ) (t u : ℕ) (one other : List ℕ) (exit ended : Bool) : Type 0
+  where
+    pub first : Round
+    pub second : Round
+    pub found : List Found
+    pub count : length found ≡ 2
+    pub are : rounds_after (from_scratch s nothing_asked) (input ∷ next ∷ []) found ≡ first ∷ second ∷ []
+    pub made_first : IsMade workers first
+    pub made_second : IsMade workers second
+    pub unwatched_first : IsWatched workers first
+    pub unwatched_second : IsWatched workers second
+    pub counted_first : IsCounted workers first
+    pub counted_second : IsCounted workers second
+    pub turns : u ≡ t + turns_for found
+    pub lines : one ++ other ≡ concat (map made_short (first ∷ second ∷ []))
+    pub exits : (exit && ended) ≡ list_all made_exits (first ∷ second ∷ [])
 
 two_rounds :
-    (workers : ℕ) (s : Setup) (input next one other : List ℕ) (exit ended : Bool) (left last : History)
-    → IsLineOn workers (from_scratch s nothing_asked) input one exit left
-    → IsLineOn workers (record { number = 1; past = Some left; setup = s; asked = nothing_asked }) next other ended last
-    → TwoRounds workers s input next one other exit ended
-two_rounds workers s input next one other exit ended left last on on_next =
+    (workers : ℕ) (s : Setup) (input next : List ℕ) (t u o : ℕ) (one other : List ℕ) (exit ended : Bool)
+    (left last : History)
+    → IsLineOn workers (from_scratch s nothing_asked) input t u one exit left
+    → IsLineOn workers (record { number = 1; past = Some left; setup = s; asked = nothing_asked }) next u o other ended last
+    → TwoRounds workers s input next t o one other exit ended
+two_rounds workers s input next t u o one other exit ended left last on on_next =
     let f = on.found in
     let begins : record { number = 1; past = Some left; setup = s; asked = nothing_asked }
     ≡ after_round (from_scratch s nothing_asked) input f =
     ap (λ (h : History). record { number = 1; past = Some h; setup = s; asked = nothing_asked }) on.is_left in
-    let on_second : IsLineOn workers (after_round (from_scratch s nothing_asked) input f) next other ended last =
-    subst (λ (b : Beginning). IsLineOn workers b next other ended last) begins on_next in
+    let on_second : IsLineOn workers (after_round (from_scratch s nothing_asked) input f) next u o other ended last =
+    subst (λ (b : Beginning). IsLineOn workers b next u o other ended last) begins on_next in
     let first : Round = round_on (from_scratch s nothing_asked) input f in
     let second : Round = round_on (after_round (from_scratch s nothing_asked) input f) next on_second.found in
     record {
@@ -177,6 +183,9 @@ two_rounds workers s input next one other exit ended left last on on_next =
       made_second = on_second.made;
       unwatched_first = λ yes. absurd (let no : false ≡ true = yes in cc);
       unwatched_second = λ yes. absurd (let no : false ≡ true = yes in cc);
+      counted_first = on.counted;
+      counted_second = on_second.counted;
+      turns = let first = on.turns in let second = on_second.turns in omega arith;
       lines = ap (λ (l : List ℕ). l ++ other) on.is_text
           ∙ ap (λ (l : List ℕ). made_short first ++ l) (on_second.is_text ∙ sym (append-nil (made_short second)));
       exits = ap (λ (b : Bool). b && ended) on.is_exit
@@ -186,22 +195,22 @@ two_rounds workers s input next one other exit ended left last on on_next =
 -- both rounds were made
 pub both_generated :
     (workers number : ℕ) (p : Plan) (input next : List ℕ) (rest : List (List ℕ)) (one other text : List ℕ)
-    (exit ended exits : Bool) (left last : History) (earlier later : ℕ)
-    → later ≡ earlier + 2 → IsGeneratedPlan number p → CanBePlayed p → CanBeSpelled p → p.inputs ≡ input ∷ next ∷ rest
-    → IsLineOn workers (from_scratch p.beginning.setup nothing_asked) input one exit left
-    → IsLineOn workers (record { number = 1; past = Some left; setup = p.beginning.setup; asked = nothing_asked }) next other
-    ended last
+    (exit ended exits : Bool) (left last : History) (earlier between later : Work)
+    → later.rounds ≡ earlier.rounds + 2 → IsGeneratedPlan number p → CanBePlayed p → CanBeSpelled p → p.inputs ≡ input ∷ next ∷ rest
+    → IsLineOn workers (from_scratch p.beginning.setup nothing_asked) input earlier.turns between.turns one exit left
+    → IsLineOn workers (record { number = 1; past = Some left; setup = p.beginning.setup; asked = nothing_asked }) next
+    between.turns later.turns other ended last
     → text ≡ text_line (codes "gen") (decimal number) ++ one ++ other
     → exits ≡ (exit && ended)
     → AreTheGenerated workers number earlier later text exits
 unfolding all_made_exit
-both_generated workers number p input next rest one other text exit ended exits left last earlier later rise is playable spelled inputs on on_next told ends =
+both_generated workers number p input next rest one other text exit ended exits left last earlier between later rise is playable spelled inputs on on_next told ends =
     let s : Setup = p.beginning.setup in
     let begins : p.beginning ≡ from_scratch s nothing_asked =
     is.beginning ∙ ap (λ (t : Setup). from_scratch t nothing_asked) (sym (ap (λ (b : Beginning). b.setup) is.beginning)) in
     let all : p.inputs ≡ input ∷ next ∷ [] = one_more _ _ input next rest p.inputs inputs is.edited in
-    let two : TwoRounds workers s input next one other exit ended =
-    two_rounds workers s input next one other exit ended left last on on_next in
+    let two : TwoRounds workers s input next earlier.turns later.turns one other exit ended =
+    two_rounds workers s input next earlier.turns between.turns later.turns one other exit ended left last on on_next in
     let rounds : rounds_of p two.found ≡ two.first ∷ two.second ∷ [] =
     ap (λ (l : List (List ℕ)). rounds_after p.beginning l two.found) all
     ∙ ap (λ (b : Beginning). rounds_after b (input ∷ next ∷ []) two.found) begins
@@ -214,6 +223,8 @@ both_generated workers number p input next rest one other text exit ended exits 
           (All-from_recursion (IsMade workers) (two.first ∷ two.second ∷ []) (two.made_first, (two.made_second, tt)));
       watched = subst (All (IsWatched workers)) (sym rounds)
           (All-from_recursion (IsWatched workers) (two.first ∷ two.second ∷ []) (two.unwatched_first, (two.unwatched_second, tt)));
+      counted = subst (All (IsCounted workers)) (sym rounds)
+          (All-from_recursion (IsCounted workers) (two.first ∷ two.second ∷ []) (two.counted_first, (two.counted_second, tt)));
     } in
     let promised = promised_from_scratch workers s nothing_asked p two.found begins playable spelled are in
     record {
@@ -225,6 +236,7 @@ both_generated workers number p input next rest one other text exit ended exits 
       made = are;
       all = two.count ∙ sym count;
       rounds = let found = two.count in omega arith;
+      turns = two.turns;
       is_text = told
           ∙ append_assoc (text_line (codes "gen") (decimal number)) one other
           ∙ ap (λ (l : List ℕ). text_line (codes "gen") (decimal number) ++ l)
@@ -234,7 +246,7 @@ both_generated workers number p input next rest one other text exit ended exits 
       are_exits = sym promised.exits ∙ ap (list_all made_exits) rounds ∙ sym two.exits ∙ sym ends;
     }
 
-has_generated : (line : GenerateLine) (a : World) (earlier later : ℕ) (text : List ℕ) (exits : Bool)
+has_generated : (line : GenerateLine) (a : World) (earlier later : Work) (text : List ℕ) (exits : Bool)
     → AreTheGenerated line.workers line.number earlier later text exits → HasRounds (Generates line) a
 has_generated line a earlier later text exits is =
     record {
@@ -249,7 +261,7 @@ has_generated line a earlier later text exits is =
     }
 
 generated_by :
-    (line : GenerateLine) (a b : World) (earlier later : ℕ) (text : List ℕ) (exits : Bool)
+    (line : GenerateLine) (a b : World) (earlier later : Work) (text : List ℕ) (exits : Bool)
     → AsksNothing a b → AreTheGenerated line.workers line.number earlier later text exits → Prints a b text
     → IsGenerated line exits a b
 unfolding has_generated
@@ -262,8 +274,32 @@ generated_by line a b earlier later text exits none is prints =
       ends = is.are_exits;
     }
 
+spent_by :
+    (line : GenerateLine) (a b : World) (earlier later : Work) (text : List ℕ) (exits : Bool)
+    (none : AsksNothing a b) (is : AreTheGenerated line.workers line.number earlier later text exits) (prints : Prints a b text)
+    → SpendsTurns (Generates line) a (generated_by line a b earlier later text exits none is prints).has earlier later
+unfolding has_generated generated_by
+spent_by line a b earlier later text exits none is prints = record { counted = is.made.counted; turns = is.turns }
+
+-- the counter rose by the turns of both rounds
+pub generate_spent_finished :
+    (line : GenerateLine) (a b : World) (earlier later : Work) (text : List ℕ) (exits : Bool)
+    → AsksNothing a b → AreTheGenerated line.workers line.number earlier later text exits → Prints a b text → exits ≡ true
+    → GenerateSpends line a b earlier later status.Finished
+generate_spent_finished line a b earlier later text exits none is prints ends =
+    let all = subst (AreTheGenerated line.workers line.number earlier later text) ends is in
+    (generated_by line a b earlier later text true none all prints, spent_by line a b earlier later text true none all prints)
+
+pub generate_spent_unfinished :
+    (line : GenerateLine) (a b : World) (earlier later : Work) (text : List ℕ) (exits : Bool)
+    → AsksNothing a b → AreTheGenerated line.workers line.number earlier later text exits → Prints a b text → exits ≡ false
+    → GenerateSpends line a b earlier later status.Unfinished
+generate_spent_unfinished line a b earlier later text exits none is prints ends =
+    let all = subst (AreTheGenerated line.workers line.number earlier later text) ends is in
+    (generated_by line a b earlier later text false none all prints, spent_by line a b earlier later text false none all prints)
+
 pub generate_finished :
-    (line : GenerateLine) (a b : World) (earlier later : ℕ) (text : List ℕ) (exits : Bool)
+    (line : GenerateLine) (a b : World) (earlier later : Work) (text : List ℕ) (exits : Bool)
     → AsksNothing a b → AreTheGenerated line.workers line.number earlier later text exits → Prints a b text → exits ≡ true
     → GenerateEnds line a b status.Finished
 generate_finished line a b earlier later text exits none is prints ends =
@@ -271,7 +307,7 @@ generate_finished line a b earlier later text exits none is prints ends =
     (subst (AreTheGenerated line.workers line.number earlier later text) ends is) prints
 
 pub generate_unfinished :
-    (line : GenerateLine) (a b : World) (earlier later : ℕ) (text : List ℕ) (exits : Bool)
+    (line : GenerateLine) (a b : World) (earlier later : Work) (text : List ℕ) (exits : Bool)
     → AsksNothing a b → AreTheGenerated line.workers line.number earlier later text exits → Prints a b text → exits ≡ false
     → GenerateEnds line a b status.Unfinished
 generate_unfinished line a b earlier later text exits none is prints ends =
@@ -285,7 +321,7 @@ generate_cut line a b none stays = unbegun (Generates line) a b (none ∙ sym (a
 
 -- not all was printed
 pub generate_unprinted :
-    (line : GenerateLine) (a b : World) (earlier later : ℕ) (text : List ℕ) (exits : Bool) (s : Status)
+    (line : GenerateLine) (a b : World) (earlier later : Work) (text : List ℕ) (exits : Bool) (s : Status)
     → AsksNothing a b → AreTheGenerated line.workers line.number earlier later text exits → WhyUnprinted text a b s
     → GenerateEnds line a b s
 unfolding has_generated

@@ -5,6 +5,7 @@ use Rattle.std.specs.List.{AllByRecursion, concat, list_all}
 use Rattle.std.specs.Io.KnownBytes.{Appends}
 use Rattle.std.proofs.lemmas.List.{append-nil, map_push, map-append}
 use Rattle.std.proofs.lemmas.List.Folds.{list_all-append}
+use Rattle.std.proofs.lemmas.List.Sums.{sum_by_push}
 use Rattle.std.proofs.lemmas.List.Elements.{All-from_recursion, recursion_from_All}
 use Rattle.machine_spec.specs.declared.TheConstants.{MOST_INPUT_BYTES}
 use Rattle.history_spec.specs.History.{History}
@@ -17,12 +18,13 @@ use Rattle.ith_top.specs.declared.status.Status.TheVariants as status
 use Rattle.ith_top.specs.Ends.{Prints, IsPrintedInPart}
 use Rattle.ith_top.specs.Contents.{Plan}
 use Rattle.ith_top.specs.Refusals.{WhyUnprinted, IsPlayedInPart}
+use Rattle.ith_top.specs.Counting.{Work, IsCounted, turns_for}
 use Rattle.ith_top.specs.Playing.{AreFound, IsMadeOn, IsPlayed}
 use Rattle.ith_top.proofs.Worlds.{none_fell_trans, rose_before}
 
--- the rounds so far were made and printed, and those to come, whatever is found of them, begin where the last one left
--- off
-pub record IsGoing (b : Beginning) (workers : ℕ) (inputs : List (List ℕ)) (a w : World) (now : Beginning)
+-- the rounds so far were made and printed, and the counter rose by their turns, from one number to the other; and those
+-- to come, whatever is found of them, begin where the last one left off
+pub record IsGoing (b : Beginning) (workers : ℕ) (inputs : List (List ℕ)) (a w : World) (t u : ℕ) (now : Beginning)
     (rest : List (List ℕ)) (exit : Bool) : Type 0 where
   pub found : List Found
   pub done : List Round
@@ -31,6 +33,8 @@ pub record IsGoing (b : Beginning) (workers : ℕ) (inputs : List (List ℕ)) (a
   pub last : (more : List Found) → after_rounds b inputs (found ++ more) ≡ after_rounds now rest more
   pub made : AllByRecursion (IsMade workers) done
   pub watched : AllByRecursion (IsWatched workers) done
+  pub counted : AllByRecursion (IsCounted workers) done
+  pub turns : u ≡ t + turns_for found
   pub prints : Prints a w (concat (map made_report done))
   pub ended : exit ≡ list_all made_exits done
   pub counts : NoneFell a w
@@ -128,9 +132,9 @@ same-after b (input ∷ inputs) = refl
 
 -- before the first round
 pub going_start :
-    (b now : Beginning) (workers : ℕ) (inputs : List (List ℕ)) (a : World)
-    → now ≡ b → NoneFell a a → IsGoing b workers inputs a a now inputs true
-going_start b now workers inputs a first counts =
+    (b now : Beginning) (workers : ℕ) (inputs : List (List ℕ)) (a : World) (t : ℕ)
+    → now ≡ b → NoneFell a a → IsGoing b workers inputs a a t t now inputs true
+going_start b now workers inputs a t first counts =
     rw first
     (record {
       found = [];
@@ -140,6 +144,8 @@ going_start b now workers inputs a first counts =
       last = λ more. refl;
       made = tt;
       watched = tt;
+      counted = tt;
+      turns = omega arith;
       prints = prints_none a;
       ended = refl;
       counts = counts;
@@ -148,42 +154,44 @@ going_start b now workers inputs a first counts =
 
 -- the rounds so far are those of what was found so far
 going-rounds :
-    (b : Beginning) (workers : ℕ) (inputs : List (List ℕ)) (a w : World) (now : Beginning) (rest : List (List ℕ))
-    (exit : Bool) (going : IsGoing b workers inputs a w now rest exit)
+    (b : Beginning) (workers : ℕ) (inputs : List (List ℕ)) (a w : World) (t u : ℕ) (now : Beginning) (rest : List (List ℕ))
+    (exit : Bool) (going : IsGoing b workers inputs a w t u now rest exit)
     → rounds_after b inputs going.found ≡ going.done
-going-rounds b workers inputs a w now rest exit going =
+going-rounds b workers inputs a w t u now rest exit going =
     ap (rounds_after b inputs) (sym (append-nil going.found))
     ∙ going.rounds []
     ∙ ap (λ (rs : List Round). going.done ++ rs) (none-after now rest)
     ∙ append-nil going.done
 
 going-after :
-    (b : Beginning) (workers : ℕ) (inputs : List (List ℕ)) (a w : World) (now : Beginning) (rest : List (List ℕ))
-    (exit : Bool) (going : IsGoing b workers inputs a w now rest exit)
+    (b : Beginning) (workers : ℕ) (inputs : List (List ℕ)) (a w : World) (t u : ℕ) (now : Beginning) (rest : List (List ℕ))
+    (exit : Bool) (going : IsGoing b workers inputs a w t u now rest exit)
     → after_rounds b inputs going.found ≡ now
-going-after b workers inputs a w now rest exit going =
+going-after b workers inputs a w t u now rest exit going =
     ap (after_rounds b inputs) (sym (append-nil going.found)) ∙ going.last [] ∙ same-after now rest
 
 -- and so are their texts
 going-texts :
-    (b : Beginning) (workers : ℕ) (inputs : List (List ℕ)) (a w : World) (now : Beginning) (rest : List (List ℕ))
-    (exit : Bool) (going : IsGoing b workers inputs a w now rest exit)
+    (b : Beginning) (workers : ℕ) (inputs : List (List ℕ)) (a w : World) (t u : ℕ) (now : Beginning) (rest : List (List ℕ))
+    (exit : Bool) (going : IsGoing b workers inputs a w t u now rest exit)
     → made_reports (rounds_after b inputs going.found) ≡ map made_report going.done
 unfolding made_reports
-going-texts b workers inputs a w now rest exit going =
-    ap (map made_report) (going-rounds b workers inputs a w now rest exit going)
+going-texts b workers inputs a w t u now rest exit going =
+    ap (map made_report) (going-rounds b workers inputs a w t u now rest exit going)
 
 going-found :
-    (b : Beginning) (workers : ℕ) (inputs : List (List ℕ)) (a w : World) (now : Beginning) (rest : List (List ℕ))
-    (exit : Bool) (going : IsGoing b workers inputs a w now rest exit)
+    (b : Beginning) (workers : ℕ) (inputs : List (List ℕ)) (a w : World) (t u : ℕ) (now : Beginning) (rest : List (List ℕ))
+    (exit : Bool) (going : IsGoing b workers inputs a w t u now rest exit)
     → AreFound workers (of_line b inputs) going.found
-going-found b workers inputs a w now rest exit going =
+going-found b workers inputs a w t u now rest exit going =
     record {
       few = let count = going.count in omega arith;
-      made = subst (All (IsMade workers)) (sym (going-rounds b workers inputs a w now rest exit going))
+      made = subst (All (IsMade workers)) (sym (going-rounds b workers inputs a w t u now rest exit going))
           (All-from_recursion (IsMade workers) going.done going.made);
-      watched = subst (All (IsWatched workers)) (sym (going-rounds b workers inputs a w now rest exit going))
+      watched = subst (All (IsWatched workers)) (sym (going-rounds b workers inputs a w t u now rest exit going))
           (All-from_recursion (IsWatched workers) going.done going.watched);
+      counted = subst (All (IsCounted workers)) (sym (going-rounds b workers inputs a w t u now rest exit going))
+          (All-from_recursion (IsCounted workers) going.done going.counted);
     }
 
 all-more :
@@ -202,18 +210,23 @@ record HasNext (b : Beginning) (workers : ℕ) (inputs : List (List ℕ)) (now :
       ≡ after_rounds (after_round now input f) rest more
   pub made : AllByRecursion (IsMade workers) (done ++ round_on now input f ∷ [])
   pub watched : AllByRecursion (IsWatched workers) (done ++ round_on now input f ∷ [])
+  pub counted : AllByRecursion (IsCounted workers) (done ++ round_on now input f ∷ [])
 
 length-more : (found : List Found) (f : Found) (n : ℕ) → length (found ++ f ∷ []) + n ≡ length found + suc n
 length-more [] f n = omega arith
 length-more (g ∷ found) f n = let rest = length-more found f n in omega arith
 
+turns-more : (found : List Found) (f : Found) → turns_for (found ++ f ∷ []) ≡ turns_for found + f.turns
+turns-more found f = sum_by_push (λ g. g.turns) found f
+
 has-next :
-    (b : Beginning) (workers : ℕ) (inputs : List (List ℕ)) (a w : World) (now : Beginning) (input : List ℕ)
-    (rest : List (List ℕ)) (exit : Bool) (going : IsGoing b workers inputs a w now (input ∷ rest) exit) (f : Found)
+    (b : Beginning) (workers : ℕ) (inputs : List (List ℕ)) (a w : World) (t u : ℕ) (now : Beginning) (input : List ℕ)
+    (rest : List (List ℕ)) (exit : Bool) (going : IsGoing b workers inputs a w t u now (input ∷ rest) exit) (f : Found)
     → IsMade workers (round_on now input f)
     → IsWatched workers (round_on now input f)
+    → IsCounted workers (round_on now input f)
     → HasNext b workers inputs now input rest going.found going.done f
-has-next b workers inputs a w now input rest exit going f made watched =
+has-next b workers inputs a w t u now input rest exit going f made watched counted =
     let more_found = λ (more : List Found). append_assoc going.found (f ∷ []) more in
     record {
       count = let more = length-more going.found f (length rest) in let count = going.count in omega arith;
@@ -224,21 +237,22 @@ has-next b workers inputs a w now input rest exit going f made watched =
       last = λ more. ap (after_rounds b inputs) (more_found more) ∙ going.last (f ∷ more);
       made = all-more (IsMade workers) going.done (round_on now input f) going.made made;
       watched = all-more (IsWatched workers) going.done (round_on now input f) going.watched watched;
+      counted = all-more (IsCounted workers) going.done (round_on now input f) going.counted counted;
     }
 
 -- the next round was made and printed
 pub going_next :
-    (b : Beginning) (workers : ℕ) (inputs : List (List ℕ)) (a w v : World) (now next : Beginning) (input : List ℕ)
-    (rest : List (List ℕ)) (exit : Bool) (text : List ℕ) (ended : Bool) (left : History)
-    → IsGoing b workers inputs a w now (input ∷ rest) exit
-    → IsMadeOn workers now input text ended left
+    (b : Beginning) (workers : ℕ) (inputs : List (List ℕ)) (a w v : World) (t u o : ℕ) (now next : Beginning)
+    (input : List ℕ) (rest : List (List ℕ)) (exit : Bool) (text : List ℕ) (ended : Bool) (left : History)
+    → IsGoing b workers inputs a w t u now (input ∷ rest) exit
+    → IsMadeOn workers now input u o text ended left
     → next ≡ record { number = now.number + 1; past = Some left; setup = now.setup; asked = now.asked }
     → Prints w v text → NoneFell w v → AsksNothing w v
-    → IsGoing b workers inputs a v next rest (exit && ended)
-going_next b workers inputs a w v now next input rest exit text ended left going one after prints counts asked =
+    → IsGoing b workers inputs a v t o next rest (exit && ended)
+going_next b workers inputs a w v t u o now next input rest exit text ended left going one after prints counts asked =
     let f = one.found in
     let r = round_on now input f in
-    let has = has-next b workers inputs a w now input rest exit going f one.made one.watched in
+    let has = has-next b workers inputs a w t u now input rest exit going f one.made one.watched one.counted in
     let before = concat (map made_report going.done) in
     let printed : Prints a v (before ++ text) = prints_both a w v before text going.prints prints in
     let texts_are : concat (map made_report (going.done ++ r ∷ [])) ≡ before ++ text =
@@ -259,6 +273,8 @@ going_next b workers inputs a w v now next input rest exit text ended left going
       last = has.last;
       made = has.made;
       watched = has.watched;
+      counted = has.counted;
+      turns = let so_far = going.turns in let rise = one.turns in let more = turns-more going.found f in omega arith;
       prints = subst (Prints a v) (sym texts_are) printed;
       ended = sym all;
       counts = none_fell_trans a w v going.counts counts;
@@ -268,40 +284,41 @@ going_next b workers inputs a w v now next input rest exit text ended left going
 -- all were made and printed, and what the last one left is what the rounds to come would go by
 pub going_played :
     (b : Beginning) (workers : ℕ) (inputs : List (List ℕ)) (a w : World) (now : Beginning) (rest : List (List ℕ))
-    (exit : Bool) (left : History) (earlier later : ℕ)
-    → rest ≡ [] → now.past ≡ Some left → IsGoing b workers inputs a w now rest exit
-    → later + length rest ≡ earlier + length inputs
+    (exit : Bool) (left : History) (earlier later : Work)
+    → rest ≡ [] → now.past ≡ Some left → IsGoing b workers inputs a w earlier.turns later.turns now rest exit
+    → later.rounds + length rest ≡ earlier.rounds + length inputs
     → IsPlayed workers (of_line b inputs) a w earlier later exit left
 unfolding all_made_exit
 going_played b workers inputs a w now rest exit left earlier later none past going count =
-    let rounds = going-rounds b workers inputs a w now rest exit going in
+    let rounds = going-rounds b workers inputs a w earlier.turns later.turns now rest exit going in
     let is : history_at now ≡ left = rw past refl in
     record {
       found = going.found;
-      made = going-found b workers inputs a w now rest exit going;
+      made = going-found b workers inputs a w earlier.turns later.turns now rest exit going;
       all = let count = rw none at going.count in omega arith;
       rounds = let rounds = going.count in omega arith;
+      turns = going.turns;
       prints = subst (λ (texts : List (List ℕ)). Prints a w (concat texts))
-          (sym (going-texts b workers inputs a w now rest exit going)) going.prints;
+          (sym (going-texts b workers inputs a w earlier.turns later.turns now rest exit going)) going.prints;
       are_exits = ap (list_all made_exits) rounds ∙ sym going.ended;
-      is_left = sym is ∙ ap history_at (sym (going-after b workers inputs a w now rest exit going));
+      is_left = sym is ∙ ap history_at (sym (going-after b workers inputs a w earlier.turns later.turns now rest exit going));
     }
 
 -- no more was made, after a change that leaves files and printed bytes
 pub going_cut :
-    (b : Beginning) (workers : ℕ) (inputs : List (List ℕ)) (a w v : World) (now : Beginning) (rest : List (List ℕ))
-    (exit : Bool) (earlier later : ℕ)
-    → IsGoing b workers inputs a w now rest exit → Stays w v
-    → later + length rest ≤ earlier + length inputs + 1 → later ≤ earlier + length inputs
+    (b : Beginning) (workers : ℕ) (inputs : List (List ℕ)) (a w v : World) (t u : ℕ) (now : Beginning)
+    (rest : List (List ℕ)) (exit : Bool) (earlier later : Work)
+    → IsGoing b workers inputs a w t u now rest exit → Stays w v
+    → later.rounds + length rest ≤ earlier.rounds + length inputs + 1 → later.rounds ≤ earlier.rounds + length inputs
     → IsPlayedInPart workers (of_line b inputs) a v earlier later status.Memory
-going_cut b workers inputs a w v now rest exit earlier later going stays count most =
+going_cut b workers inputs a w v t u now rest exit earlier later going stays count most =
     record {
       found = going.found;
-      made = going-found b workers inputs a w now rest exit going;
+      made = going-found b workers inputs a w t u now rest exit going;
       rounds = let found = going.count in omega arith;
       most = most;
       why = subst (λ (texts : List (List ℕ)). Prints a v (concat texts))
-          (sym (going-texts b workers inputs a w now rest exit going))
+          (sym (going-texts b workers inputs a w t u now rest exit going))
           (prints_then a w v (concat (map made_report going.done)) going.prints stays);
     }
 
@@ -326,28 +343,29 @@ texts-are b inputs found done r are = ap (map made_report) are ∙ map-append ma
 
 -- the next text wasn't printed
 pub going_unprinted :
-    (b : Beginning) (workers : ℕ) (inputs : List (List ℕ)) (a w v : World) (now : Beginning) (input : List ℕ)
-    (rest : List (List ℕ)) (exit : Bool) (text : List ℕ) (ended : Bool) (left : History) (earlier later : ℕ)
-    (why : Status)
-    → IsGoing b workers inputs a w now (input ∷ rest) exit
-    → IsMadeOn workers now input text ended left
-    → later + length (input ∷ rest) ≤ earlier + length inputs + 1 → later ≤ earlier + length inputs
+    (b : Beginning) (workers : ℕ) (inputs : List (List ℕ)) (a w v : World) (t u o : ℕ) (now : Beginning)
+    (input : List ℕ) (rest : List (List ℕ)) (exit : Bool) (text : List ℕ) (ended : Bool) (left : History)
+    (earlier later : Work) (why : Status)
+    → IsGoing b workers inputs a w t u now (input ∷ rest) exit
+    → IsMadeOn workers now input u o text ended left
+    → later.rounds + length (input ∷ rest) ≤ earlier.rounds + length inputs + 1
+    → later.rounds ≤ earlier.rounds + length inputs
     → WhyUnprinted text w v why → IsPlayedInPart workers (of_line b inputs) a v earlier later why
-going_unprinted b workers inputs a w v now input rest exit text ended left earlier later status.Finished going one count most cause =
+going_unprinted b workers inputs a w v t u o now input rest exit text ended left earlier later status.Finished going one count most cause =
     absurd cause
-going_unprinted b workers inputs a w v now input rest exit text ended left earlier later status.Unfinished going one count most cause =
+going_unprinted b workers inputs a w v t u o now input rest exit text ended left earlier later status.Unfinished going one count most cause =
     absurd cause
-going_unprinted b workers inputs a w v now input rest exit text ended left earlier later status.Words going one count most cause = absurd cause
-going_unprinted b workers inputs a w v now input rest exit text ended left earlier later status.Image going one count most cause = absurd cause
-going_unprinted b workers inputs a w v now input rest exit text ended left earlier later status.Memo going one count most cause = absurd cause
-going_unprinted b workers inputs a w v now input rest exit text ended left earlier later status.EditList going one count most cause =
+going_unprinted b workers inputs a w v t u o now input rest exit text ended left earlier later status.Words going one count most cause = absurd cause
+going_unprinted b workers inputs a w v t u o now input rest exit text ended left earlier later status.Image going one count most cause = absurd cause
+going_unprinted b workers inputs a w v t u o now input rest exit text ended left earlier later status.Memo going one count most cause = absurd cause
+going_unprinted b workers inputs a w v t u o now input rest exit text ended left earlier later status.EditList going one count most cause =
     absurd cause
-going_unprinted b workers inputs a w v now input rest exit text ended left earlier later status.ReadFault going one count most cause =
+going_unprinted b workers inputs a w v t u o now input rest exit text ended left earlier later status.ReadFault going one count most cause =
     absurd cause
-going_unprinted b workers inputs a w v now input rest exit text ended left earlier later status.WriteFault going one count most cause =
+going_unprinted b workers inputs a w v t u o now input rest exit text ended left earlier later status.WriteFault going one count most cause =
     let f = one.found in
     let r = round_on now input f in
-    let has = has-next b workers inputs a w now input rest exit going f one.made one.watched in
+    let has = has-next b workers inputs a w t u now input rest exit going f one.made one.watched one.counted in
     let texts = map made_report going.done in
     let rounds : rounds_after b inputs (going.found ++ f ∷ []) ≡ going.done ++ r ∷ [] =
     next-rounds b workers inputs now input rest going.found going.done f has in
@@ -365,6 +383,8 @@ going_unprinted b workers inputs a w v now input rest exit text ended left earli
             (All-from_recursion (IsMade workers) (going.done ++ r ∷ []) has.made);
         watched = subst (All (IsWatched workers)) (sym rounds)
             (All-from_recursion (IsWatched workers) (going.done ++ r ∷ []) has.watched);
+        counted = subst (All (IsCounted workers)) (sym rounds)
+            (All-from_recursion (IsCounted workers) (going.done ++ r ∷ []) has.counted);
       };
       rounds = let found = has.count in omega arith;
       most = most;
@@ -378,12 +398,12 @@ going_unprinted b workers inputs a w v now input rest exit text ended left earli
         prints = subst (λ (ts : List (List ℕ)). Prints a v (concat ts ++ take cause.1.0 text)) (sym front) printed;
       };
     }
-going_unprinted b workers inputs a w v now input rest exit text ended left earlier later status.Memory going one count most cause =
-    going_cut b workers inputs a w v now (input ∷ rest) exit earlier later going cause count most
-going_unprinted b workers inputs a w v now input rest exit text ended left earlier later status.TooLarge going one count most cause =
+going_unprinted b workers inputs a w v t u o now input rest exit text ended left earlier later status.Memory going one count most cause =
+    going_cut b workers inputs a w v t u now (input ∷ rest) exit earlier later going cause count most
+going_unprinted b workers inputs a w v t u o now input rest exit text ended left earlier later status.TooLarge going one count most cause =
     absurd cause
-going_unprinted b workers inputs a w v now input rest exit text ended left earlier later status.Schedule going one count most cause = absurd cause
-going_unprinted b workers inputs a w v now input rest exit text ended left earlier later status.Untrue going one count most cause = absurd cause
+going_unprinted b workers inputs a w v t u o now input rest exit text ended left earlier later status.Schedule going one count most cause = absurd cause
+going_unprinted b workers inputs a w v t u o now input rest exit text ended left earlier later status.Untrue going one count most cause = absurd cause
 
 -- of short inputs the first is short, and so are the others
 pub short_first : (input : List ℕ) (rest : List (List ℕ)) → AreShort (input ∷ rest) → length input ≤ MOST_INPUT_BYTES

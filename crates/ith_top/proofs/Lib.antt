@@ -9,6 +9,7 @@ pub mod Making
 pub mod Going
 pub mod Promises
 pub mod Done
+pub mod Spent
 pub mod OfMemo
 pub mod Explained
 pub mod Permitting

@@ -1,5 +1,5 @@
 -- A round as its workers made it, and the page map of what it goes by and leaves.
-use Rattle.std.proofs.Common.{◌≡◌, ℕ, Bool, true, List, [], length, Option, Some, None, refl, ap, sym, ◌∙◌, subst}
+use Rattle.std.proofs.Common.{◌≡◌, ◌+◌, ℕ, Bool, true, List, [], length, Option, Some, None, refl, ap, sym, ◌∙◌, subst}
 use Rattle.elf_spec.specs.Image.{image_pages}
 use Rattle.record_spec.specs.Record.{Record}
 use Rattle.machine_spec.specs.Machine.{Machine}
@@ -19,6 +19,8 @@ use Rattle.rerun_spec.specs.Rounds.{Found, Round, Beginning, made, left_by, roun
 use Rattle.rerun_spec.specs.Reports.{extras_of, made_extras, told_as_made, is_exit}
 use Rattle.rerun_spec.proofs.Ending.{left-own}
 use Rattle.round_report.specs.Short.{short_text}
+use Rattle.rerun_workers.specs.Making.{IsCostOf}
+use Rattle.ith_top.specs.Counting.{IsCounted}
 use Rattle.ith_top.specs.Playing.{IsMadeOn, IsLineOn}
 
 -- what is told of a round, part by part
@@ -81,24 +83,40 @@ alike-left r w alike =
     ap (λ (s : Setup). the_history s w.records) (sym alike.setup)
     ∙ ap (the_history (left_by r).setup) (sym alike.records)
 
+-- and so is what it cost
+alike-cost :
+    (workers : ℕ) (r : Round) (w : RoundState)
+    → IsAlike r w → IsCostOf workers r.setup r.past w r.found.turns → IsCounted workers r
+alike-cost workers r w alike cost =
+    record {
+      alone = λ one. cost.alone one
+          ∙ ap (λ (es : List Entry). executed_instructions es w.records) (sym alike.schedule)
+          ∙ ap (executed_instructions (made r).schedule) (sym alike.records);
+      idle = cost.idle;
+    }
+
 -- what workers made of a round, its text, its end and what it leaves
 pub made_on :
-    (workers : ℕ) (b : Beginning) (input : List ℕ) (w : RoundState) (f : Found) (text : List ℕ) (exit : Bool)
+    (workers : ℕ) (b : Beginning) (input : List ℕ) (w : RoundState) (f : Found) (t u : ℕ) (text : List ℕ) (exit : Bool)
     (left : History)
     → w.setup ≡ with_input b.setup input → w.past ≡ b.past → IsBySchedule w → f.entries ≡ w.schedule
     → IsMadeBy workers (with_input b.setup input) b.past w.schedule f.shares
     → (b.asked.progress ≡ true → IsProgress workers (length w.schedule) f.progress)
+    → IsCostOf workers (with_input b.setup input) b.past w f.turns
+    → u ≡ t + f.turns
     → text ≡ report_text b.number (told_as_made w (extras_of b.asked w.past w.setup f.progress) f.shares)
     → exit ≡ is_exit w.machine.ending
     → left ≡ history_of w
-    → IsMadeOn workers b input text exit left
-made_on workers b input w f text exit left setup past by entries is watched texts exits leaves =
+    → IsMadeOn workers b input t u text exit left
+made_on workers b input w f t u text exit left setup past by entries is watched cost rise texts exits leaves =
     let r = round_on b input f in
     let alike : IsAlike r w = alike_of r w setup past entries by in
     record {
       found = f;
       made = subst (λ (es : List Entry). IsMadeBy workers (with_input b.setup input) b.past es f.shares) (sym entries) is;
       watched = λ yes. subst (λ (es : List Entry). IsProgress workers (length es) f.progress) (sym entries) (watched yes);
+      counted = alike-cost workers r w alike cost;
+      turns = rise;
       is_text = texts
           ∙ ap (λ (e : Extras). report_text b.number (told_as_made w e f.shares)) (alike-extras r w alike)
           ∙ ap (report_text b.number) (alike-told r w (made_extras r) f.shares alike);
@@ -108,21 +126,25 @@ made_on workers b input w f text exit left setup past by entries is watched text
 
 -- the same of the line that tells of a round
 pub line_on :
-    (workers : ℕ) (b : Beginning) (input : List ℕ) (w : RoundState) (shares text : List ℕ) (exit : Bool)
-    (left : History)
+    (workers : ℕ) (b : Beginning) (input : List ℕ) (w : RoundState) (shares : List ℕ) (spent t u : ℕ) (text : List ℕ)
+    (exit : Bool) (left : History)
     → w.setup ≡ with_input b.setup input → w.past ≡ b.past → IsBySchedule w
     → IsMadeBy workers (with_input b.setup input) b.past w.schedule shares
+    → IsCostOf workers (with_input b.setup input) b.past w spent
+    → u ≡ t + spent
     → text ≡ short_text b.number (told_as_made w no_extras shares)
     → exit ≡ is_exit w.machine.ending
     → left ≡ history_of w
-    → IsLineOn workers b input text exit left
-line_on workers b input w shares text exit left setup past by is texts exits leaves =
-    let f : Found = record { entries = w.schedule; shares = shares; progress = [] } in
+    → IsLineOn workers b input t u text exit left
+line_on workers b input w shares spent t u text exit left setup past by is cost rise texts exits leaves =
+    let f : Found = record { entries = w.schedule; shares = shares; progress = []; turns = spent } in
     let r = round_on b input f in
     let alike : IsAlike r w = alike_of r w setup past refl by in
     record {
       found = f;
       made = is;
+      counted = alike-cost workers r w alike cost;
+      turns = rise;
       is_text = texts ∙ ap (short_text b.number) (alike-told r w no_extras shares alike);
       is_exit = exits ∙ ap (λ (m : Machine). is_exit m.ending) (sym alike.machine);
       is_left = leaves ∙ alike-left r w alike;
@@ -143,17 +165,17 @@ round_map b input w setup past is =
 
 -- and leaves a history of it
 pub left_map :
-    (workers : ℕ) (b : Beginning) (input text : List ℕ) (exit : Bool) (left : History)
-    → IsMadeOn workers b input text exit left → IsOfMap (Some left) b.setup
-left_map workers b input text exit left on =
+    (workers : ℕ) (b : Beginning) (input : List ℕ) (t u : ℕ) (text : List ℕ) (exit : Bool) (left : History)
+    → IsMadeOn workers b input t u text exit left → IsOfMap (Some left) b.setup
+left_map workers b input t u text exit left on =
     same_image left.setup b.setup
     (ap image_pages (ap (λ (h : History). h.setup.elf) on.is_left
     ∙ ap (λ (s : Setup). s.elf) (left-own (round_on b input on.found))))
 
 pub line_map :
-    (workers : ℕ) (b : Beginning) (input text : List ℕ) (exit : Bool) (left : History)
-    → IsLineOn workers b input text exit left → IsOfMap (Some left) b.setup
-line_map workers b input text exit left on =
+    (workers : ℕ) (b : Beginning) (input : List ℕ) (t u : ℕ) (text : List ℕ) (exit : Bool) (left : History)
+    → IsLineOn workers b input t u text exit left → IsOfMap (Some left) b.setup
+line_map workers b input t u text exit left on =
     same_image left.setup b.setup
     (ap image_pages (ap (λ (h : History). h.setup.elf) on.is_left
     ∙ ap (λ (s : Setup). s.elf) (left-own (round_on b input on.found))))

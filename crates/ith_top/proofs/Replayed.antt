@@ -1,5 +1,5 @@
 -- How a line that replays a schedule ends, from how its parts did.
-use Rattle.std.proofs.Common.{◌≡◌, ◌≤◌, ℕ, Bool, true, false, List, [], length, Option, Some, sym, ap, subst, ◌∙◌, inl, inr}
+use Rattle.std.proofs.Common.{◌≡◌, ◌+◌, ◌≤◌, ℕ, Bool, true, false, List, [], length, Option, Some, sym, ap, subst, ◌∙◌, inl, inr}
 use Rattle.elf_spec.specs.declared.TheConstants.{MOST_ELF_BYTES}
 use Rattle.machine_spec.specs.declared.TheConstants.{MOST_INPUT_BYTES}
 use Rattle.machine_spec.specs.declared.states.End.{End}
@@ -20,6 +20,7 @@ use Rattle.ith_top.specs.declared.status.Status.TheVariants as status
 use Rattle.ith_top.specs.Files.{files_named, AsksForFiles}
 use Rattle.ith_top.specs.Contents.{ReplayContents, AreReplayContents, WasReplayRead, replay_setup_of}
 use Rattle.ith_top.specs.Ends.{Prints, HasReplay, Token, Entry, Incomplete, IsReplayed, ReplayEnds}
+use Rattle.ith_top.specs.Counting.{turns_of_replay, ReplaySpends}
 use Rattle.ith_top.specs.Refusals.{WhyUnread, WhyNoSetup, WhyNoThreads, WhyUnreplayed, WhyUnprinted}
 use Rattle.ith_top.specs.Playing.{IsAskedReplay, TellsOfReplay}
 use Rattle.ith_top.proofs.Worlds.{content_before, stays_trans}
@@ -193,6 +194,41 @@ replay_by line a b c setup threads text o exits asked none stays is of tells pri
           (subst (Prints b c) (replay_told its threads text o whole tells) prints);
       ends = ap is_exit whole.ending ∙ ends;
     }
+
+-- and the counter rose by the turns of its steps
+spent_by :
+    (line : ReplayLine) (a b c : World) (setup : Setup) (threads text : List ℕ) (o : Outcome) (exits : Bool) (before after : ℕ)
+    (asked : AsksForFiles (files_named (Replays line)) a b) (none : AsksNothing b c) (stays : Stays a b)
+    (is : IsAskedReplay line a setup threads) (of : IsOutcomeOf setup threads o) (tells : TellsOfReplay threads o text)
+    (prints : Prints b c text) (ends : is_exit (Some o.ending) ≡ exits)
+    → after ≡ before + o.instructions
+    → after ≡ before
+    + turns_of_replay line a (replay_by line a b c setup threads text o exits asked none stays is of tells prints ends).has
+unfolding has_replay replay_by
+spent_by line a b c setup threads text o exits before after asked none stays is of tells prints ends cost =
+    cost ∙ ap (λ (n : ℕ). before + n) (outcome_of line a setup threads o is of).instructions
+
+pub replay_spent_finished :
+    (line : ReplayLine) (a b c : World) (setup : Setup) (threads text : List ℕ) (o : Outcome) (before after : ℕ)
+    → AsksForFiles (files_named (Replays line)) a b → AsksNothing b c → Stays a b
+    → IsAskedReplay line a setup threads → IsOutcomeOf setup threads o → TellsOfReplay threads o text
+    → Prints b c text → is_exit (Some o.ending) ≡ true → after ≡ before + o.instructions
+    → ReplaySpends line a c before after status.Finished
+replay_spent_finished line a b c setup threads text o before after asked none stays is of tells prints ends cost = (
+  replay_by line a b c setup threads text o true asked none stays is of tells prints ends,
+  spent_by line a b c setup threads text o true before after asked none stays is of tells prints ends cost,
+)
+
+pub replay_spent_unfinished :
+    (line : ReplayLine) (a b c : World) (setup : Setup) (threads text : List ℕ) (o : Outcome) (before after : ℕ)
+    → AsksForFiles (files_named (Replays line)) a b → AsksNothing b c → Stays a b
+    → IsAskedReplay line a setup threads → IsOutcomeOf setup threads o → TellsOfReplay threads o text
+    → Prints b c text → is_exit (Some o.ending) ≡ false → after ≡ before + o.instructions
+    → ReplaySpends line a c before after status.Unfinished
+replay_spent_unfinished line a b c setup threads text o before after asked none stays is of tells prints ends cost = (
+  replay_by line a b c setup threads text o false asked none stays is of tells prints ends,
+  spent_by line a b c setup threads text o false before after asked none stays is of tells prints ends cost,
+)
 
 pub replay_finished :
     (line : ReplayLine) (a b c : World) (setup : Setup) (threads text : List ℕ) (o : Outcome)

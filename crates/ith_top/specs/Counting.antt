@@ -1,8 +1,25 @@
--- How many rounds the workers of a line make.
-use Rattle.std.specs.Prelude.{◌≡◌, ℕ, ◌+◌, ◌≤◌, length, max}
-use Rattle.ith_words.specs.Words.{Line, Runs, Reruns, Replays, Shows, Explains, FindsRaces, Audits, Generates}
+-- How many rounds the workers of a line make, and how many turns are executed.
+use Rattle.std.specs.Prelude.{◌≡◌, ℕ, ◌+◌, ◌≤◌, ⊤, true, false, List, All, Option, length, max, sum_by}
+use Rattle.machine_spec.specs.Setup.{Setup, first}
+use Rattle.history_spec.specs.History.{History}
+use Rattle.round_spec.specs.Rounds.{RoundState}
+use Rattle.propagate.specs.Executing.{executed_by}
+use Rattle.rerun_workers.specs.Making.{IsCostOf}
+use Rattle.rerun_spec.specs.Rounds.{Found, Round, made}
+use Rattle.plain_machine.specs.Replaying.{turns_from}
+use Rattle.ith_host.specs.World.{World}
+use Rattle.ith_words.specs.Words.{Line, Runs, Reruns, Replays, Shows, Explains, FindsRaces, Audits, Generates, ReplayLine, ExplainLine, GenerateLine}
 use Rattle.ith_top.specs.declared.status.Status.{Status}
 use Rattle.ith_top.specs.declared.status.Status.TheVariants as status
+use Rattle.ith_top.specs.Contents.{replay_setup_of, workers_of}
+use Rattle.ith_top.specs.Rounds.{rounds_of}
+use Rattle.ith_top.specs.Explaining.{explained_round}
+use Rattle.ith_top.specs.Ends.{HasRounds, HasReplay, HasReasons, IsDone, IsGenerated, IsReplayed, IsExplained}
+
+-- What is counted of the workers of a line: how many rounds they made, and how many turns for these.
+pub record Work : Type 0 where
+  pub rounds : ℕ
+  pub turns : ℕ
 
 -- How many rounds a line asks its workers for: one on the input and one for each edit list; after a memo one for each
 -- edit list, or one where there is none; and both of the generated guest.
@@ -25,3 +42,58 @@ MakesRounds line before after status.WriteFault = after ≤ before + rounds_aske
 MakesRounds line before after status.Memory = after ≤ before + rounds_asked line
 MakesRounds line before after status.TooLarge = after ≤ before + rounds_asked line
 MakesRounds line before after _ = after ≡ before
+
+-- A counter rose by as many turns as so many workers may make for a round.
+abbrev pub Spends : ℕ → Setup → Option History → RoundState → ℕ → ℕ → Type 0
+Spends workers s past w before after = (turns : ℕ) × (after ≡ before + turns) × IsCostOf workers s past w turns
+
+-- The turns that so many workers executed for a round are counted: one worker's are as many as its report says, and
+-- without an edit there are none.
+abbrev pub IsCounted : ℕ → Round → Type 0
+IsCounted workers r = IsCostOf workers r.setup r.past (made r) r.found.turns
+
+-- How many turns were executed for some rounds.
+abbrev pub turns_for : List Found → ℕ
+turns_for found = sum_by (λ f. f.turns) found
+
+-- A counter rose by the turns of a line's rounds, each of which is counted: those of one worker are as many as the reports
+-- say, and those of a round without an edit are none.
+pub record SpendsTurns (line : Line) (a : World) (has : HasRounds line a) (before after : Work) : Type 0 where
+  pub counted : All (IsCounted (workers_of line)) (rounds_of has.plan has.found)
+  pub turns : after.turns ≡ before.turns + turns_for has.found
+
+-- Where a line that runs or reruns a guest is done, the counter rose by the turns of the rounds whose texts were printed.
+abbrev pub RoundsSpend : Line → World → World → Work → Work → Status → Type 0
+RoundsSpend line a b before after status.Finished = (done : IsDone line true a b) × SpendsTurns line a done.has before after
+RoundsSpend line a b before after status.Unfinished = (done : IsDone line false a b) × SpendsTurns line a done.has before after
+RoundsSpend line a b before after _ = ⊤
+
+-- The same of a line that runs the generated guest.
+abbrev pub GenerateSpends : GenerateLine → World → World → Work → Work → Status → Type 0
+GenerateSpends line a b before after status.Finished =
+    (done : IsGenerated line true a b) × SpendsTurns (Generates line) a done.has before after
+GenerateSpends line a b before after status.Unfinished =
+    (done : IsGenerated line false a b) × SpendsTurns (Generates line) a done.has before after
+GenerateSpends line a b before after _ = ⊤
+
+-- How many turns the steps of a schedule make that a line replays.
+abbrev pub turns_of_replay : (line : ReplayLine) (a : World) → HasReplay line a → ℕ
+turns_of_replay line a has = turns_from (first (replay_setup_of line has.contents)) has.threads
+
+-- Where a schedule is replayed, the counter rose by the turns of its steps.
+abbrev pub ReplaySpends : ReplayLine → World → World → ℕ → ℕ → Status → Type 0
+ReplaySpends line a b before after status.Finished =
+    (done : IsReplayed line true a b) × (after ≡ before + turns_of_replay line a done.has)
+ReplaySpends line a b before after status.Unfinished =
+    (done : IsReplayed line false a b) × (after ≡ before + turns_of_replay line a done.has)
+ReplaySpends line a b before after _ = ⊤
+
+-- How many turns the executed steps make of the round that a line explains.
+abbrev pub turns_of_reasons : (line : ExplainLine) (a : World) → HasReasons line a → ℕ
+turns_of_reasons line a has = executed_by (explained_round has.plan.beginning has.input)
+
+-- Where it is told why steps were executed, the counter rose by the turns of these steps.
+abbrev pub ExplainSpends : ExplainLine → World → World → ℕ → ℕ → Status → Type 0
+ExplainSpends line a b before after status.Finished =
+    (done : IsExplained line a b) × (after ≡ before + turns_of_reasons line a done.has)
+ExplainSpends line a b before after _ = ⊤

@@ -6,6 +6,6 @@ pub mod Rounds
 pub mod Explaining
 pub mod Ends
 pub mod Completing
-pub mod Refusals
-pub mod Playing
 pub mod Counting
+pub mod Playing
+pub mod Refusals

@@ -24,6 +24,7 @@ use Rattle.ith_top.specs.declared.plan.Plan.{Plan as Planned}
 use Rattle.ith_top.specs.declared.report.Next.{Next}
 use Rattle.ith_top.specs.Contents.{Plan, ReplayContents, WasReplayRead, replay_setup_of, IsGeneratedPlan}
 use Rattle.ith_top.specs.Rounds.{rounds_of}
+use Rattle.ith_top.specs.Counting.{Work, IsCounted, turns_for}
 use Rattle.ith_top.specs.Explaining.{explained_round, why_of}
 use Rattle.ith_top.specs.Ends.{Prints, PrintsAndKeeps, IsKeptWithin, texts_of, left_of, generated_text}
 
@@ -55,15 +56,20 @@ pub record CanBeSpelled (p : Plan) : Type 0 where
 abbrev pub beginning_of : Setup → Next → Beginning
 beginning_of s n = record { number = n.number; past = option_map arc_value n.past; setup = s; asked = n.asked }
 
--- So many workers made a round of this beginning, on this input, and it was watched if that is asked for: the text that
--- tells of it, whether it ended by exit, and what it leaves.
-pub record IsMadeOn (workers : ℕ) (b : Beginning) (input text : List ℕ) (exit : Bool) (left : History) : Type 0 where
-  pub found : Found
-  pub made : IsMade workers (round_on b input found)
-  pub watched : IsWatched workers (round_on b input found)
-  pub is_text : text ≡ made_report (round_on b input found)
-  pub is_exit : exit ≡ made_exits (round_on b input found)
-  pub is_left : left ≡ left_by (round_on b input found)
+-- So many workers made a round of this beginning, on this input, and it was watched if that is asked for: what they
+-- executed is counted, from so many turns to so many; the text that tells of it, whether it ended by exit, and what it
+-- leaves.
+pub record IsMadeOn (workers : ℕ) (b : Beginning) (input : List ℕ) (earlier later : ℕ) (text : List ℕ) (exit : Bool)
+    (left : History) : Type 0
+  where
+    pub found : Found
+    pub made : IsMade workers (round_on b input found)
+    pub watched : IsWatched workers (round_on b input found)
+    pub counted : IsCounted workers (round_on b input found)
+    pub turns : later ≡ earlier + found.turns
+    pub is_text : text ≡ made_report (round_on b input found)
+    pub is_exit : exit ≡ made_exits (round_on b input found)
+    pub is_left : left ≡ left_by (round_on b input found)
 
 -- So many workers found these schedules of the first rounds of a plan, one of each, which were watched if that is asked
 -- for.
@@ -71,28 +77,33 @@ pub record AreFound (workers : ℕ) (p : Plan) (found : List Found) : Type 0 whe
   pub few : length found ≤ length p.inputs
   pub made : All (IsMade workers) (rounds_of p found)
   pub watched : All (IsWatched workers) (rounds_of p found)
+  pub counted : All (IsCounted workers) (rounds_of p found)
 
--- All rounds of a plan were made by so many workers, which made no other since they had made so many; exactly the texts
--- of these rounds were printed; whether each ended by exit, and what the last one leaves.
-pub record IsPlayed (workers : ℕ) (p : Plan) (before after : World) (earlier later : ℕ) (exits : Bool) (left : History) : Type 0
-  where
-    pub found : List Found
-    pub made : AreFound workers p found
-    pub all : length found ≡ length p.inputs
-    pub rounds : later ≡ earlier + length found
-    pub prints : Prints before after (concat (texts_of p found))
-    pub are_exits : all_made_exit (rounds_of p found) ≡ exits
-    pub is_left : left ≡ left_of p found
-
--- All rounds of a plan were made by so many workers, which made no other; exactly the texts of these rounds were
--- printed, and the memo of what the last one leaves was written, if it has a name; and whether each ended by exit.
-pub record IsCarriedOut (name : Option Text) (workers : ℕ) (p : Plan) (before after : World) (earlier later : ℕ) (exits : Bool)
+-- All rounds of a plan were made by so many workers, and no other: what is counted rose by these rounds and their turns;
+-- exactly the texts of these rounds were printed; whether each ended by exit, and what the last one leaves.
+pub record IsPlayed (workers : ℕ) (p : Plan) (before after : World) (earlier later : Work) (exits : Bool) (left : History)
     : Type 0
   where
     pub found : List Found
     pub made : AreFound workers p found
     pub all : length found ≡ length p.inputs
-    pub rounds : later ≡ earlier + length found
+    pub rounds : later.rounds ≡ earlier.rounds + length found
+    pub turns : later.turns ≡ earlier.turns + turns_for found
+    pub prints : Prints before after (concat (texts_of p found))
+    pub are_exits : all_made_exit (rounds_of p found) ≡ exits
+    pub is_left : left ≡ left_of p found
+
+-- All rounds of a plan were made by so many workers, and no other: what is counted rose by these rounds and their turns;
+-- exactly the texts of these rounds were printed, and the memo of what the last one leaves was written, if it has a name;
+-- and whether each ended by exit.
+pub record IsCarriedOut (name : Option Text) (workers : ℕ) (p : Plan) (before after : World) (earlier later : Work) (exits : Bool)
+    : Type 0
+  where
+    pub found : List Found
+    pub made : AreFound workers p found
+    pub all : length found ≡ length p.inputs
+    pub rounds : later.rounds ≡ earlier.rounds + length found
+    pub turns : later.turns ≡ earlier.turns + turns_for found
     pub keeps : PrintsAndKeeps name (memo (left_of p found)) before after (concat (texts_of p found))
     pub within : IsKeptWithin name (memo (left_of p found))
     pub are_exits : all_made_exit (rounds_of p found) ≡ exits
@@ -139,18 +150,22 @@ pub record TellsReasons (p : Plan) (text : List ℕ) : Type 0 where
       → reasons_of (explained_round p.beginning input)
       ≡ reasons_by (scratch_before (explained_round p.beginning input)) (explained_round p.beginning input)
 
--- So many workers made a round of this beginning, on this input: the line that tells of it, whether it ended by exit,
--- and what it leaves.
-pub record IsLineOn (workers : ℕ) (b : Beginning) (input text : List ℕ) (exit : Bool) (left : History) : Type 0 where
-  pub found : Found
-  pub made : IsMade workers (round_on b input found)
-  pub is_text : text ≡ made_short (round_on b input found)
-  pub is_exit : exit ≡ made_exits (round_on b input found)
-  pub is_left : left ≡ left_by (round_on b input found)
+-- So many workers made a round of this beginning, on this input: what they executed is counted, from so many turns to so
+-- many; the line that tells of it, whether it ended by exit, and what it leaves.
+pub record IsLineOn (workers : ℕ) (b : Beginning) (input : List ℕ) (earlier later : ℕ) (text : List ℕ) (exit : Bool)
+    (left : History) : Type 0
+  where
+    pub found : Found
+    pub made : IsMade workers (round_on b input found)
+    pub counted : IsCounted workers (round_on b input found)
+    pub turns : later ≡ earlier + found.turns
+    pub is_text : text ≡ made_short (round_on b input found)
+    pub is_exit : exit ≡ made_exits (round_on b input found)
+    pub is_left : left ≡ left_by (round_on b input found)
 
--- So many workers made both rounds of the guest that is generated from a number, and no other since they had made so
--- many: the text that tells of both, and whether each ended by exit.
-pub record AreTheGenerated (workers number earlier later : ℕ) (text : List ℕ) (exits : Bool) : Type 0 where
+-- So many workers made both rounds of the guest that is generated from a number, and no other: what is counted rose by
+-- these rounds and their turns; the text that tells of both, and whether each ended by exit.
+pub record AreTheGenerated (workers number : ℕ) (earlier later : Work) (text : List ℕ) (exits : Bool) : Type 0 where
   pub plan : Plan
   pub is_plan : IsGeneratedPlan number plan
   pub playable : CanBePlayed plan
@@ -158,6 +173,7 @@ pub record AreTheGenerated (workers number earlier later : ℕ) (text : List ℕ
   pub found : List Found
   pub made : AreFound workers plan found
   pub all : length found ≡ length plan.inputs
-  pub rounds : later ≡ earlier + length found
+  pub rounds : later.rounds ≡ earlier.rounds + length found
+  pub turns : later.turns ≡ earlier.turns + turns_for found
   pub is_text : text ≡ generated_text number (rounds_of plan found)
   pub are_exits : all_exit (rounds_of plan found) ≡ exits

@@ -18,6 +18,7 @@ use Rattle.ith_top.specs.declared.status.Status.TheVariants as status
 use Rattle.ith_top.specs.Files.{Named, AsksForSome, StopsAt, FailedToRead, IsLong}
 use Rattle.ith_top.specs.Contents.{Plan}
 use Rattle.ith_top.specs.Ends.{Prints, IsPrintedInPart, texts_of, left_of, RefusesImage, RefusesMemo, RefusesList, IsUnread, IsUnbegun, IsTooLarge}
+use Rattle.ith_top.specs.Counting.{Work}
 use Rattle.ith_top.specs.Playing.{AreFound}
 
 -- Why files weren't all read: which one was refused, and what was asked for.
@@ -80,11 +81,11 @@ WhyCutShort p found before after _ = ⊥
 -- Of the rounds of a plan so many workers made the first ones, from none to all of them; why no more was done, and what
 -- was printed. They made no other since they had made so many, but one at most of which nothing is told: the next one of
 -- the plan, where memory ran out.
-pub record IsPlayedInPart (workers : ℕ) (p : Plan) (before after : World) (earlier later : ℕ) (s : Status) : Type 0 where
+pub record IsPlayedInPart (workers : ℕ) (p : Plan) (before after : World) (earlier later : Work) (s : Status) : Type 0 where
   pub found : List Found
   pub made : AreFound workers p found
-  pub rounds : later ≤ earlier + length found + 1
-  pub most : later ≤ earlier + length p.inputs
+  pub rounds : later.rounds ≤ earlier.rounds + length found + 1
+  pub most : later.rounds ≤ earlier.rounds + length p.inputs
   pub why : WhyCutShort p found before after s
 
 -- Why a text wasn't printed whole, and what of it was.
@@ -124,13 +125,13 @@ WhyUnkept name content before after _ = ⊥
 
 -- All rounds of a plan were made by so many workers, and no other, and their texts printed; and why the memo of what the
 -- last one leaves, of this name, wasn't written.
-pub record IsUnkeptAfter (name : Option Text) (workers : ℕ) (p : Plan) (before after : World) (earlier later : ℕ) (s : Status)
+pub record IsUnkeptAfter (name : Option Text) (workers : ℕ) (p : Plan) (before after : World) (earlier later : Work) (s : Status)
     : Type 0
   where
     pub found : List Found
     pub made : AreFound workers p found
     pub all : length found ≡ length p.inputs
-    pub rounds : later ≡ earlier + length found
+    pub rounds : later.rounds ≡ earlier.rounds + length found
     pub between : World
     pub counts : NoneFell before between
     pub prints : Prints before between (concat (texts_of p found))
@@ -139,6 +140,6 @@ pub record IsUnkeptAfter (name : Option Text) (workers : ℕ) (p : Plan) (before
     pub why : WhyUnkept kept (memo (left_of p found)) between after s
 
 -- Why not all was done of the rounds of a plan and of the memo of a name, if there is one.
-abbrev pub WhyUndone : Option Text → ℕ → Plan → World → World → ℕ → ℕ → Status → Type 0
+abbrev pub WhyUndone : Option Text → ℕ → Plan → World → World → Work → Work → Status → Type 0
 WhyUndone name workers p before after earlier later s =
     IsPlayedInPart workers p before after earlier later s ⊎ IsUnkeptAfter name workers p before after earlier later s

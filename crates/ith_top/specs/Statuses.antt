@@ -1,5 +1,5 @@
 -- The exit status of each way to end.
-use Rattle.std.specs.Prelude.{ℕ}
+use Rattle.std.specs.Prelude.{ℕ, ⊤}
 use Rattle.ith_top.specs.declared.status.Status.{Status}
 use Rattle.ith_top.specs.declared.status.Status.TheVariants as status
 
@@ -17,3 +17,9 @@ code_of status.Memory = 8
 code_of status.TooLarge = 9
 code_of status.Schedule = 10
 code_of status.Untrue = 11
+
+-- Any status but those of a line that is done.
+abbrev pub IsUndone : Status → Type 0
+IsUndone status.Finished = ⊥
+IsUndone status.Unfinished = ⊥
+IsUndone _ = ⊤

@@ -1,52 +1,42 @@
-//! Who makes the rounds of a line, and how many were made.
+//! Who makes the rounds of a line, how many were made, and how many turns were executed for these.
 
-ghost use Rattle.std.specs.Prelude.{◌≡◌, ◌+◌, ◌≤◌, ℕ, true, length, option_map, IfOk};
+ghost use Rattle.std.specs.Prelude.{◌≡◌, ◌+◌, ◌≤◌, true, length, option_map, IfOk};
 ghost use Rattle.std.specs.Arc.{arc_value};
-ghost use Rattle.std.specs.Borrow.{ftrue};
 ghost use Rattle.round_spec.specs.Schedules.{IsBySchedule};
 ghost use Rattle.worker_spec.specs.Workers.{IsMadeBy};
 ghost use Rattle.worker_spec.specs.Watching.{IsProgress};
-ghost use Rattle.rerun_workers.specs.Making.{IsRoundBy};
+ghost use Rattle.rerun_workers.specs.Making.{IsRoundBy, IsCostOf};
+ghost use Rattle.ith_top.specs.Counting.{Spends};
 
 use ith_host::Gate;
 use propagate::Round;
 use release_core::{History, Setup};
-use rerun_workers::{run_round, run_round_watched};
+use rerun_workers::{Worked, run_round, run_round_watched};
 use std::alloc::{AllocError, Global};
-use std::marker::{Model, PhantomData};
+use std::marker::Model;
 use std::sync::{Arc, Wait};
 use std::thread::Threads;
+use turn_count::{Tally, Turns};
 
-/// How many rounds were made. It has no bytes: clauses alone read it, and a program can't.
+/// How many rounds were made, and how many turns were executed for these. It has no bytes: clauses alone read it, and a
+/// program can't.
 #[derive(Drop)]
-struct Made {
-    marker: PhantomData<u8>,
-    pub ghost number: { ℕ },
+struct Work {
+    rounds: Tally,
+    turns: Turns,
 }
 
-impl Model for Made {
-    ghost also_owns = { λ _. ftrue };
+impl Model for Work {
+    ghost use Rattle.ith_top.specs.Counting as spec;
+
+    ghost Value = { spec.Work };
+
+    ghost view = { λ w. record { rounds = w.rounds.number; turns = w.turns } };
 }
 
-impl Made {
-    /// No round was made so far.
-    fn none() -> Self
-        ensures { result.number ≡ 0 }
-    {
-        Made {
-            marker: PhantomData,
-        }
-    }
-
-    /// One round more is made.
-    fn raise(&mut self)
-        ensures { self.new.number ≡ self.old.number + 1 }
-    {}
-}
-
-/// A round that workers made.
+/// A round that the crew made.
 #[derive(Drop)]
-pub struct Worked {
+pub struct Made {
     /// The round, which has an end.
     pub round: Round,
     /// How many of its steps each worker made.
@@ -55,55 +45,32 @@ pub struct Worked {
     pub progress: Vec<u64>,
 }
 
-/// A round that so many workers make while it is watched.
-fn make_watched<R: Threads + Wait + Sync, G: Gate + Sync>(
-    rt: &R,
-    alloc: Global,
-    setup: Setup,
-    past: Option<Arc<History>>,
-    workers: u32,
-    gate: &G,
-) -> Result<Worked, AllocError>
-    requires { 1 ≤ workers }
-    ensures round { IfOk result (λ r. IsRoundBy workers setup (option_map arc_value past) r.round r.shares.items) }
-    ensures progress { IfOk result (λ r. IsProgress workers (length r.round.schedule) r.progress.items) }
-{
-    let (round, shares, progress) = run_round_watched(rt, alloc, setup, past, workers, gate)?;
-    Ok(Worked {
-        round,
-        shares,
-        progress,
-    })
-}
-
 /// A round that so many workers make, and nobody watches.
-fn make_unwatched<R: Threads + Wait + Sync, G: Gate + Sync>(
+fn run_unwatched<R: Threads + Wait + Sync, G: Gate + Sync>(
     rt: &R,
     alloc: Global,
     setup: Setup,
     past: Option<Arc<History>>,
     workers: u32,
     gate: &G,
-) -> Result<Worked, AllocError>
+) -> Result<(Worked, Vec<u64>), AllocError>
     requires { 1 ≤ workers }
-    ensures round { IfOk result (λ r. IsRoundBy workers setup (option_map arc_value past) r.round r.shares.items) }
+    ensures round { IfOk result (λ r.
+        IsRoundBy workers setup (option_map arc_value past) r.0.round r.0.shares.items) }
+    ensures cost { IfOk result (λ r. IsCostOf workers setup (option_map arc_value past) r.0.round r.0.turns) }
 {
-    let (round, shares) = run_round(rt, alloc, setup, past, workers, gate)?;
-    Ok(Worked {
-        round,
-        shares,
-        progress: Vec::new(alloc),
-    })
+    let worked = run_round(rt, alloc, setup, past, workers, gate)?;
+    Ok((worked, Vec::new(alloc)))
 }
 
-/// Who makes the rounds of a line. It alone is lent the runtime for them: nobody else can make a round, and it counts
-/// each.
+/// Makes the rounds of a line that runs or reruns a guest. On such a line it alone is lent the runtime, so that nobody
+/// else can make a round or execute a turn. It counts the rounds, and the turns of those that were made.
 #[derive(Drop)]
 pub struct Crew<'a, R, G> {
     rt: &'a R,
     workers: u32,
     gate: &'a G,
-    made: Made,
+    work: Work,
     ghost some: { 1 ≤ workers },
 }
 
@@ -117,12 +84,15 @@ impl<'a, R: Threads + Wait + Sync, G: Gate + Sync> Crew<'a, R, G> {
             rt,
             workers,
             gate,
-            made: Made::none(),
+            work: Work {
+                rounds: Tally::none(),
+                turns: Turns::new(rt),
+            },
         }
     }
 
-    /// Makes the round of this number, which is shown, and watched if that is asked for. It counts, also if the host's
-    /// memory ran out.
+    /// Makes the round of this number, which is shown, and watched if that is asked for. The round is counted also if the
+    /// host's memory ran out, its turns only if it was made.
     ///
     /// # Errors
     ///
@@ -134,7 +104,7 @@ impl<'a, R: Threads + Wait + Sync, G: Gate + Sync> Crew<'a, R, G> {
         setup: Setup,
         past: Option<Arc<History>>,
         watched: bool,
-    ) -> Result<Worked, AllocError>
+    ) -> Result<Made, AllocError>
         ensures setup { IfOk result (λ r. r.round.setup ≡ setup) }
         ensures past { IfOk result (λ r. r.round.past ≡ option_map arc_value past) }
         ensures stands { IfOk result (λ r. IsBySchedule r.round) }
@@ -142,17 +112,30 @@ impl<'a, R: Threads + Wait + Sync, G: Gate + Sync> Crew<'a, R, G> {
             IsMadeBy self.old.workers setup (option_map arc_value past) r.round.schedule r.shares.items) }
         ensures watched { IfOk result (λ r.
             watched ≡ true → IsProgress self.old.workers (length r.round.schedule) r.progress.items) }
-        ensures counted { self.new.made.number ≡ self.old.made.number + 1 }
+        ensures cost { IfOk result (λ r. Spends self.old.workers setup (option_map arc_value past) r.round
+            self.old.work.turns self.new.work.turns) }
+        ensures counted { self.new.work.rounds ≡ self.old.work.rounds + 1 }
         ensures workers { self.new.workers ≡ self.old.workers }
     {
-        self.made.raise();
+        self.work.rounds.raise(1);
         self.gate.begin(number);
-        let worked = if watched {
-            make_watched(self.rt, alloc, setup, past, self.workers, self.gate)
+        let made = if watched {
+            run_round_watched(self.rt, alloc, setup, past, self.workers, self.gate)
         } else {
-            make_unwatched(self.rt, alloc, setup, past, self.workers, self.gate)
+            run_unwatched(self.rt, alloc, setup, past, self.workers, self.gate)
         };
         self.gate.end();
-        worked
+        let (worked, progress) = made?;
+        let Worked {
+            round,
+            shares,
+            turns,
+        } = worked;
+        self.work.turns.merge(turns);
+        Ok(Made {
+            round,
+            shares,
+            progress,
+        })
     }
 }

@@ -1,14 +1,16 @@
 //! What the program does of a line that tells why steps were executed.
 
-ghost use Rattle.std.specs.Prelude.{◌≡◌, ◌<◌, option_map, IfOk, IfErr};
-ghost use Rattle.std.specs.Arc.{arc_value};
+ghost use Rattle.std.specs.Prelude.{◌≡◌, ◌+◌, ◌∷◌, ℕ, List, IfOk, IfErr};
 ghost use Rattle.ith_host.specs.World.{Stays, NoneFell, AsksNothing};
-ghost use Rattle.round_spec.specs.Alone.{lone_round};
+ghost use Rattle.propagate.specs.Executing.{executed_by};
 ghost use Rattle.ith_words.specs.Words.{Explains};
 ghost use Rattle.ith_words.specs.Said.{rerun_said, explain_said};
+ghost use Rattle.ith_top.specs.Statuses.{IsUndone};
 ghost use Rattle.ith_top.specs.Files.{files_named, AsksForFiles};
 ghost use Rattle.ith_top.specs.Contents.{IsPlan, as_rerun};
+ghost use Rattle.ith_top.specs.Explaining.{explained_round};
 ghost use Rattle.ith_top.specs.Ends.{ExplainEnds};
+ghost use Rattle.ith_top.specs.Counting.{ExplainSpends};
 ghost use Rattle.ith_top.specs.Playing.{plan_said, CanBePlayed, TellsReasons};
 
 use super::outside::print_text;
@@ -17,13 +19,8 @@ use super::rounds::no_memory;
 use super::status::Status;
 use ith_host::Host;
 use ith_words::{ExplainLine, RerunLine};
-use propagate::{Round, run_alone};
-use release_core::{History, Setup};
+use propagate::run_alone;
 use std::alloc::{AllocError, Global};
-use std::marker::Brand;
-use std::sync::Arc;
-use std::sync::ledger::{Blank, Ledger};
-use std::thread::Threads;
 use turn_count::Turns;
 use why_report::{reasons, text};
 
@@ -53,6 +50,7 @@ fn prepare<H: Host>(alloc: Global, host: &mut H, line: &ExplainLine<'_>) -> Resu
         (H.world host.old) (H.world host.new)) }
     ensures refused { IfErr result (λ status. ExplainEnds (explain_said line.now)
         (H.world host.old) (H.world host.new) status) }
+    ensures undone { IfErr result IsUndone }
     ensures stays { Stays (H.world host.old) (H.world host.new) }
     ensures counts { NoneFell (H.world host.old) (H.world host.new) }
 {
@@ -66,27 +64,12 @@ fn prepare<H: Host>(alloc: Global, host: &mut H, line: &ExplainLine<'_>) -> Resu
     }
 }
 
-/// The round of one worker, with a counter of turns that nobody else has.
-fn counted<R: Threads, L: Ledger>(
-    rt: &R,
-    alloc: Global,
-    setup: Setup,
-    past: Option<Arc<History>>,
-    blank: Blank,
-) -> Result<Round, AllocError>
-    requires name { blank.name ≡ L.name }
-    requires parts { blank.parts ≡ L.parts }
-    requires some { 0 < L.parts }
-    ensures { IfOk result (λ round. round ≡ lone_round setup (option_map arc_value past)) }
-{
-    let mut turns = Turns::<L>::new(rt, blank);
-    run_alone(alloc, setup, past, &mut turns)
-}
-
 /// The text that tells why the executed steps of a plan's round were executed.
-fn text_of<R: Threads>(rt: &R, alloc: Global, plan: Plan) -> Result<Vec<u8>, AllocError>
+fn text_of(alloc: Global, plan: Plan, turns: &mut Turns) -> Result<Vec<u8>, AllocError>
     requires { CanBePlayed (plan_said plan) }
-    ensures { IfOk result (λ text. TellsReasons (plan_said plan) text.items) }
+    ensures reasons { IfOk result (λ text. TellsReasons (plan_said plan) text.items) }
+    ensures cost { IfOk result (λ _. (input : List ℕ) (later : List (List ℕ)) → (plan_said plan).inputs ≡ input ∷ later
+        → turns.new ≡ turns.old + executed_by (explained_round (plan_said plan).beginning input)) }
 {
     let Plan {
         past,
@@ -98,26 +81,27 @@ fn text_of<R: Threads>(rt: &R, alloc: Global, plan: Plan) -> Result<Vec<u8>, All
         unreachable!()
     };
     let edited = setup.with(input, setup.limits())?;
-    let round = counted::<R, Brand>(rt, alloc, edited, past, Blank::new(1))?;
+    let round = run_alone(alloc, edited, past, turns)?;
     let reasons = reasons(alloc, &round)?;
     let told = text(alloc, reasons.as_slice())?;
     Ok(told)
 }
 
-/// All that a line asks for that tells why steps were executed.
-pub fn explain<R: Threads, H: Host>(
-    rt: &R,
+/// All that a line asks for that tells why steps were executed. Every turn that it executes is counted.
+pub fn explain<H: Host>(
     alloc: Global,
     host: &mut H,
     line: &ExplainLine<'_>,
+    turns: &mut Turns,
 ) -> Status
-    ensures { ExplainEnds (explain_said line.now) (H.world host.old) (H.world host.new) result }
+    ensures ends { ExplainEnds (explain_said line.now) (H.world host.old) (H.world host.new) result }
+    ensures cost { ExplainSpends (explain_said line.now) (H.world host.old) (H.world host.new) turns.old turns.new result }
 {
     let plan = match prepare(alloc, host, line) {
         Ok(plan) => plan,
         Err(status) => return status,
     };
-    let text = match text_of(rt, alloc, plan) {
+    let text = match text_of(alloc, plan, turns) {
         Ok(text) => text,
         Err(_) => return no_memory(host),
     };

@@ -16,10 +16,10 @@ ghost use Rattle.ith_words.specs.Words.{Generates, default_fuel, default_limit};
 ghost use Rattle.ith_words.specs.Said.{generate_said};
 ghost use Rattle.ith_top.specs.Contents.{IsGeneratedPlan};
 ghost use Rattle.ith_top.specs.Ends.{GenerateEnds};
-ghost use Rattle.ith_top.specs.Counting.{MakesRounds};
+ghost use Rattle.ith_top.specs.Counting.{MakesRounds, GenerateSpends};
 ghost use Rattle.ith_top.specs.Playing.{plan_said, beginning_of, CanBePlayed, CanBeSpelled, IsLineOn, AreTheGenerated};
 
-use super::crew::{Crew, Worked};
+use super::crew::{Crew, Made};
 use super::outside::print_text;
 use super::plan::{Plan, from_scratch};
 use super::report::{Next, Played, is_exit};
@@ -115,9 +115,9 @@ fn make_line<R: Threads + Wait + Sync, G: Gate + Sync>(
     requires short { length next.input.items ≤ MOST_INPUT_BYTES }
     requires same { IsOfMap (option_map arc_value next.past) setup.now }
     ensures played { IfOk result (λ played. IsLineOn crew.old.workers (beginning_of setup.now next) next.input.items
-        played.text.items played.exited (arc_value played.left)) }
-    ensures made { IfOk result (λ _. crew.new.made.number ≡ crew.old.made.number + 1) }
-    ensures one { crew.new.made.number ≤ crew.old.made.number + 1 }
+        crew.old.work.turns crew.new.work.turns played.text.items played.exited (arc_value played.left)) }
+    ensures made { IfOk result (λ _. crew.new.work.rounds ≡ crew.old.work.rounds + 1) }
+    ensures one { crew.new.work.rounds ≤ crew.old.work.rounds + 1 }
     ensures workers { crew.new.workers ≡ crew.old.workers }
 {
     let Next {
@@ -127,7 +127,7 @@ fn make_line<R: Threads + Wait + Sync, G: Gate + Sync>(
         ..
     } = next;
     let start = setup.with(input, setup.limits())?;
-    let Worked { round, shares, .. } = crew.make(alloc, number as u64, start, past, false)?;
+    let Made { round, shares, .. } = crew.make(alloc, number as u64, start, past, false)?;
     let text = round_line(alloc, number as u64, &round, shares.as_slice())?;
     let exited = is_exit(round.end());
     let Some(left) = round.into_history() else {
@@ -166,8 +166,8 @@ fn make_both<R: Threads + Wait + Sync, G: Gate + Sync>(
     crew: &mut Crew<'_, R, G>,
 ) -> Result<Lines, AllocError>
     ensures lines { IfOk result (λ lines. AreTheGenerated crew.old.workers number
-        crew.old.made.number crew.new.made.number lines.text.items lines.exits) }
-    ensures both { crew.new.made.number ≤ crew.old.made.number + 2 }
+        crew.old.work crew.new.work lines.text.items lines.exits) }
+    ensures both { crew.new.work.rounds ≤ crew.old.work.rounds + 2 }
 {
     let Plan {
         setup,
@@ -216,7 +216,9 @@ pub fn generate<R: Threads + Wait + Sync, H: Host, G: Gate + Sync>(
 ) -> Status
     requires { crew.old.workers ≡ line.now.workers }
     ensures ends { GenerateEnds (generate_said line.now) (H.world host.old) (H.world host.new) result }
-    ensures made { MakesRounds (Generates (generate_said line.now)) crew.old.made.number crew.new.made.number result }
+    ensures made { MakesRounds (Generates (generate_said line.now)) crew.old.work.rounds crew.new.work.rounds result }
+    ensures turns { GenerateSpends (generate_said line.now) (H.world host.old) (H.world host.new)
+        crew.old.work crew.new.work result }
 {
     let Lines { text, exits } = match make_both(alloc, line.number, crew) {
         Ok(lines) => lines,

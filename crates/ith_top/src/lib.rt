@@ -42,8 +42,9 @@ pub use status::Status;
 /// The line's workers make each round together: it takes from the round before it the steps whose records fit, and
 /// they execute the others, where each comes to the gate before it executes a thunk. The report of each round tells the
 /// schedule that they found and how many steps each of them made, with `--reach` how many steps of the round before its
-/// edit reaches, and with `--progress` how many steps were made as often as somebody looked. It is printed before the next round begins; after the last one the memo of what it leaves is
-/// written, where the line names one. The options may be left out.
+/// edit reaches, and with `--progress` how many steps were made as often as somebody looked. It is printed before the
+/// next round begins; after the last one the memo of what it leaves is written, where the line names one. The options
+/// may be left out.
 ///
 /// `replay ELF INPUT SCHEDULE --fuel F --steps S` executes each instruction of the executable on the input, in the order
 /// of the schedule, from scratch, by a machine that knows no reuse and no workers, and tells what it comes to.
@@ -53,8 +54,8 @@ pub use status::Status;
 /// `why MEMO EDITS` makes the round of one worker that goes by a memo after an edit list, and tells why each of its
 /// executed steps was executed: which register or which byte of a page isn't as it was, and which step stored it.
 ///
-/// `races MEMO` tells of a memo how many pairs of its steps touch a page without an order by threads and objects, and
-/// lists the first of them.
+/// `races MEMO` tells of a memo how many pairs of its steps touch a page without an order by threads and objects, page
+/// by page, and lists the first of them.
 ///
 /// `audit MEMO --workers W` executes the steps of a memo again, and tells whether the memo is honest, or which of its
 /// records is the first that isn't as the machine makes it.
@@ -62,7 +63,7 @@ pub use status::Status;
 /// `gen NUMBER --workers W` runs a guest on an input and an edit of it that are generated from the number.
 ///
 /// The files are read in the line's order, each once, and no other is. The runtime is lent for the workers, and for the
-/// counters of their turns, which nothing below this call can make of its own.
+/// counters of turns, which nothing that isn't lent the runtime can make.
 #[tactic(auto, using(crate::proofs::Complete::complete))]
 pub fn top<R: Threads + Wait + Sync, H: Host, G: Gate + Sync>(
     rt: &R,

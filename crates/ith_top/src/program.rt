@@ -6,7 +6,7 @@ ghost use Rattle.ith_words.specs.Words as said;
 ghost use Rattle.ith_words.specs.Words.{Runs, Reruns};
 ghost use Rattle.ith_words.specs.Said.{run_said, rerun_said};
 ghost use Rattle.ith_top.specs.Ends.{RoundsEnd, Ends};
-ghost use Rattle.ith_top.specs.Counting.{MakesRounds};
+ghost use Rattle.ith_top.specs.Counting.{MakesRounds, RoundsSpend};
 ghost use Rattle.ith_top.specs.Refusals.{WhyUndone};
 ghost use Rattle.ith_top.specs.Playing.{plan_said, CanBePlayed, CanBeSpelled, IsCarriedOut};
 
@@ -27,6 +27,7 @@ use ith_words::{Line, LineFault, RerunLine, RunLine, line_of};
 use std::alloc::Global;
 use std::sync::Wait;
 use std::thread::Threads;
+use turn_count::Turns;
 
 /// Makes the rounds of a plan, prints their texts, and writes the memo of what the last one leaves, if it has a name.
 /// The answer is whether each round ended by exit.
@@ -40,9 +41,9 @@ fn carry_out<R: Threads + Wait + Sync, H: Host, G: Gate + Sync>(
     requires playable { CanBePlayed (plan_said plan) }
     requires spelled { CanBeSpelled (plan_said plan) }
     ensures done { IfOk result (λ exits. IsCarriedOut (option_map (λ name. name.now) kept.entry) crew.old.workers
-        (plan_said plan) (H.world host.old) (H.world host.new) crew.old.made.number crew.new.made.number exits) }
+        (plan_said plan) (H.world host.old) (H.world host.new) crew.old.work crew.new.work exits) }
     ensures refused { IfErr result (λ status. WhyUndone (option_map (λ name. name.now) kept.entry) crew.old.workers
-        (plan_said plan) (H.world host.old) (H.world host.new) crew.old.made.number crew.new.made.number status) }
+        (plan_said plan) (H.world host.old) (H.world host.new) crew.old.work crew.new.work status) }
     ensures asked { AsksNothing (H.world host.old) (H.world host.new) }
     ensures counts { NoneFell (H.world host.old) (H.world host.new) }
 {
@@ -65,7 +66,9 @@ fn run<R: Threads + Wait + Sync, H: Host, G: Gate + Sync>(
 ) -> Status
     requires { crew.old.workers ≡ line.now.workers }
     ensures ends { RoundsEnd (Runs (run_said line.now)) (H.world host.old) (H.world host.new) result }
-    ensures made { MakesRounds (Runs (run_said line.now)) crew.old.made.number crew.new.made.number result }
+    ensures made { MakesRounds (Runs (run_said line.now)) crew.old.work.rounds crew.new.work.rounds result }
+    ensures turns { RoundsSpend (Runs (run_said line.now)) (H.world host.old) (H.world host.new)
+        crew.old.work crew.new.work result }
 {
     let plan = match prepare(alloc, host, line) {
         Ok(plan) => plan,
@@ -87,7 +90,9 @@ fn rerun<R: Threads + Wait + Sync, H: Host, G: Gate + Sync>(
 ) -> Status
     requires { crew.old.workers ≡ line.now.workers }
     ensures ends { RoundsEnd (Reruns (rerun_said line.now)) (H.world host.old) (H.world host.new) result }
-    ensures made { MakesRounds (Reruns (rerun_said line.now)) crew.old.made.number crew.new.made.number result }
+    ensures made { MakesRounds (Reruns (rerun_said line.now)) crew.old.work.rounds crew.new.work.rounds result }
+    ensures turns { RoundsSpend (Reruns (rerun_said line.now)) (H.world host.old) (H.world host.new)
+        crew.old.work crew.new.work result }
 {
     let plan = match prepare_rerun(alloc, host, line) {
         Ok(plan) => plan,
@@ -113,9 +118,9 @@ pub fn status_of<R: Threads + Wait + Sync, H: Host, G: Gate + Sync>(
     match line_of(alloc, words) {
         Ok(Line::Run(line)) => run(alloc, host, &line, &mut Crew::new(rt, line.workers, gate)),
         Ok(Line::Rerun(line)) => rerun(alloc, host, &line, &mut Crew::new(rt, line.workers, gate)),
-        Ok(Line::Replay(line)) => replay(rt, alloc, host, &line),
+        Ok(Line::Replay(line)) => replay(alloc, host, &line, &mut Turns::new(rt)),
         Ok(Line::Show(line)) => show(alloc, host, &line),
-        Ok(Line::Explain(line)) => explain(rt, alloc, host, &line),
+        Ok(Line::Explain(line)) => explain(alloc, host, &line, &mut Turns::new(rt)),
         Ok(Line::FindRaces(line)) => find_races(alloc, host, &line),
         Ok(Line::Audit(line)) => audit(rt, alloc, host, &line),
         Ok(Line::Generate(line)) => generate(

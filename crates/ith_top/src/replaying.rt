@@ -1,14 +1,16 @@
 //! What the program does of a line that replays a schedule.
 
-ghost use Rattle.std.specs.Prelude.{◌≡◌, ◌<◌, Ok, IfOk, IfErr};
+ghost use Rattle.std.specs.Prelude.{◌≡◌, ◌+◌, Ok, IfOk, IfErr};
 ghost use Rattle.ith_host.specs.World.{Stays, NoneFell, AsksNothing};
 ghost use Rattle.plain_machine.specs.Replaying.{IsOutcomeOf, IsCauseOf};
 ghost use Rattle.rerun_spec.specs.Reports as reports;
 ghost use Rattle.schedule_list.specs.Schedule.{Says};
 ghost use Rattle.ith_words.specs.Words.{Replays};
 ghost use Rattle.ith_words.specs.Said.{replay_said};
+ghost use Rattle.ith_top.specs.Statuses.{IsUndone};
 ghost use Rattle.ith_top.specs.Files.{files_named, AsksForFiles};
 ghost use Rattle.ith_top.specs.Ends.{ReplayEnds};
+ghost use Rattle.ith_top.specs.Counting.{ReplaySpends};
 ghost use Rattle.ith_top.specs.Refusals.{WhyNoThreads, WhyUnreplayed};
 ghost use Rattle.ith_top.specs.Playing.{IsAskedReplay, TellsOfReplay, told_of_outcome};
 
@@ -27,9 +29,6 @@ use report_spec::Entry;
 use round_report::{Told, replayed};
 use schedule_list::{ParseError, parse};
 use std::alloc::{AllocError, Global};
-use std::marker::Brand;
-use std::sync::ledger::{Blank, Ledger};
-use std::thread::Threads;
 use turn_count::Turns;
 
 /// The threads that the text of a schedule says.
@@ -68,6 +67,7 @@ fn prepare<H: Host>(alloc: Global, host: &mut H, line: &ReplayLine<'_>) -> Resul
         (H.world host.old) (H.world host.new)) }
     ensures refused { IfErr result (λ status. ReplayEnds (replay_said line.now)
         (H.world host.old) (H.world host.new) status) }
+    ensures undone { IfErr result IsUndone }
     ensures stays { Stays (H.world host.old) (H.world host.new) }
     ensures counts { NoneFell (H.world host.old) (H.world host.new) }
 {
@@ -81,39 +81,22 @@ fn prepare<H: Host>(alloc: Global, host: &mut H, line: &ReplayLine<'_>) -> Resul
     Ok(Asked { setup, threads })
 }
 
-/// What a schedule comes to from scratch, with a counter of turns that nobody else has.
-fn counted<R: Threads, L: Ledger>(
-    rt: &R,
-    alloc: Global,
-    setup: &Setup,
-    threads: &[u8],
-    blank: Blank,
-) -> Result<Outcome, ReplayError>
-    requires name { blank.name ≡ L.name }
-    requires parts { blank.parts ≡ L.parts }
-    requires some { 0 < L.parts }
-    ensures outcome { IfOk result (λ outcome. IsOutcomeOf setup.now threads.now outcome) }
-    ensures cause { IfErr result (λ cause. IsCauseOf setup.now threads.now cause) }
-{
-    let mut turns = Turns::<L>::new(rt, blank);
-    replay_from_scratch(alloc, setup, threads, &mut turns)
-}
-
 /// What a schedule comes to from scratch.
-fn outcome_of<R: Threads, H: Host>(
-    rt: &R,
+fn outcome_of<H: Host>(
     alloc: Global,
     host: &mut H,
     setup: &Setup,
     threads: &[u8],
+    turns: &mut Turns,
 ) -> Result<Outcome, Status>
     ensures outcome { IfOk result (λ outcome. IsOutcomeOf setup.now threads.now outcome) }
+    ensures cost { IfOk result (λ outcome. turns.new ≡ turns.old + outcome.instructions) }
     ensures refused { IfErr result (λ status. WhyUnreplayed setup.now threads.now status) }
     ensures asked { AsksNothing (H.world host.old) (H.world host.new) }
     ensures stays { Stays (H.world host.old) (H.world host.new) }
     ensures counts { NoneFell (H.world host.old) (H.world host.new) }
 {
-    match counted::<R, Brand>(rt, alloc, setup, threads, Blank::new(1)) {
+    match replay_from_scratch(alloc, setup, threads, turns) {
         Ok(outcome) => Ok(outcome),
         Err(ReplayError::Forbidden(number)) => {
             host.complain(&schedule_line(alloc, "entry", number));
@@ -165,20 +148,21 @@ fn text_of(alloc: Global, threads: &[u8], outcome: &Outcome) -> Result<Vec<u8>, 
     replayed(alloc, &told_of(entries.as_slice(), outcome))
 }
 
-/// All that a line that replays a schedule asks for.
-pub fn replay<R: Threads, H: Host>(
-    rt: &R,
+/// All that a line that replays a schedule asks for. Every turn that it executes is counted.
+pub fn replay<H: Host>(
     alloc: Global,
     host: &mut H,
     line: &ReplayLine<'_>,
+    turns: &mut Turns,
 ) -> Status
-    ensures { ReplayEnds (replay_said line.now) (H.world host.old) (H.world host.new) result }
+    ensures ends { ReplayEnds (replay_said line.now) (H.world host.old) (H.world host.new) result }
+    ensures cost { ReplaySpends (replay_said line.now) (H.world host.old) (H.world host.new) turns.old turns.new result }
 {
     let Asked { setup, threads } = match prepare(alloc, host, line) {
         Ok(asked) => asked,
         Err(status) => return status,
     };
-    let outcome = match outcome_of(rt, alloc, host, &setup, threads.as_slice()) {
+    let outcome = match outcome_of(alloc, host, &setup, threads.as_slice(), turns) {
         Ok(outcome) => outcome,
         Err(status) => return status,
     };

@@ -7,7 +7,7 @@ ghost use Rattle.propagate.specs.Kept.{IsOfMap};
 ghost use Rattle.rerun_spec.specs.Reports as reports;
 ghost use Rattle.ith_top.specs.Playing.{beginning_of, IsMadeOn};
 
-use super::crew::{Crew, Worked};
+use super::crew::{Crew, Made};
 use ith_host::Gate;
 use machine_spec::End;
 use propagate::Round;
@@ -93,9 +93,9 @@ pub fn make_round<R: Threads + Wait + Sync, G: Gate + Sync>(
     requires short { length next.input.items ≤ MOST_INPUT_BYTES }
     requires same { IsOfMap (option_map arc_value next.past) setup.now }
     ensures played { IfOk result (λ played. IsMadeOn crew.old.workers (beginning_of setup.now next) next.input.items
-        played.text.items played.exited (arc_value played.left)) }
-    ensures made { IfOk result (λ _. crew.new.made.number ≡ crew.old.made.number + 1) }
-    ensures one { crew.new.made.number ≤ crew.old.made.number + 1 }
+        crew.old.work.turns crew.new.work.turns played.text.items played.exited (arc_value played.left)) }
+    ensures made { IfOk result (λ _. crew.new.work.rounds ≡ crew.old.work.rounds + 1) }
+    ensures one { crew.new.work.rounds ≤ crew.old.work.rounds + 1 }
     ensures workers { crew.new.workers ≡ crew.old.workers }
 {
     let Next {
@@ -105,7 +105,7 @@ pub fn make_round<R: Threads + Wait + Sync, G: Gate + Sync>(
         asked,
     } = next;
     let start = setup.with(input, setup.limits())?;
-    let Worked {
+    let Made {
         round,
         shares,
         progress,

@@ -49,9 +49,9 @@ pub fn make_rounds<R: Threads + Wait + Sync, H: Host, G: Gate + Sync>(
 ) -> Result<Outcome, Status>
     requires { CanBePlayed (plan_said plan) }
     ensures played { IfOk result (λ outcome. IsPlayed crew.old.workers (plan_said plan)
-        (H.world host.old) (H.world host.new) crew.old.made.number crew.new.made.number outcome.exits (arc_value outcome.left)) }
+        (H.world host.old) (H.world host.new) crew.old.work crew.new.work outcome.exits (arc_value outcome.left)) }
     ensures refused { IfErr result (λ status. IsPlayedInPart crew.old.workers (plan_said plan)
-        (H.world host.old) (H.world host.new) crew.old.made.number crew.new.made.number status) }
+        (H.world host.old) (H.world host.new) crew.old.work crew.new.work status) }
     ensures asked { AsksNothing (H.world host.old) (H.world host.new) }
     ensures counts { NoneFell (H.world host.old) (H.world host.new) }
 {

@@ -11,6 +11,7 @@ use Rattle.history_spec.specs.History.{History, IsHonest, IsSound, CanGoBy, sche
 use Rattle.history_spec.proofs.Scratch.{records-threads}
 use Rattle.report_spec.specs.Report.{threads_of, instructions_from}
 use Rattle.round_spec.specs.Rounds.{RoundState, opening}
+use Rattle.round_spec.specs.Instructions.{executed_instructions}
 use Rattle.round_spec.specs.Alone.{one_worker, lone_round}
 use Rattle.worker_spec.specs.OneWorker.{made_by, executed_in}
 use Rattle.worker_spec.proofs.Picks.{marked-threads}
@@ -284,6 +285,7 @@ found_alone workers s past =
       entries = (lone_round s past).schedule;
       shares = shares_of_first workers (length (lone_round s past).schedule);
       progress = length (lone_round s past).schedule ∷ [];
+      turns = executed_instructions (lone_round s past).schedule (lone_round s past).records;
     }
 
 alone-made :

@@ -27,12 +27,13 @@ limits_of setup = record { fuel = setup.fuel; steps = setup.limit }
 abbrev pub with_limits : Setup → Limits → Setup
 with_limits setup limits = record setup { fuel = limits.fuel; limit = limits.steps }
 
--- What the workers of a round found: a schedule with its marks, how many of its steps each of them made, and the numbers
--- of steps that a watcher read meanwhile, which are none where it wasn't asked for.
+-- What the workers of a round found: a schedule with its marks, how many of its steps each of them made, the numbers of
+-- steps that a watcher read meanwhile, which are none where it wasn't asked for, and how many turns they were counted.
 pub record Found : Type 0 where
   pub entries : List Entry
   pub shares : List ℕ
   pub progress : List ℕ
+  pub turns : ℕ
 
 -- What is asked for by these two answers, and nothing.
 abbrev pub asked_by : Bool → Bool → Asked

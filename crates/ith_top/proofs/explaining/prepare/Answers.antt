@@ -3,10 +3,11 @@ use Rattle.std.proofs.Common.{subst}
 use Rattle.ith_words.specs.Words.{Reruns, RerunLine}
 use Rattle.ith_words.specs.Said.{explain_said}
 use Rattle.ith_top.specs.Files.{files_named, AsksForFiles}
-use Rattle.ith_top.specs.Contents.{IsRerunPlan}
+use Rattle.ith_top.specs.Contents.{IsRerunPlan, as_rerun}
 use Rattle.ith_top.specs.Playing.{plan_said}
 use Rattle.ith_top.specs.Refusals.{WhyUnplanned}
 use Rattle.ith_top.proofs.Explained.{explain_unasked, explain_unplanned}
+use Rattle.ith_top.proofs.Spent.{undone_unplanned}
 use Rattle.ith_top.proofs.explaining.prepare.Goals as goal
 
 pub returns-in-Err-clause-refused : goal.returns-in-Err-clause-refused
@@ -32,6 +33,14 @@ pub returns-clause-refused : goal.returns-clause-refused
 returns-clause-refused g c =
     let w = g.H.Host.world in
     explain_unplanned (explain_said c.args.line.now) (w c.args.host.now) (w c.prepare_rerun.new.host)
+    c.in-Err-prepare_rerun.status
+    (subst (λ (l : RerunLine). WhyUnplanned (Reruns l) (w c.args.host.now) (w c.prepare_rerun.new.host)
+    c.in-Err-prepare_rerun.status) c.in-Ok.ensures c.in-Err-prepare_rerun.ensures.refused)
+
+pub returns-clause-undone : goal.returns-clause-undone
+returns-clause-undone g c =
+    let w = g.H.Host.world in
+    undone_unplanned (Reruns (as_rerun (explain_said c.args.line.now))) (w c.args.host.now) (w c.prepare_rerun.new.host)
     c.in-Err-prepare_rerun.status
     (subst (λ (l : RerunLine). WhyUnplanned (Reruns l) (w c.args.host.now) (w c.prepare_rerun.new.host)
     c.in-Err-prepare_rerun.status) c.in-Ok.ensures c.in-Err-prepare_rerun.ensures.refused)

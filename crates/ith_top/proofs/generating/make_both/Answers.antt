@@ -24,6 +24,7 @@ make_line-requires-2-clause-short g c = λ lifetimes bounds.
 pub make_line-requires-2-clause-same : goal.make_line-requires-2-clause-same
 make_line-requires-2-clause-same g c = λ lifetimes bounds.
     line_map c.args.crew.now.workers (from_scratch c.in_ok-setup.field-0.setup nothing_asked) c.in-Some.input.items
+    c.args.crew.now.work.turns c.make_line.new.crew.work.turns
     c.in_ok-first.first.text.items c.in_ok-first.first.exited (arc_value c.in_ok-first.first.left) c.in_ok-first.ensures.played
 
 pub returns-clause-lines : goal.returns-clause-lines
@@ -39,7 +40,7 @@ returns-clause-lines g c =
     both_generated c.args.crew.now.workers c.args.number p c.in-Some.input.items c.in-Some-2.edited.items
     c.next-2.new.self c.in_ok-first.first.text.items c.in_ok-second.second.text.items c.in_ok-text.text.items
     c.in_ok-first.first.exited c.in_ok-second.second.exited c.if-first.result (arc_value c.in_ok-first.first.left)
-    (arc_value c.in_ok-second.second.left) c.args.crew.now.made.number c.make_line-2.new.crew.made.number
+    (arc_value c.in_ok-second.second.left) c.args.crew.now.work c.make_line.new.crew.work c.make_line-2.new.crew.work
     (let one = c.in_ok-first.ensures.made in let other = c.in_ok-second.ensures.made in omega arith)
     c.in_ok-setup.ensures.plan c.in_ok-setup.ensures.playable c.in_ok-setup.ensures.spelled inputs
     c.in_ok-first.ensures.played (rw c.make_line.ensures.workers at c.in_ok-second.ensures.played)

@@ -9,6 +9,7 @@ use Rattle.rerun_spec.specs.Rounds.{Beginning, with_input}
 use Rattle.report_spec.specs.Report.{no_extras}
 use Rattle.rerun_spec.specs.Reports.{told_as_made, is_exit}
 use Rattle.round_report.specs.Short.{short_text}
+use Rattle.ith_top.specs.Counting.{Spends}
 use Rattle.ith_top.specs.Playing.{beginning_of}
 use Rattle.ith_top.proofs.Making.{line_on, round_map, some_is}
 use Rattle.ith_top.proofs.generating.make_line.Goals as goal
@@ -37,9 +38,12 @@ returns-clause-played g c =
     let left : c.in-Some.left ≡ history_of w =
     some_is c.in-Some.left (history_of w) (sym c.in-Some.is ∙ c.into_history.ensures.same on) in
     let shared : arc_value c.in_ok-left.left ≡ c.in-Some.left = search rules in
+    let cost : Spends c.args.crew.now.workers (with_input c.args.setup.now c.args.next.input.items)
+    (option_map arc_value c.args.next.past) w c.args.crew.now.work.turns c.make.new.self.work.turns =
+    rw start at c.in_ok-round.ensures.cost in
     line_on c.args.crew.now.workers begins c.args.next.input.items w c.in_ok-round.field-0.shares.items
-    c.in_ok-text.text.items c.is_exit-exited.result (arc_value c.in_ok-left.left)
-    setup c.in_ok-round.ensures.past c.in_ok-round.ensures.stands is
+    cost.0 c.args.crew.now.work.turns c.make.new.self.work.turns c.in_ok-text.text.items c.is_exit-exited.result (arc_value c.in_ok-left.left)
+    setup c.in_ok-round.ensures.past c.in_ok-round.ensures.stands is cost.2 cost.1
     (c.in_ok-text.ensures ∙ ap (λ (shares : List ℕ). short_text c.args.next.number (told_as_made w no_extras shares))
     c.as_slice.ensures.value)
     (c.is_exit-exited.ensures ∙ ap is_exit c.end.ensures)

@@ -3,7 +3,8 @@ use Rattle.ith_words.specs.Words.{Line, Runs}
 use Rattle.ith_words.specs.Said.{run_said}
 use Rattle.ith_top.specs.Contents.{Plan}
 use Rattle.ith_top.specs.Playing.{plan_said}
-use Rattle.ith_top.proofs.Done.{finished, unfinished, undone}
+use Rattle.ith_top.proofs.Done.{finished, unfinished, undone, spent_finished, spent_unfinished}
+use Rattle.ith_top.proofs.Spent.{undone_unplanned, undone_rounds, rounds_unspent}
 use Rattle.ith_top.proofs.Ending.{unplanned_ends}
 use Rattle.ith_top.specs.Ends.{kept_by}
 use Rattle.ith_top.proofs.Counted.{counted_none, counted_all, counted_some, run_asked}
@@ -20,7 +21,7 @@ returns-in-Ok-true-clause-ends g c =
     let w = g.H.Host.world in
     let done = c.in-Ok-true.ensures in let line : Line = Runs (run_said c.args.line.now) in let p : Plan =
     plan_said c.in-Ok.plan in
-    finished line (w c.args.host.now) (w c.prepare.new.host) (w c.carry_out.new.host) p c.args.crew.now.made.number c.carry_out.new.crew.made.number c.in-Ok-true.field-0
+    finished line (w c.args.host.now) (w c.prepare.new.host) (w c.carry_out.new.host) p c.args.crew.now.work c.carry_out.new.crew.work c.in-Ok-true.field-0
     c.in-Ok.ensures.plan c.in-Ok.ensures.playable c.in-Ok.ensures.spelled c.in-Ok.ensures.asked done.asked
     c.in-Ok.ensures.stays (rw c.requires at done.done) c.in-Ok-true.field-0-test
 
@@ -29,7 +30,7 @@ returns-in-Ok-false-clause-ends g c =
     let w = g.H.Host.world in
     let done = c.in-Ok-false.ensures in let line : Line = Runs (run_said c.args.line.now) in let p : Plan =
     plan_said c.in-Ok.plan in
-    unfinished line (w c.args.host.now) (w c.prepare.new.host) (w c.carry_out.new.host) p c.args.crew.now.made.number c.carry_out.new.crew.made.number c.in-Ok-false.field-0
+    unfinished line (w c.args.host.now) (w c.prepare.new.host) (w c.carry_out.new.host) p c.args.crew.now.work c.carry_out.new.crew.work c.in-Ok-false.field-0
     c.in-Ok.ensures.plan c.in-Ok.ensures.playable c.in-Ok.ensures.spelled c.in-Ok.ensures.asked done.asked
     c.in-Ok.ensures.stays (rw c.requires at done.done) c.in-Ok-false.field-0-test
 
@@ -37,7 +38,7 @@ pub returns-in-Err-carry_out-clause-ends : goal.returns-in-Err-carry_out-clause-
 returns-in-Err-carry_out-clause-ends g c =
     let w = g.H.Host.world in
     let line : Line = Runs (run_said c.args.line.now) in let p : Plan = plan_said c.in-Ok.plan in
-    undone line (w c.args.host.now) (w c.prepare.new.host) (w c.carry_out.new.host) p c.args.crew.now.made.number c.carry_out.new.crew.made.number
+    undone line (w c.args.host.now) (w c.prepare.new.host) (w c.carry_out.new.host) p c.args.crew.now.work c.carry_out.new.crew.work
     c.in-Err-carry_out.status
     c.in-Ok.ensures.plan c.in-Ok.ensures.playable c.in-Ok.ensures.spelled c.in-Ok.ensures.asked
     c.in-Err-carry_out.ensures.asked c.in-Ok.ensures.stays c.in-Ok.ensures.counts
@@ -46,7 +47,7 @@ returns-in-Err-carry_out-clause-ends g c =
 pub returns-in-Err-clause-made : goal.returns-in-Err-clause-made
 returns-in-Err-clause-made g c =
     let w = g.H.Host.world in
-    counted_none (Runs (run_said c.args.line.now)) (w c.args.host.now) (w c.prepare.new.host) c.args.crew.now.made.number
+    counted_none (Runs (run_said c.args.line.now)) (w c.args.host.now) (w c.prepare.new.host) c.args.crew.now.work.rounds
     c.in-Err.status c.in-Err.ensures.refused
 
 pub returns-in-Ok-true-clause-made : goal.returns-in-Ok-true-clause-made
@@ -54,7 +55,7 @@ returns-in-Ok-true-clause-made g c =
     let w = g.H.Host.world in
     let line : Line = Runs (run_said c.args.line.now) in let p : Plan = plan_said c.in-Ok.plan in
     counted_all line (kept_by line) c.args.crew.now.workers p (w c.prepare.new.host) (w c.carry_out.new.host)
-    c.args.crew.now.made.number c.carry_out.new.crew.made.number c.in-Ok-true.field-0
+    c.args.crew.now.work c.carry_out.new.crew.work c.in-Ok-true.field-0
     (run_asked (run_said c.args.line.now) (w c.args.host.now) p c.in-Ok.ensures.plan) c.in-Ok-true.ensures.done
 
 pub returns-in-Ok-false-clause-made : goal.returns-in-Ok-false-clause-made
@@ -62,7 +63,7 @@ returns-in-Ok-false-clause-made g c =
     let w = g.H.Host.world in
     let line : Line = Runs (run_said c.args.line.now) in let p : Plan = plan_said c.in-Ok.plan in
     counted_all line (kept_by line) c.args.crew.now.workers p (w c.prepare.new.host) (w c.carry_out.new.host)
-    c.args.crew.now.made.number c.carry_out.new.crew.made.number c.in-Ok-false.field-0
+    c.args.crew.now.work c.carry_out.new.crew.work c.in-Ok-false.field-0
     (run_asked (run_said c.args.line.now) (w c.args.host.now) p c.in-Ok.ensures.plan) c.in-Ok-false.ensures.done
 
 pub returns-in-Err-carry_out-clause-made : goal.returns-in-Err-carry_out-clause-made
@@ -70,6 +71,41 @@ returns-in-Err-carry_out-clause-made g c =
     let w = g.H.Host.world in
     let line : Line = Runs (run_said c.args.line.now) in let p : Plan = plan_said c.in-Ok.plan in
     counted_some line (kept_by line) c.args.crew.now.workers p (w c.prepare.new.host) (w c.carry_out.new.host)
-    c.args.crew.now.made.number c.carry_out.new.crew.made.number c.in-Err-carry_out.status
+    c.args.crew.now.work c.carry_out.new.crew.work c.in-Err-carry_out.status
     (run_asked (run_said c.args.line.now) (w c.args.host.now) p c.in-Ok.ensures.plan)
     c.in-Err-carry_out.ensures.refused
+
+pub returns-in-Err-clause-turns : goal.returns-in-Err-clause-turns
+returns-in-Err-clause-turns g c =
+    let w = g.H.Host.world in
+    rounds_unspent (Runs (run_said c.args.line.now)) (w c.args.host.now) (w c.prepare.new.host)
+    c.args.crew.now.work c.args.crew.now.work c.in-Err.status
+    (undone_unplanned (Runs (run_said c.args.line.now)) (w c.args.host.now) (w c.prepare.new.host) c.in-Err.status
+    c.in-Err.ensures.refused)
+
+pub returns-in-Ok-true-clause-turns : goal.returns-in-Ok-true-clause-turns
+returns-in-Ok-true-clause-turns g c =
+    let w = g.H.Host.world in
+    let done = c.in-Ok-true.ensures in let line : Line = Runs (run_said c.args.line.now) in let p : Plan =
+    plan_said c.in-Ok.plan in
+    spent_finished line (w c.args.host.now) (w c.prepare.new.host) (w c.carry_out.new.host) p c.args.crew.now.work c.carry_out.new.crew.work c.in-Ok-true.field-0
+    c.in-Ok.ensures.plan c.in-Ok.ensures.playable c.in-Ok.ensures.spelled c.in-Ok.ensures.asked done.asked
+    c.in-Ok.ensures.stays (rw c.requires at done.done) c.in-Ok-true.field-0-test
+
+pub returns-in-Ok-false-clause-turns : goal.returns-in-Ok-false-clause-turns
+returns-in-Ok-false-clause-turns g c =
+    let w = g.H.Host.world in
+    let done = c.in-Ok-false.ensures in let line : Line = Runs (run_said c.args.line.now) in let p : Plan =
+    plan_said c.in-Ok.plan in
+    spent_unfinished line (w c.args.host.now) (w c.prepare.new.host) (w c.carry_out.new.host) p c.args.crew.now.work c.carry_out.new.crew.work c.in-Ok-false.field-0
+    c.in-Ok.ensures.plan c.in-Ok.ensures.playable c.in-Ok.ensures.spelled c.in-Ok.ensures.asked done.asked
+    c.in-Ok.ensures.stays (rw c.requires at done.done) c.in-Ok-false.field-0-test
+
+pub returns-in-Err-carry_out-clause-turns : goal.returns-in-Err-carry_out-clause-turns
+returns-in-Err-carry_out-clause-turns g c =
+    let w = g.H.Host.world in
+    let line : Line = Runs (run_said c.args.line.now) in let p : Plan = plan_said c.in-Ok.plan in
+    rounds_unspent line (w c.args.host.now) (w c.carry_out.new.host) c.args.crew.now.work c.carry_out.new.crew.work
+    c.in-Err-carry_out.status
+    (undone_rounds (kept_by line) c.args.crew.now.workers p (w c.prepare.new.host) (w c.carry_out.new.host)
+    c.args.crew.now.work c.carry_out.new.crew.work c.in-Err-carry_out.status c.in-Err-carry_out.ensures.refused)

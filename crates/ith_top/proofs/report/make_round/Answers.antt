@@ -8,6 +8,7 @@ use Rattle.worker_spec.specs.Workers.{IsMadeBy}
 use Rattle.propagate.specs.Kept.{IsOfMap}
 use Rattle.rerun_spec.specs.Rounds.{Found, Beginning, with_input}
 use Rattle.rerun_spec.specs.Reports.{is_exit}
+use Rattle.ith_top.specs.Counting.{Spends}
 use Rattle.ith_top.specs.Playing.{beginning_of}
 use Rattle.ith_top.proofs.Making.{made_on, round_map, some_is}
 use Rattle.ith_top.proofs.report.make_round.Goals as goal
@@ -36,15 +37,19 @@ returns-clause-played g c =
     let left : c.in-Some.left ≡ history_of w =
     some_is c.in-Some.left (history_of w) (sym c.in-Some.is ∙ c.into_history.ensures.same on) in
     let shared : arc_value c.in_ok-left.left ≡ c.in-Some.left = search rules in
+    let cost : Spends c.args.crew.now.workers (with_input c.args.setup.now c.args.next.input.items)
+    (option_map arc_value c.args.next.past) w c.args.crew.now.work.turns c.make.new.self.work.turns =
+    rw start at c.in_ok-round.ensures.cost in
     let f : Found = record {
       entries = w.schedule;
       shares = c.in_ok-round.field-0.shares.items;
       progress = c.in_ok-round.field-0.progress.items;
+      turns = cost.0;
     } in
     made_on c.args.crew.now.workers begins c.args.next.input.items w f
-    c.in_ok-text.text.items c.is_exit-exited.result (arc_value c.in_ok-left.left)
+    c.args.crew.now.work.turns c.make.new.self.work.turns c.in_ok-text.text.items c.is_exit-exited.result (arc_value c.in_ok-left.left)
     setup c.in_ok-round.ensures.past c.in_ok-round.ensures.stands refl is
-    (λ yes. c.in_ok-round.ensures.watched yes)
+    (λ yes. c.in_ok-round.ensures.watched yes) cost.2 cost.1
     (c.in_ok-text.ensures.text ∙ ap (report_text c.args.next.number) (let told = c.in_ok-told.ensures in search rules))
     (c.is_exit-exited.ensures ∙ ap is_exit c.end.ensures)
     (shared ∙ left)

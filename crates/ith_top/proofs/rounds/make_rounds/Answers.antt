@@ -22,14 +22,14 @@ loop-place-init g c =
     record {
       going = going_start (begins coming.number (option_map arc_value coming.past) c.args.plan.setup coming.asked)
           (begins (coming.number + 0) (option_map arc_value coming.past) c.args.plan.setup coming.asked)
-          c.args.crew.now.workers coming.inputs (w c.args.host.now)
+          c.args.crew.now.workers coming.inputs (w c.args.host.now) c.args.crew.now.work.turns
           (ap (λ (n : ℕ). begins n (option_map arc_value coming.past) c.args.plan.setup coming.asked) number)
           (none_fell_same (w c.args.host.now));
       left = omega (arith, c.len-place-end.ensures);
       short = c.requires.short;
       map = c.requires.map;
       some = λ none. refl;
-      made = refl;
+      made = refl {a = c.args.crew.now.work.rounds + length c.args.plan.inputs};
       workers = refl;
     }
 
@@ -40,8 +40,9 @@ returns-in-Err-clause-refused g c =
     (going_cut (begins coming.number (option_map arc_value coming.past) c.args.plan.setup coming.asked)
     c.args.crew.now.workers coming.inputs
     (w c.args.host.now) (w c.loop-place.host) (w c.no_memory.new.host)
+    c.args.crew.now.work.turns c.loop-place.crew.work.turns
     (begins (coming.number + c.loop-place.place) (option_map arc_value c.loop-place.past) c.args.plan.setup coming.asked)
-    c.loop-place.inputs c.loop-place.exits c.args.crew.now.made.number c.loop-place.crew.made.number
+    c.loop-place.inputs c.loop-place.exits c.args.crew.now.work c.loop-place.crew.work
     c.loop-place.invariant.going c.no_memory.ensures.stays
     (let made = c.loop-place.invariant.made in omega arith) (let made = c.loop-place.invariant.made in omega arith))
 
@@ -61,8 +62,9 @@ returns-in-Err-make_round-clause-refused g c =
     (going_cut (begins coming.number (option_map arc_value coming.past) c.args.plan.setup coming.asked)
     c.args.crew.now.workers coming.inputs
     (w c.args.host.now) (w c.loop-place.host) (w c.no_memory-in-Err-make_round.new.host)
+    c.args.crew.now.work.turns c.loop-place.crew.work.turns
     (begins (coming.number + c.loop-place.place) (option_map arc_value c.loop-place.past) c.args.plan.setup coming.asked)
-    c.loop-place.inputs c.loop-place.exits c.args.crew.now.made.number c.make_round.new.crew.made.number
+    c.loop-place.inputs c.loop-place.exits c.args.crew.now.work c.make_round.new.crew.work
     c.loop-place.invariant.going c.no_memory-in-Err-make_round.ensures.stays
     (let made = c.loop-place.invariant.made in let one = c.make_round.ensures.one in omega arith)
     (let made = c.loop-place.invariant.made in let one = c.make_round.ensures.one in
@@ -76,10 +78,11 @@ returns-in-Err-print_text-clause-refused g c =
     rw c.in-Ok-Some.field-0-is at c.in-Ok-Some.ensures.taken in
     going_unprinted (begins coming.number (option_map arc_value coming.past) c.args.plan.setup coming.asked)
     c.args.crew.now.workers coming.inputs (w c.args.host.now) (w c.loop-place.host) (w c.print_text.new.host)
+    c.args.crew.now.work.turns c.loop-place.crew.work.turns c.make_round.new.crew.work.turns
     (begins (coming.number + c.loop-place.place) (option_map arc_value c.loop-place.past) c.args.plan.setup coming.asked)
     c.in-Ok-Some.input.items c.next.new.self c.loop-place.exits
     c.in-Ok.played.text.items c.in-Ok.played.exited (arc_value c.in-Ok.played.left)
-    c.args.crew.now.made.number c.make_round.new.crew.made.number c.in-Err-print_text.status
+    c.args.crew.now.work c.make_round.new.crew.work c.in-Err-print_text.status
     (rw taken at c.loop-place.invariant.going)
     (rw c.loop-place.invariant.workers at c.in-Ok.ensures.played)
     (let made = c.loop-place.invariant.made in let one = c.make_round.ensures.one in
@@ -104,6 +107,7 @@ loop-place-preserved g c =
     record {
       going = going_next (begins coming.number (option_map arc_value coming.past) c.args.plan.setup coming.asked)
           c.args.crew.now.workers coming.inputs (w c.args.host.now) (w c.loop-place.host) (w c.print_text.new.host)
+          c.args.crew.now.work.turns c.loop-place.crew.work.turns c.make_round.new.crew.work.turns
           now (begins (coming.number + (c.loop-place.place + 1))
           (Some (arc_value c.in-Ok.played.left)) c.args.plan.setup coming.asked)
           c.in-Ok-Some.input.items c.next.new.self c.loop-place.exits
@@ -115,7 +119,8 @@ loop-place-preserved g c =
           c.in-Ok-print_text.ensures.asked;
       left = omega arith;
       short = short_rest c.in-Ok-Some.input.items c.next.new.self (subst AreShort taken c.loop-place.invariant.short);
-      map = left_map c.loop-place.crew.workers now c.in-Ok-Some.input.items c.in-Ok.played.text.items
+      map = left_map c.loop-place.crew.workers now c.in-Ok-Some.input.items
+          c.loop-place.crew.work.turns c.make_round.new.crew.work.turns c.in-Ok.played.text.items
           c.in-Ok.played.exited (arc_value c.in-Ok.played.left) c.in-Ok.ensures.played;
       some = λ none. absurd (let no : Some (arc_value c.in-Ok.played.left) ≡ None = none in cc);
       made = let made = c.loop-place.invariant.made in let one = c.in-Ok.ensures.made in omega arith;
@@ -129,7 +134,7 @@ returns-clause-played g c =
     c.args.crew.now.workers coming.inputs (w c.args.host.now) (w c.loop-place.host)
     (begins (coming.number + c.loop-place.place) (option_map arc_value c.loop-place.past) c.args.plan.setup coming.asked)
     c.loop-place.inputs c.loop-place.exits (arc_value c.in-Some.left)
-    c.args.crew.now.made.number c.loop-place.crew.made.number
+    c.args.crew.now.work c.loop-place.crew.work
     (none_left c.loop-place.inputs c.loop-place.place c.len-place-end.result c.loop-place.invariant.left
     c.loop-place-test.false)
     (ap (option_map arc_value) c.in-Some.is)

@@ -15,6 +15,7 @@ invariant-loop-place g l = record {
   going : IsGoing (plan_said l.fn.plan).beginning l.fn.crew.workers l.fn.plan.inputs
       (g.H.Host.world l.fn.host)
       (g.H.Host.world l.host)
+      l.fn.crew.work.turns l.crew.work.turns
       (record {
         number = l.first + l.place;
         past = option_map arc_value l.past;
@@ -25,6 +26,6 @@ invariant-loop-place g l = record {
   short : AreShort l.inputs;
   map : IsOfMap (option_map arc_value l.past) l.fn.plan.setup;
   some : option_map arc_value l.past ≡ None → l.place ≡ 0;
-  made : l.crew.made.number + length l.inputs ≡ l.fn.crew.made.number + length l.fn.plan.inputs;
+  made : l.crew.work.rounds + length l.inputs ≡ l.fn.crew.work.rounds + length l.fn.plan.inputs;
   workers : l.crew.workers ≡ l.fn.crew.workers;
 }

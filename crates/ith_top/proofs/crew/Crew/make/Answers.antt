@@ -1,0 +1,13 @@
+-- What is left to prove of `Crew::make`.
+use Rattle.std.proofs.Common.{rules, option_map}
+use Rattle.std.specs.Arc.{arc_value}
+use Rattle.rerun_workers.specs.Making.{IsCostOf}
+use Rattle.ith_top.proofs.crew.Crew.make.Goals as goal
+use Rattle.ith_top.proofs.crew.Crew.make.Goals.{then-watched, else-watched}
+
+pub returns-clause-cost : goal.returns-clause-cost
+returns-clause-cost g c =
+    let worked = c.in_ok-worked.worked in
+    let cost : IsCostOf c.args.self.now.workers c.args.setup (option_map arc_value c.args.past) worked.round worked.turns =
+    elim c.if-watched.branch [ then-watched w ↦ search rules | else-watched w ↦ search rules ] in
+    (worked.turns, search rules, cost)
