@@ -7,4 +7,3 @@ pub mod Choosing
 pub mod Appending
 pub mod Executing
 pub mod Making
-pub mod Jobs

@@ -4,4 +4,3 @@ pub mod Appending
 pub mod Committing
 pub mod Choosing
 pub mod Executing
-pub mod Jobs

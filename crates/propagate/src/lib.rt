@@ -5,13 +5,11 @@
 #![tactic(auto)]
 
 mod alone;
-mod driving;
 mod events;
 mod picking;
 mod reaching;
 mod round;
 
 pub use alone::{run_alone, run_alone_shown};
-pub use driving::drive;
 pub use events::Committed;
 pub use round::Round;

@@ -3,8 +3,9 @@
 ghost use Rattle.std.specs.Prelude.{◌≡◌, ◌<◌};
 
 use super::fixtures::{is_round, setup};
-use propagate::{Round, drive, run_alone};
+use propagate::{Round, run_alone};
 use release_core::History;
+use round_driver::drive;
 use round_spec::{Event, Pick};
 use std::alloc::Global;
 use std::sync::Arc;

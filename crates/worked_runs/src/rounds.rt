@@ -3,8 +3,9 @@
 ghost use Rattle.std.specs.Prelude.{◌≡◌, ◌<◌};
 
 use machine_spec::{Limits, MOST_INPUT_BYTES};
-use propagate::{Round, drive};
+use propagate::Round;
 use release_core::{History, Setup};
+use round_driver::drive;
 use round_spec::Event;
 use std::alloc::{AllocError, Global};
 use std::sync::Arc;

@@ -1,9 +1,9 @@
 -- What is left to prove of `Driven::on_take`.
 use Rattle.std.proofs.Common.{Some, set, sym, subst, ◌∙◌}
 use Rattle.round_spec.proofs.Conditions.{happens-take_not}
-use Rattle.propagate.specs.Jobs.{HaveJobs}
-use Rattle.propagate.proofs.Jobs.{jobs-take}
-use Rattle.propagate.proofs.driving.Driven.on_take.Goals as goal
+use Rattle.round_driver.specs.Jobs.{HaveJobs}
+use Rattle.round_driver.proofs.Jobs.{jobs-take}
+use Rattle.round_driver.proofs.Driven.on_take.Goals as goal
 
 pub returns-then-not-can_take : goal.returns-then-not-can_take
 returns-then-not-can_take c =

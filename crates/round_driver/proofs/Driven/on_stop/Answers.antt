@@ -1,7 +1,7 @@
 -- What is left to prove of `Driven::on_stop`.
 use Rattle.round_spec.specs.declared.events.Event.TheVariants.{Stop}
-use Rattle.propagate.proofs.Jobs.{jobs-stay}
-use Rattle.propagate.proofs.driving.Driven.on_stop.Goals as goal
+use Rattle.round_driver.proofs.Jobs.{jobs-stay}
+use Rattle.round_driver.proofs.Driven.on_stop.Goals as goal
 
 pub invariant_of-self : goal.invariant_of-self
 invariant_of-self c =

@@ -1,8 +1,8 @@
 -- What is left to prove of `Driven::on_reuse`.
 use Rattle.std.proofs.Common.{sym, ◌∙◌}
 use Rattle.round_spec.proofs.Conditions.{happens-reuse_not}
-use Rattle.propagate.proofs.Jobs.{jobs-reuse}
-use Rattle.propagate.proofs.driving.Driven.on_reuse.Goals as goal
+use Rattle.round_driver.proofs.Jobs.{jobs-reuse}
+use Rattle.round_driver.proofs.Driven.on_reuse.Goals as goal
 
 pub returns-then-not-can_reuse : goal.returns-then-not-can_reuse
 returns-then-not-can_reuse c =

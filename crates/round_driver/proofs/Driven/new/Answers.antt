@@ -1,8 +1,8 @@
 -- What is left to prove of `Driven::new`.
 use Rattle.std.proofs.Common.{ap}
 use Rattle.round_spec.specs.Rounds.{RoundState}
-use Rattle.propagate.proofs.Jobs.{jobs-none}
-use Rattle.propagate.proofs.driving.Driven.new.Goals as goal
+use Rattle.round_driver.proofs.Jobs.{jobs-none}
+use Rattle.round_driver.proofs.Driven.new.Goals as goal
 
 pub invariant_of-result : goal.invariant_of-result
 invariant_of-result c =

@@ -1,7 +1,7 @@
 -- What is left to prove of `Driven::happen`.
 use Rattle.round_spec.specs.declared.events.Event.TheVariants.{Take, Reuse, GiveBack, Stop}
 use Rattle.propagate.proofs.Executing.{costs-nothing, ok-costs}
-use Rattle.propagate.proofs.driving.Driven.happen.Goals as goal
+use Rattle.round_driver.proofs.Driven.happen.Goals as goal
 
 pub returns-in-Take-clause-cost : goal.returns-in-Take-clause-cost
 returns-in-Take-clause-cost c =

@@ -5,10 +5,10 @@ use Rattle.round_spec.specs.declared.events.Event.TheVariants.{GiveBack}
 use Rattle.round_spec.proofs.Conditions.{happens-commit_not}
 use Rattle.round_spec.specs.Rounds.{is_out}
 use Rattle.propagate.specs.Executing.{Costs}
-use Rattle.propagate.proofs.Jobs.{jobs-stay, jobs-commit, job-held, run-commits, run-counts, over-discards}
+use Rattle.round_driver.proofs.Jobs.{jobs-stay, jobs-commit, job-held, run-commits, run-counts, over-discards}
 use Rattle.propagate.proofs.Executing.{costs-nothing}
-use Rattle.propagate.proofs.driving.Driven.on_commit.Goals as goal
-use Rattle.propagate.proofs.driving.Driven.on_commit.Goals.{in-Done, in-Memory}
+use Rattle.round_driver.proofs.Driven.on_commit.Goals as goal
+use Rattle.round_driver.proofs.Driven.on_commit.Goals.{in-Done, in-Memory}
 
 pub returns-then-not-is_out-clause-round : goal.returns-then-not-is_out-clause-round
 returns-then-not-is_out-clause-round c =

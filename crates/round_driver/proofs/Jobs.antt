@@ -28,7 +28,7 @@ use Rattle.propagate.specs.declared.events.Committed.TheVariants.{Done, Stale, M
 use Rattle.propagate.specs.Committing.{CanCommit, Commits}
 use Rattle.thunk_run.specs.Running.{IsRunOf}
 use Rattle.release_core.specs.Jobs.{IsJobOf}
-use Rattle.propagate.specs.Jobs.{IsHeldFor, HaveJobs}
+use Rattle.round_driver.specs.Jobs.{IsHeldFor, HaveJobs}
 use Rattle.propagate.proofs.Appending.{out-below, take-ready, below-32}
 use Rattle.propagate.specs.Executing.{executed_by}
 use Rattle.propagate.proofs.Keeping.{record_count}

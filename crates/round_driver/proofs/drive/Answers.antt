@@ -11,7 +11,7 @@ use Rattle.round_spec.proofs.Leaving.{round-scratch}
 use Rattle.order_spec.specs.Facts.{facts}
 use Rattle.order_spec.proofs.Places.{places-keep}
 use Rattle.round_spec.proofs.Reusing.{reused-whole}
-use Rattle.propagate.proofs.driving.drive.Goals as goal
+use Rattle.round_driver.proofs.drive.Goals as goal
 
 pub returns-clause-scratch : goal.returns-clause-scratch
 returns-clause-scratch c = λ sound.

@@ -1,4 +1,6 @@
-//! A round to which given events happen.
+//! A round to which given events happen, one after the other: for tests, and for the law that old steps may be reused in
+//! any order that respects their dependences.
+#![tactic(auto)]
 
 ghost use Rattle.std.specs.Prelude.{◌≡◌, ℕ, ◌+◌, ◌≤◌, true, List, Some, option_map, IfOk, OnOk};
 ghost use Rattle.std.specs.Arc.{arc_value};
@@ -10,12 +12,11 @@ ghost use Rattle.round_spec.specs.Rounds.{nobody_out, opening, is_out, happens, 
 ghost use Rattle.round_spec.specs.Keeping.{IsFromScratch};
 ghost use Rattle.round_spec.specs.Unedited.{IsUnedited};
 ghost use Rattle.round_spec.specs.Reordering.{reuses_of, ReusesInOrder};
-ghost use Rattle.propagate.specs.Jobs.{HaveJobs};
+ghost use Rattle.round_driver.specs.Jobs.{HaveJobs};
 ghost use Rattle.propagate.specs.Executing.{executed_by, Costs};
 
-use super::events::Committed;
-use super::round::Round;
 use guest_call::THREADS;
+use propagate::{Committed, Round};
 use release_core::{History, Setup};
 use round_spec::Event;
 use std::alloc::{AllocError, Global};

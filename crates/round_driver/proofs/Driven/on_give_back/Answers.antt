@@ -2,8 +2,8 @@
 use Rattle.std.proofs.Common.{sym, ◌∙◌}
 use Rattle.round_spec.specs.declared.events.Event.TheVariants.{GiveBack}
 use Rattle.round_spec.proofs.Conditions.{happens-give_back_not}
-use Rattle.propagate.proofs.Jobs.{jobs-stay}
-use Rattle.propagate.proofs.driving.Driven.on_give_back.Goals as goal
+use Rattle.round_driver.proofs.Jobs.{jobs-stay}
+use Rattle.round_driver.proofs.Driven.on_give_back.Goals as goal
 
 pub invariant_of-self : goal.invariant_of-self
 invariant_of-self c =

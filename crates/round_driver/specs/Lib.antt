@@ -1,0 +1,2 @@
+-- The files of definitions of this crate.
+pub mod Jobs
