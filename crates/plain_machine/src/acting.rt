@@ -9,13 +9,13 @@ ghost use Rattle.machine_spec.specs.Machine.{Hart as HartState, hart_in, is_read
 ghost use Rattle.machine_spec.specs.Whole.{IsTied};
 ghost use Rattle.plain_machine.specs.Doing.{harts_after, objects_after, own_end, effect_made};
 
-use super::hart::Hart;
 use super::memory::Memory;
 use super::performing::settle;
 use super::put::appends_all;
 use call_effect::Effect;
 use guest_call::{Call, EFAULT, EINVAL, Fate};
 use isa_spec::Cause;
+use machine_calls::Hart;
 use machine_spec::{Asked, End, Status};
 use page_map::PageMap;
 use rv_alu::Regs;
@@ -86,7 +86,7 @@ fn effect_of(map: &PageMap, objects: &mut Objects, t: u8, call: Call) -> Effect
 }
 
 /// Whether all threads have ended.
-fn have_all_ended(harts: &[Hart]) -> bool
+fn have_all_ended(harts: &[Hart<Memory>]) -> bool
     ensures { result ≡ list_all (λ (h : HartState). is_ended h.status) harts.now }
 {
     for hart in harts {
@@ -105,7 +105,7 @@ fn has_ended(status: Status) -> bool
 }
 
 /// Whether any thread is ready.
-fn is_any_ready(harts: &[Hart]) -> bool
+fn is_any_ready(harts: &[Hart<Memory>]) -> bool
     ensures { result ≡ list_any (λ (h : HartState). is_ready h.status) harts.now }
 {
     for hart in harts {
@@ -117,7 +117,7 @@ fn is_any_ready(harts: &[Hart]) -> bool
 }
 
 /// The end that the state makes.
-fn state_end(harts: &[Hart], limit: u32, steps: u32) -> Option<End>
+fn state_end(harts: &[Hart<Memory>], limit: u32, steps: u32) -> Option<End>
     ensures { result ≡ step.state_end harts.now limit steps }
 {
     if have_all_ended(harts) {
@@ -132,7 +132,7 @@ fn state_end(harts: &[Hart], limit: u32, steps: u32) -> Option<End>
 }
 
 /// The end after a call with this fate of its caller.
-fn end_after(fate: Fate, harts: &[Hart], limit: u32, steps: u32) -> Option<End>
+fn end_after(fate: Fate, harts: &[Hart<Memory>], limit: u32, steps: u32) -> Option<End>
     ensures { result ≡ step.end_after (step.fate_end fate) harts.now limit steps }
 {
     match fate {
@@ -171,7 +171,7 @@ pub(super) struct Acted {
 /// An error where the host's memory ran out.
 #[tactic(auto, using(crate::proofs::Asking::exists, crate::proofs::Asking::free, crate::proofs::Asking::below))]
 pub(super) fn do_as_asked(
-    harts: &mut Vec<Hart>,
+    harts: &mut Vec<Hart<Memory>>,
     objects: &mut Objects,
     written: &Written<'_>,
     t: u8,

@@ -9,7 +9,6 @@
 #![tactic(auto)]
 
 mod acting;
-mod hart;
 mod machine;
 mod memory;
 mod pages;

@@ -11,12 +11,12 @@ ghost use Rattle.plain_machine.specs.Doing.{harts_after, objects_after, own_end,
 ghost use Rattle.plain_machine.specs.Making.{IsMade, asked_by};
 
 use super::acting::{Written, asked, do_as_asked};
-use super::hart::Hart;
 use super::memory::Memory;
 use super::start::memory_of;
 use super::stores::lay_all;
 use super::thunk::{Done, run};
 use call_effect::Effect;
+use machine_calls::{Hart, View};
 use machine_spec::{Asked, End, Status};
 use page_map::PageMap;
 use page_store::PageTable;
@@ -47,7 +47,7 @@ pub struct PlainMachine {
     fuel: u32,
     limit: u32,
     memory: Memory,
-    harts: Vec<Hart>,
+    harts: Vec<Hart<Memory>>,
     objects: Objects,
     output: Vec<u8>,
     steps: u32,
@@ -164,11 +164,11 @@ impl PlainMachine {
 }
 
 /// Thread 0 alone, at the executable's entry.
-fn first_harts(alloc: Global, memory: &Memory, entry: u32) -> Result<Vec<Hart>, AllocError>
+fn first_harts(alloc: Global, memory: &Memory, entry: u32) -> Result<Vec<Hart<Memory>>, AllocError>
     ensures { IfOk result (λ harts. harts.items ≡ first_hart memory.now 0 entry 0xC0000000 ∷ []) }
 {
     let mut harts = Vec::new(alloc);
-    harts.push(Hart::first(memory.copy()?, 0, entry, 0xC000_0000))?;
+    harts.push(Hart::first(memory.share()?, 0, entry, 0xC000_0000))?;
     Ok(harts)
 }
 
@@ -203,7 +203,7 @@ impl PlainMachine {
 }
 
 /// The hart of thread `t`, which exists.
-fn hart_at(harts: &Vec<Hart>, t: u8) -> &Hart
+fn hart_at(harts: &Vec<Hart<Memory>>, t: u8) -> &Hart<Memory>
     requires { t < length harts.now.items }
     ensures { result.now ≡ hart_in harts.now.items t }
 {
@@ -211,7 +211,7 @@ fn hart_at(harts: &Vec<Hart>, t: u8) -> &Hart
 }
 
 /// Thread `t`'s thunk was written: its hart has the last registers, and has made one step more.
-fn write_back(harts: &mut Vec<Hart>, t: u8, regs: Regs)
+fn write_back(harts: &mut Vec<Hart<Memory>>, t: u8, regs: Regs)
     requires exists { t < length harts.old.items }
     requires few { (hart_in harts.old.items t).number < 2 ^ 32 - 1 }
     ensures { harts.new.items ≡ slice_set harts.old.items t (step.advanced (hart_in harts.old.items t) regs) }
@@ -227,7 +227,7 @@ fn write_back(harts: &mut Vec<Hart>, t: u8, regs: Regs)
 ///
 /// An error where the host's memory ran out.
 fn finish(
-    harts: &mut Vec<Hart>,
+    harts: &mut Vec<Hart<Memory>>,
     objects: &mut Objects,
     written: &Written<'_>,
     t: u8,

@@ -9,6 +9,7 @@ ghost use Rattle.memory_spec.specs.Access.{byte_count};
 ghost use Rattle.memory_spec.specs.Pages.{page_of};
 ghost use Rattle.plain_machine.specs.Stored.{byte_of, with_number};
 
+use machine_calls::View;
 use memory_spec::{PAGE_SIZE, Size};
 use page_store::Page;
 use std::alloc::{AllocError, Global};
@@ -89,6 +90,17 @@ fn shared(alloc: Global, pages: &[Rc<Page>]) -> Result<Vec<Rc<Page>>, AllocError
     Ok(shared)
 }
 
+impl View for Memory {
+    ghost pages = { λ memory. memory };
+
+    fn share(&self) -> Result<Memory, AllocError> {
+        Ok(Memory {
+            alloc: self.alloc,
+            pages: shared(self.alloc, &self.pages)?,
+        })
+    }
+}
+
 impl Memory {
     /// A memory with no page.
     pub(super) fn empty(alloc: Global) -> Memory
@@ -110,20 +122,6 @@ impl Memory {
     {
         self.pages.push(Rc::new(self.alloc, page)?)?;
         Ok(())
-    }
-
-    /// Another memory with the same bytes. No byte is copied.
-    ///
-    /// # Errors
-    ///
-    /// An error where the host's memory ran out.
-    pub(super) fn copy(&self) -> Result<Memory, AllocError>
-        ensures { IfOk result (λ copy. copy ≡ self.now) }
-    {
-        Ok(Memory {
-            alloc: self.alloc,
-            pages: shared(self.alloc, &self.pages)?,
-        })
     }
 
     /// How many pages there are.

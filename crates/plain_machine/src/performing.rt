@@ -4,20 +4,20 @@ ghost use Rattle.std.specs.Prelude.{◌≡◌, ◌<◌, ◌≤◌, ◌+◌, leng
 ghost use Rattle.machine_spec.specs.Performing.{fated, woken, with_created, settled};
 ghost use Rattle.guest_call.specs.Objects.{created_count};
 
-use super::hart::Hart;
 use super::memory::Memory;
 use call_effect::Effect;
 use guest_call::{Fate, THREADS};
+use machine_calls::{Hart, View};
 use machine_spec::Status;
 use std::alloc::AllocError;
 use wait_queue::Queue;
 
 /// What becomes of the caller's hart.
-fn meet_fate(hart: &mut Hart, memory: &Memory, fate: Fate) -> Result<(), AllocError>
+fn meet_fate(hart: &mut Hart<Memory>, memory: &Memory, fate: Fate) -> Result<(), AllocError>
     ensures { OnOk result (hart.new ≡ fated fate memory.now hart.old) }
 {
     match fate {
-        Fate::Returns(a0, a1) => hart.return_with(memory.copy()?, a0, a1),
+        Fate::Returns(a0, a1) => hart.return_with(memory.share()?, a0, a1),
         Fate::Blocks => hart.set_status(Status::Blocked),
         Fate::Ends(value) => hart.set_status(Status::Ended(value)),
         Fate::Exits(_) => {}
@@ -27,7 +27,7 @@ fn meet_fate(hart: &mut Hart, memory: &Memory, fate: Fate) -> Result<(), AllocEr
 
 /// The calls of waiting threads return with 0, and each is told something or nothing.
 fn wake(
-    harts: &mut [Hart],
+    harts: &mut [Hart<Memory>],
     memory: &Memory,
     threads: &Queue,
     told: Option<u32>,
@@ -36,7 +36,7 @@ fn wake(
 {
     for i in 0..threads.len() {
         let thread = usize::from(threads.at(i).number());
-        let view = memory.copy()?;
+        let view = memory.share()?;
         if thread < harts.len() {
             let hart = &mut harts[thread];
             hart.return_with(view, 0, told);
@@ -47,7 +47,7 @@ fn wake(
 
 /// A thread begins, where one is created: it has the least number that is unused.
 fn begin(
-    harts: &mut Vec<Hart>,
+    harts: &mut Vec<Hart<Memory>>,
     memory: &Memory,
     created: Option<(u32, u32)>,
 ) -> Result<(), AllocError>
@@ -55,7 +55,7 @@ fn begin(
     ensures { OnOk result (harts.new.items ≡ with_created memory.now created harts.old.items) }
 {
     if let Some((pc, argument)) = created {
-        let view = memory.copy()?;
+        let view = memory.share()?;
         harts.push(Hart::first(view, harts.len() as u8, pc, argument))?;
     }
     Ok(())
@@ -67,7 +67,7 @@ fn begin(
 ///
 /// An error where the host's memory ran out.
 pub(super) fn settle(
-    harts: &mut Vec<Hart>,
+    harts: &mut Vec<Hart<Memory>>,
     memory: &Memory,
     t: u8,
     effect: &Effect,

@@ -15,11 +15,11 @@ ghost use Rattle.machine_spec.specs.Step as step;
 ghost use Rattle.machine_spec.specs.Whole.{IsWhole};
 
 use super::doing::{Written, asked, do_as_asked};
-use super::hart::Hart;
 use super::performing::{most_views, view_at, views_of, write_back};
 use super::put::put_bytes;
 use super::setup::Setup;
 use super::start::memory_of;
+use machine_calls::Hart;
 use machine_spec::{End, Status};
 use page_commit::committed;
 use page_map::PageMap;
@@ -50,7 +50,7 @@ pub struct Core {
     frame: Arc<Frame>,
     limit: u32,
     memory: Arc<PageTable>,
-    harts: Vec<Hart>,
+    harts: Vec<Hart<Arc<PageTable>>>,
     objects: Objects,
     output: Vec<u8>,
     steps: u32,
@@ -218,7 +218,11 @@ fn start_of(alloc: Global, setup: &Setup) -> Result<Arc<PageTable>, AllocError>
 }
 
 /// Thread 0 alone, at the executable's entry.
-fn first_harts(alloc: Global, memory: &Arc<PageTable>, entry: u32) -> Result<Vec<Hart>, AllocError>
+fn first_harts(
+    alloc: Global,
+    memory: &Arc<PageTable>,
+    entry: u32,
+) -> Result<Vec<Hart<Arc<PageTable>>>, AllocError>
     ensures { IfOk result (λ harts. harts.items ≡ first_hart (arc_value memory.now) 0 entry 0xC0000000 ∷ []) }
 {
     let view = Arc::try_clone(memory)?;

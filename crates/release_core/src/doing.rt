@@ -11,11 +11,11 @@ ghost use Rattle.machine_spec.specs.Whole.{IsTied};
 ghost use Rattle.release_core.specs.Doing.{harts_after, objects_after, own_end};
 ghost use Rattle.release_core.specs.Views.{AreViewsOf, most_views};
 
-use super::hart::Hart;
 use super::performing::settle;
 use call_effect::Effect;
 use guest_call::{Call, EFAULT, EINVAL, Fate};
 use isa_spec::Cause;
+use machine_calls::Hart;
 use machine_spec::{Asked, End, Status};
 use page_map::PageMap;
 use page_store::PageTable;
@@ -94,7 +94,7 @@ fn effect_of(map: &PageMap, objects: &mut Objects, t: u8, call: Call) -> Effect
 }
 
 /// Whether all threads have ended.
-fn have_all_ended(harts: &[Hart]) -> bool
+fn have_all_ended(harts: &[Hart<Arc<PageTable>>]) -> bool
     ensures { result ≡ list_all (λ (h : HartState). is_ended h.status) harts.now }
 {
     for hart in harts {
@@ -113,7 +113,7 @@ fn has_ended(status: Status) -> bool
 }
 
 /// Whether any thread is ready.
-fn is_any_ready(harts: &[Hart]) -> bool
+fn is_any_ready(harts: &[Hart<Arc<PageTable>>]) -> bool
     ensures { result ≡ list_any (λ (h : HartState). is_ready h.status) harts.now }
 {
     for hart in harts {
@@ -125,7 +125,7 @@ fn is_any_ready(harts: &[Hart]) -> bool
 }
 
 /// The end that the state makes.
-fn state_end(harts: &[Hart], limit: u32, steps: u32) -> Option<End>
+fn state_end(harts: &[Hart<Arc<PageTable>>], limit: u32, steps: u32) -> Option<End>
     ensures { result ≡ step.state_end harts.now limit steps }
 {
     if have_all_ended(harts) {
@@ -140,7 +140,7 @@ fn state_end(harts: &[Hart], limit: u32, steps: u32) -> Option<End>
 }
 
 /// The end after a call with this fate of its caller.
-fn end_after(fate: Fate, harts: &[Hart], limit: u32, steps: u32) -> Option<End>
+fn end_after(fate: Fate, harts: &[Hart<Arc<PageTable>>], limit: u32, steps: u32) -> Option<End>
     ensures { result ≡ step.end_after (step.fate_end fate) harts.now limit steps }
 {
     match fate {
@@ -166,7 +166,7 @@ pub struct Written<'a> {
 /// Does what thread `t` asks, after its thunk was written, and looks for the end.
 #[tactic(auto, using(crate::proofs::Asking::exists, crate::proofs::Asking::free, crate::proofs::Asking::below))]
 pub fn do_as_asked(
-    harts: &mut Vec<Hart>,
+    harts: &mut Vec<Hart<Arc<PageTable>>>,
     objects: &mut Objects,
     views: &mut Vec<Arc<PageTable>>,
     written: &Written<'_>,

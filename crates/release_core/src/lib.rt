@@ -4,7 +4,6 @@
 
 mod core_machine;
 mod doing;
-mod hart;
 mod history;
 mod performing;
 mod put;

@@ -10,9 +10,9 @@ ghost use Rattle.guest_call.specs.Objects.{created_count};
 ghost use Rattle.release_core.specs.Views.{AreViewsOf};
 ghost use Rattle.release_core.specs.Views as views;
 
-use super::hart::Hart;
 use call_effect::Effect;
 use guest_call::{Call, Fate, THREADS};
+use machine_calls::Hart;
 use machine_spec::{Asked, Status};
 use page_store::PageTable;
 use rv_alu::Regs;
@@ -21,7 +21,7 @@ use std::sync::Arc;
 use wait_queue::Queue;
 
 /// The view of thread `t`.
-pub fn view_at(harts: &[Hart], t: u8) -> &PageTable
+pub fn view_at(harts: &[Hart<Arc<PageTable>>], t: u8) -> &PageTable
     requires { t < length harts.now }
     ensures { result.now ≡ (hart_in harts.now t).view }
 {
@@ -30,7 +30,7 @@ pub fn view_at(harts: &[Hart], t: u8) -> &PageTable
 }
 
 /// Thread `t`'s thunk was written: its hart has the last registers, and has made one step more.
-pub fn write_back(harts: &mut Vec<Hart>, t: u8, regs: Regs)
+pub fn write_back(harts: &mut Vec<Hart<Arc<PageTable>>>, t: u8, regs: Regs)
     requires exists { t < length harts.old.items }
     requires few { (hart_in harts.old.items t).number < 2 ^ 32 - 1 }
     requires room { vec_len harts.old < vec_capacity harts.old }
@@ -88,7 +88,12 @@ fn next_view(memory: &Arc<PageTable>, views: &mut Vec<Arc<PageTable>>) -> Arc<Pa
 }
 
 /// What becomes of the caller's hart.
-fn meet_fate(hart: &mut Hart, memory: &Arc<PageTable>, views: &mut Vec<Arc<PageTable>>, fate: Fate)
+fn meet_fate(
+    hart: &mut Hart<Arc<PageTable>>,
+    memory: &Arc<PageTable>,
+    views: &mut Vec<Arc<PageTable>>,
+    fate: Fate,
+)
     requires some { 0 < vec_len views.old }
     requires views { AreViewsOf (arc_value memory.now) views.old.items }
     ensures hart { hart.new ≡ fated fate (arc_value memory.now) hart.old }
@@ -108,7 +113,7 @@ fn meet_fate(hart: &mut Hart, memory: &Arc<PageTable>, views: &mut Vec<Arc<PageT
 
 /// The calls of waiting threads return with 0, and each is told something or nothing.
 fn wake(
-    harts: &mut [Hart],
+    harts: &mut [Hart<Arc<PageTable>>],
     memory: &Arc<PageTable>,
     views: &mut Vec<Arc<PageTable>>,
     threads: &Queue,
@@ -132,7 +137,7 @@ fn wake(
 
 /// A thread begins, where one is created: it has the least number that is unused.
 fn begin(
-    harts: &mut Vec<Hart>,
+    harts: &mut Vec<Hart<Arc<PageTable>>>,
     memory: &Arc<PageTable>,
     views: &mut Vec<Arc<PageTable>>,
     created: Option<(u32, u32)>,
@@ -155,7 +160,7 @@ fn begin(
 
 /// Performs the effect of a call of thread `t`: the caller's fate, then the woken, then the created.
 pub fn settle(
-    harts: &mut Vec<Hart>,
+    harts: &mut Vec<Hart<Arc<PageTable>>>,
     memory: &Arc<PageTable>,
     views: &mut Vec<Arc<PageTable>>,
     t: u8,

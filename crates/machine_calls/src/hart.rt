@@ -1,10 +1,10 @@
 //! One hart, and what the effect of a call makes of it.
 
-ghost use Rattle.std.specs.Prelude.{◌≡◌, ◌<◌, ◌+◌, ◌*◌, ◌-◌, ◌^◌, suc};
+ghost use Rattle.std.specs.Prelude.{◌≡◌, ◌<◌, ◌≤◌, ◌+◌, ◌*◌, ◌-◌, ◌^◌, suc, Some, None};
 ghost use Rattle.machine_spec.specs.Performing.{answered, returned, first_registers, first_hart};
 ghost use Rattle.machine_spec.specs.Machine.{Hart as HartState};
 
-use super::memory::Memory;
+use super::view::View;
 use guest_call::THREADS;
 use machine_spec::Status;
 use rv_alu::Regs;
@@ -28,21 +28,21 @@ const STACKS: u32 = 0xD000_0000;
 /// How many bytes each stack has.
 const STACK_SIZE: u32 = 0x1_0000;
 
-/// A hart, as the thread that runs on it has it between two steps. Its view is a memory of its own.
+/// A hart, as the thread that runs on it has it between two steps.
 #[derive(Drop)]
-pub(super) struct Hart {
-    view: Memory,
+pub struct Hart<V: View> {
+    view: V,
     regs: Regs,
     number: u32,
     status: Status,
 }
 
-impl Model for Hart {
+impl<V: View> Model for Hart<V> {
     ghost use Rattle.machine_spec.specs.Machine.{Hart as HartState};
 
     ghost Value = { HartState };
 
-    ghost view = { λ h. record { view = h.view; regs = h.regs; number = h.number; status = h.status } };
+    ghost view = { λ h. record { view = V.pages h.view; regs = h.regs; number = h.number; status = h.status } };
 }
 
 /// The registers after an answer.
@@ -70,11 +70,11 @@ fn registers_of(t: u8, pc: u32, argument: u32) -> Regs
     regs
 }
 
-impl Hart {
+impl<V: View> Hart<V> {
     /// A hart at the start of thread `t`.
-    pub(super) fn first(view: Memory, t: u8, pc: u32, argument: u32) -> Hart
+    pub fn first(view: V, t: u8, pc: u32, argument: u32) -> Hart<V>
         requires { t < THREADS }
-        ensures { result ≡ first_hart view t pc argument }
+        ensures { result ≡ first_hart (V.pages view) t pc argument }
     {
         Hart {
             view,
@@ -85,8 +85,8 @@ impl Hart {
     }
 
     /// Its call returns: it has the answer and a new view, and is ready.
-    pub(super) fn return_with(&mut self, view: Memory, a0: u32, a1: Option<u32>)
-        ensures { self.new ≡ returned view a0 a1 self.old }
+    pub fn return_with(&mut self, view: V, a0: u32, a1: Option<u32>)
+        ensures { self.new ≡ returned (V.pages view) a0 a1 self.old }
     {
         self.view = view;
         answer(&mut self.regs, a0, a1);
@@ -94,14 +94,14 @@ impl Hart {
     }
 
     /// It has another status.
-    pub(super) fn set_status(&mut self, status: Status)
+    pub fn set_status(&mut self, status: Status)
         ensures { self.new ≡ record self.old { status = status } }
     {
         self.status = status;
     }
 
     /// Its thunk was written: it has these registers, and has made one step more.
-    pub(super) fn write_back(&mut self, regs: Regs)
+    pub fn write_back(&mut self, regs: Regs)
         requires { self.old.number < 2 ^ 32 - 1 }
         ensures { self.new ≡ record self.old { regs = regs; number = suc self.old.number } }
     {
@@ -110,29 +110,29 @@ impl Hart {
     }
 
     /// Its status.
-    pub(super) fn status(&self) -> Status
+    pub fn status(&self) -> Status
         ensures { result ≡ self.now.status }
     {
         self.status
     }
 
     /// How many steps it has made.
-    pub(super) fn number(&self) -> u32
+    pub fn number(&self) -> u32
         ensures { result ≡ self.now.number }
     {
         self.number
     }
 
     /// Its registers.
-    pub(super) fn regs(&self) -> &Regs
+    pub fn regs(&self) -> &Regs
         ensures { result.now ≡ self.now.regs }
     {
         &self.regs
     }
 
     /// Its view.
-    pub(super) fn view(&self) -> &Memory
-        ensures { result.now ≡ self.now.view }
+    pub fn view(&self) -> &V
+        ensures { V.pages result.now ≡ self.now.view }
     {
         &self.view
     }
