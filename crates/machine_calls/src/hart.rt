@@ -1,6 +1,6 @@
-//! One hart, and what the effect of a call makes of it.
+//! One hart, and what the effect of a call makes of it; and the harts at the start of a run.
 
-ghost use Rattle.std.specs.Prelude.{◌≡◌, ◌<◌, ◌≤◌, ◌+◌, ◌*◌, ◌-◌, ◌^◌, suc, Some, None};
+ghost use Rattle.std.specs.Prelude.{◌≡◌, ◌<◌, ◌≤◌, ◌+◌, ◌*◌, ◌-◌, ◌^◌, [], ◌∷◌, suc, IfOk};
 ghost use Rattle.machine_spec.specs.Performing.{answered, returned, first_registers, first_hart};
 ghost use Rattle.machine_spec.specs.Machine.{Hart as HartState};
 
@@ -8,6 +8,7 @@ use super::view::View;
 use guest_call::THREADS;
 use machine_spec::Status;
 use rv_alu::Regs;
+use std::alloc::{AllocError, Global};
 use std::marker::Model;
 
 /// The stack pointer (RISC-V ELF psABI, Register Convention).
@@ -72,7 +73,7 @@ fn registers_of(t: u8, pc: u32, argument: u32) -> Regs
 
 impl<V: View> Hart<V> {
     /// A hart at the start of thread `t`.
-    pub fn first(view: V, t: u8, pc: u32, argument: u32) -> Hart<V>
+    pub(super) fn first(view: V, t: u8, pc: u32, argument: u32) -> Hart<V>
         requires { t < THREADS }
         ensures { result ≡ first_hart (V.pages view) t pc argument }
     {
@@ -85,7 +86,7 @@ impl<V: View> Hart<V> {
     }
 
     /// Its call returns: it has the answer and a new view, and is ready.
-    pub fn return_with(&mut self, view: V, a0: u32, a1: Option<u32>)
+    pub(super) fn return_with(&mut self, view: V, a0: u32, a1: Option<u32>)
         ensures { self.new ≡ returned (V.pages view) a0 a1 self.old }
     {
         self.view = view;
@@ -94,14 +95,14 @@ impl<V: View> Hart<V> {
     }
 
     /// It has another status.
-    pub fn set_status(&mut self, status: Status)
+    pub(super) fn set_status(&mut self, status: Status)
         ensures { self.new ≡ record self.old { status = status } }
     {
         self.status = status;
     }
 
     /// Its thunk was written: it has these registers, and has made one step more.
-    pub fn write_back(&mut self, regs: Regs)
+    pub(super) fn write_back(&mut self, regs: Regs)
         requires { self.old.number < 2 ^ 32 - 1 }
         ensures { self.new ≡ record self.old { regs = regs; number = suc self.old.number } }
     {
@@ -136,4 +137,22 @@ impl<V: View> Hart<V> {
     {
         &self.view
     }
+}
+
+/// The harts at the start of a run: thread 0 alone, at the executable's entry.
+///
+/// # Errors
+///
+/// An error where the host's memory ran out.
+pub fn first_harts<V: View>(
+    alloc: Global,
+    memory: &V,
+    entry: u32,
+) -> Result<Vec<Hart<V>>, AllocError>
+    ensures { IfOk result (λ harts. harts.items
+        ≡ first_hart (V.pages memory.now) 0 entry 0xC0000000 ∷ []) }
+{
+    let mut harts = Vec::new(alloc);
+    harts.push(Hart::first(memory.share()?, 0, entry, 0xC000_0000))?;
+    Ok(harts)
 }

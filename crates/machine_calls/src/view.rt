@@ -3,12 +3,16 @@
 ghost use Rattle.std.specs.Prelude.{◌≡◌, IfOk};
 ghost use Rattle.std.specs.Arc.{arc_value};
 ghost use Rattle.memory_spec.specs.Pages.{Memory};
+ghost use Rattle.thunk_spec.specs.Put.{is_readable};
+ghost use Rattle.guest_call.specs.Objects.{appends};
 
+use page_map::PageMap;
 use page_store::PageTable;
 use std::alloc::AllocError;
 use std::sync::Arc;
+use thunk_run::Range;
 
-/// A memory that may be the view of a thread: others of the same bytes can be made of it.
+/// A memory that may be the view of a thread.
 pub trait View: Drop {
     ghost pages: { Self → Memory };
 
@@ -19,6 +23,10 @@ pub trait View: Drop {
     /// An error where the host's memory ran out.
     fn share(&self) -> Result<Self, AllocError>
         ensures { IfOk result (λ other. pages other ≡ pages self.now) };
+
+    /// Whether a put appends its bytes: there are some, no more than 4,096, and all may be read.
+    fn appends_all(map: &PageMap, start: u32, count: u32) -> bool
+        ensures { result ≡ appends (is_readable map.now) start count };
 }
 
 impl View for Arc<PageTable> {
@@ -26,5 +34,9 @@ impl View for Arc<PageTable> {
 
     fn share(&self) -> Result<Self, AllocError> {
         Arc::try_clone(self)
+    }
+
+    fn appends_all(map: &PageMap, start: u32, count: u32) -> bool {
+        thunk_run::appends_all(map, Range { start, len: count })
     }
 }

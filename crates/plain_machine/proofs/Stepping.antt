@@ -14,7 +14,7 @@ use Rattle.plain_machine.specs.declared.machine.Made.{Made}
 use Rattle.plain_machine.specs.declared.thunk.Done.{Done}
 use Rattle.plain_machine.specs.Stored.{bytes_of}
 use Rattle.plain_machine.specs.Turning.{IsDone}
-use Rattle.plain_machine.specs.Doing.{harts_after, objects_after, own_end, effect_made}
+use Rattle.machine_calls.specs.Doing.{harts_after, objects_after, own_end, effect_made}
 use Rattle.plain_machine.specs.Making.{thunk_of, IsMade}
 
 -- what was asked is done part by part

@@ -9,8 +9,10 @@ ghost use Rattle.memory_spec.specs.Access.{byte_count};
 ghost use Rattle.memory_spec.specs.Pages.{page_of};
 ghost use Rattle.plain_machine.specs.Stored.{byte_of, with_number};
 
+use super::put::appends_all;
 use machine_calls::View;
 use memory_spec::{PAGE_SIZE, Size};
+use page_map::PageMap;
 use page_store::Page;
 use std::alloc::{AllocError, Global};
 use std::marker::Model;
@@ -98,6 +100,10 @@ impl View for Memory {
             alloc: self.alloc,
             pages: shared(self.alloc, &self.pages)?,
         })
+    }
+
+    fn appends_all(map: &PageMap, start: u32, count: u32) -> bool {
+        appends_all(map, start, count)
     }
 }
 

@@ -12,7 +12,7 @@ use Rattle.machine_spec.specs.Machine.{Machine, Hart, hart_of, is_ready}
 use Rattle.machine_spec.specs.declared.states.Asked.{Asked}
 use Rattle.machine_spec.specs.declared.states.Asked.TheVariants.{Asks, Stops}
 use Rattle.machine_spec.specs.Step.{written, asked, end_after, done_as_asked, finished, lay, fits}
-use Rattle.release_core.specs.Doing.{harts_after, objects_after, own_end}
+use Rattle.machine_calls.specs.Doing.{harts_after, objects_after, own_end}
 
 -- what was asked is done part by part
 pub done-parts :

@@ -3,7 +3,6 @@
 #![tactic(auto)]
 
 mod core_machine;
-mod doing;
 mod history;
 mod performing;
 mod put;

@@ -15,7 +15,7 @@ use Rattle.guest_call.specs.Conditions.{Condition, Leaving, admit_each, cond_wai
 use Rattle.guest_call.specs.RwLocks.{RwLock, unheld, holds, is_held, reads, rdlock_row, wrlock_row, trywrlock_row}
 use Rattle.guest_call.specs.Threads.{Member, member_at, waiting_joiner, joins, create_row, join_row}
 use Rattle.machine_spec.specs.declared.states.Asked.TheVariants.{Asks}
-use Rattle.release_core.specs.Views.{most_views}
+use Rattle.machine_calls.specs.Views.{most_views}
 
 -- an effect wakes one thread at most
 abbrev Few : Effect → Type 0

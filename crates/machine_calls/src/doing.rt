@@ -1,21 +1,21 @@
 //! What follows the writing of a thunk: the call that it asks for, and the end that is looked for.
 
-ghost use Rattle.std.specs.Prelude.{◌≡◌, ◌<◌, ◌≤◌, ◌+◌, true, length, IfOk, OnOk};
-ghost use Rattle.std.specs.List.{list_all, list_any};
+ghost use Rattle.std.specs.Prelude.{◌≡◌, ◌<◌, ◌≤◌, ◌+◌, ◌⊎◌, true, length, vec_len, vec_capacity, IfOk, OnOk, OnErr};
 ghost use Rattle.thunk_spec.specs.Put.{is_readable};
 ghost use Rattle.guest_call.specs.Objects as rows;
 ghost use Rattle.machine_spec.specs.Step as step;
 ghost use Rattle.machine_spec.specs.Machine.{Hart as HartState, hart_in, is_ready, is_ended};
+ghost use Rattle.std.specs.List.{list_all, list_any};
 ghost use Rattle.machine_spec.specs.Whole.{IsTied};
-ghost use Rattle.plain_machine.specs.Doing.{harts_after, objects_after, own_end, effect_made};
+ghost use Rattle.machine_calls.specs.Doing.{harts_after, objects_after, own_end, effect_made};
+ghost use Rattle.machine_calls.specs.Views.{AreViewsOf, most_views};
 
-use super::memory::Memory;
+use super::hart::Hart;
 use super::performing::settle;
-use super::put::appends_all;
+use super::view::View;
 use call_effect::Effect;
 use guest_call::{Call, EFAULT, EINVAL, Fate};
 use isa_spec::Cause;
-use machine_calls::Hart;
 use machine_spec::{Asked, End, Status};
 use page_map::PageMap;
 use rv_alu::Regs;
@@ -24,7 +24,7 @@ use sync_objects::Objects;
 use thunk_spec::ThunkEnd;
 
 /// What thread `t`'s thunk with this end and these last registers asks of the machine.
-pub(super) fn asked(t: u8, end: ThunkEnd, regs: &Regs) -> Asked
+pub fn asked(t: u8, end: ThunkEnd, regs: &Regs) -> Asked
     ensures { result ≡ step.asked t end regs.now }
 {
     match end {
@@ -56,14 +56,14 @@ fn trap(t: u8, regs: &Regs, cause: Cause) -> Asked
 }
 
 /// What a put answers: how many bytes it appends, or why it appends none.
-fn put_answer(map: &PageMap, address: u32, count: u32) -> u32
+fn put_answer<V: View>(map: &PageMap, address: u32, count: u32) -> u32
     ensures { result ≡ rows.put_answer (is_readable map.now) address count }
 {
     if count > 4096 {
         EINVAL
     } else if count == 0 {
         0
-    } else if appends_all(map, address, count) {
+    } else if V::appends_all(map, address, count) {
         count
     } else {
         EFAULT
@@ -71,13 +71,13 @@ fn put_answer(map: &PageMap, address: u32, count: u32) -> u32
 }
 
 /// What a call of thread `t` does.
-fn effect_of(map: &PageMap, objects: &mut Objects, t: u8, call: Call) -> Effect
+fn effect_of<V: View>(map: &PageMap, objects: &mut Objects, t: u8, call: Call) -> Effect
     requires exists { t < length objects.old.threads }
     requires free { rows.waits_at objects.old t ≡ 0 }
     ensures { (result, objects.new) ≡ rows.act (is_readable map.now) objects.old t call }
 {
     match call {
-        Call::Put(address, count) => Effect::answers(put_answer(map, address, count)),
+        Call::Put(address, count) => Effect::answers(put_answer::<V>(map, address, count)),
         other => match objects.thread(t) {
             Some(thread) => objects.act(thread, other),
             None => unreachable!(),
@@ -86,7 +86,7 @@ fn effect_of(map: &PageMap, objects: &mut Objects, t: u8, call: Call) -> Effect
 }
 
 /// Whether all threads have ended.
-fn have_all_ended(harts: &[Hart<Memory>]) -> bool
+fn have_all_ended<V: View>(harts: &[Hart<V>]) -> bool
     ensures { result ≡ list_all (λ (h : HartState). is_ended h.status) harts.now }
 {
     for hart in harts {
@@ -105,7 +105,7 @@ fn has_ended(status: Status) -> bool
 }
 
 /// Whether any thread is ready.
-fn is_any_ready(harts: &[Hart<Memory>]) -> bool
+fn is_any_ready<V: View>(harts: &[Hart<V>]) -> bool
     ensures { result ≡ list_any (λ (h : HartState). is_ready h.status) harts.now }
 {
     for hart in harts {
@@ -117,7 +117,7 @@ fn is_any_ready(harts: &[Hart<Memory>]) -> bool
 }
 
 /// The end that the state makes.
-fn state_end(harts: &[Hart<Memory>], limit: u32, steps: u32) -> Option<End>
+fn state_end<V: View>(harts: &[Hart<V>], limit: u32, steps: u32) -> Option<End>
     ensures { result ≡ step.state_end harts.now limit steps }
 {
     if have_all_ended(harts) {
@@ -132,7 +132,7 @@ fn state_end(harts: &[Hart<Memory>], limit: u32, steps: u32) -> Option<End>
 }
 
 /// The end after a call with this fate of its caller.
-fn end_after(fate: Fate, harts: &[Hart<Memory>], limit: u32, steps: u32) -> Option<End>
+fn end_after<V: View>(fate: Fate, harts: &[Hart<V>], limit: u32, steps: u32) -> Option<End>
     ensures { result ≡ step.end_after (step.fate_end fate) harts.now limit steps }
 {
     match fate {
@@ -144,53 +144,63 @@ fn end_after(fate: Fate, harts: &[Hart<Memory>], limit: u32, steps: u32) -> Opti
 /// What a thunk that was written left, as far as the call after it doesn't change it: the page map, shared memory, the
 /// step limit, and how many steps were made.
 #[derive(Clone, Copy)]
-pub(super) struct Written<'a> {
+pub struct Written<'a, V: View> {
     /// The page map.
-    pub(super) map: &'a PageMap,
+    pub map: &'a PageMap,
     /// Shared memory, with the thunk's stores.
-    pub(super) memory: &'a Memory,
+    pub memory: &'a V,
     /// The most steps of the run.
-    pub(super) limit: u32,
+    pub limit: u32,
     /// How many steps were made, this one among them.
-    pub(super) steps: u32,
+    pub steps: u32,
 }
 
 /// What was done as a thread asked.
 #[derive(Drop)]
-pub(super) struct Acted {
+pub struct Acted {
     /// How the run ended, if it has.
-    pub(super) ending: Option<End>,
+    pub ending: Option<End>,
     /// What the call did to the threads, if one was made.
-    pub(super) effect: Option<Effect>,
+    pub effect: Option<Effect>,
 }
 
-/// Does what thread `t` asks, after its thunk was written, and looks for the end.
+/// Does what thread `t` asks, after its thunk was written, and looks for the end. The views that are given are those
+/// that were made ahead, and others where these don't suffice.
 ///
 /// # Errors
 ///
-/// An error where the host's memory ran out.
+/// An error where the host's memory ran out, and only where there was no room for another hart, or fewer views were made
+/// ahead than can be given.
 #[tactic(auto, using(crate::proofs::Asking::exists, crate::proofs::Asking::free, crate::proofs::Asking::below))]
-pub(super) fn do_as_asked(
-    harts: &mut Vec<Hart<Memory>>,
+pub fn do_as_asked<V: View>(
+    harts: &mut Vec<Hart<V>>,
     objects: &mut Objects,
-    written: &Written<'_>,
+    views: &mut Vec<V>,
+    written: &Written<'_, V>,
     t: u8,
     asked: Asked,
 ) -> Result<Acted, AllocError>
     requires tied { IsTied objects.old harts.old.items }
     requires ready { is_ready (hart_in harts.old.items t).status ≡ true }
+    requires views { AreViewsOf V.pages (V.pages written.now.memory.now) views.old.items }
     ensures harts { OnOk result (harts.new.items
-        ≡ harts_after written.now.map.now objects.old written.now.memory.now t harts.old.items asked) }
-    ensures objects { OnOk result (objects.new ≡ objects_after written.now.map.now objects.old t asked) }
+        ≡ harts_after written.now.map.now objects.old (V.pages written.now.memory.now) t
+        harts.old.items asked) }
+    ensures objects { OnOk result (objects.new
+        ≡ objects_after written.now.map.now objects.old t asked) }
     ensures ending { IfOk result (λ acted. acted.ending
         ≡ step.end_after (own_end written.now.map.now objects.old t asked) harts.new.items
         written.now.limit written.now.steps) }
-    ensures effect { IfOk result (λ acted. acted.effect ≡ effect_made written.now.map.now objects.old t asked) }
+    ensures effect { IfOk result (λ acted. acted.effect
+        ≡ effect_made written.now.map.now objects.old t asked) }
+    ensures full { OnErr result (vec_capacity harts.old ≤ vec_len harts.old
+        ⊎ vec_len views.old < most_views asked) }
 {
     match asked {
         Asked::Asks(call) => {
-            let effect = effect_of(written.map, objects, t, call);
-            settle(harts, written.memory, t, &effect)?;
+            let effect = effect_of::<V>(written.map, objects, t, call);
+            let _woken = effect.woken().len();
+            settle(harts, written.memory, views, t, &effect)?;
             let ending = end_after(
                 effect.fate(),
                 harts.as_slice(),

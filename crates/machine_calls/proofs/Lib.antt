@@ -1,0 +1,3 @@
+-- The files of lemmas of this crate.
+pub mod Asking
+mod Giving
