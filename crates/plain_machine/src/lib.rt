@@ -13,7 +13,6 @@ mod memory;
 mod pages;
 mod put;
 mod replaying;
-mod start;
 mod stores;
 mod thunk;
 mod work;
