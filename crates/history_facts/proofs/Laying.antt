@@ -16,7 +16,7 @@ use Rattle.machine_spec.specs.Step.{can_step}
 use Rattle.history_spec.proofs.Laying.{fits-can_step}
 use Rattle.release_core.specs.Applying.{can_apply}
 use Rattle.release_core.proofs.Laying.{fitting_can}
-use Rattle.release_core.proofs.Asking.{exists, free}
+use Rattle.machine_calls.proofs.Asking.{exists, free}
 use Rattle.order_spec.specs.Facts.{ask_of, acted, effect_of, served}
 use Rattle.history_facts.specs.Asking.{call_in}
 

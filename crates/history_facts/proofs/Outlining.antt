@@ -24,7 +24,7 @@ use Rattle.history_spec.proofs.Numbers.{one_for, first-number, lay-number}
 use Rattle.order_spec.specs.Facts.{Fact, ask_of, acted, effect_of, objects_of, served_by, written_slots, read_by, fact_of}
 use Rattle.order_spec.proofs.After.{lay-length, lay-objects}
 use Rattle.release_core.specs.Applying.{can_apply}
-use Rattle.release_core.proofs.Asking.{few_numbers}
+use Rattle.machine_calls.proofs.Asking.{few_numbers}
 use Rattle.history_facts.specs.declared.outline.Outline.{Outline}
 use Rattle.history_facts.specs.Outlining.{machine_at, numbered, IsOutlineOf, MayBeLaid}
 use Rattle.history_facts.proofs.Laying.{ready, can-make}

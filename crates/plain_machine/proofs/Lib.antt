@@ -1,5 +1,4 @@
 -- The files of lemmas of this crate.
-mod Asking
 mod Fetching
 mod Laying
 mod Merging

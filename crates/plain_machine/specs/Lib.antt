@@ -4,6 +4,5 @@ pub mod Merging
 pub mod Fetching
 pub mod Works
 pub mod Turning
-pub mod Doing
 pub mod Making
 pub mod Replaying

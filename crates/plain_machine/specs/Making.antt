@@ -6,7 +6,7 @@ use Rattle.machine_spec.specs.declared.states.Asked.{Asked}
 use Rattle.machine_spec.specs.Step.{asked}
 use Rattle.plain_machine.specs.declared.machine.Made.{Made}
 use Rattle.plain_machine.specs.declared.thunk.Done.{Done}
-use Rattle.plain_machine.specs.Doing.{effect_made}
+use Rattle.machine_calls.specs.Doing.{effect_made}
 
 -- The thunk of a thread's next step.
 abbrev pub thunk_of : Machine → ℕ → Thunk

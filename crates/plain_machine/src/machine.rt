@@ -1,27 +1,23 @@
 //! The plain machine, one step at a time.
 
-ghost use Rattle.std.specs.Prelude.{◌≡◌, ◌<◌, ◌≤◌, ◌+◌, ◌-◌, ◌^◌, true, [], ◌∷◌, length, slice_set, IfOk, OnOk};
+ghost use Rattle.std.specs.Prelude.{◌≡◌, ◌<◌, ◌≤◌, ◌+◌, true, length, IfOk, OnOk};
 ghost use Rattle.std.specs.Arc.{arc_value};
 ghost use Rattle.machine_spec.specs.Machine.{Machine, hart_of, hart_in, is_ready};
-ghost use Rattle.machine_spec.specs.Setup.{first, map_of, start_memory};
-ghost use Rattle.machine_spec.specs.Performing.{first_hart};
+ghost use Rattle.machine_spec.specs.Setup.{first, map_of};
 ghost use Rattle.machine_spec.specs.Step as step;
 ghost use Rattle.machine_spec.specs.Whole.{IsTied, IsWhole};
-ghost use Rattle.plain_machine.specs.Doing.{harts_after, objects_after, own_end, effect_made};
+ghost use Rattle.machine_calls.specs.Doing.{harts_after, objects_after, own_end, effect_made};
 ghost use Rattle.plain_machine.specs.Making.{IsMade, asked_by};
 
-use super::acting::{Written, asked, do_as_asked};
-use super::hart::Hart;
 use super::memory::Memory;
-use super::start::memory_of;
 use super::stores::lay_all;
 use super::thunk::{Done, run};
 use call_effect::Effect;
+use machine_calls::{Hart, Written, asked, do_as_asked, first_harts, write_back};
 use machine_spec::{Asked, End, Status};
 use page_map::PageMap;
 use page_store::PageTable;
 use release_core::Setup;
-use rv_alu::Regs;
 use std::alloc::{AllocError, Global};
 use std::marker::Model;
 use std::sync::Arc;
@@ -47,7 +43,7 @@ pub struct PlainMachine {
     fuel: u32,
     limit: u32,
     memory: Memory,
-    harts: Vec<Hart>,
+    harts: Vec<Hart<Memory>>,
     objects: Objects,
     output: Vec<u8>,
     steps: u32,
@@ -163,15 +159,6 @@ impl PlainMachine {
     }
 }
 
-/// Thread 0 alone, at the executable's entry.
-fn first_harts(alloc: Global, memory: &Memory, entry: u32) -> Result<Vec<Hart>, AllocError>
-    ensures { IfOk result (λ harts. harts.items ≡ first_hart memory.now 0 entry 0xC0000000 ∷ []) }
-{
-    let mut harts = Vec::new(alloc);
-    harts.push(Hart::first(memory.copy()?, 0, entry, 0xC000_0000))?;
-    Ok(harts)
-}
-
 impl PlainMachine {
     /// The machine that a setup starts as.
     ///
@@ -185,7 +172,7 @@ impl PlainMachine {
         setup.sound();
         machine_spec::first_is_whole();
         let map = Arc::new(alloc, setup.page_map(alloc)?)?;
-        let memory = memory_of(alloc, setup)?;
+        let memory = Memory::of(alloc, &setup.memory(alloc)?)?;
         let harts = first_harts(alloc, &memory, setup.image().entry)?;
         Ok(PlainMachine {
             alloc,
@@ -203,21 +190,11 @@ impl PlainMachine {
 }
 
 /// The hart of thread `t`, which exists.
-fn hart_at(harts: &Vec<Hart>, t: u8) -> &Hart
+fn hart_at(harts: &Vec<Hart<Memory>>, t: u8) -> &Hart<Memory>
     requires { t < length harts.now.items }
     ensures { result.now ≡ hart_in harts.now.items t }
 {
     &harts[usize::from(t)]
-}
-
-/// Thread `t`'s thunk was written: its hart has the last registers, and has made one step more.
-fn write_back(harts: &mut Vec<Hart>, t: u8, regs: Regs)
-    requires exists { t < length harts.old.items }
-    requires few { (hart_in harts.old.items t).number < 2 ^ 32 - 1 }
-    ensures { harts.new.items ≡ slice_set harts.old.items t (step.advanced (hart_in harts.old.items t) regs) }
-{
-    let hart = &mut harts[usize::from(t)];
-    hart.write_back(regs);
 }
 
 /// Does what thread `t`'s thunk asks, after it was written, and looks for the end: what the step did, and how the run
@@ -227,9 +204,10 @@ fn write_back(harts: &mut Vec<Hart>, t: u8, regs: Regs)
 ///
 /// An error where the host's memory ran out.
 fn finish(
-    harts: &mut Vec<Hart>,
+    alloc: Global,
+    harts: &mut Vec<Hart<Memory>>,
     objects: &mut Objects,
-    written: &Written<'_>,
+    written: &Written<'_, Memory>,
     t: u8,
     done: &Done,
 ) -> Result<(Made, Option<End>), AllocError>
@@ -247,7 +225,8 @@ fn finish(
         ≡ effect_made written.now.map.now objects.old t (asked_by t done.now)) }
 {
     let asked = asked(t, done.end, &done.regs);
-    let acted = do_as_asked(harts, objects, written, t, asked)?;
+    let mut views = Vec::new(alloc);
+    let acted = do_as_asked(harts, objects, &mut views, written, t, asked)?;
     let made = Made {
         count: done.count,
         asked,
@@ -263,7 +242,7 @@ impl PlainMachine {
     /// # Errors
     ///
     /// An error where the host's memory ran out; the machine is gone then.
-    #[tactic(auto, using(crate::proofs::Asking::below))]
+    #[tactic(auto, using(machine_calls::proofs::Asking::below))]
     pub fn step(self, t: u8, turns: &mut Turns) -> Result<(PlainMachine, Made), AllocError>
         requires { step.can_step self t ≡ true }
         ensures machine { IfOk result (λ r. r.0 ≡ step.step self t) }
@@ -296,7 +275,7 @@ impl PlainMachine {
             limit,
             steps: steps + 1,
         };
-        let (made, ending) = finish(&mut harts, &mut objects, &written, t, &done)?;
+        let (made, ending) = finish(alloc, &mut harts, &mut objects, &written, t, &done)?;
         let machine = PlainMachine {
             alloc,
             map,

@@ -9,8 +9,11 @@ ghost use Rattle.memory_spec.specs.Access.{byte_count};
 ghost use Rattle.memory_spec.specs.Pages.{page_of};
 ghost use Rattle.plain_machine.specs.Stored.{byte_of, with_number};
 
+use super::put::appends_all;
+use machine_calls::View;
 use memory_spec::{PAGE_SIZE, Size};
-use page_store::Page;
+use page_map::PageMap;
+use page_store::{Page, PageTable};
 use std::alloc::{AllocError, Global};
 use std::marker::Model;
 use std::rc::Rc;
@@ -89,41 +92,35 @@ fn shared(alloc: Global, pages: &[Rc<Page>]) -> Result<Vec<Rc<Page>>, AllocError
     Ok(shared)
 }
 
-impl Memory {
-    /// A memory with no page.
-    pub(super) fn empty(alloc: Global) -> Memory
-        ensures { result ≡ [] }
-    {
-        Memory {
-            alloc,
-            pages: Vec::new(alloc),
-        }
-    }
+impl View for Memory {
+    ghost pages = { λ memory. memory };
 
-    /// Puts a page into the next slot.
-    ///
-    /// # Errors
-    ///
-    /// An error where the host's memory ran out.
-    pub(super) fn push(&mut self, page: Page) -> Result<(), AllocError>
-        ensures { OnOk result (self.new ≡ self.old ++ page ∷ []) }
-    {
-        self.pages.push(Rc::new(self.alloc, page)?)?;
-        Ok(())
-    }
-
-    /// Another memory with the same bytes. No byte is copied.
-    ///
-    /// # Errors
-    ///
-    /// An error where the host's memory ran out.
-    pub(super) fn copy(&self) -> Result<Memory, AllocError>
-        ensures { IfOk result (λ copy. copy ≡ self.now) }
-    {
+    fn share(&self) -> Result<Memory, AllocError> {
         Ok(Memory {
             alloc: self.alloc,
             pages: shared(self.alloc, &self.pages)?,
         })
+    }
+
+    fn appends_all(map: &PageMap, start: u32, count: u32) -> bool {
+        appends_all(map, start, count)
+    }
+}
+
+impl Memory {
+    /// A memory of copies of a table's pages.
+    ///
+    /// # Errors
+    ///
+    /// An error where the host's memory ran out.
+    pub(super) fn of(alloc: Global, table: &PageTable) -> Result<Memory, AllocError>
+        ensures { IfOk result (λ memory. memory ≡ table.now) }
+    {
+        let mut pages = Vec::with_capacity(alloc, table.len())?;
+        for slot in 0..table.len() {
+            pages.push(Rc::new(alloc, table.page(slot).copy())?)?;
+        }
+        Ok(Memory { alloc, pages })
     }
 
     /// How many pages there are.

@@ -12,6 +12,7 @@ ghost use Rattle.plain_machine.specs.Stored.{bytes_of};
 use super::memory::Memory;
 use super::pages::{LastPage, code_slot, offset_of, permitted};
 use super::stores::{Stored, lay};
+use machine_calls::View;
 use memory_spec::{MemoryError, PAGE_SIZE, Size};
 use page_map::{Mem, PageMap};
 use page_store::Page;
@@ -153,7 +154,7 @@ impl Work {
     {
         Ok(Work {
             map: Arc::try_clone(map)?,
-            memory: view.copy()?,
+            memory: view.share()?,
             stores: Vec::new(alloc),
             last: LastPage::none(),
         })

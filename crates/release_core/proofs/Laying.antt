@@ -1,5 +1,5 @@
 -- Laying a record, part by part.
-use Rattle.std.proofs.Common.{◌≡◌, ℕ, suc, true, List, [], ◌∷◌, ◌++◌, Option, length, set, refl, sym, ◌∙◌, arith}
+use Rattle.std.proofs.Common.{◌≡◌, ℕ, suc, true, List, [], ◌∷◌, ◌++◌, Option, length, set, refl, ap, ◌∙◌, arith}
 use Rattle.std.proofs.lemmas.Bool.{and_parts}
 use Rattle.std.proofs.lemmas.List.{length-set, get_or_past}
 use Rattle.memory_spec.specs.Pages.{Mapped, Memory, page_of, slot_of}
@@ -10,36 +10,16 @@ use Rattle.guest_call.specs.Objects.{Objects}
 use Rattle.machine_spec.specs.declared.states.End.{End}
 use Rattle.machine_spec.specs.Machine.{Machine, Hart, hart_of, is_ready}
 use Rattle.machine_spec.specs.declared.states.Asked.{Asked}
-use Rattle.machine_spec.specs.declared.states.Asked.TheVariants.{Asks, Stops}
-use Rattle.machine_spec.specs.Step.{written, asked, end_after, done_as_asked, finished, lay, fits}
-use Rattle.release_core.specs.Doing.{harts_after, objects_after, own_end}
-
--- what was asked is done part by part
-pub done-parts :
-    (m : Machine) (t : ℕ) (a : Asked)
-    → done_as_asked m t a
-    ≡ record m {
-      harts = harts_after m.frame.map m.objects m.memory t m.harts a;
-      objects = objects_after m.frame.map m.objects t a;
-      ending = end_after (own_end m.frame.map m.objects t a)
-          (harts_after m.frame.map m.objects m.memory t m.harts a) m.limit m.steps;
-    }
-done-parts m t (Asks call) = refl
-done-parts m t (Stops e) = refl
+use Rattle.machine_spec.specs.Step.{advanced, asked, end_after, finished, lay, fits}
+use Rattle.machine_calls.specs.Doing.{harts_after, objects_after, own_end}
+use Rattle.machine_calls.proofs.Finishing.{finished-parts}
 
 -- the machine's parts, each as the code makes it, are the machine after a record was laid
 pub laid-parts :
     (m : Machine) (r : Record) (memory : Memory) (written done : List Hart) (objects : Objects) (put output : List ℕ)
     (steps : ℕ) (ending : Option End) (a : Asked)
     → memory ≡ masked m.memory r.kept.delta
-    → written ≡ set m.harts r.thread
-    (record {
-      view = (hart_of m r.thread).view;
-      regs = r.kept.finish;
-      number =
-          suc (hart_of m r.thread).number;
-      status = (hart_of m r.thread).status;
-    })
+    → written ≡ set m.harts r.thread (advanced (hart_of m r.thread) r.kept.finish)
     → a ≡ asked r.thread r.kept.end r.kept.finish
     → put ≡ put_of m.frame.map (hart_of m r.thread).view r.kept
     → output ≡ m.output ++ put
@@ -58,13 +38,13 @@ pub laid-parts :
       steps = steps;
       ending = ending;
     } ≡ lay m r
-unfolding lay finished
-laid-parts m r memory written_harts done objects put output steps ending a is_memory is_written is_asked is_put
-    is_output is_steps is_done is_objects is_ending =
-    rw (is_objects, is_ending, is_done, is_output, is_put, is_steps, is_written, is_asked, is_memory)
-    (sym (done-parts (written m r.thread (masked m.memory r.kept.delta) r.kept.finish
-    (put_of m.frame.map (hart_of m r.thread).view r.kept)) r.thread
-    (asked r.thread r.kept.end r.kept.finish)))
+unfolding lay
+laid-parts m r memory written done objects put output steps ending a is_memory is_written is_asked is_put is_output
+    is_steps is_done is_objects is_ending =
+    finished-parts m r.thread memory r.kept.finish r.kept.end put output written done objects steps ending a is_written
+    is_asked is_output is_steps is_done is_objects is_ending
+    ∙ ap (λ after. finished m r.thread after r.kept.finish r.kept.end put) is_memory
+    ∙ ap (finished m r.thread (masked m.memory r.kept.delta) r.kept.finish r.kept.end) is_put
 
 -- as many pages as before
 pub masked_count : (m : Memory) (delta : List PageDelta) → length (masked m delta) ≡ length m

@@ -1,7 +1,5 @@
 -- The files of lemmas of this crate.
 pub mod DataPages
-pub mod Asking
-mod Giving
 pub mod Laying
 pub mod Placing
 mod Putting

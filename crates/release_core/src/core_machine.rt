@@ -4,22 +4,19 @@ ghost use Rattle.std.specs.Prelude.{◌≡◌, ◌<◌, ◌≤◌, ◌+◌, ◌&
 ghost use Rattle.std.specs.Arc.{arc_value};
 ghost use Rattle.record_spec.specs.Delta.{masked};
 ghost use Rattle.record_spec.specs.Record.{put_of, IsTrue};
-ghost use Rattle.release_core.specs.Views.{AreViewsOf};
-ghost use Rattle.release_core.specs.Views as views;
+ghost use Rattle.machine_calls.specs.Views.{AreViewsOf};
+ghost use Rattle.machine_calls.specs.Views as views;
 ghost use Rattle.release_core.specs.Jobs.{IsJobOf};
 ghost use Rattle.release_core.specs.Applying.{can_apply, IsCauseOf};
 ghost use Rattle.machine_spec.specs.Machine.{Machine, hart_of, is_ready, is_ended};
-ghost use Rattle.machine_spec.specs.Setup.{first, map_of, start_memory};
-ghost use Rattle.machine_spec.specs.Performing.{first_hart};
+ghost use Rattle.machine_spec.specs.Setup.{first, map_of};
 ghost use Rattle.machine_spec.specs.Step as step;
 ghost use Rattle.machine_spec.specs.Whole.{IsWhole};
 
-use super::doing::{Written, asked, do_as_asked};
-use super::hart::Hart;
-use super::performing::{most_views, view_at, views_of, write_back};
+use super::performing::{do_as_prepared, view_at, views_of};
 use super::put::put_bytes;
 use super::setup::Setup;
-use super::start::memory_of;
+use machine_calls::{Hart, Written, asked, first_harts, most_views, write_back};
 use machine_spec::{End, Status};
 use page_commit::committed;
 use page_map::PageMap;
@@ -50,7 +47,7 @@ pub struct Core {
     frame: Arc<Frame>,
     limit: u32,
     memory: Arc<PageTable>,
-    harts: Vec<Hart>,
+    harts: Vec<Hart<Arc<PageTable>>>,
     objects: Objects,
     output: Vec<u8>,
     steps: u32,
@@ -156,7 +153,7 @@ impl Core {
     }
 
     /// The registers of thread `t`, which is ready.
-    #[tactic(auto, using(crate::proofs::Asking::below))]
+    #[tactic(auto, using(machine_calls::proofs::Asking::below))]
     pub fn regs(&self, t: u8) -> &Regs
         requires { is_ready (hart_of self.now t).status ≡ true }
         ensures { result.now ≡ (hart_of self.now t).regs }
@@ -166,7 +163,7 @@ impl Core {
     }
 
     /// The view of thread `t`, which is ready.
-    #[tactic(auto, using(crate::proofs::Asking::below))]
+    #[tactic(auto, using(machine_calls::proofs::Asking::below))]
     pub fn view(&self, t: u8) -> &PageTable
         requires { is_ready (hart_of self.now t).status ≡ true }
         ensures { result.now ≡ (hart_of self.now t).view }
@@ -177,7 +174,7 @@ impl Core {
     /// Whether a record stands for the next step of its thread: the thread is ready and has made as
     /// many steps, and has the record's first registers, its view has the bytes of each read page,
     /// and a thunk of this machine's fuel may have ended as the record's did. Takes no memory.
-    #[tactic(auto, using(crate::proofs::Asking::below), unfolding(machine_spec::specs::Step::fits))]
+    #[tactic(auto, using(machine_calls::proofs::Asking::below), unfolding(machine_spec::specs::Step::fits))]
     pub fn fits(&self, rec: &Record) -> bool
         ensures { result ≡ step.fits self.now rec.now }
     {
@@ -206,27 +203,6 @@ fn frame_of(alloc: Global, setup: &Setup) -> Result<Arc<Frame>, AllocError>
     Ok(frame)
 }
 
-/// The memory that a setup starts with.
-#[tactic(auto, unfolding(machine_spec::specs::Setup::start_memory))]
-fn start_of(alloc: Global, setup: &Setup) -> Result<Arc<PageTable>, AllocError>
-    ensures { IfOk result (λ memory. arc_value memory ≡ start_memory setup.now) }
-{
-    setup.sound();
-    let image = setup.image();
-    let memory = Arc::new(alloc, memory_of(alloc, &image.pages, setup.input())?)?;
-    Ok(memory)
-}
-
-/// Thread 0 alone, at the executable's entry.
-fn first_harts(alloc: Global, memory: &Arc<PageTable>, entry: u32) -> Result<Vec<Hart>, AllocError>
-    ensures { IfOk result (λ harts. harts.items ≡ first_hart (arc_value memory.now) 0 entry 0xC0000000 ∷ []) }
-{
-    let view = Arc::try_clone(memory)?;
-    let mut harts = Vec::new(alloc);
-    harts.push(Hart::first(view, 0, entry, 0xC000_0000))?;
-    Ok(harts)
-}
-
 impl Core {
     /// The machine that a setup starts as.
     ///
@@ -240,7 +216,7 @@ impl Core {
         setup.sound();
         machine_spec::first_is_whole();
         let frame = frame_of(alloc, setup)?;
-        let memory = start_of(alloc, setup)?;
+        let memory = Arc::new(alloc, setup.memory(alloc)?)?;
         let image = setup.image();
         let harts = first_harts(alloc, &memory, image.entry)?;
         Ok(Core {
@@ -291,7 +267,7 @@ fn prepare(
     requires { length view.now ≡ length map.now }
     ensures memory { IfOk result (λ p. arc_value p.memory ≡ masked (arc_value memory.now) rec.now.kept.delta) }
     ensures put { IfOk result (λ p. p.put.items ≡ put_of map.now view.now rec.now.kept) }
-    ensures views { IfOk result (λ p. AreViewsOf (arc_value p.memory) p.views.items) }
+    ensures views { IfOk result (λ p. AreViewsOf arc_value (arc_value p.memory) p.views.items) }
     ensures enough { IfOk result (λ p.
         views.most_views (step.asked rec.now.thread rec.now.kept.end rec.now.kept.finish) ≤ vec_len p.views) }
 {
@@ -308,7 +284,7 @@ impl Core {
     /// # Errors
     ///
     /// An error where the host's memory ran out.
-    #[tactic(auto, using(crate::proofs::Asking::below, crate::proofs::Asking::view_count))]
+    #[tactic(auto, using(machine_calls::proofs::Asking::below, machine_calls::proofs::Asking::view_count))]
     pub fn start_of(&self, t: u8) -> Result<Job, AllocError>
         requires { is_ready (hart_of self.now t).status ≡ true }
         ensures { IfOk result (IsJobOf self.now t) }
@@ -325,7 +301,7 @@ impl Core {
     /// # Errors
     ///
     /// An error where the host's memory ran out; the machine is then as before.
-    #[tactic(auto, using(crate::proofs::Asking::below, crate::proofs::Asking::view_count, crate::proofs::Asking::few_numbers))]
+    #[tactic(auto, using(machine_calls::proofs::Asking::below, machine_calls::proofs::Asking::view_count, machine_calls::proofs::Asking::few_numbers))]
     pub fn lay(&mut self, rec: &Record) -> Result<(), AllocError>
         requires { step.can_step self.old rec.now.thread ≡ true }
         ensures ok { OnOk result (self.new ≡ step.lay self.old rec.now) }
@@ -342,7 +318,7 @@ impl Core {
         self.output.extend_from_slice(put.as_slice())?;
         write_back(&mut self.harts, t, *rec.finish());
         self.steps += 1;
-        self.ending = do_as_asked(
+        self.ending = do_as_prepared(
             &mut self.harts,
             &mut self.objects,
             &mut views,

@@ -3,8 +3,6 @@
 #![tactic(auto)]
 
 mod core_machine;
-mod doing;
-mod hart;
 mod history;
 mod performing;
 mod put;

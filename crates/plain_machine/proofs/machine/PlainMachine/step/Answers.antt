@@ -15,7 +15,7 @@ use Rattle.machine_spec.proofs.Steps.{hart-at}
 use Rattle.machine_spec.proofs.Tied.{tied-written}
 use Rattle.plain_machine.specs.Stored.{bytes_of}
 use Rattle.plain_machine.specs.Turning.{IsDone}
-use Rattle.plain_machine.specs.Doing.{harts_after, objects_after, own_end, effect_made}
+use Rattle.machine_calls.specs.Doing.{harts_after, objects_after, own_end, effect_made}
 use Rattle.plain_machine.specs.Making.{IsMade, asked_by}
 use Rattle.plain_machine.proofs.Stepping.{stepped, told}
 use Rattle.plain_machine.proofs.machine.PlainMachine.step.Goals as goal
@@ -44,7 +44,7 @@ run-requires c =
 
 pub finish-requires-clause-tied : goal.finish-requires-clause-tied
 finish-requires-clause-tied c =
-    rw c.write_back.ensures
+    rw c.write_back.ensures.harts
     (tied-written c.self.inside.objects c.self.inside.harts.items c.args.t _ refl c.self.invariant.tied)
 
 pub invariant_of-machine : goal.invariant_of-machine
@@ -98,7 +98,7 @@ invariant_of-machine c =
     (sym (stepped m c.args.t c.in_ok-done.done c.lay_all.new.memory
     c.write_back.new.harts.items c.finish.new.harts.items c.finish.new.objects
     c.extend_from_slice.new.self.items c.in_ok-made.ending asks
-    c.self.invariant.memory is_done is_memory c.write_back.ensures refl is_output is_harts is_objects
+    c.self.invariant.memory is_done is_memory c.write_back.ensures.harts refl is_output is_harts is_objects
     is_ending))
     (c.step_keeps_whole.ensures m c.args.t c.self.invariant may)
 
@@ -150,7 +150,7 @@ returns-clause-machine c =
     stepped m c.args.t c.in_ok-done.done c.lay_all.new.memory
     c.write_back.new.harts.items c.finish.new.harts.items c.finish.new.objects
     c.extend_from_slice.new.self.items c.in_ok-made.ending asks
-    c.self.invariant.memory is_done is_memory c.write_back.ensures refl is_output is_harts is_objects
+    c.self.invariant.memory is_done is_memory c.write_back.ensures.harts refl is_output is_harts is_objects
     is_ending
     ∙ ap (λ (x : Machine). step.step x c.args.t) c.self.view_is
 

@@ -6,12 +6,12 @@ use Rattle.plain_machine.proofs.work.Work.new.Goals as goal
 
 pub invariant_of-result : goal.invariant_of-result
 invariant_of-result c =
-    let copied : IsMemory (arc_value c.in_ok-try_clone.field-0) c.in_ok-copy.field-0 =
-    rw (c.in_ok-try_clone.ensures, c.in_ok-copy.ensures) c.requires in
+    let copied : IsMemory (arc_value c.in_ok-try_clone.field-0) c.in_ok-share.field-0 =
+    rw (c.in_ok-try_clone.ensures, c.in_ok-share.ensures) c.requires in
     record {
       count = copied.count;
       lays = λ shared whole.
-          kept-none (arc_value c.in_ok-try_clone.field-0) c.in_ok-copy.field-0 c.new.result.items shared copied
+          kept-none (arc_value c.in_ok-try_clone.field-0) c.in_ok-share.field-0 c.new.result.items shared copied
           c.new.ensures.items whole;
       last = c.none.ensures (arc_value c.in_ok-try_clone.field-0);
     }

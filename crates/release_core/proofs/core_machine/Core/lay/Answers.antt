@@ -11,7 +11,7 @@ use Rattle.std.proofs.lemmas.List.{get_or-set_same}
 use Rattle.machine_spec.specs.Step as step
 use Rattle.machine_spec.specs.Whole.{IsWhole}
 use Rattle.machine_spec.proofs.Tied.{tied-written}
-use Rattle.release_core.specs.Doing.{harts_after, objects_after, own_end}
+use Rattle.machine_calls.specs.Doing.{harts_after, objects_after, own_end}
 use Rattle.history_spec.proofs.Laying.{lay-whole}
 use Rattle.release_core.proofs.Laying.{laid-parts}
 use Rattle.release_core.proofs.core_machine.Core.lay.Goals as goal
@@ -37,11 +37,11 @@ laid :
       frame = arc_value c.self.inside.frame;
       limit = c.self.inside.limit;
       memory = arc_value c.in_ok-memory.field-0.memory;
-      harts = c.do_as_asked-self-inside.new.harts.items;
-      objects = c.do_as_asked-self-inside.new.objects;
+      harts = c.do_as_prepared-self-inside.new.harts.items;
+      objects = c.do_as_prepared-self-inside.new.objects;
       output = c.extend_from_slice.new.self.items;
       steps = c.self.inside.steps + 1;
-      ending = c.do_as_asked-self-inside.result;
+      ending = c.do_as_prepared-self-inside.result;
     }
     ≡ step.lay (before c) c.args.rec.now
 laid c =
@@ -96,50 +96,50 @@ laid c =
       c.in_ok-memory.put-is,
     ) in
     let is_steps : c.self.inside.steps + 1 ≡ suc c.self.inside.steps = omega arith in
-    let is_done : c.do_as_asked-self-inside.new.harts.items ≡ harts_after
+    let is_done : c.do_as_prepared-self-inside.new.harts.items ≡ harts_after
     (arc_value c.self.inside.frame).map c.self.inside.objects
     (arc_value c.in_ok-memory.field-0.memory) c.args.rec.now.thread c.write_back.new.harts.items c.asked.result =
     grind (
       arith,
       common_steps,
-      c.do_as_asked-self-inside.ensures.harts,
+      c.do_as_prepared-self-inside.ensures.harts,
       c.deref-2.ensures,
       c.map-2.ensures,
       c.in_ok-memory.memory-is,
       c.thread-t.ensures,
     ) in
-    let is_objects : c.do_as_asked-self-inside.new.objects ≡ objects_after
+    let is_objects : c.do_as_prepared-self-inside.new.objects ≡ objects_after
     (arc_value c.self.inside.frame).map c.self.inside.objects c.args.rec.now.thread c.asked.result =
     grind (
       arith,
       common_steps,
-      c.do_as_asked-self-inside.ensures.objects,
+      c.do_as_prepared-self-inside.ensures.objects,
       c.deref-2.ensures,
       c.map-2.ensures,
       c.thread-t.ensures,
     ) in
-    let is_ending : c.do_as_asked-self-inside.result ≡ step.end_after
+    let is_ending : c.do_as_prepared-self-inside.result ≡ step.end_after
     (own_end (arc_value c.self.inside.frame).map c.self.inside.objects c.args.rec.now.thread c.asked.result)
-    c.do_as_asked-self-inside.new.harts.items c.self.inside.limit (c.self.inside.steps + 1) =
+    c.do_as_prepared-self-inside.new.harts.items c.self.inside.limit (c.self.inside.steps + 1) =
     grind (
       arith,
       common_steps,
-      c.do_as_asked-self-inside.ensures.ending,
+      c.do_as_prepared-self-inside.ensures.ending,
       c.deref-2.ensures,
       c.map-2.ensures,
       c.in_ok-memory.memory-is,
       c.thread-t.ensures,
     ) in
     laid-parts (before c) c.args.rec.now
-    (arc_value c.in_ok-memory.field-0.memory) c.write_back.new.harts.items c.do_as_asked-self-inside.new.harts.items
-    c.do_as_asked-self-inside.new.objects c.in_ok-memory.field-0.put.items c.extend_from_slice.new.self.items
+    (arc_value c.in_ok-memory.field-0.memory) c.write_back.new.harts.items c.do_as_prepared-self-inside.new.harts.items
+    c.do_as_prepared-self-inside.new.objects c.in_ok-memory.field-0.put.items c.extend_from_slice.new.self.items
     (c.self.inside.steps + 1)
-    c.do_as_asked-self-inside.result c.asked.result
+    c.do_as_prepared-self-inside.result c.asked.result
     is_memory is_written is_asked is_put is_output is_steps is_done is_objects is_ending
 
-pub do_as_asked-self-inside-requires-clause-tied :
-    goal.do_as_asked-self-inside-requires-clause-tied
-do_as_asked-self-inside-requires-clause-tied c =
+pub do_as_prepared-self-inside-requires-clause-tied :
+    goal.do_as_prepared-self-inside-requires-clause-tied
+do_as_prepared-self-inside-requires-clause-tied c =
     rw (c.write_back.ensures.harts, c.in_ok-reserve.ensures.items)
     (tied-written c.self.inside.objects c.self.inside.harts.items c.thread-t.result _ refl c.self.invariant.tied)
 
@@ -152,9 +152,9 @@ invariant_of-self-2 c =
 pub returns-clause-ok : goal.returns-clause-ok
 returns-clause-ok c = laid c ∙ ap (λ (x : Machine). step.lay x c.args.rec.now) c.self.view_is
 
-pub do_as_asked-self-inside-requires-clause-ready :
-    goal.do_as_asked-self-inside-requires-clause-ready
-do_as_asked-self-inside-requires-clause-ready c =
+pub do_as_prepared-self-inside-requires-clause-ready :
+    goal.do_as_prepared-self-inside-requires-clause-ready
+do_as_prepared-self-inside-requires-clause-ready c =
     let ready : is_ready (hart_in c.self.inside.harts.items c.thread-t.result).status ≡ true =
     ap (λ (t : ℕ). is_ready (hart_in c.self.inside.harts.items t).status) c.thread-t.ensures
     ∙ (and_parts _ _ (subst (λ (m : Machine). step.can_step m c.args.rec.now.thread ≡ true) (sym c.self.view_is)

@@ -1,0 +1,13 @@
+-- What holds at the loop of `wake`.
+use Rattle.std.proofs.Common.{◌≡◌, ◌≤◌, ◌+◌, drop, vec_len}
+use Rattle.machine_spec.specs.Performing.{woken}
+use Rattle.machine_calls.specs.Views.{AreViewsOf}
+use Rattle.machine_calls.proofs.performing.wake.Given as goal
+
+-- what was woken, and the rest after it, are all; and each of them had one view at most
+abbrev pub invariant-loop-i : goal.invariant-loop-i
+invariant-loop-i g l =
+    let pages = g.V.View.pages in
+    (woken (pages l.memory) l.told (drop l.i l.threads) l.harts ≡ woken (pages l.memory) l.told l.threads l.fn.harts)
+    × (AreViewsOf pages (pages l.memory) l.views.items)
+    × (vec_len l.fn.views ≤ vec_len l.views + l.i)
