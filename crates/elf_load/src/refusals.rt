@@ -14,7 +14,7 @@ use crate::fields::{byte_at, half_word_at, word_at};
 use crate::header::{Header, header_at, header_count, header_read, headers_of, is_segment};
 use crate::image::{segments_of, segments_on};
 use crate::pages::{page_count, rights_of, touched_pages};
-use elf_spec::Refusal;
+use elf_spec::{IMAGE_END, IMAGE_START, Refusal};
 use page_store::PAGE_SIZE;
 use std::alloc::{AllocError, Global};
 
@@ -124,7 +124,8 @@ fn is_short(bytes: &[u8], header: Header) -> bool
 fn is_outside(header: Header) -> bool
     ensures { result ≡ row.is_outside (header_of header) }
 {
-    (header.vaddr < 0x1000) | (u64::from(header.vaddr) + u64::from(header.memsz) > 0xC000_0000)
+    (header.vaddr < IMAGE_START)
+        | (u64::from(header.vaddr) + u64::from(header.memsz) > u64::from(IMAGE_END))
 }
 
 /// The first header of which a question holds.

@@ -2,6 +2,7 @@
 use Rattle.std.specs.Prelude.{ℕ, ◌+◌, ◌-◌, ◌/◌, ◌%◌, Bool, true, false, not, ◌&&◌, ◌||◌, ◌==◌, nat_lt, List, [], ◌∷◌, map, length, take, find, flat_map, bytes_eq, Option, Some, None, option_map}
 use Rattle.std.specs.List.{range_with_len}
 use Rattle.std.specs.Int.{bit_at}
+use Rattle.elf_spec.specs.declared.TheConstants.{IMAGE_START, IMAGE_END}
 use Rattle.elf_spec.specs.declared.Refusal.{Refusal}
 use Rattle.elf_spec.specs.declared.Refusal.TheVariants.{NotElf, NotElf32, NotExec, NotRiscv, Compressed, EntrySize, ShortTable, Dynamic, ShortSegment, Outside, Overlap, TooManyPages, Entry}
 use Rattle.elf_spec.specs.Header.{header_size, program_header_size, magic, ei_class, ei_data, ei_version, e_type, e_machine, e_entry, e_flags, e_phentsize, e_phnum, ProgramHeader, program_header, program_header_offset, is_load, is_dynamic, is_segment, segments}
@@ -65,9 +66,9 @@ short_segment bytes =
     option_map ShortSegment
     (first_header bytes (λ i. is_load (program_header bytes i) && is_short bytes (program_header bytes i)))
 
--- the segment leaves the addresses from 0x1000 up to 0xC0000000
+-- the segment leaves the addresses for images
 abbrev pub is_outside : ProgramHeader → Bool
-is_outside segment = nat_lt segment.vaddr 0x1000 || nat_lt 0xC0000000 (segment.vaddr + segment.memsz)
+is_outside segment = nat_lt segment.vaddr IMAGE_START || nat_lt IMAGE_END (segment.vaddr + segment.memsz)
 
 -- a segment that leaves the addresses for images
 abbrev pub outside : List ℕ → Option Refusal

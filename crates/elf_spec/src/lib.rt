@@ -14,6 +14,10 @@ ghost use Rattle.elf_spec.specs.Image.{image_pages, image_memory, entry_of, is_i
 
 /// The most bytes of an executable file.
 pub const MOST_ELF_BYTES: usize = 16_777_216;
+/// The first address that an image may have: page 0 is never mapped.
+pub const IMAGE_START: u32 = 0x1000;
+/// The address that ends those for images.
+pub const IMAGE_END: u32 = 0xC000_0000;
 
 /// Why a file isn't taken as an executable.
 ///
@@ -39,7 +43,7 @@ pub enum Refusal {
     Dynamic(u32),
     /// The file ends before the bytes of this loadable header, or they are more than its size in memory.
     ShortSegment(u32),
-    /// This segment lies below 0x1000 or reaches above 0xC0000000.
+    /// This segment lies below `IMAGE_START` or reaches above `IMAGE_END`.
     Outside(u32),
     /// These two segments share an address.
     Overlap(u32, u32),

@@ -6,7 +6,7 @@ ghost use Rattle.machine_spec.specs.Machine.{Hart as HartState};
 
 use super::view::View;
 use guest_call::THREADS;
-use machine_spec::Status;
+use machine_spec::{HEADER, STACK_BYTES, STACKS, Status};
 use rv_alu::Regs;
 use std::alloc::{AllocError, Global};
 use std::marker::Model;
@@ -22,12 +22,6 @@ const A0: u8 = 10;
 
 /// The second argument, and what a call tells beside its answer (RISC-V ELF psABI, Register Convention).
 const A1: u8 = 11;
-
-/// Where the stacks begin.
-const STACKS: u32 = 0xD000_0000;
-
-/// How many bytes each stack has.
-const STACK_SIZE: u32 = 0x1_0000;
 
 /// A hart, as the thread that runs on it has it between two steps.
 #[derive(Drop)]
@@ -65,7 +59,7 @@ fn registers_of(t: u8, pc: u32, argument: u32) -> Regs
     ensures { result ≡ first_registers t pc argument }
 {
     let mut regs = Regs::new(pc);
-    regs.set(SP, STACKS + STACK_SIZE * (u32::from(t) + 1));
+    regs.set(SP, STACKS + STACK_BYTES * (u32::from(t) + 1));
     regs.set(TP, u32::from(t));
     regs.set(A0, argument);
     regs
@@ -150,9 +144,9 @@ pub fn first_harts<V: View>(
     entry: u32,
 ) -> Result<Vec<Hart<V>>, AllocError>
     ensures { IfOk result (λ harts. harts.items
-        ≡ first_hart (V.pages memory.now) 0 entry 0xC0000000 ∷ []) }
+        ≡ first_hart (V.pages memory.now) 0 entry HEADER ∷ []) }
 {
     let mut harts = Vec::new(alloc);
-    harts.push(Hart::first(memory.share()?, 0, entry, 0xC000_0000))?;
+    harts.push(Hart::first(memory.share()?, 0, entry, HEADER))?;
     Ok(harts)
 }

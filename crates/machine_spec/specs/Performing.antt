@@ -6,6 +6,7 @@ use Rattle.memory_spec.specs.Pages.{Memory}
 use Rattle.guest_call.specs.declared.Fate.{Fate}
 use Rattle.guest_call.specs.declared.Fate.TheVariants.{Returns, Blocks, Ends, Exits}
 use Rattle.guest_call.specs.Effect.{Effect}
+use Rattle.machine_spec.specs.declared.TheConstants.{STACKS, STACK_BYTES}
 use Rattle.machine_spec.specs.declared.states.Status.TheVariants.{Ready, Blocked, Ended}
 use Rattle.machine_spec.specs.Machine.{Hart, hart_in}
 
@@ -39,7 +40,7 @@ unfoldable pub first_registers : ℕ → ℕ → ℕ → Registers
 first_registers t pc argument =
     record {
       pc = pc;
-      x = 0 ∷ 0 ∷ (0xD0000000 + 0x10000 * (t + 1)) ∷ 0 ∷ t ∷ 0 ∷ 0 ∷ 0 ∷ 0 ∷ 0 ∷ argument ∷ replicate 21 0;
+      x = 0 ∷ 0 ∷ (STACKS + STACK_BYTES * (t + 1)) ∷ 0 ∷ t ∷ 0 ∷ 0 ∷ 0 ∷ 0 ∷ 0 ∷ argument ∷ replicate 21 0;
     }
 
 -- A created thread's hart: ready, no step made, and its view is shared memory as it now is. (POSIX.1-2017,

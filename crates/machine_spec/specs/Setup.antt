@@ -7,7 +7,7 @@ use Rattle.elf_spec.specs.declared.TheConstants.{MOST_ELF_BYTES}
 use Rattle.elf_spec.specs.Image.{image_pages, image_memory, entry_of, is_image}
 use Rattle.record_spec.specs.Record.{Record}
 use Rattle.guest_call.specs.Objects.{opening}
-use Rattle.machine_spec.specs.declared.TheConstants.{MOST_INPUT_BYTES}
+use Rattle.machine_spec.specs.declared.TheConstants.{MOST_INPUT_BYTES, HEADER, HEADER_PAGE, INPUT_PAGE, INPUT_PAGES, STACK_PAGE, STACK_PAGES}
 use Rattle.machine_spec.specs.Limits.{AreLimits}
 use Rattle.machine_spec.specs.Machine.{Hart, Machine}
 use Rattle.machine_spec.specs.Performing.{first_hart}
@@ -31,10 +31,10 @@ pub record IsSetup (s : Setup) : Type 0 where
 unfoldable pub data_pages : ℕ → ℕ → List Mapped
 data_pages number count = map (λ n. record { number = n; permission = 6 }) (range_with_len number count)
 
--- The page map of a setup: the image's pages, the input header at 0xC0000000, 256 pages of input, and 16 pages of stack
--- for each of 32 threads from 0xD0000000 on.
+-- The page map of a setup: the pages of the image, of the input's header, of the input, and of the threads' stacks.
 unfoldable pub map_of : Setup → List Mapped
-map_of s = image_pages s.elf ++ data_pages 0xC0000 1 ++ data_pages 0xC0001 256 ++ data_pages 0xD0000 512
+map_of s =
+    image_pages s.elf ++ data_pages HEADER_PAGE 1 ++ data_pages INPUT_PAGE INPUT_PAGES ++ data_pages STACK_PAGE STACK_PAGES
 
 -- The input's header page: its length as a word, and zeros.
 unfoldable pub header_page : List ℕ → List ℕ
@@ -44,13 +44,13 @@ header_page input = to_le_bytes w32 (length input) ++ replicate 4092 0
 unfoldable pub input_page : List ℕ → ℕ → List ℕ
 input_page input k = map (λ i. slice_index input i) (range_with_len (4096 * k) 4096)
 
--- The 256 pages of the input.
+-- The pages of the input.
 unfoldable pub input_memory : List ℕ → Memory
-input_memory input = map (input_page input) (range_with_len 0 256)
+input_memory input = map (input_page input) (range_with_len 0 INPUT_PAGES)
 
--- The stacks, 16 pages for each of 32 threads.
+-- The stacks of all threads.
 unfoldable pub stack_memory : Memory
-stack_memory = replicate 512 zero_page
+stack_memory = replicate STACK_PAGES zero_page
 
 -- The memory that a setup starts with.
 unfoldable pub start_memory : Setup → Memory
@@ -63,7 +63,7 @@ first s =
       frame = record { map = map_of s; fuel = s.fuel };
       limit = s.limit;
       memory = start_memory s;
-      harts = first_hart (start_memory s) 0 (entry_of s.elf) 0xC0000000 ∷ [];
+      harts = first_hart (start_memory s) 0 (entry_of s.elf) HEADER ∷ [];
       objects = opening;
       output = [];
       steps = 0;

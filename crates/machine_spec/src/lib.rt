@@ -19,8 +19,24 @@ mod states;
 pub use limits::Limits;
 pub use states::{Asked, End, Status};
 
-/// The most bytes of an input: the 256 pages that the map has for it.
+/// The most bytes of an input: those of its pages.
 pub const MOST_INPUT_BYTES: usize = 1_048_576;
+/// The address of the input's header, whose first word is the input's length.
+pub const HEADER: u32 = 0xC000_0000;
+/// The number of the page of the input's header.
+pub const HEADER_PAGE: u32 = 0xC0000;
+/// The number of the input's first page.
+pub const INPUT_PAGE: u32 = 0xC0001;
+/// How many pages the input has.
+pub const INPUT_PAGES: u32 = 256;
+/// Where the stacks begin: thread 0's is the first.
+pub const STACKS: u32 = 0xD000_0000;
+/// How many bytes each thread's stack has.
+pub const STACK_BYTES: u32 = 0x1_0000;
+/// The number of the first page of the stacks.
+pub const STACK_PAGE: u32 = 0xD0000;
+/// How many pages the stacks have: 16 for each of 32 threads.
+pub const STACK_PAGES: u32 = 512;
 /// The most bytes that a run can put out: one put's, 4,096, at the end of each of the most steps.
 pub const MOST_OUTPUT_BYTES: usize = 268_435_456;
 /// The most turns that a thunk may be allowed.

@@ -6,30 +6,17 @@ ghost use Rattle.memory_spec.specs.Pages.{zero_page};
 ghost use Rattle.machine_spec.specs.Setup as setup;
 
 use bitflags::Flags;
-use machine_spec::MOST_INPUT_BYTES;
+use machine_spec::{
+    HEADER_PAGE, INPUT_PAGE, INPUT_PAGES, MOST_INPUT_BYTES, STACK_PAGE, STACK_PAGES,
+};
 use page_map::{MappedPage, PageMap, Perm};
 use page_store::{Page, PageTable};
 use std::alloc::{AllocError, Global};
 use std::sync::Arc;
 
-/// The number of the input's header page.
-const HEADER_PAGE: u32 = 0xC0000;
-
-/// The number of the input's first page.
-const INPUT_PAGE: u32 = 0xC0001;
-
-/// How many pages the input has.
-const INPUT_PAGES: u32 = 256;
-
-/// The number of the first page of the stacks.
-const STACK_PAGE: u32 = 0xD0000;
-
-/// How many pages all stacks have.
-const STACK_PAGES: u32 = 512;
-
 /// The page of the input of this number, zero past its end.
 fn input_page(input: &[u8], k: usize) -> [u8; 4096]
-    requires { k < 256 }
+    requires { k < INPUT_PAGES }
     ensures { result ≡ setup.input_page input.now k }
 {
     let mut page = [0; 4096];
@@ -69,7 +56,8 @@ fn push_data(pages: &mut Vec<MappedPage>, number: u32, count: u32) -> Result<(),
 #[tactic(auto, unfolding(machine_spec::specs::Setup::map_of))]
 pub fn pages_of(alloc: Global, image: &PageMap) -> Result<Vec<MappedPage>, AllocError>
     ensures { IfOk result (λ pages. pages.items
-        ≡ image.now ++ setup.data_pages 0xC0000 1 ++ setup.data_pages 0xC0001 256 ++ setup.data_pages 0xD0000 512) }
+        ≡ image.now ++ setup.data_pages HEADER_PAGE 1 ++ setup.data_pages INPUT_PAGE INPUT_PAGES
+        ++ setup.data_pages STACK_PAGE STACK_PAGES) }
 {
     let mut pages = Vec::new(alloc);
     pages.extend_from_slice(image.pages())?;
@@ -109,7 +97,7 @@ fn push_input_page(
     k: usize,
     zero: &Arc<Page>,
 ) -> Result<(), AllocError>
-    requires number { k < 256 }
+    requires number { k < INPUT_PAGES }
     requires zero { arc_value zero.now ≡ zero_page }
     ensures { OnOk result (table.new ≡ table.old ++ setup.input_page input.now k ∷ []) }
 {
@@ -126,7 +114,7 @@ fn push_input(table: &mut PageTable, input: &[u8], zero: &Arc<Page>) -> Result<(
     requires { arc_value zero.now ≡ zero_page }
     ensures { OnOk result (table.new ≡ table.old ++ setup.input_memory input.now) }
 {
-    for k in 0..256usize {
+    for k in 0..INPUT_PAGES as usize {
         push_input_page(table, input, k, zero)?;
     }
     Ok(())
@@ -138,7 +126,7 @@ fn push_stacks(table: &mut PageTable, zero: &Arc<Page>) -> Result<(), AllocError
     requires { arc_value zero.now ≡ zero_page }
     ensures { OnOk result (table.new ≡ table.old ++ setup.stack_memory) }
 {
-    for _ in 0..512usize {
+    for _ in 0..STACK_PAGES {
         table.push_shared(zero)?;
     }
     Ok(())
