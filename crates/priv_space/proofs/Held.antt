@@ -1,13 +1,15 @@
 -- The touched slots, after one of them changed or one more was touched.
-use Rattle.std.proofs.Common.{◌≡◌, ℕ, ◌+◌, ◌<◌, ◌⊎◌, zero, suc, Bool, true, false, IsTrue, IsFalse, List, [], ◌∷◌, ◌++◌, length, get_or, set, replicate, inl, inr, refl, ap, sym, subst, ◌∙◌, arith}
+use Rattle.std.proofs.Common.{◌≡◌, ℕ, ◌+◌, ◌<◌, ◌⊎◌, zero, suc, Bool, true, false, IsTrue, IsFalse, List, [], ◌∷◌, ◌++◌, length, get_or, set, replicate, inl, inr, Result, Ok, Err, MatchResult, refl, ap, sym, subst, ◌∙◌, arith}
 use Rattle.std.proofs.lemmas.Bool.{cases_eq, cases_lt}
-use Rattle.std.proofs.lemmas.List.{get_or-map, get_or-set_same, get_or-set_other, get_or_append_left, get_or_past, get_or_default, length-map, length-set, length_push}
+use Rattle.std.proofs.lemmas.List.{get_or-map, get_or-set_same, get_or-set_other, get_or_append_left, get_or_past, get_or_default, set-get_or, length-map, length-set, length_push}
 use Rattle.std.proofs.Math.Seq.{get_or-append_seam}
 use Rattle.priv_space.specs.declared.slot.Slot.{Slot}
-use Rattle.memory_spec.specs.Pages.{allows, write_right}
-use Rattle.priv_space.specs.Slots.{untouched, IsPermitted}
+use Rattle.priv_space.specs.declared.slot.Access.{Access}
+use Rattle.priv_space.specs.Slots.{untouched, slot_shared, IsPermitted, IsOver}
 use Rattle.priv_space.specs.Held.{held_at, all_held, IsHeld}
-use Rattle.priv_space.proofs.Views.{map-replicate}
+use Rattle.memory_spec.specs.Pages.{Memory, page_of}
+use Rattle.priv_space.specs.Changes.{OnSlot, StoresAgain}
+use Rattle.priv_space.proofs.Views.{fitting-on_view, map-replicate}
 
 -- slots are equal where each is
 same_slots :
@@ -184,36 +186,125 @@ is_held-more places held i h lt =
       ];
     }
 
--- what is in the place of a slot is the slot
-pub here-held :
+-- A place that a slot has among those that are held, and what it holds.
+pub record IsPlaced (slots : List Slot) (places : List ℕ) (held : List Slot) (i k : ℕ) (x : Slot) : Type 0 where
+  pub all : slots ≡ all_held places held
+  pub each : IsHeld places held
+  pub within : i < length slots
+  pub place : k ≡ get_or places i 0
+  pub here : x ≡ get_or slots i untouched
+
+-- what stands in the place of a slot is the slot
+pub placed-slot :
     (slots : List Slot) (places : List ℕ) (held : List Slot) (i k : ℕ) (x : Slot)
     → slots ≡ all_held places held → IsHeld places held → i < length slots → k ≡ get_or places i 0
-    → x ≡ get_or held k x → x ≡ get_or slots i untouched
-here-held slots places held i k x is h lt k_is x_is =
-    let inside : i < length places = omega (arith, ap length is, length-all_held places held) in
-    let under : k < length held = omega (arith, h.inside i) in
-    x_is
-    ∙ get_or_default held k x untouched under
-    ∙ ap (held_at held) k_is
-    ∙ sym (get_or-all_held places held i inside)
-    ∙ ap (λ xs. get_or xs i untouched) (sym is)
+    → x ≡ get_or held k x → IsPlaced slots places held i k x
+placed-slot slots places held i k x all each within place x_is =
+    let inside : i < length places = omega (arith, ap length all, length-all_held places held) in
+    let under : k < length held = omega (arith, each.inside i) in
+    record {
+      all = all;
+      each = each;
+      within = within;
+      place = place;
+      here =
+          x_is
+          ∙ get_or_default held k x untouched under
+          ∙ ap (held_at held) place
+          ∙ sym (get_or-all_held places held i inside)
+          ∙ ap (λ xs. get_or xs i untouched) (sym all);
+    }
 
--- and what is put there is the slot from then on
-pub after-held :
-    (slots : List Slot) (places : List ℕ) (held : List Slot) (i k : ℕ) (s : Slot)
-    → slots ≡ all_held places held → IsHeld places held → i < length slots → k ≡ get_or places i 0
-    → (k ≡ 0 → s ≡ untouched) → all_held places (set held k s) ≡ set slots i s
-after-held slots places held i k s is h lt k_is none =
-    let inside : i < length places = omega (arith, ap length is, length-all_held places held) in
-    all_held-set places held i k s h inside k_is none ∙ ap (λ xs. set xs i s) (sym is)
+-- and what stands in the place that a slot got to be touched
+pub touched-slot :
+    (slots : List Slot) (before before' places : List ℕ) (old held : List Slot) (i k : ℕ) (x : Slot)
+    → all_held before old ≡ slots → before' ≡ before → all_held places held ≡ all_held before' old
+    → IsHeld places held → i < length slots → k ≡ get_or places i 0 → x ≡ get_or held k x
+    → IsPlaced slots places held i k x
+touched-slot slots before before' places old held i k x was seen same each within place x_is =
+    placed-slot slots places held i k x (sym was ∙ ap (λ p. all_held p old) (sym seen) ∙ sym same) each within place x_is
+
+-- it has its share of the view's page
+pub shared-placed :
+    {slots held : List Slot} {places : List ℕ} {i k : ℕ} {x : Slot} (view : Memory)
+    → IsPlaced slots places held i k x → IsOver view slots → slot_shared (page_of view i) x ≡ page_of view i
+shared-placed {slots} {held} {places} {i} {k} {x} view p over =
+    ap (slot_shared (page_of view i)) p.here
+    ∙ fitting-on_view slot_shared view slots i untouched (omega (arith, p.within, over.count)) p.within over.shared
+
+pub not_first : {k : ℕ} (s : Slot) → 0 < k → k ≡ 0 → s ≡ untouched
+not_first s some none = absurd (omega arith)
+
+-- what is put there is the slot from then on; only what wasn't touched is put in place 0
+pub after-placed :
+    {slots held : List Slot} {places : List ℕ} {i k : ℕ} {x : Slot} (s : Slot) (places' : List ℕ)
+    → IsPlaced slots places held i k x → places' ≡ places → (k ≡ 0 → s ≡ untouched)
+    → all_held places' (set held k s) ≡ set slots i s
+after-placed {slots} {held} {places} {i} {k} {x} s places' p same none =
+    let inside : i < length places = omega (arith, ap length p.all, length-all_held places held) in
+    ap (λ q. all_held q (set held k s)) same
+    ∙ all_held-set places held i k s p.each inside p.place none
+    ∙ ap (λ xs. set xs i s) (sym p.all)
+
+pub held-placed :
+    {slots held : List Slot} {places : List ℕ} {i k : ℕ} {x : Slot} (s : Slot) (places' : List ℕ)
+    → IsPlaced slots places held i k x → places' ≡ places → (k ≡ 0 → s ≡ untouched) → IsHeld places' (set held k s)
+held-placed {slots} {held} {places} {i} {k} {x} s places' p same none =
+    subst (λ q. IsHeld q (set held k s)) (sym same)
+    (is_held-set places held k s p.each (omega (arith, p.each.inside i, p.place)) none)
+
+-- so a change of what a place holds is that change of its slot
+pub change-placed :
+    (Change : Slot → Slot → Type 0)
+    {slots held : List Slot} {places : List ℕ} {i k : ℕ} {x : Slot} (s : Slot) (places' : List ℕ)
+    → IsPlaced slots places held i k x → places' ≡ places → (k ≡ 0 → s ≡ untouched) → Change x s
+    → OnSlot i Change slots (all_held places' (set held k s))
+change-placed Change {slots} {held} {places} {i} {k} {x} s places' p same none change =
+    let after : all_held places' (set held k s) ≡ set slots i s = after-placed s places' p same none in
+    let now : get_or (all_held places' (set held k s)) i untouched ≡ s =
+    ap (λ xs. get_or xs i untouched) after ∙ get_or-set_same slots i s untouched p.within in
+    record {
+      others = after ∙ ap (set slots i) (sym now);
+      change =
+          subst (λ y. Change y (get_or (all_held places' (set held k s)) i untouched)) p.here
+          (subst (Change x) (sym now) change);
+    }
+
+-- and none of it is none of the slots
+pub same-placed :
+    {slots held : List Slot} {places : List ℕ} {i k : ℕ} {x : Slot} (s : Slot) (places' : List ℕ)
+    → IsPlaced slots places held i k x → places' ≡ places → (k ≡ 0 → s ≡ untouched) → s ≡ x
+    → all_held places' (set held k s) ≡ slots
+same-placed {slots} {held} {places} {i} {k} {x} s places' p same none stays =
+    after-placed s places' p same none ∙ ap (set slots i) (stays ∙ p.here) ∙ set-get_or slots i untouched
+
+-- both, of a call that may fail
+pub outcome-placed :
+    {T E : Type 0} (Change : T → Slot → Slot → Type 0)
+    {slots held : List Slot} {places : List ℕ} {i k : ℕ} {x : Slot} (s : Slot) (places' : List ℕ) (r : Result T E)
+    → IsPlaced slots places held i k x → places' ≡ places → (k ≡ 0 → s ≡ untouched)
+    → MatchResult r (λ value. Change value x s) (λ error. s ≡ x)
+    → MatchResult r (λ value. OnSlot i (Change value) slots (all_held places' (set held k s)))
+    (λ error. all_held places' (set held k s) ≡ slots)
+outcome-placed Change s places' (Ok value) p same none done = change-placed (Change value) s places' p same none done
+outcome-placed Change s places' (Err error) p same none done = same-placed s places' p same none done
 
 -- a slot that wasn't touched has no own copy to store to
-pub still-untouched :
-    (x s : Slot) (stored : Bool) → x ≡ untouched
-    → ((permission : ℕ) → IsPermitted permission x → IsTrue stored → allows write_right permission ≡ true)
-    → (IsFalse stored → s ≡ x) → s ≡ untouched
+still-untouched :
+    (access : Access) (value : ℕ) (x s : Slot) (stored : Bool) → x ≡ untouched
+    → (IsTrue stored → StoresAgain access value x s) → (IsFalse stored → s ≡ x) → s ≡ untouched
 unfolding untouched
-still-untouched x s true is writes stays =
-    let no : false ≡ true = writes 0 (subst (IsPermitted 0) (sym is) tt) refl in
+still-untouched access value x s true is stores stays =
+    let no : false ≡ true = (stores refl).writes 0 (subst (IsPermitted 0) (sym is) tt) in
     cc
-still-untouched x s false is writes stays = stays refl ∙ is
+still-untouched access value x s false is stores stays = stays refl ∙ is
+
+-- so a store that did nothing or found one leaves place 0 as it was
+pub untouched-placed :
+    {slots held : List Slot} {places : List ℕ} {i k : ℕ} {x : Slot}
+    (access : Access) (value : ℕ) (s : Slot) (stored : Bool) → IsPlaced slots places held i k x
+    → (IsTrue stored → StoresAgain access value x s) → (IsFalse stored → s ≡ x) → k ≡ 0 → s ≡ untouched
+untouched-placed {slots} {held} {places} {i} {k} {x} access value s stored p stores stays free =
+    still-untouched access value x s stored
+    (p.here ∙ ap (λ xs. get_or xs i untouched) p.all ∙ untouched-held places held i p.each (sym p.place ∙ free))
+    stores stays

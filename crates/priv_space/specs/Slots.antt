@@ -58,10 +58,13 @@ on_view f [] slots = []
 on_view f (page ∷ view) [] = []
 on_view f (page ∷ view) (s ∷ slots) = f page s ∷ on_view f view slots
 
--- There is a slot for each page of the map and of the view; each that has a share has it of the view's page in its
--- place, and holds its page as it may be held.
+-- There is a slot for each page of the view, and each that has a share has it of the page in its place.
+pub record IsOver (view : Memory) (slots : List Slot) : Type 0 where
+  pub count : length slots ≡ length view
+  pub shared : on_view slot_shared view slots ≡ view
+
+-- The slots are over a view of this map, and each holds its page as it may be held.
 pub record Fits (map : List Mapped) (view : Memory) (slots : List Slot) : Type 0 where
   pub pages : length view ≡ length map
-  pub count : length slots ≡ length map
-  pub shared : on_view slot_shared view slots ≡ view
+  pub over : IsOver view slots
   pub permitted : ArePermitted map slots

@@ -18,8 +18,7 @@ invariant_of-result c =
     c.in_ok-slots.ensures ∙ ap (λ n. replicate n untouched) all in
     rw (c.in_ok-try_clone-2.ensures, c.in_ok-try_clone.ensures, untouched_all) record {
       pages = same;
-      count = length-replicate (length view) untouched ∙ same;
-      shared = shared-untouched view;
+      over = record { count = length-replicate (length view) untouched; shared = shared-untouched view };
       permitted = permitted-untouched pages (length view);
     }
 
