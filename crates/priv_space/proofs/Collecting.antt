@@ -1,8 +1,8 @@
 -- Read pages and stored bytes, collected slot by slot.
-use Rattle.std.proofs.Common.{◌≡◌, ℕ, ◌+◌, ◌<◌, ◌≤◌, zero, suc, Bool, true, false, cond, nat_le, List, [], ◌∷◌, ◌++◌, length, get_or, drop, map, replicate, refl, ap, sym, ◌∙◌, arith, append_assoc}
-use Rattle.std.proofs.lemmas.Bool.{and_from}
+use Rattle.std.proofs.Common.{◌≡◌, ℕ, ◌+◌, ◌-◌, ◌<◌, ◌≤◌, zero, suc, Bool, true, false, cond, nat_le, inl, inr, List, [], ◌∷◌, ◌++◌, length, get_or, drop, map, replicate, refl, ap, sym, ◌∙◌, arith, append_assoc}
+use Rattle.std.proofs.lemmas.Bool.{and_from, cases_lt}
 use Rattle.std.proofs.lemmas.Bool.Decides.{nat_tests}
-use Rattle.std.proofs.lemmas.List.{drop_more, drop_all, append-nil}
+use Rattle.std.proofs.lemmas.List.{drop_more, drop_all, append-nil, get_or-map, get_or_past, length-map}
 use Rattle.memory_spec.specs.Pages.{Mapped, Memory, page_of, on_each, zero_page, IsMemory}
 use Rattle.memory_spec.specs.Stores.{StoredByte, laid}
 use Rattle.memory_spec.specs.Workspace.{Masks, mask_of, no_marks, marked}
@@ -10,16 +10,73 @@ use Rattle.record_spec.specs.Delta.{PageDelta, chosen, is_stored, delta_from, de
 use Rattle.record_spec.specs.Reads.{ReadPage, reads_from}
 use Rattle.record_spec.proofs.Merging.{merged, merged_all, Shaped, shaped-laid, shaped-fresh, merged_all-laid, merged_all-no_marks}
 use Rattle.record_spec.specs.Ascending.{deltas_ascend, reads_ascend}
+use Rattle.priv_space.specs.declared.slot.Slot.{Slot}
+use Rattle.priv_space.specs.Slots.{on_view, untouched, slot_bytes, slot_marks, slot_taken}
 use Rattle.priv_space.specs.Parts.{read_part, delta_part}
+use Rattle.priv_space.specs.Held.{IsNext}
+use Rattle.priv_space.proofs.Views.{get_or-on_view, length-on_view}
+
+-- What is left from each place on is its part and what is left from the next one on; the free places have none.
+pub record Collects {A : Type 0} (IsFree : ℕ → Type 0) (part rest : ℕ → List A) : Type 0 where
+  pub next : (i : ℕ) → rest i ≡ part i ++ rest (i + 1)
+  pub none : (i : ℕ) → IsFree i → part i ≡ []
+
+skipped :
+    {A : Type 0} {IsFree : ℕ → Type 0} {part rest : ℕ → List A} → Collects IsFree part rest → (i n : ℕ)
+    → ((k : ℕ) → i ≤ k → k < i + n → IsFree k) → rest i ≡ rest (i + n)
+skipped {rest = rest} c i zero free = ap rest (let same : i ≡ i + 0 = omega arith in same)
+skipped {rest = rest} c i (suc n) free =
+    c.next i
+    ∙ ap (λ p. p ++ rest (i + 1)) (c.none i (free i (omega arith) (omega arith)))
+    ∙ skipped c (i + 1) n (λ k from below. free k (omega arith) (omega arith))
+    ∙ ap rest (let more : i + 1 + n ≡ i + suc n = omega arith in more)
+
+-- what was collected and what is left stay all of it, one place that isn't free further
+pub collected_next :
+    {A : Type 0} {IsFree : ℕ → Type 0} {part rest : ℕ → List A} {from count slot : ℕ} (items : List A)
+    {items' all : List A} → Collects IsFree part rest → items ++ rest from ≡ all → IsNext IsFree from count slot
+    → items' ≡ items ++ part slot → items' ++ rest (slot + 1) ≡ all
+collected_next {part = part} {rest = rest} {from} {slot = slot} items c before found is =
+    let there : from + (slot - from) ≡ slot = omega (arith, found.above) in
+    ap (λ front. front ++ rest (slot + 1)) is
+    ∙ append_assoc items (part slot) (rest (slot + 1))
+    ∙ ap (λ more. items ++ more) (sym
+    (skipped c from (slot - from) (λ k above below. found.before k above (omega arith))
+    ∙ ap rest there
+    ∙ c.next slot))
+    ∙ before
+
+-- where the places that are left are free, all was collected
+pub collected_all :
+    {A : Type 0} {IsFree : ℕ → Type 0} {part rest : ℕ → List A} {from : ℕ} (items : List A) {all : List A}
+    (count : ℕ) → Collects IsFree part rest → rest (from + count) ≡ [] → items ++ rest from ≡ all
+    → ((k : ℕ) → from ≤ k → IsFree k) → items ≡ all
+collected_all {from = from} items count c end before free =
+    sym (append-nil items)
+    ∙ ap (λ more. items ++ more) (sym (skipped c from count (λ k above below. free k above) ∙ end))
+    ∙ before
 
 -- no place of an unmarked page is stored to
 unstored : (n : ℕ) → is_stored (replicate n false) ≡ false
 unstored zero = refl
 unstored (suc n) = unstored n
 
-pub is_stored-no_marks : is_stored no_marks ≡ false
+is_stored-no_marks : is_stored no_marks ≡ false
 unfolding no_marks
 is_stored-no_marks = unstored 4096
+
+-- a slot to which nothing was stored gives nothing
+pub part_none : (slot : ℕ) (mask : List Bool) (page : List ℕ) → mask ≡ no_marks → delta_part slot mask page ≡ []
+part_none slot mask page h =
+    ap (λ b. cond b ((let d : PageDelta = record { slot = slot; mask = mask; bytes = chosen mask page } in d) ∷ []) [])
+    (ap is_stored h ∙ is_stored-no_marks)
+
+-- The read pages from a slot on, and the one of a slot.
+abbrev pub reads_left : Memory → List Slot → ℕ → List ReadPage
+reads_left view slots i = reads_from i (drop i (map slot_taken slots)) view
+
+abbrev pub read_at : Memory → List Slot → ℕ → List ReadPage
+read_at view slots i = read_part i (slot_taken (get_or slots i untouched)) (page_of view i)
 
 reads_cons :
     (k : ℕ) (f : Bool) (fs : List Bool) (view : Memory)
@@ -27,29 +84,34 @@ reads_cons :
 reads_cons k true fs view = refl
 reads_cons k false fs view = refl
 
--- one slot more
-pub read_step :
-    (flags : List Bool) (view : Memory) (i : ℕ) (flag : Bool) (page : List ℕ) (items items' all : List ReadPage)
-    → i < length flags → flag ≡ get_or flags i false → page ≡ page_of view i
-    → items ++ reads_from i (drop i flags) view ≡ all → items' ≡ items ++ read_part i flag page
-    → items' ++ reads_from (i + 1) (drop (i + 1) flags) view ≡ all
-read_step flags view i flag page items items' all lt flag_is page_is before is =
-    let next : i + 1 ≡ suc i = omega arith in
-    ap (λ front. front ++ reads_from (i + 1) (drop (i + 1) flags) view) is
-    ∙ append_assoc items (read_part i flag page) (reads_from (i + 1) (drop (i + 1) flags) view)
-    ∙ ap (λ f. items ++ (read_part i f page ++ reads_from (i + 1) (drop (i + 1) flags) view)) flag_is
-    ∙ ap (λ p. items ++ (read_part i (get_or flags i false) p ++ reads_from (i + 1) (drop (i + 1) flags) view)) page_is
-    ∙ ap (λ k. items ++ (read_part i (get_or flags i false) (page_of view i) ++ reads_from k (drop (i + 1) flags)
-    view)) next
-    ∙ ap (λ rest. items ++ rest) (reads_cons i (get_or flags i false) (drop (i + 1) flags) view)
-    ∙ ap (λ rest. items ++ reads_from i rest view) (sym (drop_more flags i false lt))
-    ∙ before
+pub reads_left-end :
+    (view : Memory) (slots : List Slot) (i : ℕ) → length slots ≤ i → reads_left view slots i ≡ []
+reads_left-end view slots i le =
+    ap (λ r. reads_from i r view) (drop_all i (map slot_taken slots) (omega (arith, length-map slots slot_taken)))
 
-pub read_end :
-    (flags : List Bool) (view : Memory) (i : ℕ) (items all : List ReadPage)
-    → length flags ≤ i → items ++ reads_from i (drop i flags) view ≡ all → items ≡ all
-read_end flags view i items all le before =
-    sym (append-nil items) ∙ ap (λ rest. items ++ reads_from i rest view) (sym (drop_all i flags le)) ∙ before
+pub collects-reads :
+    (view : Memory) (slots : List Slot)
+    → Collects (λ k. get_or slots k untouched ≡ untouched) (read_at view slots) (reads_left view slots)
+unfolding slot_taken untouched
+collects-reads view slots = record {
+  next = λ i.
+      let flags = map slot_taken slots in
+      let same : length flags ≡ length slots = length-map slots slot_taken in
+      let next : i + 1 ≡ suc i = omega arith in
+      elim (cases_lt i (length slots)) [
+        | inl lt ↦
+            ap (λ r. reads_from i r view) (drop_more flags i false (omega arith))
+            ∙ ap (λ f. reads_from i (f ∷ drop (i + 1) flags) view) (get_or-map slot_taken slots i untouched false lt)
+            ∙ sym (reads_cons i (slot_taken (get_or slots i untouched)) (drop (i + 1) flags) view)
+            ∙ ap (λ k. read_at view slots i ++ reads_from k (drop (i + 1) flags) view) (sym next)
+        | inr le ↦
+            reads_left-end view slots i le
+            ∙ sym (ap (λ s. read_part i (slot_taken s) (page_of view i) ++ reads_left view slots (i + 1))
+            (get_or_past slots i untouched le)
+            ∙ reads_left-end view slots (i + 1) (omega arith))
+      ];
+  none = λ i free. ap (λ s. read_part i (slot_taken s) (page_of view i)) free;
+}
 
 le_from : (a b : ℕ) → a ≤ b → nat_le a b ≡ true
 le_from a b le = grind (arith, nat_tests)
@@ -63,6 +125,14 @@ reads_from-ascend low k (true ∷ flags) view le =
     (reads_from-ascend (suc k) (suc k) flags view (omega arith))
 reads_from-ascend low k (false ∷ flags) view le = reads_from-ascend low (suc k) flags view (omega arith)
 
+-- The stored bytes from a slot on, and those of a slot.
+abbrev pub deltas_left : Memory → List Slot → ℕ → List PageDelta
+deltas_left view slots i = delta_from i (drop i (map slot_marks slots)) (drop i (on_view slot_bytes view slots))
+
+abbrev pub delta_at : Memory → List Slot → ℕ → List PageDelta
+delta_at view slots i =
+    delta_part i (slot_marks (get_or slots i untouched)) (slot_bytes (page_of view i) (get_or slots i untouched))
+
 delta_cons :
     (k : ℕ) (m : List Bool) (ms : Masks) (p : List ℕ) (ps : Memory)
     → delta_part k m p ++ delta_from (suc k) ms ps ≡ delta_from k (m ∷ ms) (p ∷ ps)
@@ -73,31 +143,43 @@ delta_cons k m ms p ps =
     ≡ cond b (d ∷ delta_from (suc k) ms ps) (delta_from (suc k) ms ps))
     [ true ↦ refl | false ↦ refl ]
 
-pub delta_step :
-    (masks : Masks) (pages : Memory) (i : ℕ) (mask : List Bool) (page : List ℕ) (items items' all : List PageDelta)
-    → i < length masks → i < length pages → mask ≡ mask_of masks i → page ≡ page_of pages i
-    → items ++ delta_from i (drop i masks) (drop i pages) ≡ all → items' ≡ items ++ delta_part i mask page
-    → items' ++ delta_from (i + 1) (drop (i + 1) masks) (drop (i + 1) pages) ≡ all
-delta_step masks pages i mask page items items' all lt below mask_is page_is before is =
-    let next : i + 1 ≡ suc i = omega arith in
-    ap (λ front. front ++ delta_from (i + 1) (drop (i + 1) masks) (drop (i + 1) pages)) is
-    ∙ append_assoc items (delta_part i mask page) (delta_from (i + 1) (drop (i + 1) masks) (drop (i + 1) pages))
-    ∙ ap (λ m. items ++ (delta_part i m page ++ delta_from (i + 1) (drop (i + 1) masks) (drop (i + 1) pages))) mask_is
-    ∙ ap (λ p. items ++ (delta_part i (mask_of masks i) p ++ delta_from (i + 1) (drop (i + 1) masks)
-    (drop (i + 1) pages))) page_is
-    ∙ ap (λ k. items ++ (delta_part i (mask_of masks i) (page_of pages i) ++ delta_from k (drop (i + 1) masks)
-    (drop (i + 1) pages))) next
-    ∙ ap (λ rest. items ++ rest)
-    (delta_cons i (mask_of masks i) (drop (i + 1) masks) (page_of pages i) (drop (i + 1) pages))
-    ∙ ap (λ rest. items ++ delta_from i rest (page_of pages i ∷ drop (i + 1) pages)) (sym (drop_more masks i [] lt))
-    ∙ ap (λ rest. items ++ delta_from i (drop i masks) rest) (sym (drop_more pages i [] below))
-    ∙ before
+pub deltas_left-end :
+    (view : Memory) (slots : List Slot) (i : ℕ) → length slots ≤ i → deltas_left view slots i ≡ []
+deltas_left-end view slots i le =
+    ap (λ r. delta_from i r (drop i (on_view slot_bytes view slots)))
+    (drop_all i (map slot_marks slots) (omega (arith, length-map slots slot_marks)))
 
-pub delta_end :
-    (masks : Masks) (pages : Memory) (i : ℕ) (items all : List PageDelta)
-    → length masks ≤ i → items ++ delta_from i (drop i masks) (drop i pages) ≡ all → items ≡ all
-delta_end masks pages i items all le before =
-    sym (append-nil items) ∙ ap (λ rest. items ++ delta_from i rest (drop i pages)) (sym (drop_all i masks le)) ∙ before
+pub collects-deltas :
+    (view : Memory) (slots : List Slot) → length slots ≡ length view
+    → Collects (λ k. get_or slots k untouched ≡ untouched) (delta_at view slots) (deltas_left view slots)
+unfolding slot_marks untouched
+collects-deltas view slots same = record {
+  next = λ i.
+      let masks = map slot_marks slots in
+      let pages = on_view slot_bytes view slots in
+      let s = get_or slots i untouched in
+      let next : i + 1 ≡ suc i = omega arith in
+      elim (cases_lt i (length slots)) [
+        | inl lt ↦
+            let under : i < length view = omega arith in
+            ap (λ r. delta_from i r (drop i pages)) (drop_more masks i [] (omega (arith, length-map slots slot_marks)))
+            ∙ ap (λ r. delta_from i (mask_of masks i ∷ drop (i + 1) masks) r)
+            (drop_more pages i [] (omega (arith, length-on_view slot_bytes view slots same)))
+            ∙ ap (λ m. delta_from i (m ∷ drop (i + 1) masks) (page_of pages i ∷ drop (i + 1) pages))
+            (get_or-map slot_marks slots i untouched [] lt)
+            ∙ ap (λ p. delta_from i (slot_marks s ∷ drop (i + 1) masks) (p ∷ drop (i + 1) pages))
+            (get_or-on_view slot_bytes view slots i untouched under lt)
+            ∙ sym (delta_cons i (slot_marks s) (drop (i + 1) masks) (slot_bytes (page_of view i) s) (drop (i + 1) pages))
+            ∙ ap (λ k. delta_at view slots i ++ delta_from k (drop (i + 1) masks) (drop (i + 1) pages)) (sym next)
+        | inr le ↦
+            deltas_left-end view slots i le
+            ∙ sym (ap (λ p. p ++ deltas_left view slots (i + 1))
+            (part_none i (slot_marks s) (slot_bytes (page_of view i) s)
+            (ap slot_marks (get_or_past slots i untouched le)))
+            ∙ deltas_left-end view slots (i + 1) (omega arith))
+      ];
+  none = λ i free. part_none i _ _ (ap slot_marks free);
+}
 
 pub delta_from-ascend :
     (low k : ℕ) (masks : Masks) (pages : Memory) → low ≤ k
@@ -165,11 +247,3 @@ delta_from-laid map view stores h =
     ∙ ap (λ start. laid map start stores) (merged_all-no_marks map view)))
     ∙ delta_from-merged 0 view zeros masks
     (shaped-laid map view (on_each zero_page map) (on_each no_marks map) stores shape)
-
--- a slot to which nothing was stored gives nothing
-pub part_none :
-    (slot : ℕ) (mask : List Bool) (page : List ℕ) (items : List PageDelta) → is_stored mask ≡ false
-    → items ≡ items ++ delta_part slot mask page
-part_none slot mask page items h =
-    let d : PageDelta = record { slot = slot; mask = mask; bytes = chosen mask page } in
-    sym (append-nil items) ∙ ap (λ b. items ++ cond b (d ∷ []) []) (sym h)

@@ -4,7 +4,7 @@ use Rattle.memory_spec.specs.Access.{byte_count, number_in}
 use Rattle.memory_spec.specs.Pages.{allows, read_right, write_right}
 use Rattle.priv_space.specs.declared.slot.Slot.{Slot}
 use Rattle.priv_space.specs.declared.slot.Access.{Access}
-use Rattle.priv_space.specs.Slots.{untouched, slot_shared, slot_bytes, slot_marks, slot_taken, IsPermitted}
+use Rattle.priv_space.specs.Slots.{untouched, slot_shared, SharesPage, slot_bytes, slot_marks, slot_taken, IsPermitted}
 use Rattle.priv_space.specs.Written.{with_number, with_marks}
 
 -- An access inside the page of one of so many slots.
@@ -53,7 +53,7 @@ pub record StoresAgain (access : Access) (value : ℕ) (old new : Slot) : Type 0
 
 -- The slot has this number, from a page that may be read and from which a byte was taken.
 pub record HasNumber (access : Access) (number : ℕ) (slot : Slot) : Type 0 where
-  pub value : (page : List ℕ) → slot_shared page slot ≡ page
+  pub value : (page : List ℕ) → SharesPage page slot
       → number ≡ number_in (slot_bytes page slot) access.offset access.size
   pub fits : number < 2 ^ (8 * byte_count access.size)
   pub taken : slot_taken slot ≡ true

@@ -17,6 +17,10 @@ slot_shared page (Shared shared) = arc_value shared
 slot_shared page (Own own) = page
 slot_shared page (Hidden taken own) = page
 
+-- What the slot shares with the view is its page.
+abbrev pub SharesPage : List ℕ → Slot → Type 0
+SharesPage page slot = slot_shared page slot ≡ page
+
 -- The bytes with the thread's stores.
 unfoldable pub slot_bytes : List ℕ → Slot → List ℕ
 slot_bytes page (View taken) = page

@@ -6,7 +6,7 @@ ghost use Rattle.memory_spec.specs.Pages.{page_of, allows, read_right, write_rig
 ghost use Rattle.memory_spec.specs.Workspace.{no_marks};
 ghost use Rattle.priv_space.specs.Written.{byte_of, with_number, with_marks};
 ghost use Rattle.priv_space.specs.Parts.{read_part, delta_part};
-ghost use Rattle.priv_space.specs.Slots.{untouched, slot_shared, slot_bytes, slot_marks, slot_taken, IsPermitted};
+ghost use Rattle.priv_space.specs.Slots.{untouched, SharesPage, slot_bytes, slot_marks, slot_taken};
 ghost use Rattle.priv_space.specs.Changes.{IsWithin, any, HasNumber, TakesByte, TakesNumber, EntersPage, StoresNumber, StoresAgain};
 
 use memory_spec::{PAGE_SIZE, Size};
@@ -152,8 +152,10 @@ fn own_copy(
     value: u32,
 ) -> Result<Box<StoredPage>, AllocError>
     requires { access.offset + byte_count access.size ≤ PAGE_SIZE }
-    ensures page { IfOk result (λ own. own.value.page ≡ with_number page.now access.offset access.size value) }
-    ensures mask { IfOk result (λ own. own.value.mask ≡ with_marks no_marks access.offset access.size) }
+    ensures page { IfOk result
+        (λ own. own.value.page ≡ with_number page.now access.offset access.size value) }
+    ensures mask { IfOk result
+        (λ own. own.value.mask ≡ with_marks no_marks access.offset access.size) }
 {
     let mut own = Box::new(alloc, StoredPage::of(page))?;
     store_number(&mut own, access.offset, access.size, value);
@@ -164,7 +166,8 @@ fn own_copy(
 #[inline(never)]
 fn push_read(view: &PageTable, slot: usize, pages: &mut Vec<ReadPage>) -> Result<(), AllocError>
     requires { slot < length view.now }
-    ensures { OnOk result (pages.new.items ≡ pages.old.items ++ read_part slot true (page_of view.now slot)) }
+    ensures { OnOk result
+        (pages.new.items ≡ pages.old.items ++ read_part slot true (page_of view.now slot)) }
 {
     pages.push(ReadPage::new(slot, view.share(slot)?))?;
     Ok(())
@@ -234,9 +237,10 @@ impl Slot {
     #[tactic(auto, unfolding(crate::specs::Slots::slot_shared, crate::specs::Slots::slot_bytes, crate::specs::Slots::slot_marks, crate::specs::Slots::slot_taken))]
     pub(super) fn take(&mut self, view: &PageTable, access: Access) -> Result<u32, AllocError>
         requires within { IsWithin access (length view.now) }
-        requires share { slot_shared (page_of view.now access.slot) self.old ≡ page_of view.now access.slot }
+        requires share { SharesPage (page_of view.now access.slot) self.old }
         ensures { MatchResult result
-            (λ number. TakesNumber (allows read_right) (page_of view.now access.slot) access number self.old self.new)
+            (λ number. TakesNumber (allows read_right) (page_of view.now access.slot) access number
+                self.old self.new)
             (λ error. self.new ≡ self.old) }
     {
         let number = number_at(self.page(view, access.slot), access.offset, access.size);
@@ -248,7 +252,7 @@ impl Slot {
     #[tactic(auto, unfolding(crate::specs::Slots::slot_shared, crate::specs::Slots::slot_bytes))]
     fn page<'a>(&'a self, view: &'a PageTable, slot: usize) -> &'a Page
         requires within { slot < length view.now }
-        requires share { slot_shared (page_of view.now slot) self.now ≡ page_of view.now slot }
+        requires share { SharesPage (page_of view.now slot) self.now }
         ensures { result.now ≡ slot_bytes (page_of view.now slot) self.now }
     {
         match self {
@@ -267,7 +271,7 @@ impl Slot {
     #[tactic(auto, unfolding(crate::specs::Slots::slot_shared, crate::specs::Slots::slot_bytes, crate::specs::Slots::slot_marks, crate::specs::Slots::slot_taken))]
     fn show(&mut self, view: &PageTable, slot: usize) -> Result<(), AllocError>
         requires within { slot < length view.now }
-        requires share { slot_shared (page_of view.now slot) self.old ≡ page_of view.now slot }
+        requires share { SharesPage (page_of view.now slot) self.old }
         ensures { MatchResult result
             (λ done. TakesByte (allows read_right) (page_of view.now slot) self.old self.new)
             (λ error. self.new ≡ self.old) }
@@ -299,7 +303,7 @@ impl Slot {
     #[tactic(auto, unfolding(crate::specs::Slots::slot_shared, crate::specs::Slots::slot_bytes, crate::specs::Slots::slot_marks, crate::specs::Slots::slot_taken))]
     pub(super) fn fetch(&mut self, view: &PageTable, access: Access) -> u32
         requires within { IsWithin access (length view.now) }
-        requires share { slot_shared (page_of view.now access.slot) self.old ≡ page_of view.now access.slot }
+        requires share { SharesPage (page_of view.now access.slot) self.old }
         ensures { TakesNumber any (page_of view.now access.slot) access result self.old self.new }
     {
         let number = number_at(self.page(view, access.slot), access.offset, access.size);
@@ -342,7 +346,7 @@ impl Slot {
         value: u32,
     ) -> Result<(), AllocError>
         requires within { IsWithin access (length view.now) }
-        requires share { slot_shared (page_of view.now access.slot) self.old ≡ page_of view.now access.slot }
+        requires share { SharesPage (page_of view.now access.slot) self.old }
         ensures { MatchResult result
             (λ done. StoresNumber (page_of view.now access.slot) access value self.old self.new)
             (λ error. self.new ≡ self.old) }

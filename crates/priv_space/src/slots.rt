@@ -8,7 +8,7 @@ ghost use Rattle.priv_space.specs.Written.{with_number, with_marks};
 ghost use Rattle.priv_space.specs.Slots.{on_view, untouched, slot_shared, slot_bytes, slot_marks, slot_taken, IsOver};
 ghost use Rattle.priv_space.specs.Changes.{IsWithin, any, HasNumber, TakesNumber, EntersPage, StoresNumber, StoresAgain, OnSlot};
 ghost use Rattle.priv_space.specs.Parts.{read_part, delta_part};
-ghost use Rattle.priv_space.specs.Held.{held_at, all_held, IsHeld};
+ghost use Rattle.priv_space.specs.Held.{HoldsSlot, PlacesSlot, FindsNext};
 
 use super::slot::{Access, Slot};
 use memory_spec::PAGE_SIZE;
@@ -51,7 +51,8 @@ impl Model for Slots {
 #[inline(always)]
 fn is_clear(places: &[u16], start: usize) -> bool
     requires { start + BLOCK ≤ length places.now }
-    ensures { IsTrue result → (k : ℕ) → start ≤ k → k < start + BLOCK → slice_index places.now k ≡ 0 }
+    ensures { IsTrue result → (k : ℕ) → start ≤ k → k < start + BLOCK
+        → slice_index places.now k ≡ 0 }
 {
     let mut all = 0;
     for k in 0..BLOCK {
@@ -62,10 +63,7 @@ fn is_clear(places: &[u16], start: usize) -> bool
 
 /// The next slot that was touched, from this one on.
 fn next_place(places: &[u16], from: usize) -> Option<usize>
-    ensures found { IfSome result (λ slot. (from ≤ slot) × (slot < length places.now)) }
-    ensures fits { IfSome result (λ slot. slot + 1 < 2 ^ 64) }
-    ensures none_before { IfSome result (λ slot. (k : ℕ) → from ≤ k → k < slot → slice_index places.now k ≡ 0) }
-    ensures none_left { IfNone result ((k : ℕ) → from ≤ k → slice_index places.now k ≡ 0) }
+    ensures { FindsNext (λ k. slice_index places.now k ≡ 0) from (length places.now) result }
 {
     let mut slot = from;
     while slot < places.len() && places.len() - slot >= BLOCK && is_clear(places, slot) {
@@ -97,12 +95,9 @@ fn place_of(places: &[u16], slot: usize) -> usize
 #[cold]
 #[inline(never)]
 fn make_place(places: &mut [u16], held: &mut Vec<Slot>, slot: usize) -> Result<usize, AllocError>
-    requires held { IsHeld places.old held.old.items }
-    requires within { slot < length places.old }
+    requires within { HoldsSlot slot places.old held.old.items }
     requires free { slice_index places.old slot ≡ 0 }
-    ensures held { IsHeld places.new held.new.items }
-    ensures same { all_held places.new held.new.items ≡ all_held places.old held.old.items }
-    ensures place { IfOk result (λ place. (place ≡ slice_index places.new slot) × (0 < place)) }
+    ensures { PlacesSlot slot places.old places.new held.old.items held.new.items result }
 {
     let place = held.len();
     if place > usize::from(u16::MAX) {
@@ -120,11 +115,8 @@ fn make_place(places: &mut [u16], held: &mut Vec<Slot>, slot: usize) -> Result<u
 /// An error where the host's memory ran out.
 #[inline(always)]
 fn place_for(places: &mut [u16], held: &mut Vec<Slot>, slot: usize) -> Result<usize, AllocError>
-    requires held { IsHeld places.old held.old.items }
-    requires within { slot < length places.old }
-    ensures held { IsHeld places.new held.new.items }
-    ensures same { all_held places.new held.new.items ≡ all_held places.old held.old.items }
-    ensures place { IfOk result (λ place. (place ≡ slice_index places.new slot) × (0 < place)) }
+    requires { HoldsSlot slot places.old held.old.items }
+    ensures { PlacesSlot slot places.old places.new held.old.items held.new.items result }
 {
     let place = place_of(places, slot);
     if place != 0 {
@@ -159,11 +151,8 @@ impl Slots {
 
     /// The next slot that was touched, from this one on.
     pub(super) fn next_touched(&self, from: usize) -> Option<usize>
-        ensures found { IfSome result (λ slot. (from ≤ slot) × (slot < length self.now)) }
-        ensures fits { IfSome result (λ slot. slot + 1 < 2 ^ 64) }
-        ensures none_before { IfSome result (λ slot. (k : ℕ) → from ≤ k → k < slot
-            → slice_index_or self.now k untouched ≡ untouched) }
-        ensures none_left { IfNone result ((k : ℕ) → from ≤ k → slice_index_or self.now k untouched ≡ untouched) }
+        ensures { FindsNext (λ k. slice_index_or self.now k untouched ≡ untouched) from
+            (length self.now) result }
     {
         next_place(&self.places, from)
     }
@@ -178,8 +167,9 @@ impl Slots {
     ) -> Result<(), AllocError>
         requires within { slot < length self.now }
         requires mapped { slot < length view.now }
-        ensures { OnOk result (pages.new.items
-            ≡ pages.old.items ++ read_part slot (slot_taken (slice_index_or self.now slot untouched)) (page_of view.now slot)) }
+        ensures { OnOk result (pages.new.items ≡ pages.old.items
+            ++ read_part slot (slot_taken (slice_index_or self.now slot untouched))
+            (page_of view.now slot)) }
     {
         self.at(slot).add_read(view, slot, pages)
     }
@@ -208,7 +198,8 @@ impl Slots {
 #[inline(always)]
 pub(super) fn held_number(slots: &Slots, access: Access) -> Option<u32>
     requires { IsWithin access (length slots.now) }
-    ensures { IfSome result (λ number. HasNumber access number (slice_index_or slots.now access.slot untouched)) }
+    ensures { IfSome result
+        (λ number. HasNumber access number (slice_index_or slots.now access.slot untouched)) }
 {
     slots.at(access.slot).held_number(access)
 }
@@ -224,7 +215,8 @@ pub(super) fn take(view: &PageTable, slots: &mut Slots, access: Access) -> Resul
     requires over { IsOver view.now slots.old }
     ensures { MatchResult result
         (λ number. OnSlot access.slot
-            (TakesNumber (allows read_right) (page_of view.now access.slot) access number) slots.old slots.new)
+            (TakesNumber (allows read_right) (page_of view.now access.slot) access number)
+            slots.old slots.new)
         (λ error. slots.new ≡ slots.old) }
 {
     let place = place_for(&mut slots.places, &mut slots.held, access.slot)?;
@@ -253,7 +245,8 @@ pub(super) fn fetch(view: &PageTable, slots: &mut Slots, access: Access) -> Resu
 #[inline(always)]
 pub(super) fn store_again(slots: &mut Slots, access: Access, value: u32) -> bool
     requires { IsWithin access (length slots.old) }
-    ensures stored { IsTrue result → OnSlot access.slot (StoresAgain access value) slots.old slots.new }
+    ensures stored { IsTrue result
+        → OnSlot access.slot (StoresAgain access value) slots.old slots.new }
     ensures stays { IsFalse result → slots.new ≡ slots.old }
 {
     let place = place_of(&slots.places, access.slot);

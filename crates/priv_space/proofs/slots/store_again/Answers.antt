@@ -1,28 +1,23 @@
 -- Answers to the goals that the check leaves of `store_again`.
-use Rattle.std.proofs.Common.{get_or, refl, ap, sym, ◌∙◌}
+use Rattle.std.proofs.Common.{get_or, refl, ap, ◌∙◌}
 use Rattle.priv_space.specs.Changes.{StoresAgain}
-use Rattle.priv_space.proofs.Held.{placed-slot, held-placed, change-placed, untouched-placed}
+use Rattle.priv_space.proofs.Held.{put-slot, change-put, still-untouched}
 use Rattle.priv_space.proofs.slots.store_again.Goals as goal
 
 pub invariant_of-slots : goal.invariant_of-slots
 invariant_of-slots c =
-    let place_is = c.place_of-place.ensures ∙ ap (λ p. get_or p c.args.access.slot 0) c.deref.ensures.value in
+    let done = c.store_again.ensures in
     let p =
-    placed-slot c.args.slots.now c.slots.inside.places.items c.slots.inside.held.items c.args.access.slot
-    c.place_of-place.result c.index_mut.result.now (sym c.slots.view_is) c.slots.invariant c.requires.slot place_is
-    c.index_mut.ensures.value in
-    held-placed c.store_again.new.self c.slots.inside.places.items p refl
-    (untouched-placed c.args.access c.args.value c.store_again.new.self c.store_again.result p
-    c.store_again.ensures.stored c.store_again.ensures.stays)
+    put-slot c.store_again.new.self c.slots.view_is c.slots.invariant c.requires.slot
+    (c.place_of-place.ensures ∙ ap (λ p. get_or p c.args.access.slot 0) c.deref.ensures.value) c.index_mut.ensures.value
+    refl (λ free none. still-untouched c.store_again.result none done.stored done.stays) in
+    p.each
 
 pub returns-clause-stored : goal.returns-clause-stored
 returns-clause-stored c stored =
-    let place_is = c.place_of-place.ensures ∙ ap (λ p. get_or p c.args.access.slot 0) c.deref.ensures.value in
+    let done = c.store_again.ensures in
     let p =
-    placed-slot c.args.slots.now c.slots.inside.places.items c.slots.inside.held.items c.args.access.slot
-    c.place_of-place.result c.index_mut.result.now (sym c.slots.view_is) c.slots.invariant c.requires.slot place_is
-    c.index_mut.ensures.value in
-    change-placed (StoresAgain c.args.access c.args.value) c.store_again.new.self c.slots.inside.places.items p refl
-    (untouched-placed c.args.access c.args.value c.store_again.new.self c.store_again.result p
-    c.store_again.ensures.stored c.store_again.ensures.stays)
-    (c.store_again.ensures.stored stored)
+    put-slot c.store_again.new.self c.slots.view_is c.slots.invariant c.requires.slot
+    (c.place_of-place.ensures ∙ ap (λ p. get_or p c.args.access.slot 0) c.deref.ensures.value) c.index_mut.ensures.value
+    refl (λ free none. still-untouched c.store_again.result none done.stored done.stays) in
+    change-put (StoresAgain c.args.access c.args.value) p (done.stored stored)
