@@ -1,11 +1,11 @@
 -- Read pages and stored bytes, collected slot by slot.
-use Rattle.std.proofs.Common.{◌≡◌, ℕ, ◌+◌, ◌-◌, ◌<◌, ◌≤◌, zero, suc, Bool, true, false, cond, nat_le, inl, inr, List, [], ◌∷◌, ◌++◌, length, get_or, drop, map, replicate, refl, ap, sym, ◌∙◌, arith, append_assoc}
-use Rattle.std.proofs.lemmas.Bool.{and_from, cases_lt}
+use Rattle.std.proofs.Common.{◌≡◌, ℕ, ◌+◌, ◌-◌, ◌<◌, ◌≤◌, zero, suc, Bool, true, false, cond, nat_le, List, [], ◌∷◌, ◌++◌, length, get_or, drop, map, replicate, refl, ap, sym, ◌∙◌, arith, append_assoc}
+use Rattle.std.proofs.lemmas.Bool.{and_from}
 use Rattle.std.proofs.lemmas.Bool.Decides.{nat_tests}
-use Rattle.std.proofs.lemmas.List.{drop_more, drop_all, append-nil, get_or-map, get_or_past, length-map}
+use Rattle.std.proofs.lemmas.List.{drop_all, append-nil, length-map}
 use Rattle.memory_spec.specs.Pages.{Mapped, Memory, page_of, on_each, zero_page, IsMemory}
 use Rattle.memory_spec.specs.Stores.{StoredByte, laid}
-use Rattle.memory_spec.specs.Workspace.{Masks, mask_of, no_marks, marked}
+use Rattle.memory_spec.specs.Workspace.{Masks, no_marks, marked}
 use Rattle.record_spec.specs.Delta.{PageDelta, chosen, is_stored, delta_from, delta_of}
 use Rattle.record_spec.specs.Reads.{ReadPage, reads_from}
 use Rattle.record_spec.proofs.Merging.{merged, merged_all, Shaped, shaped-laid, shaped-fresh, merged_all-laid, merged_all-no_marks}
@@ -14,11 +14,10 @@ use Rattle.priv_space.specs.declared.slot.Slot.{Slot}
 use Rattle.priv_space.specs.Slots.{on_view, untouched, slot_bytes, slot_marks, slot_taken}
 use Rattle.priv_space.specs.Parts.{read_part, delta_part}
 use Rattle.priv_space.specs.Held.{IsNext}
-use Rattle.priv_space.proofs.Views.{get_or-on_view, length-on_view}
 
 -- What is left from each place on is its part and what is left from the next one on; the free places have none.
 pub record Collects {A : Type 0} (IsFree : ℕ → Type 0) (part rest : ℕ → List A) : Type 0 where
-  pub next : (i : ℕ) → rest i ≡ part i ++ rest (i + 1)
+  pub next : (i : ℕ) → rest i ≡ part i ++ rest (suc i)
   pub none : (i : ℕ) → IsFree i → part i ≡ []
 
 skipped :
@@ -27,9 +26,9 @@ skipped :
 skipped {rest = rest} c i zero free = ap rest (let same : i ≡ i + 0 = omega arith in same)
 skipped {rest = rest} c i (suc n) free =
     c.next i
-    ∙ ap (λ p. p ++ rest (i + 1)) (c.none i (free i (omega arith) (omega arith)))
-    ∙ skipped c (i + 1) n (λ k from below. free k (omega arith) (omega arith))
-    ∙ ap rest (let more : i + 1 + n ≡ i + suc n = omega arith in more)
+    ∙ ap (λ p. p ++ rest (suc i)) (c.none i (free i (omega arith) (omega arith)))
+    ∙ skipped c (suc i) n (λ k from below. free k (omega arith) (omega arith))
+    ∙ ap rest (let more : suc i + n ≡ i + suc n = omega arith in more)
 
 -- what was collected and what is left stay all of it, one place that isn't free further
 pub collected_next :
@@ -38,12 +37,14 @@ pub collected_next :
     → items' ≡ items ++ part slot → items' ++ rest (slot + 1) ≡ all
 collected_next {part = part} {rest = rest} {from} {slot = slot} items c before found is =
     let there : from + (slot - from) ≡ slot = omega (arith, found.above) in
+    let next : suc slot ≡ slot + 1 = omega arith in
     ap (λ front. front ++ rest (slot + 1)) is
     ∙ append_assoc items (part slot) (rest (slot + 1))
     ∙ ap (λ more. items ++ more) (sym
     (skipped c from (slot - from) (λ k above below. found.before k above (omega arith))
     ∙ ap rest there
-    ∙ c.next slot))
+    ∙ c.next slot
+    ∙ ap (λ k. part slot ++ rest k) next))
     ∙ before
 
 -- where the places that are left are free, all was collected
@@ -71,23 +72,28 @@ part_none slot mask page h =
     ap (λ b. cond b ((let d : PageDelta = record { slot = slot; mask = mask; bytes = chosen mask page } in d) ∷ []) [])
     (ap is_stored h ∙ is_stored-no_marks)
 
+get_or-map_all :
+    {A B : Type 0} (f : A → B) (xs : List A) (i : ℕ) (d : A) → get_or (map f xs) i (f d) ≡ f (get_or xs i d)
+get_or-map_all f [] i d = refl
+get_or-map_all f (x ∷ xs) zero d = refl
+get_or-map_all f (x ∷ xs) (suc i) d = get_or-map_all f xs i d
+
 -- The read pages from a slot on, and the one of a slot.
 abbrev pub reads_left : Memory → List Slot → ℕ → List ReadPage
 reads_left view slots i = reads_from i (drop i (map slot_taken slots)) view
 
-abbrev pub read_at : Memory → List Slot → ℕ → List ReadPage
+abbrev read_at : Memory → List Slot → ℕ → List ReadPage
 read_at view slots i = read_part i (slot_taken (get_or slots i untouched)) (page_of view i)
 
-reads_cons :
-    (k : ℕ) (f : Bool) (fs : List Bool) (view : Memory)
-    → read_part k f (page_of view k) ++ reads_from (suc k) fs view ≡ reads_from k (f ∷ fs) view
-reads_cons k true fs view = refl
-reads_cons k false fs view = refl
-
-pub reads_left-end :
-    (view : Memory) (slots : List Slot) (i : ℕ) → length slots ≤ i → reads_left view slots i ≡ []
-reads_left-end view slots i le =
-    ap (λ r. reads_from i r view) (drop_all i (map slot_taken slots) (omega (arith, length-map slots slot_taken)))
+reads_next :
+    (flags : List Bool) (view : Memory) (k i : ℕ)
+    → reads_from k (drop i flags) view
+    ≡ read_part k (get_or flags i false) (page_of view k) ++ reads_from (suc k) (drop (suc i) flags) view
+reads_next [] view k zero = refl
+reads_next [] view k (suc i) = refl
+reads_next (true ∷ flags) view k zero = refl
+reads_next (false ∷ flags) view k zero = refl
+reads_next (flag ∷ flags) view k (suc i) = reads_next flags view k i
 
 pub collects-reads :
     (view : Memory) (slots : List Slot)
@@ -95,23 +101,16 @@ pub collects-reads :
 unfolding slot_taken untouched
 collects-reads view slots = record {
   next = λ i.
-      let flags = map slot_taken slots in
-      let same : length flags ≡ length slots = length-map slots slot_taken in
-      let next : i + 1 ≡ suc i = omega arith in
-      elim (cases_lt i (length slots)) [
-        | inl lt ↦
-            ap (λ r. reads_from i r view) (drop_more flags i false (omega arith))
-            ∙ ap (λ f. reads_from i (f ∷ drop (i + 1) flags) view) (get_or-map slot_taken slots i untouched false lt)
-            ∙ sym (reads_cons i (slot_taken (get_or slots i untouched)) (drop (i + 1) flags) view)
-            ∙ ap (λ k. read_at view slots i ++ reads_from k (drop (i + 1) flags) view) (sym next)
-        | inr le ↦
-            reads_left-end view slots i le
-            ∙ sym (ap (λ s. read_part i (slot_taken s) (page_of view i) ++ reads_left view slots (i + 1))
-            (get_or_past slots i untouched le)
-            ∙ reads_left-end view slots (i + 1) (omega arith))
-      ];
+      reads_next (map slot_taken slots) view i i
+      ∙ ap (λ flag. read_part i flag (page_of view i) ++ reads_left view slots (suc i))
+      (get_or-map_all slot_taken slots i untouched);
   none = λ i free. ap (λ s. read_part i (slot_taken s) (page_of view i)) free;
 }
+
+pub reads_left-end :
+    (view : Memory) (slots : List Slot) (i : ℕ) → length slots ≤ i → reads_left view slots i ≡ []
+reads_left-end view slots i le =
+    ap (λ r. reads_from i r view) (drop_all i (map slot_taken slots) (omega (arith, length-map slots slot_taken)))
 
 le_from : (a b : ℕ) → a ≤ b → nat_le a b ≡ true
 le_from a b le = grind (arith, nat_tests)
@@ -129,57 +128,42 @@ reads_from-ascend low k (false ∷ flags) view le = reads_from-ascend low (suc k
 abbrev pub deltas_left : Memory → List Slot → ℕ → List PageDelta
 deltas_left view slots i = delta_from i (drop i (map slot_marks slots)) (drop i (on_view slot_bytes view slots))
 
-abbrev pub delta_at : Memory → List Slot → ℕ → List PageDelta
+abbrev delta_at : Memory → List Slot → ℕ → List PageDelta
 delta_at view slots i =
     delta_part i (slot_marks (get_or slots i untouched)) (slot_bytes (page_of view i) (get_or slots i untouched))
 
-delta_cons :
-    (k : ℕ) (m : List Bool) (ms : Masks) (p : List ℕ) (ps : Memory)
-    → delta_part k m p ++ delta_from (suc k) ms ps ≡ delta_from k (m ∷ ms) (p ∷ ps)
-delta_cons k m ms p ps =
-    let d : PageDelta = record { slot = k; mask = m; bytes = chosen m p } in
-    elim (is_stored m)
-    as (λ b. cond b (d ∷ []) [] ++ delta_from (suc k) ms ps
-    ≡ cond b (d ∷ delta_from (suc k) ms ps) (delta_from (suc k) ms ps))
+deltas_next :
+    (view : Memory) (slots : List Slot) (k i : ℕ) → length slots ≡ length view
+    → delta_from k (drop i (map slot_marks slots)) (drop i (on_view slot_bytes view slots))
+    ≡ delta_part k (slot_marks (get_or slots i untouched)) (slot_bytes (page_of view i) (get_or slots i untouched))
+    ++ delta_from (suc k) (drop (suc i) (map slot_marks slots)) (drop (suc i) (on_view slot_bytes view slots))
+unfolding slot_marks untouched
+deltas_next [] [] k zero same = sym (ap (λ p. p ++ []) (part_none k no_marks _ refl))
+deltas_next [] [] k (suc i) same = sym (ap (λ p. p ++ []) (part_none k no_marks _ refl))
+deltas_next [] (s ∷ slots) k i same = absurd (omega arith)
+deltas_next (page ∷ view) [] k i same = absurd (omega arith)
+deltas_next (page ∷ view) (s ∷ slots) k zero same =
+    let rest = delta_from (suc k) (map slot_marks slots) (on_view slot_bytes view slots) in
+    let d : PageDelta =
+    record { slot = k; mask = slot_marks s; bytes = chosen (slot_marks s) (slot_bytes page s) } in
+    elim (is_stored (slot_marks s)) as (λ b. cond b (d ∷ rest) rest ≡ cond b (d ∷ []) [] ++ rest)
     [ true ↦ refl | false ↦ refl ]
-
-pub deltas_left-end :
-    (view : Memory) (slots : List Slot) (i : ℕ) → length slots ≤ i → deltas_left view slots i ≡ []
-deltas_left-end view slots i le =
-    ap (λ r. delta_from i r (drop i (on_view slot_bytes view slots)))
-    (drop_all i (map slot_marks slots) (omega (arith, length-map slots slot_marks)))
+deltas_next (page ∷ view) (s ∷ slots) k (suc i) same = deltas_next view slots k i (omega arith)
 
 pub collects-deltas :
     (view : Memory) (slots : List Slot) → length slots ≡ length view
     → Collects (λ k. get_or slots k untouched ≡ untouched) (delta_at view slots) (deltas_left view slots)
 unfolding slot_marks untouched
 collects-deltas view slots same = record {
-  next = λ i.
-      let masks = map slot_marks slots in
-      let pages = on_view slot_bytes view slots in
-      let s = get_or slots i untouched in
-      let next : i + 1 ≡ suc i = omega arith in
-      elim (cases_lt i (length slots)) [
-        | inl lt ↦
-            let under : i < length view = omega arith in
-            ap (λ r. delta_from i r (drop i pages)) (drop_more masks i [] (omega (arith, length-map slots slot_marks)))
-            ∙ ap (λ r. delta_from i (mask_of masks i ∷ drop (i + 1) masks) r)
-            (drop_more pages i [] (omega (arith, length-on_view slot_bytes view slots same)))
-            ∙ ap (λ m. delta_from i (m ∷ drop (i + 1) masks) (page_of pages i ∷ drop (i + 1) pages))
-            (get_or-map slot_marks slots i untouched [] lt)
-            ∙ ap (λ p. delta_from i (slot_marks s ∷ drop (i + 1) masks) (p ∷ drop (i + 1) pages))
-            (get_or-on_view slot_bytes view slots i untouched under lt)
-            ∙ sym (delta_cons i (slot_marks s) (drop (i + 1) masks) (slot_bytes (page_of view i) s) (drop (i + 1) pages))
-            ∙ ap (λ k. delta_at view slots i ++ delta_from k (drop (i + 1) masks) (drop (i + 1) pages)) (sym next)
-        | inr le ↦
-            deltas_left-end view slots i le
-            ∙ sym (ap (λ p. p ++ deltas_left view slots (i + 1))
-            (part_none i (slot_marks s) (slot_bytes (page_of view i) s)
-            (ap slot_marks (get_or_past slots i untouched le)))
-            ∙ deltas_left-end view slots (i + 1) (omega arith))
-      ];
+  next = λ i. deltas_next view slots i i same;
   none = λ i free. part_none i _ _ (ap slot_marks free);
 }
+
+pub deltas_left-end :
+    (view : Memory) (slots : List Slot) (i : ℕ) → length slots ≤ i → deltas_left view slots i ≡ []
+deltas_left-end view slots i le =
+    ap (λ r. delta_from i r (drop i (on_view slot_bytes view slots)))
+    (drop_all i (map slot_marks slots) (omega (arith, length-map slots slot_marks)))
 
 pub delta_from-ascend :
     (low k : ℕ) (masks : Masks) (pages : Memory) → low ≤ k

@@ -1,12 +1,12 @@
 -- What a space means, after each of its operations.
-use Rattle.std.proofs.Common.{◌≡◌, ℕ, ◌%◌, ◌<◌, zero, suc, Bool, true, false, IsTrue, IsFalse, cond, List, [], ◌∷◌, length, map, get_or, set, replicate, refl, ap, sym, ◌∙◌, arith, Result, Ok, Err, MatchResult, IfOk, OnOk, OnErr, Option, Some, None, IfSome, IfNone}
+use Rattle.std.proofs.Common.{◌≡◌, ℕ, ◌%◌, ◌<◌, zero, suc, Bool, true, false, IsTrue, IsFalse, cond, List, [], ◌∷◌, length, map, get_or, set, replicate, refl, ap, sym, ◌∙◌, arith, Result, Ok, Err, MatchResult, Some, None}
 use Rattle.std.proofs.lemmas.List.{map-set, get_or-map, length-map, length-set, set-get_or}
 use Rattle.std.proofs.Math.Seq.{map-set_same}
 use Rattle.memory_spec.specs.declared.Size.{Size}
 use Rattle.memory_spec.specs.Pages.{Mapped, Memory, allows, execute_right, read_right, write_right, slot_of, permission_at, page_of, unmapped, on_each}
 use Rattle.memory_spec.specs.Access.{byte_count, bytes_stored, number_in, number_at, loaded, may_store}
 use Rattle.memory_spec.specs.Stores.{laid}
-use Rattle.memory_spec.specs.Workspace.{Workspace, mask_of, marked, no_marks, fresh, after_taking, after_storing}
+use Rattle.memory_spec.specs.Workspace.{mask_of, marked, no_marks, fresh, after_taking, after_storing}
 use Rattle.priv_space.specs.Written.{with_number, with_marks}
 use Rattle.page_map.specs.Entering.{Enters}
 use Rattle.priv_space.specs.declared.slot.Slot.{Slot}
@@ -16,27 +16,6 @@ use Rattle.priv_space.specs.Changes.{Keeps, HasNumber, TakesByte, EntersPage, St
 use Rattle.priv_space.specs.Spaces.{workspace}
 use Rattle.priv_space.proofs.Views.{map-replicate, bytes-untouched, on_view-set, on_view-set_same, get_or-on_view, fitting-on_view, length-on_view, permitted-set, permitted-get_or}
 use Rattle.priv_space.proofs.Access.{laid-access, marked-access}
-
-pub on_ok : {T E : Type 0} {P Q : Type 0} (r : Result T E) → (P → Q) → OnOk r P → OnOk r Q
-on_ok (Ok value) f h = f h
-on_ok (Err error) f h = h
-
-pub on_err : {T E : Type 0} {P Q : Type 0} (r : Result T E) → (P → Q) → OnErr r P → OnErr r Q
-on_err (Ok value) f h = h
-on_err (Err error) f h = f h
-
-pub if_ok : {T E : Type 0} {P Q : T → Type 0} (r : Result T E) → ((value : T) → P value → Q value) → IfOk r P → IfOk r Q
-if_ok (Ok value) f h = f value h
-if_ok (Err error) f h = h
-
-pub if_some :
-    {T : Type 0} {P Q : T → Type 0} (o : Option T) → ((value : T) → P value → Q value) → IfSome o P → IfSome o Q
-if_some (Some value) f h = f value h
-if_some None f h = h
-
-pub if_none : {T : Type 0} {P Q : Type 0} (o : Option T) → (P → Q) → IfNone o P → IfNone o Q
-if_none (Some value) f h = h
-if_none None f h = f h
 
 on_each-replicate : {A : Type 0} (a : A) (map : List Mapped) (n : ℕ) → n ≡ length map → replicate n a ≡ on_each a map
 on_each-replicate a [] zero h = refl
@@ -49,14 +28,7 @@ pub fresh_space :
     (pages pages' : List Mapped) (view view' : Memory) (count : ℕ) (slots : List Slot)
     → pages' ≡ pages → view' ≡ view → slots ≡ replicate count untouched → length view ≡ count
     → length view ≡ length pages
-    → (let w : Workspace = record {
-      map = pages';
-      view = view';
-      memory = on_view slot_bytes view' slots;
-      stored = map slot_marks slots;
-      taken = map slot_taken slots;
-    } in w)
-    ≡ fresh pages view
+    → workspace pages' view' slots ≡ fresh pages view
 unfolding slot_marks slot_taken untouched
 fresh_space pages pages' view view' count slots pages_are view_is slots_are all same =
     let memory : on_view slot_bytes view (replicate (length view) untouched) ≡ view = bytes-untouched view in

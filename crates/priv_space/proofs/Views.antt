@@ -46,16 +46,6 @@ on_view-set_same f view slots i s d lt below same =
     ∙ ap (set (on_view f view slots) i) (same ∙ sym (get_or-on_view f view slots i d lt below))
     ∙ set-get_or (on_view f view slots) i []
 
--- a slot that makes as much of any page as before changes nothing of any view
-pub on_view-set_kept :
-    (f : List ℕ → Slot → List ℕ) (view : Memory) (slots : List Slot) (i : ℕ) (s d : Slot)
-    → ((page : List ℕ) → f page s ≡ f page (get_or slots i d)) → on_view f view (set slots i s) ≡ on_view f view slots
-on_view-set_kept f [] slots i s d same = refl
-on_view-set_kept f (p ∷ ps) [] i s d same = refl
-on_view-set_kept f (p ∷ ps) (q ∷ qs) zero s d same = ap (λ page. page ∷ on_view f ps qs) (same p)
-on_view-set_kept f (p ∷ ps) (q ∷ qs) (suc i) s d same =
-    ap (λ rest. f p q ∷ rest) (on_view-set_kept f ps qs i s d same)
-
 pub map-replicate : {A B : Type 0} (f : A → B) (n : ℕ) (a : A) → map f (replicate n a) ≡ replicate n (f a)
 map-replicate f zero a = refl
 map-replicate f (suc n) a = ap (λ rest. f a ∷ rest) (map-replicate f n a)
