@@ -107,10 +107,16 @@ collects-reads view slots = record {
   none = λ i free. ap (λ s. read_part i (slot_taken s) (page_of view i)) free;
 }
 
-pub reads_left-end :
-    (view : Memory) (slots : List Slot) (i : ℕ) → length slots ≤ i → reads_left view slots i ≡ []
-reads_left-end view slots i le =
-    ap (λ r. reads_from i r view) (drop_all i (map slot_taken slots) (omega (arith, length-map slots slot_taken)))
+-- where no slot that is left was touched, all read pages were collected
+pub reads_all :
+    (view : Memory) (slots : List Slot) (from : ℕ) (items : List ReadPage)
+    → items ++ reads_left view slots from ≡ reads_left view slots 0
+    → ((k : ℕ) → from ≤ k → get_or slots k untouched ≡ untouched) → items ≡ reads_left view slots 0
+reads_all view slots from items before free =
+    let past : length (map slot_taken slots) ≤ from + length slots = omega (arith, length-map slots slot_taken) in
+    collected_all items (length slots) (collects-reads view slots)
+    (ap (λ r. reads_from (from + length slots) r view) (drop_all (from + length slots) (map slot_taken slots) past))
+    before free
 
 le_from : (a b : ℕ) → a ≤ b → nat_le a b ≡ true
 le_from a b le = grind (arith, nat_tests)
@@ -159,11 +165,17 @@ collects-deltas view slots same = record {
   none = λ i free. part_none i _ _ (ap slot_marks free);
 }
 
-pub deltas_left-end :
-    (view : Memory) (slots : List Slot) (i : ℕ) → length slots ≤ i → deltas_left view slots i ≡ []
-deltas_left-end view slots i le =
-    ap (λ r. delta_from i r (drop i (on_view slot_bytes view slots)))
-    (drop_all i (map slot_marks slots) (omega (arith, length-map slots slot_marks)))
+-- and all stored bytes were
+pub deltas_all :
+    (view : Memory) (slots : List Slot) (from : ℕ) (items : List PageDelta) → length slots ≡ length view
+    → items ++ deltas_left view slots from ≡ deltas_left view slots 0
+    → ((k : ℕ) → from ≤ k → get_or slots k untouched ≡ untouched) → items ≡ deltas_left view slots 0
+deltas_all view slots from items same before free =
+    let end = from + length slots in
+    let past : length (map slot_marks slots) ≤ end = omega (arith, length-map slots slot_marks) in
+    collected_all items (length slots) (collects-deltas view slots same)
+    (ap (λ r. delta_from end r (drop end (on_view slot_bytes view slots))) (drop_all end (map slot_marks slots) past))
+    before free
 
 pub delta_from-ascend :
     (low k : ℕ) (masks : Masks) (pages : Memory) → low ≤ k

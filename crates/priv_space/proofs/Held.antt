@@ -6,10 +6,10 @@ use Rattle.std.proofs.Math.Seq.{get_or-append_seam}
 use Rattle.memory_spec.specs.Pages.{Memory, page_of}
 use Rattle.priv_space.specs.declared.slot.Slot.{Slot}
 use Rattle.priv_space.specs.declared.slot.Access.{Access}
-use Rattle.priv_space.specs.Slots.{untouched, slot_shared, SharesPage, IsPermitted, IsOver}
+use Rattle.priv_space.specs.Slots.{untouched, SharesPage, IsPermitted, IsOver}
 use Rattle.priv_space.specs.Held.{held_at, all_held, IsHeld, PlacesSlot, FindsNext}
 use Rattle.priv_space.specs.Changes.{OnSlot, StoresAgain}
-use Rattle.priv_space.proofs.Views.{fitting-on_view, map-replicate}
+use Rattle.priv_space.proofs.Views.{map-replicate}
 
 pub length-all_held : (places : List ℕ) (held : List Slot) → length (all_held places held) ≡ length places
 length-all_held places held = length-map places (held_at held)
@@ -172,9 +172,7 @@ put-touched {old = old} s was seen placed within x_is same =
 pub shared-put :
     {slots held : List Slot} {places : List ℕ} {i : ℕ} {x s : Slot} (view : Memory)
     → IsPut slots places held i x s → IsOver view slots → SharesPage (page_of view i) x
-shared-put {slots} {i = i} view p over =
-    ap (slot_shared (page_of view i)) p.was
-    ∙ fitting-on_view slot_shared view slots i untouched (omega (arith, p.within, over.count)) p.within over.shared
+shared-put {i = i} view p over = rw p.was (over.shared i)
 
 -- so its change is that change of the slot
 pub change-put :

@@ -4,7 +4,7 @@ use Rattle.std.specs.Arc.{arc_value}
 use Rattle.memory_spec.specs.Access.{may_store}
 use Rattle.memory_spec.specs.Pages.{allows, write_right, page_of}
 use Rattle.priv_space.specs.Changes.{StoresNumber}
-use Rattle.priv_space.proofs.Spaces.{fits-outcome, stored_space, right_in_slot}
+use Rattle.priv_space.proofs.Spaces.{fits-outcome, stored_space}
 use Rattle.priv_space.proofs.space.Space.first_store.Goals as goal
 
 pub returns-in-Ok : goal.returns-in-Ok
@@ -15,7 +15,7 @@ returns-in-Ok c =
     rw (← c.self.view_is) (
       ap (allows write_right) (sym found.perm) ∙ sym c.if-not-writes.ensures,
       stored_space (arc_value c.self.inside.pages) c.args.address c.args.size c.args.value c.self.invariant
-          found.slot.1 found.slot.0 c.requires done.others done.change,
+          found.slot c.requires done.others done.change,
     )
 
 pub invariant_of-self-in-Some : goal.invariant_of-self-in-Some
@@ -27,7 +27,6 @@ invariant_of-self-in-Some c =
     fits-outcome (allows write_right)
     (λ value. StoresNumber (page_of view c.in-Some.slot)
     (record { slot = c.in-Some.slot; offset = _; size = c.args.size }) c.args.value)
-    c.store.result c.self.invariant found.slot.1
-    (right_in_slot write_right c.in-Some.perm.0 pages c.args.address c.in-Some.slot found.slot.0 found.perm
-    c.if-not-writes.ensures)
+    c.args.address c.store.result c.self.invariant found.slot
+    (ap (allows write_right) (sym found.perm) ∙ sym c.if-not-writes.ensures)
     (λ value old new stored. stored.keeps) done

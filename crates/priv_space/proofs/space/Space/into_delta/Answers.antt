@@ -1,5 +1,5 @@
 -- Answers to the goals that the check leaves of `into_delta`.
-use Rattle.std.proofs.Common.{◌≡◌, ◌+◌, ◌++◌, length, map, get_or, ap, sym, ◌∙◌, arith}
+use Rattle.std.proofs.Common.{◌≡◌, ◌++◌, length, map, get_or, ap, sym, ◌∙◌, arith}
 use Rattle.std.proofs.lemmas.List.{length-set, get_or-set_other}
 use Rattle.std.specs.Arc.{arc_value}
 use Rattle.memory_spec.specs.Pages.{page_of}
@@ -7,7 +7,7 @@ use Rattle.record_spec.specs.Ascending.{deltas_ascend}
 use Rattle.priv_space.specs.Parts.{delta_part}
 use Rattle.priv_space.specs.Slots.{on_view, untouched, slot_bytes, slot_marks}
 use Rattle.priv_space.specs.Held.{IsNext}
-use Rattle.priv_space.proofs.Collecting.{collects-deltas, collected_next, collected_all, deltas_left-end, delta_from-ascend}
+use Rattle.priv_space.proofs.Collecting.{collects-deltas, collected_next, deltas_all, delta_from-ascend}
 use Rattle.priv_space.proofs.space.Space.into_delta.Goals as goal
 
 pub loop-slot-preserved : goal.loop-slot-preserved
@@ -46,20 +46,15 @@ new-requires c =
     let slots = c.self.inside.slots in
     let view = arc_value c.self.inside.view in
     let kept = c.loop-slot.invariant in
-    let all =
-    collected_all c.loop-slot.deltas.items (length slots) (collects-deltas view slots c.self.invariant.over.count)
-    (deltas_left-end view slots (c.loop-slot.from + length slots) (omega arith)) (rw (← c.self.view_is) at kept.deltas)
-    (λ k above. sym (kept.rest k above) ∙ c.in_default.ensures k above) in
-    ap (deltas_ascend 0) all
+    ap (deltas_ascend 0)
+    (deltas_all view slots c.loop-slot.from c.loop-slot.deltas.items c.self.invariant.over.count
+    (rw (← c.self.view_is) at kept.deltas) (λ k above. sym (kept.rest k above) ∙ c.in_default.ensures k above))
     ∙ delta_from-ascend 0 0 (map slot_marks slots) (on_view slot_bytes view slots) (omega arith)
 
 pub returns : goal.returns
 returns c =
-    let slots = c.self.inside.slots in
-    let view = arc_value c.self.inside.view in
     let kept = c.loop-slot.invariant in
-    let all =
-    collected_all c.loop-slot.deltas.items (length slots) (collects-deltas view slots c.self.invariant.over.count)
-    (deltas_left-end view slots (c.loop-slot.from + length slots) (omega arith)) (rw (← c.self.view_is) at kept.deltas)
-    (λ k above. sym (kept.rest k above) ∙ c.in_default.ensures k above) in
-    c.new.ensures ∙ rw (← c.self.view_is) all
+    c.new.ensures
+    ∙ rw (← c.self.view_is) (deltas_all (arc_value c.self.inside.view) c.self.inside.slots c.loop-slot.from
+    c.loop-slot.deltas.items c.self.invariant.over.count (rw (← c.self.view_is) at kept.deltas)
+    (λ k above. sym (kept.rest k above) ∙ c.in_default.ensures k above))

@@ -28,7 +28,7 @@ returns-clause-entered c =
       | then-enter w ↦
           let done = c.enter.ensures.entered w.if-enter.true in
           rw (← c.self.view_is, w.result-is)
-          (entered_space pages c.args.address c.self.invariant found.slot.1 found.slot.0
+          (entered_space pages c.args.address c.self.invariant found.slot
           (ap (allows execute_right) (sym found.perm) ∙ sym c.if-not-executes.ensures) done)
       | else-enter w ↦ rw w.result-is tt
     ]

@@ -8,4 +8,4 @@ returns-in-Some-held_number-clause-found c =
     let found = rw c.deref.ensures at c.in-Some.ensures in
     let held = rw (c.access_to-access.ensures.value) at c.in-Some-held_number.ensures in
     rw (← c.self.view_is)
-    (held_space (arc_value c.self.inside.pages) c.args.address c.args.size c.self.invariant found.1 found.0 held)
+    (held_space (arc_value c.self.inside.pages) c.args.address c.args.size c.self.invariant found held)

@@ -14,5 +14,5 @@ returns-then-store_again c =
     let found = rw c.deref.ensures at c.in-Some.ensures in
     let done = rw (c.access_to-access.ensures.value) at c.store_again.ensures in
     rw (← c.self.view_is)
-    (stored_again (arc_value c.self.inside.pages) c.args.address c.args.size c.args.value c.self.invariant found.1
-    found.0 c.requires (done.stored c.if-store_again.true))
+    (stored_again (arc_value c.self.inside.pages) c.args.address c.args.size c.args.value c.self.invariant found
+    c.requires (done.stored c.if-store_again.true))
