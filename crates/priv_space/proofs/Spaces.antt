@@ -189,10 +189,10 @@ pub stored_again :
     × (workspace pages view after ≡ after_storing (workspace pages view slots) (bytes_stored address size value))
 unfolding may_store permission_at
 stored_again pages {view} {slots} address size value {i} fits at aligned done = (
-      ap (λ k. allows write_right (get_or pages k unmapped).permission) (sym at.0)
-          ∙ done.change.writes _ (fits.permitted i),
-      stored_space pages address size value fits at aligned done.others (done.change.stores (page_of view i)),
-    )
+  ap (λ k. allows write_right (get_or pages k unmapped).permission) (sym at.0)
+      ∙ done.change.writes _ (fits.permitted i),
+  stored_space pages address size value fits at aligned done.others (done.change.stores (page_of view i)),
+)
 
 -- so the slots fit after a call that stores to an own copy, if there is one
 pub fits-again :

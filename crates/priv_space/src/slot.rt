@@ -240,7 +240,7 @@ impl Slot {
         requires share { SharesPage (page_of view.now access.slot) self.old }
         ensures { MatchResult result
             (λ number. TakesNumber (allows read_right) (page_of view.now access.slot) access number
-                self.old self.new)
+            self.old self.new)
             (λ error. self.new ≡ self.old) }
     {
         let number = number_at(self.page(view, access.slot), access.offset, access.size);

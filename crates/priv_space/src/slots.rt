@@ -215,8 +215,8 @@ pub(super) fn take(view: &PageTable, slots: &mut Slots, access: Access) -> Resul
     requires over { IsOver view.now slots.old }
     ensures { MatchResult result
         (λ number. OnSlot access.slot
-            (TakesNumber (allows read_right) (page_of view.now access.slot) access number)
-            slots.old slots.new)
+        (TakesNumber (allows read_right) (page_of view.now access.slot) access number)
+        slots.old slots.new)
         (λ error. slots.new ≡ slots.old) }
 {
     let place = place_for(&mut slots.places, &mut slots.held, access.slot)?;
@@ -233,7 +233,7 @@ pub(super) fn fetch(view: &PageTable, slots: &mut Slots, access: Access) -> Resu
     requires over { IsOver view.now slots.old }
     ensures { MatchResult result
         (λ number. OnSlot access.slot
-            (TakesNumber any (page_of view.now access.slot) access number) slots.old slots.new)
+        (TakesNumber any (page_of view.now access.slot) access number) slots.old slots.new)
         (λ error. slots.new ≡ slots.old) }
 {
     let place = place_for(&mut slots.places, &mut slots.held, access.slot)?;
@@ -269,7 +269,7 @@ pub(super) fn store(
     requires over { IsOver view.now slots.old }
     ensures { MatchResult result
         (λ done. OnSlot access.slot
-            (StoresNumber (page_of view.now access.slot) access value) slots.old slots.new)
+        (StoresNumber (page_of view.now access.slot) access value) slots.old slots.new)
         (λ error. slots.new ≡ slots.old) }
 {
     let place = place_for(&mut slots.places, &mut slots.held, access.slot)?;
