@@ -184,7 +184,8 @@ impl Slots {
     ) -> Result<(), AllocError>
         requires { slot < length self.old }
         ensures given { (page : List ℕ) → OnOk result (deltas.new.items
-            ≡ deltas.old.items ++ delta_part slot (slot_marks (slice_index_or self.old slot untouched))
+            ≡ deltas.old.items
+            ++ delta_part slot (slot_marks (slice_index_or self.old slot untouched))
             (slot_bytes page (slice_index_or self.old slot untouched))) }
         ensures left { self.new ≡ slice_set self.old slot untouched }
     {
@@ -240,8 +241,8 @@ pub(super) fn fetch(view: &PageTable, slots: &mut Slots, access: Access) -> Resu
     Ok(slots.held[place].fetch(view, access))
 }
 
-/// Stores the lowest bytes of a value into the own copy of a page. Whether there is one; else nothing changes. It says
-/// so on any view and any map.
+/// Stores the lowest bytes of a value into the thread's copy of a page and returns true; without a copy, changes
+/// nothing and returns false.
 #[inline(always)]
 pub(super) fn store_again(slots: &mut Slots, access: Access, value: u32) -> bool
     requires { IsWithin access (length slots.old) }
@@ -276,8 +277,8 @@ pub(super) fn store(
     slots.held[place].store(alloc, view, access, value)
 }
 
-/// Takes a byte of a page, to run its instructions, unless it has the thread's own stores or the host's memory ran out.
-/// It says so on any view.
+/// Takes a byte of a page, to run its instructions, and returns true; changes nothing and returns false if the page has
+/// the thread's own stores or the host's memory ran out.
 #[inline(always)]
 pub(super) fn enter(slots: &mut Slots, slot: usize) -> bool
     requires { slot < length slots.old }
