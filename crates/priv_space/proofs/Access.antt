@@ -1,49 +1,62 @@
 -- An aligned access stays inside one page.
-use Rattle.std.proofs.Common.{◌≡◌, ℕ, ◌+◌, ◌/◌, ◌%◌, ◌<◌, ◌≤◌, Bool, true, List, [], ◌∷◌, ◌==◌, cond, suc, length, set, refl, ap, sym, ◌∙◌, arith}
+use Rattle.std.proofs.Common.{◌≡◌, ℕ, ◌+◌, ◌/◌, ◌%◌, ◌<◌, true, List, [], ◌∷◌, ◌==◌, cond, zero, suc, length, get_or, set, refl, ap, sym, ◌∙◌, arith}
 use Rattle.std.proofs.lemmas.List.{get_or-set_same, set-set, set-get_or}
 use Rattle.memory_spec.specs.declared.Size.{Size}
 use Rattle.memory_spec.specs.declared.Size.TheVariants.{One, Two, Four}
 use Rattle.memory_spec.specs.Pages.{Mapped, Memory, slot_of, page_of}
 use Rattle.memory_spec.specs.Stores.{with_byte, laid}
-use Rattle.memory_spec.specs.Access.{byte_count, byte_stored, bytes_stored}
+use Rattle.memory_spec.specs.Access.{byte_count, bytes_stored}
 use Rattle.memory_spec.specs.Workspace.{Masks, mask_of, with_mark, marked}
 use Rattle.priv_space.specs.Written.{byte_of, with_number, with_marks}
 
--- the offsets of an aligned access are inside its page
-pub inside_page : (address : ℕ) (size : Size) → address % byte_count size ≡ 0 → address % 4096 + byte_count size ≤ 4096
-inside_page address One h = omega arith
-inside_page address Two h = omega arith
-inside_page address Four h = omega arith
-
 -- the slot turns on the page's number alone
-pub slot_of-same : (map : List Mapped) (a b : ℕ) → a / 4096 ≡ b / 4096 → slot_of map a ≡ slot_of map b
+slot_of-same : (map : List Mapped) (a b : ℕ) → a / 4096 ≡ b / 4096 → slot_of map a ≡ slot_of map b
 slot_of-same [] a b h = refl
 slot_of-same (p ∷ ps) a b h =
     ap (λ number. cond (p.number == number) 0 (suc (slot_of ps a))) h
     ∙ ap (λ rest. cond (p.number == b / 4096) 0 (suc rest)) (slot_of-same ps a b h)
 
--- one byte more into a page
-byte_more :
-    (map : List Mapped) (m : Memory) (p : List ℕ) (s o a v : ℕ)
-    → slot_of map a ≡ s → a % 4096 ≡ o → s < length m
-    → with_byte map (set m s p) (record { address = a; byte = v }) ≡ set m s (set p o v)
-unfolding with_byte
-byte_more map m p s o a v slot offset lt =
-    ap (λ k. set (set m s p) k (set (page_of (set m s p) k) (a % 4096) v)) slot
-    ∙ ap (λ k. set (set m s p) s (set (page_of (set m s p) s) k v)) offset
-    ∙ ap (λ page. set (set m s p) s (set page o v)) (get_or-set_same m s p [] lt)
-    ∙ set-set m s p (set p o v)
+-- One is put at an address, into the page that has it.
+abbrev put : {A : Type 0} → List Mapped → List (List A) → ℕ → A → List (List A)
+put map m address a = set m (slot_of map address) (set (get_or m (slot_of map address) []) (address % 4096) a)
 
-mark_more :
-    (map : List Mapped) (m : Masks) (p : List Bool) (s o a v : ℕ)
-    → slot_of map a ≡ s → a % 4096 ≡ o → s < length m
-    → with_mark map (set m s p) (record { address = a; byte = v }) ≡ set m s (set p o true)
-unfolding with_mark
-mark_more map m p s o a v slot offset lt =
-    ap (λ k. set (set m s p) k (set (mask_of (set m s p) k) (a % 4096) true)) slot
-    ∙ ap (λ k. set (set m s p) s (set (mask_of (set m s p) s) k true)) offset
-    ∙ ap (λ page. set (set m s p) s (set page o true)) (get_or-set_same m s p [] lt)
-    ∙ set-set m s p (set p o true)
+-- Numbers 0 to n are put from an address on, and into a page from an offset on.
+abbrev puts : {A : Type 0} → List Mapped → List (List A) → ℕ → (ℕ → A) → ℕ → List (List A)
+puts map m address f zero = put map m (address + 0) (f 0)
+puts map m address f (suc n) = put map (puts map m address f n) (address + suc n) (f (suc n))
+
+abbrev fills : {A : Type 0} → List A → ℕ → (ℕ → A) → ℕ → List A
+fills page offset f zero = set page offset (f 0)
+fills page offset f (suc n) = set (fills page offset f n) (offset + suc n) (f (suc n))
+
+-- one more into a page
+put_more :
+    {A : Type 0} (map : List Mapped) (m : List (List A)) (p : List A) (s o address : ℕ) (a : A)
+    → slot_of map address ≡ s → address % 4096 ≡ o → s < length m
+    → put map (set m s p) address a ≡ set m s (set p o a)
+put_more map m p s o address a slot offset lt =
+    ap (λ k. set (set m s p) k (set (get_or (set m s p) k []) (address % 4096) a)) slot
+    ∙ ap (λ k. set (set m s p) s (set (get_or (set m s p) s []) k a)) offset
+    ∙ ap (λ page. set (set m s p) s (set page o a)) (get_or-set_same m s p [] lt)
+    ∙ set-set m s p (set p o a)
+
+-- what stays below the page's end is put into that page alone
+puts-page :
+    {A : Type 0} (map : List Mapped) (m : List (List A)) (address : ℕ) (f : ℕ → A) (n : ℕ)
+    → address % 4096 + n < 4096 → slot_of map address < length m
+    → puts map m address f n
+    ≡ set m (slot_of map address) (fills (get_or m (slot_of map address) []) (address % 4096) f n)
+puts-page map m address f zero inside lt =
+    let same : address + 0 ≡ address = omega arith in
+    let p = get_or m (slot_of map address) [] in
+    ap (λ start. put map start (address + 0) (f 0)) (sym (set-get_or m (slot_of map address) []))
+    ∙ put_more map m p (slot_of map address) (address % 4096) (address + 0) (f 0) (ap (slot_of map) same)
+    (ap (λ a. a % 4096) same) lt
+puts-page map m address f (suc n) inside lt =
+    let p = fills (get_or m (slot_of map address) []) (address % 4096) f n in
+    ap (λ start. put map start (address + suc n) (f (suc n))) (puts-page map m address f n (omega arith) lt)
+    ∙ put_more map m p (slot_of map address) (address % 4096 + suc n) (address + suc n) (f (suc n))
+    (slot_of-same map (address + suc n) address (omega arith)) (omega arith) lt
 
 -- an aligned store writes into its page alone
 pub laid-access :
@@ -51,49 +64,10 @@ pub laid-access :
     → address % byte_count size ≡ 0 → slot_of map address < length m
     → laid map m (bytes_stored address size value)
     ≡ set m (slot_of map address) (with_number (page_of m (slot_of map address)) (address % 4096) size value)
-unfolding bytes_stored with_number
-laid-access map m address One value h lt =
-    let s = slot_of map address in
-    let p = page_of m s in
-    let o = address % 4096 in
-    let zero_more : address + 0 ≡ address = omega arith in
-    ap (λ start. with_byte map start (byte_stored address value 0)) (sym (set-get_or m s []))
-    ∙ byte_more map m p s o (address + 0) (byte_of value 0) (ap (slot_of map) zero_more) (omega arith) lt
-laid-access map m address Two value h lt =
-    let s = slot_of map address in
-    let p = page_of m s in
-    let o = address % 4096 in
-    let zero_more : address + 0 ≡ address = omega arith in
-    let p0 = set p o (byte_of value 0) in
-    ap (λ start. with_byte map (with_byte map start (byte_stored address value 0)) (byte_stored address value 1))
-    (sym (set-get_or m s []))
-    ∙ ap (λ start. with_byte map start (byte_stored address value 1))
-    (byte_more map m p s o (address + 0) (byte_of value 0) (ap (slot_of map) zero_more) (omega arith) lt)
-    ∙ byte_more map m p0 s (o + 1) (address + 1) (byte_of value 1)
-    (slot_of-same map (address + 1) address (omega arith)) (omega arith) lt
-laid-access map m address Four value h lt =
-    let s = slot_of map address in
-    let p = page_of m s in
-    let o = address % 4096 in
-    let zero_more : address + 0 ≡ address = omega arith in
-    let p0 = set p o (byte_of value 0) in
-    let p1 = set p0 (o + 1) (byte_of value 1) in
-    let p2 = set p1 (o + 2) (byte_of value 2) in
-    ap (λ start. with_byte map
-    (with_byte map (with_byte map (with_byte map start (byte_stored address value 0)) (byte_stored address value 1))
-    (byte_stored address value 2)) (byte_stored address value 3)) (sym (set-get_or m s []))
-    ∙ ap (λ start. with_byte map
-    (with_byte map (with_byte map start (byte_stored address value 1)) (byte_stored address value 2))
-    (byte_stored address value 3))
-    (byte_more map m p s o (address + 0) (byte_of value 0) (ap (slot_of map) zero_more) (omega arith) lt)
-    ∙ ap (λ start. with_byte map (with_byte map start (byte_stored address value 2)) (byte_stored address value 3))
-    (byte_more map m p0 s (o + 1) (address + 1) (byte_of value 1)
-    (slot_of-same map (address + 1) address (omega arith)) (omega arith) lt)
-    ∙ ap (λ start. with_byte map start (byte_stored address value 3))
-    (byte_more map m p1 s (o + 2) (address + 2) (byte_of value 2)
-    (slot_of-same map (address + 2) address (omega arith)) (omega arith) lt)
-    ∙ byte_more map m p2 s (o + 3) (address + 3) (byte_of value 3)
-    (slot_of-same map (address + 3) address (omega arith)) (omega arith) lt
+unfolding with_byte bytes_stored with_number
+laid-access map m address One value h lt = puts-page map m address (byte_of value) 0 (omega arith) lt
+laid-access map m address Two value h lt = puts-page map m address (byte_of value) 1 (omega arith) lt
+laid-access map m address Four value h lt = puts-page map m address (byte_of value) 3 (omega arith) lt
 
 -- and marks in its page's mask alone
 pub marked-access :
@@ -101,46 +75,7 @@ pub marked-access :
     → address % byte_count size ≡ 0 → slot_of map address < length m
     → marked map m (bytes_stored address size value)
     ≡ set m (slot_of map address) (with_marks (mask_of m (slot_of map address)) (address % 4096) size)
-unfolding bytes_stored with_marks
-marked-access map m address One value h lt =
-    let s = slot_of map address in
-    let p = mask_of m s in
-    let o = address % 4096 in
-    let zero_more : address + 0 ≡ address = omega arith in
-    ap (λ start. with_mark map start (byte_stored address value 0)) (sym (set-get_or m s []))
-    ∙ mark_more map m p s o (address + 0) (byte_of value 0) (ap (slot_of map) zero_more) (omega arith) lt
-marked-access map m address Two value h lt =
-    let s = slot_of map address in
-    let p = mask_of m s in
-    let o = address % 4096 in
-    let zero_more : address + 0 ≡ address = omega arith in
-    let p0 = set p o true in
-    ap (λ start. with_mark map (with_mark map start (byte_stored address value 0)) (byte_stored address value 1))
-    (sym (set-get_or m s []))
-    ∙ ap (λ start. with_mark map start (byte_stored address value 1))
-    (mark_more map m p s o (address + 0) (byte_of value 0) (ap (slot_of map) zero_more) (omega arith) lt)
-    ∙ mark_more map m p0 s (o + 1) (address + 1) (byte_of value 1)
-    (slot_of-same map (address + 1) address (omega arith)) (omega arith) lt
-marked-access map m address Four value h lt =
-    let s = slot_of map address in
-    let p = mask_of m s in
-    let o = address % 4096 in
-    let zero_more : address + 0 ≡ address = omega arith in
-    let p0 = set p o true in
-    let p1 = set p0 (o + 1) true in
-    let p2 = set p1 (o + 2) true in
-    ap (λ start. with_mark map
-    (with_mark map (with_mark map (with_mark map start (byte_stored address value 0)) (byte_stored address value 1))
-    (byte_stored address value 2)) (byte_stored address value 3)) (sym (set-get_or m s []))
-    ∙ ap (λ start. with_mark map
-    (with_mark map (with_mark map start (byte_stored address value 1)) (byte_stored address value 2))
-    (byte_stored address value 3))
-    (mark_more map m p s o (address + 0) (byte_of value 0) (ap (slot_of map) zero_more) (omega arith) lt)
-    ∙ ap (λ start. with_mark map (with_mark map start (byte_stored address value 2)) (byte_stored address value 3))
-    (mark_more map m p0 s (o + 1) (address + 1) (byte_of value 1)
-    (slot_of-same map (address + 1) address (omega arith)) (omega arith) lt)
-    ∙ ap (λ start. with_mark map start (byte_stored address value 3))
-    (mark_more map m p1 s (o + 2) (address + 2) (byte_of value 2)
-    (slot_of-same map (address + 2) address (omega arith)) (omega arith) lt)
-    ∙ mark_more map m p2 s (o + 3) (address + 3) (byte_of value 3)
-    (slot_of-same map (address + 3) address (omega arith)) (omega arith) lt
+unfolding with_mark bytes_stored with_marks
+marked-access map m address One value h lt = puts-page map m address (λ k. true) 0 (omega arith) lt
+marked-access map m address Two value h lt = puts-page map m address (λ k. true) 1 (omega arith) lt
+marked-access map m address Four value h lt = puts-page map m address (λ k. true) 3 (omega arith) lt

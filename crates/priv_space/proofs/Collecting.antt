@@ -1,55 +1,122 @@
 -- Read pages and stored bytes, collected slot by slot.
-use Rattle.std.proofs.Common.{◌≡◌, ℕ, ◌+◌, ◌<◌, ◌≤◌, zero, suc, Bool, true, false, cond, nat_le, List, [], ◌∷◌, ◌++◌, length, get_or, drop, map, replicate, refl, ap, sym, ◌∙◌, arith, append_assoc}
+use Rattle.std.proofs.Common.{◌≡◌, ℕ, ◌+◌, ◌-◌, ◌<◌, ◌≤◌, zero, suc, Bool, true, false, cond, nat_le, List, [], ◌∷◌, ◌++◌, length, get_or, drop, map, replicate, refl, ap, sym, ◌∙◌, arith, append_assoc}
 use Rattle.std.proofs.lemmas.Bool.{and_from}
 use Rattle.std.proofs.lemmas.Bool.Decides.{nat_tests}
-use Rattle.std.proofs.lemmas.List.{drop_more, drop_all, append-nil}
+use Rattle.std.proofs.lemmas.List.{drop_all, append-nil, length-map}
 use Rattle.memory_spec.specs.Pages.{Mapped, Memory, page_of, on_each, zero_page, IsMemory}
 use Rattle.memory_spec.specs.Stores.{StoredByte, laid}
-use Rattle.memory_spec.specs.Workspace.{Masks, mask_of, no_marks, marked}
+use Rattle.memory_spec.specs.Workspace.{Masks, no_marks, marked}
 use Rattle.record_spec.specs.Delta.{PageDelta, chosen, is_stored, delta_from, delta_of}
 use Rattle.record_spec.specs.Reads.{ReadPage, reads_from}
 use Rattle.record_spec.proofs.Merging.{merged, merged_all, Shaped, shaped-laid, shaped-fresh, merged_all-laid, merged_all-no_marks}
 use Rattle.record_spec.specs.Ascending.{deltas_ascend, reads_ascend}
+use Rattle.priv_space.specs.declared.slot.Slot.{Slot}
+use Rattle.priv_space.specs.Slots.{on_view, untouched, slot_bytes, slot_marks, slot_taken}
 use Rattle.priv_space.specs.Parts.{read_part, delta_part}
+use Rattle.priv_space.specs.Held.{IsNext}
+
+-- What is left from each place on is its part and what is left from the next one on; the free places have none.
+pub record Collects {A : Type 0} (IsFree : ℕ → Type 0) (part rest : ℕ → List A) : Type 0 where
+  pub next : (i : ℕ) → rest i ≡ part i ++ rest (suc i)
+  pub none : (i : ℕ) → IsFree i → part i ≡ []
+
+skipped :
+    {A : Type 0} {IsFree : ℕ → Type 0} {part rest : ℕ → List A} → Collects IsFree part rest → (i n : ℕ)
+    → ((k : ℕ) → i ≤ k → k < i + n → IsFree k) → rest i ≡ rest (i + n)
+skipped {rest = rest} c i zero free = ap rest (let same : i ≡ i + 0 = omega arith in same)
+skipped {rest = rest} c i (suc n) free =
+    c.next i
+    ∙ ap (λ p. p ++ rest (suc i)) (c.none i (free i (omega arith) (omega arith)))
+    ∙ skipped c (suc i) n (λ k from below. free k (omega arith) (omega arith))
+    ∙ ap rest (let more : suc i + n ≡ i + suc n = omega arith in more)
+
+-- what was collected and what is left stay all of it, one place that isn't free further
+pub collected_next :
+    {A : Type 0} {IsFree : ℕ → Type 0} {part rest : ℕ → List A} {from count slot : ℕ} (items : List A)
+    {items' all : List A} → Collects IsFree part rest → items ++ rest from ≡ all → IsNext IsFree from count slot
+    → items' ≡ items ++ part slot → items' ++ rest (slot + 1) ≡ all
+collected_next {part = part} {rest = rest} {from} {slot = slot} items c before found is =
+    let there : from + (slot - from) ≡ slot = omega (arith, found.above) in
+    let next : suc slot ≡ slot + 1 = omega arith in
+    ap (λ front. front ++ rest (slot + 1)) is
+    ∙ append_assoc items (part slot) (rest (slot + 1))
+    ∙ ap (λ more. items ++ more) (sym
+    (skipped c from (slot - from) (λ k above below. found.before k above (omega arith))
+    ∙ ap rest there
+    ∙ c.next slot
+    ∙ ap (λ k. part slot ++ rest k) next))
+    ∙ before
+
+-- where the places that are left are free, all was collected
+pub collected_all :
+    {A : Type 0} {IsFree : ℕ → Type 0} {part rest : ℕ → List A} {from : ℕ} (items : List A) {all : List A}
+    (count : ℕ) → Collects IsFree part rest → rest (from + count) ≡ [] → items ++ rest from ≡ all
+    → ((k : ℕ) → from ≤ k → IsFree k) → items ≡ all
+collected_all {from = from} items count c end before free =
+    sym (append-nil items)
+    ∙ ap (λ more. items ++ more) (sym (skipped c from count (λ k above below. free k above) ∙ end))
+    ∙ before
 
 -- no place of an unmarked page is stored to
 unstored : (n : ℕ) → is_stored (replicate n false) ≡ false
 unstored zero = refl
 unstored (suc n) = unstored n
 
-pub is_stored-no_marks : is_stored no_marks ≡ false
+is_stored-no_marks : is_stored no_marks ≡ false
 unfolding no_marks
 is_stored-no_marks = unstored 4096
 
-reads_cons :
-    (k : ℕ) (f : Bool) (fs : List Bool) (view : Memory)
-    → read_part k f (page_of view k) ++ reads_from (suc k) fs view ≡ reads_from k (f ∷ fs) view
-reads_cons k true fs view = refl
-reads_cons k false fs view = refl
+-- a slot to which nothing was stored gives nothing
+pub part_none : (slot : ℕ) (mask : List Bool) (page : List ℕ) → mask ≡ no_marks → delta_part slot mask page ≡ []
+part_none slot mask page h =
+    ap (λ b. cond b ((let d : PageDelta = record { slot = slot; mask = mask; bytes = chosen mask page } in d) ∷ []) [])
+    (ap is_stored h ∙ is_stored-no_marks)
 
--- one slot more
-pub read_step :
-    (flags : List Bool) (view : Memory) (i : ℕ) (flag : Bool) (page : List ℕ) (items items' all : List ReadPage)
-    → i < length flags → flag ≡ get_or flags i false → page ≡ page_of view i
-    → items ++ reads_from i (drop i flags) view ≡ all → items' ≡ items ++ read_part i flag page
-    → items' ++ reads_from (i + 1) (drop (i + 1) flags) view ≡ all
-read_step flags view i flag page items items' all lt flag_is page_is before is =
-    let next : i + 1 ≡ suc i = omega arith in
-    ap (λ front. front ++ reads_from (i + 1) (drop (i + 1) flags) view) is
-    ∙ append_assoc items (read_part i flag page) (reads_from (i + 1) (drop (i + 1) flags) view)
-    ∙ ap (λ f. items ++ (read_part i f page ++ reads_from (i + 1) (drop (i + 1) flags) view)) flag_is
-    ∙ ap (λ p. items ++ (read_part i (get_or flags i false) p ++ reads_from (i + 1) (drop (i + 1) flags) view)) page_is
-    ∙ ap (λ k. items ++ (read_part i (get_or flags i false) (page_of view i) ++ reads_from k (drop (i + 1) flags)
-    view)) next
-    ∙ ap (λ rest. items ++ rest) (reads_cons i (get_or flags i false) (drop (i + 1) flags) view)
-    ∙ ap (λ rest. items ++ reads_from i rest view) (sym (drop_more flags i false lt))
-    ∙ before
+get_or-map_all :
+    {A B : Type 0} (f : A → B) (xs : List A) (i : ℕ) (d : A) → get_or (map f xs) i (f d) ≡ f (get_or xs i d)
+get_or-map_all f [] i d = refl
+get_or-map_all f (x ∷ xs) zero d = refl
+get_or-map_all f (x ∷ xs) (suc i) d = get_or-map_all f xs i d
 
-pub read_end :
-    (flags : List Bool) (view : Memory) (i : ℕ) (items all : List ReadPage)
-    → length flags ≤ i → items ++ reads_from i (drop i flags) view ≡ all → items ≡ all
-read_end flags view i items all le before =
-    sym (append-nil items) ∙ ap (λ rest. items ++ reads_from i rest view) (sym (drop_all i flags le)) ∙ before
+-- The read pages from a slot on, and the one of a slot.
+abbrev pub reads_left : Memory → List Slot → ℕ → List ReadPage
+reads_left view slots i = reads_from i (drop i (map slot_taken slots)) view
+
+abbrev read_at : Memory → List Slot → ℕ → List ReadPage
+read_at view slots i = read_part i (slot_taken (get_or slots i untouched)) (page_of view i)
+
+reads_next :
+    (flags : List Bool) (view : Memory) (k i : ℕ)
+    → reads_from k (drop i flags) view
+    ≡ read_part k (get_or flags i false) (page_of view k) ++ reads_from (suc k) (drop (suc i) flags) view
+reads_next [] view k zero = refl
+reads_next [] view k (suc i) = refl
+reads_next (true ∷ flags) view k zero = refl
+reads_next (false ∷ flags) view k zero = refl
+reads_next (flag ∷ flags) view k (suc i) = reads_next flags view k i
+
+pub collects-reads :
+    (view : Memory) (slots : List Slot)
+    → Collects (λ k. get_or slots k untouched ≡ untouched) (read_at view slots) (reads_left view slots)
+unfolding slot_taken untouched
+collects-reads view slots = record {
+  next = λ i.
+      reads_next (map slot_taken slots) view i i
+      ∙ ap (λ flag. read_part i flag (page_of view i) ++ reads_left view slots (suc i))
+      (get_or-map_all slot_taken slots i untouched);
+  none = λ i free. ap (λ s. read_part i (slot_taken s) (page_of view i)) free;
+}
+
+-- where no slot that is left was touched, all read pages were collected
+pub reads_all :
+    (view : Memory) (slots : List Slot) (from : ℕ) (items : List ReadPage)
+    → items ++ reads_left view slots from ≡ reads_left view slots 0
+    → ((k : ℕ) → from ≤ k → get_or slots k untouched ≡ untouched) → items ≡ reads_left view slots 0
+reads_all view slots from items before free =
+    let past : length (map slot_taken slots) ≤ from + length slots = omega (arith, length-map slots slot_taken) in
+    collected_all items (length slots) (collects-reads view slots)
+    (ap (λ r. reads_from (from + length slots) r view) (drop_all (from + length slots) (map slot_taken slots) past))
+    before free
 
 le_from : (a b : ℕ) → a ≤ b → nat_le a b ≡ true
 le_from a b le = grind (arith, nat_tests)
@@ -63,41 +130,52 @@ reads_from-ascend low k (true ∷ flags) view le =
     (reads_from-ascend (suc k) (suc k) flags view (omega arith))
 reads_from-ascend low k (false ∷ flags) view le = reads_from-ascend low (suc k) flags view (omega arith)
 
-delta_cons :
-    (k : ℕ) (m : List Bool) (ms : Masks) (p : List ℕ) (ps : Memory)
-    → delta_part k m p ++ delta_from (suc k) ms ps ≡ delta_from k (m ∷ ms) (p ∷ ps)
-delta_cons k m ms p ps =
-    let d : PageDelta = record { slot = k; mask = m; bytes = chosen m p } in
-    elim (is_stored m)
-    as (λ b. cond b (d ∷ []) [] ++ delta_from (suc k) ms ps
-    ≡ cond b (d ∷ delta_from (suc k) ms ps) (delta_from (suc k) ms ps))
+-- The stored bytes from a slot on, and those of a slot.
+abbrev pub deltas_left : Memory → List Slot → ℕ → List PageDelta
+deltas_left view slots i = delta_from i (drop i (map slot_marks slots)) (drop i (on_view slot_bytes view slots))
+
+abbrev delta_at : Memory → List Slot → ℕ → List PageDelta
+delta_at view slots i =
+    delta_part i (slot_marks (get_or slots i untouched)) (slot_bytes (page_of view i) (get_or slots i untouched))
+
+deltas_next :
+    (view : Memory) (slots : List Slot) (k i : ℕ) → length slots ≡ length view
+    → delta_from k (drop i (map slot_marks slots)) (drop i (on_view slot_bytes view slots))
+    ≡ delta_part k (slot_marks (get_or slots i untouched)) (slot_bytes (page_of view i) (get_or slots i untouched))
+    ++ delta_from (suc k) (drop (suc i) (map slot_marks slots)) (drop (suc i) (on_view slot_bytes view slots))
+unfolding slot_marks untouched
+deltas_next [] [] k zero same = sym (ap (λ p. p ++ []) (part_none k no_marks _ refl))
+deltas_next [] [] k (suc i) same = sym (ap (λ p. p ++ []) (part_none k no_marks _ refl))
+deltas_next [] (s ∷ slots) k i same = absurd (omega arith)
+deltas_next (page ∷ view) [] k i same = absurd (omega arith)
+deltas_next (page ∷ view) (s ∷ slots) k zero same =
+    let rest = delta_from (suc k) (map slot_marks slots) (on_view slot_bytes view slots) in
+    let d : PageDelta =
+    record { slot = k; mask = slot_marks s; bytes = chosen (slot_marks s) (slot_bytes page s) } in
+    elim (is_stored (slot_marks s)) as (λ b. cond b (d ∷ rest) rest ≡ cond b (d ∷ []) [] ++ rest)
     [ true ↦ refl | false ↦ refl ]
+deltas_next (page ∷ view) (s ∷ slots) k (suc i) same = deltas_next view slots k i (omega arith)
 
-pub delta_step :
-    (masks : Masks) (pages : Memory) (i : ℕ) (mask : List Bool) (page : List ℕ) (items items' all : List PageDelta)
-    → i < length masks → i < length pages → mask ≡ mask_of masks i → page ≡ page_of pages i
-    → items ++ delta_from i (drop i masks) (drop i pages) ≡ all → items' ≡ items ++ delta_part i mask page
-    → items' ++ delta_from (i + 1) (drop (i + 1) masks) (drop (i + 1) pages) ≡ all
-delta_step masks pages i mask page items items' all lt below mask_is page_is before is =
-    let next : i + 1 ≡ suc i = omega arith in
-    ap (λ front. front ++ delta_from (i + 1) (drop (i + 1) masks) (drop (i + 1) pages)) is
-    ∙ append_assoc items (delta_part i mask page) (delta_from (i + 1) (drop (i + 1) masks) (drop (i + 1) pages))
-    ∙ ap (λ m. items ++ (delta_part i m page ++ delta_from (i + 1) (drop (i + 1) masks) (drop (i + 1) pages))) mask_is
-    ∙ ap (λ p. items ++ (delta_part i (mask_of masks i) p ++ delta_from (i + 1) (drop (i + 1) masks)
-    (drop (i + 1) pages))) page_is
-    ∙ ap (λ k. items ++ (delta_part i (mask_of masks i) (page_of pages i) ++ delta_from k (drop (i + 1) masks)
-    (drop (i + 1) pages))) next
-    ∙ ap (λ rest. items ++ rest)
-    (delta_cons i (mask_of masks i) (drop (i + 1) masks) (page_of pages i) (drop (i + 1) pages))
-    ∙ ap (λ rest. items ++ delta_from i rest (page_of pages i ∷ drop (i + 1) pages)) (sym (drop_more masks i [] lt))
-    ∙ ap (λ rest. items ++ delta_from i (drop i masks) rest) (sym (drop_more pages i [] below))
-    ∙ before
+pub collects-deltas :
+    (view : Memory) (slots : List Slot) → length slots ≡ length view
+    → Collects (λ k. get_or slots k untouched ≡ untouched) (delta_at view slots) (deltas_left view slots)
+unfolding slot_marks untouched
+collects-deltas view slots same = record {
+  next = λ i. deltas_next view slots i i same;
+  none = λ i free. part_none i _ _ (ap slot_marks free);
+}
 
-pub delta_end :
-    (masks : Masks) (pages : Memory) (i : ℕ) (items all : List PageDelta)
-    → length masks ≤ i → items ++ delta_from i (drop i masks) (drop i pages) ≡ all → items ≡ all
-delta_end masks pages i items all le before =
-    sym (append-nil items) ∙ ap (λ rest. items ++ delta_from i rest (drop i pages)) (sym (drop_all i masks le)) ∙ before
+-- and all stored bytes were
+pub deltas_all :
+    (view : Memory) (slots : List Slot) (from : ℕ) (items : List PageDelta) → length slots ≡ length view
+    → items ++ deltas_left view slots from ≡ deltas_left view slots 0
+    → ((k : ℕ) → from ≤ k → get_or slots k untouched ≡ untouched) → items ≡ deltas_left view slots 0
+deltas_all view slots from items same before free =
+    let end = from + length slots in
+    let past : length (map slot_marks slots) ≤ end = omega (arith, length-map slots slot_marks) in
+    collected_all items (length slots) (collects-deltas view slots same)
+    (ap (λ r. delta_from end r (drop end (on_view slot_bytes view slots))) (drop_all end (map slot_marks slots) past))
+    before free
 
 pub delta_from-ascend :
     (low k : ℕ) (masks : Masks) (pages : Memory) → low ≤ k
@@ -165,11 +243,3 @@ delta_from-laid map view stores h =
     ∙ ap (λ start. laid map start stores) (merged_all-no_marks map view)))
     ∙ delta_from-merged 0 view zeros masks
     (shaped-laid map view (on_each zero_page map) (on_each no_marks map) stores shape)
-
--- a slot to which nothing was stored gives nothing
-pub part_none :
-    (slot : ℕ) (mask : List Bool) (page : List ℕ) (items : List PageDelta) → is_stored mask ≡ false
-    → items ≡ items ++ delta_part slot mask page
-part_none slot mask page items h =
-    let d : PageDelta = record { slot = slot; mask = mask; bytes = chosen mask page } in
-    sym (append-nil items) ∙ ap (λ b. items ++ cond b (d ∷ []) []) (sym h)

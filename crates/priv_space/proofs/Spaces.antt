@@ -1,125 +1,224 @@
 -- What a space means, after each of its operations.
-use Rattle.std.proofs.Common.{◌≡◌, ℕ, ◌%◌, ◌<◌, zero, suc, Bool, true, false, cond, List, [], ◌∷◌, length, map, get_or, set, replicate, refl, ap, sym, ◌∙◌, arith, Result, Ok, Err, IfOk, OnOk, OnErr, Option, Some, None, IfSome, IfNone}
+use Rattle.std.proofs.Common.{◌≡◌, ℕ, ◌%◌, ◌<◌, Bool, true, false, IsTrue, IsFalse, cond, List, [], ◌∷◌, length, map, get_or, set, replicate, refl, ap, sym, ◌∙◌, arith, Result, Ok, Err, MatchResult, Some, None}
+use Rattle.std.proofs.lemmas.List.{map-set, get_or-map, length-map, length-set, length-replicate, set-get_or}
+use Rattle.std.proofs.Math.Seq.{map-set_same}
 use Rattle.memory_spec.specs.declared.Size.{Size}
-use Rattle.memory_spec.specs.Pages.{Mapped, Memory, allows, read_right, write_right, slot_of, permission_at, page_of, unmapped, on_each}
+use Rattle.memory_spec.specs.Pages.{Mapped, Memory, allows, execute_right, read_right, write_right, slot_of, permission_at, page_of, unmapped, on_each}
 use Rattle.memory_spec.specs.Access.{byte_count, bytes_stored, number_in, number_at, loaded, may_store}
-use Rattle.memory_spec.specs.Workspace.{Workspace, Masks, mask_of, no_marks, fresh, after_taking, after_storing}
+use Rattle.memory_spec.specs.Stores.{laid}
+use Rattle.memory_spec.specs.Workspace.{mask_of, marked, fresh, after_taking, after_storing}
 use Rattle.priv_space.specs.Written.{with_number, with_marks}
+use Rattle.page_map.specs.Entering.{Enters}
 use Rattle.priv_space.specs.declared.slot.Slot.{Slot}
-use Rattle.priv_space.specs.Slots.{on_view, untouched, slot_bytes, slot_marks, slot_taken}
-use Rattle.priv_space.proofs.Views.{map-replicate, bytes-untouched}
+use Rattle.priv_space.specs.declared.slot.Access.{Access}
+use Rattle.priv_space.specs.Slots.{on_view, untouched, slot_shared, slot_bytes, slot_marks, slot_taken, SharesPage, IsPermitted, Fits}
+use Rattle.priv_space.specs.Changes.{Keeps, HasNumber, TakesByte, EntersPage, StoresNumber, StoresAgain, OnSlot}
+use Rattle.priv_space.specs.Spaces.{workspace}
+use Rattle.priv_space.proofs.Views.{bytes-untouched, on_view-set, on_view-set_same, get_or-on_view, length-on_view, each-set, each-untouched}
 use Rattle.priv_space.proofs.Access.{laid-access, marked-access}
 
-pub on_ok : {T E : Type 0} {P Q : Type 0} (r : Result T E) → (P → Q) → OnOk r P → OnOk r Q
-on_ok (Ok value) f h = f h
-on_ok (Err error) f h = h
-
-pub on_err : {T E : Type 0} {P Q : Type 0} (r : Result T E) → (P → Q) → OnErr r P → OnErr r Q
-on_err (Ok value) f h = h
-on_err (Err error) f h = f h
-
-pub if_ok : {T E : Type 0} {P Q : T → Type 0} (r : Result T E) → ((value : T) → P value → Q value) → IfOk r P → IfOk r Q
-if_ok (Ok value) f h = f value h
-if_ok (Err error) f h = h
-
-pub if_some :
-    {T : Type 0} {P Q : T → Type 0} (o : Option T) → ((value : T) → P value → Q value) → IfSome o P → IfSome o Q
-if_some (Some value) f h = f value h
-if_some None f h = h
-
-pub if_none : {T : Type 0} {P Q : Type 0} (o : Option T) → (P → Q) → IfNone o P → IfNone o Q
-if_none (Some value) f h = h
-if_none None f h = f h
-
-on_each-replicate : {A : Type 0} (a : A) (map : List Mapped) (n : ℕ) → n ≡ length map → replicate n a ≡ on_each a map
-on_each-replicate a [] zero h = refl
-on_each-replicate a [] (suc n) h = absurd (omega arith)
-on_each-replicate a (p ∷ ps) zero h = absurd (omega arith)
-on_each-replicate a (p ∷ ps) (suc n) h = ap (λ rest. a ∷ rest) (on_each-replicate a ps n (omega arith))
-
 -- slots that weren't touched are a fresh workspace
+each-fresh :
+    {A : Type 0} (f : Slot → A) (view : Memory) (pages : List Mapped) → length view ≡ length pages
+    → map f (replicate (length view) untouched) ≡ on_each (f untouched) pages
+each-fresh f [] [] same = refl
+each-fresh f [] (p ∷ pages) same = absurd (omega arith)
+each-fresh f (page ∷ view) [] same = absurd (omega arith)
+each-fresh f (page ∷ view) (p ∷ pages) same = ap (λ rest. f untouched ∷ rest) (each-fresh f view pages (omega arith))
+
 pub fresh_space :
-    (pages pages' : List Mapped) (view view' : Memory) (count : ℕ) (slots : List Slot)
-    → pages' ≡ pages → view' ≡ view → slots ≡ replicate count untouched → length view ≡ count
-    → length view ≡ length pages
-    → (let w : Workspace = record {
-      map = pages';
-      view = view';
-      memory = on_view slot_bytes view' slots;
-      stored = map slot_marks slots;
-      taken = map slot_taken slots;
-    } in w)
-    ≡ fresh pages view
+    (pages : List Mapped) (view : Memory) → length view ≡ length pages
+    → workspace pages view (replicate (length view) untouched) ≡ fresh pages view
 unfolding slot_marks slot_taken untouched
-fresh_space pages pages' view view' count slots pages_are view_is slots_are all same =
-    let memory : on_view slot_bytes view (replicate (length view) untouched) ≡ view = bytes-untouched view in
-    let marks : map slot_marks (replicate count untouched) ≡ on_each no_marks pages =
-    map-replicate slot_marks count untouched ∙ on_each-replicate no_marks pages count (omega arith) in
-    let flags : map slot_taken (replicate count untouched) ≡ on_each false pages =
-    map-replicate slot_taken count untouched ∙ on_each-replicate false pages count (omega arith) in
+fresh_space pages view same =
+    let memory = bytes-untouched view in
+    let marks = each-fresh slot_marks view pages same in
+    let flags = each-fresh slot_taken view pages same in
     cc
 
--- a store into the own copy of a page is the store of its bytes
-pub stored_space :
-    (map : List Mapped) (view : Memory) (memory : Memory) (stored : Masks) (taken : List Bool)
-    (view' memory' : Memory) (stored' : Masks) (taken' : List Bool) (address : ℕ) (size : Size) (value slot offset : ℕ)
-    → view' ≡ view → taken' ≡ taken
-    → memory' ≡ set memory slot (with_number (page_of memory slot) offset size value)
-    → stored' ≡ set stored slot (with_marks (mask_of stored slot) offset size)
-    → slot ≡ slot_of map address → offset ≡ address % 4096 → address % byte_count size ≡ 0
-    → slot < length memory → slot < length stored
-    → (let w : Workspace = record { map = map; view = view'; memory = memory'; stored = stored'; taken = taken' } in w)
-    ≡ after_storing (record { map = map; view = view; memory = memory; stored = stored; taken = taken })
-    (bytes_stored address size value)
-stored_space map view memory stored taken view' memory' stored' taken' address size value slot offset view_is taken_is
-    memory_is stored_is slot_is offset_is aligned lt below =
-    let within : slot_of map address < length memory = omega arith in
-    let within' : slot_of map address < length stored = omega arith in
-    let bytes = laid-access map memory address size value aligned within in
-    let marks = marked-access map stored address size value aligned within' in
-    cc
+pub fresh_fits :
+    (pages : List Mapped) (view : Memory) → length view ≡ length pages
+    → Fits pages view (replicate (length view) untouched)
+unfolding slot_shared untouched
+fresh_fits pages view same = record {
+  pages = same;
+  over = record {
+    count = length-replicate (length view) untouched;
+    shared = each-untouched (λ k. SharesPage (page_of view k)) (length view) (λ k. refl);
+  };
+  permitted = each-untouched (λ k. IsPermitted (get_or pages k unmapped).permission) (length view) (λ k. tt);
+}
 
--- the slot of a page that has a right has it
-pub right_in_slot :
-    (right permission : ℕ) (pages : List Mapped) (address slot : ℕ)
-    → slot ≡ slot_of pages address → permission ≡ permission_at pages address → true ≡ allows right permission
-    → allows right (get_or pages slot unmapped).permission ≡ true
+-- The slot of an address, whose page the map has.
+abbrev pub IsAt : List Mapped → ℕ → ℕ → Type 0
+IsAt pages address i = (i ≡ slot_of pages address) × (i < length pages)
+
+-- a slot of the map is one of the slots and of the view
+inside_slots :
+    {pages : List Mapped} {view : Memory} {slots : List Slot} {i : ℕ} → Fits pages view slots → i < length pages
+    → (i < length slots) × (i < length view)
+inside_slots fits lt = (omega (arith, fits.over.count, fits.pages), omega (arith, fits.pages))
+
+-- the slots fit as before after one changed in a way that its page permits
+pub fits-after :
+    (may : ℕ → Bool) {pages : List Mapped} {view : Memory} {slots after : List Slot} {i : ℕ} {s : Slot}
+    → Fits pages view slots → i < length pages → after ≡ set slots i s
+    → Keeps may (page_of view i) (get_or slots i untouched) s → may (get_or pages i unmapped).permission ≡ true
+    → Fits pages view after
+fits-after may {pages} {view} {slots} {after} {i} {s} fits lt is keeps has =
+    let under = inside_slots fits lt in
+    rw is record {
+      pages = fits.pages;
+      over = record {
+        count = length-set slots i s ∙ fits.over.count;
+        shared =
+            each-set (λ k. SharesPage (page_of view k)) slots i s under.0 fits.over.shared
+            (keeps.shared ∙ fits.over.shared i);
+      };
+      permitted =
+          each-set (λ k. IsPermitted (get_or pages k unmapped).permission) slots i s under.0 fits.permitted
+          (keeps.permitted (get_or pages i unmapped).permission has (fits.permitted i));
+    }
+
+-- so they do after a call that may fail
+pub fits-outcome :
+    {T E : Type 0} (may : ℕ → Bool) (Change : T → Slot → Slot → Type 0)
+    {pages : List Mapped} {view : Memory} {slots after : List Slot} {i : ℕ} (address : ℕ) (r : Result T E)
+    → Fits pages view slots → IsAt pages address i → may (permission_at pages address) ≡ true
+    → ((value : T) (old new : Slot) → Change value old new → Keeps may (page_of view i) old new)
+    → MatchResult r (λ value. OnSlot i (Change value) slots after) (λ error. after ≡ slots)
+    → Fits pages view after
 unfolding permission_at
-right_in_slot right permission pages address slot slot_is permission_is has =
-    ap (λ k. allows right (get_or pages k unmapped).permission) slot_is
-    ∙ ap (allows right) (sym permission_is)
-    ∙ sym has
+fits-outcome may Change {pages} address (Ok value) fits at has keeps done =
+    fits-after may fits at.1 done.others (keeps value _ _ done.change)
+    (ap (λ k. may (get_or pages k unmapped).permission) at.0 ∙ has)
+fits-outcome may Change address (Err error) fits at has keeps done = rw done fits
 
--- a load from a page from which a byte was taken before finds its number, and changes nothing
+-- taking a byte of a slot's page is taking one at an address in it
+pub taken_space :
+    {may : ℕ → Bool} (pages : List Mapped) {view : Memory} {slots after : List Slot} (address : ℕ) {i : ℕ} {s : Slot}
+    → Fits pages view slots → IsAt pages address i → after ≡ set slots i s
+    → TakesByte may (page_of view i) (get_or slots i untouched) s
+    → workspace pages view after ≡ after_taking (workspace pages view slots) (address ∷ [])
+taken_space pages {view} {slots} {after} address {i} {s} fits at is takes =
+    let under = inside_slots fits at.1 in
+    let bytes = on_view-set_same slot_bytes view slots i s untouched under.1 under.0 takes.bytes in
+    let marks = map-set_same slot_marks slots i s untouched takes.marks in
+    let flags : map slot_taken (set slots i s) ≡ set (map slot_taken slots) (slot_of pages address) true =
+    map-set slot_taken slots i s
+    ∙ ap (set (map slot_taken slots) i) takes.taken
+    ∙ ap (λ k. set (map slot_taken slots) k true) at.0 in
+    rw is (cc)
+
+-- a store into a slot's page is the store of its bytes
+pub stored_space :
+    (pages : List Mapped) {view : Memory} {slots after : List Slot} (address : ℕ) (size : Size) (value : ℕ)
+    {i : ℕ} {s : Slot}
+    → Fits pages view slots → IsAt pages address i → address % byte_count size ≡ 0
+    → after ≡ set slots i s
+    → StoresNumber (page_of view i) (record { slot = i; offset = address % 4096; size = size }) value
+    (get_or slots i untouched) s
+    → workspace pages view after ≡ after_storing (workspace pages view slots) (bytes_stored address size value)
+stored_space pages {view} {slots} {after} address size value {i} {s} fits at aligned is stores =
+    let memory = on_view slot_bytes view slots in
+    let stored = map slot_marks slots in
+    let offset = address % 4096 in
+    let under = inside_slots fits at.1 in
+    let bytes : on_view slot_bytes view (set slots i s) ≡ laid pages memory (bytes_stored address size value) =
+    on_view-set slot_bytes view slots i s
+    ∙ ap (set memory i) (stores.bytes
+    ∙ ap (λ p. with_number p offset size value) (sym (get_or-on_view slot_bytes view slots i untouched under.1 under.0)))
+    ∙ ap (λ k. set memory k (with_number (page_of memory k) offset size value)) at.0
+    ∙ sym (laid-access pages memory address size value aligned
+    (omega (arith, under.1, length-on_view slot_bytes view slots fits.over.count))) in
+    let marks : map slot_marks (set slots i s) ≡ marked pages stored (bytes_stored address size value) =
+    map-set slot_marks slots i s
+    ∙ ap (set stored i) (stores.marks
+    ∙ ap (λ m. with_marks m offset size) (sym (get_or-map slot_marks slots i untouched [] under.0)))
+    ∙ ap (λ k. set stored k (with_marks (mask_of stored k) offset size)) at.0
+    ∙ sym (marked-access pages stored address size value aligned
+    (omega (arith, under.0, length-map slots slot_marks))) in
+    let flags = map-set_same slot_taken slots i s untouched stores.taken in
+    rw is (cc)
+
+-- what is found at an address is the number in its slot's page, where the page has the right
+pub found_space :
+    (right : ℕ) (pages : List Mapped) {view : Memory} {slots : List Slot} (address : ℕ) (size : Size) {number i : ℕ}
+    → Fits pages view slots → IsAt pages address i → allows right (permission_at pages address) ≡ true
+    → number ≡ number_in (slot_bytes (page_of view i) (get_or slots i untouched)) (address % 4096) size
+    → cond (allows right (permission_at pages address))
+    (Some (number_at pages (on_view slot_bytes view slots) address size)) None ≡ Some number
+unfolding number_at
+found_space right pages {view} {slots} address size {number} {i} fits at has number_is =
+    let under = inside_slots fits at.1 in
+    let memory = on_view slot_bytes view slots in
+    ap (λ b. cond b (Some (number_in (page_of memory (slot_of pages address)) (address % 4096) size)) None) has
+    ∙ ap (λ k. Some (number_in (page_of memory k) (address % 4096) size)) (sym at.0)
+    ∙ ap (λ page. Some (number_in page (address % 4096) size))
+    (get_or-on_view slot_bytes view slots i untouched under.1 under.0)
+    ∙ ap Some (sym number_is)
+
+-- a load of a number that a slot has finds it, and changes nothing
 pub held_space :
-    (map : List Mapped) (view : Memory) (memory : Memory) (stored : Masks) (taken : List Bool)
-    (address : ℕ) (size : Size) (number slot offset : ℕ)
-    → slot ≡ slot_of map address → offset ≡ address % 4096
-    → number ≡ number_in (page_of memory slot) offset size
-    → allows read_right (get_or map slot unmapped).permission ≡ true
-    → set taken slot true ≡ taken
-    → (let w : Workspace =
-    record { map = map; view = view; memory = memory; stored = stored; taken = taken } in
-    (loaded map memory address size ≡ Some number) × (w ≡ after_taking w (address ∷ [])))
-unfolding loaded number_at permission_at
-held_space map view memory stored taken address size number slot offset slot_is offset_is number_is has same =
-    let value : number ≡ number_in (page_of memory (slot_of map address)) (address % 4096) size =
-    number_is
-    ∙ ap (λ k. number_in (page_of memory k) offset size) slot_is
-    ∙ ap (λ o. number_in (page_of memory (slot_of map address)) o size) offset_is in (
-      ap (λ b. cond b (Some (number_in (page_of memory (slot_of map address)) (address % 4096) size)) None)
-          (ap (λ k. allows read_right (get_or map k unmapped).permission) (sym slot_is) ∙ has)
-          ∙ ap Some (sym value),
-      ap (λ flags. let w : Workspace =
-          record { map = map; view = view; memory = memory; stored = stored; taken = flags } in w)
-          (sym same ∙ ap (λ k. set taken k true) slot_is),
+    (pages : List Mapped) {view : Memory} {slots : List Slot} (address : ℕ) (size : Size) {number i : ℕ}
+    → Fits pages view slots → IsAt pages address i
+    → HasNumber (record { slot = i; offset = address % 4096; size = size }) number (get_or slots i untouched)
+    → (loaded pages (on_view slot_bytes view slots) address size ≡ Some number)
+    × (workspace pages view slots ≡ after_taking (workspace pages view slots) (address ∷ []))
+unfolding loaded permission_at
+held_space pages {view} {slots} address size {number} {i} fits at held =
+    let under = inside_slots fits at.1 in
+    let flags = map slot_taken slots in
+    let same : flags ≡ set flags (slot_of pages address) true =
+    sym (set-get_or flags i false)
+    ∙ ap (set flags i) (get_or-map slot_taken slots i untouched false under.0 ∙ held.taken)
+    ∙ ap (λ k. set flags k true) at.0 in (
+      found_space read_right pages address size fits at
+          (ap (λ k. allows read_right (get_or pages k unmapped).permission) (sym at.0)
+          ∙ held.reads _ (fits.permitted i))
+          (held.value (page_of view i) (fits.over.shared i)),
+      cc,
     )
 
--- a page whose slot has the right to store may be stored to
-pub may_store_in_slot :
-    (pages : List Mapped) (address slot : ℕ) → slot ≡ slot_of pages address
-    → allows write_right (get_or pages slot unmapped).permission ≡ true
-    → may_store pages address ≡ true
+-- a store to an own copy may be made, and is the store of its bytes
+pub stored_again :
+    (pages : List Mapped) {view : Memory} {slots after : List Slot} (address : ℕ) (size : Size) (value : ℕ) {i : ℕ}
+    → Fits pages view slots → IsAt pages address i → address % byte_count size ≡ 0
+    → OnSlot i (StoresAgain (record { slot = i; offset = address % 4096; size = size }) value) slots after
+    → (may_store pages address ≡ true)
+    × (workspace pages view after ≡ after_storing (workspace pages view slots) (bytes_stored address size value))
 unfolding may_store permission_at
-may_store_in_slot pages address slot slot_is has =
-    ap (λ k. allows write_right (get_or pages k unmapped).permission) (sym slot_is) ∙ has
+stored_again pages {view} {slots} address size value {i} fits at aligned done = (
+  ap (λ k. allows write_right (get_or pages k unmapped).permission) (sym at.0)
+      ∙ done.change.writes _ (fits.permitted i),
+  stored_space pages address size value fits at aligned done.others (done.change.stores (page_of view i)),
+)
+
+-- so the slots fit after a call that stores to an own copy, if there is one
+pub fits-again :
+    {pages : List Mapped} {view : Memory} {slots after : List Slot} {access : Access} {value : ℕ} (stored : Bool)
+    → Fits pages view slots → access.slot < length pages
+    → (IsTrue stored → OnSlot access.slot (StoresAgain access value) slots after) → (IsFalse stored → after ≡ slots)
+    → Fits pages view after
+fits-again {pages} {view} {slots} {after} {access} true fits lt stores stays =
+    let done = stores refl in
+    fits-after (allows write_right) fits lt done.others (done.change.stores (page_of view access.slot)).keeps
+    (done.change.writes _ (fits.permitted access.slot))
+fits-again false fits lt stores stays = rw (stays refl) fits
+
+-- a slot's page that was entered is the page of an address in it, and has the view's bytes
+pub entered_space :
+    (pages : List Mapped) {view : Memory} {slots after : List Slot} (address : ℕ) {i : ℕ}
+    → Fits pages view slots → IsAt pages address i
+    → allows execute_right (permission_at pages address) ≡ true → OnSlot i EntersPage slots after
+    → Enters (workspace pages view slots) address i (workspace pages view after)
+entered_space pages {view} {slots} address {i} fits at has done =
+    let under = inside_slots fits at.1 in
+    record {
+      slot_is = at.0;
+      mapped = under.1;
+      permitted = has;
+      unchanged =
+          get_or-on_view slot_bytes view slots i untouched under.1 under.0 ∙ done.change.viewed (page_of view i);
+      taken = taken_space pages address fits at done.others (done.change.takes (page_of view i));
+    }

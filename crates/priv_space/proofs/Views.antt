@@ -1,9 +1,10 @@
 -- What slots make of a view's pages, after one of them changed.
-use Rattle.std.proofs.Common.{◌≡◌, ℕ, ◌<◌, zero, suc, List, [], ◌∷◌, length, map, get_or, set, replicate, refl, ap, sym, ◌∙◌, arith}
-use Rattle.std.proofs.lemmas.List.{set-get_or}
-use Rattle.memory_spec.specs.Pages.{Mapped, Memory, page_of, unmapped}
+use Rattle.std.proofs.Common.{◌≡◌, ℕ, ◌<◌, zero, suc, List, [], ◌∷◌, length, map, get_or, set, replicate, inl, inr, refl, ap, sym, subst, ◌∙◌, arith}
+use Rattle.std.proofs.lemmas.Bool.{cases_eq}
+use Rattle.std.proofs.lemmas.List.{set-get_or, get_or-set_same, get_or-set_other}
+use Rattle.memory_spec.specs.Pages.{Memory, page_of}
 use Rattle.priv_space.specs.declared.slot.Slot.{Slot}
-use Rattle.priv_space.specs.Slots.{on_view, untouched, slot_shared, slot_bytes, IsPermitted, ArePermitted}
+use Rattle.priv_space.specs.Slots.{on_view, untouched, slot_bytes}
 
 pub on_view-set :
     (f : List ℕ → Slot → List ℕ) (view : Memory) (slots : List Slot) (i : ℕ) (s : Slot)
@@ -20,14 +21,6 @@ get_or-on_view f [] slots i d lt below = absurd (omega arith)
 get_or-on_view f (p ∷ ps) [] i d lt below = absurd (omega arith)
 get_or-on_view f (p ∷ ps) (q ∷ qs) zero d lt below = refl
 get_or-on_view f (p ∷ ps) (q ∷ qs) (suc i) d lt below = get_or-on_view f ps qs i d (omega arith) (omega arith)
-
--- a slot that fits its page makes it of it
-pub fitting-on_view :
-    (f : List ℕ → Slot → List ℕ) (view : Memory) (slots : List Slot) (i : ℕ) (d : Slot)
-    → i < length view → i < length slots → on_view f view slots ≡ view → f (page_of view i) (get_or slots i d)
-    ≡ page_of view i
-fitting-on_view f view slots i d lt below fits =
-    sym (get_or-on_view f view slots i d lt below) ∙ ap (λ pages. page_of pages i) fits
 
 pub length-on_view :
     (f : List ℕ → Slot → List ℕ) (view : Memory) (slots : List Slot)
@@ -46,62 +39,33 @@ on_view-set_same f view slots i s d lt below same =
     ∙ ap (set (on_view f view slots) i) (same ∙ sym (get_or-on_view f view slots i d lt below))
     ∙ set-get_or (on_view f view slots) i []
 
--- a slot that makes as much of any page as before changes nothing of any view
-pub on_view-set_kept :
-    (f : List ℕ → Slot → List ℕ) (view : Memory) (slots : List Slot) (i : ℕ) (s d : Slot)
-    → ((page : List ℕ) → f page s ≡ f page (get_or slots i d)) → on_view f view (set slots i s) ≡ on_view f view slots
-on_view-set_kept f [] slots i s d same = refl
-on_view-set_kept f (p ∷ ps) [] i s d same = refl
-on_view-set_kept f (p ∷ ps) (q ∷ qs) zero s d same = ap (λ page. page ∷ on_view f ps qs) (same p)
-on_view-set_kept f (p ∷ ps) (q ∷ qs) (suc i) s d same =
-    ap (λ rest. f p q ∷ rest) (on_view-set_kept f ps qs i s d same)
-
 pub map-replicate : {A B : Type 0} (f : A → B) (n : ℕ) (a : A) → map f (replicate n a) ≡ replicate n (f a)
 map-replicate f zero a = refl
 map-replicate f (suc n) a = ap (λ rest. f a ∷ rest) (map-replicate f n a)
 
-on_view-replicate :
-    (f : List ℕ → Slot → List ℕ) (s : Slot) → ((page : List ℕ) → f page s ≡ page)
-    → (view : Memory) → on_view f view (replicate (length view) s) ≡ view
-on_view-replicate f s same [] = refl
-on_view-replicate f s same (p ∷ ps) =
-    ap (λ page. page ∷ on_view f ps (replicate (length ps) s)) (same p)
-    ∙ ap (λ rest. p ∷ rest) (on_view-replicate f s same ps)
-
--- slots that weren't touched share the view's pages, and have its bytes
-pub shared-untouched : (view : Memory) → on_view slot_shared view (replicate (length view) untouched) ≡ view
-unfolding slot_shared untouched
-shared-untouched = on_view-replicate slot_shared untouched (λ page. refl)
-
+-- slots that weren't touched have the view's bytes
 pub bytes-untouched : (view : Memory) → on_view slot_bytes view (replicate (length view) untouched) ≡ view
 unfolding slot_bytes untouched
-bytes-untouched = on_view-replicate slot_bytes untouched (λ page. refl)
+bytes-untouched [] = refl
+bytes-untouched (page ∷ view) = ap (λ rest. page ∷ rest) (bytes-untouched view)
 
--- each page may be held as its slot holds it
-pub permitted-get_or :
-    (map : List Mapped) (slots : List Slot) (i : ℕ) (d : Slot) → i < length map → i < length slots
-    → ArePermitted map slots
-    → IsPermitted (get_or map i unmapped).permission (get_or slots i d)
-permitted-get_or [] slots i d lt below all = absurd (omega arith)
-permitted-get_or (p ∷ ps) [] i d lt below all = absurd (omega arith)
-permitted-get_or (p ∷ ps) (s ∷ slots) zero d lt below all = all.0
-permitted-get_or (p ∷ ps) (s ∷ slots) (suc i) d lt below all =
-    permitted-get_or ps slots i d (omega arith) (omega arith) all.1
+-- what holds of each slot in its place holds after one changed for which it holds
+pub each-set :
+    (Holds : ℕ → Slot → Type 0) (slots : List Slot) (i : ℕ) (s : Slot) → i < length slots
+    → ((k : ℕ) → Holds k (get_or slots k untouched)) → Holds i s
+    → (k : ℕ) → Holds k (get_or (set slots i s) k untouched)
+each-set Holds slots i s lt each here k =
+    elim (cases_eq k i) [
+      | inl is ↦
+          subst (λ n. Holds n (get_or (set slots i s) n untouched)) (sym is)
+          (subst (Holds i) (sym (get_or-set_same slots i s untouched lt)) here)
+      | inr other ↦ subst (Holds k) (sym (get_or-set_other slots i k s untouched other)) (each k)
+    ]
 
--- and after one of them is held otherwise, as it may be
-pub permitted-set :
-    (map : List Mapped) (slots : List Slot) (i : ℕ) (s d : Slot)
-    → (IsPermitted (get_or map i unmapped).permission (get_or slots i d)
-    → IsPermitted (get_or map i unmapped).permission s)
-    → ArePermitted map slots → ArePermitted map (set slots i s)
-permitted-set [] slots i s d may all = tt
-permitted-set (p ∷ ps) [] i s d may all = tt
-permitted-set (p ∷ ps) (q ∷ qs) zero s d may all = (may all.0, all.1)
-permitted-set (p ∷ ps) (q ∷ qs) (suc i) s d may all = (all.0, permitted-set ps qs i s d may all.1)
-
--- a page that isn't touched needs no right
-pub permitted-untouched : (map : List Mapped) (n : ℕ) → ArePermitted map (replicate n untouched)
-unfolding untouched
-permitted-untouched [] n = tt
-permitted-untouched (p ∷ ps) zero = tt
-permitted-untouched (p ∷ ps) (suc n) = (tt, permitted-untouched ps n)
+-- what holds of one that wasn't touched in each place holds of all that weren't
+pub each-untouched :
+    (Holds : ℕ → Slot → Type 0) (n : ℕ) → ((k : ℕ) → Holds k untouched)
+    → (k : ℕ) → Holds k (get_or (replicate n untouched) k untouched)
+each-untouched Holds zero each k = each k
+each-untouched Holds (suc n) each zero = each zero
+each-untouched Holds (suc n) each (suc k) = each-untouched (λ j. Holds (suc j)) n (λ j. each (suc j)) k

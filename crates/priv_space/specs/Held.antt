@@ -1,5 +1,6 @@
 -- The touched slots of a thread's memory, each in a place of its own.
-use Rattle.std.specs.Prelude.{◌≡◌, ◌<◌, ℕ, List, length, map, slice_index, slice_index_or}
+use Rattle.std.specs.Prelude.{◌≡◌, ◌<◌, ◌≤◌, ◌+◌, ◌^◌, ℕ, List, length, map, slice_index, slice_index_or, Option, Some, None, Result, IfOk}
+use Rattle.std.specs.declared.alloc.AllocError.{AllocError}
 use Rattle.priv_space.specs.declared.slot.Slot.{Slot}
 use Rattle.priv_space.specs.Slots.{untouched}
 
@@ -18,3 +19,27 @@ pub record IsHeld (places : List ℕ) (held : List Slot) : Type 0 where
   pub some : 0 < length held
   pub inside : (slot : ℕ) → slice_index places slot < length held
   pub apart : (a b : ℕ) → slice_index places a ≡ slice_index places b → 0 < slice_index places a → a ≡ b
+
+-- A slot of a table of places and of what they hold.
+pub record HoldsSlot (slot : ℕ) (places : List ℕ) (held : List Slot) : Type 0 where
+  pub each : IsHeld places held
+  pub within : slot < length places
+
+-- The slot got a place of its own, unless the host's memory ran out. All slots are as before.
+pub record PlacesSlot (slot : ℕ) (places places' : List ℕ) (held held' : List Slot) (result : Result ℕ AllocError)
+    : Type 0 where
+  pub each : IsHeld places' held'
+  pub same : all_held places' held' ≡ all_held places held
+  pub place : IfOk result (λ place. (place ≡ slice_index places' slot) × (0 < place))
+
+-- A slot, below this count, before which all slots from this one on are free.
+pub record IsNext (IsFree : ℕ → Type 0) (from count slot : ℕ) : Type 0 where
+  pub above : from ≤ slot
+  pub within : slot < count
+  pub fits : slot + 1 < 2 ^ 64
+  pub before : (k : ℕ) → from ≤ k → k < slot → IsFree k
+
+-- The first slot from this one on that isn't free, or none if all are free.
+abbrev pub FindsNext : (ℕ → Type 0) → ℕ → ℕ → Option ℕ → Type 0
+FindsNext IsFree from count (Some slot) = IsNext IsFree from count slot
+FindsNext IsFree from count None = (k : ℕ) → from ≤ k → IsFree k

@@ -1,7 +1,7 @@
 -- What a slot of a thread's memory means, over the page that the view has in its place.
-use Rattle.std.specs.Prelude.{◌≡◌, ℕ, Bool, true, false, List, [], ◌∷◌, length}
+use Rattle.std.specs.Prelude.{◌≡◌, ℕ, Bool, true, false, List, [], ◌∷◌, length, slice_index_or}
 use Rattle.std.specs.Arc.{arc_value}
-use Rattle.memory_spec.specs.Pages.{Mapped, Memory, allows, read_right, write_right}
+use Rattle.memory_spec.specs.Pages.{Mapped, Memory, page_of, unmapped, allows, read_right, write_right}
 use Rattle.memory_spec.specs.Workspace.{no_marks}
 use Rattle.priv_space.specs.declared.slot.Slot.{Slot}
 use Rattle.priv_space.specs.declared.slot.Slot.TheVariants.{View, Shared, Own, Hidden}
@@ -16,6 +16,10 @@ slot_shared page (View taken) = page
 slot_shared page (Shared shared) = arc_value shared
 slot_shared page (Own own) = page
 slot_shared page (Hidden taken own) = page
+
+-- What the slot shares with the view is its page.
+abbrev pub SharesPage : List ℕ → Slot → Type 0
+SharesPage page slot = slot_shared page slot ≡ page
 
 -- The bytes with the thread's stores.
 unfoldable pub slot_bytes : List ℕ → Slot → List ℕ
@@ -48,9 +52,8 @@ IsPermitted permission (Hidden taken own) = allows write_right permission ≡ tr
 
 -- Each page may be held as its slot holds it.
 abbrev pub ArePermitted : List Mapped → List Slot → Type 0
-ArePermitted [] slots = Unit {0}
-ArePermitted (page ∷ map) [] = Unit {0}
-ArePermitted (page ∷ map) (s ∷ slots) = IsPermitted page.permission s × ArePermitted map slots
+ArePermitted map slots =
+    (i : ℕ) → IsPermitted (slice_index_or map i unmapped).permission (slice_index_or slots i untouched)
 
 -- What each slot makes of the view's page in its place.
 abbrev pub on_view : (List ℕ → Slot → List ℕ) → Memory → List Slot → Memory
@@ -58,10 +61,13 @@ on_view f [] slots = []
 on_view f (page ∷ view) [] = []
 on_view f (page ∷ view) (s ∷ slots) = f page s ∷ on_view f view slots
 
--- There is a slot for each page of the map and of the view; each that has a share has it of the view's page in its
--- place, and holds its page as it may be held.
+-- There is a slot for each page of the view, and what each shares is the page in its place.
+pub record IsOver (view : Memory) (slots : List Slot) : Type 0 where
+  pub count : length slots ≡ length view
+  pub shared : (i : ℕ) → SharesPage (page_of view i) (slice_index_or slots i untouched)
+
+-- The slots are over a view of this map, and each holds its page as it may be held.
 pub record Fits (map : List Mapped) (view : Memory) (slots : List Slot) : Type 0 where
   pub pages : length view ≡ length map
-  pub count : length slots ≡ length map
-  pub shared : on_view slot_shared view slots ≡ view
+  pub over : IsOver view slots
   pub permitted : ArePermitted map slots

@@ -1,12 +1,13 @@
 //! One page of a thread's memory.
 
-ghost use Rattle.std.specs.Prelude.{◌≡◌, ℕ, ◌+◌, ◌*◌, ◌/◌, ◌%◌, ◌^◌, ◌<◌, ◌≤◌, ◌++◌, List, true, length, IfOk, IfSome, IfNone, OnOk, OnErr, IsTrue, IsFalse};
+ghost use Rattle.std.specs.Prelude.{◌≡◌, ℕ, ◌+◌, ◌*◌, ◌/◌, ◌%◌, ◌^◌, ◌<◌, ◌≤◌, ◌++◌, List, true, length, IfOk, IfSome, IfNone, OnOk, OnErr, IsTrue, IsFalse, MatchResult};
 ghost use Rattle.memory_spec.specs.Access.{byte_count, number_in};
 ghost use Rattle.memory_spec.specs.Pages.{page_of, allows, read_right, write_right};
 ghost use Rattle.memory_spec.specs.Workspace.{no_marks};
 ghost use Rattle.priv_space.specs.Written.{byte_of, with_number, with_marks};
 ghost use Rattle.priv_space.specs.Parts.{read_part, delta_part};
-ghost use Rattle.priv_space.specs.Slots.{untouched, slot_shared, slot_bytes, slot_marks, slot_taken, IsPermitted};
+ghost use Rattle.priv_space.specs.Slots.{untouched, SharesPage, slot_bytes, slot_marks, slot_taken};
+ghost use Rattle.priv_space.specs.Changes.{IsWithin, any, HasNumber, TakesByte, TakesNumber, EntersPage, StoresNumber, StoresAgain};
 
 use memory_spec::{PAGE_SIZE, Size};
 use page_store::{Page, PageTable};
@@ -151,8 +152,10 @@ fn own_copy(
     value: u32,
 ) -> Result<Box<StoredPage>, AllocError>
     requires { access.offset + byte_count access.size ≤ PAGE_SIZE }
-    ensures page { IfOk result (λ own. own.value.page ≡ with_number page.now access.offset access.size value) }
-    ensures mask { IfOk result (λ own. own.value.mask ≡ with_marks no_marks access.offset access.size) }
+    ensures page { IfOk result
+        (λ own. own.value.page ≡ with_number page.now access.offset access.size value) }
+    ensures mask { IfOk result
+        (λ own. own.value.mask ≡ with_marks no_marks access.offset access.size) }
 {
     let mut own = Box::new(alloc, StoredPage::of(page))?;
     store_number(&mut own, access.offset, access.size, value);
@@ -163,7 +166,8 @@ fn own_copy(
 #[inline(never)]
 fn push_read(view: &PageTable, slot: usize, pages: &mut Vec<ReadPage>) -> Result<(), AllocError>
     requires { slot < length view.now }
-    ensures { OnOk result (pages.new.items ≡ pages.old.items ++ read_part slot true (page_of view.now slot)) }
+    ensures { OnOk result
+        (pages.new.items ≡ pages.old.items ++ read_part slot true (page_of view.now slot)) }
 {
     pages.push(ReadPage::new(slot, view.share(slot)?))?;
     Ok(())
@@ -213,12 +217,7 @@ impl Slot {
     #[tactic(auto, unfolding(crate::specs::Slots::slot_shared, crate::specs::Slots::slot_bytes, crate::specs::Slots::slot_taken))]
     pub(super) fn held_number(&self, access: Access) -> Option<u32>
         requires { access.offset + byte_count access.size ≤ PAGE_SIZE }
-        ensures value { (page : List ℕ) → slot_shared page self.now ≡ page
-            → IfSome result (λ number. number ≡ number_in (slot_bytes page self.now) access.offset access.size) }
-        ensures small { IfSome result (λ number. number < 2 ^ (8 * byte_count access.size)) }
-        ensures taken { IfSome result (λ number. slot_taken self.now ≡ true) }
-        ensures permitted { (permission : ℕ) → IsPermitted permission self.now
-            → IfSome result (λ number. allows read_right permission ≡ true) }
+        ensures { IfSome result (λ number. HasNumber access number self.now) }
     {
         // Two tests are faster than a jump by a table of four.
         if let Slot::Own(own) = self {
@@ -237,20 +236,12 @@ impl Slot {
     /// An error where the page has as many holders as can be counted; nothing changes then.
     #[tactic(auto, unfolding(crate::specs::Slots::slot_shared, crate::specs::Slots::slot_bytes, crate::specs::Slots::slot_marks, crate::specs::Slots::slot_taken))]
     pub(super) fn take(&mut self, view: &PageTable, access: Access) -> Result<u32, AllocError>
-        requires within { access.slot < length view.now }
-        requires inside { access.offset + byte_count access.size ≤ PAGE_SIZE }
-        requires share { slot_shared (page_of view.now access.slot) self.old ≡ page_of view.now access.slot }
-        ensures value { IfOk result (λ number. number
-            ≡ number_in (slot_bytes (page_of view.now access.slot) self.old) access.offset access.size) }
-        ensures small { IfOk result (λ number. number < 2 ^ (8 * byte_count access.size)) }
-        ensures shared { slot_shared (page_of view.now access.slot) self.new ≡ page_of view.now access.slot }
-        ensures bytes { slot_bytes (page_of view.now access.slot) self.new
-            ≡ slot_bytes (page_of view.now access.slot) self.old }
-        ensures marks { slot_marks self.new ≡ slot_marks self.old }
-        ensures taken { OnOk result (slot_taken self.new ≡ true) }
-        ensures taken_stays { OnErr result (slot_taken self.new ≡ slot_taken self.old) }
-        ensures permitted { (permission : ℕ) → allows read_right permission ≡ true → IsPermitted permission self.old
-            → IsPermitted permission self.new }
+        requires within { IsWithin access (length view.now) }
+        requires share { SharesPage (page_of view.now access.slot) self.old }
+        ensures { MatchResult result
+            (λ number. TakesNumber (allows read_right) (page_of view.now access.slot) access number
+            self.old self.new)
+            (λ error. self.new ≡ self.old) }
     {
         let number = number_at(self.page(view, access.slot), access.offset, access.size);
         self.show(view, access.slot)?;
@@ -261,7 +252,7 @@ impl Slot {
     #[tactic(auto, unfolding(crate::specs::Slots::slot_shared, crate::specs::Slots::slot_bytes))]
     fn page<'a>(&'a self, view: &'a PageTable, slot: usize) -> &'a Page
         requires within { slot < length view.now }
-        requires share { slot_shared (page_of view.now slot) self.now ≡ page_of view.now slot }
+        requires share { SharesPage (page_of view.now slot) self.now }
         ensures { result.now ≡ slot_bytes (page_of view.now slot) self.now }
     {
         match self {
@@ -280,14 +271,10 @@ impl Slot {
     #[tactic(auto, unfolding(crate::specs::Slots::slot_shared, crate::specs::Slots::slot_bytes, crate::specs::Slots::slot_marks, crate::specs::Slots::slot_taken))]
     fn show(&mut self, view: &PageTable, slot: usize) -> Result<(), AllocError>
         requires within { slot < length view.now }
-        requires share { slot_shared (page_of view.now slot) self.old ≡ page_of view.now slot }
-        ensures shared { slot_shared (page_of view.now slot) self.new ≡ page_of view.now slot }
-        ensures bytes { slot_bytes (page_of view.now slot) self.new ≡ slot_bytes (page_of view.now slot) self.old }
-        ensures marks { slot_marks self.new ≡ slot_marks self.old }
-        ensures taken { OnOk result (slot_taken self.new ≡ true) }
-        ensures taken_stays { OnErr result (slot_taken self.new ≡ slot_taken self.old) }
-        ensures permitted { (permission : ℕ) → allows read_right permission ≡ true → IsPermitted permission self.old
-            → IsPermitted permission self.new }
+        requires share { SharesPage (page_of view.now slot) self.old }
+        ensures { MatchResult result
+            (λ done. TakesByte (allows read_right) (page_of view.now slot) self.old self.new)
+            (λ error. self.new ≡ self.old) }
     {
         if let Slot::View { .. } = self {
             *self = Slot::Shared(view.share(slot)?);
@@ -303,11 +290,7 @@ impl Slot {
     /// Marks that a byte was taken.
     #[tactic(auto, unfolding(crate::specs::Slots::slot_shared, crate::specs::Slots::slot_bytes, crate::specs::Slots::slot_marks, crate::specs::Slots::slot_taken))]
     fn mark(&mut self)
-        ensures shared { (page : List ℕ) → slot_shared page self.new ≡ slot_shared page self.old }
-        ensures bytes { (page : List ℕ) → slot_bytes page self.new ≡ slot_bytes page self.old }
-        ensures marks { slot_marks self.new ≡ slot_marks self.old }
-        ensures taken { slot_taken self.new ≡ true }
-        ensures permitted { (permission : ℕ) → IsPermitted permission self.old → IsPermitted permission self.new }
+        ensures { (page : List ℕ) → TakesByte any page self.old self.new }
     {
         match self {
             Slot::View { taken } => *taken = true,
@@ -319,16 +302,9 @@ impl Slot {
     /// Takes the word of a fetch from the slot's page.
     #[tactic(auto, unfolding(crate::specs::Slots::slot_shared, crate::specs::Slots::slot_bytes, crate::specs::Slots::slot_marks, crate::specs::Slots::slot_taken))]
     pub(super) fn fetch(&mut self, view: &PageTable, access: Access) -> u32
-        requires within { access.slot < length view.now }
-        requires inside { access.offset + byte_count access.size ≤ PAGE_SIZE }
-        requires share { slot_shared (page_of view.now access.slot) self.old ≡ page_of view.now access.slot }
-        ensures value { result ≡ number_in (slot_bytes (page_of view.now access.slot) self.old) access.offset access.size }
-        ensures shared { slot_shared (page_of view.now access.slot) self.new ≡ page_of view.now access.slot }
-        ensures bytes { slot_bytes (page_of view.now access.slot) self.new
-            ≡ slot_bytes (page_of view.now access.slot) self.old }
-        ensures marks { slot_marks self.new ≡ slot_marks self.old }
-        ensures taken { slot_taken self.new ≡ true }
-        ensures permitted { (permission : ℕ) → IsPermitted permission self.old → IsPermitted permission self.new }
+        requires within { IsWithin access (length view.now) }
+        requires share { SharesPage (page_of view.now access.slot) self.old }
+        ensures { TakesNumber any (page_of view.now access.slot) access result self.old self.new }
     {
         let number = number_at(self.page(view, access.slot), access.offset, access.size);
         self.mark();
@@ -340,15 +316,8 @@ impl Slot {
     #[tactic(auto, unfolding(crate::specs::Slots::slot_shared, crate::specs::Slots::slot_bytes, crate::specs::Slots::slot_marks, crate::specs::Slots::slot_taken))]
     pub(super) fn store_again(&mut self, access: Access, value: u32) -> bool
         requires { access.offset + byte_count access.size ≤ PAGE_SIZE }
-        ensures shared { (page : List ℕ) → slot_shared page self.new ≡ slot_shared page self.old }
-        ensures taken { slot_taken self.new ≡ slot_taken self.old }
-        ensures bytes { (page : List ℕ) → IsTrue result → slot_bytes page self.new
-            ≡ with_number (slot_bytes page self.old) access.offset access.size value }
-        ensures marks { IsTrue result → slot_marks self.new ≡ with_marks (slot_marks self.old) access.offset access.size }
+        ensures stored { IsTrue result → StoresAgain access value self.old self.new }
         ensures stays { IsFalse result → self.new ≡ self.old }
-        ensures permitted { (permission : ℕ) → IsPermitted permission self.old → IsPermitted permission self.new }
-        ensures writes { (permission : ℕ) → IsPermitted permission self.old → IsTrue result
-            → allows write_right permission ≡ true }
     {
         match self {
             Slot::Own(own) => {
@@ -376,17 +345,11 @@ impl Slot {
         access: Access,
         value: u32,
     ) -> Result<(), AllocError>
-        requires within { access.slot < length view.now }
-        requires inside { access.offset + byte_count access.size ≤ PAGE_SIZE }
-        requires share { slot_shared (page_of view.now access.slot) self.old ≡ page_of view.now access.slot }
-        ensures shared { slot_shared (page_of view.now access.slot) self.new ≡ page_of view.now access.slot }
-        ensures taken { slot_taken self.new ≡ slot_taken self.old }
-        ensures bytes { OnOk result (slot_bytes (page_of view.now access.slot) self.new
-            ≡ with_number (slot_bytes (page_of view.now access.slot) self.old) access.offset access.size value) }
-        ensures marks { OnOk result (slot_marks self.new ≡ with_marks (slot_marks self.old) access.offset access.size) }
-        ensures stays { OnErr result (self.new ≡ self.old) }
-        ensures permitted { (permission : ℕ) → allows write_right permission ≡ true → IsPermitted permission self.old
-            → IsPermitted permission self.new }
+        requires within { IsWithin access (length view.now) }
+        requires share { SharesPage (page_of view.now access.slot) self.old }
+        ensures { MatchResult result
+            (λ done. StoresNumber (page_of view.now access.slot) access value self.old self.new)
+            (λ error. self.new ≡ self.old) }
     {
         match self {
             Slot::Own(own) => {
@@ -412,13 +375,8 @@ impl Slot {
     #[inline(always)]
     #[tactic(auto, unfolding(crate::specs::Slots::slot_shared, crate::specs::Slots::slot_bytes, crate::specs::Slots::slot_marks, crate::specs::Slots::slot_taken))]
     pub(super) fn enter(&mut self) -> bool
-        ensures shared { (page : List ℕ) → slot_shared page self.new ≡ slot_shared page self.old }
-        ensures bytes { (page : List ℕ) → slot_bytes page self.new ≡ slot_bytes page self.old }
-        ensures marks { slot_marks self.new ≡ slot_marks self.old }
-        ensures unchanged { (page : List ℕ) → IsTrue result → slot_bytes page self.old ≡ page }
-        ensures taken { IsTrue result → slot_taken self.new ≡ true }
-        ensures stays { IsFalse result → slot_taken self.new ≡ slot_taken self.old }
-        ensures permitted { (permission : ℕ) → IsPermitted permission self.old → IsPermitted permission self.new }
+        ensures entered { IsTrue result → EntersPage self.old self.new }
+        ensures stays { IsFalse result → self.new ≡ self.old }
     {
         match self {
             Slot::View { .. } | Slot::Shared(_) => {

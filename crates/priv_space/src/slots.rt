@@ -1,13 +1,14 @@
 //! The pages of a thread's memory, by slot.
 
-ghost use Rattle.std.specs.Prelude.{◌≡◌, ℕ, ◌+◌, ◌*◌, ◌^◌, ◌<◌, ◌≤◌, ◌++◌, true, List, length, map, slice_index, slice_index_or, slice_set, replicate, IfOk, IfSome, IfNone, OnOk, OnErr, IsTrue, IsFalse};
+ghost use Rattle.std.specs.Prelude.{◌≡◌, ℕ, ◌+◌, ◌*◌, ◌^◌, ◌<◌, ◌≤◌, ◌++◌, true, List, length, map, slice_index, slice_index_or, slice_set, replicate, IfOk, IfSome, IfNone, OnOk, OnErr, IsTrue, IsFalse, MatchResult};
 ghost use Rattle.memory_spec.specs.Access.{byte_count, number_in};
 ghost use Rattle.memory_spec.specs.Pages.{Mapped, Memory, page_of, allows, read_right, write_right, unmapped};
 ghost use Rattle.memory_spec.specs.Workspace.{mask_of};
 ghost use Rattle.priv_space.specs.Written.{with_number, with_marks};
-ghost use Rattle.priv_space.specs.Slots.{on_view, untouched, slot_shared, slot_bytes, slot_marks, slot_taken, ArePermitted};
+ghost use Rattle.priv_space.specs.Slots.{on_view, untouched, slot_shared, slot_bytes, slot_marks, slot_taken, IsOver};
+ghost use Rattle.priv_space.specs.Changes.{IsWithin, any, HasNumber, TakesNumber, EntersPage, StoresNumber, StoresAgain, OnSlot};
 ghost use Rattle.priv_space.specs.Parts.{read_part, delta_part};
-ghost use Rattle.priv_space.specs.Held.{held_at, all_held, IsHeld};
+ghost use Rattle.priv_space.specs.Held.{HoldsSlot, PlacesSlot, FindsNext};
 
 use super::slot::{Access, Slot};
 use memory_spec::PAGE_SIZE;
@@ -50,7 +51,8 @@ impl Model for Slots {
 #[inline(always)]
 fn is_clear(places: &[u16], start: usize) -> bool
     requires { start + BLOCK ≤ length places.now }
-    ensures { IsTrue result → (k : ℕ) → start ≤ k → k < start + BLOCK → slice_index places.now k ≡ 0 }
+    ensures { IsTrue result → (k : ℕ) → start ≤ k → k < start + BLOCK
+        → slice_index places.now k ≡ 0 }
 {
     let mut all = 0;
     for k in 0..BLOCK {
@@ -61,10 +63,7 @@ fn is_clear(places: &[u16], start: usize) -> bool
 
 /// The next slot that was touched, from this one on.
 fn next_place(places: &[u16], from: usize) -> Option<usize>
-    ensures found { IfSome result (λ slot. (from ≤ slot) × (slot < length places.now)) }
-    ensures fits { IfSome result (λ slot. slot + 1 < 2 ^ 64) }
-    ensures none_before { IfSome result (λ slot. (k : ℕ) → from ≤ k → k < slot → slice_index places.now k ≡ 0) }
-    ensures none_left { IfNone result ((k : ℕ) → from ≤ k → slice_index places.now k ≡ 0) }
+    ensures { FindsNext (λ k. slice_index places.now k ≡ 0) from (length places.now) result }
 {
     let mut slot = from;
     while slot < places.len() && places.len() - slot >= BLOCK && is_clear(places, slot) {
@@ -96,12 +95,9 @@ fn place_of(places: &[u16], slot: usize) -> usize
 #[cold]
 #[inline(never)]
 fn make_place(places: &mut [u16], held: &mut Vec<Slot>, slot: usize) -> Result<usize, AllocError>
-    requires held { IsHeld places.old held.old.items }
-    requires within { slot < length places.old }
+    requires within { HoldsSlot slot places.old held.old.items }
     requires free { slice_index places.old slot ≡ 0 }
-    ensures held { IsHeld places.new held.new.items }
-    ensures same { all_held places.new held.new.items ≡ all_held places.old held.old.items }
-    ensures place { IfOk result (λ place. (place ≡ slice_index places.new slot) × (0 < place)) }
+    ensures { PlacesSlot slot places.old places.new held.old.items held.new.items result }
 {
     let place = held.len();
     if place > usize::from(u16::MAX) {
@@ -119,11 +115,8 @@ fn make_place(places: &mut [u16], held: &mut Vec<Slot>, slot: usize) -> Result<u
 /// An error where the host's memory ran out.
 #[inline(always)]
 fn place_for(places: &mut [u16], held: &mut Vec<Slot>, slot: usize) -> Result<usize, AllocError>
-    requires held { IsHeld places.old held.old.items }
-    requires within { slot < length places.old }
-    ensures held { IsHeld places.new held.new.items }
-    ensures same { all_held places.new held.new.items ≡ all_held places.old held.old.items }
-    ensures place { IfOk result (λ place. (place ≡ slice_index places.new slot) × (0 < place)) }
+    requires { HoldsSlot slot places.old held.old.items }
+    ensures { PlacesSlot slot places.old places.new held.old.items held.new.items result }
 {
     let place = place_of(places, slot);
     if place != 0 {
@@ -158,11 +151,8 @@ impl Slots {
 
     /// The next slot that was touched, from this one on.
     pub(super) fn next_touched(&self, from: usize) -> Option<usize>
-        ensures found { IfSome result (λ slot. (from ≤ slot) × (slot < length self.now)) }
-        ensures fits { IfSome result (λ slot. slot + 1 < 2 ^ 64) }
-        ensures none_before { IfSome result (λ slot. (k : ℕ) → from ≤ k → k < slot
-            → slice_index_or self.now k untouched ≡ untouched) }
-        ensures none_left { IfNone result ((k : ℕ) → from ≤ k → slice_index_or self.now k untouched ≡ untouched) }
+        ensures { FindsNext (λ k. slice_index_or self.now k untouched ≡ untouched) from
+            (length self.now) result }
     {
         next_place(&self.places, from)
     }
@@ -177,8 +167,9 @@ impl Slots {
     ) -> Result<(), AllocError>
         requires within { slot < length self.now }
         requires mapped { slot < length view.now }
-        ensures { OnOk result (pages.new.items
-            ≡ pages.old.items ++ read_part slot (slot_taken (slice_index_or self.now slot untouched)) (page_of view.now slot)) }
+        ensures { OnOk result (pages.new.items ≡ pages.old.items
+            ++ read_part slot (slot_taken (slice_index_or self.now slot untouched))
+            (page_of view.now slot)) }
     {
         self.at(slot).add_read(view, slot, pages)
     }
@@ -193,7 +184,8 @@ impl Slots {
     ) -> Result<(), AllocError>
         requires { slot < length self.old }
         ensures given { (page : List ℕ) → OnOk result (deltas.new.items
-            ≡ deltas.old.items ++ delta_part slot (slot_marks (slice_index_or self.old slot untouched))
+            ≡ deltas.old.items
+            ++ delta_part slot (slot_marks (slice_index_or self.old slot untouched))
             (slot_bytes page (slice_index_or self.old slot untouched))) }
         ensures left { self.new ≡ slice_set self.old slot untouched }
     {
@@ -206,16 +198,9 @@ impl Slots {
 /// The number of an access, where one was loaded from its page before.
 #[inline(always)]
 pub(super) fn held_number(slots: &Slots, access: Access) -> Option<u32>
-    requires within { access.slot < length slots.now }
-    requires inside { access.offset + byte_count access.size ≤ PAGE_SIZE }
-    ensures value { (view : Memory) → length slots.now ≡ length view → on_view slot_shared view slots.now ≡ view
-        → IfSome result (λ number. number
-        ≡ number_in (page_of (on_view slot_bytes view slots.now) access.slot) access.offset access.size) }
-    ensures small { IfSome result (λ number. number < 2 ^ (8 * byte_count access.size)) }
-    ensures taken { IfSome result (λ number.
-        slice_set (map slot_taken slots.now) access.slot true ≡ map slot_taken slots.now) }
-    ensures permitted { (pages : List Mapped) → length slots.now ≡ length pages → ArePermitted pages slots.now
-        → IfSome result (λ number. allows read_right (slice_index_or pages access.slot unmapped).permission ≡ true) }
+    requires { IsWithin access (length slots.now) }
+    ensures { IfSome result
+        (λ number. HasNumber access number (slice_index_or slots.now access.slot untouched)) }
 {
     slots.at(access.slot).held_number(access)
 }
@@ -227,21 +212,13 @@ pub(super) fn held_number(slots: &Slots, access: Access) -> Option<u32>
 /// An error where the host's memory ran out, or the view's page has as many holders as can be counted; nothing changes
 /// then.
 pub(super) fn take(view: &PageTable, slots: &mut Slots, access: Access) -> Result<u32, AllocError>
-    requires count { length slots.old ≡ length view.now }
-    requires within { access.slot < length slots.old }
-    requires inside { access.offset + byte_count access.size ≤ PAGE_SIZE }
-    requires share { on_view slot_shared view.now slots.old ≡ view.now }
-    ensures value { IfOk result (λ number. number
-        ≡ number_in (page_of (on_view slot_bytes view.now slots.old) access.slot) access.offset access.size) }
-    ensures small { IfOk result (λ number. number < 2 ^ (8 * byte_count access.size)) }
-    ensures shared { on_view slot_shared view.now slots.new ≡ view.now }
-    ensures bytes { on_view slot_bytes view.now slots.new ≡ on_view slot_bytes view.now slots.old }
-    ensures marks { map slot_marks slots.new ≡ map slot_marks slots.old }
-    ensures taken { OnOk result (map slot_taken slots.new ≡ slice_set (map slot_taken slots.old) access.slot true) }
-    ensures taken_stays { OnErr result (map slot_taken slots.new ≡ map slot_taken slots.old) }
-    ensures permitted { (pages : List Mapped)
-        → allows read_right (slice_index_or pages access.slot unmapped).permission ≡ true
-        → ArePermitted pages slots.old → ArePermitted pages slots.new }
+    requires within { IsWithin access (length slots.old) }
+    requires over { IsOver view.now slots.old }
+    ensures { MatchResult result
+        (λ number. OnSlot access.slot
+        (TakesNumber (allows read_right) (page_of view.now access.slot) access number)
+        slots.old slots.new)
+        (λ error. slots.new ≡ slots.old) }
 {
     let place = place_for(&mut slots.places, &mut slots.held, access.slot)?;
     slots.held[place].take(view, access)
@@ -253,41 +230,25 @@ pub(super) fn take(view: &PageTable, slots: &mut Slots, access: Access) -> Resul
 ///
 /// An error where the host's memory ran out; nothing changes then.
 pub(super) fn fetch(view: &PageTable, slots: &mut Slots, access: Access) -> Result<u32, AllocError>
-    requires count { length slots.old ≡ length view.now }
-    requires within { access.slot < length slots.old }
-    requires inside { access.offset + byte_count access.size ≤ PAGE_SIZE }
-    requires share { on_view slot_shared view.now slots.old ≡ view.now }
-    ensures value { IfOk result (λ number. number
-        ≡ number_in (page_of (on_view slot_bytes view.now slots.old) access.slot) access.offset access.size) }
-    ensures shared { on_view slot_shared view.now slots.new ≡ view.now }
-    ensures bytes { on_view slot_bytes view.now slots.new ≡ on_view slot_bytes view.now slots.old }
-    ensures marks { map slot_marks slots.new ≡ map slot_marks slots.old }
-    ensures taken { OnOk result (map slot_taken slots.new ≡ slice_set (map slot_taken slots.old) access.slot true) }
-    ensures taken_stays { OnErr result (map slot_taken slots.new ≡ map slot_taken slots.old) }
-    ensures permitted { (pages : List Mapped) → ArePermitted pages slots.old → ArePermitted pages slots.new }
+    requires within { IsWithin access (length slots.old) }
+    requires over { IsOver view.now slots.old }
+    ensures { MatchResult result
+        (λ number. OnSlot access.slot
+        (TakesNumber any (page_of view.now access.slot) access number) slots.old slots.new)
+        (λ error. slots.new ≡ slots.old) }
 {
     let place = place_for(&mut slots.places, &mut slots.held, access.slot)?;
     Ok(slots.held[place].fetch(view, access))
 }
 
-/// Stores the lowest bytes of a value into the own copy of a page. Whether there is one; else nothing changes. It says
-/// so on any view and any map.
+/// Stores the lowest bytes of a value into the thread's copy of a page and returns true; without a copy, changes
+/// nothing and returns false.
 #[inline(always)]
 pub(super) fn store_again(slots: &mut Slots, access: Access, value: u32) -> bool
-    requires within { access.slot < length slots.old }
-    requires inside { access.offset + byte_count access.size ≤ PAGE_SIZE }
-    ensures shared { (view : Memory) → on_view slot_shared view slots.new ≡ on_view slot_shared view slots.old }
-    ensures taken { map slot_taken slots.new ≡ map slot_taken slots.old }
-    ensures bytes { (view : Memory) → length slots.old ≡ length view → IsTrue result
-        → on_view slot_bytes view slots.new ≡ slice_set (on_view slot_bytes view slots.old) access.slot
-        (with_number (page_of (on_view slot_bytes view slots.old) access.slot) access.offset access.size value) }
-    ensures marks { IsTrue result → map slot_marks slots.new
-        ≡ slice_set (map slot_marks slots.old) access.slot
-        (with_marks (mask_of (map slot_marks slots.old) access.slot) access.offset access.size) }
+    requires { IsWithin access (length slots.old) }
+    ensures stored { IsTrue result
+        → OnSlot access.slot (StoresAgain access value) slots.old slots.new }
     ensures stays { IsFalse result → slots.new ≡ slots.old }
-    ensures permitted { (pages : List Mapped) → ArePermitted pages slots.old → ArePermitted pages slots.new }
-    ensures writes { (pages : List Mapped) → length slots.old ≡ length pages → ArePermitted pages slots.old
-        → IsTrue result → allows write_right (slice_index_or pages access.slot unmapped).permission ≡ true }
 {
     let place = place_of(&slots.places, access.slot);
     slots.held[place].store_again(access, value)
@@ -305,40 +266,24 @@ pub(super) fn store(
     access: Access,
     value: u32,
 ) -> Result<(), AllocError>
-    requires count { length slots.old ≡ length view.now }
-    requires within { access.slot < length slots.old }
-    requires inside { access.offset + byte_count access.size ≤ PAGE_SIZE }
-    requires share { on_view slot_shared view.now slots.old ≡ view.now }
-    ensures shared { on_view slot_shared view.now slots.new ≡ view.now }
-    ensures taken { map slot_taken slots.new ≡ map slot_taken slots.old }
-    ensures bytes { OnOk result (on_view slot_bytes view.now slots.new
-        ≡ slice_set (on_view slot_bytes view.now slots.old) access.slot
-        (with_number (page_of (on_view slot_bytes view.now slots.old) access.slot) access.offset access.size value)) }
-    ensures marks { OnOk result (map slot_marks slots.new
-        ≡ slice_set (map slot_marks slots.old) access.slot
-        (with_marks (mask_of (map slot_marks slots.old) access.slot) access.offset access.size)) }
-    ensures stays { OnErr result (slots.new ≡ slots.old) }
-    ensures permitted { (pages : List Mapped)
-        → allows write_right (slice_index_or pages access.slot unmapped).permission ≡ true
-        → ArePermitted pages slots.old → ArePermitted pages slots.new }
+    requires within { IsWithin access (length slots.old) }
+    requires over { IsOver view.now slots.old }
+    ensures { MatchResult result
+        (λ done. OnSlot access.slot
+        (StoresNumber (page_of view.now access.slot) access value) slots.old slots.new)
+        (λ error. slots.new ≡ slots.old) }
 {
     let place = place_for(&mut slots.places, &mut slots.held, access.slot)?;
     slots.held[place].store(alloc, view, access, value)
 }
 
-/// Takes a byte of a page, to run its instructions, unless it has the thread's own stores or the host's memory ran out.
-/// It says so on any view.
+/// Takes a byte of a page, to run its instructions, and returns true; changes nothing and returns false if the page has
+/// the thread's own stores or the host's memory ran out.
 #[inline(always)]
 pub(super) fn enter(slots: &mut Slots, slot: usize) -> bool
     requires { slot < length slots.old }
-    ensures shared { (view : Memory) → on_view slot_shared view slots.new ≡ on_view slot_shared view slots.old }
-    ensures bytes { (view : Memory) → on_view slot_bytes view slots.new ≡ on_view slot_bytes view slots.old }
-    ensures marks { map slot_marks slots.new ≡ map slot_marks slots.old }
-    ensures unchanged { (view : Memory) → length slots.old ≡ length view → IsTrue result
-        → page_of (on_view slot_bytes view slots.old) slot ≡ page_of view slot }
-    ensures taken { IsTrue result → map slot_taken slots.new ≡ slice_set (map slot_taken slots.old) slot true }
-    ensures stays { IsFalse result → map slot_taken slots.new ≡ map slot_taken slots.old }
-    ensures permitted { (pages : List Mapped) → ArePermitted pages slots.old → ArePermitted pages slots.new }
+    ensures entered { IsTrue result → OnSlot slot EntersPage slots.old slots.new }
+    ensures stays { IsFalse result → slots.new ≡ slots.old }
 {
     let Ok(place) = place_for(&mut slots.places, &mut slots.held, slot) else {
         return false;

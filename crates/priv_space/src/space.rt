@@ -46,7 +46,8 @@ impl Model for Space {
 #[inline(always)]
 #[tactic(auto, unfolding(memory_spec::specs::Pages::permission_at))]
 fn permitted(pages: &PageMap, address: u32) -> Option<(usize, Perm)>
-    ensures slot { IfSome result (λ p. (p.0 ≡ slot_of pages.now address) × (p.0 < length pages.now)) }
+    ensures slot { IfSome result
+        (λ p. (p.0 ≡ slot_of pages.now address) × (p.0 < length pages.now)) }
     ensures perm { IfSome result (λ p. p.1.0 ≡ permission_at pages.now address) }
     ensures missing { IfNone result (permission_at pages.now address ≡ 0) }
 {
@@ -142,7 +143,8 @@ impl Space {
     #[tactic(auto, unfolding(memory_spec::specs::Access::loaded, memory_spec::specs::Access::number_at))]
     fn first_load(&mut self, address: u32, size: Size) -> Result<u32, MemoryError>
         requires { address % byte_count size ≡ 0 }
-        ensures found { Takes self.old address (loaded self.old.map self.old.memory address size) result self.new }
+        ensures found { Takes self.old address
+            (loaded self.old.map self.old.memory address size) result self.new }
         ensures fits { IfOk result (λ value. value < 2 ^ (8 * byte_count size)) }
     {
         match permitted(&self.pages, address) {

@@ -1,26 +1,16 @@
 -- Answers to the goals that the check leaves of `next_touched`.
-use Rattle.std.proofs.Common.{get_or, ap, ◌∙◌, sym}
+use Rattle.std.proofs.Common.{◌≡◌, length, get_or, ap, ◌∙◌, sym}
 use Rattle.priv_space.specs.Slots.{untouched}
-use Rattle.priv_space.proofs.Spaces.{if_some, if_none}
-use Rattle.priv_space.proofs.Held.{untouched-held}
+use Rattle.priv_space.proofs.Held.{length-all_held, untouched-held, next-free}
 use Rattle.priv_space.proofs.slots.Slots.next_touched.Goals as goal
 
-pub returns-clause-none_before : goal.returns-clause-none_before
-returns-clause-none_before c =
+pub returns : goal.returns
+returns c =
     let places = c.self.inside.places.items in
-    if_some c.next_place.result
-    (λ slot clear k from below.
-    ap (λ slots. get_or slots k untouched) (sym c.self.view_is)
-    ∙ untouched-held places c.self.inside.held.items k c.self.invariant
-    (ap (λ p. get_or p k 0) (sym c.deref.ensures.value) ∙ clear k from below))
-    c.next_place.ensures.none_before
-
-pub returns-clause-none_left : goal.returns-clause-none_left
-returns-clause-none_left c =
-    let places = c.self.inside.places.items in
-    if_none c.next_place.result
-    (λ clear k from.
-    ap (λ slots. get_or slots k untouched) (sym c.self.view_is)
-    ∙ untouched-held places c.self.inside.held.items k c.self.invariant
-    (ap (λ p. get_or p k 0) (sym c.deref.ensures.value) ∙ clear k from))
-    c.next_place.ensures.none_left
+    let held = c.self.inside.held.items in
+    let count : length c.deref.result.now ≡ length c.args.self.now =
+    ap length c.deref.ensures.value ∙ sym (length-all_held places held) ∙ ap length c.self.view_is in
+    next-free c.args.from _ _ c.next_place.result
+    (λ k free. ap (λ slots. get_or slots k untouched) (sym c.self.view_is)
+    ∙ untouched-held places held k c.self.invariant (ap (λ p. get_or p k 0) (sym c.deref.ensures.value) ∙ free))
+    count c.next_place.ensures
