@@ -175,6 +175,6 @@ impl Setup {
         self.sound();
         machine_spec::map_ascends();
         let pages = pages_of(alloc, &self.program.image.map)?;
-        Ok(PageMap::new(pages))
+        PageMap::new(alloc, pages)
     }
 }

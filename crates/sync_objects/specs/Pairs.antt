@@ -14,11 +14,11 @@ abbrev pub objects_of : Tables → Objects
 objects_of t =
     record {
       threads = t.threads;
-      mutexes = t.mutexes;
-      semaphores = t.semaphores;
-      barriers = t.barriers;
-      conditions = t.conditions;
-      rwlocks = t.rwlocks;
+      mutexes = t.mutexes.value;
+      semaphores = t.semaphores.value;
+      barriers = t.barriers.value;
+      conditions = t.conditions.value;
+      rwlocks = t.rwlocks.value;
     }
 
 -- a row done at the condition of number c and the mutex of number m
