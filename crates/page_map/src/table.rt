@@ -1,4 +1,4 @@
-//! A table of the slots of pages, by blocks of 1,024 page numbers.
+//! A table of the slots of pages, by blocks of 4,096 page numbers.
 
 ghost use Rattle.std.specs.Prelude.{◌≡◌, ℕ, ◌/◌, ◌<◌, true, length, slice_index, IfOk, IfSome};
 ghost use Rattle.memory_spec.specs.Pages.{slot_of, ascends_above};
@@ -10,18 +10,18 @@ use memory_spec::PAGE_SIZE;
 use std::alloc::{AllocError, Global};
 
 /// How many page numbers a block has.
-const BLOCK: usize = 1024;
+const BLOCK: usize = 4096;
 
 /// How many blocks the page numbers of all addresses have.
-const BLOCKS: usize = 1024;
+const BLOCKS: usize = 256;
 
-/// How many places there are: those of 15 blocks, and those of all others, which are free.
-const PLACES: usize = 16_384;
+/// How many places there are: those of 7 blocks, and those of all others, which are free.
+const PLACES: usize = 32_768;
 
-/// The slots of pages, found by two looks: at the block of a page number, and at its place there. The places, 32 KiB, are
-/// on the heap.
+/// The slots of pages, found by two looks: at the block of a page number, and at its place there. The places are 64 KiB on
+/// the heap, so that a map is moved by few bytes.
 ///
-/// The pages of a guest lie in few blocks: those of the input in 2, those of the stacks in 1, 1,024 of an image that has
+/// The pages of a guest lie in few blocks: those of the input in 1, those of the stacks in 1, 1,024 of an image that has
 /// no gaps in 2 at most. Pages in a block for which there is no room aren't listed; nor are those of slots that are no
 /// `u16`.
 #[derive(Drop)]

@@ -13,7 +13,7 @@ use Rattle.sync_objects.specs.declared.Tables.{Tables}
 abbrev pub objects_of : Tables → Objects
 objects_of t =
     record {
-      threads = t.threads;
+      threads = t.threads.value;
       mutexes = t.mutexes.value;
       semaphores = t.semaphores.value;
       barriers = t.barriers.value;

@@ -28,10 +28,10 @@ use sync_mutex::Mutexes;
 use sync_rw::RwLocks;
 use sync_sem::Semaphores;
 
-/// The tables of threads and of the objects of each kind. Those of objects have some KiB each, and are on the heap.
+/// The tables of threads and of the objects of each kind. They have up to some KiB each, and are on the heap.
 #[derive(Drop)]
 struct Tables {
-    threads: Threads,
+    threads: Box<Threads>,
     mutexes: Box<Mutexes>,
     semaphores: Box<Semaphores>,
     barriers: Box<Barriers>,
@@ -100,7 +100,7 @@ fn broadcast(conditions: &mut Conditions, mutexes: &mut Mutexes, c: u32) -> Effe
 /// What a call of thread `t` does to the tables.
 fn act_on(tables: &mut Tables, t: Thread, call: Call) -> Effect
     requires kept { spec.IsKept (objects_of tables.old) }
-    requires exists { t < length tables.old.threads }
+    requires exists { t < length tables.old.threads.value }
     requires free { spec.waits_at (objects_of tables.old) t ≡ 0 }
     requires no_put { is_put call ≡ false }
     ensures { (readable : ℕ → ℕ → Bool)
@@ -172,7 +172,7 @@ impl Objects {
         guest_call::opening_is_kept();
         Ok(Objects {
             tables: Tables {
-                threads: Threads::new(),
+                threads: Box::new(alloc, Threads::new())?,
                 mutexes: Box::new(alloc, Mutexes::new())?,
                 semaphores: Box::new(alloc, Semaphores::new())?,
                 barriers: Box::new(alloc, Barriers::new())?,

@@ -11,13 +11,13 @@ returns-else-place-eq0 c =
     let starts = c.args.self.now.starts in
     let places = c.args.self.now.places.items in
     let number = c.args.address / 4096 in
-    let place = c.from-start.result + number % 1024 in
+    let place = c.from-start.result + number % 4096 in
     let slot = c.from-place.result - 1 in
     let one_more : c.from-place.result ≡ suc slot = omega arith in
     let within : place < length places =
-    omega (arith, c.from-start.ensures, table.inside (number / 1024), table.room, table.count) in
+    omega (arith, c.from-start.ensures, table.inside (number / 4096), table.room, table.count) in
     let says : place_of starts places number ≡ suc slot =
-    ap (λ start. get_or places (start + number % 1024) 0) (sym c.from-start.ensures)
+    ap (λ start. get_or places (start + number % 4096) 0) (sym c.from-start.ensures)
     ∙ sym (get_or_default_zero places place c.index.result.now within)
     ∙ sym c.index.ensures
     ∙ sym c.from-place.ensures
