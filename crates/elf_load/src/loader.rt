@@ -58,7 +58,7 @@ pub fn load(alloc: Global, bytes: &[u8]) -> Result<Image, LoadError>
 {
     match refusal(alloc, bytes)? {
         Some(refusal) => Err(LoadError::Refused(refusal)),
-        None => Ok(image_of(pages_of(alloc, bytes)?, bytes)),
+        None => Ok(image_of(alloc, pages_of(alloc, bytes)?, bytes)?),
     }
 }
 
@@ -70,18 +70,18 @@ struct Pages {
 }
 
 /// The image of an accepted file with these pages.
-fn image_of(pages: Pages, bytes: &[u8]) -> Image
+fn image_of(alloc: Global, pages: Pages, bytes: &[u8]) -> Result<Image, AllocError>
     requires accepted { is_image bytes.now ≡ true }
     requires mapped { pages.mapped.items ≡ image_pages bytes.now }
     requires table { pages.table ≡ image_memory bytes.now }
-    ensures { IsImageOf bytes.now result }
+    ensures { IfOk result (IsImageOf bytes.now) }
 {
     accepted_is_inside(bytes);
-    Image {
-        map: PageMap::new(pages.mapped),
+    Ok(Image {
+        map: PageMap::new(alloc, pages.mapped)?,
         pages: pages.table,
         entry: word_at(bytes, 24),
-    }
+    })
 }
 
 /// All pages that a segment touches, ascending.

@@ -63,7 +63,7 @@ impl Outline {
     {
         Ok(Outline {
             map: setup.page_map(alloc)?,
-            objects: Objects::new(),
+            objects: Objects::new(alloc)?,
             threads: 1,
             numbers: [0; THREADS],
         })

@@ -123,7 +123,7 @@ fn code_of(alloc: Global) -> Result<Code, AllocError> {
         MappedPage::new(0x10, Perm::R | Perm::W),
         MappedPage::new(0x11, Perm::R | Perm::X),
     ]?;
-    Ok(Code::of(alloc, &PageMap::new(pages), &memory)?)
+    Ok(Code::of(alloc, &PageMap::new(alloc, pages)?, &memory)?)
 }
 
 #[test]

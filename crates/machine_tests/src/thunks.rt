@@ -36,7 +36,7 @@ fn job_of(alloc: Global, code: &[u8], fuel: u32) -> Result<Job, AllocError> {
         MappedPage::new(0x10, Perm::R | Perm::W | Perm::X),
         MappedPage::new(0x11, Perm::R | Perm::W),
     ]?;
-    let map = Arc::new(alloc, PageMap::new(pages))?;
+    let map = Arc::new(alloc, PageMap::new(alloc, pages)?)?;
     let mut table = PageTable::empty(alloc);
     table.push(Page::new(bytes))?;
     table.push(Page::zero())?;

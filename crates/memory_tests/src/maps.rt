@@ -14,7 +14,7 @@ fn addresses_have_their_slots(rt: HostRuntime) -> Result<(), AllocError> {
         MappedPage::new(0x8_0010, data),
         MappedPage::new(0xd_01ff, data),
     ]?;
-    let map = PageMap::new(pages);
+    let map = PageMap::new(rt.alloc(), pages)?;
     assert_eq!(rt; map.slot_of(0xffff), None);
     assert_eq!(rt; map.slot_of(0x1_0000), Some(0));
     assert_eq!(rt; map.slot_of(0x1_1fff), Some(1));

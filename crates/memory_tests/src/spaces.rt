@@ -16,7 +16,7 @@ fn stores_stay_with_the_thread(rt: HostRuntime) -> Result<(), AllocError> {
         MappedPage::new(0x11, Perm::R | Perm::W),
         MappedPage::new(0x12, Perm::R | Perm::W),
     ]?;
-    let map = Arc::new(rt.alloc(), PageMap::new(pages))?;
+    let map = Arc::new(rt.alloc(), PageMap::new(rt.alloc(), pages)?)?;
     let mut view = PageTable::empty(rt.alloc());
     view.push(Page::zero())?;
     view.push(Page::zero())?;
@@ -66,7 +66,7 @@ fn an_untouched_page_has_no_share_taken(rt: HostRuntime) -> Result<(), AllocErro
         MappedPage::new(0x11, Perm::R | Perm::W),
         MappedPage::new(0x12, Perm::R | Perm::W),
     ]?;
-    let map = Arc::new(rt.alloc(), PageMap::new(pages))?;
+    let map = Arc::new(rt.alloc(), PageMap::new(rt.alloc(), pages)?)?;
     let first = Arc::new(rt.alloc(), Page::new([3; PAGE_SIZE]))?;
     let second = Arc::new(rt.alloc(), Page::new([5; PAGE_SIZE]))?;
     let third = Arc::new(rt.alloc(), Page::new([7; PAGE_SIZE]))?;
@@ -101,7 +101,7 @@ fn a_page_is_entered_before_its_stores(rt: HostRuntime) -> Result<(), AllocError
         MappedPage::new(0x10, Perm::R | Perm::W | Perm::X),
         MappedPage::new(0x11, Perm::R | Perm::W),
     ]?;
-    let map = Arc::new(rt.alloc(), PageMap::new(pages))?;
+    let map = Arc::new(rt.alloc(), PageMap::new(rt.alloc(), pages)?)?;
     let mut view = PageTable::empty(rt.alloc());
     view.push(Page::new([3; PAGE_SIZE]))?;
     view.push(Page::new([5; PAGE_SIZE]))?;
@@ -120,7 +120,7 @@ fn a_page_is_entered_before_its_stores(rt: HostRuntime) -> Result<(), AllocError
 #[test]
 fn a_view_shows_its_bytes(rt: HostRuntime) -> Result<(), AllocError> {
     let pages = vec![in rt.alloc(); MappedPage::new(0x10, Perm::R | Perm::W)]?;
-    let map = Arc::new(rt.alloc(), PageMap::new(pages))?;
+    let map = Arc::new(rt.alloc(), PageMap::new(rt.alloc(), pages)?)?;
     let mut view = PageTable::empty(rt.alloc());
     view.push(Page::new([3; PAGE_SIZE]))?;
     let view = Arc::new(rt.alloc(), view)?;

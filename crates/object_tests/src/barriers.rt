@@ -2,10 +2,11 @@
 
 use super::fixtures::{Crowd, assert_blocks, assert_returns, negated};
 use guest_call::Call;
+use std::alloc::AllocError;
 
 #[test]
-fn calls_answer_as_worked_out(rt: HostRuntime) {
-    let mut crowd = Crowd::new(&rt);
+fn calls_answer_as_worked_out(rt: HostRuntime) -> Result<(), AllocError> {
+    let mut crowd = Crowd::new(&rt, rt.alloc())?;
     // out of range, and not initialised: EINVAL is 22
     assert_returns(
         &rt,
@@ -57,4 +58,5 @@ fn calls_answer_as_worked_out(rt: HostRuntime) {
     assert_returns(&rt, crowd.act(&rt, 17, Call::BarrierWait(0)), 1, &[]);
     assert_returns(&rt, crowd.act(&rt, 16, Call::BarrierInit(63, 32)), 0, &[]);
     assert_blocks(&rt, crowd.act(&rt, 15, Call::BarrierWait(63)));
+    Ok(())
 }

@@ -9,6 +9,7 @@ ghost use Rattle.sync_objects.specs.Puts.{is_put};
 
 use call_effect::Effect;
 use guest_call::{Call, Fate, THREADS, threads_are_few};
+use std::alloc::{AllocError, Global};
 use std::process::Abort;
 use sync_objects::Objects;
 use wait_queue::Queue;
@@ -60,15 +61,15 @@ fn wake(waiting: &mut [bool; THREADS], woken: &Queue)
 
 impl Crowd {
     /// The crowd before its first call.
-    pub(super) fn new(rt: &impl Abort) -> Crowd {
-        let mut objects = Objects::new();
+    pub(super) fn new(rt: &impl Abort, alloc: Global) -> Result<Crowd, AllocError> {
+        let mut objects = Objects::new(alloc)?;
         for number in 1..32u32 {
             assert_eq!(rt; make_thread(rt, &mut objects), number);
         }
-        Crowd {
+        Ok(Crowd {
             objects,
             waiting: [false; THREADS],
-        }
+        })
     }
 
     /// What the call of a thread does, which doesn't wait.

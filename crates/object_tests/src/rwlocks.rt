@@ -2,10 +2,11 @@
 
 use super::fixtures::{Crowd, assert_blocks, assert_returns, negated};
 use guest_call::Call;
+use std::alloc::AllocError;
 
 #[test]
-fn readers_and_writers_take_turns(rt: HostRuntime) {
-    let mut crowd = Crowd::new(&rt);
+fn readers_and_writers_take_turns(rt: HostRuntime) -> Result<(), AllocError> {
+    let mut crowd = Crowd::new(&rt, rt.alloc())?;
     assert_returns(&rt, crowd.act(&rt, 1, Call::RdLock(0)), 0, &[]);
     assert_returns(&rt, crowd.act(&rt, 2, Call::RdLock(0)), 0, &[]);
     // a writer waits, and a reader behind it: the last of those who read lets the writer in alone
@@ -20,11 +21,12 @@ fn readers_and_writers_take_turns(rt: HostRuntime) {
     assert_returns(&rt, crowd.act(&rt, 4, Call::RdLock(0)), negated(11), &[]);
     assert_returns(&rt, crowd.act(&rt, 4, Call::WrLock(0)), negated(35), &[]);
     assert_returns(&rt, crowd.act(&rt, 1, Call::RwUnlock(0)), negated(1), &[]);
+    Ok(())
 }
 
 #[test]
-fn a_writer_lets_all_readers_in(rt: HostRuntime) {
-    let mut crowd = Crowd::new(&rt);
+fn a_writer_lets_all_readers_in(rt: HostRuntime) -> Result<(), AllocError> {
+    let mut crowd = Crowd::new(&rt, rt.alloc())?;
     // out of range: EINVAL is 22
     assert_returns(&rt, crowd.act(&rt, 0, Call::RdLock(64)), negated(22), &[]);
     assert_returns(&rt, crowd.act(&rt, 0, Call::WrLock(64)), negated(22), &[]);
@@ -64,15 +66,17 @@ fn a_writer_lets_all_readers_in(rt: HostRuntime) {
     assert_returns(&rt, crowd.act(&rt, 5, Call::RwUnlock(63)), 0, &[4]);
     assert_returns(&rt, crowd.act(&rt, 4, Call::RwUnlock(63)), 0, &[]);
     assert_returns(&rt, crowd.act(&rt, 31, Call::WrLock(63)), 0, &[]);
+    Ok(())
 }
 
 #[test]
-fn all_others_wait_in_one_queue(rt: HostRuntime) {
-    let mut crowd = Crowd::new(&rt);
+fn all_others_wait_in_one_queue(rt: HostRuntime) -> Result<(), AllocError> {
+    let mut crowd = Crowd::new(&rt, rt.alloc())?;
     assert_returns(&rt, crowd.act(&rt, 0, Call::WrLock(5)), 0, &[]);
     for number in 1..32u8 {
         assert_blocks(&rt, crowd.act(&rt, number, Call::RdLock(5)));
     }
     let effect = crowd.act(&rt, 0, Call::RwUnlock(5));
     assert_eq!(rt; effect.woken().len(), 31);
+    Ok(())
 }

@@ -2,10 +2,11 @@
 
 use super::fixtures::{Crowd, assert_blocks, assert_returns, negated};
 use guest_call::Call;
+use std::alloc::AllocError;
 
 #[test]
-fn calls_answer_as_worked_out(rt: HostRuntime) {
-    let mut crowd = Crowd::new(&rt);
+fn calls_answer_as_worked_out(rt: HostRuntime) -> Result<(), AllocError> {
+    let mut crowd = Crowd::new(&rt, rt.alloc())?;
     // out of range: EINVAL is 22
     assert_returns(&rt, crowd.act(&rt, 31, Call::SemWait(64)), negated(22), &[]);
     assert_returns(
@@ -65,4 +66,5 @@ fn calls_answer_as_worked_out(rt: HostRuntime) {
     assert_returns(&rt, crowd.act(&rt, 14, Call::SemPost(0)), 0, &[]);
     assert_returns(&rt, crowd.act(&rt, 13, Call::SemWait(0)), 0, &[]);
     assert_blocks(&rt, crowd.act(&rt, 12, Call::SemWait(0)));
+    Ok(())
 }

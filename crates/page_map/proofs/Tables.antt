@@ -13,16 +13,16 @@ zeros (suc n) (suc k) = zeros n k
 
 -- a table that says nothing
 pub table-empty :
-    (pages : List Mapped) (starts places : List ℕ) → starts ≡ replicate 4096 0 → places ≡ replicate 8192 0
-    → IsTable pages starts places 256
+    (pages : List Mapped) (starts places : List ℕ) → starts ≡ replicate 256 0 → places ≡ replicate 32768 0
+    → IsTable pages starts places 4096
 table-empty pages starts places starts_are places_are =
     let start : (block : ℕ) → get_or starts block 0 ≡ 0 =
-    λ block. ap (λ xs. get_or xs block 0) starts_are ∙ zeros 4096 block in
+    λ block. ap (λ xs. get_or xs block 0) starts_are ∙ zeros 256 block in
     let at : (place : ℕ) → get_or places place 0 ≡ 0 =
-    λ place. ap (λ xs. get_or xs place 0) places_are ∙ zeros 8192 place in
+    λ place. ap (λ xs. get_or xs place 0) places_are ∙ zeros 32768 place in
     record {
-      blocks = ap length starts_are ∙ length-replicate {A = ℕ} 4096 0;
-      count = ap length places_are ∙ length-replicate {A = ℕ} 8192 0;
+      blocks = ap length starts_are ∙ length-replicate {A = ℕ} 256 0;
+      count = ap length places_are ∙ length-replicate {A = ℕ} 32768 0;
       room = omega arith;
       even = refl;
       whole = λ block. omega (arith, start block);
@@ -31,9 +31,9 @@ table-empty pages starts places starts_are places_are =
       free = λ place lt. at place;
       unused = λ place le. at place;
       mapped = λ number slot is.
-          absurd (omega (arith, at (get_or starts (number / 256) 0 + number % 256)));
+          absurd (omega (arith, at (get_or starts (number / 4096) 0 + number % 4096)));
       numbered = λ number slot is.
-          absurd (omega (arith, at (get_or starts (number / 256) 0 + number % 256)));
+          absurd (omega (arith, at (get_or starts (number / 4096) 0 + number % 4096)));
     }
 
 -- the item at k after a write at i
@@ -46,11 +46,11 @@ written xs i k v lt =
       | inr other ↦ inr (other, get_or-set_other xs i k v 0 other)
     ]
 
--- a block more, with the next 256 places
+-- a block more, with the next 4096 places
 pub table-block :
     (pages : List Mapped) (starts places : List ℕ) (used block : ℕ) → IsTable pages starts places used
-    → block < 4096 → get_or starts block 0 ≡ 0 → used + 256 ≤ 8192
-    → IsTable pages (set starts block used) places (used + 256)
+    → block < 256 → get_or starts block 0 ≡ 0 → used + 4096 ≤ 32768
+    → IsTable pages (set starts block used) places (used + 4096)
 table-block pages starts places used block t lt none room =
     let within : block < length starts = omega (arith, t.blocks) in
     let start : (k : ℕ) →
@@ -82,50 +82,50 @@ table-block pages starts places used block t lt none room =
       ];
       free = t.free;
       unused = λ place le. t.unused place (omega (arith, le));
-      mapped = λ number slot is. elim (start (number / 256)) [
+      mapped = λ number slot is. elim (start (number / 4096)) [
         | inl new ↦ absurd (omega (
           arith,
           is,
-          ap (λ s. get_or places (s + number % 256) 0) new.1,
-          t.unused (used + number % 256) (omega arith),
+          ap (λ s. get_or places (s + number % 4096) 0) new.1,
+          t.unused (used + number % 4096) (omega arith),
         ))
-        | inr old ↦ t.mapped number slot (ap (λ s. get_or places (s + number % 256) 0) (sym old.1) ∙ is)
+        | inr old ↦ t.mapped number slot (ap (λ s. get_or places (s + number % 4096) 0) (sym old.1) ∙ is)
       ];
-      numbered = λ number slot is. elim (start (number / 256)) [
+      numbered = λ number slot is. elim (start (number / 4096)) [
         | inl new ↦ absurd (omega (
           arith,
           is,
-          ap (λ s. get_or places (s + number % 256) 0) new.1,
-          t.unused (used + number % 256) (omega arith),
+          ap (λ s. get_or places (s + number % 4096) 0) new.1,
+          t.unused (used + number % 4096) (omega arith),
         ))
-        | inr old ↦ t.numbered number slot (ap (λ s. get_or places (s + number % 256) 0) (sym old.1) ∙ is)
+        | inr old ↦ t.numbered number slot (ap (λ s. get_or places (s + number % 4096) 0) (sym old.1) ∙ is)
       ];
     }
 
--- two numbers whose blocks begin at multiples of 256 and that have the same place have the same block and rest
+-- two numbers whose blocks begin at multiples of 4096 and that have the same place have the same block and rest
 same_place :
-    (a b m n : ℕ) → a % 256 ≡ 0 → b % 256 ≡ 0 → a + m % 256 ≡ b + n % 256 → (a ≡ b) × (m % 256 ≡ n % 256)
+    (a b m n : ℕ) → a % 4096 ≡ 0 → b % 4096 ≡ 0 → a + m % 4096 ≡ b + n % 4096 → (a ≡ b) × (m % 4096 ≡ n % 4096)
 same_place a b m n a_whole b_whole same = (omega arith, omega arith)
 
 -- the slot of a page more
 pub table-place :
     (pages : List Mapped) (starts places : List ℕ) (used number slot : ℕ) → IsTable pages starts places used
-    → 0 < get_or starts (number / 256) 0 → slot < length pages → number_in_slot pages slot ≡ number
-    → IsTable pages starts (set places (get_or starts (number / 256) 0 + number % 256) (slot + 1)) used
+    → 0 < get_or starts (number / 4096) 0 → slot < length pages → number_in_slot pages slot ≡ number
+    → IsTable pages starts (set places (get_or starts (number / 4096) 0 + number % 4096) (slot + 1)) used
 table-place pages starts places used number slot t some lt is =
-    let start = get_or starts (number / 256) 0 in
-    let place = start + number % 256 in
-    let begins : start % 256 ≡ 0 = t.whole (number / 256) in
-    let ends : start + 256 ≤ used = t.inside (number / 256) in
+    let start = get_or starts (number / 4096) 0 in
+    let place = start + number % 4096 in
+    let begins : start % 4096 ≡ 0 = t.whole (number / 4096) in
+    let ends : start + 4096 ≤ used = t.inside (number / 4096) in
     let within : place < length places = omega (arith, t.count, t.room) in
     let at : (k : ℕ) →
     ((k ≡ place) × (get_or (set places place (slot + 1)) k 0 ≡ slot + 1))
     ⊎ ((k ≡ place → ⊥) × (get_or (set places place (slot + 1)) k 0 ≡ get_or places k 0)) =
     λ k. written places place k (slot + 1) within in
-    let here : (n : ℕ) → get_or starts (n / 256) 0 + n % 256 ≡ place → n ≡ number =
+    let here : (n : ℕ) → get_or starts (n / 4096) 0 + n % 4096 ≡ place → n ≡ number =
     λ n same.
-    let parts = same_place (get_or starts (n / 256) 0) start n number (t.whole (n / 256)) begins same in
-    let block : n / 256 ≡ number / 256 = t.apart (n / 256) (number / 256) parts.0 (omega (arith, parts.0, some)) in
+    let parts = same_place (get_or starts (n / 4096) 0) start n number (t.whole (n / 4096)) begins same in
+    let block : n / 4096 ≡ number / 4096 = t.apart (n / 4096) (number / 4096) parts.0 (omega (arith, parts.0, some)) in
     omega (arith, block, parts.1) in
     record {
       blocks = t.blocks;
@@ -143,11 +143,11 @@ table-place pages starts places used number slot t some lt is =
         | inl new ↦ absurd (omega (arith, new.0, ends))
         | inr old ↦ old.1 ∙ t.unused k high
       ];
-      mapped = λ n s says. elim (at (get_or starts (n / 256) 0 + n % 256)) [
+      mapped = λ n s says. elim (at (get_or starts (n / 4096) 0 + n % 4096)) [
         | inl new ↦ omega (arith, new.1, says, lt)
         | inr old ↦ t.mapped n s (sym old.1 ∙ says)
       ];
-      numbered = λ n s says. elim (at (get_or starts (n / 256) 0 + n % 256)) [
+      numbered = λ n s says. elim (at (get_or starts (n / 4096) 0 + n % 4096)) [
         | inl new ↦
             let slot_is : s ≡ slot = omega (arith, new.1, says) in
             ap (number_in_slot pages) slot_is ∙ is ∙ sym (here n new.0)

@@ -11,4 +11,4 @@ pages_of map = map.pages.items
 -- The pages of a map ascend, and its table is one of theirs.
 pub record IsMap (map : Inside) : Type 0 where
   pub ascends : ascends_above 0 (pages_of map) ≡ true
-  pub table : IsTable (pages_of map) map.table.starts map.table.places map.table.used
+  pub table : IsTable (pages_of map) map.table.starts map.table.places.items map.table.used

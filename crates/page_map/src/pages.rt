@@ -1,6 +1,6 @@
 //! The list of a guest's pages, in ascending order.
 
-ghost use Rattle.std.specs.Prelude.{◌≡◌, ◌<◌, ◌*◌, true, Decides, length, slice_index_or, IfSome, IfNone};
+ghost use Rattle.std.specs.Prelude.{◌≡◌, ◌<◌, ◌*◌, true, Decides, length, slice_index_or, IfOk, IfSome, IfNone};
 ghost use Rattle.std.specs.Cmp.{partial_equiv_from_equiv};
 ghost use Rattle.memory_spec.specs.Pages.{slot_of, ascends_above, unmapped};
 ghost use Rattle.page_map.specs.Equal.{is_same_page, is_same_map, is_same_page-equiv, is_same_map-equiv};
@@ -9,6 +9,7 @@ use super::lookup::find;
 use super::permission::Perm;
 use super::table::Table;
 use memory_spec::PAGE_SIZE;
+use std::alloc::{AllocError, Global};
 use std::marker::Model;
 
 /// The place of a page in the page map.
@@ -79,8 +80,8 @@ impl Eq for MappedPage {
 
 /// The mapped pages, in ascending order, each in its slot.
 ///
-/// A clause sees the list of them, each a `Mapped` of `memory_spec`. Beside the list stands a table of 24 KiB that finds
-/// the slots of most.
+/// A clause sees the list of them, each a `Mapped` of `memory_spec`. Beside the list stands a table that finds the slots
+/// of most.
 #[derive(Drop)]
 pub struct PageMap {
     pages: Vec<MappedPage>,
@@ -102,12 +103,16 @@ impl Model for PageMap {
 
 impl PageMap {
     /// The map of these pages. Each stands above the one before it, and none is page 0.
-    pub fn new(pages: Vec<MappedPage>) -> PageMap
+    ///
+    /// # Errors
+    ///
+    /// An error where the host's memory ran out.
+    pub fn new(alloc: Global, pages: Vec<MappedPage>) -> Result<PageMap, AllocError>
         requires { ascends_above 0 pages.items ≡ true }
-        ensures { result ≡ pages.items }
+        ensures { IfOk result (λ map. map ≡ pages.items) }
     {
-        let table = Table::of(&pages);
-        PageMap { pages, table }
+        let table = Table::of(alloc, &pages)?;
+        Ok(PageMap { pages, table })
     }
 
     /// The slot of an address. None exactly where no page has it.

@@ -181,7 +181,7 @@ impl PlainMachine {
             limit: setup.limits().steps(),
             memory,
             harts,
-            objects: Objects::new(),
+            objects: Objects::new(alloc)?,
             output: Vec::new(alloc),
             steps: 0,
             ending: None,

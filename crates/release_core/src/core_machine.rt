@@ -225,7 +225,7 @@ impl Core {
             limit: setup.limits().steps(),
             memory,
             harts,
-            objects: Objects::new(),
+            objects: Objects::new(alloc)?,
             output: Vec::new(alloc),
             steps: 0,
             ending: None,

@@ -176,7 +176,7 @@ impl Setup {
         self.sound();
         machine_spec::map_ascends();
         let pages = pages_of(alloc, &self.program.image.map)?;
-        Ok(PageMap::new(pages))
+        PageMap::new(alloc, pages)
     }
     /// The memory that it starts with: the image's pages, the input's header and pages, and zeros.
     ///

@@ -90,6 +90,8 @@ fn run_by_first_watched<G: Gate>(
 }
 
 /// A round that so many workers made together until it was over, or until the host's memory ran out.
+// Its frame holds rounds by value, and stands by itself, so that it isn't added to its caller's.
+#[inline(never)]
 fn run_together<J: Naming + Send + Sync, R: Threads + Wait + Sync, G: Gate + Sync>(
     rt: &R,
     alloc: Global,
@@ -120,6 +122,8 @@ fn run_together<J: Naming + Send + Sync, R: Threads + Wait + Sync, G: Gate + Syn
 /// # Errors
 ///
 /// An error where the host's memory ran out.
+// Its frame holds rounds by value, and stands by itself, so that it isn't added to its caller's.
+#[inline(never)]
 pub fn run_round<R: Threads + Wait + Sync, G: Gate + Sync>(
     rt: &R,
     alloc: Global,
@@ -163,6 +167,8 @@ pub fn run_round<R: Threads + Wait + Sync, G: Gate + Sync>(
 /// # Errors
 ///
 /// An error where the host's memory ran out.
+// Its frame holds rounds by value, and stands by itself, so that it isn't added to its caller's.
+#[inline(never)]
 pub fn run_round_watched<R: Threads + Wait + Sync, G: Gate + Sync>(
     rt: &R,
     alloc: Global,

@@ -22,6 +22,8 @@ use worker_spec::MOST_LOOKS;
 
 /// A round that so many workers made together until it was over, or until the host's memory ran out, and the numbers of
 /// its steps that a watcher read meanwhile, of which the last is all of them.
+// Its frame holds rounds by value, and stands by itself, so that it isn't added to its caller's.
+#[inline(never)]
 pub(super) fn run_watched<J: Naming + Send + Sync, R: Threads + Wait + Sync, G: Gate + Sync>(
     rt: &R,
     alloc: Global,

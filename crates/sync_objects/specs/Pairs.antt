@@ -13,12 +13,12 @@ use Rattle.sync_objects.specs.declared.Tables.{Tables}
 abbrev pub objects_of : Tables → Objects
 objects_of t =
     record {
-      threads = t.threads;
-      mutexes = t.mutexes;
-      semaphores = t.semaphores;
-      barriers = t.barriers;
-      conditions = t.conditions;
-      rwlocks = t.rwlocks;
+      threads = t.threads.value;
+      mutexes = t.mutexes.value;
+      semaphores = t.semaphores.value;
+      barriers = t.barriers.value;
+      conditions = t.conditions.value;
+      rwlocks = t.rwlocks.value;
     }
 
 -- a row done at the condition of number c and the mutex of number m

@@ -1,8 +1,8 @@
 //! All objects of synchronisation of a guest, and the one way into them: what an environment call
-//! answers and changes. No call takes memory.
+//! answers and changes. No call takes memory but the one that makes them.
 #![tactic(auto)]
 
-ghost use Rattle.std.specs.Prelude.{◌≡◌, ℕ, ◌+◌, ◌<◌, ◌≤◌, Bool, false, nat_lt, Some, None, length, if◌then◌else◌};
+ghost use Rattle.std.specs.Prelude.{◌≡◌, ℕ, ◌+◌, ◌<◌, ◌≤◌, Bool, false, nat_lt, Some, None, length, if◌then◌else◌, IfOk};
 ghost use Rattle.guest_call.specs.Queues.{places, waits};
 ghost use Rattle.guest_call.specs.Effect.{wakes};
 ghost use Rattle.guest_call.specs.Mutexes.{mutex_queue};
@@ -19,6 +19,7 @@ pub use acting::ActedOn;
 use acting::is_object;
 use call_effect::Effect;
 use guest_call::{Call, EINVAL, EPERM, Fate, OBJECTS, Thread};
+use std::alloc::{AllocError, Global};
 use std::marker::Model;
 use sync_barrier::Barriers;
 use sync_cond::{Conditions, Leaving};
@@ -27,15 +28,15 @@ use sync_mutex::Mutexes;
 use sync_rw::RwLocks;
 use sync_sem::Semaphores;
 
-/// The tables of threads and of the objects of each kind.
+/// The tables of threads and of the objects of each kind. They have up to some KiB each, and are on the heap.
 #[derive(Drop)]
 struct Tables {
-    threads: Threads,
-    mutexes: Mutexes,
-    semaphores: Semaphores,
-    barriers: Barriers,
-    conditions: Conditions,
-    rwlocks: RwLocks,
+    threads: Box<Threads>,
+    mutexes: Box<Mutexes>,
+    semaphores: Box<Semaphores>,
+    barriers: Box<Barriers>,
+    conditions: Box<Conditions>,
+    rwlocks: Box<RwLocks>,
 }
 
 /// Thread `t` gives up mutex `m`, and waits for condition `c`.
@@ -99,7 +100,7 @@ fn broadcast(conditions: &mut Conditions, mutexes: &mut Mutexes, c: u32) -> Effe
 /// What a call of thread `t` does to the tables.
 fn act_on(tables: &mut Tables, t: Thread, call: Call) -> Effect
     requires kept { spec.IsKept (objects_of tables.old) }
-    requires exists { t < length tables.old.threads }
+    requires exists { t < length tables.old.threads.value }
     requires free { spec.waits_at (objects_of tables.old) t ≡ 0 }
     requires no_put { is_put call ≡ false }
     ensures { (readable : ℕ → ℕ → Bool)
@@ -122,17 +123,17 @@ fn act_on(tables: &mut Tables, t: Thread, call: Call) -> Effect
         Call::BarrierInit(barrier, count) => tables.barriers.init(t, barrier, count),
         Call::BarrierWait(barrier) => tables.barriers.wait(t, barrier),
         Call::CondWait(condition, mutex) => cond_wait(
-            &mut tables.conditions,
-            &mut tables.mutexes,
+            &mut *tables.conditions,
+            &mut *tables.mutexes,
             t,
             condition,
             mutex,
         ),
         Call::Signal(condition) => {
-            signal(&mut tables.conditions, &mut tables.mutexes, condition)
+            signal(&mut *tables.conditions, &mut *tables.mutexes, condition)
         }
         Call::Broadcast(condition) => {
-            broadcast(&mut tables.conditions, &mut tables.mutexes, condition)
+            broadcast(&mut *tables.conditions, &mut *tables.mutexes, condition)
         }
         Call::RdLock(lock) => tables.rwlocks.rdlock(t, lock),
         Call::WrLock(lock) => tables.rwlocks.wrlock(t, lock),
@@ -161,20 +162,24 @@ impl Model for Objects {
 
 impl Objects {
     /// The objects at the start: thread 0 alone exists, and nothing is in use.
-    pub fn new() -> Objects
-        ensures { result ≡ spec.opening }
+    ///
+    /// # Errors
+    ///
+    /// An error where the host's memory ran out.
+    pub fn new(alloc: Global) -> Result<Objects, AllocError>
+        ensures { IfOk result (λ objects. objects ≡ spec.opening) }
     {
         guest_call::opening_is_kept();
-        Objects {
+        Ok(Objects {
             tables: Tables {
-                threads: Threads::new(),
-                mutexes: Mutexes::new(),
-                semaphores: Semaphores::new(),
-                barriers: Barriers::new(),
-                conditions: Conditions::new(),
-                rwlocks: RwLocks::new(),
+                threads: Box::new(alloc, Threads::new())?,
+                mutexes: Box::new(alloc, Mutexes::new())?,
+                semaphores: Box::new(alloc, Semaphores::new())?,
+                barriers: Box::new(alloc, Barriers::new())?,
+                conditions: Box::new(alloc, Conditions::new())?,
+                rwlocks: Box::new(alloc, RwLocks::new())?,
             },
-        }
+        })
     }
 
     /// The thread of this number. None exactly where no such thread exists, ended ones counted.
@@ -205,6 +210,6 @@ impl Objects {
         requires { is_put call ≡ false }
         ensures { (readable : ℕ → ℕ → Bool) → objects_in result ≡ spec.acts_on readable self.now call }
     {
-        acting::acts_on(&self.tables.conditions, call)
+        acting::acts_on(&*self.tables.conditions, call)
     }
 }

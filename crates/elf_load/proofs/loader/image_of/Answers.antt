@@ -7,7 +7,7 @@ pub returns : goal.returns
 unfolding entry_of
 returns c = record {
   accepted = c.requires.accepted;
-  map = c.new.ensures ∙ c.requires.mapped;
+  map = c.in_ok-new.ensures ∙ c.requires.mapped;
   pages = c.requires.table;
   start = c.word_at.ensures;
 }

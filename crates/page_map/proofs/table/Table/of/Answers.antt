@@ -4,4 +4,6 @@ use Rattle.page_map.proofs.Tables.{table-empty}
 use Rattle.page_map.proofs.table.Table.of.Goals as goal
 
 pub loop-slot-init : goal.loop-slot-init
-loop-slot-init c = table-empty c.args.pages.now _ _ refl refl
+loop-slot-init c =
+    table-empty c.args.pages.now _ c.in_ok-vec.field-0.items refl
+    (c.in_ok-vec.ensures.items_if_clones_equal (λ _ is. is))
