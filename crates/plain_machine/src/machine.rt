@@ -3,14 +3,13 @@
 ghost use Rattle.std.specs.Prelude.{◌≡◌, ◌<◌, ◌≤◌, ◌+◌, true, length, IfOk, OnOk};
 ghost use Rattle.std.specs.Arc.{arc_value};
 ghost use Rattle.machine_spec.specs.Machine.{Machine, hart_of, hart_in, is_ready};
-ghost use Rattle.machine_spec.specs.Setup.{first, map_of, start_memory};
+ghost use Rattle.machine_spec.specs.Setup.{first, map_of};
 ghost use Rattle.machine_spec.specs.Step as step;
 ghost use Rattle.machine_spec.specs.Whole.{IsTied, IsWhole};
 ghost use Rattle.machine_calls.specs.Doing.{harts_after, objects_after, own_end, effect_made};
 ghost use Rattle.plain_machine.specs.Making.{IsMade, asked_by};
 
 use super::memory::Memory;
-use super::start::memory_of;
 use super::stores::lay_all;
 use super::thunk::{Done, run};
 use call_effect::Effect;
@@ -173,7 +172,7 @@ impl PlainMachine {
         setup.sound();
         machine_spec::first_is_whole();
         let map = Arc::new(alloc, setup.page_map(alloc)?)?;
-        let memory = memory_of(alloc, setup)?;
+        let memory = Memory::of(alloc, &setup.memory(alloc)?)?;
         let harts = first_harts(alloc, &memory, setup.image().entry)?;
         Ok(PlainMachine {
             alloc,

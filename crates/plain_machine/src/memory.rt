@@ -13,7 +13,7 @@ use super::put::appends_all;
 use machine_calls::View;
 use memory_spec::{PAGE_SIZE, Size};
 use page_map::PageMap;
-use page_store::Page;
+use page_store::{Page, PageTable};
 use std::alloc::{AllocError, Global};
 use std::marker::Model;
 use std::rc::Rc;
@@ -108,26 +108,19 @@ impl View for Memory {
 }
 
 impl Memory {
-    /// A memory with no page.
-    pub(super) fn empty(alloc: Global) -> Memory
-        ensures { result ≡ [] }
-    {
-        Memory {
-            alloc,
-            pages: Vec::new(alloc),
-        }
-    }
-
-    /// Puts a page into the next slot.
+    /// A memory of copies of a table's pages.
     ///
     /// # Errors
     ///
     /// An error where the host's memory ran out.
-    pub(super) fn push(&mut self, page: Page) -> Result<(), AllocError>
-        ensures { OnOk result (self.new ≡ self.old ++ page ∷ []) }
+    pub(super) fn of(alloc: Global, table: &PageTable) -> Result<Memory, AllocError>
+        ensures { IfOk result (λ memory. memory ≡ table.now) }
     {
-        self.pages.push(Rc::new(self.alloc, page)?)?;
-        Ok(())
+        let mut pages = Vec::with_capacity(alloc, table.len())?;
+        for slot in 0..table.len() {
+            pages.push(Rc::new(alloc, table.page(slot).copy())?)?;
+        }
+        Ok(Memory { alloc, pages })
     }
 
     /// How many pages there are.

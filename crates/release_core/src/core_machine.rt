@@ -9,14 +9,13 @@ ghost use Rattle.machine_calls.specs.Views as views;
 ghost use Rattle.release_core.specs.Jobs.{IsJobOf};
 ghost use Rattle.release_core.specs.Applying.{can_apply, IsCauseOf};
 ghost use Rattle.machine_spec.specs.Machine.{Machine, hart_of, is_ready, is_ended};
-ghost use Rattle.machine_spec.specs.Setup.{first, map_of, start_memory};
+ghost use Rattle.machine_spec.specs.Setup.{first, map_of};
 ghost use Rattle.machine_spec.specs.Step as step;
 ghost use Rattle.machine_spec.specs.Whole.{IsWhole};
 
 use super::performing::{do_as_prepared, view_at, views_of};
 use super::put::put_bytes;
 use super::setup::Setup;
-use super::start::memory_of;
 use machine_calls::{Hart, Written, asked, first_harts, most_views, write_back};
 use machine_spec::{End, Status};
 use page_commit::committed;
@@ -204,17 +203,6 @@ fn frame_of(alloc: Global, setup: &Setup) -> Result<Arc<Frame>, AllocError>
     Ok(frame)
 }
 
-/// The memory that a setup starts with.
-#[tactic(auto, unfolding(machine_spec::specs::Setup::start_memory))]
-fn start_of(alloc: Global, setup: &Setup) -> Result<Arc<PageTable>, AllocError>
-    ensures { IfOk result (λ memory. arc_value memory ≡ start_memory setup.now) }
-{
-    setup.sound();
-    let image = setup.image();
-    let memory = Arc::new(alloc, memory_of(alloc, &image.pages, setup.input())?)?;
-    Ok(memory)
-}
-
 impl Core {
     /// The machine that a setup starts as.
     ///
@@ -228,7 +216,7 @@ impl Core {
         setup.sound();
         machine_spec::first_is_whole();
         let frame = frame_of(alloc, setup)?;
-        let memory = start_of(alloc, setup)?;
+        let memory = Arc::new(alloc, setup.memory(alloc)?)?;
         let image = setup.image();
         let harts = first_harts(alloc, &memory, image.entry)?;
         Ok(Core {

@@ -5,11 +5,12 @@ ghost use Rattle.std.specs.Arc.{arc_value};
 ghost use Rattle.elf_load.specs.Load.{IsImageOf, Refuses};
 ghost use Rattle.machine_spec.specs.Setup as setup;
 
-use super::start::pages_of;
+use super::start::{memory_of, pages_of};
 use elf_load::{Image, LoadError, load};
 use elf_spec::MOST_ELF_BYTES;
 use machine_spec::{Limits, MOST_INPUT_BYTES};
 use page_map::PageMap;
+use page_store::PageTable;
 use rv_code::Code;
 use std::alloc::{AllocError, Global};
 use std::marker::Model;
@@ -176,5 +177,17 @@ impl Setup {
         machine_spec::map_ascends();
         let pages = pages_of(alloc, &self.program.image.map)?;
         Ok(PageMap::new(pages))
+    }
+    /// The memory that it starts with: the image's pages, the input's header and pages, and zeros.
+    ///
+    /// # Errors
+    ///
+    /// An error where the host's memory ran out.
+    #[tactic(auto, unfolding(machine_spec::specs::Setup::start_memory))]
+    pub fn memory(&self, alloc: Global) -> Result<PageTable, AllocError>
+        ensures { IfOk result (λ memory. memory ≡ setup.start_memory self.now) }
+    {
+        self.sound();
+        memory_of(alloc, &self.program.image.pages, self.input())
     }
 }
