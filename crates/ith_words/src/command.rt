@@ -1,7 +1,7 @@
 //! The command line that the program takes, as a command of `clap`.
 
 ghost use Rattle.std.specs.Prelude.{◌≡◌, All, map, codes, IfOk, false};
-ghost use Rattle.clap.specs.Words.{app_of, rule_of, shape_of, with_subcommand};
+ghost use Rattle.clap.specs.Words.{App, app_of, rule_of, with_subcommand};
 ghost use Rattle.clap.specs.declared.builder.command.Command.TheViews.{out-Command};
 ghost use Rattle.ith_words.specs.Words as line;
 
@@ -266,45 +266,52 @@ fn generate_command<'a>(alloc: Global) -> Result<Command<'a>, AllocError>
     )
 }
 
-/// A command with a command below it.
-fn with_command<'a>(above: Command<'a>, below: Command<'a>) -> Result<Command<'a>, AllocError>
-    requires { (out-Command below).has_globals ≡ false }
-    ensures { IfOk result (λ c. app_of c ≡ with_subcommand (app_of above.entry) (shape_of below.entry)) }
+/// A command with a command below it, where there was memory for that one.
+fn with_command<'a>(
+    above: Command<'a>,
+    below: Result<Command<'a>, AllocError>,
+) -> Result<Command<'a>, AllocError>
+    requires { IfOk below (λ b. (out-Command b).has_globals ≡ false) }
+    ensures { (app : App) → IfOk below.entry (λ b. app_of b ≡ app)
+        → IfOk result (λ c. app_of c ≡ with_subcommand (app_of above.entry) app.top) }
 {
-    above.subcommand(below)
+    above.subcommand(below?)
+}
+
+/// The program, which has to be given one of its commands.
+fn program<'a>(alloc: Global) -> Command<'a>
+    ensures { app_of result ≡ line.program }
+{
+    Command::new(alloc, "ithreads")
+        .about(
+            "Runs a guest, and after an edit of its input what the edit reaches: see ithreads(1)",
+        )
+        .subcommand_required(true)
 }
 
 /// The program and the commands that run a guest which the line names.
-#[tactic(auto, unfolding(crate::specs::Words::guest_commands))]
 fn guest_commands<'a>(alloc: Global) -> Result<Command<'a>, AllocError>
     ensures { IfOk result (λ c. app_of c ≡ line.guest_commands) }
 {
-    let about =
-        "Runs a guest, and after an edit of its input what the edit reaches: see ithreads(1)";
-    let program = Command::new(alloc, "ithreads")
-        .about(about)
-        .subcommand_required(true);
-    let program = with_command(program, run_command(alloc)?)?;
-    let program = with_command(program, rerun_command(alloc)?)?;
-    with_command(program, replay_command(alloc)?)
+    let program = with_command(program(alloc), run_command(alloc))?;
+    let program = with_command(program, rerun_command(alloc))?;
+    with_command(program, replay_command(alloc))
 }
 
 /// The same, and the commands that look at a memo.
-#[tactic(auto, unfolding(crate::specs::Words::memo_commands))]
 fn memo_commands<'a>(alloc: Global) -> Result<Command<'a>, AllocError>
     ensures { IfOk result (λ c. app_of c ≡ line.memo_commands) }
 {
-    let program = with_command(guest_commands(alloc)?, show_command(alloc)?)?;
-    with_command(program, explain_command(alloc)?)
+    let program = with_command(guest_commands(alloc)?, show_command(alloc))?;
+    with_command(program, explain_command(alloc))
 }
 
 /// The same, and the commands that judge the run of a memo.
-#[tactic(auto, unfolding(crate::specs::Words::judging_commands))]
 fn judging_commands<'a>(alloc: Global) -> Result<Command<'a>, AllocError>
     ensures { IfOk result (λ c. app_of c ≡ line.judging_commands) }
 {
-    let program = with_command(memo_commands(alloc)?, audit_command(alloc)?)?;
-    with_command(program, races_command(alloc)?)
+    let program = with_command(memo_commands(alloc)?, audit_command(alloc))?;
+    with_command(program, races_command(alloc))
 }
 
 /// The program's command line.
@@ -312,9 +319,8 @@ fn judging_commands<'a>(alloc: Global) -> Result<Command<'a>, AllocError>
 /// # Errors
 ///
 /// An error where the host's memory ran out.
-#[tactic(auto, unfolding(crate::specs::Words::command_line))]
 pub fn command_line<'a>(alloc: Global) -> Result<Command<'a>, AllocError>
     ensures { IfOk result (λ c. app_of c ≡ line.command_line) }
 {
-    with_command(judging_commands(alloc)?, generate_command(alloc)?)
+    with_command(judging_commands(alloc)?, generate_command(alloc))
 }

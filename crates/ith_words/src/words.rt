@@ -1,6 +1,6 @@
 //! The words of the command line.
 
-ghost use Rattle.std.specs.Prelude.{◌≡◌, map, string_bytes, [], IfOk, IfErr};
+ghost use Rattle.std.specs.Prelude.{◌≡◌, map, option_and_then, option_map, string_bytes, [], IfOk, IfErr};
 ghost use Rattle.clap.specs.Words.{fault_of, found_of, rows_of, subcommand_of, subcommand_rows_of};
 ghost use Rattle.ith_words.specs.Words as line;
 ghost use Rattle.ith_words.specs.Said.{run_said, rerun_said, replay_said, show_said, explain_said, audit_said, races_said, generate_said, line_said};
@@ -164,6 +164,39 @@ fn generate_line(given: &ArgMatches<'_>) -> GenerateLine
     }
 }
 
+/// The line of a command's name and of what was found for it, if there is such a command.
+fn line_named<'a>(
+    alloc: Global,
+    name: &str,
+    given: &ArgMatches<'a>,
+) -> Result<Option<Line<'a>>, AllocError>
+    ensures { IfOk result (λ said. line.line_named (name.now, rows_of (found_of given.now))
+        ≡ option_map line_said said) }
+{
+    Ok(Some(match name {
+        "run" => Line::Run(run_line(alloc, given)?),
+        "rerun" => Line::Rerun(rerun_line(alloc, given)?),
+        "replay" => Line::Replay(replay_line(given)),
+        "show" => Line::Show(show_line(given)),
+        "why" => Line::Explain(explain_line(given)),
+        "audit" => Line::Audit(audit_line(given)),
+        "races" => Line::FindRaces(races_line(given)),
+        "gen" => Line::Generate(generate_line(given)),
+        _ => return Ok(None),
+    }))
+}
+
+/// The line of what the parser found, if it is for a command that there is.
+fn line_found<'a>(alloc: Global, given: &ArgMatches<'a>) -> Result<Option<Line<'a>>, AllocError>
+    ensures { IfOk result (λ said. option_and_then line.line_named (subcommand_rows_of given.now)
+        ≡ option_map line_said said) }
+{
+    match given.subcommand() {
+        Some((name, below)) => line_named(alloc, name, below),
+        None => Ok(None),
+    }
+}
+
 /// What the words ask for. The first of them is the program's name.
 ///
 /// # Errors
@@ -178,22 +211,10 @@ pub fn line_of<'a>(alloc: Global, words: &'a [String]) -> Result<Line<'a>, LineF
         Ok(given) => given,
         Err(fault) => return Err(fault),
     };
-    match given.subcommand() {
-        Some((name, below)) if name == "run" => match run_line(alloc, below) {
-            Ok(line) => Ok(Line::Run(line)),
-            Err(_) => Err(LineFault::Memory),
-        },
-        Some((name, below)) if name == "rerun" => match rerun_line(alloc, below) {
-            Ok(line) => Ok(Line::Rerun(line)),
-            Err(_) => Err(LineFault::Memory),
-        },
-        Some((name, below)) if name == "replay" => Ok(Line::Replay(replay_line(below))),
-        Some((name, below)) if name == "show" => Ok(Line::Show(show_line(below))),
-        Some((name, below)) if name == "why" => Ok(Line::Explain(explain_line(below))),
-        Some((name, below)) if name == "audit" => Ok(Line::Audit(audit_line(below))),
-        Some((name, below)) if name == "races" => Ok(Line::FindRaces(races_line(below))),
-        Some((name, below)) if name == "gen" => Ok(Line::Generate(generate_line(below))),
+    match line_found(alloc, &given) {
+        Ok(Some(line)) => Ok(line),
         // the parser takes no other command
-        _ => Err(LineFault::Refused(refusal(alloc, "no command"))),
+        Ok(None) => Err(LineFault::Refused(refusal(alloc, "no command"))),
+        Err(_) => Err(LineFault::Memory),
     }
 }

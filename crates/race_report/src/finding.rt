@@ -39,6 +39,7 @@ pub fn races(alloc: Global, history: &History, most: usize) -> Result<Races, All
     setup.sound();
     let map = setup.page_map(alloc)?;
     let pages = map.len();
+    drop(map);
     let steps = steps_of(alloc, history, pages)?;
     let mut past = none_past(alloc, pages)?;
     let mut total: u64 = 0;
