@@ -1,5 +1,5 @@
-"""What differs at a false step of a memo, by the machine of machine.py, which shares no code with the program. The steps
-before it are true, so it follows them from scratch and then makes the step itself."""
+"""What differs at a false step of a memo, by the machine of machine.py, which shares no code with the program. The
+steps before it are true, so it follows them from scratch and then makes the step itself."""
 import memos
 from machine import Image, Machine
 
@@ -53,4 +53,5 @@ def sentences(memo, place):
     """The lines that say what is false."""
     record, found = memo.records[place], list(differences(memo, place))
     yield f"step {place}, of thread {record.thread}, number {record.number}, is false:"
-    yield from (f"    {line}" for line in found or ["its read pages, which aren't those that the machine takes bytes from"])
+    pages = "its read pages, which aren't those that the machine takes bytes from"
+    yield from (f"    {line}" for line in found or [pages])

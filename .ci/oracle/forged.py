@@ -18,7 +18,7 @@ from .program import content
 
 FUEL_HERE, STEPS_HERE = 4000, 80
 SYNCHRONIZED = ("bytes", "late", "try", "cross")  # guests of examples/
-OF_C = ("pipeline", "stencil")  # guests of examples/guest/, with semaphores and conditions, and with barriers
+SEEDS = (0, 3, 8, 10, 25, 27, 41, 48)  # of random guests, which make each kind of call
 
 
 def guests():
@@ -27,8 +27,8 @@ def guests():
     yield "pair", content("examples", "pair.elf"), pair
     yield from ((name, content("examples", f"{name}.elf"), pair) for name in SYNCHRONIZED)
     text = content("examples", "guest", "words.in")
-    yield from ((name, content("examples", "guest", f"{name}.elf"), text[:64]) for name in OF_C)
-    for seed in range(8):
+    yield "pipeline", content("examples", "guest", "pipeline.elf"), text[:64]  # with semaphores and conditions
+    for seed in SEEDS:
         yield f"random threads {seed}", thread_guest(seed), random.Random(seed).randbytes(8192)
 
 
