@@ -15,7 +15,7 @@ class Allocations:
     def __init__(self, memo, threads, code):
         self.code, self.made, self.pending, self.blocks = code, {}, {}, {}
         image = machine.Image(memo.elf)
-        self.image, self.run = image, machine.Machine(image, memo.input, memo.fuel, memo.limit)
+        self.image, self.run = image, machine.Machine(image, memo.input, memo.fuel, memo.steps)
         for symbol in code.found.found:
             if symbol.name in SIZES and code.found.is_library(symbol.address):
                 self.hook(symbol.address, self.asked(SIZES[symbol.name], symbol.name == "posix_memalign"))

@@ -4,8 +4,9 @@ call, or at the end of its page. It goes by docs/MACHINE.md and shares no code w
 A block's function takes the registers, the pages, how many turns there were, and how many may begin a block; it gives
 the next pc and the turns. The pc is the complement of the address of an ECALL, where it came to one.
 """
-PAGE, WORD = 4096, 0xFFFFFFFF
-EXECUTE, WRITE, READ = 1, 2, 4
+from executables import PAGE
+
+WORD = 0xFFFFFFFF
 ECALL, EBREAK = 0x73, 0x100073
 MOST = 200  # instructions of a block
 HEAD = "def block(x, words, pages, own, load, store, n, last):\n"

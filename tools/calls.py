@@ -1,8 +1,8 @@
 """The calls of the machine, by docs/MACHINE.md: `CALLS` has their names and numbers, and `Calls` does what each does to
 threads and objects.
 
-It shares no code with the program. Two machines stand on it, machine.py beside this file and .ci/plain_calls.py; memory,
-views and registers are theirs, each in a way of its own.
+It shares no code with the program. Two machines stand on it, machine.py beside this file and .ci/oracle/machine.py;
+memory, views and registers are theirs, each in a way of its own.
 """
 from collections.abc import Callable
 from dataclasses import dataclass

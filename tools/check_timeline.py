@@ -242,17 +242,17 @@ def check_rerun(checks):
         checks.expect("timeline of a rerun: pages of what is reused", all(has == reused for has, reused in have))
 
 
-class Places(memos.Memo):
-    """A memo that knows where each record begins."""
+def begins(data):
+    """Where each record of a memo begins."""
+    found = []
 
-    def __init__(self, data):
-        super().__init__(data)
-        self.began = []
-        self.listing()
+    class Noting(memos.Reader):
+        def record(self):
+            found.append(self.place)
+            return super().record()
 
-    def record(self, *more):
-        self.began.append(self.place)
-        return super().record(*more)
+    memos.read(data, Noting)
+    return found
 
 
 def check_false(checks):
@@ -260,7 +260,7 @@ def check_false(checks):
     memo, false = checks.folder / "honest", checks.folder / "false"
     _, printed, _ = program("run", *PAIR[:2], "--workers", "1", "--memo", memo)
     file, data = checks.file("reports", printed), bytearray(memo.read_bytes()[:-32])
-    data[Places(memo.read_bytes()).began[3] + 2] ^= 1  # the count's lowest byte
+    data[begins(memo.read_bytes())[3] + 2] ^= 1  # the count's lowest byte
     false.write_bytes(data + hashlib.sha256(data).digest())
     _, drawn, _ = tool("timeline", file, "--memo", memo, "--audit")
     checks.expect("timeline of an honest memo marks a step", b'class="false"' not in drawn)

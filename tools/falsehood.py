@@ -1,81 +1,57 @@
-"""What differs at a false step of a memo, by the machine of machine.py, which shares no code with the program. The steps before it are true, so it
-follows them from scratch and then makes the step itself."""
-import io
-import struct
-
+"""What differs at a false step of a memo, by the machine of machine.py, which shares no code with the program. The
+steps before it are true, so it follows them from scratch and then makes the step itself."""
 import memos
 from machine import Image, Machine
-
-CALL, FUEL = 8, 9
-
-
-class Records(memos.Memo):
-    """A memo with all that stands in its records: `whole` has of each its numbers, its registers, and its read and stored pages."""
-
-    def __init__(self, data):
-        super().__init__(data)
-        self.whole = []
-
-    def record(self, mapped, fuel, pool):
-        began, text = self.place, super().record(mapped, fuel, pool)
-        thread, end, count, *registers = struct.unpack_from("<BBI64I", self.data, began)
-        (reads,) = struct.unpack_from("<H", self.data, began + 262)
-        self.whole.append((thread, end, count, registers[32:], self.parts[:reads], self.parts[reads:]))
-        return text
 
 
 class Watched(Machine):
     """A machine that keeps what its last step stored."""
 
     def commit(self, view, own):
-        self.stored = {page: {place: data[place] for place in range(len(data)) if mask[place]} for page, (_, _, data, mask) in own.items()}
+        self.stored = {page: {place: data[place] for place in range(len(data)) if mask[place]}
+                       for page, (_, _, data, mask) in own.items()}
         super().commit(view, own)
 
 
-def places(mask):
-    return [place for place in range(4096) if mask >> place & 1]
+def bytes_of(mask, data):
+    """The stored bytes of a page, by their places."""
+    marked = (place for first, behind in memos.runs(mask) for place in range(first, behind))
+    return dict(zip(marked, data))
 
 
-def end_of(end, finish):
-    """How a record says that its step ended, as the machine says it."""
-    return {CALL: f"call {finish[17]}", FUEL: "fuel"}.get(end, f"trap {end}")
-
-
-def differences(data, place):
-    """What differs at the step of a place, in words: each thing that the memo says, and that the machine finds. None is there where only the read
-    pages differ."""
-    memo = Records(data)
-    memo.listing()
-    head = memos.head(io.BytesIO(data))
-    machine = Watched(Image(head.elf), head.input, head.fuel, head.steps).follow([record[0] for record in memo.whole[:place]])
-    thread, end, count, finish, _, stores = memo.whole[place]
-    machine.step(thread)
-    step, x = machine.steps[-1], list(machine.threads[thread].x)
+def differences(memo, place):
+    """What differs at the step of a place, in words: each thing that the memo says, and that the machine finds. None is
+    there where only the read pages differ."""
+    record = memo.records[place]
+    machine = Watched(Image(memo.elf), memo.input, memo.fuel, memo.steps)
+    machine.follow([earlier.thread for earlier in memo.records[:place]]).step(record.thread)
+    step, x = machine.steps[-1], list(machine.threads[record.thread].x)
     if step.end.startswith("call"):
         x[10], x[11] = step.first, step.second
-    said, made = end_of(end, finish), f"trap {machine.ended.split()[-1]}" if step.end == "trap" else step.end
-    if said != made:
-        yield f"end: {said}, and the machine's is {made}"
-    if count != step.count:
-        yield f"count: {count}, and the machine makes {step.count} turns"
-    for register, (told, found) in enumerate(zip(finish, [step.pc, *x[1:]])):
+    made = f"trap {machine.ended.split()[-1]}" if step.end == "trap" else step.end
+    if record.ended() != made:
+        yield f"end: {record.ended()}, and the machine's is {made}"
+    if record.count != step.count:
+        yield f"count: {record.count}, and the machine makes {step.count} turns"
+    for register, (told, found) in enumerate(zip(record.finish, [step.pc, *x[1:]])):
         if told != found:
             yield f"{f'register x{register}' if register else 'pc'}: {told:08x}, and the machine has {found:08x}"
-    told = {page: dict(zip(places(mask), stored)) for page, mask, stored in stores}
-    for page in sorted(told.keys() | machine.stored.keys()):
-        one, other = told.get(page, {}), machine.stored.get(page, {})
-        for at in sorted(one.keys() | other.keys()):
-            if one.get(at) != other.get(at):
-                kept, made = (f"{byte:02x}" if byte is not None else "nothing" for byte in (one.get(at), other.get(at)))
-                yield f"stored byte at {page * 4096 + at:08x}: {kept}, and the machine stores {made}"
-                break
+    yield from differing_stores({page: bytes_of(*stored) for page, stored in record.stores.items()}, machine.stored)
 
 
-def sentences(data, place):
+def differing_stores(told, found):
+    """The first stored byte of each page that differs, in words."""
+    for page in sorted(told.keys() | found.keys()):
+        one, other = told.get(page, {}), found.get(page, {})
+        at = next((at for at in sorted(one.keys() | other.keys()) if one.get(at) != other.get(at)), None)
+        if at is not None:
+            kept, made = (f"{byte:02x}" if byte is not None else "nothing" for byte in (one.get(at), other.get(at)))
+            yield f"stored byte at {page * 4096 + at:08x}: {kept}, and the machine stores {made}"
+
+
+def sentences(memo, place):
     """The lines that say what is false."""
-    found = list(differences(data, place))
-    memo = memos.Memo(data)
-    memo.listing()
-    record = memo.records[place]
+    record, found = memo.records[place], list(differences(memo, place))
     yield f"step {place}, of thread {record.thread}, number {record.number}, is false:"
-    yield from (f"    {line}" for line in found or ["its read pages, which aren't those that the machine takes bytes from"])
+    pages = "its read pages, which aren't those that the machine takes bytes from"
+    yield from (f"    {line}" for line in found or [pages])

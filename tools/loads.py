@@ -1,10 +1,10 @@
 """Which bytes of its pages a step loads: found by executing it again on what its record says that it read, on the
 machine of machine.py. What a step loads of its own stores isn't counted."""
-from blocks import EXECUTE, PAGE, WRITE, Trap
+from blocks import Trap
 from calls import PUT
+from executables import EXECUTE, PAGE, WRITE
 from machine import Machine
-
-WHOLE_PAGE = 2**PAGE - 1
+from memos import WHOLE_PAGE
 
 
 class Noted:

@@ -6,11 +6,10 @@ said from outside, step by step. It executes some million instructions a second,
 import struct
 from dataclasses import dataclass, field
 
-from blocks import EXECUTE, PAGE, READ, WRITE, Trap, translated
-from calls import CALLS, EFAULT, EINVAL, EXIT, MOST_PUT, PUT, THREADS, Calls
-
-HEADER, INPUT_PAGES, STACKS, STACK_PAGES = 0xC0000, 256, 0xD0000, 16 * THREADS
-ZEROS = bytes(PAGE)
+import executables
+from blocks import Trap, translated
+from calls import CALLS, EFAULT, EINVAL, EXIT, MOST_PUT, PUT, Calls
+from executables import BESIDE_THE_IMAGE, EXECUTE, HEADER, PAGE, READ, STACKS, WRITE, ZEROS
 
 
 class NoGuest(Exception):
@@ -21,27 +20,13 @@ class Image:
     """The pages of an executable, with their rights, and its code."""
 
     def __init__(self, elf):
-        self.rights, self.pages, self.blocks = {}, {}, {}
         try:
-            self.entry, table = struct.unpack_from("<II", elf, 24)
-            (count,) = struct.unpack_from("<H", elf, 44)
-            parts = [struct.unpack_from("<8I", elf, table + 32 * number) for number in range(count)]
-        except struct.error as why:
-            raise NoGuest("it is no executable") from why
-        if elf[:4] != b"\x7fELF" or elf[16:20] != b"\2\0\363\0":
-            raise NoGuest("it is no executable for RISC-V")
-        for kind, offset, address, _, here, size, right, _ in parts:
-            if kind == 1 and size:
-                self.add(address, size, right & 7, elf[offset:offset + here])
-        for page in [HEADER + n for n in range(INPUT_PAGES + 1)] + [STACKS + n for n in range(STACK_PAGES)]:
-            self.rights[page], self.pages[page] = READ | WRITE, ZEROS
-
-    def add(self, address, size, right, data):
-        for page in range(address // PAGE, (address + size - 1) // PAGE + 1):
-            self.rights[page] = self.rights.get(page, 0) | right
-            old, low = self.pages.get(page, ZEROS), max(address - page * PAGE, 0)
-            new = data[max(page * PAGE - address, 0):(page + 1) * PAGE - address]
-            self.pages[page] = old[:low] + new + old[low + len(new):]
+            read = executables.read(elf)
+        except executables.Refused as why:
+            raise NoGuest(f"it is no executable that is accepted: {why}") from why
+        self.entry, self.blocks = read.entry, {}
+        self.rights = read.rights() | dict.fromkeys(BESIDE_THE_IMAGE, READ | WRITE)
+        self.pages = read.pages() | dict.fromkeys(BESIDE_THE_IMAGE, ZEROS)
 
     def block(self, pc, view, last):
         """The block at a pc; one instruction of it, if `last` says so, or its page can be stored to."""

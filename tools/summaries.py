@@ -132,7 +132,7 @@ class Summary:
         row.places[place] += max(count, 1)
         if address is not None:
             row.pages.add(address - address % PAGE)
-            row.threads |= self.explained.memo.storers.get(address // PAGE, set())
+            row.threads |= self.explained.storers.get(address // PAGE, set())
             row.beside = row.beside or self.explained.names_beside(address)
         if storer := self.explained.storer(one.group(8)):
             row.stored[storer] += 1

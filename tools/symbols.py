@@ -9,8 +9,10 @@ import struct
 import subprocess
 from dataclasses import dataclass
 
+import executables
+from executables import PAGE
+
 TABLE, FILE, FUNCTION, OBJECT, PLAIN = 2, 4, 2, 1, 0  # types of a section, and of symbols
-PAGE = 4096
 IN_HEADER = "ithreads.h"  # whose functions are inlined, so that a line of it says little
 AT_ONCE = 500  # addresses
 THREADS = 32
@@ -40,15 +42,11 @@ class Symbol:
 
 
 def segments(elf):
-    """What an executable loads: of each part where it stands, its sizes and its rights; and its bytes, without the
-    header, which has also what isn't loaded."""
+    """What an executable loads."""
     try:
-        table, count = struct.unpack_from("<I", elf, 28)[0], struct.unpack_from("<H", elf, 44)[0]
-        headers = [struct.unpack_from("<8I", elf, table + 32 * number) for number in range(count)]
-    except struct.error as why:
-        raise NoSymbols("it is no executable") from why
-    loads = [header for header in headers if header[0] == 1]
-    return [(header[2], header[4:7], elf[max(header[1], 52):header[1] + header[4]]) for header in loads]
+        return executables.read(elf).segments
+    except executables.Refused as why:
+        raise NoSymbols(f"it is no executable that is accepted: {why}") from why
 
 
 def text_at(data, place):
@@ -85,6 +83,12 @@ class Symbols:
         self.library = set()  # where its functions begin
         self.labels = {symbol.name: symbol.address for symbol in self.found if symbol.name.startswith("it_")}
         self.library_files = {file.name for file in LIBRARY.glob("*.c")} if "it_shared" in self.labels else set()
+
+    def are_of(self, elf):
+        """Whether an executable loads the same, but for the file's header, which has also what isn't loaded."""
+        one, other = ([(it.address, it.size, it.rights, it.body()) for it in parts]
+                      for parts in (self.segments, segments(elf)))
+        return one == other
 
     def at(self, address):
         """The symbol that an address is of: one whose bytes it is among, or else a label before it."""

@@ -1,20 +1,18 @@
-"""Random guests of several threads, in the words of the plain machine: their threads load words of the input and of shared pages, go one way or the
-other by what they loaded, store, spin, and make every kind of call. Most of them end by an exit; some deadlock or trap."""
+"""Random guests of several threads: they load words of the input and of shared pages, go one way or the other by what
+they loaded, store, spin, and make every kind of call. Most of them end by an exit; some deadlock or trap."""
 import random
 
-from plain_machine import EXECUTE, LW, PAGE, READ, WRITE, addi, branch_word, call, executable, load, load_number, register_word, store_word
+from executables import EXECUTE, PAGE, READ, WRITE
+
+from .words import LW, addi, branch_word, call, executable, load, load_number, register_word, segment, store_word
 
 MAIN, BODIES, DATA, INPUT = 0x10000, 0x20000, 0x30000, 0xC0001000
 PAGES = 3
 TOTAL, NUMBER = 8, 9  # registers: what a thread sums, its argument
+EXIT, PUT, CREATE, THREAD_EXIT, JOIN, YIELD = range(6)
 LOCK, TRYLOCK, UNLOCK, SEM_WAIT, SEM_TRYWAIT, SEM_POST, SEM_INIT = range(6, 13)
 BARRIER_INIT, BARRIER_WAIT, COND_WAIT, SIGNAL, BROADCAST = range(13, 18)
 RDLOCK, WRLOCK, RWUNLOCK, TRYWRLOCK = range(18, 22)
-
-
-def call_with(number, *arguments):
-    """The words of a call with small arguments."""
-    return [addi(10 + place, 0, argument) for place, argument in enumerate(arguments)] + call(number)
 
 
 def shared_address(draw):
@@ -52,27 +50,31 @@ def branch_over(part):
 
 def under_mutex(draw):
     mutex = draw.randrange(2)
-    return call_with(LOCK, mutex) + loaded(draw) + stored(draw) + call_with(UNLOCK, mutex)
+    return call(LOCK, mutex) + loaded(draw) + stored(draw) + call(UNLOCK, mutex)
 
 
 def under_rwlock(draw):
     lock, writes = draw.randrange(2), draw.random() < 0.4
-    return call_with(WRLOCK if writes else RDLOCK, lock) + loaded(draw) + stored(draw) * writes + call_with(RWUNLOCK, lock)
+    return call(WRLOCK if writes else RDLOCK, lock) + loaded(draw) + stored(draw) * writes + call(RWUNLOCK, lock)
 
 
 def waited(draw):
     """A wait for a condition, with its mutex."""
     mutex = draw.randrange(2)
-    return call_with(LOCK, mutex) + call_with(COND_WAIT, draw.randrange(2), mutex) + stored(draw) + call_with(UNLOCK, mutex)
+    return call(LOCK, mutex) + call(COND_WAIT, draw.randrange(2), mutex) + stored(draw) + call(UNLOCK, mutex)
 
 
 def any_call(draw):
     """A call of any kind that returns in most cases."""
-    kinds = ((5,), (5,), (TRYLOCK, draw.randrange(3)), (UNLOCK, draw.randrange(3)), (SEM_POST, draw.randrange(2)), (SEM_POST, draw.randrange(2)),
-             (SEM_TRYWAIT, draw.randrange(2)), (SEM_WAIT, draw.randrange(2)), (SIGNAL, draw.randrange(2)), (BROADCAST, draw.randrange(2)),
-             (LOCK, 70), (SEM_INIT, 2, 3), (BARRIER_INIT, 3, draw.randrange(3)), (TRYWRLOCK, draw.randrange(3)), (RWUNLOCK, draw.randrange(3)),
-             (RDLOCK, draw.choice((2, 64))), (WRLOCK, 64))
-    return call_with(*draw.choice(kinds))
+    kinds = ((YIELD,), (YIELD,), (TRYLOCK, draw.randrange(3)), (UNLOCK, draw.randrange(3)),
+             (SEM_POST, draw.randrange(2)), (SEM_POST, draw.randrange(2)), (SEM_TRYWAIT, draw.randrange(2)),
+             (SEM_WAIT, draw.randrange(2)), (SIGNAL, draw.randrange(2)), (BROADCAST, draw.randrange(2)), (LOCK, 70),
+             (SEM_INIT, 2, 3), (BARRIER_INIT, 3, draw.randrange(3)), (TRYWRLOCK, draw.randrange(3)),
+             (RWUNLOCK, draw.randrange(3)), (RDLOCK, draw.choice((2, 64))), (WRLOCK, 64))
+    return call(*draw.choice(kinds))
+
+
+PARTS = ((0.25, under_mutex), (0.4, under_rwlock), (0.43, waited), (0.9, any_call))
 
 
 def body(draw, has_barrier):
@@ -80,33 +82,28 @@ def body(draw, has_barrier):
     parts = []
     for _ in range(draw.randrange(2, 8)):
         kind = draw.random()
-        parts.append(work(draw) + (under_mutex(draw) if kind < 0.25 else under_rwlock(draw) if kind < 0.4 else waited(draw) if kind < 0.43
-                                   else any_call(draw) if kind < 0.9 else []))
+        made = next((make for most, make in PARTS if kind < most), None)
+        parts.append(work(draw) + (made(draw) if made else []))
     if has_barrier:
-        parts.insert(draw.randrange(len(parts)), call_with(BARRIER_WAIT, 0))
+        parts.insert(draw.randrange(len(parts)), call(BARRIER_WAIT, 0))
     words = [addi(TOTAL, 10, 0)] + [word for part in parts for word in part]
-    return words + [addi(10, TOTAL, 0)] + call(3)
-
-
-def segment(address, code, permission):
-    data = b"".join(word.to_bytes(4, "little") for word in code)
-    return address, permission, data, len(data)
+    return words + [addi(10, TOTAL, 0)] + call(THREAD_EXIT)
 
 
 def thread_guest(seed):
     """A guest of two to seven threads, as an executable."""
     draw = random.Random(seed)
     count, has_barrier = draw.randrange(1, 7), draw.random() < 0.4
-    main = call_with(SEM_INIT, 0, draw.randrange(3)) + call_with(BARRIER_INIT, 0, count + 1)
+    main = call(SEM_INIT, 0, draw.randrange(3)) + call(BARRIER_INIT, 0, count + 1)
     for number in range(count):
-        main += load_number(10, BODIES + PAGE * draw.randrange(count)) + [addi(11, 0, number + 1)] + call(2)
+        main += load_number(10, BODIES + PAGE * draw.randrange(count)) + [addi(11, 0, number + 1)] + call(CREATE)
         main += work(draw)
-    main += call_with(BARRIER_WAIT, 0) * has_barrier
+    main += call(BARRIER_WAIT, 0) * has_barrier
     for number in draw.sample(range(1, count + 1), count):
-        main += call_with(4, number) + [register_word(0, 11, TOTAL, 0, TOTAL)] + stored(draw)
+        main += call(JOIN, number) + [register_word(0, 11, TOTAL, 0, TOTAL)] + stored(draw)
     for page in range(PAGES):
-        main += load_number(10, DATA + PAGE * page) + [addi(11, 0, 24)] + call(1)
-    main += [addi(10, TOTAL, 0)] + call(0)
+        main += load_number(10, DATA + PAGE * page) + [addi(11, 0, 24)] + call(PUT)
+    main += [addi(10, TOTAL, 0)] + call(EXIT)
     segments = [segment(MAIN, main, READ | EXECUTE), (DATA, READ | WRITE, b"", PAGES * PAGE)]
     segments += [segment(BODIES + PAGE * number, body(draw, has_barrier), READ | EXECUTE) for number in range(count)]
     return executable(MAIN, segments)

@@ -1,9 +1,10 @@
-"""Memos made field by field, for .ci/bad-memos: the fields of docs/FORMATS.md, whether or not they keep its rules."""
+"""Memos made field by field, of docs/FORMATS.md, whether or not they keep its rules; and the memo of a run."""
 import hashlib
 
-PAGE = 4096
+import memos
+from executables import BESIDE_THE_IMAGE, PAGE
+
 IMAGE_PAGE = 0x10
-SYSTEM_PAGES = [0xC0000, *range(0xC0001, 0xC0101), *range(0xD0000, 0xD0200)]
 MOST_BYTES = 268435456
 
 
@@ -94,7 +95,7 @@ def full_pages(elf, pages, spare):
     """a memo that stores to so many whole pages, by steps of a guest that yields, on an input of so many bytes"""
     guest = yields(elf)
     page = guest[84:].ljust(PAGE, b"\0")
-    whole = [stored(number, range(PAGE), bytes(PAGE)) for number in SYSTEM_PAGES]
+    whole = [stored(number, range(PAGE), bytes(PAGE)) for number in BESIDE_THE_IMAGE]
     records = []
     while pages >= 0:
         if records:
@@ -106,26 +107,29 @@ def full_pages(elf, pages, spare):
     return sealed(body(guest, [page], records, given=b"\1" * spare, steps=len(records)))
 
 
-def fields(data, pool_at, pool_count):
-    """place, size and kind of each number of a memo but those in the executable: a register, or another"""
-    at = 8
-    if data[4] > 1:
-        yield at, 4, "number"
-        at += 4
-    for has_bytes in (True, True, False, False, False, False):
-        yield at, 4, "number"
-        at += 4 + (int.from_bytes(data[at:at + 4], "little") if has_bytes else 0)
-    at = pool_at + 4 + pool_count * PAGE
-    while at < len(data):
-        yield from ((at, 1, "number"), (at + 1, 1, "number"), (at + 2, 4, "number"), (at + 262, 2, "number"))
-        yield from ((at + 6 + 4 * k, 4, "register") for k in range(64))
-        reads = int.from_bytes(data[at + 262:at + 264], "little")
-        at += 264
-        yield from ((at + 4 * k, 4, "number") for k in range(2 * reads))
-        at += 8 * reads
-        yield at, 2, "number"
-        stores = int.from_bytes(data[at:at + 2], "little")
-        at += 2
-        for _ in range(stores):
-            yield at, 4, "number"
-            at += 516 + bin(int.from_bytes(data[at + 4:at + 516], "little")).count("1")
+def memo_of(elf, data, fuel, limit, records, version=2):
+    """The memo of a run that has these records."""
+    pool, spelled = {}, []
+    for one in records:
+        reads = [(page, pool.setdefault(content, len(pool))) for page, content in one.reads.items()]
+        stores = [word(page) + mask.to_bytes(512, "little") + stored for page, (mask, stored) in one.stores.items()]
+        start, finish = (b"".join(map(word, registers)) for registers in (one.start, one.finish))
+        spelled.append(record(start, finish, reads, stores, one.thread, one.end, one.count))
+    return sealed(body(elf, pool, spelled, data, fuel, limit, version=version))
+
+
+def numbers(data):
+    """Place, size and kind of each number of a memo behind its version, but for those in the executable."""
+    found = []
+
+    class Noting(memos.Reader):
+        def number(self, size, what, *rule):
+            found.append((self.place, size, what))
+            return super().number(size, what, *rule)
+
+        def registers(self):
+            found.extend((self.place + 4 * register, 4, "register") for register in range(32))
+            return super().registers()
+
+    memos.read(data, Noting)
+    return found[1:]
