@@ -84,7 +84,6 @@ fn push_stacks(memory: &mut Memory) -> Result<(), AllocError>
 pub(super) fn memory_of(alloc: Global, setup: &Setup) -> Result<Memory, AllocError>
     ensures { IfOk result (λ memory. memory ≡ starts.start_memory setup.now) }
 {
-    setup.sound();
     let input = setup.input();
     let mut memory = Memory::empty(alloc);
     push_image(&mut memory, &setup.image().pages)?;

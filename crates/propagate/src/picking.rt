@@ -101,7 +101,6 @@ fn made_for(core: &Core, clock: &Clock) -> [u32; THREADS]
 fn have_made(core: &Core, clock: &Clock, t: u8) -> bool
     ensures { Decides result (HaveMade core.now t clock.now) }
 {
-    clock.keeps();
     let mut made = made_for(core, clock);
     if usize::from(t) < THREADS {
         made[usize::from(t)] = clock.count(t);
