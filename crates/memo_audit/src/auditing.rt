@@ -22,7 +22,6 @@ fn verdict_from<R: Threads + Sync>(
     ensures first { IfOk result (λ verdict. IsFirstFalseFrom core records.now verdict.first) }
     ensures instructions { IfOk result (λ verdict. verdict.instructions ≡ turns_from core records.now) }
 {
-    records.keeps();
     let mut found = Verdict::of_none();
     let mut place = 0;
     while place < records.len() {
@@ -56,7 +55,6 @@ pub fn audit<R: Threads + Sync>(
     ensures first { IfOk result (λ verdict. IsFirstFalse history.now verdict.first) }
     ensures instructions { IfOk result (λ verdict. verdict.instructions ≡ turns_of history.now) }
 {
-    history.setup().sound();
     audit_spec::honest_has_no_false_record();
     audit_spec::audits_agree();
     let core = Core::new(alloc, history.setup())?;

@@ -2,6 +2,7 @@
 
 ghost use Rattle.std.specs.Prelude.{◌≡◌, ℕ, ◌+◌, ◌≤◌, true, List, Some, option_map, IfOk, OnOk};
 ghost use Rattle.std.specs.Arc.{arc_value};
+ghost use Rattle.machine_spec.specs.Setup.{IsSetup};
 ghost use Rattle.history_spec.specs.History.{History as Kept, IsSound};
 ghost use Rattle.order_spec.specs.Facts.{facts};
 ghost use Rattle.order_spec.specs.Orders.{is_order};
@@ -12,6 +13,7 @@ ghost use Rattle.round_spec.specs.Unedited.{IsUnedited};
 ghost use Rattle.round_spec.specs.Reordering.{reuses_of, ReusesInOrder};
 ghost use Rattle.propagate.specs.Jobs.{HaveJobs};
 ghost use Rattle.propagate.specs.Executing.{executed_by, Costs};
+ghost use Rattle.propagate.specs.Kept.{IsValid};
 
 use super::events::Committed;
 use super::round::Round;
@@ -35,7 +37,8 @@ struct Driven {
 impl Driven {
     /// A round before its first step.
     fn new(alloc: Global, setup: Setup, past: Option<Arc<History>>) -> Result<Driven, AllocError>
-        ensures { IfOk result (λ driven. driven.round ≡ opening setup (option_map arc_value past)) }
+        ensures round { IfOk result (λ driven. driven.round ≡ opening setup (option_map arc_value past)) }
+        ensures sound { IfOk result (λ _. IsSetup setup) }
     {
         let round = Round::new(alloc, setup, past)?;
         Ok(Driven {
@@ -46,10 +49,10 @@ impl Driven {
 
     /// Takes the next step of thread `t`, where it can be taken.
     fn on_take(&mut self, t: u8) -> Result<(), AllocError>
-        ensures { OnOk result (self.new.round ≡ happens self.old.round (event.Take t)) }
+        ensures round { OnOk result (self.new.round ≡ happens self.old.round (event.Take t)) }
+        ensures valid { IsValid self.old.round }
     {
         let Driven { round, jobs, .. } = self;
-        round.keeps();
         if !round.can_take(t) {
             return Ok(());
         }
@@ -60,9 +63,9 @@ impl Driven {
 
     /// Reuses the record of the next step of thread `t`, where it can be reused.
     fn on_reuse(&mut self, t: u8) -> Result<(), AllocError>
-        ensures { OnOk result (self.new.round ≡ happens self.old.round (event.Reuse t)) }
+        ensures round { OnOk result (self.new.round ≡ happens self.old.round (event.Reuse t)) }
+        ensures valid { IsValid self.old.round }
     {
-        self.round.keeps();
         if !self.round.can_reuse(t) {
             return Ok(());
         }
@@ -76,7 +79,6 @@ impl Driven {
         ensures cost { OnOk result (Costs turns.old self.old.round turns.new self.new.round) }
         ensures never_lower { turns.old ≤ turns.new }
     {
-        self.round.keeps();
         if !self.round.is_out(t) {
             return Ok(());
         }
@@ -97,9 +99,9 @@ impl Driven {
 
     /// Discards the job that is out for thread `t`, if one is.
     fn on_give_back(&mut self, t: u8)
-        ensures { self.new.round ≡ happens self.old.round (event.GiveBack t) }
+        ensures round { self.new.round ≡ happens self.old.round (event.GiveBack t) }
+        ensures valid { IsValid self.old.round }
     {
-        self.round.keeps();
         if self.round.is_out(t) {
             self.round.give_back(t);
         }
@@ -107,9 +109,9 @@ impl Driven {
 
     /// Stops the round.
     fn on_stop(&mut self)
-        ensures { self.new.round ≡ happens self.old.round event.Stop }
+        ensures round { self.new.round ≡ happens self.old.round event.Stop }
+        ensures valid { IsValid self.old.round }
     {
-        self.round.keeps();
         self.round.stop();
     }
 
@@ -119,7 +121,6 @@ impl Driven {
         ensures cost { OnOk result (Costs turns.old self.old.round turns.new self.new.round) }
         ensures never_lower { turns.old ≤ turns.new }
     {
-        self.round.keeps();
         match event {
             Event::Take(t) => self.on_take(t),
             Event::Reuse(t) => self.on_reuse(t),
@@ -164,7 +165,6 @@ pub fn drive(
         → events.now ≡ reuses_of h places
         → ReusesInOrder h places round) }
 {
-    setup.sound();
     let mut driven = Driven::new(alloc, setup, past)?;
     for event in events {
         driven.happen(alloc, *event, turns)?;

@@ -82,7 +82,6 @@ pub fn steps_of(alloc: Global, history: &History, pages: usize) -> Result<Vec<St
     requires { pages ≡ length (map_of history.now.setup) }
     ensures { IfOk result (λ steps. AreSteps (facts_of history.now) (reach.reads_of history.now) pages steps.items) }
 {
-    history.keeps();
     let records = history.records();
     let facts = facts(alloc, history)?;
     let graph = Graph::of_sync(alloc, &facts)?;

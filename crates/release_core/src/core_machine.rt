@@ -229,7 +229,7 @@ impl Core {
     #[tactic(auto, unfolding(machine_spec::specs::Setup::first))]
     pub fn new(alloc: Global, setup: &Setup) -> Result<Core, AllocError>
         ensures first { IfOk result (λ core. core ≡ first setup.now) }
-        ensures sound { IsSetup setup.now }
+        ensures sound { IfOk result (λ _. IsSetup setup.now) }
     {
         machine_spec::first_is_whole();
         let frame = frame_of(alloc, setup)?;

@@ -157,7 +157,7 @@ overflow_add-total c =
     omega arith) in
     let pages_few : pages ≤ 1048576 =
     (let small =
-    few-pages c.setup-setup.result.now c.in_ok-map.map c.sound.ensures c.in_ok-map.ensures c.len-pages.ensures.ascending in
+    few-pages c.setup-setup.result.now c.in_ok-map.map c.sound.ensures c.in_ok-map.ensures.map c.len-pages.ensures.ascending in
     let size = c.len-pages.ensures.count in
     omega arith) in
     let low : j < n = c.loop-place-test.true in
@@ -201,7 +201,7 @@ add-requires-clause-room c =
     omega arith) in
     let pages_few : pages ≤ 1048576 =
     (let small =
-    few-pages c.setup-setup.result.now c.in_ok-map.map c.sound.ensures c.in_ok-map.ensures c.len-pages.ensures.ascending in
+    few-pages c.setup-setup.result.now c.in_ok-map.map c.sound.ensures c.in_ok-map.ensures.map c.len-pages.ensures.ascending in
     let size = c.len-pages.ensures.count in
     omega arith) in
     let low : j < n = c.loop-place-test.true in
@@ -376,8 +376,8 @@ returns-clause-total c =
     ∙ races-summed fs reads pages n
     ∙ ap (λ (rs : List Race). length rs)
     (whole-races h pages n
-    (c.len-pages.ensures.count ∙ ap (λ (ps : List Mapped). length ps) c.in_ok-map.ensures
-    ∙ ap (λ (x : Setup). length (map_of x)) c.setup-setup.ensures)
+    (c.len-pages.ensures.count ∙ ap (λ (ps : List Mapped). length ps) c.in_ok-map.ensures.map
+    ∙ ap (λ (x : Setup). length (map_of x)) c.setup-setup.ensures.setup)
     (let long = c.len-place-end.ensures in
     let many = c.in_ok-steps.ensures.many in
     let count = fact-count h in
@@ -407,8 +407,8 @@ returns-clause-first c =
     ])
     ∙ ap (take c.args.most)
     (whole-races h pages n
-    (c.len-pages.ensures.count ∙ ap (λ (ps : List Mapped). length ps) c.in_ok-map.ensures
-    ∙ ap (λ (x : Setup). length (map_of x)) c.setup-setup.ensures)
+    (c.len-pages.ensures.count ∙ ap (λ (ps : List Mapped). length ps) c.in_ok-map.ensures.map
+    ∙ ap (λ (x : Setup). length (map_of x)) c.setup-setup.ensures.setup)
     (let long = c.len-place-end.ensures in
     let many = c.in_ok-steps.ensures.many in
     let count = fact-count h in
