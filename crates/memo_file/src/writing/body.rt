@@ -30,12 +30,12 @@ fn write_setup(out: &mut Vec<u8>, setup: &Setup) -> Result<(), AllocError>
         ++ word (length setup.now.elf) ++ setup.now.elf ++ word (length setup.now.input) ++ setup.now.input
         ++ word setup.now.fuel ++ word setup.now.limit) }
 {
+    let limits = setup.limits();
     out.extend_from_slice(&MAGIC)?;
     put_word(out, VERSION)?;
     put_word(out, PROFILE)?;
     write_sized(out, setup.elf())?;
     write_sized(out, setup.input())?;
-    let limits = setup.limits();
     put_word(out, limits.fuel())?;
     put_word(out, limits.steps())
 }
