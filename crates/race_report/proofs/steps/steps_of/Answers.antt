@@ -186,8 +186,8 @@ loop-i-preserved c =
       ];
     }
 
-pub returns : goal.returns
-returns c =
+pub returns-clause-steps : goal.returns-clause-steps
+returns-clause-steps c =
     let fs = c.in_ok-facts.facts.items in
     let end : c.loop-i.i ≡ length fs = omega arith in
     subst (λ (xs : List Fact). AreSteps xs (reads_of c.args.history.now) c.args.pages c.loop-i.steps.items)
