@@ -84,7 +84,6 @@ impl Past {
     {
         let fact = &facts[n];
         let mut clock = self.joined(facts, n);
-        clock.keeps();
         clock.tick(fact.thread);
         clock
     }

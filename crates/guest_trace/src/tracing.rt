@@ -122,7 +122,6 @@ fn write_end<W: Write>(out: &mut W, end: End) -> io::Result<()> {
 
 /// Writes who waits for what.
 fn write_waits<W: Write>(out: &mut W, machine: &PlainMachine, waits: &Waits) -> io::Result<()> {
-    machine.whole();
     for place in 0..machine.threads() {
         let thread = place as u8;
         if machine.status(thread) == Status::Blocked {

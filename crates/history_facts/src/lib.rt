@@ -4,6 +4,7 @@
 ghost use Rattle.std.specs.Prelude.{◌≡◌, true, IfOk};
 ghost use Rattle.history_spec.specs.History.{is_coherent};
 ghost use Rattle.order_spec.specs.Facts as order;
+ghost use Rattle.release_core.specs.Records.{AreOfRun};
 
 mod asking;
 mod outline;
@@ -35,7 +36,8 @@ fn bare_fact(alloc: Global, rec: &Record) -> Result<Fact, AllocError>
 
 /// The facts of a history of which nothing is known: each record is laid, as far as it fits.
 fn by_laying(alloc: Global, history: &History) -> Result<Vec<Fact>, AllocError>
-    ensures { IfOk result (λ facts. facts.items ≡ order.facts history.now) }
+    ensures facts { IfOk result (λ facts. facts.items ≡ order.facts history.now) }
+    ensures of_run { IfOk result (λ _. AreOfRun history.now.records) }
 {
     let records = history.records();
     let mut replay = Replay::new(alloc, history.setup())?;
@@ -57,9 +59,9 @@ fn by_laying(alloc: Global, history: &History) -> Result<Vec<Fact>, AllocError>
 /// The facts of a history that holds together: no record has to be compared, and no page to be written.
 fn known(alloc: Global, history: &History) -> Result<Vec<Fact>, AllocError>
     requires { is_coherent history.now ≡ true }
-    ensures { IfOk result (λ facts. facts.items ≡ order.facts history.now) }
+    ensures facts { IfOk result (λ facts. facts.items ≡ order.facts history.now) }
+    ensures of_run { IfOk result (λ _. AreOfRun history.now.records) }
 {
-    history.setup().sound();
     let records = history.records();
     let mut outline = Outline::new(alloc, history.setup())?;
     let mut facts = Vec::with_capacity(alloc, records.len())?;
@@ -78,7 +80,8 @@ fn known(alloc: Global, history: &History) -> Result<Vec<Fact>, AllocError>
 ///
 /// An error where the host's memory ran out.
 pub fn facts(alloc: Global, history: &History) -> Result<Vec<Fact>, AllocError>
-    ensures { IfOk result (λ facts. facts.items ≡ order.facts history.now) }
+    ensures facts { IfOk result (λ facts. facts.items ≡ order.facts history.now) }
+    ensures of_run { IfOk result (λ _. AreOfRun history.now.records) }
 {
     if history.is_known_coherent() {
         known(alloc, history)

@@ -3,7 +3,7 @@
 ghost use Rattle.std.specs.Prelude.{◌≡◌, ◌<◌, ◌≤◌, ◌+◌, ℕ, if◌then◌else◌, slice_index, slice_set, is_some, IfOk};
 ghost use Rattle.sync_objects.specs.Acting.{objects_in};
 ghost use Rattle.machine_spec.specs.Machine.{Machine};
-ghost use Rattle.machine_spec.specs.Setup.{first};
+ghost use Rattle.machine_spec.specs.Setup.{IsSetup, first};
 ghost use Rattle.machine_spec.specs.Step as step;
 ghost use Rattle.order_spec.specs.Facts as order;
 ghost use Rattle.history_facts.specs.Outlining.{numbered, IsOutlineOf, MayBeLaid};
@@ -59,7 +59,8 @@ impl Outline {
     ///
     /// An error where the host's memory ran out.
     pub fn new(alloc: Global, setup: &Setup) -> Result<Outline, AllocError>
-        ensures { IfOk result (IsOutlineOf (first setup.now)) }
+        ensures outline { IfOk result (IsOutlineOf (first setup.now)) }
+        ensures sound { IfOk result (λ _. IsSetup setup.now) }
     {
         Ok(Outline {
             map: setup.page_map(alloc)?,

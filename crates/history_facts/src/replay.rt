@@ -69,7 +69,6 @@ impl Replay {
         ensures says { IfOk result (λ fact.
             fact ≡ order.fact_of (order.reads_in records.now) self.old rec.now) }
     {
-        self.core.whole();
         self.core.lay(rec)?;
         let last = self.core.ended().is_some();
         self.outline.next(alloc, records, rec, last)

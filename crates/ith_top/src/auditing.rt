@@ -29,7 +29,6 @@ fn told_of<R: Threads + Sync>(
     ensures verdict { IfOk result (λ r. IsVerdict history.now r.0.first) }
     ensures text { IfOk result (λ r. r.1.items ≡ audit_of history.now r.0.first) }
 {
-    history.setup().sound();
     audit_spec::first_false_record_is_the_verdict();
     let verdict = memo_audit::audit(rt, alloc, history, workers)?;
     let text = memo_audit::text(alloc, history.records().len() as u64, verdict)?;

@@ -183,7 +183,6 @@ fn limits_for(line: &RerunLine<'_>, history: &History) -> Limits
     ensures within { AreLimits result.fuel result.steps }
 {
     let kept = history.setup().limits();
-    kept.sound();
     let fuel = line.fuel.unwrap_or(kept.fuel());
     let steps = line.steps.unwrap_or(kept.steps());
     match Limits::new(fuel, steps) {
@@ -203,7 +202,6 @@ fn after_memo(
     ensures beginning { IfOk result (λ plan. beginning_said plan ≡ begin.after_memo history limits asked) }
     ensures inputs { IfOk result (λ plan. plan.inputs ≡ inputs) }
 {
-    history.setup().sound();
     let input = Vec::from_slice(alloc, history.setup().input())?;
     let setup = history.setup().with(input, limits)?;
     let past = Arc::new(alloc, history)?;

@@ -1,6 +1,7 @@
 //! The audit of a history.
 
 ghost use Rattle.std.specs.Prelude.{◌≡◌, None, IfOk};
+ghost use Rattle.machine_spec.specs.Setup.{IsSetup};
 ghost use Rattle.history_spec.specs.History.{IsHonest};
 ghost use Rattle.audit_spec.specs.Audit.{IsFirstFalse, IsFirstFalseFrom, turns_of, turns_from};
 
@@ -22,7 +23,6 @@ fn verdict_from<R: Threads + Sync>(
     ensures first { IfOk result (λ verdict. IsFirstFalseFrom core records.now verdict.first) }
     ensures instructions { IfOk result (λ verdict. verdict.instructions ≡ turns_from core records.now) }
 {
-    records.keeps();
     let mut found = Verdict::of_none();
     let mut place = 0;
     while place < records.len() {
@@ -55,8 +55,8 @@ pub fn audit<R: Threads + Sync>(
     ensures untrue { IfOk result (λ verdict. IsHonest history.now → verdict.first ≡ None) }
     ensures first { IfOk result (λ verdict. IsFirstFalse history.now verdict.first) }
     ensures instructions { IfOk result (λ verdict. verdict.instructions ≡ turns_of history.now) }
+    ensures sound { IfOk result (λ _. IsSetup history.now.setup) }
 {
-    history.setup().sound();
     audit_spec::honest_has_no_false_record();
     audit_spec::audits_agree();
     let core = Core::new(alloc, history.setup())?;

@@ -57,7 +57,6 @@ pub(super) fn claims_from(
     ensures none { IfOk result (λ claims. claims.items ≡ [] → (r : Recorded)
         → slice_get records.now from ≡ Some r → can_apply core.old r ≡ false) }
 {
-    records.keeps();
     let mut claims = Vec::new(alloc);
     for place in from..records.len() {
         if claims.len() == MOST_CLAIMS {

@@ -1,6 +1,7 @@
 //! Whether two records are the same.
 
-ghost use Rattle.std.specs.Prelude.{◌≡◌, Decides};
+ghost use Rattle.std.specs.Prelude.{◌≡◌, Decides, length};
+ghost use Rattle.memory_spec.specs.declared.TheConstants.{PAGE_SIZE};
 
 use store_mask::{MASK_WORDS, Mask, PageDelta, ReadPage};
 use thunk_record::Record;
@@ -29,10 +30,9 @@ fn are_same_reads(a: &[ReadPage], b: &[ReadPage]) -> bool
 
 /// Whether two masks mark the same places, 64 places at a time.
 fn is_same_mask(a: &Mask, b: &Mask) -> bool
-    ensures { Decides result (a.now ≡ b.now) }
+    ensures same { Decides result (a.now ≡ b.now) }
+    ensures whole { length a.now ≡ PAGE_SIZE }
 {
-    a.whole();
-    b.whole();
     for number in 0..MASK_WORDS {
         if a.word(number) != b.word(number) {
             return false;
@@ -48,7 +48,6 @@ fn is_same_delta(a: &PageDelta, b: &PageDelta) -> bool
 {
     let mine = a.stored();
     let theirs = b.stored();
-    mine.mask.whole();
     let _mine = mine.page.bytes();
     let _theirs = theirs.page.bytes();
     if a.slot() != b.slot() {

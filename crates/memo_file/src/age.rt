@@ -3,7 +3,7 @@
 ghost use Rattle.std.specs.Prelude.{◌≡◌, ◌<◌, ◌+◌, ◌^◌, true, false, length, take, slice_get, slice_index_or, None, Some, All, IfOk, IfErr, if◌then◌else◌};
 ghost use Rattle.std.specs.List.{count_by};
 ghost use Rattle.memory_spec.specs.Pages.{slot_of};
-ghost use Rattle.machine_spec.specs.Setup.{map_of};
+ghost use Rattle.machine_spec.specs.Setup.{IsSetup, map_of};
 ghost use Rattle.memo_spec.specs.Old.{is_of_m, stored_byte, read_byte, told_byte, whole_word, told_word, ends_at_m, is_before_m, ends_at_lock, is_before_locks, last_number};
 ghost use Rattle.memo_spec.specs.Reading.{is_old_in};
 ghost use Rattle.memo_spec.specs.declared.Refusal.TheVariants.{Old};
@@ -33,7 +33,6 @@ fn stored_in(page: &PageDelta, offset: usize) -> Option<u8>
         then slice_get page.now.bytes (count_by (λ mark. mark) (take offset page.now.mask)) else None) }
 {
     let stored = page.stored();
-    stored.mask.whole();
     let bytes = stored.page.bytes();
     if stored.mask.get(offset) {
         Some(bytes[offset])
@@ -154,13 +153,12 @@ fn ends_at_m(slots: &PageMap, rec: &Record) -> bool
 
 /// Refuses a history whose last record ended by an illegal instruction that is one of M today. Takes no memory.
 fn refuse_before_m(slots: &PageMap, history: &History) -> Result<(), ReadError>
-    requires { slots.now ≡ map_of history.now.setup }
+    requires slots { slots.now ≡ map_of history.now.setup }
+    requires sound { IsSetup history.now.setup }
     ensures today { IfOk result (λ _. is_before_m history.now ≡ false) }
     ensures before { IfErr result (λ e. (is_before_m history.now ≡ true) × (e ≡ Refused (Old (last_number history.now)))) }
 {
-    history.setup().sound();
     let records = history.records();
-    records.keeps();
     let count = records.len();
     if count == 0 {
         return Ok(());
@@ -189,7 +187,6 @@ fn refuse_before_locks(history: &History) -> Result<(), ReadError>
         (λ e. (is_before_locks history.now ≡ true) × (e ≡ Refused (Old (last_number history.now)))) }
 {
     let records = history.records();
-    records.keeps();
     let count = records.len();
     if count == 0 {
         return Ok(());
@@ -203,7 +200,8 @@ fn refuse_before_locks(history: &History) -> Result<(), ReadError>
 
 /// Refuses a history that is old in a format. In version 2 none is. Takes no memory.
 pub fn refuse_old(format: Format, slots: &PageMap, history: &History) -> Result<(), ReadError>
-    requires { slots.now ≡ map_of history.now.setup }
+    requires slots { slots.now ≡ map_of history.now.setup }
+    requires sound { IsSetup history.now.setup }
     ensures today { IfOk result (λ _. is_old_in format history.now ≡ false) }
     ensures before { IfErr result
         (λ e. (is_old_in format history.now ≡ true) × (e ≡ Refused (Old (last_number history.now)))) }

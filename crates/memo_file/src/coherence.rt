@@ -15,7 +15,6 @@ pub fn hold_together(mut core: Core, history: &History) -> Result<(), ReadError>
         (coherent_or (incoherent_from 0 core history.now.records) history.now) }
 {
     let records = history.records();
-    records.keeps();
     for i in 0..records.len() {
         match core.apply(records.at(i)) {
             Ok(()) => {}

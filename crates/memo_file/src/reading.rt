@@ -2,7 +2,7 @@
 
 ghost use Rattle.std.specs.Prelude.{◌≡◌, ◌<◌, ◌≤◌, ◌^◌, ℕ, true, false, length, drop, slice_index, All, IfOk, IfErr};
 ghost use Rattle.history_spec.specs.History.{History as Kept, is_coherent};
-ghost use Rattle.machine_spec.specs.Setup.{first, map_of};
+ghost use Rattle.machine_spec.specs.Setup.{IsSetup, first, map_of};
 ghost use Rattle.memo_spec.specs.Spelling.{IsSpellable, memo};
 ghost use Rattle.memo_spec.specs.Reader.{onward, done, ruled};
 ghost use Rattle.memo_spec.specs.Reading.{history_at, behind_version, pool_and_records_at, taken_as, todays, format_of, reading, IsTaken};
@@ -64,10 +64,10 @@ fn pool_and_records(
 fn read_history(alloc: Global, cursor: &mut Cursor) -> Result<(History, Core), ReadError>
     requires bytes { (i : ℕ) → slice_index cursor.old.left i < 256 }
     ensures core { IfOk result (λ x. x.1 ≡ first x.0.setup) }
+    ensures sound { IfOk result (λ x. IsSetup x.0.setup) }
     ensures given { Gives (λ x. (x.0, cursor.new)) result (history_at cursor.old) }
 {
     let setup = read_setup(alloc, cursor)?;
-    setup.sound();
     let entries = limited(cursor, 1, setup.limits().steps(), Limit::Entries)?;
     let core = Core::new(alloc, &setup)?;
     let records = pool_and_records(alloc, cursor, &setup, core.frame().map(), entries)?;
@@ -78,6 +78,7 @@ fn read_history(alloc: Global, cursor: &mut Cursor) -> Result<(History, Core), R
 fn read_profiled(alloc: Global, cursor: &mut Cursor) -> Result<(History, Core), ReadError>
     requires bytes { (i : ℕ) → slice_index cursor.old.left i < 256 }
     ensures core { IfOk result (λ x. x.1 ≡ first x.0.setup) }
+    ensures sound { IfOk result (λ x. IsSetup x.0.setup) }
     ensures given { Gives (λ x. (x.0, cursor.new)) result (behind_version Version2 cursor.old) }
 {
     word_that_is(cursor, PROFILE)?;
@@ -92,6 +93,7 @@ fn read_behind_version(
 ) -> Result<(History, Core), ReadError>
     requires bytes { (i : ℕ) → slice_index cursor.old.left i < 256 }
     ensures core { IfOk result (λ x. x.1 ≡ first x.0.setup) }
+    ensures sound { IfOk result (λ x. IsSetup x.0.setup) }
     ensures given { Gives (λ x. (x.0, cursor.new)) result (behind_version format cursor.old) }
 {
     match format {
@@ -104,7 +106,8 @@ fn read_behind_version(
 /// starts as.
 #[tactic(auto, using(crate::proofs::Ending::map_is))]
 fn judge(core: Core, history: &History, format: Format) -> Result<(), ReadError>
-    requires { core ≡ first history.now.setup }
+    requires core { core ≡ first history.now.setup }
+    requires sound { IsSetup history.now.setup }
     ensures { Gives (λ _. history.now) result (todays format history.now) }
 {
     refuse_old(format, core.frame().map(), history)?;

@@ -12,7 +12,6 @@ use store_mask::{PageDelta, ReadPage};
 pub fn addresses_of(alloc: Global, setup: &Setup) -> Result<Vec<u32>, AllocError>
     ensures { IfOk result (λ addresses. addresses.items ≡ addresses_of setup.now) }
 {
-    setup.sound();
     let map = setup.page_map(alloc)?;
     let mut addresses = Vec::new(alloc);
     for slot in 0..map.len() {

@@ -19,7 +19,6 @@ use std::alloc::{AllocError, Global};
 pub fn listing(alloc: Global, history: &History) -> Result<Vec<u8>, AllocError>
     ensures { IfOk result (λ text. text.items ≡ listing history.now) }
 {
-    history.keeps();
     let setup = history.setup();
     let records = history.records();
     let addresses = addresses_of(alloc, setup)?;

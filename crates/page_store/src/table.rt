@@ -70,24 +70,18 @@ impl PageTable {
     /// How many pages there are.
     #[inline(always)]
     pub fn len(&self) -> usize
-        ensures { result ≡ length self.now }
+        ensures count { result ≡ length self.now }
+        ensures whole { All (λ page. length page ≡ PAGE_SIZE) self.now }
     {
         self.count
-    }
-
-    /// Each page has 4,096 bytes: what a caller learns of any table.
-    #[inline(always)]
-    pub fn whole(&self)
-        ensures { All (λ page. length page ≡ PAGE_SIZE) self.now }
-    {
-        let _shelves = &self.shelves;
     }
 
     /// The page in a slot.
     #[inline(always)]
     pub fn page(&self, slot: usize) -> &Page
         requires { slot < length self.now }
-        ensures { result.now ≡ page_of self.now slot }
+        ensures page { result.now ≡ page_of self.now slot }
+        ensures whole { All (λ page. length page ≡ PAGE_SIZE) self.now }
     {
         self.shelves[slot / SHELF_SIZE].page(slot % SHELF_SIZE)
     }

@@ -72,13 +72,6 @@ impl Model for PlainMachine {
 }
 
 impl PlainMachine {
-    /// What holds of every machine holds of this one: what a caller learns of any.
-    pub fn whole(&self)
-        ensures { IsWhole self.now }
-    {
-        let _steps = &self.steps;
-    }
-
     /// How it ended, if it has.
     pub fn ended(&self) -> Option<End>
         ensures { result ≡ self.now.ending }
@@ -88,7 +81,8 @@ impl PlainMachine {
 
     /// How many threads there are, those that have ended among them.
     pub fn threads(&self) -> usize
-        ensures { result ≡ length self.now.harts }
+        ensures count { result ≡ length self.now.harts }
+        ensures whole { IsWhole self.now }
     {
         self.harts.len()
     }
@@ -113,7 +107,8 @@ impl PlainMachine {
 
     /// Whether thread `t` may make the next step: the machine hasn't ended, and the thread is ready.
     pub fn can_step(&self, t: u8) -> bool
-        ensures { result ≡ step.can_step self.now t }
+        ensures can { result ≡ step.can_step self.now t }
+        ensures whole { IsWhole self.now }
     {
         if self.ending.is_some() || usize::from(t) >= self.harts.len() {
             return false;
@@ -169,7 +164,6 @@ impl PlainMachine {
     pub fn new(alloc: Global, setup: &Setup) -> Result<PlainMachine, AllocError>
         ensures { IfOk result (λ machine. machine ≡ first setup.now) }
     {
-        setup.sound();
         machine_spec::first_is_whole();
         let map = Arc::new(alloc, setup.page_map(alloc)?)?;
         let memory = Memory::of(alloc, &setup.memory(alloc)?)?;

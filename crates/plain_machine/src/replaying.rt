@@ -88,7 +88,6 @@ pub fn replay(
         if !machine.can_step(t) {
             return Err(ReplayError::Forbidden(i));
         }
-        machine.whole();
         let (next, made) = machine.step(t, turns)?;
         instructions += u64::from(made.count);
         machine = next;

@@ -1,6 +1,6 @@
 //! The memory that a thread works on.
 
-ghost use Rattle.std.specs.Prelude.{◌≡◌, ◌+◌, ◌*◌, ◌^◌, ◌<◌, ◌≤◌, ◌%◌, List, length, map, IfOk, IfSome, IfNone};
+ghost use Rattle.std.specs.Prelude.{◌≡◌, ◌+◌, ◌*◌, ◌^◌, ◌<◌, ◌≤◌, ◌%◌, All, List, length, map, IfOk, IfSome, IfNone};
 ghost use Rattle.std.specs.Arc.{arc_value};
 ghost use Rattle.memory_spec.specs.Access.{byte_count, loaded};
 ghost use Rattle.memory_spec.specs.Pages.{slot_of, permission_at};
@@ -203,7 +203,8 @@ impl Space {
         pages: &Arc<PageMap>,
     ) -> Result<Space, AllocError>
         requires { length (arc_value view.now) ≡ length (arc_value pages.now) }
-        ensures { IfOk result (λ space. space ≡ fresh (arc_value pages.now) (arc_value view.now)) }
+        ensures fresh { IfOk result (λ space. space ≡ fresh (arc_value pages.now) (arc_value view.now)) }
+        ensures whole { All (λ page. length page ≡ PAGE_SIZE) (arc_value view.now) }
     {
         let slots = Slots::new(alloc, view.len())?;
         Ok(Space {

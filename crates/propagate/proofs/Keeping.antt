@@ -23,7 +23,7 @@ use Rattle.round_spec.proofs.Executed.{executed-records}
 use Rattle.order_spec.specs.Facts.{Fact}
 use Rattle.round_spec.specs.Due.{past_facts}
 use Rattle.release_core.specs.Applying.{can_apply}
-use Rattle.propagate.specs.Kept.{IsLaid, IsOnMap, IsKept}
+use Rattle.propagate.specs.Kept.{IsLaid, IsOnMap, IsValid, IsKept}
 use Rattle.propagate.proofs.Mapped.{opening-on_map, happens-on_map}
 
 -- as many records as entries
@@ -66,6 +66,19 @@ reported w instructions kept is sound =
     is ∙ ap (executed_instructions w.schedule) s.records ∙ executed-records (first w.setup) w.schedule
 
 -- at the start
+
+-- what holds of every round
+pub valid_kept :
+    (w v : RoundState) (instructions : ℕ) (facts : List Fact)
+    → v ≡ w → IsKept v instructions facts → IsValid w
+valid_kept w v instructions facts is kept =
+    subst IsValid is record {
+      setup = kept.valid;
+      framed = kept.framed;
+      in_order = kept.in_order;
+      counted = kept.counted;
+      by_schedule = kept.by_schedule;
+    }
 
 pub kept_opening :
     (setup : Setup) (past : Option History)

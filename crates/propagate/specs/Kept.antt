@@ -26,6 +26,15 @@ pub record IsLaid (w : RoundState) : Type 0 where
   pub machine : w.machine ≡ laid_from (first w.setup) w.records
   pub can : can_lay_from (first w.setup) w.records ≡ true
 
+-- What holds of every round: its setup may be run, its machine has the page map and the fuel of it, it is in order,
+-- counts right, and is where its schedule leads.
+pub record IsValid (w : RoundState) : Type 0 where
+  pub setup : IsSetup w.setup
+  pub framed : w.machine.frame ≡ (first w.setup).frame
+  pub in_order : IsInOrder w
+  pub counted : IsCounted w
+  pub by_schedule : IsBySchedule w
+
 -- A round that is in order, counts right and is where its schedule and its records lead, with the page map and the fuel
 -- of its setup; for each entry it is kept when its thread was picked; and what it goes by are records of a run. With it
 -- stand the sum of the counts of its executed entries, and what the steps of its history do.

@@ -2,7 +2,7 @@
 
 ghost use Rattle.std.specs.Prelude.{◌≡◌, ◌+◌, ◌≤◌, true, false, option_map, is_some, Some, IfOk, OnOk};
 ghost use Rattle.std.specs.Arc.{arc_value};
-ghost use Rattle.machine_spec.specs.Setup.{is_permitted, is_complete};
+ghost use Rattle.machine_spec.specs.Setup.{IsSetup, is_permitted, is_complete};
 ghost use Rattle.history_spec.specs.History.{History as Kept, IsSound};
 ghost use Rattle.report_spec.specs.Report.{threads_of};
 ghost use Rattle.round_spec.specs.declared.events.Pick.TheVariants as pick;
@@ -32,7 +32,6 @@ fn run_step(alloc: Global, round: &mut Round, t: u8, turns: &mut Turns) -> Resul
     ensures cost { OnOk result (Costs turns.old round.old turns.new round.new) }
     ensures never_lower { turns.old ≤ turns.new }
 {
-    round.keeps();
     let job = round.take(t)?;
     let run = execute(alloc, &job, turns)?;
     // It ran by the round's own job, which stands as it was: nothing is compared.
@@ -52,7 +51,6 @@ fn follow_pick<G: Gate>(
     ensures cost { OnOk result (Costs turns.old round.old turns.new round.new) }
     ensures never_lower { turns.old ≤ turns.new }
 {
-    round.keeps();
     match round.pick() {
         Pick::Reuse(t) => {
             round.reuse(t)?;
@@ -82,6 +80,7 @@ pub fn run_alone_shown<G: Gate>(
     gate: &G,
 ) -> Result<Round, AllocError>
     ensures alone { IfOk result (λ round. round ≡ lone_round setup (option_map arc_value past)) }
+    ensures sound { IfOk result (λ _. IsSetup setup) }
     ensures cost { IfOk result (λ round. turns.new ≡ turns.old + executed_by round) }
     ensures never_lower { turns.old ≤ turns.new }
 {
@@ -133,7 +132,6 @@ pub fn run_alone(
     ensures executes_nothing { IfOk result (λ _.
         (h : Kept) → option_map arc_value past ≡ Some h → IsUnedited h setup → turns.new ≡ turns.old) }
 {
-    setup.sound();
     let round = run_alone_shown(alloc, setup, past, turns, &OpenGate)?;
     Ok(round)
 }

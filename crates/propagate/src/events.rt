@@ -4,12 +4,14 @@ ghost use Rattle.std.specs.Prelude.{◌≡◌, ◌<◌, true, length, count_by, 
 ghost use Rattle.std.specs.Bool.{OnTrue, OnFalse};
 ghost use Rattle.std.specs.Arc.{arc_value};
 ghost use Rattle.history_spec.specs.History.{threads_of_records};
+ghost use Rattle.machine_spec.specs.Setup.{first};
 ghost use Rattle.machine_spec.specs.Step.{can_step};
 ghost use Rattle.release_core.specs.Jobs.{IsJobOf};
 ghost use Rattle.round_spec.specs.declared.events.Event.TheVariants as event;
 ghost use Rattle.round_spec.specs.Rounds.{is_out, can_take, can_reuse, happens};
 ghost use Rattle.propagate.specs.Appending.{trail, Appends};
 ghost use Rattle.propagate.specs.Committing.{CanCommit, Commits, GoesOn, entries_of};
+ghost use Rattle.propagate.specs.Kept.{IsValid};
 
 use super::round::Round;
 use guest_call::THREADS;
@@ -83,11 +85,13 @@ impl Round {
     /// # Errors
     ///
     /// An error where the host's memory ran out; the round is then as before.
+    #[tactic(auto, using(crate::proofs::Keeping::valid_kept))]
     pub fn reuse(&mut self, t: u8) -> Result<(), AllocError>
         requires { can_reuse self.old t ≡ true }
         ensures ok { OnOk result (self.new ≡ happens self.old (event.Reuse t)) }
         ensures same { GoesOn (if is_ok result then 1 else 0) self.old self.new }
         ensures err { OnErr result (self.new ≡ self.old) }
+        ensures valid { IsValid self.old }
     {
         let rec = match self.next_record(t) {
             Some(rec) => Arc::try_clone(rec)?,
@@ -111,12 +115,14 @@ impl Round {
     /// # Errors
     ///
     /// An error where the host's memory ran out; the round is then as before.
+    #[tactic(auto, using(crate::proofs::Keeping::valid_kept))]
     pub fn take(&mut self, t: u8) -> Result<Job, AllocError>
         requires { can_take self.old t ≡ true }
         ensures ok { OnOk result (self.new ≡ happens self.old (event.Take t)) }
         ensures job { IfOk result (λ job. IsJobOf self.old.machine t job) }
         ensures same { GoesOn 0 self.old self.new }
         ensures err { OnErr result (self.new ≡ self.old) }
+        ensures valid { IsValid self.old }
     {
         let job = self.core.start_of(t)?;
         let now = self.entries();
@@ -128,7 +134,7 @@ impl Round {
     /// Whether an executed step can be committed, of which it is known whether it ran with the round's page map and
     /// fuel.
     fn can_commit(&self, run: &Run, same_frame: bool) -> bool
-        requires { Decides same_frame (arc_value run.now.frame ≡ self.now.machine.frame) }
+        requires { Decides same_frame (arc_value run.now.frame ≡ (first self.now.setup).frame) }
         ensures yes { OnTrue result (CanCommit self.now (arc_value run.now.frame) (arc_value run.now.rec)) }
         ensures no { OnFalse result (CanCommit self.now (arc_value run.now.frame) (arc_value run.now.rec) → ⊥) }
     {
@@ -140,11 +146,13 @@ impl Round {
     /// # Errors
     ///
     /// An error where the host's memory ran out; the round is then as before.
+    #[tactic(auto, using(crate::proofs::Keeping::valid_kept))]
     pub(super) fn make(&mut self, run: &Run) -> Result<(), AllocError>
         requires { CanCommit self.old (arc_value run.now.frame) (arc_value run.now.rec) }
         ensures ok { OnOk result (self.new ≡ happens self.old (event.Commit (arc_value run.now.rec).thread)) }
         ensures same { GoesOn (if is_ok result then 1 else 0) self.old self.new }
         ensures err { OnErr result (self.new ≡ self.old) }
+        ensures valid { IsValid self.old }
     {
         self.picked.reserve(1)?;
         append(
@@ -174,9 +182,10 @@ impl Round {
     /// Commits an executed step, or says why it can't, where it is known whether it ran with the round's page map and
     /// fuel. To look at these takes longest of all.
     pub fn commit_known(&mut self, run: Run, same_frame: bool) -> Committed
-        requires { Decides same_frame (arc_value run.frame ≡ self.old.machine.frame) }
+        requires { Decides same_frame (arc_value run.frame ≡ (first self.old.setup).frame) }
         ensures does { Commits self.old run result self.new }
         ensures same { GoesOn (entries_of result) self.old self.new }
+        ensures valid { IsValid self.old }
     {
         if !self.can_commit(&run, same_frame) {
             self.discard(run.rec.thread());
@@ -192,6 +201,7 @@ impl Round {
     fn discard(&mut self, t: u8)
         ensures event { self.new ≡ happens self.old (event.GiveBack t) }
         ensures same { GoesOn 0 self.old self.new }
+        ensures valid { IsValid self.old }
     {
         if self.is_out(t) {
             self.out[usize::from(t)] = false;
@@ -210,9 +220,11 @@ impl Round {
     }
 
     /// Stops the round: from then on it is over.
+    #[tactic(auto, using(crate::proofs::Keeping::valid_kept))]
     pub fn stop(&mut self)
         ensures event { self.new ≡ happens self.old event.Stop }
         ensures same { GoesOn 0 self.old self.new }
+        ensures valid { IsValid self.old }
     {
         self.stopped = true;
     }

@@ -8,6 +8,7 @@ ghost use Rattle.round_spec.specs.Rounds.{is_free_in, can_begin, can_take, can_r
 ghost use Rattle.round_spec.specs.Due.{is_due, place_in};
 ghost use Rattle.round_spec.specs.Choice.{is_any_out, choice_by, pick_of};
 ghost use Rattle.propagate.specs.Choosing as choosing;
+ghost use Rattle.propagate.specs.Kept.{IsValid};
 ghost use Rattle.propagate.specs.declared.picking.Candidate.{Candidate};
 ghost use Rattle.propagate.specs.Choosing.{comes_before, has_made, HaveMade, candidate_of, leader_of, free_below, AreLeadersBelow};
 
@@ -87,7 +88,6 @@ fn made_for(core: &Core, clock: &Clock) -> [u32; THREADS]
     ensures made { (u : ℕ) → u < THREADS → nat_le (slice_index clock.now u) (slice_index result u)
         ≡ has_made core.now u (slice_index clock.now u) }
 {
-    core.whole();
     let mut made = [0; THREADS];
     for t in 0..core.threads() {
         let t = t as u8;
@@ -101,7 +101,6 @@ fn made_for(core: &Core, clock: &Clock) -> [u32; THREADS]
 fn have_made(core: &Core, clock: &Clock, t: u8) -> bool
     ensures { Decides result (HaveMade core.now t clock.now) }
 {
-    clock.keeps();
     let mut made = made_for(core, clock);
     if usize::from(t) < THREADS {
         made[usize::from(t)] = clock.count(t);
@@ -169,21 +168,24 @@ impl Round {
     /// Whether the next step of thread `t` can be begun: the round isn't over, and the thread is ready
     /// and not out.
     fn can_begin(&self, t: u8) -> bool
-        ensures { result ≡ can_begin self.now t }
+        ensures can { result ≡ can_begin self.now t }
+        ensures valid { IsValid self.now }
     {
         !self.is_over() && self.is_free(t)
     }
 
     /// Whether the next step of thread `t` can be taken, to be executed.
     pub fn can_take(&self, t: u8) -> bool
-        ensures { result ≡ can_take self.now t }
+        ensures can { result ≡ can_take self.now t }
+        ensures valid { IsValid self.now }
     {
         self.can_begin(t) && !self.has_fitting(t)
     }
 
     /// Whether the record of the next step of thread `t` can be reused.
     pub fn can_reuse(&self, t: u8) -> bool
-        ensures { result ≡ can_reuse self.now t }
+        ensures can { result ≡ can_reuse self.now t }
+        ensures valid { IsValid self.now }
     {
         self.can_begin(t) && self.has_fitting(t)
     }
@@ -216,7 +218,6 @@ impl Round {
     fn first_free(&self) -> Option<Candidate>
         ensures { result ≡ leader_of self.now (free_below self.now (length self.now.machine.harts)) }
     {
-        self.core.whole();
         let mut leader = None;
         for t in 0..self.core.threads() {
             leader = self.with_free(leader, t as u8);
@@ -253,7 +254,6 @@ impl Round {
     fn all_leaders(&self) -> Leaders
         ensures { AreLeadersBelow self.now (length self.now.machine.harts) result }
     {
-        self.core.whole();
         let mut found = Leaders {
             due: None,
             free: None,
@@ -293,6 +293,7 @@ impl Round {
         ensures stopped { self.now.stopped ≡ true → result ≡ pick.Over }
         ensures reuse { (t : ℕ) → result ≡ pick.Reuse t → can_reuse self.now t ≡ true }
         ensures run { (t : ℕ) → result ≡ pick.Run t → can_take self.now t ≡ true }
+        ensures valid { IsValid self.now }
     {
         if self.is_over() {
             return Pick::Over;

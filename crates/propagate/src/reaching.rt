@@ -5,6 +5,7 @@ ghost use Rattle.std.specs.Str.{bytes_eq};
 ghost use Rattle.memory_spec.specs.Pages.{page_of};
 ghost use Rattle.order_spec.specs.Facts.{facts, read_slots as slots_read};
 ghost use Rattle.reach_spec.specs.Reach.{reads_of, changed_slots, changed, reached_count};
+ghost use Rattle.release_core.specs.Records.{AreOfRun};
 ghost use Rattle.depend_graph.specs.Reaching.{slots_of_each};
 
 use super::round::Round;
@@ -27,7 +28,8 @@ fn read_slots(alloc: Global, rec: &Record) -> Result<Vec<usize>, AllocError>
 
 /// The slots of the pages that each step of a history read.
 fn all_read_slots(alloc: Global, history: &History) -> Result<Vec<Vec<usize>>, AllocError>
-    ensures { IfOk result (λ reads. slots_of_each reads.items ≡ reads_of history.now) }
+    ensures slots { IfOk result (λ reads. slots_of_each reads.items ≡ reads_of history.now) }
+    ensures of_run { IfOk result (λ _. AreOfRun history.now.records) }
 {
     let records = history.records();
     let mut reads = Vec::with_capacity(alloc, records.len())?;
@@ -42,8 +44,8 @@ fn differs(old: &PageTable, new: &PageTable, slot: usize) -> bool
     requires { slot < length old.now }
     ensures { result ≡ not (bytes_eq (page_of old.now slot) (page_of new.now slot)) }
 {
-    old.whole();
-    slot >= new.len() || *old.page(slot) != *new.page(slot)
+    let page = old.page(slot);
+    slot >= new.len() || *page != *new.page(slot)
 }
 
 /// The slots of a memory's pages that are others in a second one.
@@ -87,7 +89,6 @@ fn steps_reached(
     requires { graph.now ≡ facts history.now }
     ensures { IfOk result (λ steps. steps ≡ reached_count (Some history.now) setup.now) }
 {
-    history.keeps();
     let reads = all_read_slots(alloc, history)?;
     let changed = slots_changed(alloc, history.setup(), setup)?;
     let flags = graph.reach(&reads, &changed)?;

@@ -9,10 +9,8 @@ ghost use Rattle.report_spec.specs.Report.{instructions_from};
 ghost use Rattle.round_spec.specs.Rounds.{nobody_out, nothing_taken, opening, is_over, is_out, history_of};
 ghost use Rattle.round_spec.specs.Due.{past_facts};
 ghost use Rattle.round_spec.specs.Instructions.{executed_instructions};
-ghost use Rattle.round_spec.specs.Keeping.{IsInOrder, IsCounted};
-ghost use Rattle.round_spec.specs.Schedules.{IsBySchedule};
 ghost use Rattle.release_core.specs.Records.{AreOfRun};
-ghost use Rattle.propagate.specs.Kept.{IsOfMap};
+ghost use Rattle.propagate.specs.Kept.{IsOfMap, IsValid};
 
 use depend_graph::Graph;
 use guest_call::THREADS;
@@ -88,11 +86,10 @@ fn nothing_taken() -> [u32; THREADS]
 /// Which steps of a history depend on which, if there is one.
 fn graph_of(alloc: Global, past: &Option<Arc<History>>) -> Result<Graph, AllocError>
     ensures graph { IfOk result (λ graph. graph ≡ past_facts (option_map arc_value past.now)) }
-    ensures of_run { AreOfRun (past_records (option_map arc_value past.now)) }
+    ensures of_run { IfOk result (λ _. AreOfRun (past_records (option_map arc_value past.now))) }
 {
     match past {
         Some(history) => {
-            history.keeps();
             Graph::of(alloc, facts(alloc, history)?)
         }
         None => Graph::of(alloc, Vec::new(alloc)),
@@ -108,9 +105,9 @@ impl Round {
     /// An error where the host's memory ran out.
     #[tactic(auto, using(crate::proofs::Keeping::kept_opening))]
     pub fn new(alloc: Global, setup: Setup, past: Option<Arc<History>>) -> Result<Round, AllocError>
-        ensures { IfOk result (λ round. round ≡ opening setup (option_map arc_value past)) }
+        ensures round { IfOk result (λ round. round ≡ opening setup (option_map arc_value past)) }
+        ensures sound { IfOk result (λ _. IsSetup setup) }
     {
-        setup.sound();
         let core = Core::new(alloc, &setup)?;
         let graph = graph_of(alloc, &past)?;
         Ok(Round {
@@ -127,18 +124,6 @@ impl Round {
             stopped: false,
             instructions: 0,
         })
-    }
-
-    /// What holds of every round holds of this one: what a caller learns of any round. In particular,
-    /// where it goes by a sound history, it is at the machine from scratch, and its marks are exact.
-    pub fn keeps(&self)
-        ensures setup { IsSetup self.now.setup }
-        ensures framed { self.now.machine.frame ≡ (first self.now.setup).frame }
-        ensures in_order { IsInOrder self.now }
-        ensures counted { IsCounted self.now }
-        ensures by_schedule { IsBySchedule self.now }
-    {
-        let _stopped = &self.stopped;
     }
 
     /// What it started from.
@@ -177,7 +162,6 @@ impl Round {
     {
         match &self.past {
             Some(history) => {
-                history.keeps();
                 history.find(t, number)
             }
             None => None,
@@ -185,15 +169,19 @@ impl Round {
     }
 
     /// The steps so far, with their marks.
+    #[tactic(auto, using(crate::proofs::Keeping::valid_kept))]
     pub fn schedule(&self) -> &[Entry]
-        ensures { result.now ≡ self.now.schedule }
+        ensures schedule { result.now ≡ self.now.schedule }
+        ensures valid { IsValid self.now }
     {
         self.schedule.as_slice()
     }
 
     /// How it ended, if it has.
+    #[tactic(auto, using(crate::proofs::Keeping::valid_kept))]
     pub fn end(&self) -> Option<End>
-        ensures { result ≡ self.now.machine.ending }
+        ensures ending { result ≡ self.now.machine.ending }
+        ensures valid { IsValid self.now }
     {
         self.core.ended()
     }
@@ -255,15 +243,19 @@ impl Round {
     }
 
     /// Whether it is over: the machine has an end, or the round was stopped.
+    #[tactic(auto, using(crate::proofs::Keeping::valid_kept))]
     pub fn is_over(&self) -> bool
-        ensures { result ≡ is_over self.now }
+        ensures over { result ≡ is_over self.now }
+        ensures valid { IsValid self.now }
     {
         self.core.ended().is_some() || self.stopped
     }
 
     /// Whether thread `t` is out: its next step was taken.
+    #[tactic(auto, using(crate::proofs::Keeping::valid_kept))]
     pub fn is_out(&self, t: u8) -> bool
-        ensures { result ≡ is_out self.now t }
+        ensures out { result ≡ is_out self.now t }
+        ensures valid { IsValid self.now }
     {
         match self.out.get(usize::from(t)) {
             Some(flag) => *flag,
@@ -280,7 +272,6 @@ impl Round {
     {
         match &self.past {
             Some(history) => {
-                history.keeps();
                 history.setup().image().map == self.setup.image().map
             }
             None => true,

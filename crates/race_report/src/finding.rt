@@ -34,9 +34,7 @@ pub fn races(alloc: Global, history: &History, most: usize) -> Result<Races, All
     ensures total { IfOk result (λ races. races.total ≡ length (races_of history.now)) }
     ensures first { IfOk result (λ races. races.first ≡ take most (races_of history.now)) }
 {
-    history.keeps();
     let setup = history.setup();
-    setup.sound();
     let map = setup.page_map(alloc)?;
     let pages = map.len();
     drop(map);

@@ -5,6 +5,7 @@ ghost use Rattle.machine_spec.specs.Setup.{map_of};
 ghost use Rattle.order_spec.specs.Facts.{Fact as StepFact, facts as facts_of};
 ghost use Rattle.order_spec.specs.Before.{is_in};
 ghost use Rattle.reach_spec.specs.Reach as reach;
+ghost use Rattle.release_core.specs.Records.{AreOfRun};
 ghost use Rattle.race_spec.specs.Sync.{sync_facts, seen_at};
 ghost use Rattle.race_report.specs.Steps.{AreSteps};
 
@@ -80,9 +81,10 @@ fn seen(graph: &Graph, facts: &[Fact], i: usize) -> Clock
 /// An error where the host's memory ran out.
 pub fn steps_of(alloc: Global, history: &History, pages: usize) -> Result<Vec<Step>, AllocError>
     requires { pages ≡ length (map_of history.now.setup) }
-    ensures { IfOk result (λ steps. AreSteps (facts_of history.now) (reach.reads_of history.now) pages steps.items) }
+    ensures steps { IfOk result (λ steps.
+        AreSteps (facts_of history.now) (reach.reads_of history.now) pages steps.items) }
+    ensures of_run { IfOk result (λ _. AreOfRun history.now.records) }
 {
-    history.keeps();
     let records = history.records();
     let facts = facts(alloc, history)?;
     let graph = Graph::of_sync(alloc, &facts)?;

@@ -9,7 +9,7 @@ ghost use Rattle.machine_calls.specs.Views as views;
 ghost use Rattle.release_core.specs.Jobs.{IsJobOf};
 ghost use Rattle.release_core.specs.Applying.{can_apply, IsCauseOf};
 ghost use Rattle.machine_spec.specs.Machine.{Machine, hart_of, is_ready, is_ended};
-ghost use Rattle.machine_spec.specs.Setup.{first, map_of};
+ghost use Rattle.machine_spec.specs.Setup.{IsSetup, first, map_of};
 ghost use Rattle.machine_spec.specs.Step as step;
 ghost use Rattle.machine_spec.specs.Whole.{IsWhole};
 
@@ -76,16 +76,10 @@ impl Model for Core {
 }
 
 impl Core {
-    /// What holds of every machine holds of this one: what a caller learns of any core.
-    pub fn whole(&self)
-        ensures { IsWhole self.now }
-    {
-        let _steps = &self.steps;
-    }
-
     /// How it ended, if it has.
     pub fn ended(&self) -> Option<End>
-        ensures { result ≡ self.now.ending }
+        ensures ending { result ≡ self.now.ending }
+        ensures whole { IsWhole self.now }
     {
         self.ending
     }
@@ -147,7 +141,8 @@ impl Core {
 
     /// How many threads there are, those that have ended among them.
     pub fn threads(&self) -> usize
-        ensures { result ≡ length self.now.harts }
+        ensures count { result ≡ length self.now.harts }
+        ensures whole { IsWhole self.now }
     {
         self.harts.len()
     }
@@ -196,7 +191,6 @@ impl Core {
 fn frame_of(alloc: Global, setup: &Setup) -> Result<Arc<Frame>, AllocError>
     ensures { IfOk result (λ frame. arc_value frame ≡ record { map = map_of setup.now; fuel = setup.now.fuel }) }
 {
-    setup.sound();
     let map = Arc::new(alloc, setup.page_map(alloc)?)?;
     let code = Arc::try_clone(setup.code())?;
     let frame = Arc::new(alloc, Frame::new(map, setup.limits().fuel(), code))?;
@@ -211,9 +205,9 @@ impl Core {
     /// An error where the host's memory ran out.
     #[tactic(auto, unfolding(machine_spec::specs::Setup::first))]
     pub fn new(alloc: Global, setup: &Setup) -> Result<Core, AllocError>
-        ensures { IfOk result (λ core. core ≡ first setup.now) }
+        ensures first { IfOk result (λ core. core ≡ first setup.now) }
+        ensures sound { IfOk result (λ _. IsSetup setup.now) }
     {
-        setup.sound();
         machine_spec::first_is_whole();
         let frame = frame_of(alloc, setup)?;
         let memory = Arc::new(alloc, setup.memory(alloc)?)?;
@@ -306,6 +300,7 @@ impl Core {
         requires { step.can_step self.old rec.now.thread ≡ true }
         ensures ok { OnOk result (self.new ≡ step.lay self.old rec.now) }
         ensures err { OnErr result (self.new ≡ self.old) }
+        ensures whole { IsWhole self.old }
     {
         let t = rec.thread();
         let view = view_at(self.harts.as_slice(), t);
@@ -350,7 +345,6 @@ impl Core {
         ensures cause { IfErr result (λ e. IsCauseOf self.old rec.now e) }
         ensures err { OnErr result (self.new ≡ self.old) }
     {
-        self.whole();
         machine_spec::lay_is_step();
         if self.ended().is_some() || !self.fits(rec) {
             return Err(ApplyError::Stale);

@@ -3,7 +3,6 @@
 ghost use Rattle.std.specs.Prelude.{◌≡◌, true, option_map, Some};
 ghost use Rattle.std.specs.Arc.{arc_value};
 ghost use Rattle.history_spec.specs.History.{found, is_coherent, IsMapped};
-ghost use Rattle.release_core.specs.Records.{AreOfRun};
 
 use super::records::Records;
 use super::setup::Setup;
@@ -65,32 +64,26 @@ impl History {
         self.coherent
     }
 
-    /// Its records are as a run makes them, and their slots are in the page map of its setup: what a
-    /// caller learns of any history.
-    pub fn keeps(&self)
-        ensures records { AreOfRun self.now.records }
-        ensures mapped { IsMapped self.now }
-    {
-        self.records.keeps();
-    }
-
     /// What the run started from.
     pub fn setup(&self) -> &Setup
-        ensures { result.now ≡ self.now.setup }
+        ensures setup { result.now ≡ self.now.setup }
+        ensures mapped { IsMapped self.now }
     {
         &self.setup
     }
 
     /// The records of its steps.
     pub fn records(&self) -> &Records
-        ensures { result.now ≡ self.now.records }
+        ensures records { result.now ≡ self.now.records }
+        ensures mapped { IsMapped self.now }
     {
         &self.records
     }
 
     /// The record of thread `t` at this number of steps made, if there is one.
     pub fn find(&self, t: u8, number: u32) -> Option<&Arc<Record>>
-        ensures { option_map (λ r. arc_value r.now) result ≡ found (Some self.now) t number }
+        ensures record { option_map (λ r. arc_value r.now) result ≡ found (Some self.now) t number }
+        ensures mapped { IsMapped self.now }
     {
         self.records.find(t, number)
     }

@@ -131,16 +131,10 @@ impl Records {
 
     /// How many records there are.
     pub fn len(&self) -> usize
-        ensures { result ≡ length self.now }
+        ensures count { result ≡ length self.now }
+        ensures of_run { AreOfRun self.now }
     {
         self.list.len()
-    }
-
-    /// They are as a run makes them: what a caller learns of any records.
-    pub fn keeps(&self)
-        ensures { AreOfRun self.now }
-    {
-        let _list = &self.list;
     }
 
     /// The record at a place.

@@ -124,13 +124,6 @@ impl Setup {
         })
     }
 
-    /// It may be run: what a caller learns of any setup.
-    pub fn sound(&self)
-        ensures { setup.IsSetup self.now }
-    {
-        let _program = &self.program;
-    }
-
     /// The bytes of its executable.
     pub fn elf(&self) -> &[u8]
         ensures { result.now ≡ self.now.elf }
@@ -140,14 +133,16 @@ impl Setup {
 
     /// The bytes of its input.
     pub fn input(&self) -> &[u8]
-        ensures { result.now ≡ self.now.input }
+        ensures input { result.now ≡ self.now.input }
+        ensures sound { setup.IsSetup self.now }
     {
         self.input.as_slice()
     }
 
     /// The most turns of one thunk, and the most steps of a run.
     pub fn limits(&self) -> Limits
-        ensures { result ≡ record { fuel = self.now.fuel; steps = self.now.limit } }
+        ensures limits { result ≡ record { fuel = self.now.fuel; steps = self.now.limit } }
+        ensures sound { setup.IsSetup self.now }
     {
         self.limits
     }
@@ -171,9 +166,9 @@ impl Setup {
     /// An error where the host's memory ran out.
     #[tactic(auto, unfolding(machine_spec::specs::Setup::map_of))]
     pub fn page_map(&self, alloc: Global) -> Result<PageMap, AllocError>
-        ensures { IfOk result (λ slots. slots ≡ setup.map_of self.now) }
+        ensures map { IfOk result (λ slots. slots ≡ setup.map_of self.now) }
+        ensures sound { setup.IsSetup self.now }
     {
-        self.sound();
         machine_spec::map_ascends();
         let pages = pages_of(alloc, &self.program.image.map)?;
         PageMap::new(alloc, pages)

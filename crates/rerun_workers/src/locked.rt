@@ -12,6 +12,7 @@ ghost use Rattle.round_spec.specs.Rounds.{opening, can_take, can_reuse, happens}
 ghost use Rattle.round_spec.specs.Choice.{pick_of};
 ghost use Rattle.round_spec.specs.Unedited.{IsUnedited};
 ghost use Rattle.propagate.specs.Committing.{GoesOn};
+ghost use Rattle.propagate.specs.Kept.{IsValid};
 ghost use Rattle.rerun_workers.specs.Following.{FollowsPicks};
 ghost use Rattle.std.proofs.Props.{props};
 ghost use Rattle.rerun_workers.specs.Watching.{IsCounting};
@@ -74,6 +75,7 @@ pub struct Locked<J: Naming> {
 fn discard(round: &mut Round, t: u8)
     ensures event { round.new ≡ happens round.old (event.GiveBack t) }
     ensures same { GoesOn 0 round.old round.new }
+    ensures valid { IsValid round.old }
 {
     if round.is_out(t) {
         round.give_back(t);
@@ -84,6 +86,7 @@ fn discard(round: &mut Round, t: u8)
 fn give_up(round: &mut Round, t: u8)
     ensures events { round.new ≡ given_up round.old t }
     ensures same { GoesOn 0 round.old round.new }
+    ensures valid { IsValid round.old }
 {
     discard(round, t);
     round.stop();
@@ -138,9 +141,7 @@ impl<J: Naming> Locked<J> {
         } = self;
         let Pass { share, steps, .. } = pass;
         book.audit(share);
-        round.keeps();
         round.reuse(t)?;
-        round.keeps();
         book.add(share, 1);
         *steps += 1;
         count(counter);
@@ -153,7 +154,6 @@ impl<J: Naming> Locked<J> {
         ensures same { GoesOn 0 self.old.round self.new.round }
     {
         let Locked { round, .. } = self;
-        round.keeps();
         round.stop();
     }
 
@@ -167,7 +167,6 @@ impl<J: Naming> Locked<J> {
         ensures unedited { (h : History) → J.past ≡ Some h → IsUnedited h J.setup → BeginsNothing result }
     {
         let Locked { round, .. } = self;
-        round.keeps();
         match round.take(t) {
             Ok(job) => Task::Begin(job),
             Err(_) => {
@@ -247,10 +246,8 @@ impl<J: Naming> Locked<J> {
         } = pass;
         handed.raise(1);
         book.audit(share);
-        round.keeps();
         match round.commit_known(run, same_frame) {
             Committed::Done => {
-                round.keeps();
                 book.add(share, 1);
                 *steps += 1;
                 count(counter);
@@ -273,7 +270,6 @@ impl<J: Naming> Locked<J> {
     {
         pass.handed.raise(1);
         let Locked { round, .. } = self;
-        round.keeps();
         give_up(round, job.thread);
     }
 }

@@ -54,9 +54,7 @@ fn run_by_first<G: Gate>(
     ensures shares { IfOk result (λ r. r.shares.items ≡ length r.round.schedule ∷ replicate (workers - 1) 0) }
     ensures cost { IfOk result (λ r. IsCostOf workers setup (option_map arc_value past) r.round r.turns) }
 {
-    setup.sound();
     let round = run_alone_shown(alloc, setup, past, &mut turns, gate)?;
-    round.keeps();
     let shares = first_makes(alloc, round.schedule().len() as u64, workers)?;
     Ok(Worked {
         round,
@@ -149,7 +147,6 @@ pub fn run_round<R: Threads + Wait + Sync, G: Gate + Sync>(
         gate,
         Blank::new(u64::from(workers)),
     )?;
-    worked.round.keeps();
     if worked.round.end().is_some() {
         return Ok(worked);
     }
@@ -199,7 +196,6 @@ pub fn run_round_watched<R: Threads + Wait + Sync, G: Gate + Sync>(
         gate,
         Blank::new(u64::from(workers)),
     )?;
-    worked.round.keeps();
     if worked.round.end().is_some() {
         return Ok((worked, numbers));
     }

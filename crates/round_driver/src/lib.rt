@@ -4,6 +4,7 @@
 
 ghost use Rattle.std.specs.Prelude.{◌≡◌, ℕ, ◌+◌, ◌≤◌, true, List, Some, option_map, IfOk, OnOk};
 ghost use Rattle.std.specs.Arc.{arc_value};
+ghost use Rattle.machine_spec.specs.Setup.{IsSetup};
 ghost use Rattle.history_spec.specs.History.{History as Kept, IsSound};
 ghost use Rattle.order_spec.specs.Facts.{facts};
 ghost use Rattle.order_spec.specs.Orders.{is_order};
@@ -14,6 +15,7 @@ ghost use Rattle.round_spec.specs.Unedited.{IsUnedited};
 ghost use Rattle.round_spec.specs.Reordering.{reuses_of, ReusesInOrder};
 ghost use Rattle.round_driver.specs.Jobs.{HaveJobs};
 ghost use Rattle.propagate.specs.Executing.{executed_by, Costs};
+ghost use Rattle.propagate.specs.Kept.{IsValid};
 
 use guest_call::THREADS;
 use propagate::{Committed, Round};
@@ -36,7 +38,8 @@ struct Driven {
 impl Driven {
     /// A round before its first step.
     fn new(alloc: Global, setup: Setup, past: Option<Arc<History>>) -> Result<Driven, AllocError>
-        ensures { IfOk result (λ driven. driven.round ≡ opening setup (option_map arc_value past)) }
+        ensures round { IfOk result (λ driven. driven.round ≡ opening setup (option_map arc_value past)) }
+        ensures sound { IfOk result (λ _. IsSetup setup) }
     {
         let round = Round::new(alloc, setup, past)?;
         Ok(Driven {
@@ -47,10 +50,10 @@ impl Driven {
 
     /// Takes the next step of thread `t`, where it can be taken.
     fn on_take(&mut self, t: u8) -> Result<(), AllocError>
-        ensures { OnOk result (self.new.round ≡ happens self.old.round (event.Take t)) }
+        ensures round { OnOk result (self.new.round ≡ happens self.old.round (event.Take t)) }
+        ensures valid { IsValid self.old.round }
     {
         let Driven { round, jobs, .. } = self;
-        round.keeps();
         if !round.can_take(t) {
             return Ok(());
         }
@@ -61,9 +64,9 @@ impl Driven {
 
     /// Reuses the record of the next step of thread `t`, where it can be reused.
     fn on_reuse(&mut self, t: u8) -> Result<(), AllocError>
-        ensures { OnOk result (self.new.round ≡ happens self.old.round (event.Reuse t)) }
+        ensures round { OnOk result (self.new.round ≡ happens self.old.round (event.Reuse t)) }
+        ensures valid { IsValid self.old.round }
     {
-        self.round.keeps();
         if !self.round.can_reuse(t) {
             return Ok(());
         }
@@ -77,7 +80,6 @@ impl Driven {
         ensures cost { OnOk result (Costs turns.old self.old.round turns.new self.new.round) }
         ensures never_lower { turns.old ≤ turns.new }
     {
-        self.round.keeps();
         if !self.round.is_out(t) {
             return Ok(());
         }
@@ -98,9 +100,9 @@ impl Driven {
 
     /// Discards the job that is out for thread `t`, if one is.
     fn on_give_back(&mut self, t: u8)
-        ensures { self.new.round ≡ happens self.old.round (event.GiveBack t) }
+        ensures round { self.new.round ≡ happens self.old.round (event.GiveBack t) }
+        ensures valid { IsValid self.old.round }
     {
-        self.round.keeps();
         if self.round.is_out(t) {
             self.round.give_back(t);
         }
@@ -108,9 +110,9 @@ impl Driven {
 
     /// Stops the round.
     fn on_stop(&mut self)
-        ensures { self.new.round ≡ happens self.old.round event.Stop }
+        ensures round { self.new.round ≡ happens self.old.round event.Stop }
+        ensures valid { IsValid self.old.round }
     {
-        self.round.keeps();
         self.round.stop();
     }
 
@@ -120,7 +122,6 @@ impl Driven {
         ensures cost { OnOk result (Costs turns.old self.old.round turns.new self.new.round) }
         ensures never_lower { turns.old ≤ turns.new }
     {
-        self.round.keeps();
         match event {
             Event::Take(t) => self.on_take(t),
             Event::Reuse(t) => self.on_reuse(t),
@@ -165,7 +166,6 @@ pub fn drive(
         → events.now ≡ reuses_of h places
         → ReusesInOrder h places round) }
 {
-    setup.sound();
     let mut driven = Driven::new(alloc, setup, past)?;
     for event in events {
         driven.happen(alloc, *event, turns)?;

@@ -54,19 +54,12 @@ impl Mask {
         }
     }
 
-    /// There are 4,096 places: what a caller learns of any mask.
-    #[inline(always)]
-    pub fn whole(&self)
-        ensures { length self.now ≡ PAGE_SIZE }
-    {
-        let _words = &self.words;
-    }
-
     /// Whether a place is marked.
     #[inline(always)]
     pub fn get(&self, place: usize) -> bool
         requires { place < PAGE_SIZE }
-        ensures { result ≡ slice_index_or self.now place false }
+        ensures mark { result ≡ slice_index_or self.now place false }
+        ensures whole { length self.now ≡ PAGE_SIZE }
     {
         (self.words[place / 64] >> (place % 64)) & 1 == 1
     }
@@ -75,7 +68,8 @@ impl Mask {
     #[inline(always)]
     pub fn word(&self, number: usize) -> u64
         requires { number < 64 }
-        ensures { result ≡ mask_l (take 64 (drop (64 * number) self.now)) }
+        ensures marks { result ≡ mask_l (take 64 (drop (64 * number) self.now)) }
+        ensures whole { length self.now ≡ PAGE_SIZE }
     {
         self.words[number]
     }
@@ -106,7 +100,6 @@ impl Mask {
         requires written_is_whole { length written.now ≡ PAGE_SIZE }
         ensures { page.new ≡ spread self.now (chosen self.now written.now) page.old }
     {
-        self.whole();
         for number in 0..MASK_WORDS {
             let word = self.word(number);
             if word != 0 {
@@ -121,7 +114,6 @@ impl Mask {
         requires written_is_whole { length written.now ≡ PAGE_SIZE }
         ensures { Decides result (spread self.now (chosen self.now written.now) page.now ≡ written.now) }
     {
-        self.whole();
         for number in 0..MASK_WORDS {
             if !gives_word(page, written, WORD_PLACES * number, self.word(number)) {
                 return false;

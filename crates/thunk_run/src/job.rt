@@ -2,7 +2,6 @@
 
 ghost use Rattle.std.specs.Prelude.{◌≡◌, length};
 ghost use Rattle.std.specs.Arc.{arc_value};
-ghost use Rattle.memory_spec.specs.Pages.{IsMemory};
 ghost use Rattle.record_spec.specs.Record.{IsTrue};
 
 use page_store::PageTable;
@@ -23,7 +22,7 @@ pub struct Job {
     pub regs: Regs,
     /// Its view.
     pub view: Arc<PageTable>,
-    ghost whole: { IsMemory (arc_value frame).map (arc_value view) },
+    ghost sized: { length (arc_value view) ≡ length (arc_value frame).map },
 }
 
 /// A thunk that was run, with what is kept of it, which is true.

@@ -2,6 +2,7 @@
 
 ghost use Rattle.std.specs.Prelude.{◌≡◌, ◌+◌, ◌≤◌, length, IfOk};
 ghost use Rattle.std.specs.Arc.{arc_value};
+ghost use Rattle.memory_spec.specs.Pages.{IsMemory};
 ghost use Rattle.record_spec.specs.Record.{kept_thunk};
 ghost use Rattle.thunk_run.specs.Running.{IsRunOf, IsWithinFuel};
 
@@ -27,7 +28,6 @@ impl Job {
         ensures registers { result.regs ≡ regs }
         ensures view { result.view ≡ view }
     {
-        view.whole();
         Job {
             frame,
             thread,
@@ -53,6 +53,7 @@ fn run_thunk<W: Watch>(
     ensures never_lower { turns.old ≤ turns.new }
     ensures kept { IfOk result (λ kept.
         kept ≡ kept_thunk (arc_value job.now.frame) (arc_value job.now.view) job.now.regs) }
+    ensures whole { IsMemory (arc_value job.now.frame).map (arc_value job.now.view) }
 {
     let mut space = Space::new(alloc, &job.view, job.frame.shared_map())?;
     let mut regs = job.regs;

@@ -49,13 +49,6 @@ impl Clock {
         }
     }
 
-    /// It has a count for each thread, and no more: what a caller learns of any clock.
-    pub fn keeps(&self)
-        ensures { length self.now ≡ THREADS }
-    {
-        let _counts = &self.counts;
-    }
-
     /// The count of thread `t`.
     pub fn count(&self, t: u8) -> u32
         requires { t < THREADS }
@@ -75,7 +68,8 @@ impl Clock {
 
     /// Whether no count of the other is above this clock's.
     pub fn covers(&self, other: &Clock) -> bool
-        ensures { IsTrue result ↔ ((t : ℕ) → slice_index other.now t ≤ slice_index self.now t) }
+        ensures count { length other.now ≡ THREADS }
+        ensures covers { IsTrue result ↔ ((t : ℕ) → slice_index other.now t ≤ slice_index self.now t) }
     {
         let theirs = u32x32::from_array(other.counts);
         let mine = u32x32::from_array(self.counts);
@@ -86,7 +80,8 @@ impl Clock {
     pub fn tick(&mut self, t: u8)
         requires thread { t < THREADS }
         requires room { slice_index self.old t < MOST_COUNT }
-        ensures { self.new ≡ slice_set self.old t (slice_index self.old t + 1) }
+        ensures count { length self.old ≡ THREADS }
+        ensures more { self.new ≡ slice_set self.old t (slice_index self.old t + 1) }
     {
         self.counts[usize::from(t)] += 1;
     }

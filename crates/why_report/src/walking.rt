@@ -7,6 +7,7 @@ ghost use Rattle.isa_spec.specs.Registers.{same_registers};
 ghost use Rattle.record_spec.specs.Reads.{ReadPage as Read, has};
 ghost use Rattle.machine_spec.specs.Machine.{hart_of, is_ready};
 ghost use Rattle.machine_spec.specs.Setup.{map_of};
+ghost use Rattle.machine_spec.specs.Whole.{IsWhole};
 ghost use Rattle.history_spec.specs.History.{IsSound, found};
 ghost use Rattle.round_spec.specs.Marks.{record_for, fits_next};
 ghost use Rattle.memo_listing.specs.Listing.{addresses_of};
@@ -146,14 +147,13 @@ fn reason_at(
 ) -> Option<Reason>
     requires inside { step < length round.now.schedule }
     requires before { IsBefore round.now core.now since.now step }
+    requires whole { IsWhole core.now }
     requires pages { AreOf round.now pages.old }
     ensures pages { AreOf round.now pages.new }
     ensures reason { result ≡ reason_of (made_before round.now) round.now step (slice_get round.now.schedule step) }
     ensures each { GoesByOldRun round.now.past round.now.setup
         → is_some result ≡ is_executed (slice_get round.now.schedule step) }
 {
-    round.keeps();
-    core.whole();
     let entry = round.schedule()[step];
     if entry.reused {
         return None;
@@ -205,18 +205,13 @@ fn walk(
 ) -> Result<(), AllocError>
     requires inside { step < length round.now.schedule }
     requires before { IsBefore round.now core.old since.old step }
-    ensures { OnOk result (IsBefore round.now core.new since.new (step + 1)) }
+    ensures before { OnOk result (IsBefore round.now core.new since.new (step + 1)) }
+    ensures whole { OnOk result (IsWhole core.new) }
 {
-    round.keeps();
     let before = ready_threads(core);
+    let thread = round.schedule()[step].thread;
     core.lay(round.entry(step))?;
-    note_views(
-        since,
-        &before,
-        core,
-        round.schedule()[step].thread,
-        step + 1,
-    );
+    note_views(since, &before, core, thread, step + 1);
     Ok(())
 }
 
@@ -243,7 +238,6 @@ pub fn reasons(alloc: Global, round: &Round) -> Result<Vec<Reason>, AllocError>
     ensures scratch { IfOk result (λ rs. IsSound round.now.past round.now.setup
         → rs.items ≡ reasons_by (scratch_before round.now) round.now) }
 {
-    round.keeps();
     let mut pages = Pages {
         addresses: addresses_of(alloc, round.setup())?,
         remembered: no_searches(alloc)?,

@@ -74,7 +74,6 @@ const FREE_IN_MET: [usize; 4] = [2, 3, 4, 14];
 
 /// Which steps of a history depend on which.
 fn graph_of(alloc: Global, history: &History) -> Result<Graph, AllocError> {
-    history.keeps();
     Graph::of(alloc, facts(alloc, history)?)
 }
 

@@ -46,9 +46,9 @@ loop-place-preserved c =
           w.replay-is c.loop-place.invariant
     ]
 
-pub returns : goal.returns
-returns c =
+pub returns-clause-facts : goal.returns-clause-facts
+returns-clause-facts c =
     all-came c.loop-place.fits (order.reads_in c.records-records.result.now) c.loop-place.replay
     c.records-records.result.now c.loop-place.place c.loop-place.facts.items (order.facts c.args.history.now)
-    (let end = c.len-place-end.ensures in omega arith)
+    (let end = c.len-place-end.ensures.count in omega arith)
     c.loop-place.invariant

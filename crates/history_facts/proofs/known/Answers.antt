@@ -14,11 +14,11 @@ pub next-requires : goal.next-requires
 next-requires c =
     let h = c.args.history.now in
     let at : slice_get h.records c.loop-place.place ≡ Some c.deref.result.now =
-    ap (λ rs. slice_get rs c.loop-place.place) (sym c.records-records.ensures) ∙ c.at.ensures
+    ap (λ rs. slice_get rs c.loop-place.place) (sym c.records-records.ensures.records) ∙ c.at.ensures
     ∙ ap (λ (r : Record). Some r) (sym c.deref.ensures) in
     let laid =
     coherent-laid h c.loop-place.place c.deref.result.now c.loop-place.outline
-    (subst IsSetup c.setup.ensures c.sound.ensures) c.requires at c.loop-place.invariant.outline in
+    (subst IsSetup c.setup.ensures.setup c.in_ok-outline.ensures.sound) c.requires at c.loop-place.invariant.outline in
     (machine_at h c.loop-place.place, laid)
 
 pub loop-place-preserved : goal.loop-place-preserved
@@ -27,14 +27,14 @@ loop-place-preserved c =
     let m = machine_at h c.loop-place.place in
     let r = c.deref.result.now in
     let at : slice_get h.records c.loop-place.place ≡ Some r =
-    ap (λ rs. slice_get rs c.loop-place.place) (sym c.records-records.ensures) ∙ c.at.ensures
+    ap (λ rs. slice_get rs c.loop-place.place) (sym c.records-records.ensures.records) ∙ c.at.ensures
     ∙ ap (λ (x : Record). Some x) (sym c.deref.ensures) in
     let laid =
-    coherent-laid h c.loop-place.place r c.loop-place.outline (subst IsSetup c.setup.ensures c.sound.ensures)
+    coherent-laid h c.loop-place.place r c.loop-place.outline (subst IsSetup c.setup.ensures.setup c.in_ok-outline.ensures.sound)
     c.requires at c.loop-place.invariant.outline in
     let last =
     ap (λ n. eqb (c.loop-place.place + 1) n)
-    (c.len-in-loop-place.ensures ∙ ap (λ (rs : List Record). length rs) c.records-records.ensures)
+    (c.len-in-loop-place.ensures.count ∙ ap (λ (rs : List Record). length rs) c.records-records.ensures.records)
     ∙ coherent-last h c.loop-place.place r c.requires at in
     let more = machine-more h c.loop-place.place r at in
     record {
@@ -51,9 +51,9 @@ loop-place-preserved c =
       outline = subst (λ (n : Machine). IsOutlineOf n c.next.new.self) (sym more) (c.in_ok-fact.ensures.outline m laid);
     }
 
-pub returns : goal.returns
-returns c =
+pub returns-clause-facts : goal.returns-clause-facts
+returns-clause-facts c =
     all-came true (order.reads_in c.records-records.result.now) (machine_at c.args.history.now c.loop-place.place)
     c.records-records.result.now c.loop-place.place c.loop-place.facts.items (order.facts c.args.history.now)
-    (let end = c.len-place-end.ensures in omega arith)
+    (let end = c.len-place-end.ensures.count in omega arith)
     c.loop-place.invariant.come

@@ -30,13 +30,12 @@ fn write_setup(out: &mut Vec<u8>, setup: &Setup) -> Result<(), AllocError>
         ++ word (length setup.now.elf) ++ setup.now.elf ++ word (length setup.now.input) ++ setup.now.input
         ++ word setup.now.fuel ++ word setup.now.limit) }
 {
-    setup.sound();
+    let limits = setup.limits();
     out.extend_from_slice(&MAGIC)?;
     put_word(out, VERSION)?;
     put_word(out, PROFILE)?;
     write_sized(out, setup.elf())?;
     write_sized(out, setup.input())?;
-    let limits = setup.limits();
     put_word(out, limits.fuel())?;
     put_word(out, limits.steps())
 }
@@ -67,7 +66,6 @@ fn write_records(
     ensures { OnOk result (out.new.items ≡ out.old.items
         ++ flat_map (record_bytes slots.now (pages_lent pool.now.pages.items)) history.now.records) }
 {
-    history.keeps();
     let records = history.records();
     let mut start = 0;
     for place in 0..records.len() {
@@ -92,7 +90,6 @@ pub fn write_body(
     ensures { OnOk result (out.new.items ≡ body Version2 history.now) }
 {
     write_setup(out, history.setup())?;
-    history.keeps();
     put_word(out, history.records().len() as u32)?;
     write_pool(out, &pool.pages)?;
     write_records(out, slots, pool, history)

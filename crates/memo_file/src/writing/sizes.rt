@@ -14,8 +14,8 @@ use thunk_record::Record;
 fn marked_count(mask: &Mask) -> usize
     ensures count { result ≡ marks_in mask.now }
     ensures most { result ≤ PAGE_SIZE }
+    ensures whole { length mask.now ≡ PAGE_SIZE }
 {
-    mask.whole();
     let mut count = 0;
     for number in 0..MASK_WORDS {
         count += mask.word(number).count_ones() as usize;
@@ -29,7 +29,6 @@ fn size_of_stored(delta: &PageDelta) -> u64
     ensures most { result ≤ 4612 }
 {
     let kept = delta.stored();
-    kept.mask.whole();
     kept.page.bytes();
     516 + marked_count(kept.mask) as u64
 }
@@ -54,7 +53,6 @@ pub fn size_of_memo(history: &History, pool: usize) -> u64
     ensures { result ≡ memo_size history.now pool }
 {
     let setup = history.setup();
-    setup.sound();
     let records = history.records();
     let mut size = 68 + setup.elf().len() as u64 + setup.input().len() as u64 + 4096 * pool as u64;
     for place in 0..records.len() {

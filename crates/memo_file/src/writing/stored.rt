@@ -14,7 +14,6 @@ use store_mask::{MASK_WORDS, Mask, PageDelta};
 fn write_mask(out: &mut Vec<u8>, mask: &Mask) -> Result<(), AllocError>
     ensures { OnOk result (out.new.items ≡ out.old.items ++ mask_bytes mask.now) }
 {
-    mask.whole();
     for number in 0..MASK_WORDS {
         out.extend_from_slice(&mask.word(number).to_le_bytes())?;
     }
@@ -25,11 +24,11 @@ fn write_mask(out: &mut Vec<u8>, mask: &Mask) -> Result<(), AllocError>
 fn write_word(out: &mut Vec<u8>, mask: &Mask, page: &[u8], number: usize) -> Result<(), AllocError>
     requires whole { length page.now ≡ PAGE_SIZE }
     requires within { number < 64 }
-    ensures { OnOk result
+    ensures whole { length mask.now ≡ PAGE_SIZE }
+    ensures marked { OnOk result
         (out.new.items ++ chosen (drop (64 * (number + 1)) mask.now) (drop (64 * (number + 1)) page.now)
         ≡ out.old.items ++ chosen (drop (64 * number) mask.now) (drop (64 * number) page.now)) }
 {
-    mask.whole();
     let mut place = 64 * number;
     let mut left = mask.word(number);
     if left == u64::MAX {
@@ -51,7 +50,6 @@ fn write_marked(out: &mut Vec<u8>, mask: &Mask, page: &[u8]) -> Result<(), Alloc
     requires { length page.now ≡ PAGE_SIZE }
     ensures { OnOk result (out.new.items ≡ out.old.items ++ chosen mask.now page.now) }
 {
-    mask.whole();
     for number in 0..MASK_WORDS {
         write_word(out, mask, page, number)?;
     }

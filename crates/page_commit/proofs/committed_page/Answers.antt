@@ -21,7 +21,7 @@ returns-then-slot c =
     ∙ found c.args.table.now c.pages-stored-items.result.now _ c.stored-item.result c.loop-stored.stored-index 0
     c.args.slot (ap (deltas_ascend 0) c.pages-stored-items.ensures.pages ∙ c.pages-stored-items.ensures.ascending)
     (split _ _ _ c.stored-item.is c.loop-stored-test.true) (sym c.slot.ensures ∙ c.if-slot.true) c.requires in
-    c.written.ensures ∙ ap (spread c.stored-item.result.mask c.stored-item.result.bytes) c.page.ensures ∙ sym page
+    c.written.ensures ∙ ap (spread c.stored-item.result.mask c.stored-item.result.bytes) c.page.ensures.page ∙ sym page
     ∙ ap (λ delta. page_of (masked c.args.table.now delta) c.args.slot) c.pages-stored-items.ensures.pages
 
 pub loop-stored-preserved : goal.loop-stored-preserved

@@ -18,7 +18,7 @@ returns-clause-scratch c = λ sound.
     subst IsFromScratch
     (sym c.loop-event.invariant.0 ∙ ap (all_happen c.loop-event.driven.round)
     (drop_all c.loop-event.event-index c.args.events.now c.loop-event-test.false))
-    (round-scratch c.args.setup (option_map arc_value c.args.past) c.args.events.now c.sound.ensures sound)
+    (round-scratch c.args.setup (option_map arc_value c.args.past) c.args.events.now c.in_ok-driven.ensures.sound sound)
 
 pub returns-clause-every_order : goal.returns-clause-every_order
 returns-clause-every_order c = λ h places past unedited order are.

@@ -46,5 +46,5 @@ returns-clause-played g c =
     setup c.in_ok-round.ensures.past c.in_ok-round.ensures.stands is cost.2 cost.1
     (c.in_ok-text.ensures ∙ ap (λ (shares : List ℕ). short_text c.args.next.number (told_as_made w no_extras shares))
     c.as_slice.ensures.value)
-    (c.is_exit-exited.ensures ∙ ap is_exit c.end.ensures)
+    (c.is_exit-exited.ensures ∙ ap is_exit c.end.ensures.ending)
     (shared ∙ left)

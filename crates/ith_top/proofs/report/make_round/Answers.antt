@@ -51,5 +51,5 @@ returns-clause-played g c =
     setup c.in_ok-round.ensures.past c.in_ok-round.ensures.stands refl is
     (λ yes. c.in_ok-round.ensures.watched yes) cost.2 cost.1
     (c.in_ok-text.ensures.text ∙ ap (report_text c.args.next.number) (let told = c.in_ok-told.ensures in search rules))
-    (c.is_exit-exited.ensures ∙ ap is_exit c.end.ensures)
+    (c.is_exit-exited.ensures ∙ ap is_exit c.end.ensures.ending)
     (shared ∙ left)

@@ -32,7 +32,7 @@ and-found-requires-clause-places g c =
     let found : IsFoundIn c.in_ok-claims.claims.items c.in_ok-more.more =
     rw (← c.as_slice.ensures.value) c.in_ok-more.ensures in
     places-fit c.in_ok-claims.claims.items c.in_ok-more.more.first c.loop-place.place found.first
-    (omega (arith, c.in_ok-claims.ensures.few, c.keeps.ensures.few))
+    (omega (arith, c.in_ok-claims.ensures.few, c.len.ensures.of_run.few))
 
 pub loop-place-preserved : goal.loop-place-preserved
 loop-place-preserved g c =

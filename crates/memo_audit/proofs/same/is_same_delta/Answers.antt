@@ -10,4 +10,4 @@ returns c =
     let masks : mine.mask.now ≡ theirs.mask.now = search rules in
     delta_same c.args.a.now c.args.b.now mine.mask.now theirs.mask.now mine.page.now theirs.page.now
     c.written.result c.eq.result c.stored-mine.ensures.delta c.stored-theirs.ensures.delta slots masks
-    c.whole.ensures c.bytes-mine.ensures.whole c.bytes-theirs.ensures.whole c.written.ensures c.eq.ensures.same
+    c.is_same_mask.ensures.whole c.bytes-mine.ensures.whole c.bytes-theirs.ensures.whole c.written.ensures c.eq.ensures.same

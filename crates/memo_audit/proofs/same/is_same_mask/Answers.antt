@@ -3,9 +3,13 @@ use Rattle.std.proofs.Common.{refl, arith}
 use Rattle.memo_audit.proofs.Masking.{words-same}
 use Rattle.memo_audit.proofs.same.is_same_mask.Goals as goal
 
-pub returns : goal.returns
-returns c = (
-  λ yes. words-same c.args.a.now c.args.b.now c.whole.ensures c.whole-2.ensures
-      (λ number lt. c.loop-number.invariant number (omega (arith, lt))),
-  λ same. refl,
-)
+pub returns-clause-same : goal.returns-clause-same
+returns-clause-same c =
+    let whole = c.loop-number.invariant.whole (omega (arith, c.loop-number-test.false)) in (
+      λ yes. words-same c.args.a.now c.args.b.now whole.0 whole.1
+          (λ number lt. c.loop-number.invariant.same number (omega (arith, lt))),
+      λ same. refl,
+    )
+
+pub returns-clause-whole : goal.returns-clause-whole
+returns-clause-whole c = (c.loop-number.invariant.whole (omega (arith, c.loop-number-test.false))).0

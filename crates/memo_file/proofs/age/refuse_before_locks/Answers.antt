@@ -8,14 +8,14 @@ use Rattle.memo_file.proofs.age.refuse_before_locks.Goals as goal
 
 pub returns-then-count-eq0-clause-today : goal.returns-then-count-eq0-clause-today
 returns-then-count-eq0-clause-today c = none_locked c.args.history.now
-    (omega (arith, ap length c.records-records.ensures))
+    (omega (arith, ap length c.records-records.ensures.records))
 
 pub returns-then-ends_at_lock-clause-before : goal.returns-then-ends_at_lock-clause-before
 returns-then-ends_at_lock-clause-before c =
     let h = c.args.history.now in let r = c.deref.result.now in let k = c.len-count.result - 1 in
-    let all = ap length c.records-records.ensures in
+    let all = ap length c.records-records.ensures.records in
     let count : suc k ≡ length h.records = omega arith in
-    let at : slice_get h.records k ≡ Some r = rw (← c.records-records.ensures, c.deref.ensures) c.at.ensures in (
+    let at : slice_get h.records k ≡ Some r = rw (← c.records-records.ensures.records, c.deref.ensures) c.at.ensures in (
       lock_is h k r count at ∙ sym c.ends_at_lock.ensures ∙ c.if-ends_at_lock.true,
       ap (λ (n : ℕ). Refused (Old n)) (omega arith),
     )
@@ -23,7 +23,7 @@ returns-then-ends_at_lock-clause-before c =
 pub returns-else-ends_at_lock-clause-today : goal.returns-else-ends_at_lock-clause-today
 returns-else-ends_at_lock-clause-today c =
     let h = c.args.history.now in let r = c.deref.result.now in let k = c.len-count.result - 1 in
-    let all = ap length c.records-records.ensures in
+    let all = ap length c.records-records.ensures.records in
     let count : suc k ≡ length h.records = omega arith in
-    let at : slice_get h.records k ≡ Some r = rw (← c.records-records.ensures, c.deref.ensures) c.at.ensures in
+    let at : slice_get h.records k ≡ Some r = rw (← c.records-records.ensures.records, c.deref.ensures) c.at.ensures in
     lock_is h k r count at ∙ sym c.ends_at_lock.ensures ∙ c.if-ends_at_lock.false

@@ -9,7 +9,7 @@ pub returns-then-get : goal.returns-then-get
 returns-then-get c =
     let d = c.args.page.now in
     let s : StoredPage = record { page = c.stored-stored.result.page.now; mask = c.stored-stored.result.mask.now } in
-    let marked : slice_index_or s.mask c.args.offset false ≡ true = sym c.get.ensures ∙ c.if-get.true in
+    let marked : slice_index_or s.mask c.args.offset false ≡ true = sym c.get.ensures.mark ∙ c.if-get.true in
     let page = c.bytes-bytes.ensures.value in
     let whole = c.bytes-bytes.ensures.whole in
     rw (mask_is d s c.stored-stored.ensures.delta, marked, page) (sym (stored_at d s c.args.offset

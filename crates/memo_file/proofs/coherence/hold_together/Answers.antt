@@ -13,7 +13,7 @@ returns-in-Err-Stale c =
     let f = stale_at rs c.loop-i.core c.loop-i.i r (incoherent_from 0 c.args.core rs) (omega arith) e
     (rw c.in-Err-Stale.field-0-is at c.in-Err-Stale.ensures.cause) c.loop-i.invariant in
     ap (λ (o : Option ℕ). coherent_or o c.args.history.now)
-    (ap (incoherent_from 0 c.args.core) (sym c.records-records.ensures) ∙ f)
+    (ap (incoherent_from 0 c.args.core) (sym c.records-records.ensures.records) ∙ f)
 
 pub loop-i-preserved : goal.loop-i-preserved
 loop-i-preserved c =

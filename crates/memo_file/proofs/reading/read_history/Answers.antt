@@ -7,13 +7,13 @@ use Rattle.memo_file.proofs.reading.read_history.Goals as goal
 pub pool_and_records-requires-clause-slots : goal.pool_and_records-requires-clause-slots
 pool_and_records-requires-clause-slots c =
     let e : c.map.result.now ≡ c.in_ok-core.core.frame.map = search rules in
-    map_is c.in_ok-setup.setup c.in_ok-core.core c.map.result.now c.in_ok-core.ensures e
+    map_is c.in_ok-setup.setup c.in_ok-core.core c.map.result.now c.in_ok-core.ensures.first e
 
 pub pool_and_records-requires-clause-small : goal.pool_and_records-requires-clause-small
 pool_and_records-requires-clause-small c =
     let e : c.map.result.now ≡ c.in_ok-core.core.frame.map = search rules in
-    let m = map_is c.in_ok-setup.setup c.in_ok-core.core c.map.result.now c.in_ok-core.ensures e in
-    rw m (small_pages c.in_ok-setup.setup c.sound.ensures)
+    let m = map_is c.in_ok-setup.setup c.in_ok-core.core c.map.result.now c.in_ok-core.ensures.first e in
+    rw m (small_pages c.in_ok-setup.setup c.in_ok-core.ensures.sound)
 
 pub new-requires-2 : goal.new-requires-2
 new-requires-2 c =

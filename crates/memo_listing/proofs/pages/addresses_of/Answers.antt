@@ -8,11 +8,11 @@ use Rattle.memo_listing.proofs.pages.addresses_of.Goals as goal
 
 pub overflow_cast-address : goal.overflow_cast-address
 overflow_cast-address c =
-    word_address c.args.setup.now c.in_ok-map.map c.loop-slot.slot c.address.result c.sound.ensures c.in_ok-map.ensures
+    word_address c.args.setup.now c.in_ok-map.map c.loop-slot.slot c.address.result c.in_ok-map.ensures.sound c.in_ok-map.ensures.map
     (omega arith) c.address.ensures
 
 pub returns : goal.returns
 returns c =
     c.loop-slot.invariant
     ∙ ap (λ pages. map (λ (page : Mapped). page.number * 4096) pages)
-    (take_all _ (map_of c.args.setup.now) (omega (arith, ap length c.in_ok-map.ensures)))
+    (take_all _ (map_of c.args.setup.now) (omega (arith, ap length c.in_ok-map.ensures.map)))

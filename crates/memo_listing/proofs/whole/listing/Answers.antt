@@ -7,5 +7,5 @@ use Rattle.memo_listing.proofs.whole.listing.Goals as goal
 pub append_entries-requires : goal.append_entries-requires
 append_entries-requires c =
     mapped_records c.args.history.now _ _
-    (c.as_slice.ensures.value ∙ c.in_ok-addresses.ensures ∙ ap addresses_of c.setup-setup.ensures)
-    c.records-records.ensures c.keeps.ensures.mapped
+    (c.as_slice.ensures.value ∙ c.in_ok-addresses.ensures ∙ ap addresses_of c.setup-setup.ensures.setup)
+    c.records-records.ensures.records c.records-records.ensures.mapped

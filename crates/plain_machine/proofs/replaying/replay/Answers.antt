@@ -29,7 +29,7 @@ loop-i-preserved c =
     let below : i < length all = omega arith in
     let before : c.loop-i.machine ≡ scratch_from m (take i all) = c.loop-i.invariant.machine in
     let may : can_step (scratch_from m (take i all)) t ≡ true =
-    ap (λ (x : Machine). can_step x t) (sym before) ∙ sym c.if-not-can_step.ensures in
+    ap (λ (x : Machine). can_step x t) (sym before) ∙ sym c.if-not-can_step.ensures.can in
     let count : c.from-instructions.result ≡ (thunk_of (scratch_from m (take i all)) t).count =
     c.from-instructions.ensures ∙ c.in_ok-next.ensures.made.count
     ∙ ap (λ (x : Machine). (thunk_of x t).count) before in
@@ -54,6 +54,6 @@ loop-i-preserved c =
         c.loop-i.invariant.few,
         c.from-instructions.ensures,
         c.in_ok-next.ensures.most,
-        c.whole.ensures.limits.most_fuel,
+        c.can_step.ensures.whole.limits.most_fuel,
       );
     }

@@ -7,35 +7,35 @@ use Rattle.propagate.proofs.alone.run_alone.Goals as goal
 
 pub returns-clause-threads : goal.returns-clause-threads
 returns-clause-threads c =
-    alone-threads c.args.setup (option_map arc_value c.args.past) _ c.sound.ensures c.in_ok-round.ensures.alone
+    alone-threads c.args.setup (option_map arc_value c.args.past) _ c.in_ok-round.ensures.sound c.in_ok-round.ensures.alone
 
 pub returns-clause-permitted : goal.returns-clause-permitted
 returns-clause-permitted c =
-    alone-permitted c.args.setup (option_map arc_value c.args.past) _ c.sound.ensures c.in_ok-round.ensures.alone
+    alone-permitted c.args.setup (option_map arc_value c.args.past) _ c.in_ok-round.ensures.sound c.in_ok-round.ensures.alone
 
 pub returns-clause-complete : goal.returns-clause-complete
 returns-clause-complete c =
-    alone-complete c.args.setup (option_map arc_value c.args.past) _ c.sound.ensures c.in_ok-round.ensures.alone
+    alone-complete c.args.setup (option_map arc_value c.args.past) _ c.in_ok-round.ensures.sound c.in_ok-round.ensures.alone
 
 pub returns-clause-scratch : goal.returns-clause-scratch
 returns-clause-scratch c =
-    alone-scratch c.args.setup (option_map arc_value c.args.past) _ c.sound.ensures c.in_ok-round.ensures.alone
+    alone-scratch c.args.setup (option_map arc_value c.args.past) _ c.in_ok-round.ensures.sound c.in_ok-round.ensures.alone
 
 pub returns-clause-picked : goal.returns-clause-picked
 returns-clause-picked c =
-    alone-picked c.args.setup (option_map arc_value c.args.past) _ c.sound.ensures c.in_ok-round.ensures.alone
+    alone-picked c.args.setup (option_map arc_value c.args.past) _ c.in_ok-round.ensures.sound c.in_ok-round.ensures.alone
 
 pub returns-clause-least : goal.returns-clause-least
 returns-clause-least c =
-    alone-least c.args.setup (option_map arc_value c.args.past) _ c.sound.ensures c.in_ok-round.ensures.alone
+    alone-least c.args.setup (option_map arc_value c.args.past) _ c.in_ok-round.ensures.sound c.in_ok-round.ensures.alone
 
 pub returns-clause-ends : goal.returns-clause-ends
 returns-clause-ends c =
-    alone-ends c.args.setup (option_map arc_value c.args.past) _ c.sound.ensures c.in_ok-round.ensures.alone
+    alone-ends c.args.setup (option_map arc_value c.args.past) _ c.in_ok-round.ensures.sound c.in_ok-round.ensures.alone
 
 pub returns-clause-discarded : goal.returns-clause-discarded
 returns-clause-discarded c =
-    alone-discarded c.args.setup (option_map arc_value c.args.past) _ c.sound.ensures c.in_ok-round.ensures.alone
+    alone-discarded c.args.setup (option_map arc_value c.args.past) _ c.in_ok-round.ensures.sound c.in_ok-round.ensures.alone
 
 pub returns-clause-unedited : goal.returns-clause-unedited
 returns-clause-unedited c =

@@ -16,7 +16,7 @@ make-requires c =
     c.in_ok-run.ensures.run in
     subst (λ (f : Frame). CanCommit c.take.new.self f (arc_value c.in_ok-run.run'.rec))
     (sym (c.in_ok-run.ensures.run.frame ∙ c.in_ok-job.ensures.job.frame))
-    (own-commits c.args.round.now c.take.new.self c.args.t (arc_value c.in_ok-run.run'.rec) c.keeps.ensures.in_order
+    (own-commits c.args.round.now c.take.new.self c.args.t (arc_value c.in_ok-run.run'.rec) c.take.ensures.valid.in_order
     c.requires c.in_ok-job.ensures.ok own)
 
 with_ok : {P Q : Type 0} (r : Result (Unit {0}) AllocError) → (P → Q) → OnOk r P → OnOk r Q
@@ -29,7 +29,7 @@ returns-clause-cost c =
     (λ committed.
     let counts =
     own-counts c.args.round.now c.take.new.self c.make.new.self c.args.t (arc_value c.in_ok-run.run'.rec)
-    c.keeps.ensures.in_order c.keeps.ensures.counted
+    c.take.ensures.valid.in_order c.take.ensures.valid.counted
     c.requires c.in_ok-job.ensures.ok committed
     (run-record c.args.round.now.machine c.args.t c.in_ok-job.job c.in_ok-run.run' c.in_ok-job.ensures.job
     c.in_ok-run.ensures.run) in

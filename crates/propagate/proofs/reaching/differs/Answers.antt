@@ -14,7 +14,7 @@ pub returns-then-slot-len : goal.returns-then-slot-len
 returns-then-slot-len c =
     let old = c.args.old.now in
     let new = c.args.new.now in
-    let full : length (page_of old c.args.slot) ≡ 4096 = c.whole.ensures c.args.slot [] c.requires in
+    let full : length (page_of old c.args.slot) ≡ 4096 = c.page-page.ensures.whole c.args.slot [] c.requires in
     let none : page_of new c.args.slot ≡ [] = get_or_past new c.args.slot [] (omega arith) in
     let past : leb c.len.result c.args.slot ≡ true = grind (arith, nat_tests) in
     past

@@ -16,7 +16,7 @@ reach-requires c =
     let reads = c.in_ok-reads.reads.items in
     ap (λ (l : List (Vec ℕ Global)). length l) c.deref.ensures.value
     ∙ sym (length-map reads (λ (v : Vec ℕ Global). v.items))
-    ∙ ap (λ (l : List (List ℕ)). length l) c.in_ok-reads.ensures
+    ∙ ap (λ (l : List (List ℕ)). length l) c.in_ok-reads.ensures.slots
     ∙ length-map h.records (λ (r : Record). read_slots r)
     ∙ sym (facts-length h)
     ∙ ap (λ (l : List Fact). length l) (sym c.requires)
@@ -29,5 +29,5 @@ count_set-requires c =
     ap (λ (l : List Bool). length l) (c.deref-3.ensures.value ∙ c.in_ok-flags.ensures)
     ∙ length-map-range_with_len (is_reached graph (slots_of_each c.deref.result.now) c.deref-2.result.now) 0 (length graph) in
     let steps : length graph ≡ length h.records = ap (λ (l : List Fact). length l) c.requires ∙ facts-length h in
-    let few = c.keeps.ensures.records.few in
+    let few = c.in_ok-reads.ensures.of_run.few in
     omega arith

@@ -74,7 +74,7 @@ index_mut-page-requires c =
     let t = get_or c.deref-touch-items.result.now c.loop-touch.touch-index none in
     let long = c.len-place-end.ensures in
     let is =
-    adding.step-is fs reads pages j c.in_ok-steps.steps.items s c.in_ok-steps.ensures
+    adding.step-is fs reads pages j c.in_ok-steps.steps.items s c.in_ok-steps.ensures.steps
     (let low = c.loop-place-test.true in omega arith) c.index-step.ensures in
     let touched = adding.touch-is fs reads pages j s is c.deref-touch-items.result.now c.loop-touch.touch-index none
     c.deref-touch-items.ensures.value c.loop-touch-test.true in
@@ -91,7 +91,7 @@ add-requires-clause-past c =
     let n = c.len-place-end.result in
     let s = c.index-step.result.now in
     let is =
-    adding.step-is fs reads pages j c.in_ok-steps.steps.items s c.in_ok-steps.ensures
+    adding.step-is fs reads pages j c.in_ok-steps.steps.items s c.in_ok-steps.ensures.steps
     (let low = c.loop-place-test.true in let long = c.len-place-end.ensures in omega arith) c.index-step.ensures in
     let m = c.loop-touch.touch-index in
     let t = get_or c.deref-touch-items.result.now m none in
@@ -113,7 +113,7 @@ add-requires-in-loop-touch-clause-past c =
     let n = c.len-place-end.result in
     let s = c.index-step.result.now in
     let is =
-    adding.step-is fs reads pages j c.in_ok-steps.steps.items s c.in_ok-steps.ensures
+    adding.step-is fs reads pages j c.in_ok-steps.steps.items s c.in_ok-steps.ensures.steps
     (let low = c.loop-place-test.true in let long = c.len-place-end.ensures in omega arith) c.index-step.ensures in
     let m = c.loop-touch.touch-index in
     let t = get_or c.deref-touch-items.result.now m none in
@@ -135,10 +135,10 @@ overflow_add-total c =
     let n = c.len-place-end.result in
     let s = c.index-step.result.now in
     let is =
-    adding.step-is fs reads pages j c.in_ok-steps.steps.items s c.in_ok-steps.ensures
+    adding.step-is fs reads pages j c.in_ok-steps.steps.items s c.in_ok-steps.ensures.steps
     (let low = c.loop-place-test.true in let long = c.len-place-end.ensures in omega arith) c.index-step.ensures in
     let known =
-    adding.threads-known fs reads pages j c.in_ok-steps.steps.items s c.in_ok-steps.ensures
+    adding.threads-known fs reads pages j c.in_ok-steps.steps.items s c.in_ok-steps.ensures.steps
     (let low = c.loop-place-test.true in let long = c.len-place-end.ensures in omega arith) in
     let m = c.loop-touch.touch-index in
     let t = get_or c.deref-touch-items.result.now m none in
@@ -150,14 +150,14 @@ overflow_add-total c =
     adding.page-has fs reads t.slot j m s c.loop-touch.past.items page (c.loop-touch.invariant.past t.slot page touched.below)
     c.index_mut-page.ensures.value in
     let steps_few : n ≤ 65536 =
-    (let many = c.in_ok-steps.ensures.many in
+    (let many = c.in_ok-steps.ensures.steps.many in
     let long = c.len-place-end.ensures in
     let count = fact-count c.args.history.now in
-    let few = c.keeps.ensures.records.few in
+    let few = c.in_ok-steps.ensures.of_run.few in
     omega arith) in
     let pages_few : pages ≤ 1048576 =
     (let small =
-    few-pages c.setup-setup.result.now c.in_ok-map.map c.sound.ensures c.in_ok-map.ensures c.len-pages.ensures.ascending in
+    few-pages c.setup-setup.result.now c.in_ok-map.map c.in_ok-map.ensures.sound c.in_ok-map.ensures.map c.len-pages.ensures.ascending in
     let size = c.len-pages.ensures.count in
     omega arith) in
     let low : j < n = c.loop-place-test.true in
@@ -179,10 +179,10 @@ add-requires-clause-room c =
     let n = c.len-place-end.result in
     let s = c.index-step.result.now in
     let is =
-    adding.step-is fs reads pages j c.in_ok-steps.steps.items s c.in_ok-steps.ensures
+    adding.step-is fs reads pages j c.in_ok-steps.steps.items s c.in_ok-steps.ensures.steps
     (let low = c.loop-place-test.true in let long = c.len-place-end.ensures in omega arith) c.index-step.ensures in
     let known =
-    adding.threads-known fs reads pages j c.in_ok-steps.steps.items s c.in_ok-steps.ensures
+    adding.threads-known fs reads pages j c.in_ok-steps.steps.items s c.in_ok-steps.ensures.steps
     (let low = c.loop-place-test.true in let long = c.len-place-end.ensures in omega arith) in
     let m = c.loop-touch.touch-index in
     let t = get_or c.deref-touch-items.result.now m none in
@@ -194,14 +194,14 @@ add-requires-clause-room c =
     adding.page-has fs reads t.slot j m s c.loop-touch.past.items page (c.loop-touch.invariant.past t.slot page touched.below)
     c.index_mut-page.ensures.value in
     let steps_few : n ≤ 65536 =
-    (let many = c.in_ok-steps.ensures.many in
+    (let many = c.in_ok-steps.ensures.steps.many in
     let long = c.len-place-end.ensures in
     let count = fact-count c.args.history.now in
-    let few = c.keeps.ensures.records.few in
+    let few = c.in_ok-steps.ensures.of_run.few in
     omega arith) in
     let pages_few : pages ≤ 1048576 =
     (let small =
-    few-pages c.setup-setup.result.now c.in_ok-map.map c.sound.ensures c.in_ok-map.ensures c.len-pages.ensures.ascending in
+    few-pages c.setup-setup.result.now c.in_ok-map.map c.in_ok-map.ensures.sound c.in_ok-map.ensures.map c.len-pages.ensures.ascending in
     let size = c.len-pages.ensures.count in
     omega arith) in
     let low : j < n = c.loop-place-test.true in
@@ -222,7 +222,7 @@ add-requires-in-loop-touch-clause-known c =
     let n = c.len-place-end.result in
     let s = c.index-step.result.now in
     let is =
-    adding.step-is fs reads pages j c.in_ok-steps.steps.items s c.in_ok-steps.ensures
+    adding.step-is fs reads pages j c.in_ok-steps.steps.items s c.in_ok-steps.ensures.steps
     (let low = c.loop-place-test.true in let long = c.len-place-end.ensures in omega arith) c.index-step.ensures in
     let known = is.known in
     let thread = ap (λ (a : Access). a.thread) c.of.ensures in
@@ -237,10 +237,10 @@ add-requires-in-loop-touch-clause-after c =
     let n = c.len-place-end.result in
     let s = c.index-step.result.now in
     let is =
-    adding.step-is fs reads pages j c.in_ok-steps.steps.items s c.in_ok-steps.ensures
+    adding.step-is fs reads pages j c.in_ok-steps.steps.items s c.in_ok-steps.ensures.steps
     (let low = c.loop-place-test.true in let long = c.len-place-end.ensures in omega arith) c.index-step.ensures in
     let known =
-    adding.threads-known fs reads pages j c.in_ok-steps.steps.items s c.in_ok-steps.ensures
+    adding.threads-known fs reads pages j c.in_ok-steps.steps.items s c.in_ok-steps.ensures.steps
     (let low = c.loop-place-test.true in let long = c.len-place-end.ensures in omega arith) in
     let m = c.loop-touch.touch-index in
     let t = get_or c.deref-touch-items.result.now m none in
@@ -263,10 +263,10 @@ loop-touch-preserved c =
     let n = c.len-place-end.result in
     let s = c.index-step.result.now in
     let is =
-    adding.step-is fs reads pages j c.in_ok-steps.steps.items s c.in_ok-steps.ensures
+    adding.step-is fs reads pages j c.in_ok-steps.steps.items s c.in_ok-steps.ensures.steps
     (let low = c.loop-place-test.true in let long = c.len-place-end.ensures in omega arith) c.index-step.ensures in
     let known =
-    adding.threads-known fs reads pages j c.in_ok-steps.steps.items s c.in_ok-steps.ensures
+    adding.threads-known fs reads pages j c.in_ok-steps.steps.items s c.in_ok-steps.ensures.steps
     (let low = c.loop-place-test.true in let long = c.len-place-end.ensures in omega arith) in
     let m = c.loop-touch.touch-index in
     let t = get_or c.deref-touch-items.result.now m none in
@@ -325,10 +325,10 @@ loop-place-preserved c =
     let n = c.len-place-end.result in
     let s = c.index-step.result.now in
     let is =
-    adding.step-is fs reads pages j c.in_ok-steps.steps.items s c.in_ok-steps.ensures
+    adding.step-is fs reads pages j c.in_ok-steps.steps.items s c.in_ok-steps.ensures.steps
     (let low = c.loop-place-test.true in let long = c.len-place-end.ensures in omega arith) c.index-step.ensures in
     let known =
-    adding.threads-known fs reads pages j c.in_ok-steps.steps.items s c.in_ok-steps.ensures
+    adding.threads-known fs reads pages j c.in_ok-steps.steps.items s c.in_ok-steps.ensures.steps
     (let low = c.loop-place-test.true in let long = c.len-place-end.ensures in omega arith) in
     let m = c.loop-touch.touch-index in
     let low : j < n = c.loop-place-test.true in
@@ -376,10 +376,10 @@ returns-clause-total c =
     ∙ races-summed fs reads pages n
     ∙ ap (λ (rs : List Race). length rs)
     (whole-races h pages n
-    (c.len-pages.ensures.count ∙ ap (λ (ps : List Mapped). length ps) c.in_ok-map.ensures
-    ∙ ap (λ (x : Setup). length (map_of x)) c.setup-setup.ensures)
+    (c.len-pages.ensures.count ∙ ap (λ (ps : List Mapped). length ps) c.in_ok-map.ensures.map
+    ∙ ap (λ (x : Setup). length (map_of x)) c.setup-setup.ensures.setup)
     (let long = c.len-place-end.ensures in
-    let many = c.in_ok-steps.ensures.many in
+    let many = c.in_ok-steps.ensures.steps.many in
     let count = fact-count h in
     omega arith))
 
@@ -407,9 +407,9 @@ returns-clause-first c =
     ])
     ∙ ap (take c.args.most)
     (whole-races h pages n
-    (c.len-pages.ensures.count ∙ ap (λ (ps : List Mapped). length ps) c.in_ok-map.ensures
-    ∙ ap (λ (x : Setup). length (map_of x)) c.setup-setup.ensures)
+    (c.len-pages.ensures.count ∙ ap (λ (ps : List Mapped). length ps) c.in_ok-map.ensures.map
+    ∙ ap (λ (x : Setup). length (map_of x)) c.setup-setup.ensures.setup)
     (let long = c.len-place-end.ensures in
-    let many = c.in_ok-steps.ensures.many in
+    let many = c.in_ok-steps.ensures.steps.many in
     let count = fact-count h in
     omega arith))

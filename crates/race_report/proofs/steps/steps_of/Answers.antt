@@ -62,12 +62,12 @@ count-next fs numbers i t u is below counts =
 
 pub of_sync-requires-clause-few : goal.of_sync-requires-clause-few
 of_sync-requires-clause-few c =
-    few-facts c.deref.result.now c.args.history.now (c.deref.ensures.value ∙ c.in_ok-facts.ensures) c.keeps.ensures.records
+    few-facts c.deref.result.now c.args.history.now (c.deref.ensures.value ∙ c.in_ok-facts.ensures.facts) c.in_ok-facts.ensures.of_run
 
 pub of_sync-requires-clause-threads : goal.of_sync-requires-clause-threads
 of_sync-requires-clause-threads c =
-    subst (All (λ (f : Fact). f.thread < 32)) (sym (c.deref.ensures.value ∙ c.in_ok-facts.ensures))
-    (have-threads c.args.history.now c.keeps.ensures.records.threads)
+    subst (All (λ (f : Fact). f.thread < 32)) (sym (c.deref.ensures.value ∙ c.in_ok-facts.ensures.facts))
+    (have-threads c.args.history.now c.in_ok-facts.ensures.of_run.threads)
 
 pub loop-i-init : goal.loop-i-init
 loop-i-init c = record {
@@ -82,7 +82,7 @@ bounds-numbers-from c =
     let fs = c.in_ok-facts.facts.items in
     let less : c.loop-i.i < length fs = omega arith in
     let here = c.fact.view_is ∙ get_or_read fs c.loop-i.i c.index-fact.result.now less c.index-fact.ensures no_fact in
-    let known = known-thread fs c.args.history.now c.loop-i.i c.in_ok-facts.ensures c.keeps.ensures.records less in
+    let known = known-thread fs c.args.history.now c.loop-i.i c.in_ok-facts.ensures.facts c.in_ok-facts.ensures.of_run less in
     let same = c.from.ensures ∙ ap (λ (f : Fact). f.thread) here in
     omega arith
 
@@ -91,7 +91,7 @@ bounds-numbers-from-in-loop-i c =
     let fs = c.in_ok-facts.facts.items in
     let less : c.loop-i.i < length fs = omega arith in
     let here = c.fact.view_is ∙ get_or_read fs c.loop-i.i c.index-fact.result.now less c.index-fact.ensures no_fact in
-    let known = known-thread fs c.args.history.now c.loop-i.i c.in_ok-facts.ensures c.keeps.ensures.records less in
+    let known = known-thread fs c.args.history.now c.loop-i.i c.in_ok-facts.ensures.facts c.in_ok-facts.ensures.of_run less in
     let same = c.from-in-loop-i.ensures ∙ ap (λ (f : Fact). f.thread) here in
     omega arith
 
@@ -100,15 +100,15 @@ bounds-numbers-from-in-loop-i-2 c =
     let fs = c.in_ok-facts.facts.items in
     let less : c.loop-i.i < length fs = omega arith in
     let here = c.fact.view_is ∙ get_or_read fs c.loop-i.i c.index-fact.result.now less c.index-fact.ensures no_fact in
-    let known = known-thread fs c.args.history.now c.loop-i.i c.in_ok-facts.ensures c.keeps.ensures.records less in
+    let known = known-thread fs c.args.history.now c.loop-i.i c.in_ok-facts.ensures.facts c.in_ok-facts.ensures.of_run less in
     let same = c.from-in-loop-i.ensures ∙ ap (λ (f : Fact). f.thread) here in
     omega arith
 
 pub at-requires : goal.at-requires
 at-requires c =
     let many = fact-count c.args.history.now in
-    let one = ap (λ (fs : List Fact). length fs) c.in_ok-facts.ensures in
-    let two = ap (λ (rs : List Record). length rs) c.records-records.ensures in
+    let one = ap (λ (fs : List Fact). length fs) c.in_ok-facts.ensures.facts in
+    let two = ap (λ (rs : List Record). length rs) c.records-records.ensures.records in
     omega arith
 
 pub touches_of-requires : goal.touches_of-requires
@@ -116,18 +116,18 @@ touches_of-requires c =
     let h = c.args.history.now in
     let r = c.deref-in-loop-i-2.result.now in
     let at : slice_get h.records c.loop-i.i ≡ Some r =
-    ap (λ rs. slice_get rs c.loop-i.i) (sym c.records-records.ensures) ∙ c.at.ensures
+    ap (λ rs. slice_get rs c.loop-i.i) (sym c.records-records.ensures.records) ∙ c.at.ensures
     ∙ ap (λ (x : Record). Some x) (sym c.deref-in-loop-i-2.ensures) in
     subst (λ (n : ℕ). IsMappedIn n r) (sym c.requires)
-    (all-get (IsMappedIn (length (map_of h.setup))) h.records c.loop-i.i r c.keeps.ensures.mapped at)
+    (all-get (IsMappedIn (length (map_of h.setup))) h.records c.loop-i.i r c.records-records.ensures.mapped at)
 
 pub overflow_add-numbers : goal.overflow_add-numbers
 overflow_add-numbers c =
     let fs = c.in_ok-facts.facts.items in
     let less : c.loop-i.i < length fs = omega arith in
-    let few = few-facts fs c.args.history.now c.in_ok-facts.ensures c.keeps.ensures.records in
+    let few = few-facts fs c.args.history.now c.in_ok-facts.ensures.facts c.in_ok-facts.ensures.of_run in
     let here = c.fact.view_is ∙ get_or_read fs c.loop-i.i c.index-fact.result.now less c.index-fact.ensures no_fact in
-    let known = known-thread fs c.args.history.now c.loop-i.i c.in_ok-facts.ensures c.keeps.ensures.records less in
+    let known = known-thread fs c.args.history.now c.loop-i.i c.in_ok-facts.ensures.facts c.in_ok-facts.ensures.of_run less in
     let same = c.from-in-loop-i.ensures ∙ ap (λ (f : Fact). f.thread) here in
     let counts = c.loop-i.invariant.numbers c.from-in-loop-i.result (omega arith) in
     let most = count-few (λ k. eqb (fact_at fs k).thread c.from-in-loop-i.result) c.loop-i.i in
@@ -141,15 +141,15 @@ loop-i-preserved c =
     let r = c.deref-in-loop-i-2.result.now in
     let less : i < length fs = omega arith in
     let here = c.fact.view_is ∙ get_or_read fs i c.index-fact.result.now less c.index-fact.ensures no_fact in
-    let known = known-thread fs h i c.in_ok-facts.ensures c.keeps.ensures.records less in
+    let known = known-thread fs h i c.in_ok-facts.ensures.facts c.in_ok-facts.ensures.of_run less in
     let same = c.from-in-loop-i.ensures ∙ ap (λ (f : Fact). f.thread) here in
     let own = c.from.ensures ∙ ap (λ (f : Fact). f.thread) here in
     let long = c.loop-i.invariant.long in
     let at : slice_get h.records i ≡ Some r =
-    ap (λ rs. slice_get rs i) (sym c.records-records.ensures) ∙ c.at.ensures
+    ap (λ rs. slice_get rs i) (sym c.records-records.ensures.records) ∙ c.at.ensures
     ∙ ap (λ (x : Record). Some x) (sym c.deref-in-loop-i-2.ensures) in
     let is_written : (fact_at fs i).written ≡ written_slots r =
-    ap (λ (xs : List Fact). (fact_at xs i).written) c.in_ok-facts.ensures ∙ fact-written h i r at in
+    ap (λ (xs : List Fact). (fact_at xs i).written) c.in_ok-facts.ensures.facts ∙ fact-written h i r at in
     record {
       numbers = λ t in_range.
           count-next fs c.loop-i.numbers i c.from-in-loop-i.result t same (omega arith)
@@ -186,12 +186,12 @@ loop-i-preserved c =
       ];
     }
 
-pub returns : goal.returns
-returns c =
+pub returns-clause-steps : goal.returns-clause-steps
+returns-clause-steps c =
     let fs = c.in_ok-facts.facts.items in
     let end : c.loop-i.i ≡ length fs = omega arith in
     subst (λ (xs : List Fact). AreSteps xs (reads_of c.args.history.now) c.args.pages c.loop-i.steps.items)
-    c.in_ok-facts.ensures
+    c.in_ok-facts.ensures.facts
     (record {
       many = c.loop-i.invariant.many ∙ end;
       each = λ j s less. c.loop-i.invariant.each j s (omega arith);

@@ -5,4 +5,4 @@ use Rattle.rerun_workers.proofs.locked.discard.Goals as goal
 
 pub returns-else-is_out-clause-event : goal.returns-else-is_out-clause-event
 returns-else-is_out-clause-event c =
-    sym (happens-give_back_not c.args.round.now c.args.t (sym c.is_out.ensures ∙ c.if-is_out.false))
+    sym (happens-give_back_not c.args.round.now c.args.t (sym c.is_out.ensures.out ∙ c.if-is_out.false))

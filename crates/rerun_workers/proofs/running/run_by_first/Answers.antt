@@ -10,7 +10,7 @@ returns-clause-round g c =
     let steps = length c.in_ok-round.round.schedule in
     let shares : c.in_ok-shares.shares.items ≡ steps ∷ replicate (c.args.workers - 1) 0 = search rules in
     by-one c.args.workers c.args.setup (option_map arc_value c.args.past) c.in_ok-round.round
-    c.in_ok-shares.shares.items c.in_ok-round.ensures.alone c.sound.ensures c.keeps.ensures.by_schedule
+    c.in_ok-shares.shares.items c.in_ok-round.ensures.alone c.in_ok-round.ensures.sound c.schedule.ensures.valid.by_schedule
     (first-each c.args.workers steps c.in_ok-shares.shares.items c.requires.some shares)
     (first-sum c.args.workers steps c.in_ok-shares.shares.items shares)
 

@@ -18,11 +18,11 @@ returns-then-is_some-clause-round g c =
     let worked = c.in_ok-worked.worked in
     by-several c.args.workers c.args.setup (option_map arc_value c.args.past) worked.round worked.shares.items worked.turns
     (let some = c.requires in let several = c.if-workers-eq1.false in omega (arith, some, several))
-    c.keeps.ensures.setup
+    c.end.ensures.valid.setup
     (closed worked.round worked.shares.items worked.turns c.args.setup (option_map arc_value c.args.past)
-    c.in_ok-begun.begun c.in_ok-begun.ensures c.in_ok-worked.ensures.closed)
-    c.keeps.ensures.by_schedule
-    (ap is_some (sym c.end.ensures) ∙ sym c.is_some.ensures ∙ c.if-is_some.true)
+    c.in_ok-begun.begun c.in_ok-begun.ensures.round c.in_ok-worked.ensures.closed)
+    c.end.ensures.valid.by_schedule
+    (ap is_some (sym c.end.ensures.ending) ∙ sym c.is_some.ensures ∙ c.if-is_some.true)
     c.in_ok-worked.ensures.each
 
 pub returns-then-is_some-clause-cost : goal.returns-then-is_some-clause-cost
@@ -31,7 +31,7 @@ returns-then-is_some-clause-cost g c =
     cost-several c.args.workers worked.turns c.args.setup (option_map arc_value c.args.past) worked.round worked.shares.items
     (let some = c.requires in let several = c.if-workers-eq1.false in omega (arith, some, several))
     (closed worked.round worked.shares.items worked.turns c.args.setup (option_map arc_value c.args.past)
-    c.in_ok-begun.begun c.in_ok-begun.ensures c.in_ok-worked.ensures.closed)
+    c.in_ok-begun.begun c.in_ok-begun.ensures.round c.in_ok-worked.ensures.closed)
 
 pub returns-then-is_some-clause-progress : goal.returns-then-is_some-clause-progress
 returns-then-is_some-clause-progress g c =

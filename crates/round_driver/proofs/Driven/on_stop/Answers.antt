@@ -7,5 +7,5 @@ pub invariant_of-self : goal.invariant_of-self
 invariant_of-self c =
     record {
       held = jobs-stay c.args.self.now.round c.stop.new.self Stop c.args.self.now.jobs tt
-          c.keeps.ensures.in_order c.stop.ensures.event c.args.self.now.held;
+          c.stop.ensures.valid.in_order c.stop.ensures.event c.args.self.now.held;
     }

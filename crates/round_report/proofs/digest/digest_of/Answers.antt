@@ -20,4 +20,4 @@ loop-slot-preserved c =
     let slot = c.loop-slot.slot in
     let within : slot < length pages = omega arith in
     let held = c.update.ensures (concat (take slot pages)) c.loop-slot.invariant in
-    rw (concat_next pages slot within, ← c.page.ensures, ← c.bytes.ensures.value, ← c.as_slice.ensures) held
+    rw (concat_next pages slot within, ← c.page.ensures.page, ← c.bytes.ensures.value, ← c.as_slice.ensures) held

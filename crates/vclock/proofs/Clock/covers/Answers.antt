@@ -6,8 +6,8 @@ use Rattle.std.proofs.lemmas.Simd.{tops_compared, length-zip2, mask_l-mod}
 use Rattle.vclock.proofs.Lanes.{full_says, full_where}
 use Rattle.vclock.proofs.Clock.covers.Goals as goal
 
-pub returns : goal.returns
-returns c =
+pub returns-clause-covers : goal.returns-clause-covers
+returns-clause-covers c =
     let theirs = c.other.inside.counts in
     let mine = c.self.inside.counts in
     let same : length theirs ≡ length mine = omega (arith, c.self.invariant, c.other.invariant) in

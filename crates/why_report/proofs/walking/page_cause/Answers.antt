@@ -20,7 +20,7 @@ returns-in_default-first_other_byte-clause-none c = λ all.
     let other =
     other-page c.args.view.now c.args.reads.now c.in-Some.read.now (length c.args.view.now) (sym c.in-Some.ensures) all in
     let now_is : c.bytes.result.now ≡ page_of c.args.view.now c.in-Some.read.now.slot =
-    c.bytes.ensures.value ∙ c.page-now.ensures ∙ ap (page_of c.args.view.now) c.slot-2.ensures in
+    c.bytes.ensures.value ∙ c.page-now.ensures.page ∙ ap (page_of c.args.view.now) c.slot-2.ensures in
     let was_is : c.bytes-2.result.now ≡ c.in-Some.read.now.bytes = c.bytes-2.ensures.value ∙ c.page-was.ensures in
     let none : first_difference (page_of c.args.view.now c.in-Some.read.now.slot) c.in-Some.read.now.bytes ≡ None =
     ap (λ (l : List ℕ). first_difference l c.in-Some.read.now.bytes) (sym now_is)

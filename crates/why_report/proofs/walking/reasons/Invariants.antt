@@ -1,5 +1,6 @@
 -- What holds at the loop of `reasons`.
 use Rattle.std.proofs.Common.{◌≡◌, map}
+use Rattle.machine_spec.specs.Whole.{IsWhole}
 use Rattle.why_report.specs.declared.reason.Reason.{Reason}
 use Rattle.why_report.specs.Reasons.{GoesByOldRun}
 use Rattle.why_report.specs.Walking.{IsBefore}
@@ -12,6 +13,7 @@ abbrev pub invariant-loop-step : goal.invariant-loop-step
 invariant-loop-step l = record {
   pages : AreOf l.round l.pages;
   before : IsBefore l.round l.core l.since l.step;
+  whole : IsWhole l.core;
   told : l.reasons.items ≡ told_so_far l.round l.step;
   each : GoesByOldRun l.round.past l.round.setup
       → map (λ (r : Reason). r.step) l.reasons.items ≡ executed_so_far l.round l.step;

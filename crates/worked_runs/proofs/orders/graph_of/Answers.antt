@@ -4,8 +4,8 @@ use Rattle.worked_runs.proofs.orders.graph_of.Goals as goal
 
 pub of-requires-clause-few : goal.of-requires-clause-few
 of-requires-clause-few c =
-    few-facts _ c.args.history.now c.in_ok-facts.ensures c.keeps.ensures.records
+    few-facts _ c.args.history.now c.in_ok-facts.ensures.facts c.in_ok-facts.ensures.of_run
 
 pub of-requires-clause-threads : goal.of-requires-clause-threads
 of-requires-clause-threads c =
-    have-threads _ c.args.history.now c.in_ok-facts.ensures c.keeps.ensures.records
+    have-threads _ c.args.history.now c.in_ok-facts.ensures.facts c.in_ok-facts.ensures.of_run

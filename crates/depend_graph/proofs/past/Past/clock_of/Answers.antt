@@ -36,5 +36,5 @@ returns c =
     (subst (λ (t : ℕ). (u : ℕ) → u < THREADS
     → slice_index c.tick.new.self u ≡ cond (eqb t u) 1 0 + slice_index c.joined-clock.result u)
     (ap (λ (f : Fact). f.thread) here)
-    (ticked-counts c.joined-clock.result c.tick.new.self c.fact.inside.thread c.keeps.ensures known c.tick.ensures))
+    (ticked-counts c.joined-clock.result c.tick.new.self c.fact.inside.thread c.tick.ensures.count known c.tick.ensures.more))
     c.joined-clock.ensures

@@ -2,5 +2,5 @@
 use Rattle.history_facts.proofs.Outlining.{outline-first}
 use Rattle.history_facts.proofs.outline.Outline.new.Goals as goal
 
-pub returns : goal.returns
-returns c = outline-first c.args.setup.now _ _ c.in_ok-page_map.ensures c.in_ok-new.ensures
+pub returns-clause-outline : goal.returns-clause-outline
+returns-clause-outline c = outline-first c.args.setup.now _ _ c.in_ok-page_map.ensures.map c.in_ok-new.ensures

@@ -14,14 +14,14 @@ use Rattle.memo_file.proofs.writing.body.write_records.Goals as goal
 pub write_record-requires-clause-few : goal.write_record-requires-clause-few
 write_record-requires-clause-few c =
     let at : slice_get c.args.history.now.records c.loop-place.place ≡ Some (arc_value c.at-rec.result.now) =
-    ap (λ (rs : List Record). slice_get rs c.loop-place.place) (sym c.records-records.ensures) ∙ c.at-rec.ensures in
+    ap (λ (rs : List Record). slice_get rs c.loop-place.place) (sym c.records-records.ensures.records) ∙ c.at-rec.ensures in
     subst HasFewPages (sym c.deref.ensures)
     (few_in_record c.args.history.now c.loop-place.place (arc_value c.at-rec.result.now) c.requires.spellable at)
 
 pub write_record-requires-clause-placed : goal.write_record-requires-clause-placed
 write_record-requires-clause-placed c =
     let at : slice_get c.args.history.now.records c.loop-place.place ≡ Some (arc_value c.at-rec.result.now) =
-    ap (λ (rs : List Record). slice_get rs c.loop-place.place) (sym c.records-records.ensures) ∙ c.at-rec.ensures in
+    ap (λ (rs : List Record). slice_get rs c.loop-place.place) (sym c.records-records.ensures.records) ∙ c.at-rec.ensures in
     placed_at (pool_of c.args.history.now) (pages_lent c.args.pool.now.pages.items) c.args.pool.now.places.items
     c.loop-place.start
     c.args.history.now.records c.loop-place.place (arc_value c.at-rec.result.now) _ at
@@ -31,7 +31,7 @@ write_record-requires-clause-placed c =
 pub loop-place-preserved : goal.loop-place-preserved
 loop-place-preserved c =
     let at : slice_get c.args.history.now.records c.loop-place.place ≡ Some (arc_value c.at-rec.result.now) =
-    ap (λ (rs : List Record). slice_get rs c.loop-place.place) (sym c.records-records.ensures) ∙ c.at-rec.ensures in
+    ap (λ (rs : List Record). slice_get rs c.loop-place.place) (sym c.records-records.ensures.records) ∙ c.at-rec.ensures in
     let same = c.pages.ensures.pages ∙ c.reads.ensures
     ∙ ap (λ (r : Record). r.kept.reads) c.deref-in-loop-place.ensures in
     let wrote = c.in_ok-write_record.ensures
@@ -54,14 +54,14 @@ loop-place-preserved c =
 pub write_record-requires-clause-mapped : goal.write_record-requires-clause-mapped
 write_record-requires-clause-mapped c =
     let at : slice_get c.args.history.now.records c.loop-place.place ≡ Some (arc_value c.at-rec.result.now) =
-    ap (λ (rs : List Record). slice_get rs c.loop-place.place) (sym c.records-records.ensures) ∙ c.at-rec.ensures in
+    ap (λ (rs : List Record). slice_get rs c.loop-place.place) (sym c.records-records.ensures.records) ∙ c.at-rec.ensures in
     rw (c.requires.slots, c.deref.ensures) (mapped_in (length (map_of c.args.history.now.setup))
-    c.args.history.now.records c.loop-place.place (arc_value c.at-rec.result.now) at c.keeps.ensures.mapped)
+    c.args.history.now.records c.loop-place.place (arc_value c.at-rec.result.now) at c.records-records.ensures.mapped)
 
 pub overflow_add-start : goal.overflow_add-start
 overflow_add-start c =
     let at : slice_get c.args.history.now.records c.loop-place.place ≡ Some (arc_value c.at-rec.result.now) =
-    ap (λ (rs : List Record). slice_get rs c.loop-place.place) (sym c.records-records.ensures) ∙ c.at-rec.ensures in
+    ap (λ (rs : List Record). slice_get rs c.loop-place.place) (sym c.records-records.ensures.records) ∙ c.at-rec.ensures in
     let same = c.pages.ensures.pages ∙ c.reads.ensures
     ∙ ap (λ (r : Record). r.kept.reads) c.deref-in-loop-place.ensures in
     let left = places_left (pool_of c.args.history.now) c.args.pool.now.places.items c.loop-place.start
@@ -76,7 +76,7 @@ returns c = all_written (record_bytes c.args.slots.now (pages_lent c.args.pool.n
     (omega (
       arith,
       c.loop-place-test.false,
-      c.len-place-end.ensures,
+      c.len-place-end.ensures.count,
       ap (λ (rs : List Record). length rs)
-          c.records-records.ensures,
+          c.records-records.ensures.records,
     )) c.loop-place.invariant.so_far

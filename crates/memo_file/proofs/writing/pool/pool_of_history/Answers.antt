@@ -21,7 +21,7 @@ loop-place-init c =
 pub add_reads-requires-clause-few : goal.add_reads-requires-clause-few
 add_reads-requires-clause-few c =
     let at : slice_get c.args.history.now.records c.loop-place.place ≡ Some (arc_value c.at.result.now) =
-    ap (λ (rs : List Record). slice_get rs c.loop-place.place) (sym c.records-records.ensures) ∙ c.at.ensures in
+    ap (λ (rs : List Record). slice_get rs c.loop-place.place) (sym c.records-records.ensures.records) ∙ c.at.ensures in
     let same = c.pages.ensures.pages ∙ c.reads.ensures ∙ ap (λ (r : Record). r.kept.reads) c.deref.ensures in
     omega (
       arith,
@@ -34,7 +34,7 @@ add_reads-requires-clause-few c =
 pub loop-place-preserved : goal.loop-place-preserved
 loop-place-preserved c =
     let at : slice_get c.args.history.now.records c.loop-place.place ≡ Some (arc_value c.at.result.now) =
-    ap (λ (rs : List Record). slice_get rs c.loop-place.place) (sym c.records-records.ensures) ∙ c.at.ensures in
+    ap (λ (rs : List Record). slice_get rs c.loop-place.place) (sym c.records-records.ensures.records) ∙ c.at.ensures in
     let same = c.pages.ensures.pages ∙ c.reads.ensures ∙ ap (λ (r : Record). r.kept.reads) c.deref.ensures in
     record {
       indexed = c.in_ok-add_reads.ensures.indexed;
@@ -55,6 +55,6 @@ loop-place-preserved c =
 pub returns : goal.returns
 returns c =
     let past : length c.args.history.now.records ≤ c.loop-place.place =
-    omega (arith, c.loop-place-test.false, c.len-place-end.ensures, ap length c.records-records.ensures) in
+    omega (arith, c.loop-place-test.false, c.len-place-end.ensures, ap length c.records-records.ensures.records) in
     pool_done c.args.history.now c.loop-place.place _ _ past (few_in_pool c.args.history.now c.requires)
     c.loop-place.invariant.pool c.loop-place.invariant.places

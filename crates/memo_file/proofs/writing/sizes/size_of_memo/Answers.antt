@@ -10,14 +10,14 @@ use Rattle.memo_file.proofs.writing.sizes.size_of_memo.Goals as goal
 pub size_of_record-size-requires : goal.size_of_record-size-requires
 size_of_record-size-requires c =
     let at : slice_get c.args.history.now.records c.loop-place.place ≡ Some (arc_value c.at.result.now) =
-    ap (λ (rs : List Record). slice_get rs c.loop-place.place) (sym c.records-records.ensures) ∙ c.at.ensures in
+    ap (λ (rs : List Record). slice_get rs c.loop-place.place) (sym c.records-records.ensures.records) ∙ c.at.ensures in
     subst HasFewPages (sym c.deref.ensures)
     (few_in_record c.args.history.now c.loop-place.place (arc_value c.at.result.now) c.requires.spellable at)
 
 pub loop-place-preserved : goal.loop-place-preserved
 loop-place-preserved c =
     let at : slice_get c.args.history.now.records c.loop-place.place ≡ Some (arc_value c.at.result.now) =
-    ap (λ (rs : List Record). slice_get rs c.loop-place.place) (sym c.records-records.ensures) ∙ c.at.ensures in
+    ap (λ (rs : List Record). slice_get rs c.loop-place.place) (sym c.records-records.ensures.records) ∙ c.at.ensures in
     let size : c.size_of_record-size.result ≡ record_size (arc_value c.at.result.now) =
     c.size_of_record-size.ensures.size ∙ ap record_size c.deref.ensures in
     record {

@@ -7,7 +7,7 @@ use Rattle.memo_file.proofs.writing.sizes.size_of_stored.Goals as goal
 pub returns-clause-size : goal.returns-clause-size
 returns-clause-size c =
     let long : length c.stored-kept.result.mask.now ≤ length c.stored-kept.result.page.now =
-    omega (arith, c.whole.ensures, c.bytes.ensures.whole) in
+    omega (arith, c.marked_count.ensures.whole, c.bytes.ensures.whole) in
     ap (λ (n : ℕ). 516 + n)
     (c.marked_count.ensures.count
     ∙ sym (length_chosen c.stored-kept.result.mask.now c.stored-kept.result.page.now long)

@@ -1,8 +1,11 @@
--- What was written, and the marked bytes that are left.
-use Rattle.std.proofs.Common.{◌≡◌, ◌*◌, ◌++◌, drop}
+-- What was written, and the marked bytes that are left. A word says how many places there are.
+use Rattle.std.proofs.Common.{◌≡◌, ◌<◌, ◌*◌, ◌++◌, drop, length}
 use Rattle.record_spec.specs.Delta.{chosen}
 use Rattle.memo_file.proofs.writing.stored.write_marked.Given as goal
 
 abbrev pub invariant-loop-number : goal.invariant-loop-number
-invariant-loop-number l = l.out.items ++ chosen (drop (64 * l.number) l.mask) (drop (64 * l.number) l.page)
-    ≡ l.fn.out.items ++ chosen l.mask l.page
+invariant-loop-number l = record {
+  whole : 0 < l.number → length l.mask ≡ 4096;
+  so_far : l.out.items ++ chosen (drop (64 * l.number) l.mask) (drop (64 * l.number) l.page)
+      ≡ l.fn.out.items ++ chosen l.mask l.page;
+}

@@ -13,14 +13,14 @@ bounds-page-place c =
       small = omega arith;
       lowest = refl;
     } in
-    let inside = mark_within _ _ _ _ _ is (omega (arith, c.whole.ensures, c.requires.within))
+    let inside = mark_within _ _ _ _ _ is (omega (arith, c.word-left.ensures.whole, c.requires.within))
     c.loop-left.invariant.within in
     omega (arith, inside, c.requires.whole, c.requires.within)
 
 pub loop-left-preserved : goal.loop-left-preserved
 loop-left-preserved c =
     let long : 64 * (c.args.number + 1) ≤ length c.args.mask.now =
-    omega (arith, c.whole.ensures, c.requires.within) in
+    omega (arith, c.word-left.ensures.whole, c.requires.within) in
     let room : 64 * (c.args.number + 1) ≤ length c.args.page.now =
     omega (arith, c.requires.whole, c.requires.within) in
     let is : IsLeft c.args.mask.now (64 * (c.args.number + 1)) c.loop-left.place c.loop-left.left _ =
@@ -39,18 +39,18 @@ loop-left-preserved c =
       within = omega (arith, inside);
     }
 
-pub returns : goal.returns
-returns c =
+pub returns-clause-marked : goal.returns-clause-marked
+returns-clause-marked c =
     marks_done c.args.mask.now c.args.page.now (64 * (c.args.number + 1)) c.loop-left.place c.loop-left.left
-    c.loop-left.out.items _ (omega (arith, c.whole.ensures, c.requires.within))
+    c.loop-left.out.items _ (omega (arith, c.word-left.ensures.whole, c.requires.within))
     (omega (arith, c.requires.whole, c.requires.within)) c.loop-left.invariant.within c.loop-left.invariant.marks
     c.loop-left-test.false c.loop-left.invariant.so_far
 
-pub returns-then-left : goal.returns-then-left
-returns-then-left c =
+pub returns-then-left-clause-marked : goal.returns-then-left-clause-marked
+returns-then-left-clause-marked c =
     let count : 64 * c.args.number + 64 - 64 * c.args.number ≡ 64 = omega arith in
     word_full c.args.mask.now c.args.page.now c.args.number c.word-left.result c.args.out.now.items
-    c.extend_from_slice.new.self.items _ (omega (arith, c.whole.ensures, c.requires.within))
-    (omega (arith, c.requires.whole, c.requires.within)) c.word-left.ensures c.if-left.true
+    c.extend_from_slice.new.self.items _ (omega (arith, c.word-left.ensures.whole, c.requires.within))
+    (omega (arith, c.requires.whole, c.requires.within)) c.word-left.ensures.marks c.if-left.true
     (c.in_ok-extend_from_slice.ensures.items
     ∙ ap (λ (n : ℕ). c.args.out.now.items ++ take n (drop (64 * c.args.number) c.args.page.now)) count) refl

@@ -21,8 +21,8 @@ page-requires c =
     (place_of 64 (omega arith) arc_value t.count c.args.slot t.shelves.items c.args.self.now c.index.result.now c.self.invariant.shelved
     c.self.view_is c.requires c.index.ensures)
 
-pub returns : goal.returns
-returns c =
+pub returns-clause-page : goal.returns-clause-page
+returns-clause-page c =
     let t = c.self.inside in
     c.page.ensures ∙ rw c.deref.ensures
     (page_at 64 (omega arith) arc_value t.count c.args.slot t.shelves.items c.args.self.now c.index.result.now []

@@ -11,14 +11,14 @@ loop-slot-preserved c =
     let in_a : slot < length a = omega arith in
     let in_b : slot < length b = omega arith in
     same-more a b slot in_a in_b c.loop-slot.invariant
-    (same_page a b slot c.page.result.now c.page-in-loop-slot.result.now c.page.ensures c.page-in-loop-slot.ensures
+    (same_page a b slot c.page.result.now c.page-in-loop-slot.result.now c.page.ensures.page c.page-in-loop-slot.ensures.page
     (sym (c.ne.ensures) ∙ c.if-ne.false))
 
 pub returns-then-ne-clause-eq : goal.returns-then-ne-clause-eq
 returns-then-ne-clause-eq c =
     compared false c.args.self.now c.args.other.now
     (differ c.args.self.now c.args.other.now c.loop-slot.slot c.page.result.now c.page-in-loop-slot.result.now
-    c.page.ensures c.page-in-loop-slot.ensures
+    c.page.ensures.page c.page-in-loop-slot.ensures.page
     (sym (c.ne.ensures) ∙ c.if-ne.true))
 
 pub returns-clause-eq : goal.returns-clause-eq

@@ -8,16 +8,16 @@ use Rattle.propagate.proofs.round.Round.discard.Goals as goal
 
 pub returns-then-is_out-clause-event : goal.returns-then-is_out-clause-event
 returns-then-is_out-clause-event c =
-    rw (happens-give_back c.args.self.now c.args.t (sym c.is_out.ensures ∙ c.if-is_out.true))
+    rw (happens-give_back c.args.self.now c.args.t (sym c.is_out.ensures.out ∙ c.if-is_out.true))
     (grind (arith, common_steps))
 
 pub returns-else-is_out-clause-event : goal.returns-else-is_out-clause-event
 returns-else-is_out-clause-event c =
-    sym (happens-give_back_not c.args.self.now c.args.t (sym c.is_out.ensures ∙ c.if-is_out.false))
+    sym (happens-give_back_not c.args.self.now c.args.t (sym c.is_out.ensures.out ∙ c.if-is_out.false))
 
 pub invariant_of-self : goal.invariant_of-self
 invariant_of-self c =
     discarded-kept _ _ _ c.args.t _ c.self.invariant
     (subst (λ (w : RoundState). is_out w c.args.t ≡ true) (sym c.self.view_is)
-    (sym c.is_out.ensures ∙ c.if-is_out.true))
+    (sym c.is_out.ensures.out ∙ c.if-is_out.true))
     (rw (c.from.ensures, c.from-then-is_out.ensures, c.saturating_add-self-inside.ensures, add-one) refl)

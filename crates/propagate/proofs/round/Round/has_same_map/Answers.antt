@@ -14,7 +14,7 @@ returns-in-Some-clause-same c =
     of_map c.args.self.now (arc_value c.in-Some.history) c.eq.result _ _
     (ap (λ (w : RoundState). w.past) (sym c.self.view_is) ∙ ap (option_map arc_value) c.in-Some.is)
     (c.image.ensures.map
-    ∙ ap (λ (s : Setup). image_pages s.elf) (c.setup.ensures ∙ ap (λ (h : History). h.setup) c.deref-in-Some.ensures))
+    ∙ ap (λ (s : Setup). image_pages s.elf) (c.setup.ensures.setup ∙ ap (λ (h : History). h.setup) c.deref.ensures))
     (c.image-in-Some.ensures.map ∙ ap (λ (w : RoundState). image_pages w.setup.elf) c.self.view_is)
     c.eq.ensures.same
 
@@ -23,9 +23,9 @@ returns-in-Some-clause-mapped c =
     of_map-mapped c.args.self.now (arc_value c.in-Some.history) c.eq.result _ _
     (subst IsOnMap c.self.view_is c.self.invariant.on_map)
     (ap (λ (w : RoundState). w.past) (sym c.self.view_is) ∙ ap (option_map arc_value) c.in-Some.is)
-    (subst IsMapped c.deref.ensures c.keeps.ensures.mapped)
+    (subst IsMapped c.deref.ensures c.setup.ensures.mapped)
     (c.image.ensures.map
-    ∙ ap (λ (s : Setup). image_pages s.elf) (c.setup.ensures ∙ ap (λ (h : History). h.setup) c.deref-in-Some.ensures))
+    ∙ ap (λ (s : Setup). image_pages s.elf) (c.setup.ensures.setup ∙ ap (λ (h : History). h.setup) c.deref.ensures))
     (c.image-in-Some.ensures.map ∙ ap (λ (w : RoundState). image_pages w.setup.elf) c.self.view_is)
     c.eq.ensures.same.0
 

@@ -13,4 +13,4 @@ pub known_coherent-requires : goal.known_coherent-requires
 known_coherent-requires c =
     subst (λ (h : History). is_coherent h ≡ true) (sym c.new-history.ensures)
     (laid-coherent _ c.self.invariant.laid
-    (sym (ap is_some c.ended.ensures) ∙ sym c.is_some-has_end.ensures ∙ c.if-has_end.true))
+    (sym (ap is_some c.ended.ensures.ending) ∙ sym c.is_some-has_end.ensures ∙ c.if-has_end.true))

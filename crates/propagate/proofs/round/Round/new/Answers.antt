@@ -7,7 +7,7 @@ use Rattle.propagate.proofs.round.Round.new.Goals as goal
 pub invariant_of-result : goal.invariant_of-result
 invariant_of-result c =
     rw (
-      c.in_ok-core.ensures,
+      c.in_ok-core.ensures.first,
       c.in_ok-graph.ensures.graph,
       c.new-2.ensures.items,
       c.new-3.ensures,
@@ -15,4 +15,4 @@ invariant_of-result c =
       c.nobody_out.ensures,
       c.nothing_taken.ensures,
     )
-    (kept_opening c.args.setup (option_map arc_value c.args.past) c.sound.ensures c.in_ok-graph.ensures.of_run)
+    (kept_opening c.args.setup (option_map arc_value c.args.past) c.in_ok-core.ensures.sound c.in_ok-graph.ensures.of_run)

@@ -12,4 +12,4 @@ returns-in-Some-clause-mapped c = λ h is.
     let one : Some (arc_value c.in-Some.history) ≡ Some h =
     sym (ap (option_map arc_value) c.in-Some.is) ∙ past ∙ is in
     let same : c.deref.result.now ≡ h = c.deref.ensures ∙ (let own : arc_value c.in-Some.history ≡ h = cc in own) in
-    subst IsMapped same c.keeps.ensures.mapped
+    subst IsMapped same c.find.ensures.mapped

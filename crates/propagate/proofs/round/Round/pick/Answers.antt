@@ -4,26 +4,26 @@ use Rattle.propagate.proofs.Choosing.{pick-over, pick-stopped, pick-hold, pick-c
 use Rattle.propagate.proofs.round.Round.pick.Goals as goal
 
 pub returns-then-is_over-clause-pick : goal.returns-then-is_over-clause-pick
-returns-then-is_over-clause-pick c = sym (pick-over c.args.self.now (sym c.is_over.ensures ∙ c.if-is_over.true))
+returns-then-is_over-clause-pick c = sym (pick-over c.args.self.now (sym c.is_over.ensures.over ∙ c.if-is_over.true))
 
 pub returns-in-Some-clause-pick : goal.returns-in-Some-clause-pick
 returns-in-Some-clause-pick c =
-    sym (pick-chosen c.args.self.now c.in-Some.t true (sym c.is_over.ensures ∙ c.if-is_over.false)
+    sym (pick-chosen c.args.self.now c.in-Some.t true (sym c.is_over.ensures.over ∙ c.if-is_over.false)
     (sym c.choice.ensures ∙ c.in-Some.is)
-    (sym c.can_reuse.ensures ∙ c.if-can_reuse.true))
+    (sym c.can_reuse.ensures.can ∙ c.if-can_reuse.true))
 
 pub returns-in-Some-2-clause-pick : goal.returns-in-Some-2-clause-pick
 returns-in-Some-2-clause-pick c =
-    sym (pick-chosen c.args.self.now c.in-Some.t false (sym c.is_over.ensures ∙ c.if-is_over.false)
+    sym (pick-chosen c.args.self.now c.in-Some.t false (sym c.is_over.ensures.over ∙ c.if-is_over.false)
     (sym c.choice.ensures ∙ c.in-Some.is)
-    (sym c.can_reuse.ensures ∙ c.if-can_reuse.false))
+    (sym c.can_reuse.ensures.can ∙ c.if-can_reuse.false))
 
 pub returns-in-Some-2-clause-run : goal.returns-in-Some-2-clause-run
 returns-in-Some-2-clause-run c = λ t same. picked-run c.args.self.now t (sym (returns-in-Some-2-clause-pick c) ∙ same)
 
 pub returns-in-None-clause-pick : goal.returns-in-None-clause-pick
 returns-in-None-clause-pick c =
-    sym (pick-hold c.args.self.now (sym c.is_over.ensures ∙ c.if-is_over.false) (sym c.choice.ensures ∙ c.in-None.is))
+    sym (pick-hold c.args.self.now (sym c.is_over.ensures.over ∙ c.if-is_over.false) (sym c.choice.ensures ∙ c.in-None.is))
 
 pub returns-in-Some-clause-stopped : goal.returns-in-Some-clause-stopped
 returns-in-Some-clause-stopped c = λ stopped. returns-in-Some-clause-pick c ∙ pick-stopped c.args.self.now stopped

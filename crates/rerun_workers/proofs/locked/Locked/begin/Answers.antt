@@ -20,8 +20,8 @@ invariant_of-self g c =
           (record {
             setup_is = c.args.self.now.setup;
             past_is = c.args.self.now.past;
-            valid = c.keeps.ensures.setup;
-            in_order = c.keeps.ensures.in_order;
+            valid = c.take.ensures.valid.setup;
+            in_order = c.take.ensures.valid.in_order;
             follows = c.args.self.now.follows;
           })
           c.requires.picked c.in-Ok.ensures.ok;
@@ -42,8 +42,8 @@ invariant_of-self-in-Err g c =
           (record {
             setup_is = c.args.self.now.setup;
             past_is = c.args.self.now.past;
-            valid = c.keeps.ensures.setup;
-            in_order = c.keeps.ensures.in_order;
+            valid = c.take.ensures.valid.setup;
+            in_order = c.take.ensures.valid.in_order;
             follows = c.args.self.now.follows;
           })
           (c.stop.ensures.event ∙ ap (λ (w : RoundState). happens w Stop) c.in-Err.ensures.err);
@@ -57,4 +57,4 @@ returns-in-Ok-clause-unedited g c =
 
 pub returns-in-Ok-clause-own : goal.returns-in-Ok-clause-own
 returns-in-Ok-clause-own g c =
-    c.in-Ok.ensures.job.frame ∙ c.keeps.ensures.framed ∙ ap (λ (s : Setup). (first s).frame) c.args.self.now.setup
+    c.in-Ok.ensures.job.frame ∙ c.take.ensures.valid.framed ∙ ap (λ (s : Setup). (first s).frame) c.args.self.now.setup

@@ -10,8 +10,8 @@ use Rattle.rerun_workers.proofs.locked.Locked.commit.Goals as goal
 
 pub commit_known-requires : goal.commit_known-requires
 commit_known-requires g c =
-    subst (λ (f : Frame). Decides c.args.same_frame (arc_value c.args.run.frame ≡ f))
-    (sym (c.keeps.ensures.framed ∙ ap (λ (s : Setup). (first s).frame) c.args.self.now.setup)) c.requires
+    subst (λ (s : Setup). Decides c.args.same_frame (arc_value c.args.run.frame ≡ (first s).frame))
+    (sym c.args.self.now.setup) c.requires
 
 pub invariant_of-self : goal.invariant_of-self
 invariant_of-self g c =
@@ -27,8 +27,8 @@ invariant_of-self g c =
           (record {
             setup_is = c.args.self.now.setup;
             past_is = c.args.self.now.past;
-            valid = c.keeps.ensures.setup;
-            in_order = c.keeps.ensures.in_order;
+            valid = c.commit_known.ensures.valid.setup;
+            in_order = c.commit_known.ensures.valid.in_order;
             follows = c.args.self.now.follows;
           })
           c.in-Done.ensures.does.1;
@@ -48,8 +48,8 @@ invariant_of-self-in-Stale-1 g c =
           (record {
             setup_is = c.args.self.now.setup;
             past_is = c.args.self.now.past;
-            valid = c.keeps.ensures.setup;
-            in_order = c.keeps.ensures.in_order;
+            valid = c.commit_known.ensures.valid.setup;
+            in_order = c.commit_known.ensures.valid.in_order;
             follows = c.args.self.now.follows;
           })
           c.in-Stale.ensures.does.2;
@@ -70,8 +70,8 @@ invariant_of-self-in-Memory g c =
           (record {
             setup_is = c.args.self.now.setup;
             past_is = c.args.self.now.past;
-            valid = c.keeps.ensures.setup;
-            in_order = c.keeps.ensures.in_order;
+            valid = c.commit_known.ensures.valid.setup;
+            in_order = c.commit_known.ensures.valid.in_order;
             follows = c.args.self.now.follows;
           }))
           c.give_up.ensures.events;

@@ -17,8 +17,8 @@ invariant_of-self-2 g c =
           (record {
             setup_is = c.args.self.now.setup;
             past_is = c.args.self.now.past;
-            valid = c.keeps.ensures.setup;
-            in_order = c.keeps.ensures.in_order;
+            valid = c.reuse.ensures.valid.setup;
+            in_order = c.reuse.ensures.valid.in_order;
             follows = c.args.self.now.follows;
           })
           c.requires.picked c.in_ok-reuse.ensures.ok;

@@ -17,8 +17,8 @@ invariant_of-self g c =
           (record {
             setup_is = c.args.self.now.setup;
             past_is = c.args.self.now.past;
-            valid = c.keeps.ensures.setup;
-            in_order = c.keeps.ensures.in_order;
+            valid = c.stop.ensures.valid.setup;
+            in_order = c.stop.ensures.valid.in_order;
             follows = c.args.self.now.follows;
           })
           c.stop.ensures.event;

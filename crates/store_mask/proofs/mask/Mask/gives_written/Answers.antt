@@ -10,19 +10,22 @@ returns-then-not-gives_word c =
     let written = c.args.written.now in
     let n = c.loop-number.number in
     let same : length written ≡ length page = omega (arith, c.requires.page_is_whole, c.requires.written_is_whole) in
-    let long : length m ≡ length page = omega (arith, c.requires.page_is_whole, c.whole.ensures) in (
+    let long : length m ≡ length page = omega (arith, c.requires.page_is_whole, c.word.ensures.whole) in (
       λ no. absurd (let e : false ≡ true = no in cc),
       λ is.
           c.if-not-gives_word.ensures.1
-          (given_word m page written (64 * n) c.word.result 4096 c.word.ensures (omega (arith, c.loop-number-test.true))
+          (given_word m page written (64 * n) c.word.result 4096 c.word.ensures.marks (omega (arith, c.loop-number-test.true))
           (page_given m page written 4096 same long is)),
     )
 
 pub loop-number-preserved : goal.loop-number-preserved
 loop-number-preserved c =
     let n = c.loop-number.number in
-    given_more c.args.self.now c.args.page.now c.args.written.now (64 * n) c.word.result (64 * (n + 1)) c.word.ensures
-    (omega arith) c.loop-number.invariant (c.if-not-gives_word.ensures.0 refl)
+    record {
+      whole = λ _. c.word.ensures.whole;
+      so_far = given_more c.args.self.now c.args.page.now c.args.written.now (64 * n) c.word.result (64 * (n + 1))
+          c.word.ensures.marks (omega arith) c.loop-number.invariant.so_far (c.if-not-gives_word.ensures.0 refl);
+    }
 
 pub returns : goal.returns
 returns c =
@@ -30,7 +33,8 @@ returns c =
     let page = c.args.page.now in
     let written = c.args.written.now in
     let same : length written ≡ length page = omega (arith, c.requires.page_is_whole, c.requires.written_is_whole) in
-    let long : length m ≡ length page = omega (arith, c.requires.page_is_whole, c.whole.ensures) in
+    let full : length m ≡ 4096 = c.loop-number.invariant.whole (omega (arith, c.loop-number-test.false)) in
+    let long : length m ≡ length page = omega (arith, c.requires.page_is_whole, full) in
     let all : length page ≤ 64 * c.loop-number.number =
     omega (arith, c.requires.page_is_whole, c.loop-number-test.false) in
-    (λ yes. given_page m page written (64 * c.loop-number.number) same long all c.loop-number.invariant, λ is. refl)
+    (λ yes. given_page m page written (64 * c.loop-number.number) same long all c.loop-number.invariant.so_far, λ is. refl)
