@@ -173,6 +173,7 @@ impl Setup {
         let pages = pages_of(alloc, &self.program.image.map)?;
         PageMap::new(alloc, pages)
     }
+
     /// The memory that it starts with: the image's pages, the input's header and pages, and zeros.
     ///
     /// # Errors
@@ -182,19 +183,6 @@ impl Setup {
     pub fn memory(&self, alloc: Global) -> Result<PageTable, AllocError>
         ensures { IfOk result (λ memory. memory ≡ setup.start_memory self.now) }
     {
-        self.sound();
-        memory_of(alloc, &self.program.image.pages, self.input())
-    }
-    /// The memory that it starts with: the image's pages, the input's header and pages, and zeros.
-    ///
-    /// # Errors
-    ///
-    /// An error where the host's memory ran out.
-    #[tactic(auto, unfolding(machine_spec::specs::Setup::start_memory))]
-    pub fn memory(&self, alloc: Global) -> Result<PageTable, AllocError>
-        ensures { IfOk result (λ memory. memory ≡ setup.start_memory self.now) }
-    {
-        self.sound();
         memory_of(alloc, &self.program.image.pages, self.input())
     }
 }

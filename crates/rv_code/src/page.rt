@@ -70,16 +70,16 @@ impl CodePage {
     /// # Errors
     ///
     /// An error where the host's memory ran out.
+    #[inline(never)]
     pub fn new(alloc: Global, number: u32, page: Arc<Page>) -> Result<Box<CodePage>, AllocError>
         requires { number < 2 ^ 20 }
         ensures number { IfOk result (λ code. code.value.number ≡ number) }
         ensures bytes { IfOk result (λ code. code.value.bytes ≡ arc_value page) }
     {
-        let operations = operations_of(number, page.bytes());
         let code = CodePage {
             number,
+            operations: operations_of(number, page.bytes()),
             page,
-            operations,
         };
         Ok(Box::new(alloc, code)?)
     }
