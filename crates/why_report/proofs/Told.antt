@@ -54,23 +54,29 @@ told-next w i reasons later o is pushed reason =
     ∙ sym (filter_map-append (λ k. reason_of (made_before w) w k (slice_get w.schedule k)) (range_with_len 0 i) (i ∷ []))
     ∙ ap (filter_map (λ k. reason_of (made_before w) w k (slice_get w.schedule k))) (sym (range-next i))
 
+-- reasons that are the same are of one step
+same-step : (a b : Reason) → Some a ≡ Some b → a.step ≡ b.step
+same-step a b is = let same : a ≡ b = cc in ap (λ (x : Reason). x.step) same
+
+-- none is no reason
+no-reason : (r : Reason) (i : ℕ) → Some r ≡ None → r.step ≡ i
+no-reason r i is = cc
+
+-- a cause is of its step
+step-by :
+    (before : ℕ → Machine) (i t : ℕ) (r : Reason) (b : Bool) (cause : Option Cause)
+    → Some r ≡ cond b None (option_map (told_of_step before i t) cause)
+    → r.step ≡ i
+step-by before i t r true cause is = no-reason r i is
+step-by before i t r false None is = no-reason r i is
+step-by before i t r false (Some c) is = same-step r (told_of_step before i t c) is
+
 -- a reason is of its entry
 step-of :
     (before : ℕ → Machine) (w : RoundState) (i : ℕ) (o : Option Entry) (r : Reason) → Some r ≡ reason_of before w i o
     → r.step ≡ i
-step-of before w i None r is = cc is
-step-of before w i (Some e) r is = by e.reused (cause_at before w i e.thread) is
-  where
-    by :
-        (b : Bool) (cause : Option Cause)
-        → Some r ≡ cond b None (option_map (told_of_step before i e.thread) cause)
-        → r.step ≡ i
-    by true cause e1 = cc e1
-    by false None e1 = cc e1
-    by false (Some c) e1 = same r (told_of_step before i e.thread c) e1
-      where
-        same : (a b : Reason) → Some a ≡ Some b → a.step ≡ b.step
-        same a b e2 = let eq : a ≡ b = cc in ap (λ (x : Reason). x.step) eq
+step-of before w i None r is = no-reason r i is
+step-of before w i (Some e) r is = step-by before i e.thread r e.reused (cause_at before w i e.thread) is
 
 one-executed : (w : RoundState) (i : ℕ) (b : Bool) → b ≡ is_executed (slice_get w.schedule i)
     → filter (λ k. is_executed (slice_get w.schedule k)) (i ∷ []) ≡ (cond b (i ∷ []) [])
