@@ -120,7 +120,7 @@ class Reader:
         self.file, self.size, self.short, self.start, self.place = file, size, short, 0, 0
         self.fuel, self.mapped, self.pool, self.used, self.made = 0, set(), [], 0, [0] * 32
 
-    def refuse(self, why, word=None, at=None):
+    def reject(self, why, word=None, at=None):
         at = self.start if at is None else at
         raise NotMemo(word or f"Field {at}", at, why)
 
@@ -132,23 +132,23 @@ class Reader:
     def take(self, size, what):
         data = self.some(size)
         if len(data) < size:
-            self.refuse(f"{what}: {size} bytes, and {len(data)} are left", self.short)
+            self.reject(f"{what}: {size} bytes, and {len(data)} are left", self.short)
         return data
 
     def number(self, size, what, low=0, high=2**32 - 1, word=None):
         number = int.from_bytes(self.take(size, what), "little")
         if not low <= number <= high:
-            self.refuse(f"{what}: {number}, and not {low} to {high}", word)
+            self.reject(f"{what}: {number}, and not {low} to {high}", word)
         return number
 
     # What comes before the records.
 
     def version(self):
         if self.some(4) != b"ITHM":
-            self.refuse("magic number: it isn't ITHM", "Magic")
+            self.reject("magic number: it isn't ITHM", "Magic")
         version = self.number(4, "version")
         if version not in (1, 2):
-            self.refuse(f"version: {version}, and not 1 or 2", f"Version {version}")
+            self.reject(f"version: {version}, and not 1 or 2", f"Version {version}")
         return version
 
     def executable(self, version):
@@ -168,7 +168,7 @@ class Reader:
         for _ in range(self.number(4, "count of pool pages")):
             page = self.take(PAGE, "pool page")
             if page in seen:
-                self.refuse("pool page: one like it came before")
+                self.reject("pool page: one like it came before")
             seen.add(page)
             self.pool.append(page)
 
@@ -179,16 +179,16 @@ class Reader:
         data = self.some(128)
         if len(data) < 128:
             self.start += len(data) // 4 * 4
-            self.refuse(f"register: 4 bytes, and {len(data) % 4} are left")
+            self.reject(f"register: 4 bytes, and {len(data) % 4} are left")
         return struct.unpack("<32I", data)
 
     def page(self, before):
         """The number of a page that is mapped, above the one before it."""
         page = self.number(4, "page number")
         if page not in self.mapped:
-            self.refuse(f"page number: {page}, and it isn't mapped")
+            self.reject(f"page number: {page}, and it isn't mapped")
         if page <= before:
-            self.refuse(f"page number: {page}, and not above the one before it")
+            self.reject(f"page number: {page}, and not above the one before it")
         return page
 
     def reads(self):
@@ -196,7 +196,7 @@ class Reader:
         for _ in range(self.number(2, "count of read pages")):
             page, index = self.page(page), self.number(4, "pool index", 0, self.used)
             if index >= len(self.pool):
-                self.refuse(f"pool index: {index}, and the pool has {len(self.pool)} pages")
+                self.reject(f"pool index: {index}, and the pool has {len(self.pool)} pages")
             self.used = max(self.used, index + 1)
             reads[page] = self.pool[index]
         return reads
@@ -206,7 +206,7 @@ class Reader:
         for _ in range(self.number(2, "count of stored pages")):
             page, mask = self.page(page), int.from_bytes(self.take(512, "mask"), "little")
             if mask == 0:
-                self.refuse("mask: it marks no byte")
+                self.reject("mask: it marks no byte")
             stores[page] = mask, self.take(mask.bit_count(), "stored bytes")
         return stores
 
@@ -223,16 +223,16 @@ class Reader:
         try:
             image = executables.read(elf)
         except executables.Refused as why:
-            self.refuse("executable: it isn't taken", f"Image {why}")
+            self.reject("executable: it isn't taken", f"Image {why}")
         self.mapped = {*image.rights(), *BESIDE_THE_IMAGE}
         run = self.run()
         count, pool_place = self.number(4, "count of entries", 1, run[2], "Limit entries"), self.place
         self.pages()
         records = [self.record() for _ in range(count)]
         if self.used < len(self.pool):
-            self.refuse(f"count of pool pages: only {self.used} are used", at=pool_place)
+            self.reject(f"count of pool pages: only {self.used} are used", at=pool_place)
         if self.place < self.size:
-            self.refuse("bytes come after the last record", at=self.place)
+            self.reject("bytes come after the last record", at=self.place)
         return Memo(elf, *run, version, image, self.pool, records)
 
 
@@ -258,6 +258,6 @@ def read(data, reader=Reader):
     memo = fields.memo(version)
     if version == 1 and memo.records[-1].is_old():
         place = len(memo.records) - 1
-        fields.refuse("the last record ended at a word that is an instruction today, or at a call that is one",
+        fields.reject("the last record ended at a word that is an instruction today, or at a call that is one",
                       f"Old {place}")
     return memo
