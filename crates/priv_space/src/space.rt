@@ -203,7 +203,8 @@ impl Space {
         pages: &Arc<PageMap>,
     ) -> Result<Space, AllocError>
         requires { length (arc_value view.now) ≡ length (arc_value pages.now) }
-        ensures fresh { IfOk result (λ space. space ≡ fresh (arc_value pages.now) (arc_value view.now)) }
+        ensures fresh { IfOk result
+            (λ space. space ≡ fresh (arc_value pages.now) (arc_value view.now)) }
         ensures whole { All (λ page. length page ≡ PAGE_SIZE) (arc_value view.now) }
     {
         let slots = Slots::new(alloc, view.len())?;

@@ -89,9 +89,7 @@ fn graph_of(alloc: Global, past: &Option<Arc<History>>) -> Result<Graph, AllocEr
     ensures of_run { IfOk result (λ _. AreOfRun (past_records (option_map arc_value past.now))) }
 {
     match past {
-        Some(history) => {
-            Graph::of(alloc, facts(alloc, history)?)
-        }
+        Some(history) => Graph::of(alloc, facts(alloc, history)?),
         None => Graph::of(alloc, Vec::new(alloc)),
     }
 }
@@ -161,9 +159,7 @@ impl Round {
         ensures mapped { (h : Kept) → self.now.past ≡ Some h → IsMapped h }
     {
         match &self.past {
-            Some(history) => {
-                history.find(t, number)
-            }
+            Some(history) => history.find(t, number),
             None => None,
         }
     }
@@ -271,9 +267,7 @@ impl Round {
         ensures mapped { OnTrue result (IsMapped (history_of self.now)) }
     {
         match &self.past {
-            Some(history) => {
-                history.setup().image().map == self.setup.image().map
-            }
+            Some(history) => history.setup().image().map == self.setup.image().map,
             None => true,
         }
     }

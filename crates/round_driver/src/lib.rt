@@ -38,7 +38,8 @@ struct Driven {
 impl Driven {
     /// A round before its first step.
     fn new(alloc: Global, setup: Setup, past: Option<Arc<History>>) -> Result<Driven, AllocError>
-        ensures round { IfOk result (λ driven. driven.round ≡ opening setup (option_map arc_value past)) }
+        ensures round { IfOk result
+            (λ driven. driven.round ≡ opening setup (option_map arc_value past)) }
         ensures sound { IfOk result (λ _. IsSetup setup) }
     {
         let round = Round::new(alloc, setup, past)?;

@@ -69,7 +69,8 @@ impl Clock {
     /// Whether no count of the other is above this clock's.
     pub fn covers(&self, other: &Clock) -> bool
         ensures count { length other.now ≡ THREADS }
-        ensures covers { IsTrue result ↔ ((t : ℕ) → slice_index other.now t ≤ slice_index self.now t) }
+        ensures covers { IsTrue result
+            ↔ ((t : ℕ) → slice_index other.now t ≤ slice_index self.now t) }
     {
         let theirs = u32x32::from_array(other.counts);
         let mine = u32x32::from_array(self.counts);

@@ -15,7 +15,7 @@ returns-clause-kept g c =
       count = c.in_ok-turned.turned.count;
       workspace = c.make_thunk.new.mem;
     })
-    c.in_ok-reads.reads c.in_ok-delta.delta (record { count = c.args.job.now.sized; pages = c.in_ok-space.ensures.whole; })
+    c.in_ok-reads.reads c.in_ok-delta.delta (record { count = c.args.job.now.sized; pages = c.in_ok-space.ensures.whole })
     c.deref-2.ensures
     (c.shared_map.ensures ∙ ap (λ (f : Frame). f.map) c.deref.ensures) c.in_ok-space.ensures.fresh
     c.in_ok-turned.ensures.left c.in_ok-reads.ensures

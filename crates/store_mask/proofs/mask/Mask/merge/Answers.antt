@@ -36,7 +36,7 @@ loop-number-preserved c =
       so_far = merged-word c.args.page.now c.args.written.now c.loop-number.page c.if-word-ne0.page c.args.self.now
           (64 * c.loop-number.number) c.word-word.result c.loop-number.invariant.so_far
           (omega (arith, c.requires.page_is_whole, c.requires.written_is_whole)) c.word-word.ensures.marks has
-      ∙ ap (λ k. merged c.args.page.now c.args.written.now (take k c.args.self.now)) next;
+          ∙ ap (λ k. merged c.args.page.now c.args.written.now (take k c.args.self.now)) next;
     }
 
 pub returns : goal.returns
