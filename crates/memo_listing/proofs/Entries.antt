@@ -1,12 +1,16 @@
 -- The lines of records, one after the other.
-use Rattle.std.proofs.Common.{◌≡◌, ℕ, suc, ◌+◌, ◌*◌, ◌<◌, List, ◌∷◌, ◌++◌, length, drop, All, get_or, slice_get, Some, sym, ap, ◌∙◌, subst, drop-cons, arith}
+use Rattle.std.proofs.Common.{◌≡◌, ℕ, suc, ◌+◌, ◌*◌, ◌<◌, List, [], ◌∷◌, ◌++◌, append-nil, append_assoc, length, take, drop, All, get_or, slice_get, Some, sym, ap, ◌∙◌, subst, drop-cons, arith}
+use Rattle.std.specs.Prelude.{codes}
+use Rattle.std.specs.List.{flat_map}
+use Rattle.std.proofs.lemmas.List.{take_more}
+use Rattle.std.proofs.lemmas.List.Concat.{flat_map-append}
 use Rattle.std.proofs.lemmas.Option.{slice_get_within, get_or_from_slice_get}
 use Rattle.record_spec.specs.Record.{Record}
 use Rattle.std.proofs.lemmas.List.{length-map}
 use Rattle.memory_spec.specs.Pages.{Mapped}
 use Rattle.machine_spec.specs.Setup.{map_of}
 use Rattle.history_spec.specs.History.{History, IsMapped, IsMappedIn}
-use Rattle.memo_listing.specs.Listing.{addresses_of, entry_line, entry_lines}
+use Rattle.memo_listing.specs.Listing.{address_text, addresses_of, entry_line, entry_lines}
 
 -- the record at a place is mapped where all are
 pub mapped_at :
@@ -43,3 +47,30 @@ pub later_in_range :
 later_in_range slot n all first others k x mapped is below at =
     let inside : All (λ y. slot y < n) (first ∷ others) = subst (All (λ y. slot y < n)) is mapped in
     subst (λ y. slot y < n) (sym at) (inside (suc k) x (omega arith))
+
+-- an address behind a comma
+abbrev further : {X : Type 0} → List ℕ → (X → ℕ) → X → List ℕ
+further addresses slot x = codes "," ++ address_text addresses (slot x)
+
+-- the addresses of the first things behind the first one, with one more
+pub address_next :
+    {X : Type 0} (addresses : List ℕ) (slot : X → ℕ) (xs : List X) (k : ℕ) (x : X) (s : ℕ)
+    (before into pushed new : List ℕ)
+    → k < length xs → x ≡ get_or xs k x → s ≡ slot x
+    → into ≡ before ++ flat_map (further addresses slot) (take k xs)
+    → pushed ≡ into ++ codes "," → new ≡ pushed ++ address_text addresses s
+    → new ≡ before ++ flat_map (further addresses slot) (take (k + 1) xs)
+address_next addresses slot xs k x s before into pushed new below at same so comma address =
+    let f = further addresses slot in
+    let text = address_text addresses (slot x) in
+    let more : take (k + 1) xs ≡ take k xs ++ x ∷ [] =
+    take_more xs k x below ∙ ap (λ y. take k xs ++ y ∷ []) (sym at) in
+    address
+    ∙ ap (λ (n : ℕ). pushed ++ address_text addresses n) same
+    ∙ ap (λ (l : List ℕ). l ++ text) (comma ∙ ap (λ (l : List ℕ). l ++ codes ",") so)
+    ∙ append_assoc (before ++ flat_map f (take k xs)) (codes ",") text
+    ∙ append_assoc before (flat_map f (take k xs)) (f x)
+    ∙ ap (λ (l : List ℕ). before ++ l)
+    (sym (ap (flat_map f) more
+    ∙ flat_map-append f (take k xs) (x ∷ [])
+    ∙ ap (λ (l : List ℕ). flat_map f (take k xs) ++ l) (append-nil (f x))))
