@@ -1,5 +1,5 @@
 -- How a line that runs the generated guest ends, from how its parts did.
-use Rattle.std.proofs.Common.{◌≡◌, ◌+◌, ◌≤◌, ℕ, Bool, true, false, ◌&&◌, List, [], ◌∷◌, ◌++◌, length, map, Some, refl, sym, ap, subst, ◌∙◌, append_assoc, arith}
+use Rattle.std.proofs.Common.{◌≡◌, ◌+◌, ◌≤◌, ℕ, Bool, true, false, ◌&&◌, List, [], ◌∷◌, ◌++◌, length, map, Some, refl, sym, ap, subst, ◌∙◌, append_assoc, inl, inr, arith}
 use Rattle.std.specs.Prelude.{All, if◌then◌else◌, codes, decimal, Ok, Err}
 use Rattle.std.specs.List.{AllByRecursion, concat, list_all}
 use Rattle.std.proofs.lemmas.List.{append-nil}
@@ -16,7 +16,7 @@ use Rattle.guest_gen.proofs.Inputs.{length-input_of, edit-in_range}
 use Rattle.guest_gen.proofs.Lists.{list-says}
 use Rattle.report_spec.specs.Report.{no_extras}
 use Rattle.rerun_spec.specs.Inputs.{Refusal, AreInputs, IsFirstRefused}
-use Rattle.rerun_spec.proofs.Inputs.{inputs-unrefused}
+use Rattle.rerun_spec.proofs.Inputs.{inputs-count, inputs-unrefused}
 use Rattle.rerun_spec.specs.Rounds.{Found, Round, Beginning, IsMade, IsWatched, nothing_asked, from_scratch, round_on, after_round, rounds_after}
 use Rattle.rerun_spec.specs.Reports.{made_exits, all_made_exit}
 use Rattle.rerun_spec.proofs.Rounds.{IsSoundlyMade, each-round, scratch-begins, round-machine}
@@ -26,12 +26,15 @@ use Rattle.ith_words.specs.Words.{Generates, GenerateLine, default_fuel, default
 use Rattle.ith_top.specs.declared.status.Status.{Status}
 use Rattle.ith_top.specs.declared.status.Status.TheVariants as status
 use Rattle.ith_top.specs.Contents.{Plan, IsGeneratedPlan}
-use Rattle.ith_top.specs.Ends.{Prints, HasRounds, GenerateEnds, IsGenerated, generated_text}
+use Rattle.ith_top.specs.Statuses.{status_in}
+use Rattle.ith_top.specs.Ends.{Prints, HasRounds, IsGenerated, generated_text, Ends}
 use Rattle.ith_top.specs.Rounds.{rounds_of}
 use Rattle.ith_top.specs.Refusals.{WhyUnprinted}
-use Rattle.ith_top.specs.Counting.{Work, IsCounted, turns_for, SpendsTurns, GenerateSpends}
+use Rattle.ith_top.specs.Counting.{Work, IsCounted, turns_for, MakesRounds, SpendsTurns, GenerateSpends}
 use Rattle.ith_top.specs.Playing.{AreFound, AreTheGenerated, CanBePlayed, CanBeSpelled, IsLineOn}
-use Rattle.ith_top.proofs.Ending.{unbegun}
+use Rattle.ith_top.proofs.Worlds.{stays_same, none_fell_same}
+use Rattle.ith_top.proofs.Asking.{unbegun}
+use Rattle.ith_top.proofs.Going.{in_part}
 use Rattle.ith_top.proofs.Promises.{promised_from_scratch, promised_of, each_kept}
 
 -- the line of a round that was made soundly is that of the machine from scratch
@@ -260,86 +263,84 @@ has_generated line a earlier later text exits is =
       kept = each_kept line.workers is.plan is.found is.playable is.spelled is.made;
     }
 
+both_made :
+    (line : GenerateLine) (earlier later : Work) (text : List ℕ) (exits : Bool)
+    → AreTheGenerated line.workers line.number earlier later text exits → later.rounds ≡ earlier.rounds + 2
+both_made line earlier later text exits is =
+    let rounds = is.rounds in let all = is.all in
+    let inputs = inputs-count (input_of line.number) (list_of line.number ∷ []) is.plan.inputs is.is_plan.edited in
+    omega arith
+
+-- the rounds were printed, and the counter rose by their turns
 generated_by :
     (line : GenerateLine) (a b : World) (earlier later : Work) (text : List ℕ) (exits : Bool)
     → AsksNothing a b → AreTheGenerated line.workers line.number earlier later text exits → Prints a b text
-    → IsGenerated line exits a b
+    → (done : IsGenerated line exits a b) × SpendsTurns (Generates line) a done.has earlier later
 unfolding has_generated
-generated_by line a b earlier later text exits none is prints =
-    record {
-      asked = none;
-      has = has_generated line a earlier later text exits is;
-      all = is.all;
-      prints = subst (Prints a b) is.is_text prints;
-      ends = is.are_exits;
-    }
+generated_by line a b earlier later text exits none is prints = (
+  record {
+    asked = none;
+    has = has_generated line a earlier later text exits is;
+    all = is.all;
+    prints = subst (Prints a b) is.is_text prints;
+    ends = is.are_exits;
+  },
+  record { counted = is.made.counted; turns = is.turns },
+)
 
-spent_by :
+pub generate_spent :
     (line : GenerateLine) (a b : World) (earlier later : Work) (text : List ℕ) (exits : Bool)
-    (none : AsksNothing a b) (is : AreTheGenerated line.workers line.number earlier later text exits) (prints : Prints a b text)
-    → SpendsTurns (Generates line) a (generated_by line a b earlier later text exits none is prints).has earlier later
-unfolding has_generated generated_by
-spent_by line a b earlier later text exits none is prints = record { counted = is.made.counted; turns = is.turns }
+    → AsksNothing a b → AreTheGenerated line.workers line.number earlier later text exits → Prints a b text
+    → GenerateSpends line a b earlier later (status_in (Ok exits))
+generate_spent line a b earlier later text true none is prints =
+    generated_by line a b earlier later text true none is prints
+generate_spent line a b earlier later text false none is prints =
+    generated_by line a b earlier later text false none is prints
 
--- the counter rose by the turns of both rounds
-pub generate_spent_finished :
-    (line : GenerateLine) (a b : World) (earlier later : Work) (text : List ℕ) (exits : Bool)
-    → AsksNothing a b → AreTheGenerated line.workers line.number earlier later text exits → Prints a b text → exits ≡ true
-    → GenerateSpends line a b earlier later status.Finished
-generate_spent_finished line a b earlier later text exits none is prints ends =
-    let all = subst (AreTheGenerated line.workers line.number earlier later text) ends is in
-    (generated_by line a b earlier later text true none all prints, spent_by line a b earlier later text true none all prints)
+-- so the line ends
+pub generate_ends :
+    (line : GenerateLine) (a b : World) (earlier later : Work) (exits : Bool)
+    → GenerateSpends line a b earlier later (status_in (Ok exits)) → Ends (Some (Generates line)) a b (status_in (Ok exits))
+generate_ends line a b earlier later true spent = inr spent.0
+generate_ends line a b earlier later false spent = inr spent.0
 
-pub generate_spent_unfinished :
-    (line : GenerateLine) (a b : World) (earlier later : Work) (text : List ℕ) (exits : Bool)
-    → AsksNothing a b → AreTheGenerated line.workers line.number earlier later text exits → Prints a b text → exits ≡ false
-    → GenerateSpends line a b earlier later status.Unfinished
-generate_spent_unfinished line a b earlier later text exits none is prints ends =
-    let all = subst (AreTheGenerated line.workers line.number earlier later text) ends is in
-    (generated_by line a b earlier later text false none all prints, spent_by line a b earlier later text false none all prints)
+-- and as many rounds were made as it asks for
+pub generate_made :
+    (line : GenerateLine) (earlier later : Work) (text : List ℕ) (exits : Bool)
+    → AreTheGenerated line.workers line.number earlier later text exits
+    → MakesRounds (Generates line) earlier.rounds later.rounds (status_in (Ok exits))
+generate_made line earlier later text true is = both_made line earlier later text true is
+generate_made line earlier later text false is = both_made line earlier later text false is
 
-pub generate_finished :
-    (line : GenerateLine) (a b : World) (earlier later : Work) (text : List ℕ) (exits : Bool)
-    → AsksNothing a b → AreTheGenerated line.workers line.number earlier later text exits → Prints a b text → exits ≡ true
-    → GenerateEnds line a b status.Finished
-generate_finished line a b earlier later text exits none is prints ends =
-    generated_by line a b earlier later text true none
-    (subst (AreTheGenerated line.workers line.number earlier later text) ends is) prints
-
-pub generate_unfinished :
-    (line : GenerateLine) (a b : World) (earlier later : Work) (text : List ℕ) (exits : Bool)
-    → AsksNothing a b → AreTheGenerated line.workers line.number earlier later text exits → Prints a b text → exits ≡ false
-    → GenerateEnds line a b status.Unfinished
-generate_unfinished line a b earlier later text exits none is prints ends =
-    generated_by line a b earlier later text false none
-    (subst (AreTheGenerated line.workers line.number earlier later text) ends is) prints
+pub unprinted_made :
+    (line : GenerateLine) (text : List ℕ) (a b : World) (earlier later : Work) (s : Status)
+    → later.rounds ≤ earlier.rounds + 2 → WhyUnprinted text a b s
+    → MakesRounds (Generates line) earlier.rounds later.rounds s
+unprinted_made line text a b earlier later status.WriteFault most why = most
+unprinted_made line text a b earlier later status.Memory most why = most
+unprinted_made line text a b earlier later _ most why = absurd why
 
 -- the host's memory ran out
 pub generate_cut : (line : GenerateLine) (a b : World) → AsksNothing a b → Stays a b
-    → GenerateEnds line a b status.Memory
-generate_cut line a b none stays = unbegun (Generates line) a b (none ∙ sym (append-nil a.asked)) stays
+    → Ends (Some (Generates line)) a b status.Memory
+generate_cut line a b none stays = inl (unbegun [] a b (none ∙ sym (append-nil a.asked)) stays)
 
 -- not all was printed
 pub generate_unprinted :
     (line : GenerateLine) (a b : World) (earlier later : Work) (text : List ℕ) (exits : Bool) (s : Status)
     → AsksNothing a b → AreTheGenerated line.workers line.number earlier later text exits → WhyUnprinted text a b s
-    → GenerateEnds line a b s
+    → Ends (Some (Generates line)) a b s
 unfolding has_generated
 generate_unprinted line a b earlier later text exits status.WriteFault none is why =
-    let cause : WhyUnprinted (generated_text line.number (rounds_of is.plan is.found)) a b status.WriteFault =
+    let whole = generated_text line.number (rounds_of is.plan is.found) in
+    let cause : WhyUnprinted whole a b status.WriteFault =
     subst (λ (l : List ℕ). WhyUnprinted l a b status.WriteFault) is.is_text why in
-    record {
+    inr
+    (record {
       asked = none;
       has = has_generated line a earlier later text exits is;
       all = is.all;
-      part = record {
-        cause = cause.0;
-        whole = 0;
-        next = generated_text line.number (rounds_of is.plan is.found);
-        is_next = refl;
-        count = cause.1.0;
-        prints = cause.1.1;
-      };
-    }
+      part = in_part whole a a b (stays_same a) (none_fell_same a) cause;
+    })
 generate_unprinted line a b earlier later text exits status.Memory none is why = generate_cut line a b none why
 generate_unprinted line a b earlier later text exits _ none is why = absurd why

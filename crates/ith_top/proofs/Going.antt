@@ -304,22 +304,21 @@ going_played b workers inputs a w now rest exit left earlier later none past goi
       is_left = sym is ∙ ap history_at (sym (going-after b workers inputs a w earlier.turns later.turns now rest exit going));
     }
 
--- no more was made, after a change that leaves files and printed bytes
+-- no more was made
 pub going_cut :
-    (b : Beginning) (workers : ℕ) (inputs : List (List ℕ)) (a w v : World) (t u : ℕ) (now : Beginning)
+    (b : Beginning) (workers : ℕ) (inputs : List (List ℕ)) (a w : World) (t u : ℕ) (now : Beginning)
     (rest : List (List ℕ)) (exit : Bool) (earlier later : Work)
-    → IsGoing b workers inputs a w t u now rest exit → Stays w v
+    → IsGoing b workers inputs a w t u now rest exit
     → later.rounds + length rest ≤ earlier.rounds + length inputs + 1 → later.rounds ≤ earlier.rounds + length inputs
-    → IsPlayedInPart workers (of_line b inputs) a v earlier later status.Memory
-going_cut b workers inputs a w v t u now rest exit earlier later going stays count most =
+    → IsPlayedInPart workers (of_line b inputs) a w earlier later status.Memory
+going_cut b workers inputs a w t u now rest exit earlier later going count most =
     record {
       found = going.found;
       made = going-found b workers inputs a w t u now rest exit going;
       rounds = let found = going.count in omega arith;
       most = most;
-      why = subst (λ (texts : List (List ℕ)). Prints a v (concat texts))
-          (sym (going-texts b workers inputs a w t u now rest exit going))
-          (prints_then a w v (concat (map made_report going.done)) going.prints stays);
+      why = subst (λ (texts : List (List ℕ)). Prints a w (concat texts))
+          (sym (going-texts b workers inputs a w t u now rest exit going)) going.prints;
     }
 
 next-rounds :
@@ -351,17 +350,6 @@ pub going_unprinted :
     → later.rounds + length (input ∷ rest) ≤ earlier.rounds + length inputs + 1
     → later.rounds ≤ earlier.rounds + length inputs
     → WhyUnprinted text w v why → IsPlayedInPart workers (of_line b inputs) a v earlier later why
-going_unprinted b workers inputs a w v t u o now input rest exit text ended left earlier later status.Finished going one count most cause =
-    absurd cause
-going_unprinted b workers inputs a w v t u o now input rest exit text ended left earlier later status.Unfinished going one count most cause =
-    absurd cause
-going_unprinted b workers inputs a w v t u o now input rest exit text ended left earlier later status.Words going one count most cause = absurd cause
-going_unprinted b workers inputs a w v t u o now input rest exit text ended left earlier later status.Image going one count most cause = absurd cause
-going_unprinted b workers inputs a w v t u o now input rest exit text ended left earlier later status.Memo going one count most cause = absurd cause
-going_unprinted b workers inputs a w v t u o now input rest exit text ended left earlier later status.EditList going one count most cause =
-    absurd cause
-going_unprinted b workers inputs a w v t u o now input rest exit text ended left earlier later status.ReadFault going one count most cause =
-    absurd cause
 going_unprinted b workers inputs a w v t u o now input rest exit text ended left earlier later status.WriteFault going one count most cause =
     let f = one.found in
     let r = round_on now input f in
@@ -399,11 +387,16 @@ going_unprinted b workers inputs a w v t u o now input rest exit text ended left
       };
     }
 going_unprinted b workers inputs a w v t u o now input rest exit text ended left earlier later status.Memory going one count most cause =
-    going_cut b workers inputs a w v t u now (input ∷ rest) exit earlier later going cause count most
-going_unprinted b workers inputs a w v t u o now input rest exit text ended left earlier later status.TooLarge going one count most cause =
+    let part = going_cut b workers inputs a w t u now (input ∷ rest) exit earlier later going count most in
+    record {
+      found = part.found;
+      made = part.made;
+      rounds = part.rounds;
+      most = part.most;
+      why = prints_then a w v _ part.why cause;
+    }
+going_unprinted b workers inputs a w v t u o now input rest exit text ended left earlier later _ going one count most cause =
     absurd cause
-going_unprinted b workers inputs a w v t u o now input rest exit text ended left earlier later status.Schedule going one count most cause = absurd cause
-going_unprinted b workers inputs a w v t u o now input rest exit text ended left earlier later status.Untrue going one count most cause = absurd cause
 
 -- of short inputs the first is short, and so are the others
 pub short_first : (input : List ℕ) (rest : List (List ℕ)) → AreShort (input ∷ rest) → length input ≤ MOST_INPUT_BYTES

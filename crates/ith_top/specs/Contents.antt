@@ -158,20 +158,14 @@ pub record IsGeneratedPlan (number : ℕ) (p : Plan) : Type 0 where
 abbrev pub IsPlan : Line → World → Plan → Type 0
 IsPlan (Runs line) before p = IsRunPlan line before p
 IsPlan (Reruns line) before p = IsRerunPlan line before p
-IsPlan (Replays line) before p = ⊥
-IsPlan (Shows line) before p = ⊥
 IsPlan (Explains line) before p = IsRerunPlan (as_rerun line) before p
-IsPlan (FindsRaces line) before p = ⊥
-IsPlan (Audits line) before p = ⊥
 IsPlan (Generates line) before p = IsGeneratedPlan line.number p
+IsPlan _ before p = ⊥
 
 -- How many workers a line that asks for rounds has.
 abbrev pub workers_of : Line → ℕ
 workers_of (Runs line) = line.workers
 workers_of (Reruns line) = line.workers
-workers_of (Replays line) = 0
-workers_of (Shows line) = 0
 workers_of (Explains line) = 1
-workers_of (FindsRaces line) = 0
-workers_of (Audits line) = 0
 workers_of (Generates line) = line.workers
+workers_of _ = 0

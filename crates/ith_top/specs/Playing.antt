@@ -15,14 +15,14 @@ use Rattle.rerun_spec.specs.Inputs.{AreShort}
 use Rattle.rerun_spec.specs.Rounds.{Found, Beginning, IsMade, IsWatched, left_by, round_on, with_input}
 use Rattle.rerun_spec.specs.Reports.{made_report, made_exits, all_exit, all_made_exit, all_executed}
 use Rattle.plain_machine.specs.declared.replaying.Outcome.{Outcome}
-use Rattle.schedule_list.specs.Schedule.{Says}
 use Rattle.round_report.specs.Replay.{replay_text}
 use Rattle.round_report.specs.Short.{made_short}
 use Rattle.ith_host.specs.World.{World}
-use Rattle.ith_words.specs.Words.{Text, ReplayLine}
+use Rattle.ith_words.specs.Words.{Text, Line, Replays, ReplayLine}
 use Rattle.ith_top.specs.declared.plan.Plan.{Plan as Planned}
 use Rattle.ith_top.specs.declared.report.Next.{Next}
-use Rattle.ith_top.specs.Contents.{Plan, ReplayContents, WasReplayRead, replay_setup_of, IsGeneratedPlan}
+use Rattle.ith_top.specs.Files.{files_named, Reads}
+use Rattle.ith_top.specs.Contents.{Plan, IsPlan, ReplayContents, WasReplayRead, replay_setup_of, IsGeneratedPlan}
 use Rattle.ith_top.specs.Rounds.{rounds_of}
 use Rattle.ith_top.specs.Counting.{Work, IsCounted, turns_for}
 use Rattle.ith_top.specs.Explaining.{explained_round, why_of}
@@ -51,6 +51,13 @@ pub record CanBeSpelled (p : Plan) : Type 0 where
   pub elf : AreBytes p.beginning.setup.elf
   pub inputs : All AreBytes p.inputs
   pub past : IsSpelledPast p.beginning.past p.beginning.setup
+
+-- This is a plan of a line, whose rounds can be made and kept; all files of the line were read for it.
+pub record IsPrepared (line : Line) (before after : World) (p : Plan) : Type 0 where
+  pub is : IsPlan line before p
+  pub playable : CanBePlayed p
+  pub spelled : CanBeSpelled p
+  pub reads : Reads (files_named line) before after
 
 -- What the round that comes next begins with, of a line whose first round has this setup.
 abbrev pub beginning_of : Setup → Next → Beginning
@@ -108,13 +115,14 @@ pub record IsCarriedOut (name : Option Text) (workers : ℕ) (p : Plan) (before 
     pub within : IsKeptWithin name (memo (left_of p found))
     pub are_exits : all_made_exit (rounds_of p found) ≡ exits
 
--- What a line asks for that replays a schedule: its files were read, and the executable is accepted, of which this is
--- the setup; and the schedule's tokens say these threads.
-pub record IsAskedReplay (line : ReplayLine) (before : World) (setup : Setup) (threads : List ℕ) : Type 0 where
+-- What a line asks for that replays a schedule: its files were read, all of them, and the executable is accepted, of which
+-- this is the setup; and this is the text of the schedule.
+pub record IsAskedReplay (line : ReplayLine) (before after : World) (setup : Setup) (text : List ℕ) : Type 0 where
   pub contents : ReplayContents
   pub read : WasReplayRead line before contents
   pub is_setup : setup ≡ replay_setup_of line contents
-  pub said : Says contents.schedule (Ok threads)
+  pub is_text : text ≡ contents.schedule
+  pub reads : Reads (files_named (Replays line)) before after
 
 -- What there is to tell of a schedule of these entries, by what it came to.
 abbrev pub told_of_outcome : List Entry → Outcome → Told

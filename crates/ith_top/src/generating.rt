@@ -1,6 +1,6 @@
 //! What the program does of a line that runs the generated guest.
 
-ghost use Rattle.std.specs.Prelude.{◌≡◌, ◌+◌, ◌≤◌, ◌++◌, codes, decimal, length, option_map, IfOk, IfErr};
+ghost use Rattle.std.specs.Prelude.{◌≡◌, ◌+◌, ◌≤◌, ◌++◌, codes, decimal, length, option_map, IfOk, IfErr, Some};
 ghost use Rattle.std.specs.Arc.{arc_value};
 ghost use Rattle.elf_load.specs.Load.{Refuses};
 ghost use Rattle.elf_spec.specs.declared.TheConstants.{MOST_ELF_BYTES};
@@ -14,8 +14,9 @@ ghost use Rattle.rerun_spec.specs.Reports.{told_as_made};
 ghost use Rattle.round_report.specs.Short.{short_text};
 ghost use Rattle.ith_words.specs.Words.{Generates, default_fuel, default_limit};
 ghost use Rattle.ith_words.specs.Said.{generate_said};
+ghost use Rattle.ith_top.specs.Statuses.{status_in};
 ghost use Rattle.ith_top.specs.Contents.{IsGeneratedPlan};
-ghost use Rattle.ith_top.specs.Ends.{GenerateEnds};
+ghost use Rattle.ith_top.specs.Ends.{Ends};
 ghost use Rattle.ith_top.specs.Counting.{MakesRounds, GenerateSpends};
 ghost use Rattle.ith_top.specs.Playing.{plan_said, beginning_of, CanBePlayed, CanBeSpelled, IsLineOn, AreTheGenerated};
 
@@ -23,7 +24,6 @@ use super::crew::{Crew, Made};
 use super::outside::print_text;
 use super::plan::{Plan, from_scratch};
 use super::report::{Next, Played, is_exit};
-use super::rounds::no_memory;
 use super::status::Status;
 use elf_load::LoadError;
 use guest_gen::{Generated, make};
@@ -213,20 +213,16 @@ pub fn generate<R: Threads + Wait + Sync, H: Host, G: Gate + Sync>(
     host: &mut H,
     line: &GenerateLine,
     crew: &mut Crew<'_, R, G>,
-) -> Status
+) -> Result<bool, Status>
     requires { crew.old.workers ≡ line.now.workers }
-    ensures ends { GenerateEnds (generate_said line.now) (H.world host.old) (H.world host.new) result }
-    ensures made { MakesRounds (Generates (generate_said line.now)) crew.old.work.rounds crew.new.work.rounds result }
+    ensures ends { Ends (Some (Generates (generate_said line.now)))
+        (H.world host.old) (H.world host.new) (status_in result) }
+    ensures made { MakesRounds (Generates (generate_said line.now))
+        crew.old.work.rounds crew.new.work.rounds (status_in result) }
     ensures turns { GenerateSpends (generate_said line.now) (H.world host.old) (H.world host.new)
-        crew.old.work crew.new.work result }
+        crew.old.work crew.new.work (status_in result) }
 {
-    let Lines { text, exits } = match make_both(alloc, line.number, crew) {
-        Ok(lines) => lines,
-        Err(_) => return no_memory(host),
-    };
-    match print_text(alloc, host, text.as_slice()) {
-        Ok(()) if exits => Status::Finished,
-        Ok(()) => Status::Unfinished,
-        Err(status) => status,
-    }
+    let Lines { text, exits } = make_both(alloc, line.number, crew)?;
+    print_text(alloc, host, text.as_slice())?;
+    Ok(exits)
 }

@@ -1,13 +1,11 @@
 //! The rounds of a line, one after the other.
 
-ghost use Rattle.std.specs.Prelude.{◌≡◌, IfOk, IfErr};
+ghost use Rattle.std.specs.Prelude.{IfOk, IfErr};
 ghost use Rattle.std.specs.Arc.{arc_value};
-ghost use Rattle.ith_host.specs.World.{Stays, NoneFell, AsksNothing};
+ghost use Rattle.ith_host.specs.World.{NoneFell, AsksNothing};
 ghost use Rattle.ith_top.specs.Refusals.{IsPlayedInPart};
 ghost use Rattle.ith_top.specs.Playing.{plan_said, CanBePlayed, IsPlayed};
-ghost use Rattle.ith_top.specs.declared.status.Status.TheVariants as status;
 
-use super::complaints::NO_MEMORY;
 use super::crew::Crew;
 use super::outside::print_text;
 use super::plan::Plan;
@@ -26,17 +24,6 @@ pub struct Outcome {
     pub exits: bool,
     /// What the last one leaves.
     pub left: Arc<History>,
-}
-
-/// Says that the host's memory ran out.
-pub fn no_memory<H: Host>(host: &mut H) -> Status
-    ensures status { result ≡ status.Memory }
-    ensures asked { AsksNothing (H.world host.old) (H.world host.new) }
-    ensures stays { Stays (H.world host.old) (H.world host.new) }
-    ensures counts { NoneFell (H.world host.old) (H.world host.new) }
-{
-    host.complain(NO_MEMORY);
-    Status::Memory
 }
 
 /// Makes the rounds of a plan, each going by what the one before it leaves, and prints the text of each before the next
@@ -65,10 +52,8 @@ pub fn make_rounds<R: Threads + Wait + Sync, H: Host, G: Gate + Sync>(
     let mut last = None;
     let mut exits = true;
     for place in 0..inputs.len() {
-        let input = match inputs.next() {
-            Ok(Some(input)) => input,
-            Ok(None) => unreachable!(),
-            Err(_) => return Err(no_memory(host)),
+        let Some(input) = inputs.next()? else {
+            unreachable!()
         };
         let ahead = Next {
             number: first + place,
@@ -76,16 +61,8 @@ pub fn make_rounds<R: Threads + Wait + Sync, H: Host, G: Gate + Sync>(
             past,
             asked,
         };
-        let Played { text, exited, left } = match make_round(
-            alloc, &setup, ahead, crew, &mut last,
-        ) {
-            Ok(played) => played,
-            Err(_) => return Err(no_memory(host)),
-        };
-        match print_text(alloc, host, text.as_slice()) {
-            Ok(()) => {}
-            Err(status) => return Err(status),
-        }
+        let Played { text, exited, left } = make_round(alloc, &setup, ahead, crew, &mut last)?;
+        print_text(alloc, host, text.as_slice())?;
         past = Some(left);
         exits &= exited;
     }
