@@ -7,7 +7,6 @@ use Rattle.std.proofs.lemmas.List.Elements.{All-from_recursion}
 use Rattle.machine_spec.specs.declared.TheConstants.{MOST_INPUT_BYTES}
 use Rattle.machine_spec.specs.Machine.{Machine}
 use Rattle.machine_spec.specs.Setup.{Setup, IsSetup}
-use Rattle.history_spec.specs.History.{History}
 use Rattle.report_spec.specs.Text.{line as text_line}
 use Rattle.edit_spec.specs.Editing.{edited}
 use Rattle.guest_gen.specs.declared.making.Generated.{Generated}
@@ -31,7 +30,8 @@ use Rattle.ith_top.specs.Ends.{Prints, HasRounds, IsGenerated, generated_text, E
 use Rattle.ith_top.specs.Rounds.{rounds_of}
 use Rattle.ith_top.specs.Refusals.{WhyUnprinted}
 use Rattle.ith_top.specs.Counting.{Work, IsCounted, turns_for, MakesRounds, SpendsTurns, GenerateSpends}
-use Rattle.ith_top.specs.Playing.{AreFound, AreTheGenerated, CanBePlayed, CanBeSpelled, IsLineOn}
+use Rattle.ith_top.specs.Playing.{AreFound, AreTheGenerated, CanBePlayed, CanBeSpelled, IsMadeOn}
+use Rattle.ith_top.specs.declared.report.Telling.TheVariants as telling
 use Rattle.ith_top.proofs.Worlds.{stays_same, none_fell_same}
 use Rattle.ith_top.proofs.Asking.{unbegun}
 use Rattle.ith_top.proofs.Going.{in_part}
@@ -153,8 +153,8 @@ record TwoRounds (workers : ℕ) (s : Setup) (input next : List ℕ) (t u : ℕ)
     pub are : rounds_after (from_scratch s nothing_asked) (input ∷ next ∷ []) found ≡ first ∷ second ∷ []
     pub made_first : IsMade workers first
     pub made_second : IsMade workers second
-    pub unwatched_first : IsWatched workers first
-    pub unwatched_second : IsWatched workers second
+    pub watched_first : IsWatched workers first
+    pub watched_second : IsWatched workers second
     pub counted_first : IsCounted workers first
     pub counted_second : IsCounted workers second
     pub turns : u ≡ t + turns_for found
@@ -163,17 +163,14 @@ record TwoRounds (workers : ℕ) (s : Setup) (input next : List ℕ) (t u : ℕ)
 
 two_rounds :
     (workers : ℕ) (s : Setup) (input next : List ℕ) (t u o : ℕ) (one other : List ℕ) (exit ended : Bool)
-    (left last : History)
-    → IsLineOn workers (from_scratch s nothing_asked) input t u one exit left
-    → IsLineOn workers (record { number = 1; past = Some left; setup = s; asked = nothing_asked }) next u o other ended last
+    (after last : Beginning)
+    → IsMadeOn workers telling.Line (from_scratch s nothing_asked) input t u one exit after
+    → IsMadeOn workers telling.Line after next u o other ended last
     → TwoRounds workers s input next t o one other exit ended
-two_rounds workers s input next t u o one other exit ended left last on on_next =
+two_rounds workers s input next t u o one other exit ended after last on on_next =
     let f = on.found in
-    let begins : record { number = 1; past = Some left; setup = s; asked = nothing_asked }
-    ≡ after_round (from_scratch s nothing_asked) input f =
-    ap (λ (h : History). record { number = 1; past = Some h; setup = s; asked = nothing_asked }) on.is_left in
-    let on_second : IsLineOn workers (after_round (from_scratch s nothing_asked) input f) next u o other ended last =
-    subst (λ (b : Beginning). IsLineOn workers b next u o other ended last) begins on_next in
+    let on_second : IsMadeOn workers telling.Line (after_round (from_scratch s nothing_asked) input f) next u o other ended last =
+    subst (λ (b : Beginning). IsMadeOn workers telling.Line b next u o other ended last) on.is_next on_next in
     let first : Round = round_on (from_scratch s nothing_asked) input f in
     let second : Round = round_on (after_round (from_scratch s nothing_asked) input f) next on_second.found in
     record {
@@ -184,8 +181,8 @@ two_rounds workers s input next t u o one other exit ended left last on on_next 
       are = refl;
       made_first = on.made;
       made_second = on_second.made;
-      unwatched_first = λ yes. absurd (let no : false ≡ true = yes in cc);
-      unwatched_second = λ yes. absurd (let no : false ≡ true = yes in cc);
+      watched_first = on.watched;
+      watched_second = on_second.watched;
       counted_first = on.counted;
       counted_second = on_second.counted;
       turns = let first = on.turns in let second = on_second.turns in omega arith;
@@ -198,22 +195,23 @@ two_rounds workers s input next t u o one other exit ended left last on on_next 
 -- both rounds were made
 pub both_generated :
     (workers number : ℕ) (p : Plan) (input next : List ℕ) (rest : List (List ℕ)) (one other text : List ℕ)
-    (exit ended exits : Bool) (left last : History) (earlier between later : Work)
+    (exit ended exits : Bool) (after last : Beginning) (earlier between later : Work)
     → later.rounds ≡ earlier.rounds + 2 → IsGeneratedPlan number p → CanBePlayed p → CanBeSpelled p → p.inputs ≡ input ∷ next ∷ rest
-    → IsLineOn workers (from_scratch p.beginning.setup nothing_asked) input earlier.turns between.turns one exit left
-    → IsLineOn workers (record { number = 1; past = Some left; setup = p.beginning.setup; asked = nothing_asked }) next
-    between.turns later.turns other ended last
+    → IsMadeOn workers telling.Line p.beginning input earlier.turns between.turns one exit after
+    → IsMadeOn workers telling.Line after next between.turns later.turns other ended last
     → text ≡ text_line (codes "gen") (decimal number) ++ one ++ other
     → exits ≡ (exit && ended)
     → AreTheGenerated workers number earlier later text exits
 unfolding all_made_exit
-both_generated workers number p input next rest one other text exit ended exits left last earlier between later rise is playable spelled inputs on on_next told ends =
+both_generated workers number p input next rest one other text exit ended exits after last earlier between later rise is playable spelled inputs on on_next told ends =
     let s : Setup = p.beginning.setup in
     let begins : p.beginning ≡ from_scratch s nothing_asked =
     is.beginning ∙ ap (λ (t : Setup). from_scratch t nothing_asked) (sym (ap (λ (b : Beginning). b.setup) is.beginning)) in
     let all : p.inputs ≡ input ∷ next ∷ [] = one_more _ _ input next rest p.inputs inputs is.edited in
     let two : TwoRounds workers s input next earlier.turns later.turns one other exit ended =
-    two_rounds workers s input next earlier.turns between.turns later.turns one other exit ended left last on on_next in
+    two_rounds workers s input next earlier.turns between.turns later.turns one other exit ended after last
+    (subst (λ (b : Beginning). IsMadeOn workers telling.Line b input earlier.turns between.turns one exit after) begins on)
+    on_next in
     let rounds : rounds_of p two.found ≡ two.first ∷ two.second ∷ [] =
     ap (λ (l : List (List ℕ)). rounds_after p.beginning l two.found) all
     ∙ ap (λ (b : Beginning). rounds_after b (input ∷ next ∷ []) two.found) begins
@@ -225,7 +223,7 @@ both_generated workers number p input next rest one other text exit ended exits 
       made = subst (All (IsMade workers)) (sym rounds)
           (All-from_recursion (IsMade workers) (two.first ∷ two.second ∷ []) (two.made_first, (two.made_second, tt)));
       watched = subst (All (IsWatched workers)) (sym rounds)
-          (All-from_recursion (IsWatched workers) (two.first ∷ two.second ∷ []) (two.unwatched_first, (two.unwatched_second, tt)));
+          (All-from_recursion (IsWatched workers) (two.first ∷ two.second ∷ []) (two.watched_first, (two.watched_second, tt)));
       counted = subst (All (IsCounted workers)) (sym rounds)
           (All-from_recursion (IsCounted workers) (two.first ∷ two.second ∷ []) (two.counted_first, (two.counted_second, tt)));
     } in

@@ -21,7 +21,7 @@ use Rattle.ith_top.specs.declared.status.Status.{Status}
 use Rattle.ith_top.specs.declared.status.Status.TheVariants as status
 use Rattle.ith_top.specs.Statuses.{status_in}
 use Rattle.ith_top.specs.Files.{files_named, Reads, Quiet}
-use Rattle.ith_top.specs.Contents.{ReplayContents, AreReplayContents, WasReplayRead, replay_setup_of}
+use Rattle.ith_top.specs.Contents.{ReplayContents, AreReplayContents, replay_setup_of}
 use Rattle.ith_top.specs.Ends.{Prints, HasReplay, Token, RefusesSchedule, text_of_replay, IsReplayed, EndsEarly, ReplayEnds, Ends}
 use Rattle.ith_top.specs.Counting.{turns_of_replay, ReplaySpends}
 use Rattle.ith_top.specs.Refusals.{WhyNoSetup, WhyNoThreads, WhyUnreplayed, WhyUnprinted}

@@ -19,7 +19,7 @@ use Rattle.rv_asm.specs.Guest.{IsGuest}
 use Rattle.guest_gen.specs.declared.guest.TheConstants.{BASE, ITEMS, ZEROS}
 use Rattle.guest_gen.specs.Generated.{input_of, list_of}
 use Rattle.ith_host.specs.World.{World, IsContent}
-use Rattle.ith_words.specs.Words.{Text, Line, Runs, Reruns, Replays, Shows, Explains, FindsRaces, Audits, Generates, RunLine, RerunLine, ReplayLine, ShowLine, ExplainLine, default_fuel, default_limit}
+use Rattle.ith_words.specs.Words.{Text, Line, Runs, Reruns, Explains, Generates, RunLine, RerunLine, ReplayLine, ShowLine, ExplainLine, default_fuel, default_limit}
 
 -- Contents of edit lists, which agree with each that is told, and are within their limit.
 abbrev pub AreLists : World → List Text → List (List ℕ) → Type 0

@@ -8,7 +8,7 @@ use Rattle.rerun_workers.specs.Making.{IsCostOf}
 use Rattle.rerun_spec.specs.Rounds.{Found, Round, made}
 use Rattle.plain_machine.specs.Replaying.{turns_from}
 use Rattle.ith_host.specs.World.{World}
-use Rattle.ith_words.specs.Words.{Line, Runs, Reruns, Replays, Shows, Explains, FindsRaces, Audits, Generates, ReplayLine, ExplainLine, GenerateLine}
+use Rattle.ith_words.specs.Words.{Line, Runs, Reruns, Generates, ReplayLine, ExplainLine, GenerateLine}
 use Rattle.ith_top.specs.declared.status.Status.{Status}
 use Rattle.ith_top.specs.declared.status.Status.TheVariants as status
 use Rattle.ith_top.specs.Statuses.{IfDone}

@@ -1,5 +1,5 @@
 -- Why a part of a call refused, by the status that it gives.
-use Rattle.std.specs.Prelude.{◌≡◌, ◌≢◌, ℕ, ◌+◌, ◌<◌, ◌≤◌, true, false, ◌⊎◌, List, length, take, Option, Some, None, Err, ⊤}
+use Rattle.std.specs.Prelude.{◌≡◌, ◌≢◌, ℕ, ◌+◌, ◌<◌, ◌≤◌, false, ◌⊎◌, List, length, take, Option, Some, None, Err, ⊤}
 use Rattle.std.specs.List.{concat}
 use Rattle.ith_host.specs.World.{World, Rose, NoneFell, Stays, Holds}
 use Rattle.elf_spec.specs.Image.{is_image}
@@ -7,8 +7,7 @@ use Rattle.memo_spec.specs.declared.Refusal.{Refusal as MemoRefusal}
 use Rattle.memo_spec.specs.declared.TheConstants.{MOST_MEMO_BYTES}
 use Rattle.memo_spec.specs.Reading.{reading}
 use Rattle.memo_spec.specs.Spelling.{memo}
-use Rattle.machine_spec.specs.Setup.{Setup, is_permitted, is_complete}
-use Rattle.plain_machine.specs.Replaying.{IsFirstForbidden}
+use Rattle.machine_spec.specs.Setup.{Setup}
 use Rattle.schedule_list.specs.Schedule.{Says}
 use Rattle.rerun_spec.specs.Inputs.{Refusal, IsFirstRefused}
 use Rattle.rerun_spec.specs.Rounds.{Found}

@@ -12,7 +12,7 @@ ghost use Rattle.ith_top.specs.Counting.{ExplainSpends};
 ghost use Rattle.ith_top.specs.Playing.{plan_said, CanBePlayed, IsPrepared, TellsReasons};
 
 use super::outside::print_text;
-use super::plan::{Plan, prepare_rerun};
+use super::plan::{Beginning, Plan, prepare_rerun};
 use super::status::Status;
 use ith_host::Host;
 use ith_words::{ExplainLine, RerunLine};
@@ -54,14 +54,13 @@ fn prepare<H: Host>(alloc: Global, host: &mut H, line: &ExplainLine<'_>) -> Resu
 fn text_of(alloc: Global, plan: Plan, turns: &mut Turns) -> Result<Vec<u8>, AllocError>
     requires { CanBePlayed (plan_said plan) }
     ensures reasons { IfOk result (λ text. TellsReasons (plan_said plan) text.items) }
-    ensures cost { IfOk result (λ _. (input : List ℕ) (later : List (List ℕ)) → (plan_said plan).inputs ≡ input ∷ later
+    ensures cost { IfOk result (λ _. (input : List ℕ) (later : List (List ℕ)) →
+        (plan_said plan).inputs ≡ input ∷ later
         → turns.new ≡ turns.old + executed_by (explained_round (plan_said plan).beginning input)) }
 {
     let Plan {
-        past,
-        setup,
+        beginning: Beginning { past, setup, .. },
         mut inputs,
-        ..
     } = plan;
     let Some(input) = inputs.next()? else {
         unreachable!()

@@ -1,6 +1,6 @@
 //! The files that a line names to read.
 
-ghost use Rattle.std.specs.Prelude.{◌≡◌, ◌≤◌, ◌∷◌, [], length, map, IfOk, IfErr};
+ghost use Rattle.std.specs.Prelude.{◌≤◌, ◌∷◌, [], length, map, IfOk, IfErr};
 ghost use Rattle.ith_host.specs.World.{IsContent};
 ghost use Rattle.round_inputs.specs.Lists.{bytes_of_each};
 ghost use Rattle.ith_words.specs.Words.{Runs, Reruns, Replays};
@@ -57,7 +57,8 @@ fn read_lists<H: Host>(alloc: Global, host: &mut H, names: &[&str]) -> Result<Ve
         (H.world host.old) (map (λ name. name.now) names.now) (bytes_of_each lists.items)) }
     ensures reads { IfOk result (λ _. Reads (lists_named (map (λ name. name.now) names.now))
         (H.world host.old) (H.world host.new)) }
-    ensures refused { IfErr result (λ status. WhyUnread (lists_named (map (λ name. name.now) names.now))
+    ensures refused { IfErr result (λ status.
+        WhyUnread (lists_named (map (λ name. name.now) names.now))
         (H.world host.old) (H.world host.new) status) }
 {
     let mut lists = Vec::new(alloc);
@@ -84,11 +85,13 @@ fn read_guest<H: Host>(
 ) -> Result<GuestFiles, Status>
     ensures elf { IfOk result (λ files. IsContent (H.world host.old) elf.now files.elf.items) }
     ensures elf_within { IfOk result (λ files. length files.elf.items ≤ MOST_ELF_BYTES) }
-    ensures input { IfOk result (λ files. IsContent (H.world host.old) input.now files.input.items) }
+    ensures input { IfOk result (λ files.
+        IsContent (H.world host.old) input.now files.input.items) }
     ensures input_within { IfOk result (λ files. length files.input.items ≤ MOST_INPUT_BYTES) }
     ensures reads { IfOk result (λ _. Reads (elf_named elf.now ∷ input_named input.now ∷ [])
         (H.world host.old) (H.world host.new)) }
-    ensures refused { IfErr result (λ status. WhyUnread (elf_named elf.now ∷ input_named input.now ∷ [])
+    ensures refused { IfErr result (λ status.
+        WhyUnread (elf_named elf.now ∷ input_named input.now ∷ [])
         (H.world host.old) (H.world host.new) status) }
 {
     let elf = read_file(alloc, host, elf, MOST_ELF_BYTES as u64)?;
@@ -98,8 +101,12 @@ fn read_guest<H: Host>(
 
 /// Reads the files of a line that runs a guest, in the order in which it names them.
 pub fn read_files<H: Host>(alloc: Global, host: &mut H, line: &RunLine<'_>) -> Result<Files, Status>
-    ensures contents { IfOk result (λ files. AreContents (H.world host.old) (run_said line.now)
-        (record { elf = files.elf.items; input = files.input.items; lists = bytes_of_each files.lists.items })) }
+    ensures contents { IfOk result (λ files.
+        AreContents (H.world host.old) (run_said line.now) (record {
+          elf = files.elf.items;
+          input = files.input.items;
+          lists = bytes_of_each files.lists.items;
+        })) }
     ensures reads { IfOk result (λ _. Reads (files_named (Runs (run_said line.now)))
         (H.world host.old) (H.world host.new)) }
     ensures refused { IfErr result (λ status. WhyUnread (files_named (Runs (run_said line.now)))
@@ -116,11 +123,16 @@ pub fn read_replay_files<H: Host>(
     host: &mut H,
     line: &ReplayLine<'_>,
 ) -> Result<ReplayFiles, Status>
-    ensures contents { IfOk result (λ files. AreReplayContents (H.world host.old) (replay_said line.now)
-        (record { elf = files.elf.items; input = files.input.items; schedule = files.schedule.items })) }
+    ensures contents { IfOk result (λ files.
+        AreReplayContents (H.world host.old) (replay_said line.now) (record {
+          elf = files.elf.items;
+          input = files.input.items;
+          schedule = files.schedule.items;
+        })) }
     ensures reads { IfOk result (λ _. Reads (files_named (Replays (replay_said line.now)))
         (H.world host.old) (H.world host.new)) }
-    ensures refused { IfErr result (λ status. WhyUnread (files_named (Replays (replay_said line.now)))
+    ensures refused { IfErr result (λ status. WhyUnread
+        (files_named (Replays (replay_said line.now)))
         (H.world host.old) (H.world host.new) status) }
 {
     let GuestFiles { elf, input } = read_guest(alloc, host, line.elf, line.input)?;
@@ -135,7 +147,8 @@ pub fn read_replay_files<H: Host>(
 /// Reads a memo.
 pub fn read_memo<H: Host>(alloc: Global, host: &mut H, name: &str) -> Result<Vec<u8>, Status>
     ensures content { IfOk result (λ bytes. IsMemoContent (H.world host.old) name.now bytes.items) }
-    ensures reads { IfOk result (λ _. Reads (memo_named name.now ∷ []) (H.world host.old) (H.world host.new)) }
+    ensures reads { IfOk result (λ _. Reads (memo_named name.now ∷ []) (H.world host.old)
+        (H.world host.new)) }
     ensures refused { IfErr result (λ status. WhyUnread (memo_named name.now ∷ [])
         (H.world host.old) (H.world host.new) status) }
 {
@@ -148,7 +161,8 @@ pub fn read_rerun_files<H: Host>(
     host: &mut H,
     line: &RerunLine<'_>,
 ) -> Result<RerunFiles, Status>
-    ensures memo { IfOk result (λ files. IsMemoContent (H.world host.old) line.now.memo.now files.memo.items) }
+    ensures memo { IfOk result (λ files. IsMemoContent (H.world host.old)
+        line.now.memo.now files.memo.items) }
     ensures lists { IfOk result (λ files. AreLists (H.world host.old) (rerun_said line.now).edits
         (bytes_of_each files.lists.items)) }
     ensures reads { IfOk result (λ _. Reads (files_named (Reruns (rerun_said line.now)))

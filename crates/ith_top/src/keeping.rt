@@ -1,6 +1,6 @@
 //! Writing the memo of what the last round leaves.
 
-ghost use Rattle.std.specs.Prelude.{◌≡◌, ◌≤◌, length, IfErr, OnOk};
+ghost use Rattle.std.specs.Prelude.{◌≤◌, length, IfErr, OnOk};
 ghost use Rattle.ith_host.specs.World.{AsksNothing};
 ghost use Rattle.memo_spec.specs.declared.TheConstants.{MOST_MEMO_BYTES};
 ghost use Rattle.memo_spec.specs.Spelling.{memo, IsSpellable};
@@ -39,7 +39,8 @@ pub fn keep<H: Host>(
     history: &History,
 ) -> Result<(), Status>
     requires { IsSpellable history.now }
-    ensures kept { OnOk result (Keeps name.now (memo history.now) (H.world host.old) (H.world host.new)) }
+    ensures kept { OnOk result (Keeps name.now (memo history.now) (H.world host.old)
+        (H.world host.new)) }
     ensures within { OnOk result (length (memo history.now) ≤ MOST_MEMO_BYTES) }
     ensures refused { IfErr result (λ status. WhyUnkept name.now (memo history.now)
         (H.world host.old) (H.world host.new) status) }

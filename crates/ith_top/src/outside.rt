@@ -1,6 +1,6 @@
 //! What the program does to the outside: it reads a file, and prints a text; and says why if it couldn't.
 
-ghost use Rattle.std.specs.Prelude.{◌≡◌, ◌≤◌, ◌∷◌, [], length, IfOk, IfErr, OnOk};
+ghost use Rattle.std.specs.Prelude.{◌≤◌, ◌∷◌, [], length, IfOk, IfErr, OnOk};
 ghost use Rattle.ith_host.specs.World.{NoneFell, AsksNothing, IsContent};
 ghost use Rattle.ith_top.specs.Files.{Reads};
 ghost use Rattle.ith_top.specs.Ends.{Prints};
@@ -22,7 +22,8 @@ pub fn read_file<H: Host>(
     ensures within { IfOk result (λ bytes. length bytes.items ≤ most) }
     ensures reads { IfOk result (λ _. Reads (record { name = name.now; most = most } ∷ [])
         (H.world host.old) (H.world host.new)) }
-    ensures refused { IfErr result (λ status. WhyUnread (record { name = name.now; most = most } ∷ [])
+    ensures refused { IfErr result (λ status. WhyUnread
+        (record { name = name.now; most = most } ∷ [])
         (H.world host.old) (H.world host.new) status) }
 {
     let mut bytes = Vec::new(alloc);
@@ -44,7 +45,8 @@ pub fn read_file<H: Host>(
 #[tactic(auto, using(crate::proofs::Worlds::stays_trans, crate::proofs::Worlds::none_fell_trans, crate::proofs::Worlds::rose_then))]
 pub fn print_text<H: Host>(alloc: Global, host: &mut H, text: &[u8]) -> Result<(), Status>
     ensures printed { OnOk result (Prints (H.world host.old) (H.world host.new) text.now) }
-    ensures refused { IfErr result (λ status. WhyUnprinted text.now (H.world host.old) (H.world host.new) status) }
+    ensures refused { IfErr result (λ status. WhyUnprinted text.now (H.world host.old)
+        (H.world host.new) status) }
     ensures asked { AsksNothing (H.world host.old) (H.world host.new) }
     ensures counts { NoneFell (H.world host.old) (H.world host.new) }
 {

@@ -31,19 +31,26 @@ use round_inputs::{Inputs, InputsError, inputs_of};
 use std::alloc::{AllocError, Global};
 use std::sync::Arc;
 
+/// What a round begins with.
+#[derive(Drop)]
+pub struct Beginning {
+    /// How many rounds come before it.
+    pub number: usize,
+    /// The history that it goes by, if there is one.
+    pub past: Option<Arc<History>>,
+    /// Its program and its limits, with some input.
+    pub setup: Setup,
+    /// Which lines are asked for in its report.
+    pub asked: Asked,
+}
+
 /// What rounds a line asks for.
 #[derive(Drop)]
 pub struct Plan {
-    /// The number of the first.
-    pub number: usize,
-    /// The history that the first goes by, if there is one.
-    pub past: Option<Arc<History>>,
-    /// The program and the limits of all of them, with some input.
-    pub setup: Setup,
+    /// What the first begins with.
+    pub beginning: Beginning,
     /// Their inputs, in order, each made when the one before it is taken out.
     pub inputs: Inputs,
-    /// Which lines are asked for in their reports.
-    pub asked: Asked,
 }
 
 /// Makes a setup of what was read, with the limits of a line.
@@ -57,8 +64,12 @@ pub fn set_up<H: Host>(
 ) -> Result<Setup, Status>
     requires elf_size { length elf.items ≤ MOST_ELF_BYTES }
     requires input_size { length input.items ≤ MOST_INPUT_BYTES }
-    ensures setup { IfOk result (λ s. s
-        ≡ record { elf = elf.items; input = input.items; fuel = limits.fuel; limit = limits.steps }) }
+    ensures setup { IfOk result (λ s. s ≡ record {
+      elf = elf.items;
+      input = input.items;
+      fuel = limits.fuel;
+      limit = limits.steps;
+    }) }
     ensures sound { IfOk result (λ s. IsSetup s) }
     ensures bytes { IfOk result (λ s. AreBytes s.elf × AreBytes s.input) }
     ensures refused { IfErr result (λ status. WhyNoSetup elf.items status) }
@@ -93,7 +104,8 @@ fn recall<H: Host>(alloc: Global, host: &mut H, memo: &[u8]) -> Result<History, 
 /// The history that the memo of a name spells. What was read of its file is freed.
 pub fn remember<H: Host>(alloc: Global, host: &mut H, name: &str) -> Result<History, Status>
     ensures history { IfOk result (λ h. IsRemembered (H.world host.old) name.now h) }
-    ensures reads { IfOk result (λ _. Reads (memo_named name.now ∷ []) (H.world host.old) (H.world host.new)) }
+    ensures reads { IfOk result (λ _. Reads (memo_named name.now ∷ []) (H.world host.old)
+        (H.world host.new)) }
     ensures refused { IfErr result (λ status. EndsEarly (Shows (as_show name.now))
         (H.world host.old) (H.world host.new) status) }
 {
@@ -111,7 +123,8 @@ fn edit<H: Host>(
     names: &[&str],
 ) -> Result<Inputs, Status>
     ensures inputs { IfOk result (λ inputs. AreInputs first.now (bytes_of_each lists.now) inputs) }
-    ensures refused { IfErr result (λ status. WhyUnedited first.now (bytes_of_each lists.now) status) }
+    ensures refused { IfErr result (λ status.
+        WhyUnedited first.now (bytes_of_each lists.now) status) }
     ensures quiet { Quiet (H.world host.old) (H.world host.new) }
 {
     let copy = Vec::from_slice(alloc, first)?;
@@ -133,9 +146,11 @@ fn edit_again<H: Host>(
     lists: &[Vec<u8>],
     names: &[&str],
 ) -> Result<Inputs, Status>
-    ensures inputs { IfOk result (λ inputs. AreRerunInputs first.now (bytes_of_each lists.now) inputs) }
+    ensures inputs { IfOk result (λ inputs.
+        AreRerunInputs first.now (bytes_of_each lists.now) inputs) }
     ensures few { IfOk result (λ inputs. 1 + length inputs < 2 ^ 64) }
-    ensures refused { IfErr result (λ status. WhyUnedited first.now (bytes_of_each lists.now) status) }
+    ensures refused { IfErr result (λ status.
+        WhyUnedited first.now (bytes_of_each lists.now) status) }
     ensures quiet { Quiet (H.world host.old) (H.world host.new) }
 {
     let mut inputs = edit(alloc, host, first, lists, names)?;
@@ -170,36 +185,37 @@ fn after_memo(
     limits: Limits,
     asked: Asked,
 ) -> Result<Plan, AllocError>
-    ensures beginning { IfOk result (λ plan. beginning_said plan ≡ begin.after_memo history limits asked) }
+    ensures beginning { IfOk result (λ plan. beginning_said plan.beginning
+        ≡ begin.after_memo history limits asked) }
     ensures inputs { IfOk result (λ plan. plan.inputs ≡ inputs) }
 {
     history.setup().sound();
     let input = Vec::from_slice(alloc, history.setup().input())?;
     let setup = history.setup().with(input, limits)?;
     let past = Arc::new(alloc, history)?;
-    Ok(Plan {
+    let beginning = Beginning {
         number: 1,
         past: Some(past),
         setup,
-        inputs,
         asked,
-    })
+    };
+    Ok(Plan { beginning, inputs })
 }
 
 /// The plan of rounds from scratch on these inputs.
 pub fn from_scratch(setup: Setup, inputs: Inputs, asked: Asked) -> Plan
-    ensures beginning { beginning_said result ≡ begin.from_scratch setup asked }
+    ensures beginning { beginning_said result.beginning ≡ begin.from_scratch setup asked }
     ensures inputs { result.inputs ≡ inputs }
     ensures few { length inputs < 2 ^ 64 }
 {
     let _count = inputs.len();
-    Plan {
+    let beginning = Beginning {
         number: 0,
         past: None,
         setup,
-        inputs,
         asked,
-    }
+    };
+    Plan { beginning, inputs }
 }
 
 /// What rounds a line asks for that runs a guest: its files are read, the executable is looked at, and then the edit

@@ -41,10 +41,12 @@ fn carry_out<R: Threads + Wait + Sync, H: Host, G: Gate + Sync>(
 ) -> Result<bool, Status>
     requires playable { CanBePlayed (plan_said plan) }
     requires spelled { CanBeSpelled (plan_said plan) }
-    ensures done { IfOk result (λ exits. IsCarriedOut (option_map (λ name. name.now) kept.entry) crew.old.workers
-        (plan_said plan) (H.world host.old) (H.world host.new) crew.old.work crew.new.work exits) }
-    ensures refused { IfErr result (λ status. WhyUndone (option_map (λ name. name.now) kept.entry) crew.old.workers
-        (plan_said plan) (H.world host.old) (H.world host.new) crew.old.work crew.new.work status) }
+    ensures done { IfOk result (λ exits.
+        IsCarriedOut (option_map (λ name. name.now) kept.entry) crew.old.workers (plan_said plan)
+        (H.world host.old) (H.world host.new) crew.old.work crew.new.work exits) }
+    ensures refused { IfErr result (λ status.
+        WhyUndone (option_map (λ name. name.now) kept.entry) crew.old.workers (plan_said plan)
+        (H.world host.old) (H.world host.new) crew.old.work crew.new.work status) }
     ensures asked { AsksNothing (H.world host.old) (H.world host.new) }
 {
     let Outcome { exits, left } = make_rounds(alloc, host, plan, crew)?;
@@ -134,7 +136,8 @@ pub fn status_of<R: Threads + Wait + Sync, H: Host, G: Gate + Sync>(
     host: &mut H,
     gate: &G,
 ) -> Status
-    ensures { Ends (said.line_of (map string_bytes words.now)) (H.world host.old) (H.world host.new) result }
+    ensures { Ends (said.line_of (map string_bytes words.now))
+        (H.world host.old) (H.world host.new) result }
 {
     match do_line(rt, alloc, words, host, gate) {
         Ok(true) => Status::Finished,

@@ -1,7 +1,7 @@
 //! What the program does of a line that replays a schedule.
 
 ghost use Rattle.std.specs.Prelude.{◌≡◌, ◌+◌, Ok, IfOk, IfErr, Some};
-ghost use Rattle.plain_machine.specs.Replaying.{IsOutcomeOf, IsCauseOf};
+ghost use Rattle.plain_machine.specs.Replaying.{IsOutcomeOf};
 ghost use Rattle.rerun_spec.specs.Reports as reports;
 ghost use Rattle.schedule_list.specs.Schedule.{Says};
 ghost use Rattle.ith_words.specs.Words.{Replays};

@@ -8,8 +8,8 @@ ghost use Rattle.ith_top.specs.Playing.{plan_said, CanBePlayed, IsPlayed};
 
 use super::crew::Crew;
 use super::outside::print_text;
-use super::plan::Plan;
-use super::report::{Next, Played, make_round};
+use super::plan::{Beginning, Plan};
+use super::report::{Played, Telling, make_round};
 use super::status::Status;
 use ith_host::{Gate, Host};
 use release_core::History;
@@ -36,18 +36,16 @@ pub fn make_rounds<R: Threads + Wait + Sync, H: Host, G: Gate + Sync>(
 ) -> Result<Outcome, Status>
     requires { CanBePlayed (plan_said plan) }
     ensures played { IfOk result (λ outcome. IsPlayed crew.old.workers (plan_said plan)
-        (H.world host.old) (H.world host.new) crew.old.work crew.new.work outcome.exits (arc_value outcome.left)) }
+        (H.world host.old) (H.world host.new) crew.old.work crew.new.work outcome.exits
+        (arc_value outcome.left)) }
     ensures refused { IfErr result (λ status. IsPlayedInPart crew.old.workers (plan_said plan)
         (H.world host.old) (H.world host.new) crew.old.work crew.new.work status) }
     ensures asked { AsksNothing (H.world host.old) (H.world host.new) }
     ensures counts { NoneFell (H.world host.old) (H.world host.new) }
 {
     let Plan {
-        number: first,
-        mut past,
-        setup,
+        mut beginning,
         mut inputs,
-        asked,
     } = plan;
     let mut last = None;
     let mut exits = true;
@@ -55,17 +53,19 @@ pub fn make_rounds<R: Threads + Wait + Sync, H: Host, G: Gate + Sync>(
         let Some(input) = inputs.next()? else {
             unreachable!()
         };
-        let ahead = Next {
-            number: first + place,
+        let Played { text, exited, next } = make_round(
+            alloc,
+            beginning,
             input,
-            past,
-            asked,
-        };
-        let Played { text, exited, left } = make_round(alloc, &setup, ahead, crew, &mut last)?;
+            crew,
+            Telling::Report,
+            &mut last,
+        )?;
         print_text(alloc, host, text.as_slice())?;
-        past = Some(left);
+        beginning = next;
         exits &= exited;
     }
+    let Beginning { past, .. } = beginning;
     match past {
         Some(left) => Ok(Outcome { exits, left }),
         None => unreachable!(),

@@ -1,7 +1,7 @@
 -- Answers to the goals that the check leaves of `audit`.
 use Rattle.std.proofs.Common.{◌≡◌, ℕ, Option, subst, ◌∙◌, inl, inr}
 use Rattle.std.proofs.lemmas.Result.{err_from_is_err_and}
-use Rattle.ith_words.specs.Words.{Line, Audits}
+use Rattle.ith_words.specs.Words.{Audits}
 use Rattle.ith_words.specs.Said.{audit_said}
 use Rattle.ith_top.specs.Files.{files_named}
 use Rattle.ith_top.specs.Ends.{HasVerdict, Prints, IsAudited, AuditEnds, audit_of}

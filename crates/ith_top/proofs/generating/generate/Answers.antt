@@ -1,11 +1,7 @@
 -- How a line that runs the generated guest ends, from how its parts did.
 use Rattle.std.proofs.Common.{refl}
-use Rattle.std.specs.Prelude.{Ok}
 use Rattle.std.proofs.lemmas.Result.{err_from_is_err_and}
 use Rattle.ith_words.specs.Said.{generate_said}
-use Rattle.ith_top.specs.Statuses.{status_in}
-use Rattle.ith_top.specs.Ends.{Prints}
-use Rattle.ith_top.specs.Counting.{GenerateSpends}
 use Rattle.ith_top.specs.Refusals.{WhyUnprinted}
 use Rattle.ith_top.proofs.Worlds.{stays_same}
 use Rattle.ith_top.proofs.Generated.{generate_spent, generate_ends, generate_made, generate_cut, generate_unprinted, unprinted_made}

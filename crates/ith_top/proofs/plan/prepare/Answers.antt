@@ -1,5 +1,5 @@
 -- How a line ends that has no plan, and what holds of its plan.
-use Rattle.std.proofs.Common.{rules, ◌≡◌, ◌<◌, ◌^◌, true, length, ◌∙◌}
+use Rattle.std.proofs.Common.{rules, ◌≡◌, ◌<◌, ◌^◌, true, length}
 use Rattle.std.proofs.lemmas.Result.{err_from_is_err_and}
 use Rattle.elf_spec.specs.Image.{is_image}
 use Rattle.round_inputs.specs.Lists.{bytes_of_each}
@@ -7,7 +7,7 @@ use Rattle.ith_words.specs.Words.{Runs}
 use Rattle.ith_words.specs.Said.{run_said}
 use Rattle.rerun_spec.specs.Inputs.{AreInputs}
 use Rattle.rerun_spec.specs.Rounds.{asked_by}
-use Rattle.ith_top.specs.Files.{files_named, Reads}
+use Rattle.ith_top.specs.Files.{files_named}
 use Rattle.ith_top.specs.Contents.{Contents}
 use Rattle.ith_top.specs.Playing.{plan_said}
 use Rattle.ith_top.specs.Refusals.{WhyUnedited}
