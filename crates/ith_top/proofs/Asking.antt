@@ -1,21 +1,18 @@
 -- Files that are asked for one after the other, and where that stops.
 use Rattle.std.proofs.Common.{◌≡◌, ◌<◌, ◌≤◌, ℕ, zero, suc, List, [], ◌∷◌, ◌++◌, length, take, map, get_or, Option, Some, None, refl, ap, sym, subst, ◌∙◌, append_assoc, arith}
 use Rattle.std.specs.Prelude.{All, IfSome}
-use Rattle.std.proofs.lemmas.List.{map-append}
+use Rattle.std.proofs.lemmas.List.{append-nil, map-append}
 use Rattle.std.proofs.lemmas.List.Elements.{All-append, All-cons, All-nil}
 use Rattle.edit_spec.specs.declared.TheConstants.{MOST_LIST_BYTES}
 use Rattle.ith_host.specs.World.{World, NoneFell, Stays, AsksFor, AsksNothing}
 use Rattle.ith_top.specs.declared.status.Status.{Status}
 use Rattle.ith_top.specs.declared.status.Status.TheVariants as status
 use Rattle.ith_words.specs.Words.{Text}
-use Rattle.ith_top.specs.Files.{Named, lists_named, AsksForFiles, StopsAt, FailedToRead, IsLong, IsWithin}
+use Rattle.ith_top.specs.Files.{Named, lists_named, AsksForFiles, Reads, StopsAt, FailedToRead, IsLong, IsWithin}
+use Rattle.ith_top.specs.Ends.{SomeRead}
 use Rattle.ith_top.specs.Contents.{AreLists}
 use Rattle.ith_top.specs.Refusals.{WhyUnread}
-use Rattle.ith_top.proofs.Worlds.{rose_before, rose_then, long_before, within_before}
-
--- names were asked for, and then none
-pub asked_then : (names : List Text) (a b c : World) → AsksFor names a b → AsksNothing b c → AsksFor names a c
-asked_then names a b c some none = none ∙ some
+use Rattle.ith_top.proofs.Worlds.{stays_trans, none_fell_trans, rose_before, rose_then, long_before, within_before}
 
 -- names were asked for, and then others
 pub asked_both : (xs ys : List Text) (a b c : World) → AsksFor xs a b → AsksFor ys b c → AsksFor (xs ++ ys) a c
@@ -28,6 +25,15 @@ files_both xs ys a b c one other =
     let name = λ (f : Named). f.name in
     subst (λ (names : List Text). AsksFor names a c) (sym (map-append name xs ys))
     (asked_both (map name xs) (map name ys) a b c one other)
+
+-- files were read, and then others
+pub reads_both : (xs ys : List Named) (a b c : World) → Reads xs a b → Reads ys b c → Reads (xs ++ ys) a c
+reads_both xs ys a b c one other =
+    record {
+      asked = files_both xs ys a b c one.asked other.asked;
+      stays = stays_trans a b c one.stays other.stays;
+      counts = none_fell_trans a b c one.counts other.counts;
+    }
 
 names-named : (names : List Text) → map (λ (f : Named). f.name) (lists_named names) ≡ names
 names-named [] = refl
@@ -52,40 +58,46 @@ lists_within a (name ∷ names) (list ∷ lists) are =
     All-cons (IsWithin a) (record { name = name; most = MOST_LIST_BYTES }) (lists_named names)
     (within_told (a.files name) list MOST_LIST_BYTES are.0.0 are.0.1) (lists_within a names lists are.1)
 
--- one file was asked for, and refused
+-- one file was asked for, and stops a line for a cause
+one_stops : (cause : Named → Type 0) (file : Named) (a b : World) → AsksForFiles (file ∷ []) a b → cause file
+    → StopsAt cause (file ∷ []) a b
+one_stops cause file a b asked is =
+    record {
+      earlier = [];
+      file = file;
+      later = [];
+      are = refl;
+      asked = asked;
+      within = All-nil (IsWithin a);
+      cause = is;
+    }
+
+-- it wasn't read
 pub one_failed :
     (file : Named) (a b c : World)
-    → AsksForFiles (file ∷ []) a b → AsksNothing b c → NoneFell b c → FailedToRead a b file
-    → WhyUnread (file ∷ []) a c status.ReadFault
-one_failed file a b c asked none fell rose =
+    → AsksForFiles (file ∷ []) a b → Stays a b → FailedToRead a b file
+    → AsksNothing b c → Stays b c → NoneFell b c → WhyUnread (file ∷ []) a c status.ReadFault
+one_failed file a b c asked stays rose none then fell =
     record {
-      earlier = [];
-      file = file;
-      later = [];
-      are = refl;
-      asked = asked_then (file.name ∷ []) a b c asked none;
-      within = All-nil (IsWithin a);
-      cause = rose_then _ _ _ rose (fell.reads file.name);
+      stops = one_stops (FailedToRead a c) file a c (none ∙ asked) (rose_then _ _ _ rose (fell.reads file.name));
+      stays = stays_trans a b c stays then;
     }
 
+-- it is too long
 pub one_long :
     (file : Named) (a b c : World)
-    → AsksForFiles (file ∷ []) a b → AsksNothing b c → IsLong a file → WhyUnread (file ∷ []) a c status.TooLarge
-one_long file a b c asked none long =
-    record {
-      earlier = [];
-      file = file;
-      later = [];
-      are = refl;
-      asked = asked_then (file.name ∷ []) a b c asked none;
-      within = All-nil (IsWithin a);
-      cause = long;
-    }
+    → AsksForFiles (file ∷ []) a b → Stays a b → IsLong a file
+    → AsksNothing b c → Stays b c → WhyUnread (file ∷ []) a c status.TooLarge
+one_long file a b c asked stays long none then =
+    record { stops = one_stops (IsLong a) file a c (none ∙ asked) long; stays = stays_trans a b c stays then }
 
-pub one_cut : (file : Named) (a b c : World) → AsksForFiles (file ∷ []) a b → AsksNothing b c
-    → WhyUnread (file ∷ []) a c status.Memory
-one_cut file a b c asked none =
-    record { first = file ∷ []; later = []; are = refl; asked = asked_then (file.name ∷ []) a b c asked none }
+-- all of some files were asked for when the host's memory ran out
+pub unbegun : (files : List Named) (a b : World) → AsksForFiles files a b → Stays a b → SomeRead files a b
+unbegun files a b asked stays =
+    record {
+      asked = record { first = files; later = []; are = sym (append-nil files); asked = asked };
+      stays = stays;
+    }
 
 stops_front : (cause : Named → Type 0) (files more : List Named) (a b : World) → StopsAt cause files a b
     → StopsAt cause (files ++ more) a b
@@ -103,24 +115,22 @@ stops_front cause files more a b stops =
 -- what stopped among the first files stopped among all of them
 pub unread_front : (files more : List Named) (a b : World) (s : Status) → WhyUnread files a b s
     → WhyUnread (files ++ more) a b s
-unread_front files more a b status.Finished why = why
-unread_front files more a b status.Unfinished why = why
-unread_front files more a b status.Words why = why
-unread_front files more a b status.Image why = why
-unread_front files more a b status.Memo why = why
-unread_front files more a b status.EditList why = why
-unread_front files more a b status.ReadFault why = stops_front (FailedToRead a b) files more a b why
-unread_front files more a b status.WriteFault why = why
+unread_front files more a b status.ReadFault why =
+    record { stops = stops_front (FailedToRead a b) files more a b why.stops; stays = why.stays }
 unread_front files more a b status.Memory why =
+    let some = why.asked in
     record {
-      first = why.first;
-      later = why.later ++ more;
-      are = ap (λ (l : List Named). l ++ more) why.are ∙ append_assoc why.first why.later more;
-      asked = why.asked;
+      asked = record {
+        first = some.first;
+        later = some.later ++ more;
+        are = ap (λ (l : List Named). l ++ more) some.are ∙ append_assoc some.first some.later more;
+        asked = some.asked;
+      };
+      stays = why.stays;
     }
-unread_front files more a b status.TooLarge why = stops_front (IsLong a) files more a b why
-unread_front files more a b status.Schedule why = why
-unread_front files more a b status.Untrue why = why
+unread_front files more a b status.TooLarge why =
+    record { stops = stops_front (IsLong a) files more a b why.stops; stays = why.stays }
+unread_front files more a b _ why = absurd why
 
 stops_more :
     (cause other : Named → Type 0) (done files : List Named) (a b c : World)
@@ -143,29 +153,31 @@ stops_more cause other done files a b c gives stays asked within stops =
 -- what stopped after some files were read
 pub unread_more :
     (done files : List Named) (a b c : World) (s : Status)
-    → Stays a b → NoneFell a b → AsksForFiles done a b → All (IsWithin a) done
-    → WhyUnread files b c s → WhyUnread (done ++ files) a c s
-unread_more done files a b c status.Finished stays fell asked within why = why
-unread_more done files a b c status.Unfinished stays fell asked within why = why
-unread_more done files a b c status.Words stays fell asked within why = why
-unread_more done files a b c status.Image stays fell asked within why = why
-unread_more done files a b c status.Memo stays fell asked within why = why
-unread_more done files a b c status.EditList stays fell asked within why = why
-unread_more done files a b c status.ReadFault stays fell asked within why =
-    stops_more (FailedToRead b c) (FailedToRead a c) done files a b c
-    (λ f it. rose_before _ _ _ (fell.reads f.name) it) stays asked within why
-unread_more done files a b c status.WriteFault stays fell asked within why = why
-unread_more done files a b c status.Memory stays fell asked within why =
+    → Reads done a b → All (IsWithin a) done → WhyUnread files b c s → WhyUnread (done ++ files) a c s
+unread_more done files a b c status.ReadFault reads within why =
     record {
-      first = done ++ why.first;
-      later = why.later;
-      are = ap (λ (l : List Named). done ++ l) why.are ∙ sym (append_assoc done why.first why.later);
-      asked = files_both done why.first a b c asked why.asked;
+      stops = stops_more (FailedToRead b c) (FailedToRead a c) done files a b c
+          (λ f it. rose_before _ _ _ (reads.counts.reads f.name) it) reads.stays reads.asked within why.stops;
+      stays = stays_trans a b c reads.stays why.stays;
     }
-unread_more done files a b c status.TooLarge stays fell asked within why =
-    stops_more (IsLong b) (IsLong a) done files a b c (λ f it. long_before a b f stays it) stays asked within why
-unread_more done files a b c status.Schedule stays fell asked within why = why
-unread_more done files a b c status.Untrue stays fell asked within why = why
+unread_more done files a b c status.Memory reads within why =
+    let some = why.asked in
+    record {
+      asked = record {
+        first = done ++ some.first;
+        later = some.later;
+        are = ap (λ (l : List Named). done ++ l) some.are ∙ sym (append_assoc done some.first some.later);
+        asked = files_both done some.first a b c reads.asked some.asked;
+      };
+      stays = stays_trans a b c reads.stays why.stays;
+    }
+unread_more done files a b c status.TooLarge reads within why =
+    record {
+      stops = stops_more (IsLong b) (IsLong a) done files a b c (λ f it. long_before a b f reads.stays it)
+          reads.stays reads.asked within why.stops;
+      stays = stays_trans a b c reads.stays why.stays;
+    }
+unread_more done files a b c _ reads within why = absurd why
 
 -- the names before a place, the one there, and those after it
 pub split_at : (names : List Text) (place : ℕ) (name : Text) → place < length names → name ≡ get_or names place name

@@ -18,13 +18,13 @@ use Rattle.ith_host.specs.World.{World, Rose}
 use Rattle.elf_spec.specs.Image.{is_image}
 use Rattle.rerun_spec.specs.Inputs.{AreInputs, AreRerunInputs}
 use Rattle.rerun_spec.proofs.Inputs.{inputs-unrefused, rerun-unrefused}
-use Rattle.ith_words.specs.Words.{Text, Line, Runs, Reruns, Replays, Shows, Explains, FindsRaces, Audits, Generates, RunLine, RerunLine, ReplayLine, ShowLine, ExplainLine, RacesLine, AuditLine, GenerateLine}
+use Rattle.ith_words.specs.Words.{Text, Line, Runs, Reruns, Replays, Shows, Explains, FindsRaces, Audits, Generates, RunLine, RerunLine, ReplayLine, AuditLine, GenerateLine}
 use Rattle.ith_top.specs.declared.status.Status.{Status}
 use Rattle.ith_top.specs.declared.status.Status.TheVariants as status
 use Rattle.ith_top.specs.Statuses.{code_of}
 use Rattle.ith_top.specs.Files.{Named, StopsAt, FailedToRead, IsLong, files_named, lists_named, memo_named}
-use Rattle.ith_top.specs.Contents.{AreLists, ReplayContents, AreReplayContents, replay_setup_of, CanBeReplayed, IsMemoContent, IsMemoOf, as_rerun}
-use Rattle.ith_top.specs.Ends.{OfNone, IsUnkept, IsUnprinted, ScheduleRefusal, Token, Entry, Incomplete, RefusesSchedule, IsRerunListRefused, RoundsEnd, ReplayEnds, ShowEnds, ExplainEnds, RacesEnd, AuditEnds, GenerateEnds, Answers}
+use Rattle.ith_top.specs.Contents.{AreLists, ReplayContents, AreReplayContents, replay_setup_of, CanBeReplayed, IsMemoContent, IsMemoOf, as_rerun, as_show}
+use Rattle.ith_top.specs.Ends.{OfNone, IsUnkept, IsUnprinted, ScheduleRefusal, Token, Entry, Incomplete, RefusesSchedule, IsMemoRefused, IsRerunMemoRefused, IsRerunListRefused, IsReplayImageRefused, RefusesImage, RefusesList, TextEnds, EndsBy, RoundsEnd, ReplayEnds, AuditEnds, GenerateEnds, Answers}
 use Rattle.ith_top.specs.Completing.{AreTold, HasNoFault, AreAccepted, IsAcceptedMemo, AreRerunAccepted, IsReplayAccepted, IsCompleted, IsTold, IsListed, IsJudged, Completes}
 use Rattle.ith_top.proofs.Permitting.{first-permitted}
 
@@ -110,43 +110,73 @@ unrefused name before memo why is read refused =
     let same : is.memo ≡ memo = content-told (before.files name) is.memo memo is.told read.content in
     accepted-taken is.memo is.history why is.accepted (ap reading same ∙ refused)
 
-run_by :
-    (line : RunLine) (before after : World) (answer : ℕ) (s : Status)
-    → answer ≡ code_of s → RoundsEnd (Runs line) before after s → AreAccepted line before
-    → HasNoFault (Runs line) before after
-    → IsCompleted (Runs line) before after answer
-run_by line before after answer status.Finished is ends are none = inl is
-run_by line before after answer status.Unfinished is ends are none = inr (inl is)
-run_by line before after answer status.Words is ends are none = absurd ends
-run_by line before after answer status.Image is ends are none =
-    let same : are.contents.elf ≡ ends.contents.elf =
-    content-told (before.files line.elf) are.contents.elf ends.contents.elf are.elf ends.read.elf in
-    let taken : is_image are.contents.elf ≡ true = are.read.accepted in
-    let refused : is_image are.contents.elf ≡ false = ap is_image same ∙ ends.refused in
-    absurd (cc)
-run_by line before after answer status.Memo is ends are none = absurd ends
-run_by line before after answer status.EditList is ends are none =
-    let input : are.contents.input ≡ ends.contents.input =
-    content-told (before.files line.input) are.contents.input ends.contents.input are.input ends.read.contents.input in
-    let lists : are.contents.lists ≡ ends.contents.lists =
-    lists-told before line.edits are.contents.lists ends.contents.lists are.lists ends.read.contents.lists in
-    let edited : AreInputs ends.contents.input ends.contents.lists are.inputs =
-    subst (λ (i : List ℕ). AreInputs i ends.contents.lists are.inputs) input
-    (subst (λ (ls : List (List ℕ)). AreInputs are.contents.input ls are.inputs) lists are.edited) in
-    absurd (inputs-unrefused ends.contents.input ends.contents.lists are.inputs ends.place ends.why edited ends.refused)
-run_by line before after answer status.ReadFault is ends are none =
-    absurd (none_stops (FailedToRead before after) (files_named (Runs line)) before after none.reads ends.stops)
-run_by line before after answer status.WriteFault is ends are none =
-    absurd (unfailing (Runs line) before after none ends)
-run_by line before after answer status.Memory is ends are none = inr (inr (inl is))
-run_by line before after answer status.TooLarge is ends are none =
-    elim ends [
-      | inl large ↦ absurd (none_stops (IsLong before) (files_named (Runs line)) before after
-          (run-short line before are) large.stops)
-      | inr large ↦ inr (inr (inr (is, large)))
-    ]
-run_by line before after answer status.Schedule is ends are none = absurd ends
-run_by line before after answer status.Untrue is ends are none = absurd ends
+-- nothing stands in the way of a line of these files before anything is made for it: no file is too long that is told to
+-- be within its limit, and none is refused
+record IsFree (files : List Named) (image memo list : Type 0) (before : World) : Type 0 where
+  pub takes_image : image → ⊥
+  pub takes_memo : memo → ⊥
+  pub takes_lists : list → ⊥
+  pub short : OfNone (IsLong before) files
+
+-- so it ends early only if the host's memory ran out
+early :
+    (files : List Named) (image memo list : Type 0) (before after : World) (s : Status)
+    → IsFree files image memo list before → OfNone (FailedToRead before after) files
+    → EndsBy files image memo list before after s → code_of s ≡ code_of status.Memory
+early files image memo list before after status.Image free none ends = absurd (free.takes_image ends)
+early files image memo list before after status.Memo free none ends = absurd (free.takes_memo ends)
+early files image memo list before after status.EditList free none ends = absurd (free.takes_lists ends)
+early files image memo list before after status.ReadFault free none ends =
+    absurd (none_stops (FailedToRead before after) files before after none ends.stops)
+early files image memo list before after status.Memory free none ends = refl
+early files image memo list before after status.TooLarge free none ends =
+    absurd (none_stops (IsLong before) files before after free.short ends.stops)
+early files image memo list before after _ free none ends = absurd ends
+
+-- and else it is completed
+completed :
+    (line : Line) (before after : World) (answer : ℕ) (s : Status)
+    → answer ≡ code_of s → HasNoFault line before after → RoundsEnd line before after s
+    → IsCompleted line before after answer
+completed line before after answer status.Finished is none ends = inl is
+completed line before after answer status.Unfinished is none ends = inr (inl is)
+completed line before after answer status.WriteFault is none ends = absurd (unfailing line before after none ends)
+completed line before after answer status.Memory is none ends = inr (inr (inl is))
+completed line before after answer status.TooLarge is none ends = inr (inr (inr (is, ends)))
+completed line before after answer _ is none ends = absurd ends
+
+-- or told whole
+listed :
+    (whole part : Type 0) (answer : ℕ) (s : Status) → answer ≡ code_of s → (part → ⊥) → TextEnds whole part s
+    → IsListed answer
+listed whole part answer status.Finished is none ends = inl is
+listed whole part answer status.WriteFault is none ends = absurd (none ends)
+listed whole part answer _ is none ends = absurd ends
+
+run-free :
+    (line : RunLine) (before after : World) → AreAccepted line before
+    → IsFree (files_named (Runs line)) (RefusesImage (Runs line) before after) ⊥ (RefusesList (Runs line) before after) before
+run-free line before after are =
+    record {
+      takes_image = λ ends.
+          let same : are.contents.elf ≡ ends.contents.elf =
+          content-told (before.files line.elf) are.contents.elf ends.contents.elf are.elf ends.read.elf in
+          let taken : is_image are.contents.elf ≡ true = are.read.accepted in
+          let refused : is_image are.contents.elf ≡ false = ap is_image same ∙ ends.refused in
+          absurd (cc);
+      takes_memo = λ ends. ends;
+      takes_lists = λ ends.
+          let input : are.contents.input ≡ ends.contents.input =
+          content-told (before.files line.input) are.contents.input ends.contents.input are.input
+          ends.read.contents.input in
+          let lists : are.contents.lists ≡ ends.contents.lists =
+          lists-told before line.edits are.contents.lists ends.contents.lists are.lists ends.read.contents.lists in
+          let edited : AreInputs ends.contents.input ends.contents.lists are.inputs =
+          subst (λ (i : List ℕ). AreInputs i ends.contents.lists are.inputs) input
+          (subst (λ (ls : List (List ℕ)). AreInputs are.contents.input ls are.inputs) lists are.edited) in
+          inputs-unrefused ends.contents.input ends.contents.lists are.inputs ends.place ends.why edited ends.refused;
+      short = run-short line before are;
+    }
 
 -- one memo, told, is of one history
 one-memo : (memo other : List ℕ) (h k : History) → memo ≡ other → IsMemoOf memo h → IsMemoOf other k → h ≡ k
@@ -177,69 +207,28 @@ rerun-short line before are = (
   lists-short before line.edits are.lists are.lists_told are.lists_read,
 )
 
-rerun_by :
-    (line : RerunLine) (before after : World) (answer : ℕ) (s : Status)
-    → answer ≡ code_of s → RoundsEnd (Reruns line) before after s → AreRerunAccepted line before
-    → HasNoFault (Reruns line) before after
-    → IsCompleted (Reruns line) before after answer
-rerun_by line before after answer status.Finished is ends are none = inl is
-rerun_by line before after answer status.Unfinished is ends are none = inr (inl is)
-rerun_by line before after answer status.Words is ends are none = absurd ends
-rerun_by line before after answer status.Image is ends are none = absurd ends
-rerun_by line before after answer status.Memo is ends are none =
-    absurd (unrefused line.memo before ends.memo ends.why are.memo ends.read ends.refused)
-rerun_by line before after answer status.EditList is ends are none =
-    absurd (rerun-unlisted line before after are ends)
-rerun_by line before after answer status.ReadFault is ends are none =
-    absurd (none_stops (FailedToRead before after) (files_named (Reruns line)) before after none.reads ends.stops)
-rerun_by line before after answer status.WriteFault is ends are none =
-    absurd (unfailing (Reruns line) before after none ends)
-rerun_by line before after answer status.Memory is ends are none = inr (inr (inl is))
-rerun_by line before after answer status.TooLarge is ends are none =
-    elim ends [
-      | inl large ↦ absurd
-          (none_stops (IsLong before) (files_named (Reruns line)) before after (rerun-short line before are) large.stops)
-      | inr large ↦ inr (inr (inr (is, large)))
-    ]
-rerun_by line before after answer status.Schedule is ends are none = absurd ends
-rerun_by line before after answer status.Untrue is ends are none = absurd ends
+rerun-free :
+    (line : RerunLine) (before after : World) → AreRerunAccepted line before
+    → IsFree (files_named (Reruns line)) ⊥ (IsRerunMemoRefused line before after) (IsRerunListRefused line before after)
+    before
+rerun-free line before after are =
+    record {
+      takes_image = λ ends. ends;
+      takes_memo = λ ends. unrefused line.memo before ends.memo ends.why are.memo ends.read ends.refused;
+      takes_lists = λ ends. rerun-unlisted line before after are ends;
+      short = rerun-short line before are;
+    }
 
-show_by :
-    (line : ShowLine) (before after : World) (answer : ℕ) (s : Status)
-    → answer ≡ code_of s → ShowEnds line before after s → IsAcceptedMemo line.memo before
-    → HasNoFault (Shows line) before after → IsListed answer
-show_by line before after answer status.Finished is ends memo none = inl is
-show_by line before after answer status.Unfinished is ends memo none = absurd ends
-show_by line before after answer status.Words is ends memo none = absurd ends
-show_by line before after answer status.Image is ends memo none = absurd ends
-show_by line before after answer status.Memo is ends memo none =
-    absurd (unrefused line.memo before ends.memo ends.why memo ends.read ends.refused)
-show_by line before after answer status.EditList is ends memo none = absurd ends
-show_by line before after answer status.ReadFault is ends memo none =
-    absurd (none_stops (FailedToRead before after) (files_named (Shows line)) before after none.reads ends.stops)
-show_by line before after answer status.WriteFault is ends memo none = absurd (none.prints ends.part.cause)
-show_by line before after answer status.Memory is ends memo none = inr is
-show_by line before after answer status.TooLarge is ends memo none =
-    absurd (none_stops (IsLong before) (files_named (Shows line)) before after
-    (memo-short line.memo before memo, tt) ends.stops)
-show_by line before after answer status.Schedule is ends memo none = absurd ends
-show_by line before after answer status.Untrue is ends memo none = absurd ends
-
-races_by :
-    (line : RacesLine) (before after : World) (answer : ℕ) (s : Status)
-    → answer ≡ code_of s → RacesEnd line before after s → IsAcceptedMemo line.memo before
-    → HasNoFault (FindsRaces line) before after → IsListed answer
-races_by line before after answer status.Finished is ends memo none = inl is
-races_by line before after answer status.Memo is ends memo none =
-    absurd (unrefused line.memo before ends.memo ends.why memo ends.read ends.refused)
-races_by line before after answer status.ReadFault is ends memo none =
-    absurd (none_stops (FailedToRead before after) (files_named (FindsRaces line)) before after none.reads ends.stops)
-races_by line before after answer status.WriteFault is ends memo none = absurd (none.prints ends.part.cause)
-races_by line before after answer status.Memory is ends memo none = inr is
-races_by line before after answer status.TooLarge is ends memo none =
-    absurd (none_stops (IsLong before) (files_named (FindsRaces line)) before after
-    (memo-short line.memo before memo, tt) ends.stops)
-races_by line before after answer _ is ends memo none = absurd ends
+memo-free :
+    (name : Text) (before after : World) → IsAcceptedMemo name before
+    → IsFree (memo_named name ∷ []) ⊥ (IsMemoRefused (as_show name) before after) ⊥ before
+memo-free name before after is =
+    record {
+      takes_image = λ ends. ends;
+      takes_memo = λ ends. unrefused name before ends.memo ends.why is ends.read ends.refused;
+      takes_lists = λ ends. ends;
+      short = (memo-short name before is, tt);
+    }
 
 -- what a schedule to replay says and comes to isn't refused
 schedule-unrefused :
@@ -291,104 +280,100 @@ replay-same line before are c read =
     ∙ ap (λ (l : List ℕ). with_contents c.elf l are.contents.schedule) input
     ∙ ap (with_contents c.elf c.input) schedule
 
-replay_by :
+nothing-free : (before : World) → IsFree [] ⊥ ⊥ ⊥ before
+nothing-free before =
+    record { takes_image = λ ends. ends; takes_memo = λ ends. ends; takes_lists = λ ends. ends; short = tt }
+
+replay-free :
+    (line : ReplayLine) (before after : World) → IsReplayAccepted line before
+    → IsFree (files_named (Replays line)) (IsReplayImageRefused line before after) ⊥ ⊥ before
+replay-free line before after are =
+    record {
+      takes_image = λ ends.
+          let same : are.contents ≡ ends.contents = replay-same line before are ends.contents ends.read in
+          let taken : is_image are.contents.elf ≡ true = are.read.accepted in
+          let refused : is_image are.contents.elf ≡ false =
+          ap (λ (c : ReplayContents). is_image c.elf) same ∙ ends.refused in
+          absurd (cc);
+      takes_memo = λ ends. ends;
+      takes_lists = λ ends. ends;
+      short = replay-short line before are;
+    }
+
+replayed :
     (line : ReplayLine) (before after : World) (answer : ℕ) (s : Status)
     → answer ≡ code_of s → ReplayEnds line before after s → IsReplayAccepted line before
-    → HasNoFault (Replays line) before after
-    → IsTold answer
-replay_by line before after answer status.Finished is ends are none = inl is
-replay_by line before after answer status.Unfinished is ends are none = inr (inl is)
-replay_by line before after answer status.Words is ends are none = absurd ends
-replay_by line before after answer status.Image is ends are none =
-    let same : are.contents ≡ ends.contents = replay-same line before are ends.contents ends.read in
-    let taken : is_image are.contents.elf ≡ true = are.read.accepted in
-    let refused : is_image are.contents.elf ≡ false =
-    ap (λ (c : ReplayContents). is_image c.elf) same ∙ ends.refused in
-    absurd (cc)
-replay_by line before after answer status.Memo is ends are none = absurd ends
-replay_by line before after answer status.EditList is ends are none = absurd ends
-replay_by line before after answer status.ReadFault is ends are none =
-    absurd (none_stops (FailedToRead before after) (files_named (Replays line)) before after none.reads ends.stops)
-replay_by line before after answer status.WriteFault is ends are none = absurd (none.prints ends.part.cause)
-replay_by line before after answer status.Memory is ends are none = inr (inr is)
-replay_by line before after answer status.TooLarge is ends are none =
-    absurd (none_stops (IsLong before) (files_named (Replays line)) before after (replay-short line before are) ends.stops)
-replay_by line before after answer status.Schedule is ends are none =
+    → HasNoFault (Replays line) before after → IsTold answer
+replayed line before after answer status.Finished is ends are none = inl is
+replayed line before after answer status.Unfinished is ends are none = inr (inl is)
+replayed line before after answer status.WriteFault is ends are none = absurd (none.prints ends.part.cause)
+replayed line before after answer status.Schedule is ends are none =
     let same : are.contents ≡ ends.contents = replay-same line before are ends.contents ends.read.contents in
     absurd
     (schedule-unrefused (replay_setup_of line ends.contents) ends.contents.schedule are.threads ends.why
     (subst (λ (c : ReplayContents). CanBeReplayed (replay_setup_of line c) c.schedule are.threads) same are.can)
     ends.refused)
-replay_by line before after answer status.Untrue is ends are none = absurd ends
+replayed line before after answer _ is ends are none = absurd ends
 
-generate_by :
+generated :
     (line : GenerateLine) (before after : World) (answer : ℕ) (s : Status)
     → answer ≡ code_of s → GenerateEnds line before after s → HasNoFault (Generates line) before after → IsTold answer
-generate_by line before after answer status.Finished is ends none = inl is
-generate_by line before after answer status.Unfinished is ends none = inr (inl is)
-generate_by line before after answer status.Words is ends none = absurd ends
-generate_by line before after answer status.Image is ends none = absurd ends
-generate_by line before after answer status.Memo is ends none = absurd ends
-generate_by line before after answer status.EditList is ends none = absurd ends
-generate_by line before after answer status.ReadFault is ends none = absurd ends
-generate_by line before after answer status.WriteFault is ends none = absurd (none.prints ends.part.cause)
-generate_by line before after answer status.Memory is ends none = inr (inr is)
-generate_by line before after answer status.TooLarge is ends none = absurd ends
-generate_by line before after answer status.Schedule is ends none = absurd ends
-generate_by line before after answer status.Untrue is ends none = absurd ends
+generated line before after answer status.Finished is ends none = inl is
+generated line before after answer status.Unfinished is ends none = inr (inl is)
+generated line before after answer status.WriteFault is ends none = absurd (none.prints ends.part.cause)
+generated line before after answer _ is ends none = absurd ends
 
-explain_by :
-    (line : ExplainLine) (before after : World) (answer : ℕ) (s : Status)
-    → answer ≡ code_of s → ExplainEnds line before after s → AreRerunAccepted (as_rerun line) before
-    → HasNoFault (Explains line) before after → IsListed answer
-explain_by line before after answer status.Finished is ends are none = inl is
-explain_by line before after answer status.Memo is ends are none =
-    absurd (unrefused line.memo before ends.memo ends.why are.memo ends.read ends.refused)
-explain_by line before after answer status.EditList is ends are none =
-    absurd (rerun-unlisted (as_rerun line) before after are ends)
-explain_by line before after answer status.ReadFault is ends are none =
-    absurd (none_stops (FailedToRead before after) (files_named (Explains line)) before after none.reads ends.stops)
-explain_by line before after answer status.WriteFault is ends are none = absurd (none.prints ends.part.cause)
-explain_by line before after answer status.Memory is ends are none = inr is
-explain_by line before after answer status.TooLarge is ends are none =
-    absurd
-    (none_stops (IsLong before) (files_named (Explains line)) before after (rerun-short (as_rerun line) before are)
-    ends.stops)
-explain_by line before after answer _ is ends are none = absurd ends
-
-audit_by :
+judged :
     (line : AuditLine) (before after : World) (answer : ℕ) (s : Status)
-    → answer ≡ code_of s → AuditEnds line before after s → IsAcceptedMemo line.memo before
-    → HasNoFault (Audits line) before after → IsJudged answer
-audit_by line before after answer status.Finished is ends memo none = inl is
-audit_by line before after answer status.Untrue is ends memo none = inr (inl is)
-audit_by line before after answer status.Memo is ends memo none =
-    absurd (unrefused line.memo before ends.memo ends.why memo ends.read ends.refused)
-audit_by line before after answer status.ReadFault is ends memo none =
-    absurd (none_stops (FailedToRead before after) (files_named (Audits line)) before after none.reads ends.stops)
-audit_by line before after answer status.WriteFault is ends memo none = absurd (none.prints ends.part.cause)
-audit_by line before after answer status.Memory is ends memo none = inr (inr is)
-audit_by line before after answer status.TooLarge is ends memo none =
-    absurd (none_stops (IsLong before) (files_named (Audits line)) before after
-    (memo-short line.memo before memo, tt) ends.stops)
-audit_by line before after answer _ is ends memo none = absurd ends
+    → answer ≡ code_of s → AuditEnds line before after s → HasNoFault (Audits line) before after → IsJudged answer
+judged line before after answer status.Finished is ends none = inl is
+judged line before after answer status.Untrue is ends none = inr (inl is)
+judged line before after answer status.WriteFault is ends none = absurd (none.prints ends.part.cause)
+judged line before after answer _ is ends none = absurd ends
 
 pub complete : (line : Option Line) (before after : World) (answer : ℕ) → Answers line before after answer
     → Completes line before after answer
 complete None before after answer answers = tt
-complete (Some (Runs line)) before after answer answers =
-    λ are none. run_by line before after answer answers.0 answers.1 answers.2 are none
-complete (Some (Reruns line)) before after answer answers =
-    λ are none. rerun_by line before after answer answers.0 answers.1 answers.2 are none
-complete (Some (Replays line)) before after answer answers =
-    λ are none. replay_by line before after answer answers.0 answers.1 answers.2 are none
-complete (Some (Generates line)) before after answer answers =
-    λ none. generate_by line before after answer answers.0 answers.1 answers.2 none
-complete (Some (Explains line)) before after answer answers =
-    λ are none. explain_by line before after answer answers.0 answers.1 answers.2 are none
-complete (Some (FindsRaces line)) before after answer answers =
-    λ memo none. races_by line before after answer answers.0 answers.1 answers.2 memo none
-complete (Some (Shows line)) before after answer answers =
-    λ memo none. show_by line before after answer answers.0 answers.1 answers.2 memo none
-complete (Some (Audits line)) before after answer answers =
-    λ memo none. audit_by line before after answer answers.0 answers.1 answers.2 memo none
+complete (Some (Runs line)) before after answer (s, is, ends) =
+    λ are none. elim ends [
+      | inl soon ↦ inr (inr (inl
+          (is ∙ early _ _ _ _ before after s (run-free line before after are) none.reads soon)))
+      | inr late ↦ completed (Runs line) before after answer s is none late
+    ]
+complete (Some (Reruns line)) before after answer (s, is, ends) =
+    λ are none. elim ends [
+      | inl soon ↦ inr (inr (inl
+          (is ∙ early _ _ _ _ before after s (rerun-free line before after are) none.reads soon)))
+      | inr late ↦ completed (Reruns line) before after answer s is none late
+    ]
+complete (Some (Replays line)) before after answer (s, is, ends) =
+    λ are none. elim ends [
+      | inl soon ↦ inr (inr (is ∙ early _ _ _ _ before after s (replay-free line before after are) none.reads soon))
+      | inr late ↦ replayed line before after answer s is late are none
+    ]
+complete (Some (Generates line)) before after answer (s, is, ends) =
+    λ none. elim ends [
+      | inl soon ↦ inr (inr (is ∙ early [] ⊥ ⊥ ⊥ before after s (nothing-free before) tt soon))
+      | inr late ↦ generated line before after answer s is late none
+    ]
+complete (Some (Explains line)) before after answer (s, is, ends) =
+    λ are none. elim ends [
+      | inl soon ↦ inr (is ∙ early _ _ _ _ before after s (rerun-free (as_rerun line) before after are) none.reads soon)
+      | inr late ↦ listed _ _ answer s is (λ part. none.prints part.part.cause) late
+    ]
+complete (Some (FindsRaces line)) before after answer (s, is, ends) =
+    λ memo none. elim ends [
+      | inl soon ↦ inr (is ∙ early _ _ _ _ before after s (memo-free line.memo before after memo) none.reads soon)
+      | inr late ↦ listed _ _ answer s is (λ part. none.prints part.part.cause) late
+    ]
+complete (Some (Shows line)) before after answer (s, is, ends) =
+    λ memo none. elim ends [
+      | inl soon ↦ inr (is ∙ early _ _ _ _ before after s (memo-free line.memo before after memo) none.reads soon)
+      | inr late ↦ listed _ _ answer s is (λ part. none.prints part.part.cause) late
+    ]
+complete (Some (Audits line)) before after answer (s, is, ends) =
+    λ memo none. elim ends [
+      | inl soon ↦ inr (inr
+          (is ∙ early _ _ _ _ before after s (memo-free line.memo before after memo) none.reads soon))
+      | inr late ↦ judged line before after answer s is late none
+    ]

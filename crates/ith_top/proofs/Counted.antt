@@ -1,5 +1,6 @@
 -- How many rounds a line's workers made, from how its parts ended.
-use Rattle.std.proofs.Common.{◌≡◌, ◌+◌, ◌≤◌, ℕ, suc, max, Bool, List, [], ◌∷◌, length, Option, refl, ◌∙◌, inl, inr, ap, arith}
+use Rattle.std.proofs.Common.{◌≡◌, ◌+◌, ◌≤◌, ℕ, suc, max, Bool, true, false, List, [], ◌∷◌, length, Option, refl, ◌∙◌, inl, inr, ap, arith}
+use Rattle.std.specs.Prelude.{Result, Ok, Err, IfOk, IfErr}
 use Rattle.rerun_spec.proofs.Inputs.{inputs-count, rerun-count}
 use Rattle.ith_host.specs.World.{World}
 use Rattle.ith_words.specs.Words.{Text, Line, Runs, Reruns, RunLine, RerunLine}
@@ -7,7 +8,9 @@ use Rattle.ith_top.specs.declared.status.Status.{Status}
 use Rattle.ith_top.specs.declared.status.Status.TheVariants as status
 use Rattle.ith_top.specs.Contents.{AreLists, Plan, IsRunPlan, IsRerunPlan}
 use Rattle.ith_top.specs.Counting.{Work, MakesRounds, rounds_asked}
-use Rattle.ith_top.specs.Refusals.{WhyUndone, WhyUnplanned}
+use Rattle.ith_top.specs.Statuses.{status_in}
+use Rattle.ith_top.specs.Ends.{EndsEarly}
+use Rattle.ith_top.specs.Refusals.{WhyUndone}
 use Rattle.ith_top.specs.Playing.{IsCarriedOut}
 
 -- as many lists are read as have names
@@ -33,17 +36,17 @@ rerun_asked line a p is =
 
 -- none was made
 pub counted_none :
-    (line : Line) (a b : World) (count : ℕ) (s : Status) → WhyUnplanned line a b s → MakesRounds line count count s
-counted_none line a b count status.Image why = refl
-counted_none line a b count status.Memo why = refl
-counted_none line a b count status.EditList why = refl
-counted_none line a b count status.ReadFault why = refl
-counted_none line a b count status.Memory why = omega arith
-counted_none line a b count status.TooLarge why = omega arith
-counted_none line a b count _ why = absurd why
+    (line : Line) (a b : World) (count : ℕ) (s : Status) → EndsEarly line a b s → MakesRounds line count count s
+counted_none line a b count status.Image ends = refl
+counted_none line a b count status.Memo ends = refl
+counted_none line a b count status.EditList ends = refl
+counted_none line a b count status.ReadFault ends = refl
+counted_none line a b count status.Memory ends = omega arith
+counted_none line a b count status.TooLarge ends = omega arith
+counted_none line a b count _ ends = absurd ends
 
 -- all were made
-pub counted_all :
+counted_all :
     (line : Line) (name : Option Text) (workers : ℕ) (p : Plan) (a b : World) (earlier later : Work) (exits : Bool)
     → length p.inputs ≡ rounds_asked line → IsCarriedOut name workers p a b earlier later exits
     → later.rounds ≡ earlier.rounds + rounds_asked line
@@ -61,7 +64,7 @@ some_counted line name workers p a b earlier later s count why =
       | inr after ↦ (let all = after.all in let rounds = after.rounds in omega arith)
     ]
 
-pub counted_some :
+counted_some :
     (line : Line) (name : Option Text) (workers : ℕ) (p : Plan) (a b : World) (earlier later : Work) (s : Status)
     → length p.inputs ≡ rounds_asked line → WhyUndone name workers p a b earlier later s
     → MakesRounds line earlier.rounds later.rounds s
@@ -73,3 +76,16 @@ counted_some line name workers p a b earlier later status.TooLarge count why =
     some_counted line name workers p a b earlier later status.TooLarge count why
 counted_some line name workers p a b earlier later _ count why =
     elim why [ inl part ↦ absurd part.why | inr after ↦ absurd after.why ]
+
+-- as many as a line asks for were made if it is done, and no more if not
+pub counted :
+    (line : Line) (name : Option Text) (workers : ℕ) (p : Plan) (a b : World) (earlier later : Work) (r : Result Bool Status)
+    → length p.inputs ≡ rounds_asked line → IfOk r (IsCarriedOut name workers p a b earlier later)
+    → IfErr r (WhyUndone name workers p a b earlier later)
+    → MakesRounds line earlier.rounds later.rounds (status_in r)
+counted line name workers p a b earlier later (Ok true) count done why =
+    counted_all line name workers p a b earlier later true count done
+counted line name workers p a b earlier later (Ok false) count done why =
+    counted_all line name workers p a b earlier later false count done
+counted line name workers p a b earlier later (Err s) count done why =
+    counted_some line name workers p a b earlier later s count why

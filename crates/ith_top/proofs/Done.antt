@@ -1,5 +1,6 @@
 -- How a line ends, from how its rounds did.
 use Rattle.std.proofs.Common.{◌≡◌, Bool, ℕ, true, false, List, ◌++◌, Option, Some, None, length, take, refl, sym, ap, ◌∙◌, inl, inr, subst}
+use Rattle.std.specs.Prelude.{Result, Ok, Err, IfOk, IfErr}
 use Rattle.std.specs.List.{concat}
 use Rattle.std.specs.Io.KnownBytes.{Appends}
 use Rattle.memo_spec.specs.Spelling.{memo}
@@ -9,30 +10,31 @@ use Rattle.ith_host.specs.World.{World, NoneFell, Stays, AsksNothing}
 use Rattle.ith_words.specs.Words.{Text, Line}
 use Rattle.ith_top.specs.declared.status.Status.{Status}
 use Rattle.ith_top.specs.declared.status.Status.TheVariants as status
-use Rattle.ith_top.specs.Files.{files_named, AsksForFiles}
-use Rattle.ith_top.specs.Contents.{Plan, IsPlan, workers_of}
+use Rattle.ith_top.specs.Statuses.{status_in}
+use Rattle.ith_top.specs.Contents.{Plan, workers_of}
 use Rattle.ith_top.specs.Ends.{HasRounds, texts_of, left_of, kept_by, Prints, PrintsAndKeeps, IsKeptWithin, IsDone, RoundsEnd}
 use Rattle.ith_top.specs.Counting.{Work, SpendsTurns, RoundsSpend}
 use Rattle.ith_top.specs.Refusals.{Keeps, WhyCutShort, WhyUnkept, WhyUndone}
-use Rattle.ith_top.specs.Playing.{CanBePlayed, CanBeSpelled, AreFound, IsPlayed, IsCarriedOut}
+use Rattle.ith_top.specs.Playing.{IsPrepared, AreFound, IsPlayed, IsCarriedOut}
 use Rattle.ith_top.proofs.Worlds.{rose_before}
 use Rattle.ith_top.proofs.Going.{prints_after, prints_then}
 use Rattle.ith_top.proofs.Promises.{promised_of, each_kept}
+use Rattle.ith_top.proofs.Spent.{rounds_unspent}
 
 -- the rounds of a line's plan, as far as they were found
 pub rounds_in :
-    (line : Line) (a : World) (p : Plan) (found : List Found)
-    → IsPlan line a p → CanBePlayed p → CanBeSpelled p → AreFound (workers_of line) p found → HasRounds line a
-rounds_in line a p found is playable spelled are =
+    (line : Line) (a b : World) (p : Plan) (found : List Found)
+    → IsPrepared line a b p → AreFound (workers_of line) p found → HasRounds line a
+rounds_in line a b p found ready are =
     record {
       plan = p;
-      is_plan = is;
+      is_plan = ready.is;
       found = found;
       few = are.few;
       made = are.made;
       watched = are.watched;
-      promised = promised_of line a p found is playable spelled are;
-      kept = each_kept (workers_of line) p found playable spelled are;
+      promised = promised_of line a p found ready.is ready.playable ready.spelled are;
+      kept = each_kept (workers_of line) p found ready.playable ready.spelled are;
     }
 
 -- a file was kept after all was printed
@@ -131,17 +133,16 @@ carried_unkept name workers p a b c earlier later exits left why played counts c
 
 done_by :
     (line : Line) (a b c : World) (p : Plan) (earlier later : Work) (exits : Bool)
-    → IsPlan line a p → CanBePlayed p → CanBeSpelled p → AsksForFiles (files_named line) a b → AsksNothing b c
-    → Stays a b
+    → IsPrepared line a b p → AsksNothing b c
     → IsCarriedOut (kept_by line) (workers_of line) p b c earlier later exits → IsDone line exits a c
 unfolding rounds_in
-done_by line a b c p earlier later exits is playable spelled asked none stays done =
+done_by line a b c p earlier later exits ready none done =
     record {
-      asked = none ∙ asked;
-      has = rounds_in line a p done.found is playable spelled done.made;
+      asked = none ∙ ready.reads.asked;
+      has = rounds_in line a b p done.found ready done.made;
       all = done.all;
-      keeps = kept_after (kept_by line) (memo (left_of p done.found)) a b c (concat (texts_of p done.found)) stays
-          done.keeps;
+      keeps = kept_after (kept_by line) (memo (left_of p done.found)) a b c (concat (texts_of p done.found))
+          ready.reads.stays done.keeps;
       within = done.within;
       ends = done.are_exits;
     }
@@ -149,128 +150,62 @@ done_by line a b c p earlier later exits is playable spelled asked none stays do
 -- and the counter rose by the turns of its rounds
 spent_by :
     (line : Line) (a b c : World) (p : Plan) (earlier later : Work) (exits : Bool)
-    (is : IsPlan line a p) (playable : CanBePlayed p) (spelled : CanBeSpelled p) (asked : AsksForFiles (files_named line) a b)
-    (none : AsksNothing b c) (stays : Stays a b)
-    (done : IsCarriedOut (kept_by line) (workers_of line) p b c earlier later exits)
-    → SpendsTurns line a (done_by line a b c p earlier later exits is playable spelled asked none stays done).has earlier later
+    → IsPrepared line a b p → AsksNothing b c
+    → IsCarriedOut (kept_by line) (workers_of line) p b c earlier later exits
+    → (done : IsDone line exits a c) × SpendsTurns line a done.has earlier later
 unfolding rounds_in done_by
-spent_by line a b c p earlier later exits is playable spelled asked none stays done =
-    record { counted = done.made.counted; turns = done.turns }
-
-pub spent_finished :
-    (line : Line) (a b c : World) (p : Plan) (earlier later : Work) (exits : Bool)
-    → IsPlan line a p → CanBePlayed p → CanBeSpelled p → AsksForFiles (files_named line) a b → AsksNothing b c
-    → Stays a b
-    → IsCarriedOut (kept_by line) (workers_of line) p b c earlier later exits
-    → exits ≡ true → RoundsSpend line a c earlier later status.Finished
-spent_finished line a b c p earlier later exits is playable spelled asked none stays done ends =
-    let all = subst (IsCarriedOut (kept_by line) (workers_of line) p b c earlier later) ends done in (
-      done_by line a b c p earlier later true is playable spelled asked none stays all,
-      spent_by line a b c p earlier later true is playable spelled asked none stays all,
-    )
-
-pub spent_unfinished :
-    (line : Line) (a b c : World) (p : Plan) (earlier later : Work) (exits : Bool)
-    → IsPlan line a p → CanBePlayed p → CanBeSpelled p → AsksForFiles (files_named line) a b → AsksNothing b c
-    → Stays a b
-    → IsCarriedOut (kept_by line) (workers_of line) p b c earlier later exits
-    → exits ≡ false → RoundsSpend line a c earlier later status.Unfinished
-spent_unfinished line a b c p earlier later exits is playable spelled asked none stays done ends =
-    let all = subst (IsCarriedOut (kept_by line) (workers_of line) p b c earlier later) ends done in (
-      done_by line a b c p earlier later false is playable spelled asked none stays all,
-      spent_by line a b c p earlier later false is playable spelled asked none stays all,
-    )
-
--- all was done, and each round ended by exit
-pub finished :
-    (line : Line) (a b c : World) (p : Plan) (earlier later : Work) (exits : Bool)
-    → IsPlan line a p → CanBePlayed p → CanBeSpelled p → AsksForFiles (files_named line) a b → AsksNothing b c
-    → Stays a b
-    → IsCarriedOut (kept_by line) (workers_of line) p b c earlier later exits
-    → exits ≡ true → RoundsEnd line a c status.Finished
-finished line a b c p earlier later exits is playable spelled asked none stays done ends =
-    done_by line a b c p earlier later true is playable spelled asked none stays
-    (subst (IsCarriedOut (kept_by line) (workers_of line) p b c earlier later) ends done)
-
--- all was done, and some round ended otherwise
-pub unfinished :
-    (line : Line) (a b c : World) (p : Plan) (earlier later : Work) (exits : Bool)
-    → IsPlan line a p → CanBePlayed p → CanBeSpelled p → AsksForFiles (files_named line) a b → AsksNothing b c
-    → Stays a b
-    → IsCarriedOut (kept_by line) (workers_of line) p b c earlier later exits
-    → exits ≡ false → RoundsEnd line a c status.Unfinished
-unfinished line a b c p earlier later exits is playable spelled asked none stays done ends =
-    done_by line a b c p earlier later false is playable spelled asked none stays
-    (subst (IsCarriedOut (kept_by line) (workers_of line) p b c earlier later) ends done)
+spent_by line a b c p earlier later exits ready none done =
+    (done_by line a b c p earlier later exits ready none done, record { counted = done.made.counted; turns = done.turns })
 
 -- not all rounds were made and printed
 cut_short :
     (line : Line) (a b c : World) (p : Plan) (found : List Found) (why : Status)
-    → IsPlan line a p → CanBePlayed p → CanBeSpelled p → AsksForFiles (files_named line) a b → AsksNothing b c
-    → Stays a b → NoneFell a b → AreFound (workers_of line) p found
+    → IsPrepared line a b p → AsksNothing b c → AreFound (workers_of line) p found
     → WhyCutShort p found b c why → RoundsEnd line a c why
 unfolding rounds_in
-cut_short line a b c p found status.Finished is playable spelled asked none stays fell are cause = absurd cause
-cut_short line a b c p found status.Unfinished is playable spelled asked none stays fell are cause = absurd cause
-cut_short line a b c p found status.Words is playable spelled asked none stays fell are cause = absurd cause
-cut_short line a b c p found status.Image is playable spelled asked none stays fell are cause = absurd cause
-cut_short line a b c p found status.Memo is playable spelled asked none stays fell are cause = absurd cause
-cut_short line a b c p found status.EditList is playable spelled asked none stays fell are cause = absurd cause
-cut_short line a b c p found status.ReadFault is playable spelled asked none stays fell are cause = absurd cause
-cut_short line a b c p found status.WriteFault is playable spelled asked none stays fell are cause =
+cut_short line a b c p found status.WriteFault ready none are cause =
     inl
     (record {
-      asked = none ∙ asked;
-      has = rounds_in line a p found is playable spelled are;
+      asked = none ∙ ready.reads.asked;
+      has = rounds_in line a b p found ready are;
       part = record {
-        cause = rose_before _ _ _ fell.prints cause.cause;
+        cause = rose_before _ _ _ ready.reads.counts.prints cause.cause;
         whole = cause.whole;
         next = cause.next;
         is_next = cause.is_next;
         count = cause.count;
         prints = prints_after a b c
-            (concat (take cause.whole (texts_of p found)) ++ take cause.count cause.next) stays cause.prints;
+            (concat (take cause.whole (texts_of p found)) ++ take cause.count cause.next) ready.reads.stays cause.prints;
       };
     })
-cut_short line a b c p found status.Memory is playable spelled asked none stays fell are cause =
-    inr
-    (record {
-      asked = none ∙ asked;
-      has = rounds_in line a p found is playable spelled are;
-      prints = prints_after a b c (concat (texts_of p found)) stays cause;
-    })
-cut_short line a b c p found status.TooLarge is playable spelled asked none stays fell are cause = absurd cause
-cut_short line a b c p found status.Schedule is playable spelled asked none stays fell are cause = absurd cause
-cut_short line a b c p found status.Untrue is playable spelled asked none stays fell are cause = absurd cause
+cut_short line a b c p found status.Memory ready none are cause =
+    record {
+      asked = none ∙ ready.reads.asked;
+      has = rounds_in line a b p found ready are;
+      prints = prints_after a b c (concat (texts_of p found)) ready.reads.stays cause;
+    }
+cut_short line a b c p found _ ready none are cause = absurd cause
 
 -- all texts were printed, and the memo wasn't written
 unkept :
     (line : Line) (a b m c : World) (p : Plan) (found : List Found) (name : Text) (why : Status)
-    → IsPlan line a p → CanBePlayed p → CanBeSpelled p → AsksForFiles (files_named line) a b → AsksNothing b c
-    → Stays a b → NoneFell a b → AreFound (workers_of line) p found → length found ≡ length p.inputs → NoneFell b m
-    → kept_by line ≡ Some name → Prints b m (concat (texts_of p found))
+    → IsPrepared line a b p → AsksNothing b c → AreFound (workers_of line) p found → length found ≡ length p.inputs
+    → NoneFell b m → kept_by line ≡ Some name → Prints b m (concat (texts_of p found))
     → WhyUnkept name (memo (left_of p found)) m c why
     → RoundsEnd line a c why
 unfolding rounds_in
-unkept line a b m c p found name status.Finished _ _ _ _ _ _ _ _ _ _ _ _ cause = absurd cause
-unkept line a b m c p found name status.Unfinished _ _ _ _ _ _ _ _ _ _ _ _ cause = absurd cause
-unkept line a b m c p found name status.Words _ _ _ _ _ _ _ _ _ _ _ _ cause = absurd cause
-unkept line a b m c p found name status.Image _ _ _ _ _ _ _ _ _ _ _ _ cause = absurd cause
-unkept line a b m c p found name status.Memo _ _ _ _ _ _ _ _ _ _ _ _ cause = absurd cause
-unkept line a b m c p found name status.EditList _ _ _ _ _ _ _ _ _ _ _ _ cause = absurd cause
-unkept line a b m c p found name status.ReadFault _ _ _ _ _ _ _ _ _ _ _ _ cause = absurd cause
-unkept line a b m c p found name status.WriteFault is can spelled asked none stays fell are all later by prints cause =
-    let printed : Prints a m (concat (texts_of p found)) = prints_after a b m (concat (texts_of p found)) stays prints
-    in
+unkept line a b m c p found name status.WriteFault ready none are all later by prints cause =
+    let printed : Prints a m (concat (texts_of p found)) =
+    prints_after a b m (concat (texts_of p found)) ready.reads.stays prints in
     inr
     (record {
-      asked = none ∙ asked;
-      has = rounds_in line a p found is can spelled are;
+      asked = none ∙ ready.reads.asked;
+      has = rounds_in line a b p found ready are;
       all = all;
       name = name;
       is_named = by;
       within = cause.within;
-      cause = rose_before _ _ _ (fell.writes name) (rose_before _ _ _ (later.writes name) cause.cause);
+      cause = rose_before _ _ _ (ready.reads.counts.writes name) (rose_before _ _ _ (later.writes name) cause.cause);
       tells = cause.tells ∙ printed.tells;
       printed = subst (λ (told : Option (List ℕ)). Appends a.printed told (concat (texts_of p found)))
           (sym cause.printed) printed.printed;
@@ -278,39 +213,62 @@ unkept line a b m c p found name status.WriteFault is can spelled asked none sta
       others = λ other away. cause.others other away
           ∙ ap (λ (files : Text → Option (List ℕ)). files other) printed.files;
     })
-unkept line a b m c p found name status.Memory is can spelled asked none stays fell are all later by prints cause =
-    inr
-    (record {
-      asked = none ∙ asked;
-      has = rounds_in line a p found is can spelled are;
+unkept line a b m c p found name status.Memory ready none are all later by prints cause =
+    record {
+      asked = none ∙ ready.reads.asked;
+      has = rounds_in line a b p found ready are;
       prints = prints_then a m c (concat (texts_of p found))
-          (prints_after a b m (concat (texts_of p found)) stays prints) cause;
-    })
-unkept line a b m c p found name status.TooLarge is can spelled asked none stays fell are all later by prints cause =
-    inr
-    (record {
-      asked = none ∙ asked;
-      has = rounds_in line a p found is can spelled are;
+          (prints_after a b m (concat (texts_of p found)) ready.reads.stays prints) cause;
+    }
+unkept line a b m c p found name status.TooLarge ready none are all later by prints cause =
+    record {
+      asked = none ∙ ready.reads.asked;
+      has = rounds_in line a b p found ready are;
       all = all;
       name = name;
       is_named = by;
       long = cause.long;
       prints = prints_then a m c (concat (texts_of p found))
-          (prints_after a b m (concat (texts_of p found)) stays prints) cause.stays;
-    })
-unkept line a b m c p found name status.Schedule _ _ _ _ _ _ _ _ _ _ _ _ cause = absurd cause
-unkept line a b m c p found name status.Untrue _ _ _ _ _ _ _ _ _ _ _ _ cause = absurd cause
+          (prints_after a b m (concat (texts_of p found)) ready.reads.stays prints) cause.stays;
+    }
+unkept line a b m c p found name _ ready none are all later by prints cause = absurd cause
 
 -- not all was done
-pub undone :
+undone :
     (line : Line) (a b c : World) (p : Plan) (earlier later : Work) (why : Status)
-    → IsPlan line a p → CanBePlayed p → CanBeSpelled p → AsksForFiles (files_named line) a b → AsksNothing b c
-    → Stays a b → NoneFell a b
+    → IsPrepared line a b p → AsksNothing b c
     → WhyUndone (kept_by line) (workers_of line) p b c earlier later why → RoundsEnd line a c why
-undone line a b c p earlier later why is playable spelled asked none stays fell cause =
+undone line a b c p earlier later why ready none cause =
     elim cause [
-      | inl short ↦ cut_short line a b c p short.found why is playable spelled asked none stays fell short.made
-          short.why
-      | inr after ↦ unkept line a b after.between c p after.found after.kept why is playable spelled asked none stays
-          fell after.made after.all after.counts after.is_named after.prints after.why
+      | inl short ↦ cut_short line a b c p short.found why ready none short.made short.why
+      | inr after ↦ unkept line a b after.between c p after.found after.kept why ready none
+          after.made after.all after.counts after.is_named after.prints after.why
     ]
+
+-- how a line ends whose rounds were begun
+pub rounds_end :
+    (line : Line) (a b c : World) (p : Plan) (earlier later : Work) (r : Result Bool Status)
+    → IsPrepared line a b p → AsksNothing b c
+    → IfOk r (IsCarriedOut (kept_by line) (workers_of line) p b c earlier later)
+    → IfErr r (WhyUndone (kept_by line) (workers_of line) p b c earlier later)
+    → RoundsEnd line a c (status_in r)
+rounds_end line a b c p earlier later (Ok true) ready none done why =
+    done_by line a b c p earlier later true ready none done
+rounds_end line a b c p earlier later (Ok false) ready none done why =
+    done_by line a b c p earlier later false ready none done
+rounds_end line a b c p earlier later (Err s) ready none done why = undone line a b c p earlier later s ready none why
+
+-- and what its rounds cost
+pub rounds_spend :
+    (line : Line) (a b c : World) (p : Plan) (earlier later : Work) (r : Result Bool Status)
+    → IsPrepared line a b p → AsksNothing b c
+    → IfOk r (IsCarriedOut (kept_by line) (workers_of line) p b c earlier later)
+    → IfErr r (WhyUndone (kept_by line) (workers_of line) p b c earlier later)
+    → RoundsSpend line a c earlier later (status_in r)
+rounds_spend line a b c p earlier later (Ok true) ready none done why =
+    spent_by line a b c p earlier later true ready none done
+rounds_spend line a b c p earlier later (Ok false) ready none done why =
+    spent_by line a b c p earlier later false ready none done
+rounds_spend line a b c p earlier later (Err s) ready none done why =
+    rounds_unspent (kept_by line) (workers_of line) p b c earlier later s
+    (λ exits. (done : IsDone line exits a c) × SpendsTurns line a done.has earlier later) why

@@ -1,5 +1,5 @@
 -- How a line that tells why steps were executed ends.
-use Rattle.std.proofs.Common.{◌≡◌, ◌+◌, ℕ, List, [], ◌∷◌, Option, map, refl, sym, ap, subst, ◌∙◌}
+use Rattle.std.proofs.Common.{◌≡◌, ◌+◌, ℕ, List, [], ◌∷◌, Option, Some, map, refl, sym, ap, subst, ◌∙◌}
 use Rattle.std.proofs.lemmas.List.{append-nil}
 use Rattle.machine_spec.specs.Setup.{Setup}
 use Rattle.history_spec.specs.History.{History, IsSound}
@@ -12,50 +12,44 @@ use Rattle.why_report.specs.declared.reason.Reason.{Reason}
 use Rattle.why_report.specs.Reasons.{reasons_of, reasons_by, scratch_before, executed_places, GoesByOldRun}
 use Rattle.why_report.specs.Text.{why_text}
 use Rattle.propagate.specs.Executing.{executed_by}
-use Rattle.ith_host.specs.World.{World, NoneFell, Stays, AsksNothing}
+use Rattle.ith_host.specs.World.{World, AsksNothing}
 use Rattle.ith_words.specs.Words.{Text, Reruns, Explains, ExplainLine}
 use Rattle.ith_top.specs.declared.status.Status.{Status}
 use Rattle.ith_top.specs.declared.status.Status.TheVariants as status
-use Rattle.ith_top.specs.Files.{files_named, AsksForFiles}
+use Rattle.ith_top.specs.Files.{files_named}
 use Rattle.ith_top.specs.Contents.{Plan, AreLists, IsPlan, as_rerun}
 use Rattle.ith_top.specs.Rounds.{BeginsHonestly}
-use Rattle.ith_top.specs.Explaining.{explained_round, why_of}
-use Rattle.ith_top.specs.Ends.{Prints, HasReasons, ExplainEnds}
+use Rattle.ith_top.specs.Explaining.{explained_round}
+use Rattle.ith_top.specs.Ends.{Prints, HasReasons, text_of_reasons, IsExplained, EndsEarly, ExplainEnds, Ends}
 use Rattle.ith_top.specs.Counting.{ExplainSpends}
-use Rattle.ith_top.specs.Refusals.{WhyUnplanned, WhyUnprinted}
-use Rattle.ith_top.specs.Playing.{TellsReasons}
-use Rattle.ith_top.proofs.Worlds.{stays_trans}
-use Rattle.ith_top.proofs.Going.{in_part, prints_after}
-use Rattle.ith_top.proofs.Ending.{unbegun}
+use Rattle.ith_top.specs.Refusals.{WhyUnprinted}
+use Rattle.ith_top.specs.Playing.{plan_said, IsPrepared, TellsReasons}
+use Rattle.ith_top.specs.declared.plan.Plan.{Plan as Planned}
+use Rattle.std.specs.Prelude.{Result, Ok, Err, IfOk}
+use Rattle.ith_top.proofs.Worlds.{stays_same}
+use Rattle.ith_top.proofs.Told.{told, untold}
 
 -- the host's memory ran out before a file was asked for
-pub explain_unasked : (line : ExplainLine) (a b : World) → AsksNothing a b → Stays a b
-    → ExplainEnds line a b status.Memory
-explain_unasked line a b none stays =
+pub explain_unasked : (line : ExplainLine) (a : World) → EndsEarly (Explains line) a a status.Memory
+explain_unasked line a =
     record {
       asked = record {
         first = [];
         later = files_named (Explains line);
         are = refl;
-        asked = none ∙ sym (append-nil a.asked);
+        asked = sym (append-nil a.asked);
       };
-      stays = stays;
+      stays = stays_same a;
     }
 
--- there is no plan
-pub explain_unplanned : (line : ExplainLine) (a b : World) (s : Status) → WhyUnplanned (Reruns (as_rerun line)) a b s
-    → ExplainEnds line a b s
-explain_unplanned line a b status.Memo why = why
-explain_unplanned line a b status.EditList why = why
-explain_unplanned line a b status.ReadFault why = record { stops = why.stops; stays = why.stays }
-explain_unplanned line a b status.Memory why = record { asked = why.asked; stays = why.stays }
-explain_unplanned line a b status.TooLarge why = record { stops = why.stops; stays = why.stays }
-explain_unplanned line a b _ why = absurd why
-
--- all files were read, and then the host's memory ran out
-pub explain_cut : (line : ExplainLine) (a b c : World) → AsksForFiles (files_named (Explains line)) a b → AsksNothing b c
-    → Stays a b → Stays b c → ExplainEnds line a c status.Memory
-explain_cut line a b c asked none stays then = unbegun (Explains line) a c (none ∙ asked) (stays_trans a b c stays then)
+-- the plan of the rerun that a line explains is the line's
+pub explain_prepared :
+    (line : ExplainLine) (a b : World) (r : Result Planned Status)
+    → IfOk r (λ p. IsPrepared (Reruns (as_rerun line)) a b (plan_said p))
+    → IfOk r (λ p. IsPrepared (Explains line) a b (plan_said p))
+explain_prepared line a b (Ok p) ready =
+    record { is = ready.is; playable = ready.playable; spelled = ready.spelled; reads = ready.reads }
+explain_prepared line a b (Err s) ready = ready
 
 -- the reasons of a round that one worker made are those of the round that is explained
 pub reasons_told :
@@ -124,47 +118,33 @@ explained_by line a p text is tells =
       };
     }
 
--- it was told why steps were executed
-pub explained :
+-- how a line ends of whose round the reasons were told
+pub explained_ends :
     (line : ExplainLine) (a b c : World) (p : Plan) (text : List ℕ)
-    → AsksForFiles (files_named (Explains line)) a b → AsksNothing b c → Stays a b → IsPlan (Explains line) a p
-    → TellsReasons p text → Prints b c text → ExplainEnds line a c status.Finished
+    → IsPrepared (Explains line) a b p → TellsReasons p text → AsksNothing b c → Prints b c text → IsExplained line a c
 unfolding explained_by
-explained line a b c p text asked none stays is tells prints =
-    let whole = why_of (explained_round p.beginning tells.input) in
-    record {
-      asked = none ∙ asked;
-      has = explained_by line a p text is tells;
-      prints = prints_after a b c whole stays (subst (Prints b c) tells.is_text prints);
-    }
+explained_ends line a b c p text ready tells none prints =
+    told (Explains line) (HasReasons line a) (text_of_reasons line a) (explained_by line a p text ready.is tells) a b c
+    ready.reads none (subst (Prints b c) tells.is_text prints)
 
 -- and the counter rose by the turns of its executed steps
 pub explained_spent :
     (line : ExplainLine) (a b c : World) (p : Plan) (text : List ℕ) (before after : ℕ)
-    → AsksForFiles (files_named (Explains line)) a b → AsksNothing b c → Stays a b → IsPlan (Explains line) a p
-    → TellsReasons p text → Prints b c text
+    → IsPrepared (Explains line) a b p → TellsReasons p text → AsksNothing b c → Prints b c text
     → ((input : List ℕ) (later : List (List ℕ)) → p.inputs ≡ input ∷ later
     → after ≡ before + executed_by (explained_round p.beginning input))
     → ExplainSpends line a c before after status.Finished
-unfolding explained_by explained
-explained_spent line a b c p text before after asked none stays is tells prints cost =
-    (explained line a b c p text asked none stays is tells prints, cost tells.input tells.later tells.first)
+unfolding explained_by explained_ends
+explained_spent line a b c p text before after ready tells none prints cost =
+    (explained_ends line a b c p text ready tells none prints, cost tells.input tells.later tells.first)
 
 -- it wasn't told whole
 pub unexplained :
     (line : ExplainLine) (a b c : World) (p : Plan) (text : List ℕ) (s : Status)
-    → AsksForFiles (files_named (Explains line)) a b → AsksNothing b c → Stays a b → NoneFell a b
-    → IsPlan (Explains line) a p → TellsReasons p text → WhyUnprinted text b c s → ExplainEnds line a c s
+    → IsPrepared (Explains line) a b p → TellsReasons p text → AsksNothing b c → WhyUnprinted text b c s
+    → Ends (Some (Explains line)) a c s
 unfolding explained_by
-unexplained line a b c p text status.WriteFault asked none stays fell is tells why =
-    let whole = why_of (explained_round p.beginning tells.input) in
-    let cause : WhyUnprinted whole b c status.WriteFault =
-    subst (λ (l : List ℕ). WhyUnprinted l b c status.WriteFault) tells.is_text why in
-    record {
-      asked = none ∙ asked;
-      has = explained_by line a p text is tells;
-      part = in_part whole a b c stays fell cause;
-    }
-unexplained line a b c p text status.Memory asked none stays fell is tells why =
-    explain_cut line a b c asked none stays why
-unexplained line a b c p text _ asked none stays fell is tells why = absurd why
+unexplained line a b c p text s ready tells none why =
+    untold (Explains line) (HasReasons line a) (text_of_reasons line a) (explained_by line a p text ready.is tells)
+    (λ s. ExplainEnds line a c s) a b c s ready.reads none (λ part. part)
+    (subst (λ (l : List ℕ). WhyUnprinted l b c s) tells.is_text why)

@@ -1,5 +1,5 @@
 -- How a line that runs the generated guest ends, from how its parts did.
-use Rattle.std.proofs.Common.{◌≡◌, ◌+◌, ◌≤◌, ℕ, Bool, true, false, ◌&&◌, List, [], ◌∷◌, ◌++◌, length, map, Some, refl, sym, ap, subst, ◌∙◌, append_assoc, arith}
+use Rattle.std.proofs.Common.{◌≡◌, ◌+◌, ◌≤◌, ℕ, Bool, true, false, ◌&&◌, List, [], ◌∷◌, ◌++◌, length, map, Some, refl, sym, ap, subst, ◌∙◌, append_assoc, inl, inr, arith}
 use Rattle.std.specs.Prelude.{All, if◌then◌else◌, codes, decimal, Ok, Err}
 use Rattle.std.specs.List.{AllByRecursion, concat, list_all}
 use Rattle.std.proofs.lemmas.List.{append-nil}
@@ -7,7 +7,6 @@ use Rattle.std.proofs.lemmas.List.Elements.{All-from_recursion}
 use Rattle.machine_spec.specs.declared.TheConstants.{MOST_INPUT_BYTES}
 use Rattle.machine_spec.specs.Machine.{Machine}
 use Rattle.machine_spec.specs.Setup.{Setup, IsSetup}
-use Rattle.history_spec.specs.History.{History}
 use Rattle.report_spec.specs.Text.{line as text_line}
 use Rattle.edit_spec.specs.Editing.{edited}
 use Rattle.guest_gen.specs.declared.making.Generated.{Generated}
@@ -16,7 +15,7 @@ use Rattle.guest_gen.proofs.Inputs.{length-input_of, edit-in_range}
 use Rattle.guest_gen.proofs.Lists.{list-says}
 use Rattle.report_spec.specs.Report.{no_extras}
 use Rattle.rerun_spec.specs.Inputs.{Refusal, AreInputs, IsFirstRefused}
-use Rattle.rerun_spec.proofs.Inputs.{inputs-unrefused}
+use Rattle.rerun_spec.proofs.Inputs.{inputs-count, inputs-unrefused}
 use Rattle.rerun_spec.specs.Rounds.{Found, Round, Beginning, IsMade, IsWatched, nothing_asked, from_scratch, round_on, after_round, rounds_after}
 use Rattle.rerun_spec.specs.Reports.{made_exits, all_made_exit}
 use Rattle.rerun_spec.proofs.Rounds.{IsSoundlyMade, each-round, scratch-begins, round-machine}
@@ -26,12 +25,16 @@ use Rattle.ith_words.specs.Words.{Generates, GenerateLine, default_fuel, default
 use Rattle.ith_top.specs.declared.status.Status.{Status}
 use Rattle.ith_top.specs.declared.status.Status.TheVariants as status
 use Rattle.ith_top.specs.Contents.{Plan, IsGeneratedPlan}
-use Rattle.ith_top.specs.Ends.{Prints, HasRounds, GenerateEnds, IsGenerated, generated_text}
+use Rattle.ith_top.specs.Statuses.{status_in}
+use Rattle.ith_top.specs.Ends.{Prints, HasRounds, IsGenerated, generated_text, Ends}
 use Rattle.ith_top.specs.Rounds.{rounds_of}
 use Rattle.ith_top.specs.Refusals.{WhyUnprinted}
-use Rattle.ith_top.specs.Counting.{Work, IsCounted, turns_for, SpendsTurns, GenerateSpends}
-use Rattle.ith_top.specs.Playing.{AreFound, AreTheGenerated, CanBePlayed, CanBeSpelled, IsLineOn}
-use Rattle.ith_top.proofs.Ending.{unbegun}
+use Rattle.ith_top.specs.Counting.{Work, IsCounted, turns_for, MakesRounds, SpendsTurns, GenerateSpends}
+use Rattle.ith_top.specs.Playing.{AreFound, AreTheGenerated, CanBePlayed, CanBeSpelled, IsMadeOn}
+use Rattle.ith_top.specs.declared.report.Telling.TheVariants as telling
+use Rattle.ith_top.proofs.Worlds.{stays_same, none_fell_same}
+use Rattle.ith_top.proofs.Asking.{unbegun}
+use Rattle.ith_top.proofs.Going.{in_part}
 use Rattle.ith_top.proofs.Promises.{promised_from_scratch, promised_of, each_kept}
 
 -- the line of a round that was made soundly is that of the machine from scratch
@@ -150,8 +153,8 @@ record TwoRounds (workers : ℕ) (s : Setup) (input next : List ℕ) (t u : ℕ)
     pub are : rounds_after (from_scratch s nothing_asked) (input ∷ next ∷ []) found ≡ first ∷ second ∷ []
     pub made_first : IsMade workers first
     pub made_second : IsMade workers second
-    pub unwatched_first : IsWatched workers first
-    pub unwatched_second : IsWatched workers second
+    pub watched_first : IsWatched workers first
+    pub watched_second : IsWatched workers second
     pub counted_first : IsCounted workers first
     pub counted_second : IsCounted workers second
     pub turns : u ≡ t + turns_for found
@@ -160,17 +163,14 @@ record TwoRounds (workers : ℕ) (s : Setup) (input next : List ℕ) (t u : ℕ)
 
 two_rounds :
     (workers : ℕ) (s : Setup) (input next : List ℕ) (t u o : ℕ) (one other : List ℕ) (exit ended : Bool)
-    (left last : History)
-    → IsLineOn workers (from_scratch s nothing_asked) input t u one exit left
-    → IsLineOn workers (record { number = 1; past = Some left; setup = s; asked = nothing_asked }) next u o other ended last
+    (after last : Beginning)
+    → IsMadeOn workers telling.Line (from_scratch s nothing_asked) input t u one exit after
+    → IsMadeOn workers telling.Line after next u o other ended last
     → TwoRounds workers s input next t o one other exit ended
-two_rounds workers s input next t u o one other exit ended left last on on_next =
+two_rounds workers s input next t u o one other exit ended after last on on_next =
     let f = on.found in
-    let begins : record { number = 1; past = Some left; setup = s; asked = nothing_asked }
-    ≡ after_round (from_scratch s nothing_asked) input f =
-    ap (λ (h : History). record { number = 1; past = Some h; setup = s; asked = nothing_asked }) on.is_left in
-    let on_second : IsLineOn workers (after_round (from_scratch s nothing_asked) input f) next u o other ended last =
-    subst (λ (b : Beginning). IsLineOn workers b next u o other ended last) begins on_next in
+    let on_second : IsMadeOn workers telling.Line (after_round (from_scratch s nothing_asked) input f) next u o other ended last =
+    subst (λ (b : Beginning). IsMadeOn workers telling.Line b next u o other ended last) on.is_next on_next in
     let first : Round = round_on (from_scratch s nothing_asked) input f in
     let second : Round = round_on (after_round (from_scratch s nothing_asked) input f) next on_second.found in
     record {
@@ -181,8 +181,8 @@ two_rounds workers s input next t u o one other exit ended left last on on_next 
       are = refl;
       made_first = on.made;
       made_second = on_second.made;
-      unwatched_first = λ yes. absurd (let no : false ≡ true = yes in cc);
-      unwatched_second = λ yes. absurd (let no : false ≡ true = yes in cc);
+      watched_first = on.watched;
+      watched_second = on_second.watched;
       counted_first = on.counted;
       counted_second = on_second.counted;
       turns = let first = on.turns in let second = on_second.turns in omega arith;
@@ -195,22 +195,23 @@ two_rounds workers s input next t u o one other exit ended left last on on_next 
 -- both rounds were made
 pub both_generated :
     (workers number : ℕ) (p : Plan) (input next : List ℕ) (rest : List (List ℕ)) (one other text : List ℕ)
-    (exit ended exits : Bool) (left last : History) (earlier between later : Work)
+    (exit ended exits : Bool) (after last : Beginning) (earlier between later : Work)
     → later.rounds ≡ earlier.rounds + 2 → IsGeneratedPlan number p → CanBePlayed p → CanBeSpelled p → p.inputs ≡ input ∷ next ∷ rest
-    → IsLineOn workers (from_scratch p.beginning.setup nothing_asked) input earlier.turns between.turns one exit left
-    → IsLineOn workers (record { number = 1; past = Some left; setup = p.beginning.setup; asked = nothing_asked }) next
-    between.turns later.turns other ended last
+    → IsMadeOn workers telling.Line p.beginning input earlier.turns between.turns one exit after
+    → IsMadeOn workers telling.Line after next between.turns later.turns other ended last
     → text ≡ text_line (codes "gen") (decimal number) ++ one ++ other
     → exits ≡ (exit && ended)
     → AreTheGenerated workers number earlier later text exits
 unfolding all_made_exit
-both_generated workers number p input next rest one other text exit ended exits left last earlier between later rise is playable spelled inputs on on_next told ends =
+both_generated workers number p input next rest one other text exit ended exits after last earlier between later rise is playable spelled inputs on on_next told ends =
     let s : Setup = p.beginning.setup in
     let begins : p.beginning ≡ from_scratch s nothing_asked =
     is.beginning ∙ ap (λ (t : Setup). from_scratch t nothing_asked) (sym (ap (λ (b : Beginning). b.setup) is.beginning)) in
     let all : p.inputs ≡ input ∷ next ∷ [] = one_more _ _ input next rest p.inputs inputs is.edited in
     let two : TwoRounds workers s input next earlier.turns later.turns one other exit ended =
-    two_rounds workers s input next earlier.turns between.turns later.turns one other exit ended left last on on_next in
+    two_rounds workers s input next earlier.turns between.turns later.turns one other exit ended after last
+    (subst (λ (b : Beginning). IsMadeOn workers telling.Line b input earlier.turns between.turns one exit after) begins on)
+    on_next in
     let rounds : rounds_of p two.found ≡ two.first ∷ two.second ∷ [] =
     ap (λ (l : List (List ℕ)). rounds_after p.beginning l two.found) all
     ∙ ap (λ (b : Beginning). rounds_after b (input ∷ next ∷ []) two.found) begins
@@ -222,7 +223,7 @@ both_generated workers number p input next rest one other text exit ended exits 
       made = subst (All (IsMade workers)) (sym rounds)
           (All-from_recursion (IsMade workers) (two.first ∷ two.second ∷ []) (two.made_first, (two.made_second, tt)));
       watched = subst (All (IsWatched workers)) (sym rounds)
-          (All-from_recursion (IsWatched workers) (two.first ∷ two.second ∷ []) (two.unwatched_first, (two.unwatched_second, tt)));
+          (All-from_recursion (IsWatched workers) (two.first ∷ two.second ∷ []) (two.watched_first, (two.watched_second, tt)));
       counted = subst (All (IsCounted workers)) (sym rounds)
           (All-from_recursion (IsCounted workers) (two.first ∷ two.second ∷ []) (two.counted_first, (two.counted_second, tt)));
     } in
@@ -260,86 +261,84 @@ has_generated line a earlier later text exits is =
       kept = each_kept line.workers is.plan is.found is.playable is.spelled is.made;
     }
 
+both_made :
+    (line : GenerateLine) (earlier later : Work) (text : List ℕ) (exits : Bool)
+    → AreTheGenerated line.workers line.number earlier later text exits → later.rounds ≡ earlier.rounds + 2
+both_made line earlier later text exits is =
+    let rounds = is.rounds in let all = is.all in
+    let inputs = inputs-count (input_of line.number) (list_of line.number ∷ []) is.plan.inputs is.is_plan.edited in
+    omega arith
+
+-- the rounds were printed, and the counter rose by their turns
 generated_by :
     (line : GenerateLine) (a b : World) (earlier later : Work) (text : List ℕ) (exits : Bool)
     → AsksNothing a b → AreTheGenerated line.workers line.number earlier later text exits → Prints a b text
-    → IsGenerated line exits a b
+    → (done : IsGenerated line exits a b) × SpendsTurns (Generates line) a done.has earlier later
 unfolding has_generated
-generated_by line a b earlier later text exits none is prints =
-    record {
-      asked = none;
-      has = has_generated line a earlier later text exits is;
-      all = is.all;
-      prints = subst (Prints a b) is.is_text prints;
-      ends = is.are_exits;
-    }
+generated_by line a b earlier later text exits none is prints = (
+  record {
+    asked = none;
+    has = has_generated line a earlier later text exits is;
+    all = is.all;
+    prints = subst (Prints a b) is.is_text prints;
+    ends = is.are_exits;
+  },
+  record { counted = is.made.counted; turns = is.turns },
+)
 
-spent_by :
+pub generate_spent :
     (line : GenerateLine) (a b : World) (earlier later : Work) (text : List ℕ) (exits : Bool)
-    (none : AsksNothing a b) (is : AreTheGenerated line.workers line.number earlier later text exits) (prints : Prints a b text)
-    → SpendsTurns (Generates line) a (generated_by line a b earlier later text exits none is prints).has earlier later
-unfolding has_generated generated_by
-spent_by line a b earlier later text exits none is prints = record { counted = is.made.counted; turns = is.turns }
+    → AsksNothing a b → AreTheGenerated line.workers line.number earlier later text exits → Prints a b text
+    → GenerateSpends line a b earlier later (status_in (Ok exits))
+generate_spent line a b earlier later text true none is prints =
+    generated_by line a b earlier later text true none is prints
+generate_spent line a b earlier later text false none is prints =
+    generated_by line a b earlier later text false none is prints
 
--- the counter rose by the turns of both rounds
-pub generate_spent_finished :
-    (line : GenerateLine) (a b : World) (earlier later : Work) (text : List ℕ) (exits : Bool)
-    → AsksNothing a b → AreTheGenerated line.workers line.number earlier later text exits → Prints a b text → exits ≡ true
-    → GenerateSpends line a b earlier later status.Finished
-generate_spent_finished line a b earlier later text exits none is prints ends =
-    let all = subst (AreTheGenerated line.workers line.number earlier later text) ends is in
-    (generated_by line a b earlier later text true none all prints, spent_by line a b earlier later text true none all prints)
+-- so the line ends
+pub generate_ends :
+    (line : GenerateLine) (a b : World) (earlier later : Work) (exits : Bool)
+    → GenerateSpends line a b earlier later (status_in (Ok exits)) → Ends (Some (Generates line)) a b (status_in (Ok exits))
+generate_ends line a b earlier later true spent = inr spent.0
+generate_ends line a b earlier later false spent = inr spent.0
 
-pub generate_spent_unfinished :
-    (line : GenerateLine) (a b : World) (earlier later : Work) (text : List ℕ) (exits : Bool)
-    → AsksNothing a b → AreTheGenerated line.workers line.number earlier later text exits → Prints a b text → exits ≡ false
-    → GenerateSpends line a b earlier later status.Unfinished
-generate_spent_unfinished line a b earlier later text exits none is prints ends =
-    let all = subst (AreTheGenerated line.workers line.number earlier later text) ends is in
-    (generated_by line a b earlier later text false none all prints, spent_by line a b earlier later text false none all prints)
+-- and as many rounds were made as it asks for
+pub generate_made :
+    (line : GenerateLine) (earlier later : Work) (text : List ℕ) (exits : Bool)
+    → AreTheGenerated line.workers line.number earlier later text exits
+    → MakesRounds (Generates line) earlier.rounds later.rounds (status_in (Ok exits))
+generate_made line earlier later text true is = both_made line earlier later text true is
+generate_made line earlier later text false is = both_made line earlier later text false is
 
-pub generate_finished :
-    (line : GenerateLine) (a b : World) (earlier later : Work) (text : List ℕ) (exits : Bool)
-    → AsksNothing a b → AreTheGenerated line.workers line.number earlier later text exits → Prints a b text → exits ≡ true
-    → GenerateEnds line a b status.Finished
-generate_finished line a b earlier later text exits none is prints ends =
-    generated_by line a b earlier later text true none
-    (subst (AreTheGenerated line.workers line.number earlier later text) ends is) prints
-
-pub generate_unfinished :
-    (line : GenerateLine) (a b : World) (earlier later : Work) (text : List ℕ) (exits : Bool)
-    → AsksNothing a b → AreTheGenerated line.workers line.number earlier later text exits → Prints a b text → exits ≡ false
-    → GenerateEnds line a b status.Unfinished
-generate_unfinished line a b earlier later text exits none is prints ends =
-    generated_by line a b earlier later text false none
-    (subst (AreTheGenerated line.workers line.number earlier later text) ends is) prints
+pub unprinted_made :
+    (line : GenerateLine) (text : List ℕ) (a b : World) (earlier later : Work) (s : Status)
+    → later.rounds ≤ earlier.rounds + 2 → WhyUnprinted text a b s
+    → MakesRounds (Generates line) earlier.rounds later.rounds s
+unprinted_made line text a b earlier later status.WriteFault most why = most
+unprinted_made line text a b earlier later status.Memory most why = most
+unprinted_made line text a b earlier later _ most why = absurd why
 
 -- the host's memory ran out
 pub generate_cut : (line : GenerateLine) (a b : World) → AsksNothing a b → Stays a b
-    → GenerateEnds line a b status.Memory
-generate_cut line a b none stays = unbegun (Generates line) a b (none ∙ sym (append-nil a.asked)) stays
+    → Ends (Some (Generates line)) a b status.Memory
+generate_cut line a b none stays = inl (unbegun [] a b (none ∙ sym (append-nil a.asked)) stays)
 
 -- not all was printed
 pub generate_unprinted :
     (line : GenerateLine) (a b : World) (earlier later : Work) (text : List ℕ) (exits : Bool) (s : Status)
     → AsksNothing a b → AreTheGenerated line.workers line.number earlier later text exits → WhyUnprinted text a b s
-    → GenerateEnds line a b s
+    → Ends (Some (Generates line)) a b s
 unfolding has_generated
 generate_unprinted line a b earlier later text exits status.WriteFault none is why =
-    let cause : WhyUnprinted (generated_text line.number (rounds_of is.plan is.found)) a b status.WriteFault =
+    let whole = generated_text line.number (rounds_of is.plan is.found) in
+    let cause : WhyUnprinted whole a b status.WriteFault =
     subst (λ (l : List ℕ). WhyUnprinted l a b status.WriteFault) is.is_text why in
-    record {
+    inr
+    (record {
       asked = none;
       has = has_generated line a earlier later text exits is;
       all = is.all;
-      part = record {
-        cause = cause.0;
-        whole = 0;
-        next = generated_text line.number (rounds_of is.plan is.found);
-        is_next = refl;
-        count = cause.1.0;
-        prints = cause.1.1;
-      };
-    }
+      part = in_part whole a a b (stays_same a) (none_fell_same a) cause;
+    })
 generate_unprinted line a b earlier later text exits status.Memory none is why = generate_cut line a b none why
 generate_unprinted line a b earlier later text exits _ none is why = absurd why

@@ -13,6 +13,7 @@ use Rattle.rerun_spec.specs.Inputs.{AreShort}
 use Rattle.rerun_spec.specs.Rounds.{Found, Round, Beginning, IsMade, IsWatched, round_on, after_round, rounds_after, after_rounds, history_at}
 use Rattle.rerun_spec.specs.Reports.{made_report, made_reports, made_exits, all_made_exit}
 use Rattle.ith_host.specs.World.{World, NoneFell, Stays, AsksNothing}
+use Rattle.ith_top.specs.declared.report.Telling.TheVariants as telling
 use Rattle.ith_top.specs.declared.status.Status.{Status}
 use Rattle.ith_top.specs.declared.status.Status.TheVariants as status
 use Rattle.ith_top.specs.Ends.{Prints, IsPrintedInPart}
@@ -243,13 +244,12 @@ has-next b workers inputs a w t u now input rest exit going f made watched count
 -- the next round was made and printed
 pub going_next :
     (b : Beginning) (workers : ℕ) (inputs : List (List ℕ)) (a w v : World) (t u o : ℕ) (now next : Beginning)
-    (input : List ℕ) (rest : List (List ℕ)) (exit : Bool) (text : List ℕ) (ended : Bool) (left : History)
+    (input : List ℕ) (rest : List (List ℕ)) (exit : Bool) (text : List ℕ) (ended : Bool)
     → IsGoing b workers inputs a w t u now (input ∷ rest) exit
-    → IsMadeOn workers now input u o text ended left
-    → next ≡ record { number = now.number + 1; past = Some left; setup = now.setup; asked = now.asked }
+    → IsMadeOn workers telling.Report now input u o text ended next
     → Prints w v text → NoneFell w v → AsksNothing w v
     → IsGoing b workers inputs a v t o next rest (exit && ended)
-going_next b workers inputs a w v t u o now next input rest exit text ended left going one after prints counts asked =
+going_next b workers inputs a w v t u o now next input rest exit text ended going one prints counts asked =
     let f = one.found in
     let r = round_on now input f in
     let has = has-next b workers inputs a w t u now input rest exit going f one.made one.watched one.counted in
@@ -262,9 +262,7 @@ going_next b workers inputs a w v t u o now next input rest exit text ended left
     list_all-append made_exits going.done (r ∷ [])
     ∙ ap (λ (c : Bool). list_all made_exits going.done && c) (and-true (made_exits r) ∙ sym one.is_exit)
     ∙ ap (λ (c : Bool). c && ended) (sym going.ended) in
-    let leads : next ≡ after_round now input f =
-    after ∙ ap (λ (h : History). record { number = now.number + 1; past = Some h; setup = now.setup; asked = now.asked }) one.is_left in
-    rw leads
+    rw one.is_next
     (record {
       found = going.found ++ f ∷ [];
       done = going.done ++ r ∷ [];
@@ -304,22 +302,21 @@ going_played b workers inputs a w now rest exit left earlier later none past goi
       is_left = sym is ∙ ap history_at (sym (going-after b workers inputs a w earlier.turns later.turns now rest exit going));
     }
 
--- no more was made, after a change that leaves files and printed bytes
+-- no more was made
 pub going_cut :
-    (b : Beginning) (workers : ℕ) (inputs : List (List ℕ)) (a w v : World) (t u : ℕ) (now : Beginning)
+    (b : Beginning) (workers : ℕ) (inputs : List (List ℕ)) (a w : World) (t u : ℕ) (now : Beginning)
     (rest : List (List ℕ)) (exit : Bool) (earlier later : Work)
-    → IsGoing b workers inputs a w t u now rest exit → Stays w v
+    → IsGoing b workers inputs a w t u now rest exit
     → later.rounds + length rest ≤ earlier.rounds + length inputs + 1 → later.rounds ≤ earlier.rounds + length inputs
-    → IsPlayedInPart workers (of_line b inputs) a v earlier later status.Memory
-going_cut b workers inputs a w v t u now rest exit earlier later going stays count most =
+    → IsPlayedInPart workers (of_line b inputs) a w earlier later status.Memory
+going_cut b workers inputs a w t u now rest exit earlier later going count most =
     record {
       found = going.found;
       made = going-found b workers inputs a w t u now rest exit going;
       rounds = let found = going.count in omega arith;
       most = most;
-      why = subst (λ (texts : List (List ℕ)). Prints a v (concat texts))
-          (sym (going-texts b workers inputs a w t u now rest exit going))
-          (prints_then a w v (concat (map made_report going.done)) going.prints stays);
+      why = subst (λ (texts : List (List ℕ)). Prints a w (concat texts))
+          (sym (going-texts b workers inputs a w t u now rest exit going)) going.prints;
     }
 
 next-rounds :
@@ -344,25 +341,14 @@ texts-are b inputs found done r are = ap (map made_report) are ∙ map-append ma
 -- the next text wasn't printed
 pub going_unprinted :
     (b : Beginning) (workers : ℕ) (inputs : List (List ℕ)) (a w v : World) (t u o : ℕ) (now : Beginning)
-    (input : List ℕ) (rest : List (List ℕ)) (exit : Bool) (text : List ℕ) (ended : Bool) (left : History)
+    (input : List ℕ) (rest : List (List ℕ)) (exit : Bool) (text : List ℕ) (ended : Bool) (next : Beginning)
     (earlier later : Work) (why : Status)
     → IsGoing b workers inputs a w t u now (input ∷ rest) exit
-    → IsMadeOn workers now input u o text ended left
+    → IsMadeOn workers telling.Report now input u o text ended next
     → later.rounds + length (input ∷ rest) ≤ earlier.rounds + length inputs + 1
     → later.rounds ≤ earlier.rounds + length inputs
     → WhyUnprinted text w v why → IsPlayedInPart workers (of_line b inputs) a v earlier later why
-going_unprinted b workers inputs a w v t u o now input rest exit text ended left earlier later status.Finished going one count most cause =
-    absurd cause
-going_unprinted b workers inputs a w v t u o now input rest exit text ended left earlier later status.Unfinished going one count most cause =
-    absurd cause
-going_unprinted b workers inputs a w v t u o now input rest exit text ended left earlier later status.Words going one count most cause = absurd cause
-going_unprinted b workers inputs a w v t u o now input rest exit text ended left earlier later status.Image going one count most cause = absurd cause
-going_unprinted b workers inputs a w v t u o now input rest exit text ended left earlier later status.Memo going one count most cause = absurd cause
-going_unprinted b workers inputs a w v t u o now input rest exit text ended left earlier later status.EditList going one count most cause =
-    absurd cause
-going_unprinted b workers inputs a w v t u o now input rest exit text ended left earlier later status.ReadFault going one count most cause =
-    absurd cause
-going_unprinted b workers inputs a w v t u o now input rest exit text ended left earlier later status.WriteFault going one count most cause =
+going_unprinted b workers inputs a w v t u o now input rest exit text ended next earlier later status.WriteFault going one count most cause =
     let f = one.found in
     let r = round_on now input f in
     let has = has-next b workers inputs a w t u now input rest exit going f one.made one.watched one.counted in
@@ -398,12 +384,17 @@ going_unprinted b workers inputs a w v t u o now input rest exit text ended left
         prints = subst (λ (ts : List (List ℕ)). Prints a v (concat ts ++ take cause.1.0 text)) (sym front) printed;
       };
     }
-going_unprinted b workers inputs a w v t u o now input rest exit text ended left earlier later status.Memory going one count most cause =
-    going_cut b workers inputs a w v t u now (input ∷ rest) exit earlier later going cause count most
-going_unprinted b workers inputs a w v t u o now input rest exit text ended left earlier later status.TooLarge going one count most cause =
+going_unprinted b workers inputs a w v t u o now input rest exit text ended next earlier later status.Memory going one count most cause =
+    let part = going_cut b workers inputs a w t u now (input ∷ rest) exit earlier later going count most in
+    record {
+      found = part.found;
+      made = part.made;
+      rounds = part.rounds;
+      most = part.most;
+      why = prints_then a w v _ part.why cause;
+    }
+going_unprinted b workers inputs a w v t u o now input rest exit text ended next earlier later _ going one count most cause =
     absurd cause
-going_unprinted b workers inputs a w v t u o now input rest exit text ended left earlier later status.Schedule going one count most cause = absurd cause
-going_unprinted b workers inputs a w v t u o now input rest exit text ended left earlier later status.Untrue going one count most cause = absurd cause
 
 -- of short inputs the first is short, and so are the others
 pub short_first : (input : List ℕ) (rest : List (List ℕ)) → AreShort (input ∷ rest) → length input ≤ MOST_INPUT_BYTES

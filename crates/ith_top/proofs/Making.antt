@@ -1,5 +1,5 @@
 -- A round as its workers made it, and the page map of what it goes by and leaves.
-use Rattle.std.proofs.Common.{◌≡◌, ◌+◌, ℕ, Bool, true, List, [], length, Option, Some, None, refl, ap, sym, ◌∙◌, subst}
+use Rattle.std.proofs.Common.{◌≡◌, ◌+◌, ℕ, Bool, true, List, length, Option, Some, None, ap, sym, ◌∙◌, subst}
 use Rattle.elf_spec.specs.Image.{image_pages}
 use Rattle.record_spec.specs.Record.{Record}
 use Rattle.machine_spec.specs.Machine.{Machine}
@@ -21,7 +21,9 @@ use Rattle.rerun_spec.proofs.Ending.{left-own}
 use Rattle.round_report.specs.Short.{short_text}
 use Rattle.rerun_workers.specs.Making.{IsCostOf}
 use Rattle.ith_top.specs.Counting.{IsCounted}
-use Rattle.ith_top.specs.Playing.{IsMadeOn, IsLineOn}
+use Rattle.ith_top.specs.Playing.{text_by, told_by, IsMadeOn}
+use Rattle.ith_top.specs.declared.report.Telling.{Telling}
+use Rattle.ith_top.specs.declared.report.Telling.TheVariants as telling
 
 -- what is told of a round, part by part
 abbrev told_of : Machine → List Entry → Extras → List Record → List ℕ → Told
@@ -95,20 +97,33 @@ alike-cost workers r w alike cost =
       idle = cost.idle;
     }
 
+-- and so is the text that tells of it
+alike-text :
+    (way : Telling) (r : Round) (w : RoundState) (text : List ℕ) → IsAlike r w
+    → text ≡ text_by way r.number (told_as_made w (extras_of r.asked w.past w.setup r.found.progress) r.found.shares)
+    → text ≡ told_by way r
+unfolding short_text
+alike-text telling.Report r w text alike is =
+    is
+    ∙ ap (λ (e : Extras). report_text r.number (told_as_made w e r.found.shares)) (alike-extras r w alike)
+    ∙ ap (report_text r.number) (alike-told r w (made_extras r) r.found.shares alike)
+alike-text telling.Line r w text alike is =
+    is ∙ ap (short_text r.number) (alike-told r w no_extras r.found.shares alike)
+
 -- what workers made of a round, its text, its end and what it leaves
 pub made_on :
-    (workers : ℕ) (b : Beginning) (input : List ℕ) (w : RoundState) (f : Found) (t u : ℕ) (text : List ℕ) (exit : Bool)
-    (left : History)
+    (workers : ℕ) (way : Telling) (b : Beginning) (input : List ℕ) (w : RoundState) (f : Found) (t u : ℕ) (text : List ℕ)
+    (exit : Bool) (next : Beginning)
     → w.setup ≡ with_input b.setup input → w.past ≡ b.past → IsBySchedule w → f.entries ≡ w.schedule
     → IsMadeBy workers (with_input b.setup input) b.past w.schedule f.shares
     → (b.asked.progress ≡ true → IsProgress workers (length w.schedule) f.progress)
     → IsCostOf workers (with_input b.setup input) b.past w f.turns
     → u ≡ t + f.turns
-    → text ≡ report_text b.number (told_as_made w (extras_of b.asked w.past w.setup f.progress) f.shares)
+    → text ≡ text_by way b.number (told_as_made w (extras_of b.asked w.past w.setup f.progress) f.shares)
     → exit ≡ is_exit w.machine.ending
-    → left ≡ history_of w
-    → IsMadeOn workers b input t u text exit left
-made_on workers b input w f t u text exit left setup past by entries is watched cost rise texts exits leaves =
+    → next ≡ record { number = b.number + 1; past = Some (history_of w); setup = b.setup; asked = b.asked }
+    → IsMadeOn workers way b input t u text exit next
+made_on workers way b input w f t u text exit next setup past by entries is watched cost rise texts exits leaves =
     let r = round_on b input f in
     let alike : IsAlike r w = alike_of r w setup past entries by in
     record {
@@ -117,37 +132,14 @@ made_on workers b input w f t u text exit left setup past by entries is watched 
       watched = λ yes. subst (λ (es : List Entry). IsProgress workers (length es) f.progress) (sym entries) (watched yes);
       counted = alike-cost workers r w alike cost;
       turns = rise;
-      is_text = texts
-          ∙ ap (λ (e : Extras). report_text b.number (told_as_made w e f.shares)) (alike-extras r w alike)
-          ∙ ap (report_text b.number) (alike-told r w (made_extras r) f.shares alike);
+      is_text = alike-text way r w text alike texts;
       is_exit = exits ∙ ap (λ (m : Machine). is_exit m.ending) (sym alike.machine);
-      is_left = leaves ∙ alike-left r w alike;
-    }
-
--- the same of the line that tells of a round
-pub line_on :
-    (workers : ℕ) (b : Beginning) (input : List ℕ) (w : RoundState) (shares : List ℕ) (spent t u : ℕ) (text : List ℕ)
-    (exit : Bool) (left : History)
-    → w.setup ≡ with_input b.setup input → w.past ≡ b.past → IsBySchedule w
-    → IsMadeBy workers (with_input b.setup input) b.past w.schedule shares
-    → IsCostOf workers (with_input b.setup input) b.past w spent
-    → u ≡ t + spent
-    → text ≡ short_text b.number (told_as_made w no_extras shares)
-    → exit ≡ is_exit w.machine.ending
-    → left ≡ history_of w
-    → IsLineOn workers b input t u text exit left
-line_on workers b input w shares spent t u text exit left setup past by is cost rise texts exits leaves =
-    let f : Found = record { entries = w.schedule; shares = shares; progress = []; turns = spent } in
-    let r = round_on b input f in
-    let alike : IsAlike r w = alike_of r w setup past refl by in
-    record {
-      found = f;
-      made = is;
-      counted = alike-cost workers r w alike cost;
-      turns = rise;
-      is_text = texts ∙ ap (short_text b.number) (alike-told r w no_extras shares alike);
-      is_exit = exits ∙ ap (λ (m : Machine). is_exit m.ending) (sym alike.machine);
-      is_left = leaves ∙ alike-left r w alike;
+      is_next = leaves ∙ ap (λ (h : History). record {
+        number = b.number + 1;
+        past = Some h;
+        setup = b.setup;
+        asked = b.asked;
+      }) (alike-left r w alike);
     }
 
 -- a setup of the same executable has the same page map
@@ -165,20 +157,12 @@ round_map b input w setup past is =
 
 -- and leaves a history of it
 pub left_map :
-    (workers : ℕ) (b : Beginning) (input : List ℕ) (t u : ℕ) (text : List ℕ) (exit : Bool) (left : History)
-    → IsMadeOn workers b input t u text exit left → IsOfMap (Some left) b.setup
-left_map workers b input t u text exit left on =
-    same_image left.setup b.setup
-    (ap image_pages (ap (λ (h : History). h.setup.elf) on.is_left
-    ∙ ap (λ (s : Setup). s.elf) (left-own (round_on b input on.found))))
-
-pub line_map :
-    (workers : ℕ) (b : Beginning) (input : List ℕ) (t u : ℕ) (text : List ℕ) (exit : Bool) (left : History)
-    → IsLineOn workers b input t u text exit left → IsOfMap (Some left) b.setup
-line_map workers b input t u text exit left on =
-    same_image left.setup b.setup
-    (ap image_pages (ap (λ (h : History). h.setup.elf) on.is_left
-    ∙ ap (λ (s : Setup). s.elf) (left-own (round_on b input on.found))))
+    (workers : ℕ) (way : Telling) (b : Beginning) (input : List ℕ) (t u : ℕ) (text : List ℕ) (exit : Bool) (next : Beginning)
+    → IsMadeOn workers way b input t u text exit next → IsOfMap next.past next.setup
+left_map workers way b input t u text exit next on =
+    let r = round_on b input on.found in
+    subst (λ (n : Beginning). IsOfMap n.past n.setup) (sym on.is_next)
+    (same_image (left_by r).setup b.setup (ap image_pages (ap (λ (s : Setup). s.elf) (left-own r))))
 
 -- what is there is one thing
 pub some_is : {A : Type 0} (x y : A) → Some x ≡ Some y → x ≡ y

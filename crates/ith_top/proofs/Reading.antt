@@ -1,19 +1,19 @@
 -- Edit lists that are read one after the other.
-use Rattle.std.proofs.Common.{◌≡◌, ◌<◌, ◌≤◌, ◌+◌, ℕ, List, [], ◌∷◌, ◌++◌, length, take, map, get_or, Bor, Vec, refl, ap, sym, subst, ◌∙◌, arith}
+use Rattle.std.proofs.Common.{◌≡◌, ◌<◌, ◌≤◌, ◌+◌, ℕ, List, [], ◌∷◌, ◌++◌, length, take, map, get_or, Bor, Vec, ap, sym, subst, ◌∙◌, arith}
 use Rattle.std.specs.Global.{Global}
 use Rattle.std.proofs.lemmas.List.{append-nil, map_push, map-append, length-map, take_all, take_more, get_or-map}
 use Rattle.std.proofs.lemmas.List.Elements.{all_zip_more}
 use Rattle.edit_spec.specs.declared.TheConstants.{MOST_LIST_BYTES}
 use Rattle.round_inputs.specs.Lists.{bytes_of_each}
-use Rattle.ith_host.specs.World.{World, NoneFell, Stays, AsksFor, AsksNothing, IsContent}
+use Rattle.ith_host.specs.World.{World, NoneFell, Stays, AsksFor, IsContent}
 use Rattle.ith_top.specs.declared.status.Status.{Status}
 use Rattle.ith_top.specs.declared.status.Status.TheVariants as status
 use Rattle.ith_words.specs.Words.{Text}
-use Rattle.ith_top.specs.Files.{Named, AsksForFiles, lists_named}
+use Rattle.ith_top.specs.Files.{Named, Reads, lists_named}
 use Rattle.ith_top.specs.Contents.{AreLists}
 use Rattle.ith_top.specs.Refusals.{WhyUnread}
 use Rattle.ith_top.proofs.Worlds.{stays_trans, none_fell_trans, content_before}
-use Rattle.ith_top.proofs.Asking.{one_cut, asked_both, lists_asked, lists_within, split_at, unread_front, unread_more}
+use Rattle.ith_top.proofs.Asking.{unbegun, asked_both, lists_asked, lists_within, split_at, unread_front, unread_more}
 
 -- the texts of names
 abbrev pub texts_of : List (Bor (List ℕ)) → List Text
@@ -31,12 +31,6 @@ pub none_read : (a : World) (names : List (Bor (List ℕ))) (lists : List (Vec �
     → NoneFell a a → IsReading a a names 0 lists
 none_read a names lists none stays counts =
     rw none (record { are = tt; stays = stays; counts = counts; asked = sym (append-nil a.asked) })
-
-pub stays_same : (a : World) → Stays a a
-stays_same a = record { tells = refl; files = refl; printed = refl }
-
-pub none_fell_same : (a : World) → NoneFell a a
-none_fell_same a = record { reads = λ name. omega arith; writes = λ name. omega arith; prints = omega arith }
 
 name_at : (names : List (Bor (List ℕ))) (place : ℕ) (name d : Bor (List ℕ)) → place < length names
     → name ≡ get_or names place d → name.now ≡ get_or (texts_of names) place name.now
@@ -58,36 +52,40 @@ pub one_read :
     (a w v : World) (names : List (Bor (List ℕ))) (place : ℕ) (name d : Bor (List ℕ)) (lists : List (Vec ℕ Global))
     (list : Vec ℕ Global)
     → IsReading a w names place lists → place < length names → name ≡ get_or names place d
-    → IsContent w name.now list.items → length list.items ≤ MOST_LIST_BYTES → Stays w v → NoneFell w v
-    → AsksFor (name.now ∷ []) w v
+    → IsContent w name.now list.items → length list.items ≤ MOST_LIST_BYTES
+    → Reads (record { name = name.now; most = MOST_LIST_BYTES } ∷ []) w v
     → IsReading a v names (place + 1) (lists ++ list ∷ [])
-one_read a w v names place name d lists list reading within at content short stays counts asked =
+one_read a w v names place name d lists list reading within at content short more =
     let inside : place < length (texts_of names) = let same =
     length-map names (λ (n : Bor (List ℕ)). n.now) in omega arith in
-    let more =
+    let all =
     all_zip_more (λ name list. IsContent a name list × (length list ≤ MOST_LIST_BYTES)) (texts_of names)
     (bytes_of_each lists) place name.now list.items inside
     (name_at names place name d within at) reading.are
     (content_before a w name.now list.items reading.stays content, short) in
     record {
-      are = rw (map_push (λ (v : Vec ℕ Global). v.items) lists list) more;
-      stays = stays_trans a w v reading.stays stays;
-      counts = none_fell_trans a w v reading.counts counts;
+      are = rw (map_push (λ (v : Vec ℕ Global). v.items) lists list) all;
+      stays = stays_trans a w v reading.stays more.stays;
+      counts = none_fell_trans a w v reading.counts more.counts;
       asked = subst (λ (ns : List Text). AsksFor ns a v) (sym (next_name names place name d within at))
-          (asked_both (take place (texts_of names)) (name.now ∷ []) a w v reading.asked asked);
+          (asked_both (take place (texts_of names)) (name.now ∷ []) a w v reading.asked more.asked);
     }
 
--- all were asked for
-pub all_asked :
+-- all were read
+pub all_reads :
     (a w : World) (names : List (Bor (List ℕ))) (place : ℕ) (lists : List (Vec ℕ Global))
-    → IsReading a w names place lists → length names ≤ place → AsksForFiles (lists_named (texts_of names)) a w
-all_asked a w names place lists reading over =
+    → IsReading a w names place lists → length names ≤ place → Reads (lists_named (texts_of names)) a w
+all_reads a w names place lists reading over =
     let past : length (texts_of names) ≤ place = let same =
     length-map names (λ (n : Bor (List ℕ)). n.now) in omega arith in
-    lists_asked (texts_of names) a w
-    (subst (λ (ns : List Text). AsksFor ns a w) (take_all place (texts_of names) past) reading.asked)
+    record {
+      asked = lists_asked (texts_of names) a w
+          (subst (λ (ns : List Text). AsksFor ns a w) (take_all place (texts_of names) past) reading.asked);
+      stays = reading.stays;
+      counts = reading.counts;
+    }
 
--- all were read
+-- and they hold what the lists hold
 pub all_read :
     (a w : World) (names : List (Bor (List ℕ))) (place : ℕ) (lists : List (Vec ℕ Global))
     → IsReading a w names place lists → length names ≤ place → AreLists a (texts_of names) (bytes_of_each lists)
@@ -112,16 +110,17 @@ one_unread a w v names place name d lists s reading within at why =
     ap lists_named split.1 ∙ map-append (λ (n : Text). record { name = n; most = MOST_LIST_BYTES }) front
     (name.now ∷ split.0) in
     subst (λ (files : List Named). WhyUnread files a v s) (sym are)
-    (unread_more (lists_named front) (here ∷ lists_named split.0) a w v s reading.stays reading.counts
-    (lists_asked front a w reading.asked) (lists_within a front (bytes_of_each lists) reading.are)
+    (unread_more (lists_named front) (here ∷ lists_named split.0) a w v s
+    (record { asked = lists_asked front a w reading.asked; stays = reading.stays; counts = reading.counts })
+    (lists_within a front (bytes_of_each lists) reading.are)
     (unread_front (here ∷ []) (lists_named split.0) w v s why))
 
 -- one was read, and then found no room
 pub one_dropped :
-    (a w v u : World) (names : List (Bor (List ℕ))) (place : ℕ) (name d : Bor (List ℕ)) (lists : List (Vec ℕ Global))
+    (a w v : World) (names : List (Bor (List ℕ))) (place : ℕ) (name d : Bor (List ℕ)) (lists : List (Vec ℕ Global))
     → IsReading a w names place lists → place < length names → name ≡ get_or names place d
-    → AsksFor (name.now ∷ []) w v → AsksNothing v u
-    → WhyUnread (lists_named (texts_of names)) a u status.Memory
-one_dropped a w v u names place name d lists reading within at asked none =
-    one_unread a w u names place name d lists status.Memory reading within at
-    (one_cut (record { name = name.now; most = MOST_LIST_BYTES }) w v u asked none)
+    → Reads (record { name = name.now; most = MOST_LIST_BYTES } ∷ []) w v
+    → WhyUnread (lists_named (texts_of names)) a v status.Memory
+one_dropped a w v names place name d lists reading within at reads =
+    one_unread a w v names place name d lists status.Memory reading within at
+    (unbegun (record { name = name.now; most = MOST_LIST_BYTES } ∷ []) w v reads.asked reads.stays)

@@ -1,4 +1,6 @@
 -- How a line that replays a schedule ends, from how its parts did.
+use Rattle.std.specs.Prelude.{Ok}
+use Rattle.schedule_list.specs.Schedule.{Says}
 use Rattle.std.proofs.Common.{◌≡◌, ◌+◌, ◌≤◌, ℕ, Bool, true, false, List, [], length, Option, Some, sym, ap, subst, ◌∙◌, inl, inr}
 use Rattle.elf_spec.specs.declared.TheConstants.{MOST_ELF_BYTES}
 use Rattle.machine_spec.specs.declared.TheConstants.{MOST_INPUT_BYTES}
@@ -13,19 +15,21 @@ use Rattle.plain_machine.specs.declared.replaying.Outcome.{Outcome}
 use Rattle.plain_machine.specs.Replaying.{IsOutcomeOf}
 use Rattle.round_report.specs.Replay.{replay_text, replay_of}
 use Rattle.schedule_list.specs.declared.TheConstants.{MOST_SCHEDULE_BYTES}
-use Rattle.ith_host.specs.World.{World, NoneFell, Stays, AsksNothing, IsContent}
+use Rattle.ith_host.specs.World.{World, Stays, AsksNothing, IsContent}
 use Rattle.ith_words.specs.Words.{Replays, ReplayLine}
 use Rattle.ith_top.specs.declared.status.Status.{Status}
 use Rattle.ith_top.specs.declared.status.Status.TheVariants as status
-use Rattle.ith_top.specs.Files.{files_named, AsksForFiles}
-use Rattle.ith_top.specs.Contents.{ReplayContents, AreReplayContents, WasReplayRead, replay_setup_of}
-use Rattle.ith_top.specs.Ends.{Prints, HasReplay, Token, Entry, Incomplete, IsReplayed, ReplayEnds}
+use Rattle.ith_top.specs.Statuses.{status_in}
+use Rattle.ith_top.specs.Files.{files_named, Reads, Quiet}
+use Rattle.ith_top.specs.Contents.{ReplayContents, AreReplayContents, replay_setup_of}
+use Rattle.ith_top.specs.Ends.{Prints, HasReplay, Token, RefusesSchedule, text_of_replay, IsReplayed, EndsEarly, ReplayEnds, Ends}
 use Rattle.ith_top.specs.Counting.{turns_of_replay, ReplaySpends}
-use Rattle.ith_top.specs.Refusals.{WhyUnread, WhyNoSetup, WhyNoThreads, WhyUnreplayed, WhyUnprinted}
+use Rattle.ith_top.specs.Refusals.{WhyNoSetup, WhyNoThreads, WhyUnreplayed, WhyUnprinted}
 use Rattle.ith_top.specs.Playing.{IsAskedReplay, TellsOfReplay}
-use Rattle.ith_top.proofs.Worlds.{content_before, stays_trans}
-use Rattle.ith_top.proofs.Going.{in_part, prints_after}
-use Rattle.ith_top.proofs.Ending.{unbegun}
+use Rattle.ith_top.proofs.Worlds.{content_before, reads_then}
+use Rattle.ith_top.proofs.Going.{prints_after}
+use Rattle.ith_top.proofs.Ending.{cut_ends}
+use Rattle.ith_top.proofs.Told.{untold}
 use Rattle.ith_top.proofs.Permitting.{executed-turns, executed-threads}
 
 -- all files were read
@@ -46,83 +50,41 @@ replay_read line a b elf input schedule stays first first_within second second_w
       schedule_within = third_within;
     }
 
--- files weren't all read
-pub replay_unread : (line : ReplayLine) (a b : World) (s : Status) → Stays a b
-    → WhyUnread (files_named (Replays line)) a b s → ReplayEnds line a b s
-replay_unread line a b status.ReadFault stays why = record { stops = why; stays = stays }
-replay_unread line a b status.Memory stays why = record { asked = why; stays = stays }
-replay_unread line a b status.TooLarge stays why = record { stops = why; stays = stays }
-replay_unread line a b _ stays why = absurd why
-
--- all files were read, and then the host's memory ran out
-pub replay_cut : (line : ReplayLine) (a b c : World) → AsksForFiles (files_named (Replays line)) a b → AsksNothing b c
-    → Stays a b → Stays b c → ReplayEnds line a c status.Memory
-replay_cut line a b c asked none stays then = unbegun (Replays line) a c (none ∙ asked) (stays_trans a b c stays then)
-
--- and no setup was made of the executable
+-- all files were read, and no setup was made of the executable
 pub replay_refused :
-    (line : ReplayLine) (a b c : World) (contents : ReplayContents) (s : Status)
-    → AsksForFiles (files_named (Replays line)) a b → AsksNothing b c → Stays a b → Stays b c
-    → AreReplayContents a line contents → WhyNoSetup contents.elf s → ReplayEnds line a c s
-replay_refused line a b c contents status.Image asked none stays then are why =
-    record {
-      asked = none ∙ asked;
-      contents = contents;
-      read = are;
-      refused = why;
-      stays = stays_trans a b c stays then;
-    }
-replay_refused line a b c contents status.Memory asked none stays then are why =
-    replay_cut line a b c asked none stays then
-replay_refused line a b c contents _ asked none stays then are why = absurd why
+    (line : ReplayLine) (a b : World) (contents : ReplayContents) (s : Status)
+    → Reads (files_named (Replays line)) a b → AreReplayContents a line contents → WhyNoSetup contents.elf s
+    → EndsEarly (Replays line) a b s
+replay_refused line a b contents status.Image reads are why =
+    record { asked = reads.asked; contents = contents; read = are; refused = why; stays = reads.stays }
+replay_refused line a b contents status.Memory reads are why = cut_ends (files_named (Replays line)) a b reads
+replay_refused line a b contents _ reads are why = absurd why
 
--- the executable was accepted, and the schedule's text says no threads
-pub replay_unsaid :
-    (line : ReplayLine) (a b c : World) (contents : ReplayContents) (s : Status)
-    → AsksForFiles (files_named (Replays line)) a b → AsksNothing b c → Stays a b → Stays b c
-    → WasReplayRead line a contents → WhyNoThreads contents.schedule s → ReplayEnds line a c s
-replay_unsaid line a b c contents status.Schedule asked none stays then read why =
-    record {
-      asked = none ∙ asked;
-      contents = contents;
-      read = read;
-      why = Token why.0;
-      refused = why.1;
-      stays = stays_trans a b c stays then;
-    }
-replay_unsaid line a b c contents status.Memory asked none stays then read why =
-    replay_cut line a b c asked none stays then
-replay_unsaid line a b c contents _ asked none stays then read why = absurd why
+-- why the text of a schedule says no threads
+pub unsaid_unreplayed : (setup : Setup) (text : List ℕ) (s : Status) → WhyNoThreads text s → WhyUnreplayed setup text s
+unsaid_unreplayed setup text status.Schedule why = (Token why.0, why.1)
+unsaid_unreplayed setup text status.Memory why = tt
+unsaid_unreplayed setup text _ why = absurd why
 
--- and the threads come to no end
+-- the executable was accepted, and the schedule comes to no end
 pub replay_endless :
-    (line : ReplayLine) (a b c : World) (setup : Setup) (threads : List ℕ) (s : Status)
-    → AsksForFiles (files_named (Replays line)) a b → AsksNothing b c → Stays a b → Stays b c
-    → IsAskedReplay line a setup threads → WhyUnreplayed setup threads s → ReplayEnds line a c s
-replay_endless line a b c setup threads status.Schedule asked none stays then is why =
-    let cause : WhyUnreplayed (replay_setup_of line is.contents) threads status.Schedule =
-    subst (λ (s : Setup). WhyUnreplayed s threads status.Schedule) is.is_setup why in
-    elim cause [
-      | inl forbidden ↦ record {
-        asked = none ∙ asked;
-        contents = is.contents;
-        read = is.read;
-        why = Entry forbidden.0;
-        refused = (threads, is.said, forbidden.1);
-        stays = stays_trans a b c stays then;
-      }
-      | inr incomplete ↦ record {
-        asked = none ∙ asked;
-        contents = is.contents;
-        read = is.read;
-        why = Incomplete;
-        refused = (threads, is.said, incomplete.0, incomplete.1);
-        stays = stays_trans a b c stays then;
-      }
-    ]
-replay_endless line a b c setup threads status.Memory asked none stays then is why =
-    replay_cut line a b c asked none stays then
-replay_endless line a b c setup threads _ asked none stays then is why = absurd why
+    (line : ReplayLine) (a b c : World) (setup : Setup) (text : List ℕ) (s : Status)
+    → IsAskedReplay line a b setup text → Quiet b c → WhyUnreplayed setup text s → Ends (Some (Replays line)) a c s
+replay_endless line a b c setup text status.Schedule is quiet why =
+    let reads = reads_then (files_named (Replays line)) a b c is.reads quiet in
+    inr
+    (record {
+      asked = reads.asked;
+      contents = is.contents;
+      read = is.read;
+      why = why.0;
+      refused = subst (λ (t : List ℕ). RefusesSchedule (replay_setup_of line is.contents) t why.0) is.is_text
+          (subst (λ (s : Setup). RefusesSchedule s text why.0) is.is_setup why.1);
+      stays = reads.stays;
+    })
+replay_endless line a b c setup text status.Memory is quiet why =
+    inl (cut_ends (files_named (Replays line)) a c (reads_then (files_named (Replays line)) a b c is.reads quiet))
+replay_endless line a b c setup text _ is quiet why = absurd why
 
 -- what there is to tell of a replay, part by part
 abbrev telling : List Executed → Option End → ℕ → Memory → List ℕ → Told
@@ -157,112 +119,77 @@ replay_told setup threads text o is tells =
     ∙ ap (λ (m : Memory). replay_text (telling entries told.ending told.instructions m o.output.items)) memory
     ∙ ap (λ (l : List ℕ). replay_text (telling entries told.ending told.instructions told.memory l)) output
 
--- the same of the setup that a line and its files make
-outcome_of :
-    (line : ReplayLine) (a : World) (setup : Setup) (threads : List ℕ) (o : Outcome)
-    (is : IsAskedReplay line a setup threads) → IsOutcomeOf setup threads o
-    → IsOutcomeOf (replay_setup_of line is.contents) threads o
-outcome_of line a setup threads o is of = subst (λ (s : Setup). IsOutcomeOf s threads o) is.is_setup of
-
 -- what was replayed
+record IsReplay (line : ReplayLine) (a : World) (has : HasReplay line a) (o : Outcome) (text : List ℕ) : Type 0 where
+  pub of : IsOutcomeOf (replay_setup_of line has.contents) has.threads o
+  pub is_text : text ≡ text_of_replay line a has
+
 has_replay :
-    (line : ReplayLine) (a : World) (setup : Setup) (threads : List ℕ) (o : Outcome)
-    → IsAskedReplay line a setup threads → IsOutcomeOf setup threads o → HasReplay line a
-has_replay line a setup threads o is of =
-    let whole = outcome_of line a setup threads o is of in
-    record {
-      contents = is.contents;
-      read = is.read;
-      threads = threads;
-      can = record { said = is.said; permitted = whole.permitted; complete = whole.complete };
-    }
+    (line : ReplayLine) (a b : World) (setup : Setup) (said threads text : List ℕ) (o : Outcome)
+    → IsAskedReplay line a b setup said → Says said (Ok threads) → IsOutcomeOf setup threads o
+    → TellsOfReplay threads o text → (has : HasReplay line a) × IsReplay line a has o text
+has_replay line a b setup said threads text o is says of tells =
+    let whole : IsOutcomeOf (replay_setup_of line is.contents) threads o =
+    subst (λ (s : Setup). IsOutcomeOf s threads o) is.is_setup of in (
+      record {
+        contents = is.contents;
+        read = is.read;
+        threads = threads;
+        can = record {
+          said = subst (λ (t : List ℕ). Says t (Ok threads)) is.is_text says;
+          permitted = whole.permitted;
+          complete = whole.complete;
+        };
+      },
+      record { of = whole; is_text = replay_told (replay_setup_of line is.contents) threads text o whole tells },
+    )
 
--- it was told
-replay_by :
-    (line : ReplayLine) (a b c : World) (setup : Setup) (threads text : List ℕ) (o : Outcome) (exits : Bool)
-    → AsksForFiles (files_named (Replays line)) a b → AsksNothing b c → Stays a b
-    → IsAskedReplay line a setup threads → IsOutcomeOf setup threads o → TellsOfReplay threads o text
-    → Prints b c text → is_exit (Some o.ending) ≡ exits → IsReplayed line exits a c
-unfolding has_replay
-replay_by line a b c setup threads text o exits asked none stays is of tells prints ends =
-    let its : Setup = replay_setup_of line is.contents in
-    let whole : IsOutcomeOf its threads o = outcome_of line a setup threads o is of in
-    record {
-      asked = none ∙ asked;
-      has = has_replay line a setup threads o is of;
-      prints = prints_after a b c (replay_of its threads) stays
-          (subst (Prints b c) (replay_told its threads text o whole tells) prints);
-      ends = ap is_exit whole.ending ∙ ends;
-    }
-
--- and the counter rose by the turns of its steps
-spent_by :
-    (line : ReplayLine) (a b c : World) (setup : Setup) (threads text : List ℕ) (o : Outcome) (exits : Bool) (before after : ℕ)
-    (asked : AsksForFiles (files_named (Replays line)) a b) (none : AsksNothing b c) (stays : Stays a b)
-    (is : IsAskedReplay line a setup threads) (of : IsOutcomeOf setup threads o) (tells : TellsOfReplay threads o text)
-    (prints : Prints b c text) (ends : is_exit (Some o.ending) ≡ exits)
+-- it was told, and the counter rose by the turns of its steps
+replayed :
+    (line : ReplayLine) (a b d c : World) (setup : Setup) (said threads text : List ℕ) (o : Outcome) (exits : Bool)
+    (before after : ℕ)
+    → IsAskedReplay line a b setup said → Quiet b d → Says said (Ok threads) → IsOutcomeOf setup threads o
+    → TellsOfReplay threads o text → AsksNothing d c → Prints d c text → is_exit (Some o.ending) ≡ exits
     → after ≡ before + o.instructions
-    → after ≡ before
-    + turns_of_replay line a (replay_by line a b c setup threads text o exits asked none stays is of tells prints ends).has
-unfolding has_replay replay_by
-spent_by line a b c setup threads text o exits before after asked none stays is of tells prints ends cost =
-    cost ∙ ap (λ (n : ℕ). before + n) (outcome_of line a setup threads o is of).instructions
+    → (done : IsReplayed line exits a c) × (after ≡ before + turns_of_replay line a done.has)
+replayed line a b d c setup said threads text o exits before after is quiet says of tells none prints ends cost =
+    let it = has_replay line a b setup said threads text o is says of tells in
+    let reads = reads_then (files_named (Replays line)) a b d is.reads quiet in (
+      record {
+        asked = none ∙ reads.asked;
+        has = it.0;
+        prints = prints_after a d c (text_of_replay line a it.0) reads.stays (subst (Prints d c) it.1.is_text prints);
+        ends = ap is_exit it.1.of.ending ∙ ends;
+      },
+      cost ∙ ap (λ (n : ℕ). before + n) it.1.of.instructions,
+    )
 
-pub replay_spent_finished :
-    (line : ReplayLine) (a b c : World) (setup : Setup) (threads text : List ℕ) (o : Outcome) (before after : ℕ)
-    → AsksForFiles (files_named (Replays line)) a b → AsksNothing b c → Stays a b
-    → IsAskedReplay line a setup threads → IsOutcomeOf setup threads o → TellsOfReplay threads o text
-    → Prints b c text → is_exit (Some o.ending) ≡ true → after ≡ before + o.instructions
-    → ReplaySpends line a c before after status.Finished
-replay_spent_finished line a b c setup threads text o before after asked none stays is of tells prints ends cost = (
-  replay_by line a b c setup threads text o true asked none stays is of tells prints ends,
-  spent_by line a b c setup threads text o true before after asked none stays is of tells prints ends cost,
-)
+pub replay_spent :
+    (line : ReplayLine) (a b d c : World) (setup : Setup) (said threads text : List ℕ) (o : Outcome) (exits : Bool)
+    (before after : ℕ)
+    → IsAskedReplay line a b setup said → Quiet b d → Says said (Ok threads) → IsOutcomeOf setup threads o
+    → TellsOfReplay threads o text → AsksNothing d c → Prints d c text → is_exit (Some o.ending) ≡ exits
+    → after ≡ before + o.instructions
+    → ReplaySpends line a c before after (status_in (Ok exits))
+replay_spent line a b d c setup said threads text o true before after is quiet says of tells none prints ends cost =
+    replayed line a b d c setup said threads text o true before after is quiet says of tells none prints ends cost
+replay_spent line a b d c setup said threads text o false before after is quiet says of tells none prints ends cost =
+    replayed line a b d c setup said threads text o false before after is quiet says of tells none prints ends cost
 
-pub replay_spent_unfinished :
-    (line : ReplayLine) (a b c : World) (setup : Setup) (threads text : List ℕ) (o : Outcome) (before after : ℕ)
-    → AsksForFiles (files_named (Replays line)) a b → AsksNothing b c → Stays a b
-    → IsAskedReplay line a setup threads → IsOutcomeOf setup threads o → TellsOfReplay threads o text
-    → Prints b c text → is_exit (Some o.ending) ≡ false → after ≡ before + o.instructions
-    → ReplaySpends line a c before after status.Unfinished
-replay_spent_unfinished line a b c setup threads text o before after asked none stays is of tells prints ends cost = (
-  replay_by line a b c setup threads text o false asked none stays is of tells prints ends,
-  spent_by line a b c setup threads text o false before after asked none stays is of tells prints ends cost,
-)
-
-pub replay_finished :
-    (line : ReplayLine) (a b c : World) (setup : Setup) (threads text : List ℕ) (o : Outcome)
-    → AsksForFiles (files_named (Replays line)) a b → AsksNothing b c → Stays a b
-    → IsAskedReplay line a setup threads → IsOutcomeOf setup threads o → TellsOfReplay threads o text
-    → Prints b c text → is_exit (Some o.ending) ≡ true → ReplayEnds line a c status.Finished
-replay_finished line a b c setup threads text o asked none stays is of tells prints ends =
-    replay_by line a b c setup threads text o true asked none stays is of tells prints ends
-
-pub replay_unfinished :
-    (line : ReplayLine) (a b c : World) (setup : Setup) (threads text : List ℕ) (o : Outcome)
-    → AsksForFiles (files_named (Replays line)) a b → AsksNothing b c → Stays a b
-    → IsAskedReplay line a setup threads → IsOutcomeOf setup threads o → TellsOfReplay threads o text
-    → Prints b c text → is_exit (Some o.ending) ≡ false → ReplayEnds line a c status.Unfinished
-replay_unfinished line a b c setup threads text o asked none stays is of tells prints ends =
-    replay_by line a b c setup threads text o false asked none stays is of tells prints ends
+-- so the line ends
+pub replay_ends :
+    (line : ReplayLine) (a c : World) (before after : ℕ) (exits : Bool)
+    → ReplaySpends line a c before after (status_in (Ok exits)) → Ends (Some (Replays line)) a c (status_in (Ok exits))
+replay_ends line a c before after true spent = inr spent.0
+replay_ends line a c before after false spent = inr spent.0
 
 -- it wasn't told whole
 pub replay_unprinted :
-    (line : ReplayLine) (a b c : World) (setup : Setup) (threads text : List ℕ) (o : Outcome) (s : Status)
-    → AsksForFiles (files_named (Replays line)) a b → AsksNothing b c → Stays a b → NoneFell a b
-    → IsAskedReplay line a setup threads → IsOutcomeOf setup threads o → TellsOfReplay threads o text
-    → WhyUnprinted text b c s → ReplayEnds line a c s
-unfolding has_replay
-replay_unprinted line a b c setup threads text o status.WriteFault asked none stays fell is of tells why =
-    let its : Setup = replay_setup_of line is.contents in
-    let whole : IsOutcomeOf its threads o = outcome_of line a setup threads o is of in
-    let cause : WhyUnprinted (replay_of its threads) b c status.WriteFault =
-    subst (λ (l : List ℕ). WhyUnprinted l b c status.WriteFault) (replay_told its threads text o whole tells) why in
-    record {
-      asked = none ∙ asked;
-      has = has_replay line a setup threads o is of;
-      part = in_part (replay_of its threads) a b c stays fell cause;
-    }
-replay_unprinted line a b c setup threads text o status.Memory asked none stays fell is of tells why =
-    replay_cut line a b c asked none stays why
-replay_unprinted line a b c setup threads text o _ asked none stays fell is of tells why = absurd why
+    (line : ReplayLine) (a b d c : World) (setup : Setup) (said threads text : List ℕ) (o : Outcome) (s : Status)
+    → IsAskedReplay line a b setup said → Quiet b d → Says said (Ok threads) → IsOutcomeOf setup threads o
+    → TellsOfReplay threads o text → AsksNothing d c → WhyUnprinted text d c s → Ends (Some (Replays line)) a c s
+replay_unprinted line a b d c setup said threads text o s is quiet says of tells none why =
+    let it = has_replay line a b setup said threads text o is says of tells in
+    untold (Replays line) (HasReplay line a) (text_of_replay line a) it.0 (λ s. ReplayEnds line a c s) a d c s
+    (reads_then (files_named (Replays line)) a b d is.reads quiet) none (λ part. part)
+    (subst (λ (l : List ℕ). WhyUnprinted l d c s) it.1.is_text why)

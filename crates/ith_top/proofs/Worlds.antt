@@ -1,8 +1,8 @@
 -- One change of the outside after another.
-use Rattle.std.proofs.Common.{◌≡◌, ◌<◌, ◌≤◌, ℕ, List, length, Option, ◌∙◌, subst, arith}
+use Rattle.std.proofs.Common.{◌≡◌, ◌<◌, ◌≤◌, ℕ, List, length, Option, refl, ◌∙◌, subst, arith}
 use Rattle.std.specs.Prelude.{IfSome}
 use Rattle.ith_host.specs.World.{World, Rose, NoneFell, Stays, IsContent}
-use Rattle.ith_top.specs.Files.{Named, IsLong, IsWithin}
+use Rattle.ith_top.specs.Files.{Named, Reads, Quiet, IsLong, IsWithin}
 
 pub stays_trans : (a b c : World) → Stays a b → Stays b c → Stays a c
 stays_trans a b c one other =
@@ -14,6 +14,21 @@ none_fell_trans a b c one other =
       reads = λ name. let x = one.reads name in let y = other.reads name in omega arith;
       writes = λ name. let x = one.writes name in let y = other.writes name in omega arith;
       prints = let x = one.prints in let y = other.prints in omega arith;
+    }
+
+pub stays_same : (a : World) → Stays a a
+stays_same a = record { tells = refl; files = refl; printed = refl }
+
+pub none_fell_same : (a : World) → NoneFell a a
+none_fell_same a = record { reads = λ name. omega arith; writes = λ name. omega arith; prints = omega arith }
+
+-- files were read, and then nothing happened
+pub reads_then : (files : List Named) (a b c : World) → Reads files a b → Quiet b c → Reads files a c
+reads_then files a b c reads quiet =
+    record {
+      asked = quiet.asked ∙ reads.asked;
+      stays = stays_trans a b c reads.stays quiet.stays;
+      counts = none_fell_trans a b c reads.counts quiet.counts;
     }
 
 -- a count that rose has risen later too

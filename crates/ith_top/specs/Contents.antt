@@ -19,7 +19,7 @@ use Rattle.rv_asm.specs.Guest.{IsGuest}
 use Rattle.guest_gen.specs.declared.guest.TheConstants.{BASE, ITEMS, ZEROS}
 use Rattle.guest_gen.specs.Generated.{input_of, list_of}
 use Rattle.ith_host.specs.World.{World, IsContent}
-use Rattle.ith_words.specs.Words.{Text, Line, Runs, Reruns, Replays, Shows, Explains, FindsRaces, Audits, Generates, RunLine, RerunLine, ReplayLine, ShowLine, ExplainLine, default_fuel, default_limit}
+use Rattle.ith_words.specs.Words.{Text, Line, Runs, Reruns, Explains, Generates, RunLine, RerunLine, ReplayLine, ShowLine, ExplainLine, default_fuel, default_limit}
 
 -- Contents of edit lists, which agree with each that is told, and are within their limit.
 abbrev pub AreLists : World → List Text → List (List ℕ) → Type 0
@@ -158,20 +158,14 @@ pub record IsGeneratedPlan (number : ℕ) (p : Plan) : Type 0 where
 abbrev pub IsPlan : Line → World → Plan → Type 0
 IsPlan (Runs line) before p = IsRunPlan line before p
 IsPlan (Reruns line) before p = IsRerunPlan line before p
-IsPlan (Replays line) before p = ⊥
-IsPlan (Shows line) before p = ⊥
 IsPlan (Explains line) before p = IsRerunPlan (as_rerun line) before p
-IsPlan (FindsRaces line) before p = ⊥
-IsPlan (Audits line) before p = ⊥
 IsPlan (Generates line) before p = IsGeneratedPlan line.number p
+IsPlan _ before p = ⊥
 
 -- How many workers a line that asks for rounds has.
 abbrev pub workers_of : Line → ℕ
 workers_of (Runs line) = line.workers
 workers_of (Reruns line) = line.workers
-workers_of (Replays line) = 0
-workers_of (Shows line) = 0
 workers_of (Explains line) = 1
-workers_of (FindsRaces line) = 0
-workers_of (Audits line) = 0
 workers_of (Generates line) = line.workers
+workers_of _ = 0

@@ -1,5 +1,5 @@
 -- How many rounds the workers of a line make, and how many turns are executed.
-use Rattle.std.specs.Prelude.{◌≡◌, ℕ, ◌+◌, ◌≤◌, ⊤, true, false, List, All, Option, length, max, sum_by}
+use Rattle.std.specs.Prelude.{◌≡◌, ℕ, ◌+◌, ◌≤◌, List, All, Option, length, max, sum_by}
 use Rattle.machine_spec.specs.Setup.{Setup, first}
 use Rattle.history_spec.specs.History.{History}
 use Rattle.round_spec.specs.Rounds.{RoundState}
@@ -8,9 +8,10 @@ use Rattle.rerun_workers.specs.Making.{IsCostOf}
 use Rattle.rerun_spec.specs.Rounds.{Found, Round, made}
 use Rattle.plain_machine.specs.Replaying.{turns_from}
 use Rattle.ith_host.specs.World.{World}
-use Rattle.ith_words.specs.Words.{Line, Runs, Reruns, Replays, Shows, Explains, FindsRaces, Audits, Generates, ReplayLine, ExplainLine, GenerateLine}
+use Rattle.ith_words.specs.Words.{Line, Runs, Reruns, Generates, ReplayLine, ExplainLine, GenerateLine}
 use Rattle.ith_top.specs.declared.status.Status.{Status}
 use Rattle.ith_top.specs.declared.status.Status.TheVariants as status
+use Rattle.ith_top.specs.Statuses.{IfDone}
 use Rattle.ith_top.specs.Contents.{replay_setup_of, workers_of}
 use Rattle.ith_top.specs.Rounds.{rounds_of}
 use Rattle.ith_top.specs.Explaining.{explained_round}
@@ -26,12 +27,8 @@ pub record Work : Type 0 where
 abbrev pub rounds_asked : Line → ℕ
 rounds_asked (Runs line) = 1 + length line.edits
 rounds_asked (Reruns line) = max 1 (length line.edits)
-rounds_asked (Replays line) = 0
-rounds_asked (Shows line) = 0
-rounds_asked (Explains line) = 0
-rounds_asked (FindsRaces line) = 0
-rounds_asked (Audits line) = 0
 rounds_asked (Generates line) = 2
+rounds_asked _ = 0
 
 -- As many rounds were made as a line asks for, where it is done; none where what it names isn't read or is refused; and
 -- never more than it asks for.
@@ -62,38 +59,30 @@ pub record SpendsTurns (line : Line) (a : World) (has : HasRounds line a) (befor
   pub counted : All (IsCounted (workers_of line)) (rounds_of has.plan has.found)
   pub turns : after.turns ≡ before.turns + turns_for has.found
 
--- Where a line that runs or reruns a guest is done, the counter rose by the turns of the rounds whose texts were printed.
+-- If a line that runs or reruns a guest is done, the counter rose by the turns of the rounds whose texts were printed.
 abbrev pub RoundsSpend : Line → World → World → Work → Work → Status → Type 0
-RoundsSpend line a b before after status.Finished = (done : IsDone line true a b) × SpendsTurns line a done.has before after
-RoundsSpend line a b before after status.Unfinished = (done : IsDone line false a b) × SpendsTurns line a done.has before after
-RoundsSpend line a b before after _ = ⊤
+RoundsSpend line a b before after s =
+    IfDone s (λ exits. (done : IsDone line exits a b) × SpendsTurns line a done.has before after)
 
 -- The same of a line that runs the generated guest.
 abbrev pub GenerateSpends : GenerateLine → World → World → Work → Work → Status → Type 0
-GenerateSpends line a b before after status.Finished =
-    (done : IsGenerated line true a b) × SpendsTurns (Generates line) a done.has before after
-GenerateSpends line a b before after status.Unfinished =
-    (done : IsGenerated line false a b) × SpendsTurns (Generates line) a done.has before after
-GenerateSpends line a b before after _ = ⊤
+GenerateSpends line a b before after s =
+    IfDone s (λ exits. (done : IsGenerated line exits a b) × SpendsTurns (Generates line) a done.has before after)
 
 -- How many turns the steps of a schedule make that a line replays.
 abbrev pub turns_of_replay : (line : ReplayLine) (a : World) → HasReplay line a → ℕ
 turns_of_replay line a has = turns_from (first (replay_setup_of line has.contents)) has.threads
 
--- Where a schedule is replayed, the counter rose by the turns of its steps.
+-- If a schedule is replayed, the counter rose by the turns of its steps.
 abbrev pub ReplaySpends : ReplayLine → World → World → ℕ → ℕ → Status → Type 0
-ReplaySpends line a b before after status.Finished =
-    (done : IsReplayed line true a b) × (after ≡ before + turns_of_replay line a done.has)
-ReplaySpends line a b before after status.Unfinished =
-    (done : IsReplayed line false a b) × (after ≡ before + turns_of_replay line a done.has)
-ReplaySpends line a b before after _ = ⊤
+ReplaySpends line a b before after s =
+    IfDone s (λ exits. (done : IsReplayed line exits a b) × (after ≡ before + turns_of_replay line a done.has))
 
 -- How many turns the executed steps make of the round that a line explains.
 abbrev pub turns_of_reasons : (line : ExplainLine) (a : World) → HasReasons line a → ℕ
 turns_of_reasons line a has = executed_by (explained_round has.plan.beginning has.input)
 
--- Where it is told why steps were executed, the counter rose by the turns of these steps.
+-- If it is told why steps were executed, the counter rose by the turns of these steps.
 abbrev pub ExplainSpends : ExplainLine → World → World → ℕ → ℕ → Status → Type 0
-ExplainSpends line a b before after status.Finished =
-    (done : IsExplained line a b) × (after ≡ before + turns_of_reasons line a done.has)
-ExplainSpends line a b before after _ = ⊤
+ExplainSpends line a b before after s =
+    IfDone s (λ exits. (done : IsExplained line a b) × (after ≡ before + turns_of_reasons line a done.has))

@@ -63,12 +63,7 @@ left_of p found = last_left p.beginning p.inputs found
 abbrev pub kept_by : Line → Option Text
 kept_by (Runs line) = line.kept
 kept_by (Reruns line) = line.kept
-kept_by (Replays line) = None
-kept_by (Shows line) = None
-kept_by (Explains line) = None
-kept_by (FindsRaces line) = None
-kept_by (Audits line) = None
-kept_by (Generates line) = None
+kept_by _ = None
 
 -- Of the files nothing changed, and these bytes were printed.
 pub record Prints (before after : World) (bytes : List ℕ) : Type 0 where
@@ -159,15 +154,23 @@ pub record IsRerunListRefused (line : RerunLine) (before after : World) : Type 0
   pub refused : IsFirstRefused history.setup.input lists place why
   pub stays : Stays before after
 
--- Reading a file that the line names failed, after those before it were read, and nothing was printed.
-pub record IsUnread (line : Line) (before after : World) : Type 0 where
-  pub stops : StopsAt (FailedToRead before after) (files_named line) before after
+-- Reading one of these files failed, after those before it were read, and nothing was printed.
+pub record OneUnread (files : List Named) (before after : World) : Type 0 where
+  pub stops : StopsAt (FailedToRead before after) files before after
   pub stays : Stays before after
 
--- A file that the line names is longer than its limit, after those before it were read, and nothing was printed.
-pub record IsTooLarge (line : Line) (before after : World) : Type 0 where
-  pub stops : StopsAt (IsLong before) (files_named line) before after
+-- The same of the files that a line names.
+abbrev pub IsUnread : Line → World → World → Type 0
+IsUnread line before after = OneUnread (files_named line) before after
+
+-- One of these files is longer than its limit, after those before it were read, and nothing was printed.
+pub record OneTooLarge (files : List Named) (before after : World) : Type 0 where
+  pub stops : StopsAt (IsLong before) files before after
   pub stays : Stays before after
+
+-- The same of the files that a line names.
+abbrev pub IsTooLarge : Line → World → World → Type 0
+IsTooLarge line before after = OneTooLarge (files_named line) before after
 
 -- All reports were printed, and the memo that the line asks for is longer than a memo may be: no file was written.
 pub record IsTooLargeToKeep (line : Line) (before after : World) : Type 0 where
@@ -209,10 +212,14 @@ pub record IsUnkept (line : Line) (before after : World) : Type 0 where
   pub untold : after.files name ≡ None
   pub others : (other : Text) → other ≢ name → after.files other ≡ before.files other
 
--- The host's memory ran out before a round was made, and nothing was printed.
-pub record IsUnbegun (line : Line) (before after : World) : Type 0 where
-  pub asked : AsksForSome (files_named line) before after
+-- The host's memory ran out, after some of these files were read, and nothing was printed.
+pub record SomeRead (files : List Named) (before after : World) : Type 0 where
+  pub asked : AsksForSome files before after
   pub stays : Stays before after
+
+-- The host's memory ran out before a round of a line was made, and nothing was printed.
+abbrev pub IsUnbegun : Line → World → World → Type 0
+IsUnbegun line before after = SomeRead (files_named line) before after
 
 -- The host's memory ran out, and the texts of the first rounds, of none to all of them, were printed; no file was
 -- written.
@@ -221,42 +228,54 @@ pub record IsCutShort (line : Line) (before after : World) : Type 0 where
   pub has : HasRounds line before
   pub prints : Prints before after (concat (texts_of has.plan has.found))
 
+-- The text of what a line's files hold: exactly this was printed.
+pub record PrintsText (line : Line) (Has : Type 0) (text : Has → List ℕ) (before after : World) : Type 0 where
+  pub asked : AsksForFiles (files_named line) before after
+  pub has : Has
+  pub prints : Prints before after (text has)
+
+-- Printing failed, and the first bytes of this text were printed, any number of them.
+pub record PrintsTextInPart (line : Line) (Has : Type 0) (text : Has → List ℕ) (before after : World) : Type 0 where
+  pub asked : AsksForFiles (files_named line) before after
+  pub has : Has
+  pub part : IsPrintedInPart (text has ∷ []) before after
+
 -- The memo of a name was accepted, and is of this history.
 pub record HasHistory (name : Text) (before : World) : Type 0 where
   pub history : History
   pub remembered : IsRemembered before name history
 
 -- The memo is listed: exactly the lines that list its history were printed.
-pub record IsShown (line : ShowLine) (before after : World) : Type 0 where
-  pub asked : AsksForFiles (files_named (Shows line)) before after
-  pub has : HasHistory line.memo before
-  pub prints : Prints before after (listing has.history)
+abbrev pub IsShown : ShowLine → World → World → Type 0
+IsShown line before after =
+    PrintsText (Shows line) (HasHistory line.memo before) (λ has. listing has.history) before after
 
 -- Printing failed, and the first bytes of the lines that list the memo were printed, any number of them.
-pub record IsUnshown (line : ShowLine) (before after : World) : Type 0 where
-  pub asked : AsksForFiles (files_named (Shows line)) before after
-  pub has : HasHistory line.memo before
-  pub part : IsPrintedInPart (listing has.history ∷ []) before after
+abbrev pub IsUnshown : ShowLine → World → World → Type 0
+IsUnshown line before after =
+    PrintsTextInPart (Shows line) (HasHistory line.memo before) (λ has. listing has.history) before after
 
 -- The lines that tell of the audit of a history: how many records it has, how many turns their thunks make, and the
 -- verdict.
 abbrev pub audit_of : History → Option ℕ → List ℕ
 audit_of h place = audit_text (length h.records) (turns_of h) place
 
+-- The memo of a name was accepted, and this verdict of its audit is right.
+pub record HasVerdict (name : Text) (place : Option ℕ) (before : World) : Type 0 where
+  pub history : History
+  pub remembered : IsRemembered before name history
+  pub verdict : IsVerdict history place
+
 -- A memo was audited, with this verdict, which is right: exactly the lines that tell of it were printed.
-pub record IsAudited (line : AuditLine) (place : Option ℕ) (before after : World) : Type 0 where
-  pub asked : AsksForFiles (files_named (Audits line)) before after
-  pub has : HasHistory line.memo before
-  pub verdict : IsVerdict has.history place
-  pub prints : Prints before after (audit_of has.history place)
+abbrev pub IsAudited : AuditLine → Option ℕ → World → World → Type 0
+IsAudited line place before after =
+    PrintsText (Audits line) (HasVerdict line.memo place before) (λ has. audit_of has.history place) before after
 
 -- Printing failed, and the first bytes of the lines that tell of the audit were printed, any number of them.
-pub record IsUnaudited (line : AuditLine) (before after : World) : Type 0 where
-  pub asked : AsksForFiles (files_named (Audits line)) before after
-  pub has : HasHistory line.memo before
-  pub place : Option ℕ
-  pub verdict : IsVerdict has.history place
-  pub part : IsPrintedInPart (audit_of has.history place ∷ []) before after
+abbrev pub IsUnaudited : AuditLine → World → World → Type 0
+IsUnaudited line before after =
+    PrintsTextInPart (Audits line) ((place : Option ℕ) × HasVerdict line.memo place before)
+    (λ has. audit_of has.1.history has.0) before after
 
 -- The executable of a line that replays a schedule is refused, and nothing was printed.
 pub record IsReplayImageRefused (line : ReplayLine) (before after : World) : Type 0 where
@@ -312,10 +331,9 @@ pub record IsReplayed (line : ReplayLine) (exits : Bool) (before after : World) 
   pub ends : is_exit (scratch (replay_setup_of line has.contents) has.threads).ending ≡ exits
 
 -- Printing failed, and the first bytes of the text that tells of the replay were printed, any number of them.
-pub record IsUnreplayed (line : ReplayLine) (before after : World) : Type 0 where
-  pub asked : AsksForFiles (files_named (Replays line)) before after
-  pub has : HasReplay line before
-  pub part : IsPrintedInPart (text_of_replay line before has ∷ []) before after
+abbrev pub IsUnreplayed : ReplayLine → World → World → Type 0
+IsUnreplayed line before after =
+    PrintsTextInPart (Replays line) (HasReplay line before) (text_of_replay line before) before after
 
 -- The round that a line explains: the memo and the edit list were read and accepted, which makes the plan of a rerun;
 -- the list makes the one input of it; and what is promised of the reasons for which its steps were executed.
@@ -331,28 +349,28 @@ abbrev pub text_of_reasons : (line : ExplainLine) (before : World) → HasReason
 text_of_reasons line before has = why_of (explained_round has.plan.beginning has.input)
 
 -- It is told why steps were executed: exactly the text of the reasons was printed.
-pub record IsExplained (line : ExplainLine) (before after : World) : Type 0 where
-  pub asked : AsksForFiles (files_named (Explains line)) before after
-  pub has : HasReasons line before
-  pub prints : Prints before after (text_of_reasons line before has)
+abbrev pub IsExplained : ExplainLine → World → World → Type 0
+IsExplained line before after =
+    PrintsText (Explains line) (HasReasons line before) (text_of_reasons line before) before after
 
 -- Printing failed, and the first bytes of the text of the reasons were printed, any number of them.
-pub record IsUnexplained (line : ExplainLine) (before after : World) : Type 0 where
-  pub asked : AsksForFiles (files_named (Explains line)) before after
-  pub has : HasReasons line before
-  pub part : IsPrintedInPart (text_of_reasons line before has ∷ []) before after
+abbrev pub IsUnexplained : ExplainLine → World → World → Type 0
+IsUnexplained line before after =
+    PrintsTextInPart (Explains line) (HasReasons line before) (text_of_reasons line before) before after
+
+-- The lines of the races of a memo's history.
+abbrev pub text_of_races : (line : RacesLine) (before : World) → HasHistory line.memo before → List ℕ
+text_of_races line before has = races_listing MOST_RACES has.history
 
 -- It is told which steps race: exactly the lines of the races of the memo's history were printed.
-pub record IsRaced (line : RacesLine) (before after : World) : Type 0 where
-  pub asked : AsksForFiles (files_named (FindsRaces line)) before after
-  pub has : HasHistory line.memo before
-  pub prints : Prints before after (races_listing MOST_RACES has.history)
+abbrev pub IsRaced : RacesLine → World → World → Type 0
+IsRaced line before after =
+    PrintsText (FindsRaces line) (HasHistory line.memo before) (text_of_races line before) before after
 
 -- Printing failed, and the first bytes of the lines of the races were printed, any number of them.
-pub record IsUnraced (line : RacesLine) (before after : World) : Type 0 where
-  pub asked : AsksForFiles (files_named (FindsRaces line)) before after
-  pub has : HasHistory line.memo before
-  pub part : IsPrintedInPart (races_listing MOST_RACES has.history ∷ []) before after
+abbrev pub IsUnraced : RacesLine → World → World → Type 0
+IsUnraced line before after =
+    PrintsTextInPart (FindsRaces line) (HasHistory line.memo before) (text_of_races line before) before after
 
 -- The text that tells of the rounds of the generated guest: a line with the number, and a line for each round, of the
 -- machine from scratch.
@@ -378,158 +396,112 @@ pub record IsUngenerated (line : GenerateLine) (before after : World) : Type 0 w
 -- A line's executable is refused.
 abbrev pub RefusesImage : Line → World → World → Type 0
 RefusesImage (Runs line) before after = IsImageRefused line before after
-RefusesImage (Reruns line) before after = ⊥
 RefusesImage (Replays line) before after = IsReplayImageRefused line before after
-RefusesImage (Shows line) before after = ⊥
-RefusesImage (Explains line) before after = ⊥
-RefusesImage (FindsRaces line) before after = ⊥
-RefusesImage (Audits line) before after = ⊥
-RefusesImage (Generates line) before after = ⊥
+RefusesImage _ before after = ⊥
 
 -- A line's memo is refused.
 abbrev pub RefusesMemo : Line → World → World → Type 0
-RefusesMemo (Runs line) before after = ⊥
 RefusesMemo (Reruns line) before after = IsRerunMemoRefused line before after
-RefusesMemo (Replays line) before after = ⊥
 RefusesMemo (Shows line) before after = IsMemoRefused line before after
 RefusesMemo (Explains line) before after = IsRerunMemoRefused (as_rerun line) before after
 RefusesMemo (FindsRaces line) before after = IsMemoRefused (as_show line.memo) before after
 RefusesMemo (Audits line) before after = IsMemoRefused (as_show line.memo) before after
-RefusesMemo (Generates line) before after = ⊥
+RefusesMemo _ before after = ⊥
 
 -- An edit list of a line is refused.
 abbrev pub RefusesList : Line → World → World → Type 0
 RefusesList (Runs line) before after = IsListRefused line before after
 RefusesList (Reruns line) before after = IsRerunListRefused line before after
-RefusesList (Replays line) before after = ⊥
-RefusesList (Shows line) before after = ⊥
 RefusesList (Explains line) before after = IsRerunListRefused (as_rerun line) before after
-RefusesList (FindsRaces line) before after = ⊥
-RefusesList (Audits line) before after = ⊥
-RefusesList (Generates line) before after = ⊥
+RefusesList _ before after = ⊥
 
--- How a line that asks for rounds may end, status by status.
+-- How a line of these files may end before anything is made for it, status by status: a file isn't read or is refused, or
+-- the host's memory ran out.
+abbrev pub EndsBy : List Named → (image memo list : Type 0) → World → World → Status → Type 0
+EndsBy files image memo list before after status.Image = image
+EndsBy files image memo list before after status.Memo = memo
+EndsBy files image memo list before after status.EditList = list
+EndsBy files image memo list before after status.ReadFault = OneUnread files before after
+EndsBy files image memo list before after status.Memory = SomeRead files before after
+EndsBy files image memo list before after status.TooLarge = OneTooLarge files before after
+EndsBy files image memo list before after _ = ⊥
+
+-- How a line may end before anything is made for it.
+abbrev pub EndsEarly : Line → World → World → Status → Type 0
+EndsEarly line before after s =
+    EndsBy (files_named line) (RefusesImage line before after) (RefusesMemo line before after)
+    (RefusesList line before after) before after s
+
+-- How else a line that asks for rounds may end, status by status.
 abbrev pub RoundsEnd : Line → World → World → Status → Type 0
 RoundsEnd line before after status.Finished = IsDone line true before after
 RoundsEnd line before after status.Unfinished = IsDone line false before after
-RoundsEnd line before after status.Words = ⊥
-RoundsEnd line before after status.Image = RefusesImage line before after
-RoundsEnd line before after status.Memo = RefusesMemo line before after
-RoundsEnd line before after status.EditList = RefusesList line before after
-RoundsEnd line before after status.ReadFault = IsUnread line before after
 RoundsEnd line before after status.WriteFault = IsUnprinted line before after ⊎ IsUnkept line before after
-RoundsEnd line before after status.Memory = IsUnbegun line before after ⊎ IsCutShort line before after
-RoundsEnd line before after status.TooLarge = IsTooLarge line before after ⊎ IsTooLargeToKeep line before after
-RoundsEnd line before after status.Schedule = ⊥
-RoundsEnd line before after status.Untrue = ⊥
+RoundsEnd line before after status.Memory = IsCutShort line before after
+RoundsEnd line before after status.TooLarge = IsTooLargeToKeep line before after
+RoundsEnd line before after _ = ⊥
 
--- How a line that shows a memo may end, status by status.
+-- How a line ends of which one text was made, status by status: it was printed, or a part of it was.
+abbrev pub TextEnds : (whole part : Type 0) → Status → Type 0
+TextEnds whole part status.Finished = whole
+TextEnds whole part status.WriteFault = part
+TextEnds whole part _ = ⊥
+
+-- How else a line that shows a memo may end.
 abbrev pub ShowEnds : ShowLine → World → World → Status → Type 0
-ShowEnds line before after status.Finished = IsShown line before after
-ShowEnds line before after status.Unfinished = ⊥
-ShowEnds line before after status.Words = ⊥
-ShowEnds line before after status.Image = ⊥
-ShowEnds line before after status.Memo = RefusesMemo (Shows line) before after
-ShowEnds line before after status.EditList = ⊥
-ShowEnds line before after status.ReadFault = IsUnread (Shows line) before after
-ShowEnds line before after status.WriteFault = IsUnshown line before after
-ShowEnds line before after status.Memory = IsUnbegun (Shows line) before after
-ShowEnds line before after status.TooLarge = IsTooLarge (Shows line) before after
-ShowEnds line before after status.Schedule = ⊥
-ShowEnds line before after status.Untrue = ⊥
+ShowEnds line before after s = TextEnds (IsShown line before after) (IsUnshown line before after) s
 
--- How a line that tells why steps were executed may end, status by status; however the round ended.
+-- How else a line that tells why steps were executed may end; however the round ended.
 abbrev pub ExplainEnds : ExplainLine → World → World → Status → Type 0
-ExplainEnds line before after status.Finished = IsExplained line before after
-ExplainEnds line before after status.Unfinished = ⊥
-ExplainEnds line before after status.Words = ⊥
-ExplainEnds line before after status.Image = ⊥
-ExplainEnds line before after status.Memo = RefusesMemo (Explains line) before after
-ExplainEnds line before after status.EditList = RefusesList (Explains line) before after
-ExplainEnds line before after status.ReadFault = IsUnread (Explains line) before after
-ExplainEnds line before after status.WriteFault = IsUnexplained line before after
-ExplainEnds line before after status.Memory = IsUnbegun (Explains line) before after
-ExplainEnds line before after status.TooLarge = IsTooLarge (Explains line) before after
-ExplainEnds line before after status.Schedule = ⊥
-ExplainEnds line before after status.Untrue = ⊥
+ExplainEnds line before after s = TextEnds (IsExplained line before after) (IsUnexplained line before after) s
 
--- How a line that audits a memo may end, status by status: as finished where the memo is honest, and as untrue where one
--- of its records is the first false one.
+-- How else a line that tells which steps race may end.
+abbrev pub RacesEnd : RacesLine → World → World → Status → Type 0
+RacesEnd line before after s = TextEnds (IsRaced line before after) (IsUnraced line before after) s
+
+-- How else a line that audits a memo may end, status by status: as finished where the memo is honest, and as untrue where
+-- one of its records is the first false one.
 abbrev pub AuditEnds : AuditLine → World → World → Status → Type 0
 AuditEnds line before after status.Finished = IsAudited line None before after
-AuditEnds line before after status.Unfinished = ⊥
-AuditEnds line before after status.Words = ⊥
-AuditEnds line before after status.Image = ⊥
-AuditEnds line before after status.Memo = RefusesMemo (Audits line) before after
-AuditEnds line before after status.EditList = ⊥
-AuditEnds line before after status.ReadFault = IsUnread (Audits line) before after
 AuditEnds line before after status.WriteFault = IsUnaudited line before after
-AuditEnds line before after status.Memory = IsUnbegun (Audits line) before after
-AuditEnds line before after status.TooLarge = IsTooLarge (Audits line) before after
-AuditEnds line before after status.Schedule = ⊥
 AuditEnds line before after status.Untrue = (place : ℕ) × IsAudited line (Some place) before after
+AuditEnds line before after _ = ⊥
 
--- How a line that tells which steps race may end, status by status.
-abbrev pub RacesEnd : RacesLine → World → World → Status → Type 0
-RacesEnd line before after status.Finished = IsRaced line before after
-RacesEnd line before after status.Unfinished = ⊥
-RacesEnd line before after status.Words = ⊥
-RacesEnd line before after status.Image = ⊥
-RacesEnd line before after status.Memo = RefusesMemo (FindsRaces line) before after
-RacesEnd line before after status.EditList = ⊥
-RacesEnd line before after status.ReadFault = IsUnread (FindsRaces line) before after
-RacesEnd line before after status.WriteFault = IsUnraced line before after
-RacesEnd line before after status.Memory = IsUnbegun (FindsRaces line) before after
-RacesEnd line before after status.TooLarge = IsTooLarge (FindsRaces line) before after
-RacesEnd line before after status.Schedule = ⊥
-RacesEnd line before after status.Untrue = ⊥
-
--- How a line that replays a schedule may end, status by status.
+-- How else a line that replays a schedule may end, status by status.
 abbrev pub ReplayEnds : ReplayLine → World → World → Status → Type 0
 ReplayEnds line before after status.Finished = IsReplayed line true before after
 ReplayEnds line before after status.Unfinished = IsReplayed line false before after
-ReplayEnds line before after status.Words = ⊥
-ReplayEnds line before after status.Image = RefusesImage (Replays line) before after
-ReplayEnds line before after status.Memo = ⊥
-ReplayEnds line before after status.EditList = ⊥
-ReplayEnds line before after status.ReadFault = IsUnread (Replays line) before after
 ReplayEnds line before after status.WriteFault = IsUnreplayed line before after
-ReplayEnds line before after status.Memory = IsUnbegun (Replays line) before after
-ReplayEnds line before after status.TooLarge = IsTooLarge (Replays line) before after
 ReplayEnds line before after status.Schedule = IsScheduleRefused line before after
-ReplayEnds line before after status.Untrue = ⊥
+ReplayEnds line before after _ = ⊥
 
--- How a line that runs the generated guest may end, status by status.
+-- How else a line that runs the generated guest may end, status by status.
 abbrev pub GenerateEnds : GenerateLine → World → World → Status → Type 0
 GenerateEnds line before after status.Finished = IsGenerated line true before after
 GenerateEnds line before after status.Unfinished = IsGenerated line false before after
-GenerateEnds line before after status.Words = ⊥
-GenerateEnds line before after status.Image = ⊥
-GenerateEnds line before after status.Memo = ⊥
-GenerateEnds line before after status.EditList = ⊥
-GenerateEnds line before after status.ReadFault = ⊥
 GenerateEnds line before after status.WriteFault = IsUngenerated line before after
-GenerateEnds line before after status.Memory = IsUnbegun (Generates line) before after
-GenerateEnds line before after status.TooLarge = ⊥
-GenerateEnds line before after status.Schedule = ⊥
-GenerateEnds line before after status.Untrue = ⊥
+GenerateEnds line before after _ = ⊥
+
+-- How else a line may end, status by status.
+abbrev pub EndsLate : Line → World → World → Status → Type 0
+EndsLate (Runs line) before after s = RoundsEnd (Runs line) before after s
+EndsLate (Reruns line) before after s = RoundsEnd (Reruns line) before after s
+EndsLate (Replays line) before after s = ReplayEnds line before after s
+EndsLate (Shows line) before after s = ShowEnds line before after s
+EndsLate (Explains line) before after s = ExplainEnds line before after s
+EndsLate (FindsRaces line) before after s = RacesEnd line before after s
+EndsLate (Audits line) before after s = AuditEnds line before after s
+EndsLate (Generates line) before after s = GenerateEnds line before after s
 
 -- Nothing was printed, and no file was asked for.
 pub record DoesNothing (before after : World) : Type 0 where
   pub stays : Stays before after
   pub asked : AsksNothing before after
 
--- How a call may end: words that aren't accepted do nothing.
+-- How a call may end: words that aren't accepted do nothing; and a line ends before anything is made for it, or later.
 abbrev pub Ends : Option Line → World → World → Status → Type 0
 Ends None before after s = ((s ≡ status.Words) ⊎ (s ≡ status.Memory)) × DoesNothing before after
-Ends (Some (Runs line)) before after s = RoundsEnd (Runs line) before after s
-Ends (Some (Reruns line)) before after s = RoundsEnd (Reruns line) before after s
-Ends (Some (Replays line)) before after s = ReplayEnds line before after s
-Ends (Some (Shows line)) before after s = ShowEnds line before after s
-Ends (Some (Explains line)) before after s = ExplainEnds line before after s
-Ends (Some (FindsRaces line)) before after s = RacesEnd line before after s
-Ends (Some (Audits line)) before after s = AuditEnds line before after s
-Ends (Some (Generates line)) before after s = GenerateEnds line before after s
+Ends (Some line) before after s = EndsEarly line before after s ⊎ EndsLate line before after s
 
 -- An answer is the number of a status by which the call may end.
 abbrev pub Answers : Option Line → World → World → ℕ → Type 0

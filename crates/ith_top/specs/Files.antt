@@ -4,7 +4,7 @@ use Rattle.elf_spec.specs.declared.TheConstants.{MOST_ELF_BYTES}
 use Rattle.edit_spec.specs.declared.TheConstants.{MOST_LIST_BYTES}
 use Rattle.machine_spec.specs.declared.TheConstants.{MOST_INPUT_BYTES}
 use Rattle.memo_spec.specs.declared.TheConstants.{MOST_MEMO_BYTES}
-use Rattle.ith_host.specs.World.{World, Rose, AsksFor}
+use Rattle.ith_host.specs.World.{World, Rose, NoneFell, Stays, AsksFor, AsksNothing}
 use Rattle.schedule_list.specs.declared.TheConstants.{MOST_SCHEDULE_BYTES}
 use Rattle.ith_words.specs.Words.{Text, Line, Runs, Reruns, Replays, Shows, Explains, FindsRaces, Audits, Generates}
 
@@ -47,6 +47,19 @@ files_named (Generates line) = []
 -- These files were asked for, in order, and no other.
 abbrev pub AsksForFiles : List Named → World → World → Type 0
 AsksForFiles files before after = AsksFor (map (λ file. file.name) files) before after
+
+-- These files were asked for, in order, and no other; and nothing else happened: no file changed, nothing was printed,
+-- and no count of faults fell.
+pub record Reads (files : List Named) (before after : World) : Type 0 where
+  pub asked : AsksForFiles files before after
+  pub stays : Stays before after
+  pub counts : NoneFell before after
+
+-- Nothing happened: no file was asked for or changed, nothing was printed, and no count of faults fell.
+pub record Quiet (before after : World) : Type 0 where
+  pub asked : AsksNothing before after
+  pub stays : Stays before after
+  pub counts : NoneFell before after
 
 -- Reading a file failed, by the count of its name.
 abbrev pub FailedToRead : World → World → Named → Type 0

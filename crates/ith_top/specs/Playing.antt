@@ -1,5 +1,5 @@
 -- The parts of a call that makes rounds.
-use Rattle.std.specs.Prelude.{◌≡◌, ℕ, ◌+◌, ◌^◌, ◌<◌, ◌≤◌, Bool, List, [], ◌∷◌, All, Option, Some, length, map, option_map, Ok}
+use Rattle.std.specs.Prelude.{◌≡◌, ℕ, ◌+◌, ◌^◌, ◌<◌, ◌≤◌, Bool, List, [], ◌∷◌, All, Option, Some, length, map, option_map}
 use Rattle.std.specs.Arc.{arc_value}
 use Rattle.std.specs.List.{concat}
 use Rattle.machine_spec.specs.Setup.{Setup, IsSetup}
@@ -10,32 +10,34 @@ use Rattle.memo_spec.specs.Spelling.{AreBytes, memo}
 use Rattle.round_memo_spec.specs.Spelled.{IsSpelledPast}
 use Rattle.propagate.specs.Kept.{IsOfMap}
 use Rattle.report_spec.specs.declared.Entry.{Entry}
-use Rattle.report_spec.specs.Report.{Told, no_extras}
+use Rattle.report_spec.specs.Report.{Told, no_extras, report_text}
 use Rattle.rerun_spec.specs.Inputs.{AreShort}
-use Rattle.rerun_spec.specs.Rounds.{Found, Beginning, IsMade, IsWatched, left_by, round_on, with_input}
+use Rattle.rerun_spec.specs.Rounds.{Found, Round, Beginning, IsMade, IsWatched, round_on, after_round, with_input}
 use Rattle.rerun_spec.specs.Reports.{made_report, made_exits, all_exit, all_made_exit, all_executed}
 use Rattle.plain_machine.specs.declared.replaying.Outcome.{Outcome}
-use Rattle.schedule_list.specs.Schedule.{Says}
 use Rattle.round_report.specs.Replay.{replay_text}
-use Rattle.round_report.specs.Short.{made_short}
+use Rattle.round_report.specs.Short.{short_text, made_short}
 use Rattle.ith_host.specs.World.{World}
-use Rattle.ith_words.specs.Words.{Text, ReplayLine}
+use Rattle.ith_words.specs.Words.{Text, Line, Replays, ReplayLine}
 use Rattle.ith_top.specs.declared.plan.Plan.{Plan as Planned}
-use Rattle.ith_top.specs.declared.report.Next.{Next}
-use Rattle.ith_top.specs.Contents.{Plan, ReplayContents, WasReplayRead, replay_setup_of, IsGeneratedPlan}
+use Rattle.ith_top.specs.declared.plan.Beginning.{Beginning as Begun}
+use Rattle.ith_top.specs.declared.report.Telling.{Telling}
+use Rattle.ith_top.specs.declared.report.Telling.TheVariants as telling
+use Rattle.ith_top.specs.Files.{files_named, Reads}
+use Rattle.ith_top.specs.Contents.{Plan, IsPlan, ReplayContents, WasReplayRead, replay_setup_of, IsGeneratedPlan}
 use Rattle.ith_top.specs.Rounds.{rounds_of}
 use Rattle.ith_top.specs.Counting.{Work, IsCounted, turns_for}
 use Rattle.ith_top.specs.Explaining.{explained_round, why_of}
 use Rattle.ith_top.specs.Ends.{Prints, PrintsAndKeeps, IsKeptWithin, texts_of, left_of, generated_text}
 
--- What the rounds of a plan in code begin with, as a beginning of the definitions.
-abbrev pub beginning_said : Planned → Beginning
-beginning_said p =
-    record { number = p.number; past = option_map arc_value p.past; setup = p.setup; asked = p.asked }
+-- What a round begins with in code, as a beginning of the definitions.
+abbrev pub beginning_said : Begun → Beginning
+beginning_said b =
+    record { number = b.number; past = option_map arc_value b.past; setup = b.setup; asked = b.asked }
 
 -- A plan in code, as one of the definitions.
 abbrev pub plan_said : Planned → Plan
-plan_said p = record { beginning = beginning_said p; inputs = p.inputs }
+plan_said p = record { beginning = beginning_said p.beginning; inputs = p.inputs }
 
 -- A plan whose rounds can be made: there is an input; each is as short as an input may be; the rounds can be numbered;
 -- and a history that the first goes by is of the same page map.
@@ -52,24 +54,37 @@ pub record CanBeSpelled (p : Plan) : Type 0 where
   pub inputs : All AreBytes p.inputs
   pub past : IsSpelledPast p.beginning.past p.beginning.setup
 
--- What the round that comes next begins with, of a line whose first round has this setup.
-abbrev pub beginning_of : Setup → Next → Beginning
-beginning_of s n = record { number = n.number; past = option_map arc_value n.past; setup = s; asked = n.asked }
+-- This is a plan of a line, whose rounds can be made and kept; all files of the line were read for it.
+pub record IsPrepared (line : Line) (before after : World) (p : Plan) : Type 0 where
+  pub is : IsPlan line before p
+  pub playable : CanBePlayed p
+  pub spelled : CanBeSpelled p
+  pub reads : Reads (files_named line) before after
+
+-- The text that tells of a round in this way, what is told of it.
+abbrev pub text_by : Telling → ℕ → Told → List ℕ
+text_by telling.Report number told = report_text number told
+text_by telling.Line number told = short_text number told
+
+-- The text that tells of a round in this way, as it was made.
+abbrev pub told_by : Telling → Round → List ℕ
+told_by telling.Report r = made_report r
+told_by telling.Line r = made_short r
 
 -- So many workers made a round of this beginning, on this input, and it was watched if that is asked for: what they
--- executed is counted, from so many turns to so many; the text that tells of it, whether it ended by exit, and what it
--- leaves.
-pub record IsMadeOn (workers : ℕ) (b : Beginning) (input : List ℕ) (earlier later : ℕ) (text : List ℕ) (exit : Bool)
-    (left : History) : Type 0
+-- executed is counted, from so many turns to so many; the text that tells of it in this way, whether it ended by exit,
+-- and what the next round begins with.
+pub record IsMadeOn (workers : ℕ) (way : Telling) (b : Beginning) (input : List ℕ) (earlier later : ℕ) (text : List ℕ)
+    (exit : Bool) (next : Beginning) : Type 0
   where
     pub found : Found
     pub made : IsMade workers (round_on b input found)
     pub watched : IsWatched workers (round_on b input found)
     pub counted : IsCounted workers (round_on b input found)
     pub turns : later ≡ earlier + found.turns
-    pub is_text : text ≡ made_report (round_on b input found)
+    pub is_text : text ≡ told_by way (round_on b input found)
     pub is_exit : exit ≡ made_exits (round_on b input found)
-    pub is_left : left ≡ left_by (round_on b input found)
+    pub is_next : next ≡ after_round b input found
 
 -- So many workers found these schedules of the first rounds of a plan, one of each, which were watched if that is asked
 -- for.
@@ -108,13 +123,14 @@ pub record IsCarriedOut (name : Option Text) (workers : ℕ) (p : Plan) (before 
     pub within : IsKeptWithin name (memo (left_of p found))
     pub are_exits : all_made_exit (rounds_of p found) ≡ exits
 
--- What a line asks for that replays a schedule: its files were read, and the executable is accepted, of which this is
--- the setup; and the schedule's tokens say these threads.
-pub record IsAskedReplay (line : ReplayLine) (before : World) (setup : Setup) (threads : List ℕ) : Type 0 where
+-- What a line asks for that replays a schedule: its files were read, all of them, and the executable is accepted, of which
+-- this is the setup; and this is the text of the schedule.
+pub record IsAskedReplay (line : ReplayLine) (before after : World) (setup : Setup) (text : List ℕ) : Type 0 where
   pub contents : ReplayContents
   pub read : WasReplayRead line before contents
   pub is_setup : setup ≡ replay_setup_of line contents
-  pub said : Says contents.schedule (Ok threads)
+  pub is_text : text ≡ contents.schedule
+  pub reads : Reads (files_named (Replays line)) before after
 
 -- What there is to tell of a schedule of these entries, by what it came to.
 abbrev pub told_of_outcome : List Entry → Outcome → Told
@@ -149,19 +165,6 @@ pub record TellsReasons (p : Plan) (text : List ℕ) : Type 0 where
       IsSound p.beginning.past (with_input p.beginning.setup input)
       → reasons_of (explained_round p.beginning input)
       ≡ reasons_by (scratch_before (explained_round p.beginning input)) (explained_round p.beginning input)
-
--- So many workers made a round of this beginning, on this input: what they executed is counted, from so many turns to so
--- many; the line that tells of it, whether it ended by exit, and what it leaves.
-pub record IsLineOn (workers : ℕ) (b : Beginning) (input : List ℕ) (earlier later : ℕ) (text : List ℕ) (exit : Bool)
-    (left : History) : Type 0
-  where
-    pub found : Found
-    pub made : IsMade workers (round_on b input found)
-    pub counted : IsCounted workers (round_on b input found)
-    pub turns : later ≡ earlier + found.turns
-    pub is_text : text ≡ made_short (round_on b input found)
-    pub is_exit : exit ≡ made_exits (round_on b input found)
-    pub is_left : left ≡ left_by (round_on b input found)
 
 -- So many workers made both rounds of the guest that is generated from a number, and no other: what is counted rose by
 -- these rounds and their turns; the text that tells of both, and whether each ended by exit.

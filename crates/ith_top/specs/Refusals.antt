@@ -1,5 +1,5 @@
 -- Why a part of a call refused, by the status that it gives.
-use Rattle.std.specs.Prelude.{◌≡◌, ◌≢◌, ℕ, ◌+◌, ◌<◌, ◌≤◌, true, false, ◌⊎◌, List, length, take, Option, Some, None, Err, ⊤}
+use Rattle.std.specs.Prelude.{◌≡◌, ◌≢◌, ℕ, ◌+◌, ◌<◌, ◌≤◌, false, ◌⊎◌, List, length, take, Option, Some, None, Err, ⊤}
 use Rattle.std.specs.List.{concat}
 use Rattle.ith_host.specs.World.{World, Rose, NoneFell, Stays, Holds}
 use Rattle.elf_spec.specs.Image.{is_image}
@@ -7,26 +7,22 @@ use Rattle.memo_spec.specs.declared.Refusal.{Refusal as MemoRefusal}
 use Rattle.memo_spec.specs.declared.TheConstants.{MOST_MEMO_BYTES}
 use Rattle.memo_spec.specs.Reading.{reading}
 use Rattle.memo_spec.specs.Spelling.{memo}
-use Rattle.machine_spec.specs.Setup.{Setup, is_permitted, is_complete}
-use Rattle.plain_machine.specs.Replaying.{IsFirstForbidden}
+use Rattle.machine_spec.specs.Setup.{Setup}
 use Rattle.schedule_list.specs.Schedule.{Says}
 use Rattle.rerun_spec.specs.Inputs.{Refusal, IsFirstRefused}
 use Rattle.rerun_spec.specs.Rounds.{Found}
-use Rattle.ith_words.specs.Words.{Text, Line}
+use Rattle.ith_words.specs.Words.{Text}
 use Rattle.ith_top.specs.declared.status.Status.{Status}
 use Rattle.ith_top.specs.declared.status.Status.TheVariants as status
-use Rattle.ith_top.specs.Files.{Named, AsksForSome, StopsAt, FailedToRead, IsLong}
+use Rattle.ith_top.specs.Files.{Named}
 use Rattle.ith_top.specs.Contents.{Plan}
-use Rattle.ith_top.specs.Ends.{Prints, IsPrintedInPart, texts_of, left_of, RefusesImage, RefusesMemo, RefusesList, IsUnread, IsUnbegun, IsTooLarge}
+use Rattle.ith_top.specs.Ends.{Prints, IsPrintedInPart, texts_of, left_of, ScheduleRefusal, RefusesSchedule, EndsBy}
 use Rattle.ith_top.specs.Counting.{Work}
 use Rattle.ith_top.specs.Playing.{AreFound}
 
 -- Why files weren't all read: which one was refused, and what was asked for.
 abbrev pub WhyUnread : List Named → World → World → Status → Type 0
-WhyUnread files before after status.ReadFault = StopsAt (FailedToRead before after) files before after
-WhyUnread files before after status.TooLarge = StopsAt (IsLong before) files before after
-WhyUnread files before after status.Memory = AsksForSome files before after
-WhyUnread files before after _ = ⊥
+WhyUnread files before after s = EndsBy files ⊥ ⊥ ⊥ before after s
 
 -- Why no setup was made of an executable.
 abbrev pub WhyNoSetup : List ℕ → Status → Type 0
@@ -46,30 +42,17 @@ WhyUnedited first lists status.EditList = (place : ℕ) × (why : Refusal) × Is
 WhyUnedited first lists status.Memory = ⊤
 WhyUnedited first lists _ = ⊥
 
--- Why a line has no plan of rounds: a file wasn't read or is refused, and nothing was printed.
-abbrev pub WhyUnplanned : Line → World → World → Status → Type 0
-WhyUnplanned line before after status.Image = RefusesImage line before after
-WhyUnplanned line before after status.Memo = RefusesMemo line before after
-WhyUnplanned line before after status.EditList = RefusesList line before after
-WhyUnplanned line before after status.ReadFault = IsUnread line before after
-WhyUnplanned line before after status.Memory = IsUnbegun line before after
-WhyUnplanned line before after status.TooLarge = IsTooLarge line before after
-WhyUnplanned line before after _ = ⊥
-
 -- Why no threads were had from the text of a schedule: a token is the first that spells none.
 abbrev pub WhyNoThreads : List ℕ → Status → Type 0
 WhyNoThreads text status.Schedule = (number : ℕ) × Says text (Err number)
 WhyNoThreads text status.Memory = ⊤
 WhyNoThreads text _ = ⊥
 
--- Why a schedule came to no end from scratch: an entry is the first that isn't permitted, or all are and it isn't
--- complete.
+-- Why the text of a schedule came to no end from scratch: it is refused.
 abbrev pub WhyUnreplayed : Setup → List ℕ → Status → Type 0
-WhyUnreplayed setup threads status.Schedule =
-    ((number : ℕ) × IsFirstForbidden setup threads number)
-    ⊎ ((is_permitted setup threads ≡ true) × (is_complete setup threads ≡ false))
-WhyUnreplayed setup threads status.Memory = ⊤
-WhyUnreplayed setup threads _ = ⊥
+WhyUnreplayed setup text status.Schedule = (why : ScheduleRefusal) × RefusesSchedule setup text why
+WhyUnreplayed setup text status.Memory = ⊤
+WhyUnreplayed setup text _ = ⊥
 
 -- Why no more was done than to make the rounds of a plan that were found, and what was printed: the texts of these; and
 -- where printing failed, of the last one's a part.

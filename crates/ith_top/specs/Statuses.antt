@@ -1,5 +1,5 @@
 -- The exit status of each way to end.
-use Rattle.std.specs.Prelude.{ℕ, ⊤}
+use Rattle.std.specs.Prelude.{ℕ, ⊤, Bool, true, false, Result, Ok, Err}
 use Rattle.ith_top.specs.declared.status.Status.{Status}
 use Rattle.ith_top.specs.declared.status.Status.TheVariants as status
 
@@ -18,8 +18,14 @@ code_of status.TooLarge = 9
 code_of status.Schedule = 10
 code_of status.Untrue = 11
 
--- Any status but those of a line that is done.
-abbrev pub IsUndone : Status → Type 0
-IsUndone status.Finished = ⊥
-IsUndone status.Unfinished = ⊥
-IsUndone _ = ⊤
+-- The status of a line: whether each round ended by exit, if the line is done, or why it isn't.
+abbrev pub status_in : Result Bool Status → Status
+status_in (Ok true) = status.Finished
+status_in (Ok false) = status.Unfinished
+status_in (Err s) = s
+
+-- A fact by whether each round ended by exit holds, if a line is done.
+abbrev pub IfDone : Status → (Bool → Type 0) → Type 0
+IfDone status.Finished fact = fact true
+IfDone status.Unfinished fact = fact false
+IfDone _ fact = ⊤

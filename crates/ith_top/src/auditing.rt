@@ -1,13 +1,14 @@
 //! What the program does of a line that audits a memo.
 
-ghost use Rattle.std.specs.Prelude.{◌≡◌, ◌≤◌, length, true, IfOk, IfErr};
+ghost use Rattle.std.specs.Prelude.{◌≡◌, true, IfOk, Some};
 ghost use Rattle.history_spec.specs.History.{is_coherent};
 ghost use Rattle.audit_spec.specs.Audit.{IsVerdict};
-ghost use Rattle.ith_host.specs.World.{NoneFell, AsksNothing};
+ghost use Rattle.ith_words.specs.Words.{Audits};
 ghost use Rattle.ith_words.specs.Said.{audit_said};
-ghost use Rattle.ith_top.specs.Ends.{AuditEnds, audit_of};
+ghost use Rattle.ith_top.specs.Statuses.{status_in};
+ghost use Rattle.ith_top.specs.Ends.{Ends, audit_of};
 
-use super::complaints::{NO_MEMORY, false_line};
+use super::complaints::false_line;
 use super::outside::print_text;
 use super::plan::remember;
 use super::status::Status;
@@ -41,28 +42,18 @@ pub fn audit<R: Threads + Sync, H: Host>(
     alloc: Global,
     host: &mut H,
     line: &AuditLine<'_>,
-) -> Status
-    ensures { AuditEnds (audit_said line.now) (H.world host.old) (H.world host.new) result }
+) -> Result<bool, Status>
+    ensures { Ends (Some (Audits (audit_said line.now)))
+        (H.world host.old) (H.world host.new) (status_in result) }
 {
-    let history = match remember(alloc, host, line.memo) {
-        Ok(history) => history,
-        Err(status) => return status,
-    };
-    let (verdict, text) = match told_of(rt, alloc, &history, line.workers) {
-        Ok(told) => told,
-        Err(_) => {
-            host.complain(NO_MEMORY);
-            return Status::Memory;
-        }
-    };
-    if let Err(status) = print_text(alloc, host, text.as_slice()) {
-        return status;
-    }
+    let history = remember(alloc, host, line.memo)?;
+    let (verdict, text) = told_of(rt, alloc, &history, line.workers)?;
+    print_text(alloc, host, text.as_slice())?;
     match verdict.first {
-        None => Status::Finished,
+        None => Ok(true),
         Some(place) => {
             host.complain(&false_line(alloc, place));
-            Status::Untrue
+            Err(Status::Untrue)
         }
     }
 }

@@ -57,7 +57,8 @@ fn run_unwatched<R: Threads + Wait + Sync, G: Gate + Sync>(
     requires { 1 ≤ workers }
     ensures round { IfOk result (λ r.
         IsRoundBy workers setup (option_map arc_value past) r.0.round r.0.shares.items) }
-    ensures cost { IfOk result (λ r. IsCostOf workers setup (option_map arc_value past) r.0.round r.0.turns) }
+    ensures cost { IfOk result (λ r. IsCostOf workers setup (option_map arc_value past)
+        r.0.round r.0.turns) }
 {
     let worked = run_round(rt, alloc, setup, past, workers, gate)?;
     Ok((worked, Vec::new(alloc)))
@@ -109,10 +110,12 @@ impl<'a, R: Threads + Wait + Sync, G: Gate + Sync> Crew<'a, R, G> {
         ensures past { IfOk result (λ r. r.round.past ≡ option_map arc_value past) }
         ensures stands { IfOk result (λ r. IsBySchedule r.round) }
         ensures made { IfOk result (λ r.
-            IsMadeBy self.old.workers setup (option_map arc_value past) r.round.schedule r.shares.items) }
-        ensures watched { IfOk result (λ r.
-            watched ≡ true → IsProgress self.old.workers (length r.round.schedule) r.progress.items) }
-        ensures cost { IfOk result (λ r. Spends self.old.workers setup (option_map arc_value past) r.round
+            IsMadeBy self.old.workers setup (option_map arc_value past)
+            r.round.schedule r.shares.items) }
+        ensures watched { IfOk result (λ r. watched ≡ true
+            → IsProgress self.old.workers (length r.round.schedule) r.progress.items) }
+        ensures cost { IfOk result (λ r. Spends self.old.workers setup (option_map arc_value past)
+            r.round
             self.old.work.turns self.new.work.turns) }
         ensures counted { self.new.work.rounds ≡ self.old.work.rounds + 1 }
         ensures workers { self.new.workers ≡ self.old.workers }

@@ -1,21 +1,18 @@
 //! What the program does of a line that tells why steps were executed.
 
-ghost use Rattle.std.specs.Prelude.{◌≡◌, ◌+◌, ◌∷◌, ℕ, List, IfOk, IfErr};
-ghost use Rattle.ith_host.specs.World.{Stays, NoneFell, AsksNothing};
+ghost use Rattle.std.specs.Prelude.{◌≡◌, ◌+◌, ◌∷◌, ℕ, List, IfOk, IfErr, Some};
 ghost use Rattle.propagate.specs.Executing.{executed_by};
 ghost use Rattle.ith_words.specs.Words.{Explains};
 ghost use Rattle.ith_words.specs.Said.{rerun_said, explain_said};
-ghost use Rattle.ith_top.specs.Statuses.{IsUndone};
-ghost use Rattle.ith_top.specs.Files.{files_named, AsksForFiles};
-ghost use Rattle.ith_top.specs.Contents.{IsPlan, as_rerun};
+ghost use Rattle.ith_top.specs.Statuses.{status_in};
+ghost use Rattle.ith_top.specs.Contents.{as_rerun};
 ghost use Rattle.ith_top.specs.Explaining.{explained_round};
-ghost use Rattle.ith_top.specs.Ends.{ExplainEnds};
+ghost use Rattle.ith_top.specs.Ends.{Ends, EndsEarly};
 ghost use Rattle.ith_top.specs.Counting.{ExplainSpends};
-ghost use Rattle.ith_top.specs.Playing.{plan_said, CanBePlayed, TellsReasons};
+ghost use Rattle.ith_top.specs.Playing.{plan_said, CanBePlayed, IsPrepared, TellsReasons};
 
 use super::outside::print_text;
-use super::plan::{Plan, prepare_rerun};
-use super::rounds::no_memory;
+use super::plan::{Beginning, Plan, prepare_rerun};
 use super::status::Status;
 use ith_host::Host;
 use ith_words::{ExplainLine, RerunLine};
@@ -44,38 +41,26 @@ fn as_rerun<'a>(alloc: Global, line: &ExplainLine<'a>) -> Result<RerunLine<'a>, 
 
 /// The plan of the round that a line explains: its files are read, the memo is looked at, and then the edit list is.
 fn prepare<H: Host>(alloc: Global, host: &mut H, line: &ExplainLine<'_>) -> Result<Plan, Status>
-    ensures plan { IfOk result (λ plan. IsPlan (Explains (explain_said line.now)) (H.world host.old) (plan_said plan)) }
-    ensures playable { IfOk result (λ plan. CanBePlayed (plan_said plan)) }
-    ensures asked { IfOk result (λ _. AsksForFiles (files_named (Explains (explain_said line.now)))
-        (H.world host.old) (H.world host.new)) }
-    ensures refused { IfErr result (λ status. ExplainEnds (explain_said line.now)
+    ensures plan { IfOk result (λ plan. IsPrepared (Explains (explain_said line.now))
+        (H.world host.old) (H.world host.new) (plan_said plan)) }
+    ensures refused { IfErr result (λ status. EndsEarly (Explains (explain_said line.now))
         (H.world host.old) (H.world host.new) status) }
-    ensures undone { IfErr result IsUndone }
-    ensures stays { Stays (H.world host.old) (H.world host.new) }
-    ensures counts { NoneFell (H.world host.old) (H.world host.new) }
 {
-    let rerun = match as_rerun(alloc, line) {
-        Ok(rerun) => rerun,
-        Err(_) => return Err(no_memory(host)),
-    };
-    match prepare_rerun(alloc, host, &rerun) {
-        Ok(plan) => Ok(plan),
-        Err(status) => Err(status),
-    }
+    let rerun = as_rerun(alloc, line)?;
+    prepare_rerun(alloc, host, &rerun)
 }
 
 /// The text that tells why the executed steps of a plan's round were executed.
 fn text_of(alloc: Global, plan: Plan, turns: &mut Turns) -> Result<Vec<u8>, AllocError>
     requires { CanBePlayed (plan_said plan) }
     ensures reasons { IfOk result (λ text. TellsReasons (plan_said plan) text.items) }
-    ensures cost { IfOk result (λ _. (input : List ℕ) (later : List (List ℕ)) → (plan_said plan).inputs ≡ input ∷ later
+    ensures cost { IfOk result (λ _. (input : List ℕ) (later : List (List ℕ)) →
+        (plan_said plan).inputs ≡ input ∷ later
         → turns.new ≡ turns.old + executed_by (explained_round (plan_said plan).beginning input)) }
 {
     let Plan {
-        past,
-        setup,
+        beginning: Beginning { past, setup, .. },
         mut inputs,
-        ..
     } = plan;
     let Some(input) = inputs.next()? else {
         unreachable!()
@@ -93,20 +78,14 @@ pub fn explain<H: Host>(
     host: &mut H,
     line: &ExplainLine<'_>,
     turns: &mut Turns,
-) -> Status
-    ensures ends { ExplainEnds (explain_said line.now) (H.world host.old) (H.world host.new) result }
-    ensures cost { ExplainSpends (explain_said line.now) (H.world host.old) (H.world host.new) turns.old turns.new result }
+) -> Result<bool, Status>
+    ensures ends { Ends (Some (Explains (explain_said line.now)))
+        (H.world host.old) (H.world host.new) (status_in result) }
+    ensures cost { ExplainSpends (explain_said line.now) (H.world host.old) (H.world host.new)
+        turns.old turns.new (status_in result) }
 {
-    let plan = match prepare(alloc, host, line) {
-        Ok(plan) => plan,
-        Err(status) => return status,
-    };
-    let text = match text_of(alloc, plan, turns) {
-        Ok(text) => text,
-        Err(_) => return no_memory(host),
-    };
-    match print_text(alloc, host, text.as_slice()) {
-        Ok(()) => Status::Finished,
-        Err(status) => status,
-    }
+    let plan = prepare(alloc, host, line)?;
+    let text = text_of(alloc, plan, turns)?;
+    print_text(alloc, host, text.as_slice())?;
+    Ok(true)
 }

@@ -1,15 +1,14 @@
 //! The files that a line names to read.
 
-ghost use Rattle.std.specs.Prelude.{◌≡◌, ◌≤◌, ◌∷◌, [], length, map, IfOk, IfErr};
-ghost use Rattle.ith_host.specs.World.{Stays, NoneFell, IsContent};
+ghost use Rattle.std.specs.Prelude.{◌≤◌, ◌∷◌, [], length, map, IfOk, IfErr};
+ghost use Rattle.ith_host.specs.World.{IsContent};
 ghost use Rattle.round_inputs.specs.Lists.{bytes_of_each};
 ghost use Rattle.ith_words.specs.Words.{Runs, Reruns, Replays};
 ghost use Rattle.ith_words.specs.Said.{run_said, rerun_said, replay_said};
-ghost use Rattle.ith_top.specs.Files.{elf_named, input_named, lists_named, files_named, memo_named, AsksForFiles};
+ghost use Rattle.ith_top.specs.Files.{elf_named, input_named, lists_named, files_named, memo_named, Reads};
 ghost use Rattle.ith_top.specs.Contents.{AreLists, AreContents, AreReplayContents, IsMemoContent};
 ghost use Rattle.ith_top.specs.Refusals.{WhyUnread};
 
-use super::complaints::NO_MEMORY;
 use super::outside::read_file;
 use super::status::Status;
 use edit_spec::MOST_LIST_BYTES;
@@ -56,26 +55,16 @@ pub struct RerunFiles {
 fn read_lists<H: Host>(alloc: Global, host: &mut H, names: &[&str]) -> Result<Vec<Vec<u8>>, Status>
     ensures contents { IfOk result (λ lists. AreLists
         (H.world host.old) (map (λ name. name.now) names.now) (bytes_of_each lists.items)) }
-    ensures asked { IfOk result (λ _. AsksForFiles (lists_named (map (λ name. name.now) names.now))
+    ensures reads { IfOk result (λ _. Reads (lists_named (map (λ name. name.now) names.now))
         (H.world host.old) (H.world host.new)) }
-    ensures refused { IfErr result (λ status. WhyUnread (lists_named (map (λ name. name.now) names.now))
+    ensures refused { IfErr result (λ status.
+        WhyUnread (lists_named (map (λ name. name.now) names.now))
         (H.world host.old) (H.world host.new) status) }
-    ensures stays { Stays (H.world host.old) (H.world host.new) }
-    ensures counts { NoneFell (H.world host.old) (H.world host.new) }
 {
     let mut lists = Vec::new(alloc);
     for name in names {
-        let list = match read_file(alloc, host, name, MOST_LIST_BYTES as u64) {
-            Ok(list) => list,
-            Err(status) => return Err(status),
-        };
-        match lists.push(list) {
-            Ok(()) => {}
-            Err(_) => {
-                host.complain(NO_MEMORY);
-                return Err(Status::Memory);
-            }
-        }
+        let list = read_file(alloc, host, name, MOST_LIST_BYTES as u64)?;
+        lists.push(list)?;
     }
     Ok(lists)
 }
@@ -96,35 +85,32 @@ fn read_guest<H: Host>(
 ) -> Result<GuestFiles, Status>
     ensures elf { IfOk result (λ files. IsContent (H.world host.old) elf.now files.elf.items) }
     ensures elf_within { IfOk result (λ files. length files.elf.items ≤ MOST_ELF_BYTES) }
-    ensures input { IfOk result (λ files. IsContent (H.world host.old) input.now files.input.items) }
+    ensures input { IfOk result (λ files.
+        IsContent (H.world host.old) input.now files.input.items) }
     ensures input_within { IfOk result (λ files. length files.input.items ≤ MOST_INPUT_BYTES) }
-    ensures asked { IfOk result (λ _. AsksForFiles (elf_named elf.now ∷ input_named input.now ∷ [])
+    ensures reads { IfOk result (λ _. Reads (elf_named elf.now ∷ input_named input.now ∷ [])
         (H.world host.old) (H.world host.new)) }
-    ensures refused { IfErr result (λ status. WhyUnread (elf_named elf.now ∷ input_named input.now ∷ [])
+    ensures refused { IfErr result (λ status.
+        WhyUnread (elf_named elf.now ∷ input_named input.now ∷ [])
         (H.world host.old) (H.world host.new) status) }
-    ensures stays { Stays (H.world host.old) (H.world host.new) }
-    ensures counts { NoneFell (H.world host.old) (H.world host.new) }
 {
-    let elf = match read_file(alloc, host, elf, MOST_ELF_BYTES as u64) {
-        Ok(bytes) => bytes,
-        Err(status) => return Err(status),
-    };
-    match read_file(alloc, host, input, MOST_INPUT_BYTES as u64) {
-        Ok(input) => Ok(GuestFiles { elf, input }),
-        Err(status) => Err(status),
-    }
+    let elf = read_file(alloc, host, elf, MOST_ELF_BYTES as u64)?;
+    let input = read_file(alloc, host, input, MOST_INPUT_BYTES as u64)?;
+    Ok(GuestFiles { elf, input })
 }
 
 /// Reads the files of a line that runs a guest, in the order in which it names them.
 pub fn read_files<H: Host>(alloc: Global, host: &mut H, line: &RunLine<'_>) -> Result<Files, Status>
-    ensures contents { IfOk result (λ files. AreContents (H.world host.old) (run_said line.now)
-        (record { elf = files.elf.items; input = files.input.items; lists = bytes_of_each files.lists.items })) }
-    ensures asked { IfOk result (λ _. AsksForFiles (files_named (Runs (run_said line.now)))
+    ensures contents { IfOk result (λ files.
+        AreContents (H.world host.old) (run_said line.now) (record {
+          elf = files.elf.items;
+          input = files.input.items;
+          lists = bytes_of_each files.lists.items;
+        })) }
+    ensures reads { IfOk result (λ _. Reads (files_named (Runs (run_said line.now)))
         (H.world host.old) (H.world host.new)) }
     ensures refused { IfErr result (λ status. WhyUnread (files_named (Runs (run_said line.now)))
         (H.world host.old) (H.world host.new) status) }
-    ensures stays { Stays (H.world host.old) (H.world host.new) }
-    ensures counts { NoneFell (H.world host.old) (H.world host.new) }
 {
     let GuestFiles { elf, input } = read_guest(alloc, host, line.elf, line.input)?;
     let lists = read_lists(alloc, host, line.edits.as_slice())?;
@@ -137,14 +123,17 @@ pub fn read_replay_files<H: Host>(
     host: &mut H,
     line: &ReplayLine<'_>,
 ) -> Result<ReplayFiles, Status>
-    ensures contents { IfOk result (λ files. AreReplayContents (H.world host.old) (replay_said line.now)
-        (record { elf = files.elf.items; input = files.input.items; schedule = files.schedule.items })) }
-    ensures asked { IfOk result (λ _. AsksForFiles (files_named (Replays (replay_said line.now)))
+    ensures contents { IfOk result (λ files.
+        AreReplayContents (H.world host.old) (replay_said line.now) (record {
+          elf = files.elf.items;
+          input = files.input.items;
+          schedule = files.schedule.items;
+        })) }
+    ensures reads { IfOk result (λ _. Reads (files_named (Replays (replay_said line.now)))
         (H.world host.old) (H.world host.new)) }
-    ensures refused { IfErr result (λ status. WhyUnread (files_named (Replays (replay_said line.now)))
+    ensures refused { IfErr result (λ status. WhyUnread
+        (files_named (Replays (replay_said line.now)))
         (H.world host.old) (H.world host.new) status) }
-    ensures stays { Stays (H.world host.old) (H.world host.new) }
-    ensures counts { NoneFell (H.world host.old) (H.world host.new) }
 {
     let GuestFiles { elf, input } = read_guest(alloc, host, line.elf, line.input)?;
     let schedule = read_file(alloc, host, line.schedule, MOST_SCHEDULE_BYTES as u64)?;
@@ -158,16 +147,12 @@ pub fn read_replay_files<H: Host>(
 /// Reads a memo.
 pub fn read_memo<H: Host>(alloc: Global, host: &mut H, name: &str) -> Result<Vec<u8>, Status>
     ensures content { IfOk result (λ bytes. IsMemoContent (H.world host.old) name.now bytes.items) }
-    ensures asked { AsksForFiles (memo_named name.now ∷ []) (H.world host.old) (H.world host.new) }
+    ensures reads { IfOk result (λ _. Reads (memo_named name.now ∷ []) (H.world host.old)
+        (H.world host.new)) }
     ensures refused { IfErr result (λ status. WhyUnread (memo_named name.now ∷ [])
         (H.world host.old) (H.world host.new) status) }
-    ensures stays { Stays (H.world host.old) (H.world host.new) }
-    ensures counts { NoneFell (H.world host.old) (H.world host.new) }
 {
-    match read_file(alloc, host, name, MOST_MEMO_BYTES as u64) {
-        Ok(bytes) => Ok(bytes),
-        Err(status) => Err(status),
-    }
+    read_file(alloc, host, name, MOST_MEMO_BYTES as u64)
 }
 
 /// Reads the files of a line that reruns a memo, in the order in which it names them.
@@ -176,15 +161,14 @@ pub fn read_rerun_files<H: Host>(
     host: &mut H,
     line: &RerunLine<'_>,
 ) -> Result<RerunFiles, Status>
-    ensures memo { IfOk result (λ files. IsMemoContent (H.world host.old) line.now.memo.now files.memo.items) }
+    ensures memo { IfOk result (λ files. IsMemoContent (H.world host.old)
+        line.now.memo.now files.memo.items) }
     ensures lists { IfOk result (λ files. AreLists (H.world host.old) (rerun_said line.now).edits
         (bytes_of_each files.lists.items)) }
-    ensures asked { IfOk result (λ _. AsksForFiles (files_named (Reruns (rerun_said line.now)))
+    ensures reads { IfOk result (λ _. Reads (files_named (Reruns (rerun_said line.now)))
         (H.world host.old) (H.world host.new)) }
     ensures refused { IfErr result (λ status. WhyUnread (files_named (Reruns (rerun_said line.now)))
         (H.world host.old) (H.world host.new) status) }
-    ensures stays { Stays (H.world host.old) (H.world host.new) }
-    ensures counts { NoneFell (H.world host.old) (H.world host.new) }
 {
     let memo = read_memo(alloc, host, line.memo)?;
     let lists = read_lists(alloc, host, line.edits.as_slice())?;

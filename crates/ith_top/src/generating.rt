@@ -1,42 +1,35 @@
 //! What the program does of a line that runs the generated guest.
 
-ghost use Rattle.std.specs.Prelude.{◌≡◌, ◌+◌, ◌≤◌, ◌++◌, codes, decimal, length, option_map, IfOk, IfErr};
-ghost use Rattle.std.specs.Arc.{arc_value};
+ghost use Rattle.std.specs.Prelude.{◌≡◌, ◌+◌, ◌≤◌, ◌++◌, codes, decimal, length, IfOk, IfErr, Some};
 ghost use Rattle.elf_load.specs.Load.{Refuses};
 ghost use Rattle.elf_spec.specs.declared.TheConstants.{MOST_ELF_BYTES};
 ghost use Rattle.machine_spec.specs.declared.TheConstants.{MOST_INPUT_BYTES};
 ghost use Rattle.machine_spec.specs.Setup.{IsSetup};
 ghost use Rattle.memo_spec.specs.Spelling.{AreBytes};
 ghost use Rattle.report_spec.specs.Text.{line as text_line};
-ghost use Rattle.propagate.specs.Kept.{IsOfMap};
-ghost use Rattle.report_spec.specs.Report.{no_extras};
-ghost use Rattle.rerun_spec.specs.Reports.{told_as_made};
-ghost use Rattle.round_report.specs.Short.{short_text};
 ghost use Rattle.ith_words.specs.Words.{Generates, default_fuel, default_limit};
 ghost use Rattle.ith_words.specs.Said.{generate_said};
+ghost use Rattle.ith_top.specs.Statuses.{status_in};
 ghost use Rattle.ith_top.specs.Contents.{IsGeneratedPlan};
-ghost use Rattle.ith_top.specs.Ends.{GenerateEnds};
+ghost use Rattle.ith_top.specs.Ends.{Ends};
 ghost use Rattle.ith_top.specs.Counting.{MakesRounds, GenerateSpends};
-ghost use Rattle.ith_top.specs.Playing.{plan_said, beginning_of, CanBePlayed, CanBeSpelled, IsLineOn, AreTheGenerated};
+ghost use Rattle.ith_top.specs.Playing.{plan_said, CanBePlayed, CanBeSpelled, AreTheGenerated};
 
-use super::crew::{Crew, Made};
+use super::crew::Crew;
 use super::outside::print_text;
 use super::plan::{Plan, from_scratch};
-use super::report::{Next, Played, is_exit};
-use super::rounds::no_memory;
+use super::report::{Telling, make_round};
 use super::status::Status;
 use elf_load::LoadError;
 use guest_gen::{Generated, make};
 use ith_host::{Gate, Host};
 use ith_text::decimal;
 use ith_words::{GenerateLine, default_limits};
-use propagate::Round;
 use release_core::Setup;
 use rerun_spec::Asked;
 use round_inputs::{InputsError, inputs_of};
-use round_report::{Told, short};
 use std::alloc::{AllocError, Global};
-use std::sync::{Arc, Wait};
+use std::sync::Wait;
 use std::thread::Threads;
 
 /// The setup of an executable and an input, with the limits of a line that names none.
@@ -83,63 +76,10 @@ fn prepare(alloc: Global, number: u32) -> Result<Plan, AllocError>
     }
 }
 
-/// The line that tells of a round.
-fn round_line<'a>(
-    alloc: Global,
-    number: u64,
-    round: &'a Round,
-    shares: &'a [u64],
-) -> Result<Vec<u8>, AllocError>
-    ensures { IfOk result (λ text. text.items ≡ short_text number (told_as_made round.now no_extras shares.now)) }
-{
-    let told = Told {
-        ending: round.end(),
-        schedule: round.schedule(),
-        reached: None,
-        progress: None,
-        instructions: round.instructions(),
-        shares,
-        memory: round.memory(),
-        output: round.output(),
-    };
-    short(alloc, number, &told)
-}
-
-/// The next round of the generated guest, made by the line's workers, with its line.
-fn make_line<R: Threads + Wait + Sync, G: Gate + Sync>(
-    alloc: Global,
-    setup: &Setup,
-    next: Next,
-    crew: &mut Crew<'_, R, G>,
-) -> Result<Played, AllocError>
-    requires short { length next.input.items ≤ MOST_INPUT_BYTES }
-    requires same { IsOfMap (option_map arc_value next.past) setup.now }
-    ensures played { IfOk result (λ played. IsLineOn crew.old.workers (beginning_of setup.now next) next.input.items
-        crew.old.work.turns crew.new.work.turns played.text.items played.exited (arc_value played.left)) }
-    ensures made { IfOk result (λ _. crew.new.work.rounds ≡ crew.old.work.rounds + 1) }
-    ensures one { crew.new.work.rounds ≤ crew.old.work.rounds + 1 }
-    ensures workers { crew.new.workers ≡ crew.old.workers }
-{
-    let Next {
-        number,
-        input,
-        past,
-        ..
-    } = next;
-    let start = setup.with(input, setup.limits())?;
-    let Made { round, shares, .. } = crew.make(alloc, number as u64, start, past, false)?;
-    let text = round_line(alloc, number as u64, &round, shares.as_slice())?;
-    let exited = is_exit(round.end());
-    let Some(left) = round.into_history() else {
-        unreachable!()
-    };
-    let left = Arc::new(alloc, left)?;
-    Ok(Played { text, exited, left })
-}
-
 /// The line of the number that a guest is generated from, and the lines of its rounds.
 fn text_of(alloc: Global, number: u32, first: &[u8], second: &[u8]) -> Result<Vec<u8>, AllocError>
-    ensures { IfOk result (λ text. text.items ≡ text_line (codes "gen") (decimal number) ++ first.now ++ second.now) }
+    ensures { IfOk result (λ text. text.items ≡ text_line (codes "gen") (decimal number)
+        ++ first.now ++ second.now) }
 {
     let mut text = Vec::new(alloc);
     text.extend_from_slice(b"gen ")?;
@@ -170,9 +110,8 @@ fn make_both<R: Threads + Wait + Sync, G: Gate + Sync>(
     ensures both { crew.new.work.rounds ≤ crew.old.work.rounds + 2 }
 {
     let Plan {
-        setup,
+        beginning,
         mut inputs,
-        ..
     } = prepare(alloc, number)?;
     let Some(input) = inputs.next()? else {
         unreachable!()
@@ -180,26 +119,9 @@ fn make_both<R: Threads + Wait + Sync, G: Gate + Sync>(
     let Some(edited) = inputs.next()? else {
         unreachable!()
     };
-    let next = Next {
-        number: 0,
-        input,
-        past: None,
-        asked: Asked {
-            reach: false,
-            progress: false,
-        },
-    };
-    let first = make_line(alloc, &setup, next, crew)?;
-    let next = Next {
-        number: 1,
-        input: edited,
-        past: Some(first.left),
-        asked: Asked {
-            reach: false,
-            progress: false,
-        },
-    };
-    let second = make_line(alloc, &setup, next, crew)?;
+    let mut last = None;
+    let first = make_round(alloc, beginning, input, crew, Telling::Line, &mut last)?;
+    let second = make_round(alloc, first.next, edited, crew, Telling::Line, &mut last)?;
     let text = text_of(alloc, number, first.text.as_slice(), second.text.as_slice())?;
     Ok(Lines {
         text,
@@ -213,20 +135,16 @@ pub fn generate<R: Threads + Wait + Sync, H: Host, G: Gate + Sync>(
     host: &mut H,
     line: &GenerateLine,
     crew: &mut Crew<'_, R, G>,
-) -> Status
+) -> Result<bool, Status>
     requires { crew.old.workers ≡ line.now.workers }
-    ensures ends { GenerateEnds (generate_said line.now) (H.world host.old) (H.world host.new) result }
-    ensures made { MakesRounds (Generates (generate_said line.now)) crew.old.work.rounds crew.new.work.rounds result }
+    ensures ends { Ends (Some (Generates (generate_said line.now)))
+        (H.world host.old) (H.world host.new) (status_in result) }
+    ensures made { MakesRounds (Generates (generate_said line.now))
+        crew.old.work.rounds crew.new.work.rounds (status_in result) }
     ensures turns { GenerateSpends (generate_said line.now) (H.world host.old) (H.world host.new)
-        crew.old.work crew.new.work result }
+        crew.old.work crew.new.work (status_in result) }
 {
-    let Lines { text, exits } = match make_both(alloc, line.number, crew) {
-        Ok(lines) => lines,
-        Err(_) => return no_memory(host),
-    };
-    match print_text(alloc, host, text.as_slice()) {
-        Ok(()) if exits => Status::Finished,
-        Ok(()) => Status::Unfinished,
-        Err(status) => status,
-    }
+    let Lines { text, exits } = make_both(alloc, line.number, crew)?;
+    print_text(alloc, host, text.as_slice())?;
+    Ok(exits)
 }

@@ -1,12 +1,12 @@
 //! Writing the memo of what the last round leaves.
 
-ghost use Rattle.std.specs.Prelude.{◌≡◌, ◌≤◌, length, IfErr, OnOk};
-ghost use Rattle.ith_host.specs.World.{NoneFell, AsksNothing};
+ghost use Rattle.std.specs.Prelude.{◌≤◌, length, IfErr, OnOk};
+ghost use Rattle.ith_host.specs.World.{AsksNothing};
 ghost use Rattle.memo_spec.specs.declared.TheConstants.{MOST_MEMO_BYTES};
 ghost use Rattle.memo_spec.specs.Spelling.{memo, IsSpellable};
 ghost use Rattle.ith_top.specs.Refusals.{Keeps, WhyUnkept};
 
-use super::complaints::{NO_MEMORY, long_memo_line, name_line};
+use super::complaints::{long_memo_line, name_line};
 use super::status::Status;
 use ith_host::{Host, Put};
 use memo_file::{WriteError, write};
@@ -20,7 +20,6 @@ fn put_memo<H: Host>(alloc: Global, host: &mut H, name: &str, bytes: &[u8]) -> R
     ensures refused { IfErr result (λ status. WhyUnkept name.now bytes.now
         (H.world host.old) (H.world host.new) status) }
     ensures asked { AsksNothing (H.world host.old) (H.world host.new) }
-    ensures counts { NoneFell (H.world host.old) (H.world host.new) }
 {
     match host.write(name, bytes) {
         Put::Ok => Ok(()),
@@ -28,10 +27,7 @@ fn put_memo<H: Host>(alloc: Global, host: &mut H, name: &str, bytes: &[u8]) -> R
             host.complain(&name_line(alloc, "write ", name));
             Err(Status::WriteFault)
         }
-        Put::Memory => {
-            host.complain(NO_MEMORY);
-            Err(Status::Memory)
-        }
+        Put::Memory => Err(Status::Memory),
     }
 }
 
@@ -43,12 +39,12 @@ pub fn keep<H: Host>(
     history: &History,
 ) -> Result<(), Status>
     requires { IsSpellable history.now }
-    ensures kept { OnOk result (Keeps name.now (memo history.now) (H.world host.old) (H.world host.new)) }
+    ensures kept { OnOk result (Keeps name.now (memo history.now) (H.world host.old)
+        (H.world host.new)) }
     ensures within { OnOk result (length (memo history.now) ≤ MOST_MEMO_BYTES) }
     ensures refused { IfErr result (λ status. WhyUnkept name.now (memo history.now)
         (H.world host.old) (H.world host.new) status) }
     ensures asked { AsksNothing (H.world host.old) (H.world host.new) }
-    ensures counts { NoneFell (H.world host.old) (H.world host.new) }
 {
     match write(alloc, history) {
         Ok(bytes) => put_memo(alloc, host, name, bytes.as_slice()),
@@ -56,9 +52,6 @@ pub fn keep<H: Host>(
             host.complain(&long_memo_line(alloc, length));
             Err(Status::TooLarge)
         }
-        Err(WriteError::NoMemory) => {
-            host.complain(NO_MEMORY);
-            Err(Status::Memory)
-        }
+        Err(WriteError::NoMemory) => Err(Status::Memory),
     }
 }

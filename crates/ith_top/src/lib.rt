@@ -72,8 +72,10 @@ pub fn top<R: Threads + Wait + Sync, H: Host, G: Gate + Sync>(
     host: &mut H,
     gate: &G,
 ) -> u8
-    ensures answers { Answers (line_of (map string_bytes words.now)) (H.world host.old) (H.world host.new) result }
-    ensures complete { Completes (line_of (map string_bytes words.now)) (H.world host.old) (H.world host.new) result }
+    ensures answers { Answers (line_of (map string_bytes words.now))
+        (H.world host.old) (H.world host.new) result }
+    ensures complete { Completes (line_of (map string_bytes words.now))
+        (H.world host.old) (H.world host.new) result }
 {
     program::status_of(rt, alloc, words, host, gate).code()
 }

@@ -1,17 +1,17 @@
-//! What the program does to the outside: it reads a file, and prints a text; and says why where it couldn't.
+//! What the program does to the outside: it reads a file, and prints a text; and says why if it couldn't.
 
-ghost use Rattle.std.specs.Prelude.{◌≡◌, ◌≤◌, ◌∷◌, [], length, IfOk, IfErr, OnOk};
-ghost use Rattle.ith_host.specs.World.{Stays, NoneFell, AsksFor, AsksNothing, IsContent};
+ghost use Rattle.std.specs.Prelude.{◌≤◌, ◌∷◌, [], length, IfOk, IfErr, OnOk};
+ghost use Rattle.ith_host.specs.World.{NoneFell, AsksNothing, IsContent};
+ghost use Rattle.ith_top.specs.Files.{Reads};
 ghost use Rattle.ith_top.specs.Ends.{Prints};
 ghost use Rattle.ith_top.specs.Refusals.{WhyUnread, WhyUnprinted};
 
-use super::complaints::{NO_MEMORY, name_line};
+use super::complaints::name_line;
 use super::status::Status;
 use ith_host::{Got, Host, Printed};
 use std::alloc::Global;
 
 /// Reads a file of at most so many bytes.
-#[tactic(auto, using(crate::proofs::Worlds::stays_trans, crate::proofs::Worlds::none_fell_trans))]
 pub fn read_file<H: Host>(
     alloc: Global,
     host: &mut H,
@@ -20,11 +20,11 @@ pub fn read_file<H: Host>(
 ) -> Result<Vec<u8>, Status>
     ensures content { IfOk result (λ bytes. IsContent (H.world host.old) name.now bytes.items) }
     ensures within { IfOk result (λ bytes. length bytes.items ≤ most) }
-    ensures asked { AsksFor (name.now ∷ []) (H.world host.old) (H.world host.new) }
-    ensures refused { IfErr result (λ status. WhyUnread (record { name = name.now; most = most } ∷ [])
+    ensures reads { IfOk result (λ _. Reads (record { name = name.now; most = most } ∷ [])
+        (H.world host.old) (H.world host.new)) }
+    ensures refused { IfErr result (λ status. WhyUnread
+        (record { name = name.now; most = most } ∷ [])
         (H.world host.old) (H.world host.new) status) }
-    ensures stays { Stays (H.world host.old) (H.world host.new) }
-    ensures counts { NoneFell (H.world host.old) (H.world host.new) }
 {
     let mut bytes = Vec::new(alloc);
     match host.read(name, most, &mut bytes) {
@@ -37,10 +37,7 @@ pub fn read_file<H: Host>(
             host.complain(&name_line(alloc, "too large ", name));
             Err(Status::TooLarge)
         }
-        Got::Memory => {
-            host.complain(NO_MEMORY);
-            Err(Status::Memory)
-        }
+        Got::Memory => Err(Status::Memory),
     }
 }
 
@@ -48,7 +45,8 @@ pub fn read_file<H: Host>(
 #[tactic(auto, using(crate::proofs::Worlds::stays_trans, crate::proofs::Worlds::none_fell_trans, crate::proofs::Worlds::rose_then))]
 pub fn print_text<H: Host>(alloc: Global, host: &mut H, text: &[u8]) -> Result<(), Status>
     ensures printed { OnOk result (Prints (H.world host.old) (H.world host.new) text.now) }
-    ensures refused { IfErr result (λ status. WhyUnprinted text.now (H.world host.old) (H.world host.new) status) }
+    ensures refused { IfErr result (λ status. WhyUnprinted text.now (H.world host.old)
+        (H.world host.new) status) }
     ensures asked { AsksNothing (H.world host.old) (H.world host.new) }
     ensures counts { NoneFell (H.world host.old) (H.world host.new) }
 {
@@ -58,9 +56,6 @@ pub fn print_text<H: Host>(alloc: Global, host: &mut H, text: &[u8]) -> Result<(
             host.complain(&name_line(alloc, "write ", "output"));
             Err(Status::WriteFault)
         }
-        Printed::Memory => {
-            host.complain(NO_MEMORY);
-            Err(Status::Memory)
-        }
+        Printed::Memory => Err(Status::Memory),
     }
 }

@@ -2,7 +2,6 @@
 //! lists are.
 
 ghost use Rattle.std.specs.Prelude.{◌≡◌, ◌≤◌, ◌<◌, ◌+◌, ◌^◌, [], ◌∷◌, length, IfOk, IfErr};
-ghost use Rattle.ith_host.specs.World.{Stays, NoneFell, AsksNothing};
 ghost use Rattle.machine_spec.specs.Limits.{AreLimits};
 ghost use Rattle.machine_spec.specs.Setup.{IsSetup};
 ghost use Rattle.memo_spec.specs.Spelling.{AreBytes};
@@ -11,12 +10,13 @@ ghost use Rattle.rerun_spec.specs.Rounds as begin;
 ghost use Rattle.round_inputs.specs.Lists.{bytes_of_each};
 ghost use Rattle.ith_words.specs.Words.{Runs, Reruns, Shows};
 ghost use Rattle.ith_words.specs.Said.{run_said, rerun_said};
-ghost use Rattle.ith_top.specs.Files.{memo_named, files_named, AsksForFiles};
-ghost use Rattle.ith_top.specs.Contents.{IsMemoOf, IsRemembered, IsRunPlan, IsRerunPlan, limits_for, as_show};
-ghost use Rattle.ith_top.specs.Refusals.{WhyNoSetup, WhyNoHistory, WhyUnedited, WhyUnplanned};
-ghost use Rattle.ith_top.specs.Playing.{beginning_said, plan_said, CanBePlayed, CanBeSpelled};
+ghost use Rattle.ith_top.specs.Files.{memo_named, Reads, Quiet};
+ghost use Rattle.ith_top.specs.Ends.{EndsEarly};
+ghost use Rattle.ith_top.specs.Contents.{IsMemoOf, IsRemembered, limits_for, as_show};
+ghost use Rattle.ith_top.specs.Refusals.{WhyNoSetup, WhyNoHistory, WhyUnedited};
+ghost use Rattle.ith_top.specs.Playing.{beginning_said, plan_said, IsPrepared};
 
-use super::complaints::{NO_MEMORY, edits_line, image_line, memo_line};
+use super::complaints::{edits_line, image_line, memo_line};
 use super::files::{Files, RerunFiles, read_files, read_memo, read_rerun_files};
 use super::status::Status;
 use elf_load::LoadError;
@@ -31,19 +31,26 @@ use round_inputs::{Inputs, InputsError, inputs_of};
 use std::alloc::{AllocError, Global};
 use std::sync::Arc;
 
+/// What a round begins with.
+#[derive(Drop)]
+pub struct Beginning {
+    /// How many rounds come before it.
+    pub number: usize,
+    /// The history that it goes by, if there is one.
+    pub past: Option<Arc<History>>,
+    /// Its program and its limits, with some input.
+    pub setup: Setup,
+    /// Which lines are asked for in its report.
+    pub asked: Asked,
+}
+
 /// What rounds a line asks for.
 #[derive(Drop)]
 pub struct Plan {
-    /// The number of the first.
-    pub number: usize,
-    /// The history that the first goes by, if there is one.
-    pub past: Option<Arc<History>>,
-    /// The program and the limits of all of them, with some input.
-    pub setup: Setup,
+    /// What the first begins with.
+    pub beginning: Beginning,
     /// Their inputs, in order, each made when the one before it is taken out.
     pub inputs: Inputs,
-    /// Which lines are asked for in their reports.
-    pub asked: Asked,
 }
 
 /// Makes a setup of what was read, with the limits of a line.
@@ -57,14 +64,16 @@ pub fn set_up<H: Host>(
 ) -> Result<Setup, Status>
     requires elf_size { length elf.items ≤ MOST_ELF_BYTES }
     requires input_size { length input.items ≤ MOST_INPUT_BYTES }
-    ensures setup { IfOk result (λ s. s
-        ≡ record { elf = elf.items; input = input.items; fuel = limits.fuel; limit = limits.steps }) }
+    ensures setup { IfOk result (λ s. s ≡ record {
+      elf = elf.items;
+      input = input.items;
+      fuel = limits.fuel;
+      limit = limits.steps;
+    }) }
     ensures sound { IfOk result (λ s. IsSetup s) }
     ensures bytes { IfOk result (λ s. AreBytes s.elf × AreBytes s.input) }
     ensures refused { IfErr result (λ status. WhyNoSetup elf.items status) }
-    ensures asked { AsksNothing (H.world host.old) (H.world host.new) }
-    ensures stays { Stays (H.world host.old) (H.world host.new) }
-    ensures counts { NoneFell (H.world host.old) (H.world host.new) }
+    ensures quiet { Quiet (H.world host.old) (H.world host.new) }
 {
     match Setup::new(alloc, elf, input, limits) {
         Ok(setup) => Ok(setup),
@@ -72,10 +81,7 @@ pub fn set_up<H: Host>(
             host.complain(&image_line(alloc, refusal));
             Err(Status::Image)
         }
-        Err(LoadError::NoMemory) => {
-            host.complain(NO_MEMORY);
-            Err(Status::Memory)
-        }
+        Err(LoadError::NoMemory) => Err(Status::Memory),
     }
 }
 
@@ -83,9 +89,7 @@ pub fn set_up<H: Host>(
 fn recall<H: Host>(alloc: Global, host: &mut H, memo: &[u8]) -> Result<History, Status>
     ensures history { IfOk result (λ h. IsMemoOf memo.now h) }
     ensures refused { IfErr result (λ status. WhyNoHistory memo.now status) }
-    ensures asked { AsksNothing (H.world host.old) (H.world host.new) }
-    ensures stays { Stays (H.world host.old) (H.world host.new) }
-    ensures counts { NoneFell (H.world host.old) (H.world host.new) }
+    ensures quiet { Quiet (H.world host.old) (H.world host.new) }
 {
     match read(alloc, memo) {
         Ok(history) => Ok(history),
@@ -93,21 +97,17 @@ fn recall<H: Host>(alloc: Global, host: &mut H, memo: &[u8]) -> Result<History, 
             host.complain(&memo_line(alloc, refusal));
             Err(Status::Memo)
         }
-        Err(ReadError::NoMemory) => {
-            host.complain(NO_MEMORY);
-            Err(Status::Memory)
-        }
+        Err(ReadError::NoMemory) => Err(Status::Memory),
     }
 }
 
 /// The history that the memo of a name spells. What was read of its file is freed.
 pub fn remember<H: Host>(alloc: Global, host: &mut H, name: &str) -> Result<History, Status>
     ensures history { IfOk result (λ h. IsRemembered (H.world host.old) name.now h) }
-    ensures asked { IfOk result (λ _. AsksForFiles (memo_named name.now ∷ []) (H.world host.old) (H.world host.new)) }
-    ensures refused { IfErr result (λ status. WhyUnplanned (Shows (as_show name.now))
+    ensures reads { IfOk result (λ _. Reads (memo_named name.now ∷ []) (H.world host.old)
+        (H.world host.new)) }
+    ensures refused { IfErr result (λ status. EndsEarly (Shows (as_show name.now))
         (H.world host.old) (H.world host.new) status) }
-    ensures stays { Stays (H.world host.old) (H.world host.new) }
-    ensures counts { NoneFell (H.world host.old) (H.world host.new) }
 {
     let memo = read_memo(alloc, host, name)?;
     let history = recall(alloc, host, memo.as_slice())?;
@@ -123,28 +123,18 @@ fn edit<H: Host>(
     names: &[&str],
 ) -> Result<Inputs, Status>
     ensures inputs { IfOk result (λ inputs. AreInputs first.now (bytes_of_each lists.now) inputs) }
-    ensures refused { IfErr result (λ status. WhyUnedited first.now (bytes_of_each lists.now) status) }
-    ensures asked { AsksNothing (H.world host.old) (H.world host.new) }
-    ensures stays { Stays (H.world host.old) (H.world host.new) }
-    ensures counts { NoneFell (H.world host.old) (H.world host.new) }
+    ensures refused { IfErr result (λ status.
+        WhyUnedited first.now (bytes_of_each lists.now) status) }
+    ensures quiet { Quiet (H.world host.old) (H.world host.new) }
 {
-    let copy = match Vec::from_slice(alloc, first) {
-        Ok(copy) => copy,
-        Err(_) => {
-            host.complain(NO_MEMORY);
-            return Err(Status::Memory);
-        }
-    };
+    let copy = Vec::from_slice(alloc, first)?;
     match inputs_of(alloc, copy, lists) {
         Ok(inputs) => Ok(inputs),
         Err(InputsError::Refused { list, line, why }) => {
             host.complain(&edits_line(alloc, names.get(list), line, why));
             Err(Status::EditList)
         }
-        Err(InputsError::NoMemory) => {
-            host.complain(NO_MEMORY);
-            Err(Status::Memory)
-        }
+        Err(InputsError::NoMemory) => Err(Status::Memory),
     }
 }
 
@@ -156,25 +146,20 @@ fn edit_again<H: Host>(
     lists: &[Vec<u8>],
     names: &[&str],
 ) -> Result<Inputs, Status>
-    ensures inputs { IfOk result (λ inputs. AreRerunInputs first.now (bytes_of_each lists.now) inputs) }
+    ensures inputs { IfOk result (λ inputs.
+        AreRerunInputs first.now (bytes_of_each lists.now) inputs) }
     ensures few { IfOk result (λ inputs. 1 + length inputs < 2 ^ 64) }
-    ensures refused { IfErr result (λ status. WhyUnedited first.now (bytes_of_each lists.now) status) }
-    ensures asked { AsksNothing (H.world host.old) (H.world host.new) }
-    ensures stays { Stays (H.world host.old) (H.world host.new) }
-    ensures counts { NoneFell (H.world host.old) (H.world host.new) }
+    ensures refused { IfErr result (λ status.
+        WhyUnedited first.now (bytes_of_each lists.now) status) }
+    ensures quiet { Quiet (H.world host.old) (H.world host.new) }
 {
     let mut inputs = edit(alloc, host, first, lists, names)?;
     let _count = inputs.len();
     if lists.is_empty() {
         return Ok(inputs);
     }
-    match inputs.next() {
-        Ok(_) => Ok(inputs),
-        Err(_) => {
-            host.complain(NO_MEMORY);
-            Err(Status::Memory)
-        }
-    }
+    inputs.next()?;
+    Ok(inputs)
 }
 
 /// The limits of the rounds of a line that reruns a memo: each is the line's, or the memo's where it has none.
@@ -199,49 +184,45 @@ fn after_memo(
     limits: Limits,
     asked: Asked,
 ) -> Result<Plan, AllocError>
-    ensures beginning { IfOk result (λ plan. beginning_said plan ≡ begin.after_memo history limits asked) }
+    ensures beginning { IfOk result (λ plan. beginning_said plan.beginning
+        ≡ begin.after_memo history limits asked) }
     ensures inputs { IfOk result (λ plan. plan.inputs ≡ inputs) }
 {
     let input = Vec::from_slice(alloc, history.setup().input())?;
     let setup = history.setup().with(input, limits)?;
     let past = Arc::new(alloc, history)?;
-    Ok(Plan {
+    let beginning = Beginning {
         number: 1,
         past: Some(past),
         setup,
-        inputs,
         asked,
-    })
+    };
+    Ok(Plan { beginning, inputs })
 }
 
 /// The plan of rounds from scratch on these inputs.
 pub fn from_scratch(setup: Setup, inputs: Inputs, asked: Asked) -> Plan
-    ensures beginning { beginning_said result ≡ begin.from_scratch setup asked }
+    ensures beginning { beginning_said result.beginning ≡ begin.from_scratch setup asked }
     ensures inputs { result.inputs ≡ inputs }
     ensures few { length inputs < 2 ^ 64 }
 {
     let _count = inputs.len();
-    Plan {
+    let beginning = Beginning {
         number: 0,
         past: None,
         setup,
-        inputs,
         asked,
-    }
+    };
+    Plan { beginning, inputs }
 }
 
 /// What rounds a line asks for that runs a guest: its files are read, the executable is looked at, and then the edit
 /// lists are, all of them in order.
 pub fn prepare<H: Host>(alloc: Global, host: &mut H, line: &RunLine<'_>) -> Result<Plan, Status>
-    ensures plan { IfOk result (λ plan. IsRunPlan (run_said line.now) (H.world host.old) (plan_said plan)) }
-    ensures playable { IfOk result (λ plan. CanBePlayed (plan_said plan)) }
-    ensures spelled { IfOk result (λ plan. CanBeSpelled (plan_said plan)) }
-    ensures asked { IfOk result (λ _. AsksForFiles (files_named (Runs (run_said line.now)))
-        (H.world host.old) (H.world host.new)) }
-    ensures refused { IfErr result (λ status. WhyUnplanned (Runs (run_said line.now))
+    ensures plan { IfOk result (λ plan. IsPrepared (Runs (run_said line.now))
+        (H.world host.old) (H.world host.new) (plan_said plan)) }
+    ensures refused { IfErr result (λ status. EndsEarly (Runs (run_said line.now))
         (H.world host.old) (H.world host.new) status) }
-    ensures stays { Stays (H.world host.old) (H.world host.new) }
-    ensures counts { NoneFell (H.world host.old) (H.world host.new) }
 {
     let Files { elf, input, lists } = read_files(alloc, host, line)?;
     let setup = set_up(alloc, host, elf, input, line.limits)?;
@@ -266,15 +247,10 @@ pub fn prepare_rerun<H: Host>(
     host: &mut H,
     line: &RerunLine<'_>,
 ) -> Result<Plan, Status>
-    ensures plan { IfOk result (λ plan. IsRerunPlan (rerun_said line.now) (H.world host.old) (plan_said plan)) }
-    ensures playable { IfOk result (λ plan. CanBePlayed (plan_said plan)) }
-    ensures spelled { IfOk result (λ plan. CanBeSpelled (plan_said plan)) }
-    ensures asked { IfOk result (λ _. AsksForFiles (files_named (Reruns (rerun_said line.now)))
-        (H.world host.old) (H.world host.new)) }
-    ensures refused { IfErr result (λ status. WhyUnplanned (Reruns (rerun_said line.now))
+    ensures plan { IfOk result (λ plan. IsPrepared (Reruns (rerun_said line.now))
+        (H.world host.old) (H.world host.new) (plan_said plan)) }
+    ensures refused { IfErr result (λ status. EndsEarly (Reruns (rerun_said line.now))
         (H.world host.old) (H.world host.new) status) }
-    ensures stays { Stays (H.world host.old) (H.world host.new) }
-    ensures counts { NoneFell (H.world host.old) (H.world host.new) }
 {
     let RerunFiles { memo, lists } = read_rerun_files(alloc, host, line)?;
     let history = recall(alloc, host, memo.as_slice())?;
@@ -290,11 +266,5 @@ pub fn prepare_rerun<H: Host>(
         reach: line.reach,
         progress: line.progress,
     };
-    match after_memo(alloc, history, inputs, limits, asked) {
-        Ok(plan) => Ok(plan),
-        Err(_) => {
-            host.complain(NO_MEMORY);
-            Err(Status::Memory)
-        }
-    }
+    Ok(after_memo(alloc, history, inputs, limits, asked)?)
 }

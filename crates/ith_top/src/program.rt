@@ -1,11 +1,12 @@
 //! What the program does of a line, from the first read to the last write.
 
-ghost use Rattle.std.specs.Prelude.{◌≡◌, option_map, map, string_bytes, IfOk, IfErr};
-ghost use Rattle.ith_host.specs.World.{NoneFell, AsksNothing};
+ghost use Rattle.std.specs.Prelude.{◌≡◌, option_map, map, string_bytes, IfOk, IfErr, Some};
+ghost use Rattle.ith_host.specs.World.{AsksNothing};
 ghost use Rattle.ith_words.specs.Words as said;
 ghost use Rattle.ith_words.specs.Words.{Runs, Reruns};
 ghost use Rattle.ith_words.specs.Said.{run_said, rerun_said};
-ghost use Rattle.ith_top.specs.Ends.{RoundsEnd, Ends};
+ghost use Rattle.ith_top.specs.Statuses.{status_in};
+ghost use Rattle.ith_top.specs.Ends.{Ends};
 ghost use Rattle.ith_top.specs.Counting.{MakesRounds, RoundsSpend};
 ghost use Rattle.ith_top.specs.Refusals.{WhyUndone};
 ghost use Rattle.ith_top.specs.Playing.{plan_said, CanBePlayed, CanBeSpelled, IsCarriedOut};
@@ -40,21 +41,19 @@ fn carry_out<R: Threads + Wait + Sync, H: Host, G: Gate + Sync>(
 ) -> Result<bool, Status>
     requires playable { CanBePlayed (plan_said plan) }
     requires spelled { CanBeSpelled (plan_said plan) }
-    ensures done { IfOk result (λ exits. IsCarriedOut (option_map (λ name. name.now) kept.entry) crew.old.workers
-        (plan_said plan) (H.world host.old) (H.world host.new) crew.old.work crew.new.work exits) }
-    ensures refused { IfErr result (λ status. WhyUndone (option_map (λ name. name.now) kept.entry) crew.old.workers
-        (plan_said plan) (H.world host.old) (H.world host.new) crew.old.work crew.new.work status) }
+    ensures done { IfOk result (λ exits.
+        IsCarriedOut (option_map (λ name. name.now) kept.entry) crew.old.workers (plan_said plan)
+        (H.world host.old) (H.world host.new) crew.old.work crew.new.work exits) }
+    ensures refused { IfErr result (λ status.
+        WhyUndone (option_map (λ name. name.now) kept.entry) crew.old.workers (plan_said plan)
+        (H.world host.old) (H.world host.new) crew.old.work crew.new.work status) }
     ensures asked { AsksNothing (H.world host.old) (H.world host.new) }
-    ensures counts { NoneFell (H.world host.old) (H.world host.new) }
 {
     let Outcome { exits, left } = make_rounds(alloc, host, plan, crew)?;
-    match kept {
-        Some(name) => match keep(alloc, host, name, &left) {
-            Ok(()) => Ok(exits),
-            Err(status) => Err(status),
-        },
-        None => Ok(exits),
+    if let Some(name) = kept {
+        keep(alloc, host, name, &left)?;
     }
+    Ok(exits)
 }
 
 /// All that a line that runs a guest asks for.
@@ -63,22 +62,17 @@ fn run<R: Threads + Wait + Sync, H: Host, G: Gate + Sync>(
     host: &mut H,
     line: &RunLine<'_>,
     crew: &mut Crew<'_, R, G>,
-) -> Status
+) -> Result<bool, Status>
     requires { crew.old.workers ≡ line.now.workers }
-    ensures ends { RoundsEnd (Runs (run_said line.now)) (H.world host.old) (H.world host.new) result }
-    ensures made { MakesRounds (Runs (run_said line.now)) crew.old.work.rounds crew.new.work.rounds result }
+    ensures ends { Ends (Some (Runs (run_said line.now)))
+        (H.world host.old) (H.world host.new) (status_in result) }
+    ensures made { MakesRounds (Runs (run_said line.now))
+        crew.old.work.rounds crew.new.work.rounds (status_in result) }
     ensures turns { RoundsSpend (Runs (run_said line.now)) (H.world host.old) (H.world host.new)
-        crew.old.work crew.new.work result }
+        crew.old.work crew.new.work (status_in result) }
 {
-    let plan = match prepare(alloc, host, line) {
-        Ok(plan) => plan,
-        Err(status) => return status,
-    };
-    match carry_out(alloc, host, plan, crew, line.kept) {
-        Ok(true) => Status::Finished,
-        Ok(false) => Status::Unfinished,
-        Err(status) => status,
-    }
+    let plan = prepare(alloc, host, line)?;
+    carry_out(alloc, host, plan, crew, line.kept)
 }
 
 /// All that a line that reruns a memo asks for.
@@ -87,33 +81,29 @@ fn rerun<R: Threads + Wait + Sync, H: Host, G: Gate + Sync>(
     host: &mut H,
     line: &RerunLine<'_>,
     crew: &mut Crew<'_, R, G>,
-) -> Status
+) -> Result<bool, Status>
     requires { crew.old.workers ≡ line.now.workers }
-    ensures ends { RoundsEnd (Reruns (rerun_said line.now)) (H.world host.old) (H.world host.new) result }
-    ensures made { MakesRounds (Reruns (rerun_said line.now)) crew.old.work.rounds crew.new.work.rounds result }
+    ensures ends { Ends (Some (Reruns (rerun_said line.now)))
+        (H.world host.old) (H.world host.new) (status_in result) }
+    ensures made { MakesRounds (Reruns (rerun_said line.now))
+        crew.old.work.rounds crew.new.work.rounds (status_in result) }
     ensures turns { RoundsSpend (Reruns (rerun_said line.now)) (H.world host.old) (H.world host.new)
-        crew.old.work crew.new.work result }
+        crew.old.work crew.new.work (status_in result) }
 {
-    let plan = match prepare_rerun(alloc, host, line) {
-        Ok(plan) => plan,
-        Err(status) => return status,
-    };
-    match carry_out(alloc, host, plan, crew, line.kept) {
-        Ok(true) => Status::Finished,
-        Ok(false) => Status::Unfinished,
-        Err(status) => status,
-    }
+    let plan = prepare_rerun(alloc, host, line)?;
+    carry_out(alloc, host, plan, crew, line.kept)
 }
 
-/// What the words ask for is done.
-pub fn status_of<R: Threads + Wait + Sync, H: Host, G: Gate + Sync>(
+/// All that the words ask for.
+fn do_line<R: Threads + Wait + Sync, H: Host, G: Gate + Sync>(
     rt: &R,
     alloc: Global,
     words: &[String],
     host: &mut H,
     gate: &G,
-) -> Status
-    ensures { Ends (said.line_of (map string_bytes words.now)) (H.world host.old) (H.world host.new) result }
+) -> Result<bool, Status>
+    ensures { Ends (said.line_of (map string_bytes words.now))
+        (H.world host.old) (H.world host.new) (status_in result) }
 {
     match line_of(alloc, words) {
         Ok(Line::Run(line)) => run(alloc, host, &line, &mut Crew::new(rt, line.workers, gate)),
@@ -131,11 +121,31 @@ pub fn status_of<R: Threads + Wait + Sync, H: Host, G: Gate + Sync>(
         ),
         Err(LineFault::Refused(text)) => {
             host.complain(text.as_slice());
-            Status::Words
+            Err(Status::Words)
         }
-        Err(LineFault::Memory) => {
+        Err(LineFault::Memory) => Err(Status::Memory),
+    }
+}
+
+/// What the words ask for is done. If the host's memory ran out, it is said here, and nowhere else.
+#[tactic(auto, using(crate::proofs::Ending::short_of_memory))]
+pub fn status_of<R: Threads + Wait + Sync, H: Host, G: Gate + Sync>(
+    rt: &R,
+    alloc: Global,
+    words: &[String],
+    host: &mut H,
+    gate: &G,
+) -> Status
+    ensures { Ends (said.line_of (map string_bytes words.now))
+        (H.world host.old) (H.world host.new) result }
+{
+    match do_line(rt, alloc, words, host, gate) {
+        Ok(true) => Status::Finished,
+        Ok(false) => Status::Unfinished,
+        Err(Status::Memory) => {
             host.complain(NO_MEMORY);
             Status::Memory
         }
+        Err(status) => status,
     }
 }

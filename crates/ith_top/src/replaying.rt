@@ -1,25 +1,23 @@
 //! What the program does of a line that replays a schedule.
 
-ghost use Rattle.std.specs.Prelude.{◌≡◌, ◌+◌, Ok, IfOk, IfErr};
-ghost use Rattle.ith_host.specs.World.{Stays, NoneFell, AsksNothing};
-ghost use Rattle.plain_machine.specs.Replaying.{IsOutcomeOf, IsCauseOf};
+ghost use Rattle.std.specs.Prelude.{◌≡◌, ◌+◌, Ok, IfOk, IfErr, Some};
+ghost use Rattle.plain_machine.specs.Replaying.{IsOutcomeOf};
 ghost use Rattle.rerun_spec.specs.Reports as reports;
 ghost use Rattle.schedule_list.specs.Schedule.{Says};
 ghost use Rattle.ith_words.specs.Words.{Replays};
 ghost use Rattle.ith_words.specs.Said.{replay_said};
-ghost use Rattle.ith_top.specs.Statuses.{IsUndone};
-ghost use Rattle.ith_top.specs.Files.{files_named, AsksForFiles};
-ghost use Rattle.ith_top.specs.Ends.{ReplayEnds};
+ghost use Rattle.ith_top.specs.Statuses.{status_in};
+ghost use Rattle.ith_top.specs.Files.{Quiet};
+ghost use Rattle.ith_top.specs.Ends.{Ends, EndsEarly};
 ghost use Rattle.ith_top.specs.Counting.{ReplaySpends};
 ghost use Rattle.ith_top.specs.Refusals.{WhyNoThreads, WhyUnreplayed};
 ghost use Rattle.ith_top.specs.Playing.{IsAskedReplay, TellsOfReplay, told_of_outcome};
 
-use super::complaints::{INCOMPLETE, NO_MEMORY, schedule_line};
+use super::complaints::{INCOMPLETE, schedule_line};
 use super::files::{ReplayFiles, read_replay_files};
 use super::outside::print_text;
 use super::plan::set_up;
 use super::report::is_exit;
-use super::rounds::no_memory;
 use super::status::Status;
 use ith_host::Host;
 use ith_words::ReplayLine;
@@ -35,9 +33,7 @@ use turn_count::Turns;
 fn threads_of<H: Host>(alloc: Global, host: &mut H, text: &[u8]) -> Result<Vec<u8>, Status>
     ensures threads { IfOk result (λ threads. Says text.now (Ok threads.items)) }
     ensures refused { IfErr result (λ status. WhyNoThreads text.now status) }
-    ensures asked { AsksNothing (H.world host.old) (H.world host.new) }
-    ensures stays { Stays (H.world host.old) (H.world host.new) }
-    ensures counts { NoneFell (H.world host.old) (H.world host.new) }
+    ensures quiet { Quiet (H.world host.old) (H.world host.new) }
 {
     match parse(alloc, text) {
         Ok(threads) => Ok(threads),
@@ -45,31 +41,21 @@ fn threads_of<H: Host>(alloc: Global, host: &mut H, text: &[u8]) -> Result<Vec<u
             host.complain(&schedule_line(alloc, "token", number));
             Err(Status::Schedule)
         }
-        Err(ParseError::NoMemory) => Err(no_memory(host)),
+        Err(ParseError::NoMemory) => Err(Status::Memory),
     }
 }
 
-/// What is to be replayed.
-#[derive(Drop)]
-pub struct Asked {
-    /// The executable, the input, and the limits.
-    pub setup: Setup,
-    /// The threads of the schedule, in order.
-    pub threads: Vec<u8>,
-}
-
-/// What a line asks for that replays a schedule: its files are read, the executable is looked at, and then the
-/// schedule's tokens are.
-fn prepare<H: Host>(alloc: Global, host: &mut H, line: &ReplayLine<'_>) -> Result<Asked, Status>
-    ensures replay { IfOk result (λ asked. IsAskedReplay (replay_said line.now) (H.world host.old)
-        asked.setup asked.threads.items) }
-    ensures asked { IfOk result (λ _. AsksForFiles (files_named (Replays (replay_said line.now)))
-        (H.world host.old) (H.world host.new)) }
-    ensures refused { IfErr result (λ status. ReplayEnds (replay_said line.now)
+/// The executable, the input and the limits of a line that replays a schedule, and the schedule's text: its files are
+/// read, and then the executable is looked at.
+fn prepare<H: Host>(
+    alloc: Global,
+    host: &mut H,
+    line: &ReplayLine<'_>,
+) -> Result<(Setup, Vec<u8>), Status>
+    ensures replay { IfOk result (λ r. IsAskedReplay (replay_said line.now)
+        (H.world host.old) (H.world host.new) r.0 r.1.items) }
+    ensures refused { IfErr result (λ status. EndsEarly (Replays (replay_said line.now))
         (H.world host.old) (H.world host.new) status) }
-    ensures undone { IfErr result IsUndone }
-    ensures stays { Stays (H.world host.old) (H.world host.new) }
-    ensures counts { NoneFell (H.world host.old) (H.world host.new) }
 {
     let ReplayFiles {
         elf,
@@ -77,27 +63,26 @@ fn prepare<H: Host>(alloc: Global, host: &mut H, line: &ReplayLine<'_>) -> Resul
         schedule,
     } = read_replay_files(alloc, host, line)?;
     let setup = set_up(alloc, host, elf, input, line.limits)?;
-    let threads = threads_of(alloc, host, schedule.as_slice())?;
-    Ok(Asked { setup, threads })
+    Ok((setup, schedule))
 }
 
-/// What a schedule comes to from scratch.
+/// What the text of a schedule comes to from scratch, and the threads that it says.
 fn outcome_of<H: Host>(
     alloc: Global,
     host: &mut H,
     setup: &Setup,
-    threads: &[u8],
+    text: &[u8],
     turns: &mut Turns,
-) -> Result<Outcome, Status>
-    ensures outcome { IfOk result (λ outcome. IsOutcomeOf setup.now threads.now outcome) }
-    ensures cost { IfOk result (λ outcome. turns.new ≡ turns.old + outcome.instructions) }
-    ensures refused { IfErr result (λ status. WhyUnreplayed setup.now threads.now status) }
-    ensures asked { AsksNothing (H.world host.old) (H.world host.new) }
-    ensures stays { Stays (H.world host.old) (H.world host.new) }
-    ensures counts { NoneFell (H.world host.old) (H.world host.new) }
+) -> Result<(Vec<u8>, Outcome), Status>
+    ensures threads { IfOk result (λ r. Says text.now (Ok r.0.items)) }
+    ensures outcome { IfOk result (λ r. IsOutcomeOf setup.now r.0.items r.1) }
+    ensures cost { IfOk result (λ r. turns.new ≡ turns.old + r.1.instructions) }
+    ensures refused { IfErr result (λ status. WhyUnreplayed setup.now text.now status) }
+    ensures quiet { Quiet (H.world host.old) (H.world host.new) }
 {
-    match replay_from_scratch(alloc, setup, threads, turns) {
-        Ok(outcome) => Ok(outcome),
+    let threads = threads_of(alloc, host, text)?;
+    match replay_from_scratch(alloc, setup, threads.as_slice(), turns) {
+        Ok(outcome) => Ok((threads, outcome)),
         Err(ReplayError::Forbidden(number)) => {
             host.complain(&schedule_line(alloc, "entry", number));
             Err(Status::Schedule)
@@ -106,7 +91,7 @@ fn outcome_of<H: Host>(
             host.complain(INCOMPLETE);
             Err(Status::Schedule)
         }
-        Err(ReplayError::NoMemory) => Err(no_memory(host)),
+        Err(ReplayError::NoMemory) => Err(Status::Memory),
     }
 }
 
@@ -154,25 +139,15 @@ pub fn replay<H: Host>(
     host: &mut H,
     line: &ReplayLine<'_>,
     turns: &mut Turns,
-) -> Status
-    ensures ends { ReplayEnds (replay_said line.now) (H.world host.old) (H.world host.new) result }
-    ensures cost { ReplaySpends (replay_said line.now) (H.world host.old) (H.world host.new) turns.old turns.new result }
+) -> Result<bool, Status>
+    ensures ends { Ends (Some (Replays (replay_said line.now)))
+        (H.world host.old) (H.world host.new) (status_in result) }
+    ensures cost { ReplaySpends (replay_said line.now) (H.world host.old) (H.world host.new)
+        turns.old turns.new (status_in result) }
 {
-    let Asked { setup, threads } = match prepare(alloc, host, line) {
-        Ok(asked) => asked,
-        Err(status) => return status,
-    };
-    let outcome = match outcome_of(alloc, host, &setup, threads.as_slice(), turns) {
-        Ok(outcome) => outcome,
-        Err(status) => return status,
-    };
-    let text = match text_of(alloc, threads.as_slice(), &outcome) {
-        Ok(text) => text,
-        Err(_) => return no_memory(host),
-    };
-    match print_text(alloc, host, text.as_slice()) {
-        Ok(()) if is_exit(Some(outcome.ending)) => Status::Finished,
-        Ok(()) => Status::Unfinished,
-        Err(status) => status,
-    }
+    let (setup, schedule) = prepare(alloc, host, line)?;
+    let (threads, outcome) = outcome_of(alloc, host, &setup, schedule.as_slice(), turns)?;
+    let text = text_of(alloc, threads.as_slice(), &outcome)?;
+    print_text(alloc, host, text.as_slice())?;
+    Ok(is_exit(Some(outcome.ending)))
 }

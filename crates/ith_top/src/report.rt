@@ -1,19 +1,19 @@
 //! A round that a line's workers make, and its report.
 
-ghost use Rattle.std.specs.Prelude.{◌≡◌, ◌+◌, ◌≤◌, length, option_map, IfOk};
+ghost use Rattle.std.specs.Prelude.{◌≡◌, ◌+◌, ◌^◌, ◌<◌, ◌≤◌, length, option_map, IfOk};
 ghost use Rattle.std.specs.Arc.{arc_value};
 ghost use Rattle.machine_spec.specs.declared.TheConstants.{MOST_INPUT_BYTES};
 ghost use Rattle.propagate.specs.Kept.{IsOfMap};
 ghost use Rattle.rerun_spec.specs.Reports as reports;
-ghost use Rattle.ith_top.specs.Playing.{beginning_of, IsMadeOn};
+ghost use Rattle.ith_top.specs.Playing.{beginning_said, text_by, IsMadeOn};
 
 use super::crew::{Crew, Made};
+use super::plan::Beginning;
 use ith_host::Gate;
 use machine_spec::End;
 use propagate::Round;
-use release_core::{History, Setup};
 use rerun_spec::Asked;
-use round_report::{Digested, Told, text};
+use round_report::{Digested, Told, short, text};
 use std::alloc::{AllocError, Global};
 use std::sync::{Arc, Wait};
 use std::thread::Threads;
@@ -25,22 +25,8 @@ pub struct Played {
     pub text: Vec<u8>,
     /// Whether it ended by exit.
     pub exited: bool,
-    /// What it leaves to the next round.
-    pub left: Arc<History>,
-}
-
-/// A round that comes next, of a line's program: its number, its input, and the history that it goes by, if there is
-/// one; and which lines are asked for in its report.
-#[derive(Drop)]
-pub struct Next {
-    /// How many rounds come before it.
-    pub number: usize,
-    /// Its input.
-    pub input: Vec<u8>,
-    /// What the round before it left.
-    pub past: Option<Arc<History>>,
-    /// Which lines are asked for in its report.
-    pub asked: Asked,
+    /// What the next round begins with.
+    pub next: Beginning,
 }
 
 /// What there is to tell of a round, with the lines that are asked for, and with the shares of its workers.
@@ -70,6 +56,31 @@ fn told_of<'a>(
     })
 }
 
+/// How a round is told.
+#[derive(Clone, Copy)]
+pub enum Telling {
+    /// By its report.
+    Report,
+    /// By one line.
+    Line,
+}
+
+/// The text that tells of a round. The digest of the last memory that was told is taken if memory is the same.
+fn text_of(
+    alloc: Global,
+    number: usize,
+    told: &Told<'_>,
+    telling: Telling,
+    last: &mut Option<Digested>,
+) -> Result<Vec<u8>, AllocError>
+    ensures { IfOk result (λ text. text.items ≡ text_by telling number told.now) }
+{
+    match telling {
+        Telling::Report => text(alloc, number as u64, told, last),
+        Telling::Line => short(alloc, number as u64, told),
+    }
+}
+
 /// Whether an end is an exit.
 pub fn is_exit(ending: Option<End>) -> bool
     ensures { result ≡ reports.is_exit ending }
@@ -77,33 +88,35 @@ pub fn is_exit(ending: Option<End>) -> bool
     matches!(ending, Some(End::Exit(_)))
 }
 
-/// The next round of the program of a line's first setup, made by the line's workers, with its text. The digest of the
-/// last memory that was told is taken where memory is the same.
+/// A round of this beginning, on this input, made by the line's workers, with its text.
 ///
 /// # Errors
 ///
-/// An error where the host's memory ran out.
+/// An error if the host's memory ran out.
 pub fn make_round<R: Threads + Wait + Sync, G: Gate + Sync>(
     alloc: Global,
-    setup: &Setup,
-    next: Next,
+    beginning: Beginning,
+    input: Vec<u8>,
     crew: &mut Crew<'_, R, G>,
+    telling: Telling,
     last: &mut Option<Digested>,
 ) -> Result<Played, AllocError>
-    requires short { length next.input.items ≤ MOST_INPUT_BYTES }
-    requires same { IsOfMap (option_map arc_value next.past) setup.now }
-    ensures played { IfOk result (λ played. IsMadeOn crew.old.workers (beginning_of setup.now next) next.input.items
-        crew.old.work.turns crew.new.work.turns played.text.items played.exited (arc_value played.left)) }
+    requires short { length input.items ≤ MOST_INPUT_BYTES }
+    requires same { IsOfMap (option_map arc_value beginning.past) beginning.setup }
+    requires few { beginning.number + 1 < 2 ^ 64 }
+    ensures played { IfOk result (λ played. IsMadeOn crew.old.workers telling
+        (beginning_said beginning) input.items crew.old.work.turns crew.new.work.turns
+        played.text.items played.exited (beginning_said played.next)) }
     ensures made { IfOk result (λ _. crew.new.work.rounds ≡ crew.old.work.rounds + 1) }
     ensures one { crew.new.work.rounds ≤ crew.old.work.rounds + 1 }
     ensures workers { crew.new.workers ≡ crew.old.workers }
 {
-    let Next {
+    let Beginning {
         number,
-        input,
         past,
+        setup,
         asked,
-    } = next;
+    } = beginning;
     let start = setup.with(input, setup.limits())?;
     let Made {
         round,
@@ -111,11 +124,17 @@ pub fn make_round<R: Threads + Wait + Sync, G: Gate + Sync>(
         progress,
     } = crew.make(alloc, number as u64, start, past, asked.progress)?;
     let told = told_of(&round, asked, shares.as_slice(), progress.as_slice())?;
-    let text = text(alloc, number as u64, &told, last)?;
+    let text = text_of(alloc, number, &told, telling, last)?;
     let exited = is_exit(round.end());
     let Some(left) = round.into_history() else {
         unreachable!()
     };
     let left = Arc::new(alloc, left)?;
-    Ok(Played { text, exited, left })
+    let next = Beginning {
+        number: number + 1,
+        past: Some(left),
+        setup,
+        asked,
+    };
+    Ok(Played { text, exited, next })
 }

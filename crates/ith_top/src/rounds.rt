@@ -1,17 +1,15 @@
 //! The rounds of a line, one after the other.
 
-ghost use Rattle.std.specs.Prelude.{◌≡◌, IfOk, IfErr};
+ghost use Rattle.std.specs.Prelude.{IfOk, IfErr};
 ghost use Rattle.std.specs.Arc.{arc_value};
-ghost use Rattle.ith_host.specs.World.{Stays, NoneFell, AsksNothing};
+ghost use Rattle.ith_host.specs.World.{NoneFell, AsksNothing};
 ghost use Rattle.ith_top.specs.Refusals.{IsPlayedInPart};
 ghost use Rattle.ith_top.specs.Playing.{plan_said, CanBePlayed, IsPlayed};
-ghost use Rattle.ith_top.specs.declared.status.Status.TheVariants as status;
 
-use super::complaints::NO_MEMORY;
 use super::crew::Crew;
 use super::outside::print_text;
-use super::plan::Plan;
-use super::report::{Next, Played, make_round};
+use super::plan::{Beginning, Plan};
+use super::report::{Played, Telling, make_round};
 use super::status::Status;
 use ith_host::{Gate, Host};
 use release_core::History;
@@ -28,17 +26,6 @@ pub struct Outcome {
     pub left: Arc<History>,
 }
 
-/// Says that the host's memory ran out.
-pub fn no_memory<H: Host>(host: &mut H) -> Status
-    ensures status { result ≡ status.Memory }
-    ensures asked { AsksNothing (H.world host.old) (H.world host.new) }
-    ensures stays { Stays (H.world host.old) (H.world host.new) }
-    ensures counts { NoneFell (H.world host.old) (H.world host.new) }
-{
-    host.complain(NO_MEMORY);
-    Status::Memory
-}
-
 /// Makes the rounds of a plan, each going by what the one before it leaves, and prints the text of each before the next
 /// begins.
 pub fn make_rounds<R: Threads + Wait + Sync, H: Host, G: Gate + Sync>(
@@ -49,46 +36,36 @@ pub fn make_rounds<R: Threads + Wait + Sync, H: Host, G: Gate + Sync>(
 ) -> Result<Outcome, Status>
     requires { CanBePlayed (plan_said plan) }
     ensures played { IfOk result (λ outcome. IsPlayed crew.old.workers (plan_said plan)
-        (H.world host.old) (H.world host.new) crew.old.work crew.new.work outcome.exits (arc_value outcome.left)) }
+        (H.world host.old) (H.world host.new) crew.old.work crew.new.work outcome.exits
+        (arc_value outcome.left)) }
     ensures refused { IfErr result (λ status. IsPlayedInPart crew.old.workers (plan_said plan)
         (H.world host.old) (H.world host.new) crew.old.work crew.new.work status) }
     ensures asked { AsksNothing (H.world host.old) (H.world host.new) }
     ensures counts { NoneFell (H.world host.old) (H.world host.new) }
 {
     let Plan {
-        number: first,
-        mut past,
-        setup,
+        mut beginning,
         mut inputs,
-        asked,
     } = plan;
     let mut last = None;
     let mut exits = true;
     for place in 0..inputs.len() {
-        let input = match inputs.next() {
-            Ok(Some(input)) => input,
-            Ok(None) => unreachable!(),
-            Err(_) => return Err(no_memory(host)),
+        let Some(input) = inputs.next()? else {
+            unreachable!()
         };
-        let ahead = Next {
-            number: first + place,
+        let Played { text, exited, next } = make_round(
+            alloc,
+            beginning,
             input,
-            past,
-            asked,
-        };
-        let Played { text, exited, left } = match make_round(
-            alloc, &setup, ahead, crew, &mut last,
-        ) {
-            Ok(played) => played,
-            Err(_) => return Err(no_memory(host)),
-        };
-        match print_text(alloc, host, text.as_slice()) {
-            Ok(()) => {}
-            Err(status) => return Err(status),
-        }
-        past = Some(left);
+            crew,
+            Telling::Report,
+            &mut last,
+        )?;
+        print_text(alloc, host, text.as_slice())?;
+        beginning = next;
         exits &= exited;
     }
+    let Beginning { past, .. } = beginning;
     match past {
         Some(left) => Ok(Outcome { exits, left }),
         None => unreachable!(),

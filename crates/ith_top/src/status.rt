@@ -2,6 +2,9 @@
 
 ghost use Rattle.std.specs.Prelude.{◌≡◌};
 ghost use Rattle.ith_top.specs.Statuses.{code_of};
+ghost use Rattle.ith_top.specs.declared.status.Status.TheVariants.{Memory};
+
+use std::alloc::{AllocError, AllocFailed};
 
 /// How a call of the program ends. Its number is the program's exit status.
 #[derive(Clone, Copy, Debug, PartialEq, Eq)]
@@ -53,5 +56,21 @@ impl Status {
             Status::Schedule => 10,
             Status::Untrue => 11,
         }
+    }
+}
+
+impl From<AllocError> for Status {
+    ghost from_gives = { λ _ status. status ≡ Memory };
+
+    fn from(_error: AllocError) -> Status {
+        Status::Memory
+    }
+}
+
+impl<T: Drop> From<AllocFailed<T>> for Status {
+    ghost from_gives = { λ _ status. status ≡ Memory };
+
+    fn from(_error: AllocFailed<T>) -> Status {
+        Status::Memory
     }
 }

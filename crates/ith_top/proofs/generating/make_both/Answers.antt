@@ -1,35 +1,47 @@
 -- Both rounds of the generated guest, the second by what the first leaves.
-use Rattle.std.proofs.Common.{rules, ◌≡◌, ◌∷◌, ◌∙◌, ◌&&◌, ap, subst, arith}
-use Rattle.std.specs.Arc.{arc_value}
+use Rattle.std.proofs.Common.{rules, ◌≡◌, ◌∷◌, ◌∙◌, ◌&&◌, ap, length, subst, arith}
 use Rattle.rerun_spec.specs.Inputs.{AreShort}
-use Rattle.rerun_spec.specs.Rounds.{nothing_asked, from_scratch}
+use Rattle.rerun_spec.specs.Rounds.{Beginning}
 use Rattle.ith_top.specs.Contents.{Plan}
-use Rattle.ith_top.specs.Playing.{plan_said}
+use Rattle.ith_top.specs.Playing.{beginning_said, plan_said}
+use Rattle.ith_top.specs.declared.report.Telling.TheVariants as telling
 use Rattle.ith_top.proofs.Going.{short_first, short_rest}
-use Rattle.ith_top.proofs.Making.{line_map}
+use Rattle.ith_top.proofs.Making.{left_map}
 use Rattle.ith_top.proofs.Generated.{both_generated}
 use Rattle.ith_top.proofs.generating.make_both.Goals as goal
 use Rattle.ith_top.proofs.generating.make_both.Goals.{then-first, else-first}
 
-pub make_line-requires-2-clause-short : goal.make_line-requires-2-clause-short
-make_line-requires-2-clause-short g c = λ lifetimes bounds.
-    let p : Plan = plan_said c.in_ok-setup.field-0 in
+pub make_round-requires-2-clause-short : goal.make_round-requires-2-clause-short
+make_round-requires-2-clause-short g c = λ lifetimes bounds.
+    let p : Plan = plan_said c.in_ok-beginning.field-0 in
     let first : p.inputs ≡ c.in-Some.input.items ∷ c.next.new.self = rw c.in-Some.is at c.in_ok-input.ensures.taken in
     let second : c.next.new.self ≡ c.in-Some-2.edited.items ∷ c.next-2.new.self =
     rw c.in-Some-2.is at c.in_ok-edited.ensures.taken in
     short_first c.in-Some-2.edited.items c.next-2.new.self
     (subst AreShort second (short_rest c.in-Some.input.items c.next.new.self
-    (subst AreShort first c.in_ok-setup.ensures.playable.short)))
+    (subst AreShort first c.in_ok-beginning.ensures.playable.short)))
 
-pub make_line-requires-2-clause-same : goal.make_line-requires-2-clause-same
-make_line-requires-2-clause-same g c = λ lifetimes bounds.
-    line_map c.args.crew.now.workers (from_scratch c.in_ok-setup.field-0.setup nothing_asked) c.in-Some.input.items
-    c.args.crew.now.work.turns c.make_line.new.crew.work.turns
-    c.in_ok-first.first.text.items c.in_ok-first.first.exited (arc_value c.in_ok-first.first.left) c.in_ok-first.ensures.played
+pub make_round-requires-2-clause-same : goal.make_round-requires-2-clause-same
+make_round-requires-2-clause-same g c = λ lifetimes bounds.
+    left_map c.args.crew.now.workers telling.Line (beginning_said c.in_ok-beginning.field-0.beginning)
+    c.in-Some.input.items c.args.crew.now.work.turns c.make_round.new.crew.work.turns
+    c.in_ok-first.first.text.items c.in_ok-first.first.exited (beginning_said c.in_ok-first.first.next)
+    c.in_ok-first.ensures.played
+
+pub make_round-requires-2-clause-few : goal.make_round-requires-2-clause-few
+make_round-requires-2-clause-few g c = λ lifetimes bounds.
+    let p : Plan = plan_said c.in_ok-beginning.field-0 in
+    let first : p.inputs ≡ c.in-Some.input.items ∷ c.next.new.self = rw c.in-Some.is at c.in_ok-input.ensures.taken in
+    let second : c.next.new.self ≡ c.in-Some-2.edited.items ∷ c.next-2.new.self =
+    rw c.in-Some-2.is at c.in_ok-edited.ensures.taken in
+    let count = ap length first in let more = ap length second in
+    let next = ap (λ (b : Beginning). b.number) c.in_ok-first.ensures.played.is_next in
+    let few = c.in_ok-beginning.ensures.playable.few in
+    omega arith
 
 pub returns-clause-lines : goal.returns-clause-lines
 returns-clause-lines g c =
-    let p : Plan = plan_said c.in_ok-setup.field-0 in
+    let p : Plan = plan_said c.in_ok-beginning.field-0 in
     let first : p.inputs ≡ c.in-Some.input.items ∷ c.next.new.self = rw c.in-Some.is at c.in_ok-input.ensures.taken in
     let second : c.next.new.self ≡ c.in-Some-2.edited.items ∷ c.next-2.new.self =
     rw c.in-Some-2.is at c.in_ok-edited.ensures.taken in
@@ -39,10 +51,10 @@ returns-clause-lines g c =
     elim c.if-first.branch [ then-first w ↦ search rules | else-first w ↦ search rules ] in
     both_generated c.args.crew.now.workers c.args.number p c.in-Some.input.items c.in-Some-2.edited.items
     c.next-2.new.self c.in_ok-first.first.text.items c.in_ok-second.second.text.items c.in_ok-text.text.items
-    c.in_ok-first.first.exited c.in_ok-second.second.exited c.if-first.result (arc_value c.in_ok-first.first.left)
-    (arc_value c.in_ok-second.second.left) c.args.crew.now.work c.make_line.new.crew.work c.make_line-2.new.crew.work
+    c.in_ok-first.first.exited c.in_ok-second.second.exited c.if-first.result (beginning_said c.in_ok-first.first.next)
+    (beginning_said c.in_ok-second.second.next) c.args.crew.now.work c.make_round.new.crew.work c.make_round-2.new.crew.work
     (let one = c.in_ok-first.ensures.made in let other = c.in_ok-second.ensures.made in omega arith)
-    c.in_ok-setup.ensures.plan c.in_ok-setup.ensures.playable c.in_ok-setup.ensures.spelled inputs
-    c.in_ok-first.ensures.played (rw c.make_line.ensures.workers at c.in_ok-second.ensures.played)
+    c.in_ok-beginning.ensures.plan c.in_ok-beginning.ensures.playable c.in_ok-beginning.ensures.spelled inputs
+    c.in_ok-first.ensures.played (rw c.make_round.ensures.workers at c.in_ok-second.ensures.played)
     (rw (← c.as_slice.ensures.value, ← c.as_slice-2.ensures.value) c.in_ok-text.ensures)
     ends

@@ -1,44 +1,51 @@
 -- Answers to the goals that the check leaves of `find_races`.
-use Rattle.std.proofs.Common.{◌≡◌, ◌∙◌}
+use Rattle.std.proofs.Common.{◌≡◌, ◌∙◌, inl, inr}
+use Rattle.std.proofs.lemmas.Result.{err_from_is_err_and}
 use Rattle.race_report.specs.Text.{races_listing}
-use Rattle.ith_words.specs.Said.{races_said}
 use Rattle.ith_top.specs.declared.racing.TheConstants.{MOST_RACES}
-use Rattle.ith_top.specs.Ends.{Prints}
+use Rattle.ith_words.specs.Words.{Line, FindsRaces}
+use Rattle.ith_words.specs.Said.{races_said}
+use Rattle.ith_top.specs.Files.{files_named}
+use Rattle.ith_top.specs.Ends.{HasHistory, Prints, RacesEnd}
 use Rattle.ith_top.specs.Refusals.{WhyUnprinted}
-use Rattle.ith_top.proofs.OfMemo.{races_unbegun, races_cut, raced, unraced}
+use Rattle.ith_top.proofs.Ending.{cut_ends}
+use Rattle.ith_top.proofs.Told.{has_history, told, untold}
 use Rattle.ith_top.proofs.racing.find_races.Goals as goal
 
-pub returns-in-Err : goal.returns-in-Err
-returns-in-Err g c =
-    let w = g.H.Host.world in
-    races_unbegun (races_said c.args.line.now) (w c.args.host.now) (w c.remember.new.host) c.in-Err.status
-    c.in-Err.ensures.refused
+pub returns-in_err-history : goal.returns-in_err-history
+returns-in_err-history g c =
+    let p = err_from_is_err_and c.from_residual.result c.from_residual.ensures.1 in
+    rw (p.1, p.2) (inl c.in_err-history.ensures.refused)
 
-pub returns-in-Err-listing : goal.returns-in-Err-listing
-returns-in-Err-listing g c =
+pub returns-in_err-text : goal.returns-in_err-text
+returns-in_err-text g c =
     let w = g.H.Host.world in
-    rw c.no_memory.ensures.status
-    (races_cut (races_said c.args.line.now) (w c.args.host.now) (w c.remember.new.host) (w c.no_memory.new.host)
-    c.in-Ok.ensures.asked c.no_memory.ensures.asked c.in-Ok.ensures.stays c.no_memory.ensures.stays)
+    let p = err_from_is_err_and c.from_residual-in_err-text.result c.from_residual-in_err-text.ensures.1 in
+    rw (p.1, p.2)
+    (inl (cut_ends (files_named (FindsRaces (races_said c.args.line.now))) (w c.args.host.now) (w c.remember.new.host)
+    c.in_ok-history.ensures.reads))
 
-pub returns-in-Ok-print_text : goal.returns-in-Ok-print_text
-returns-in-Ok-print_text g c =
-    let w = g.H.Host.world in let b = w c.remember.new.host in
-    let text : c.as_slice.result.now ≡ races_listing MOST_RACES c.in-Ok.history =
-    c.as_slice.ensures.value ∙ c.in-Ok-listing.ensures in
-    let prints : Prints b (w c.print_text.new.host) (races_listing MOST_RACES c.in-Ok.history) =
-    rw (← text) c.in-Ok-print_text.ensures.printed in
-    raced (races_said c.args.line.now) (w c.args.host.now) b (w c.print_text.new.host) c.in-Ok.history
-    c.in-Ok.ensures.asked c.in-Ok-print_text.ensures.asked c.in-Ok.ensures.stays c.in-Ok.ensures.history prints
+pub returns-in_err-print_text : goal.returns-in_err-print_text
+returns-in_err-print_text g c =
+    let w = g.H.Host.world in let a = w c.args.host.now in let b = w c.remember.new.host in
+    let line : Line = FindsRaces (races_said c.args.line.now) in let name = c.args.line.now.memo.now in
+    let h = c.in_ok-history.history in
+    let text : c.as_slice.result.now ≡ races_listing MOST_RACES h = c.as_slice.ensures.value ∙ c.in_ok-text.ensures in
+    let why : WhyUnprinted (races_listing MOST_RACES h) b (w c.print_text.new.host) c.in_err-print_text.field-0.0 =
+    rw (← text) c.in_err-print_text.ensures.refused in
+    let p = err_from_is_err_and c.from_residual-in_err-print_text.result c.from_residual-in_err-print_text.ensures.1 in
+    rw (p.1, p.2)
+    (untold line (HasHistory name a) (λ has. races_listing MOST_RACES has.history) (has_history name a h c.in_ok-history.ensures.history)
+    (λ s. RacesEnd (races_said c.args.line.now) a (w c.print_text.new.host) s) a b (w c.print_text.new.host) c.in_err-print_text.field-0.0
+    c.in_ok-history.ensures.reads c.print_text.ensures.asked (λ part. part) why)
 
 pub returns : goal.returns
 returns g c =
-    let w = g.H.Host.world in let b = w c.remember.new.host in
-    let text : c.as_slice.result.now ≡ races_listing MOST_RACES c.in-Ok.history =
-    c.as_slice.ensures.value ∙ c.in-Ok-listing.ensures in
-    let why : WhyUnprinted (races_listing MOST_RACES c.in-Ok.history) b (w c.print_text.new.host)
-    c.in-Err-print_text.status =
-    rw (← text) c.in-Err-print_text.ensures.refused in
-    unraced (races_said c.args.line.now) (w c.args.host.now) b (w c.print_text.new.host) c.in-Ok.history
-    c.in-Err-print_text.status c.in-Ok.ensures.asked c.in-Err-print_text.ensures.asked c.in-Ok.ensures.stays
-    c.in-Ok.ensures.counts c.in-Ok.ensures.history why
+    let w = g.H.Host.world in let a = w c.args.host.now in let b = w c.remember.new.host in
+    let line : Line = FindsRaces (races_said c.args.line.now) in let name = c.args.line.now.memo.now in
+    let h = c.in_ok-history.history in
+    let text : c.as_slice.result.now ≡ races_listing MOST_RACES h = c.as_slice.ensures.value ∙ c.in_ok-text.ensures in
+    let prints : Prints b (w c.print_text.new.host) (races_listing MOST_RACES h) = rw (← text) c.in_ok-print_text.ensures.printed in
+    inr
+    (told line (HasHistory name a) (λ has. races_listing MOST_RACES has.history) (has_history name a h c.in_ok-history.ensures.history)
+    a b (w c.print_text.new.host) c.in_ok-history.ensures.reads c.print_text.ensures.asked prints)
