@@ -1,9 +1,9 @@
 -- Each command was added to those before it.
-use Rattle.std.proofs.Common.{◌≡◌, ap, ◌∙◌, subst}
+use Rattle.std.proofs.Common.{◌≡◌, subst}
 use Rattle.std.specs.Prelude.{IfOk}
 use Rattle.clap.specs.Words.{App, app_of, with_subcommand}
 use Rattle.clap.specs.declared.builder.command.Command.{Command}
-use Rattle.ith_words.specs.Words.{command_line, generate_command, judging_commands}
+use Rattle.ith_words.specs.Words.{command_line, generate_command}
 use Rattle.ith_words.proofs.command.command_line.Goals as goal
 
 pub returns : goal.returns

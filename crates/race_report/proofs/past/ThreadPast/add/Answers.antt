@@ -54,15 +54,21 @@ returns-clause-past c =
     × ((q.all.items ≡ p.all.items) × (q.writing.items ≡ cond a.writes (p.writing.items ++ a ∷ []) p.writing.items)) =
     elim c.if-access.branch [
       | then-access+in_ok-push w ↦ (
-          ap (λ (r : ThreadPast). r.thread) w.self-is,
-          (ap (λ (r : ThreadPast). r.all.items) w.self-is,
+        ap (λ (r : ThreadPast). r.thread) w.self-is,
+        (
+          ap (λ (r : ThreadPast). r.all.items) w.self-is,
           ap (λ (r : ThreadPast). r.writing.items) w.self-is ∙ w.in_ok-push.ensures.items
-          ∙ sym (ap (λ b. cond b (p.writing.items ++ a ∷ []) p.writing.items) w.if-access.true)))
+              ∙ sym (ap (λ b. cond b (p.writing.items ++ a ∷ []) p.writing.items) w.if-access.true),
+        ),
+      )
       | else-access w ↦ (
-          ap (λ (r : ThreadPast). r.thread) w.self-is,
-          (ap (λ (r : ThreadPast). r.all.items) w.self-is,
+        ap (λ (r : ThreadPast). r.thread) w.self-is,
+        (
+          ap (λ (r : ThreadPast). r.all.items) w.self-is,
           ap (λ (r : ThreadPast). r.writing.items) w.self-is
-          ∙ sym (ap (λ b. cond b (p.writing.items ++ a ∷ []) p.writing.items) w.if-access.false)))
+              ∙ sym (ap (λ b. cond b (p.writing.items ++ a ∷ []) p.writing.items) w.if-access.false),
+        ),
+      )
     ] in
     past-next p _ a c.requires.past c.requires.thread c.requires.after kept.0
     (c.in_ok-push-2.ensures.items ∙ ap (λ (xs : List Access). xs ++ a ∷ []) kept.1.0) kept.1.1
