@@ -62,7 +62,8 @@ impl Effect {
 
     /// The caller ends with this value, which the woken are told.
     pub fn ends(value: u32, woken: Queue) -> Effect
-        ensures { result ≡ record { fate = Fate.Ends value; woken = woken; told = Some value; created = None } }
+        ensures { result
+            ≡ record { fate = Fate.Ends value; woken = woken; told = Some value; created = None } }
     {
         Effect {
             fate: Fate::Ends(value),

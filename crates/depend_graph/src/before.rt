@@ -58,7 +58,8 @@ fn has_thread(threads: &[u8], t: u8) -> bool
 fn is_next(facts: &[Fact], t: u8, i: usize, j: usize) -> bool
     requires earlier { i < j }
     requires in_range { j < length facts.now }
-    ensures { result ≡ spec.all_below (λ k. nat_le k i || not ((spec.fact_at facts.now k).thread == t)) j }
+    ensures { result
+        ≡ spec.all_below (λ k. nat_le k i || not ((spec.fact_at facts.now k).thread == t)) j }
 {
     for k in i + 1..j {
         let fact = &facts[k];

@@ -124,7 +124,8 @@ impl Graph {
     /// An error where the host's memory ran out.
     pub fn reach(&self, reads: &[Vec<usize>], changed: &[usize]) -> Result<Vec<bool>, AllocError>
         requires { length reads.now ≡ length self.now }
-        ensures { IfOk result (λ flags. flags.items ≡ reached_by self.now (slots_of_each reads.now) changed.now) }
+        ensures { IfOk result (λ flags. flags.items
+            ≡ reached_by self.now (slots_of_each reads.now) changed.now) }
     {
         reach(self.alloc, &self.facts, reads, changed)
     }

@@ -44,7 +44,8 @@ impl ObjectClocks {
 
     /// The place of an object's clock, if it has one.
     fn place(&self, object: Object) -> Option<usize>
-        ensures { result ≡ position (λ (c : Entry). same_object object c.object) self.now.clocks.items }
+        ensures { result
+            ≡ position (λ (c : Entry). same_object object c.object) self.now.clocks.items }
     {
         self.clocks
             .iter()

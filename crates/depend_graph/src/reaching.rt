@@ -46,8 +46,10 @@ impl Changes {
 
     /// A page shows a change from a place on.
     fn add_one(&mut self, slot: usize, from: usize) -> Result<(), AllocError>
-        ensures at { (e : ℕ) → OnOk result (shows self.new slot e ≡ (shows self.old slot e || nat_le from e)) }
-        ensures others { (p e : ℕ) → OnOk result (p ≢ slot → shows self.new p e ≡ shows self.old p e) }
+        ensures at { (e : ℕ)
+            → OnOk result (shows self.new slot e ≡ (shows self.old slot e || nat_le from e)) }
+        ensures others { (p e : ℕ)
+            → OnOk result (p ≢ slot → shows self.new p e ≡ shows self.old p e) }
     {
         match self.from.get(&slot) {
             Some(earlier) if *earlier <= from => Ok(()),
@@ -86,7 +88,8 @@ impl Reached {
     fn new(alloc: Global, changed: &[usize]) -> Result<Reached, AllocError>
         ensures led { (t : ℕ) → IfOk result (λ past. led_of past t ≡ false) }
         ensures ends { (t : ℕ) → IfOk result (λ past. end_of past t ≡ 0) }
-        ensures changed { (p e : ℕ) → IfOk result (λ past. shows past.changes p e ≡ is_in p changed.now) }
+        ensures changed { (p e : ℕ)
+            → IfOk result (λ past. shows past.changes p e ≡ is_in p changed.now) }
     {
         let mut changes = Changes::new(alloc);
         changes.add(changed, 0)?;
@@ -127,8 +130,10 @@ impl Reached {
 /// The step that gave a view to the next thunks of some threads is the one before place `end`. A number that no thread
 /// has is passed over.
 fn give(ends: &mut [usize; THREADS], threads: &[u8], end: usize)
-    ensures given { (t : ℕ) → t < THREADS → is_in t threads.now ≡ true → slice_index ends.new t ≡ end }
-    ensures others { (t : ℕ) → is_in t threads.now ≡ false → slice_index ends.new t ≡ slice_index ends.old t }
+    ensures given { (t : ℕ) → t < THREADS → is_in t threads.now ≡ true
+        → slice_index ends.new t ≡ end }
+    ensures others { (t : ℕ) → is_in t threads.now ≡ false
+        → slice_index ends.new t ≡ slice_index ends.old t }
 {
     for t in threads {
         if usize::from(*t) < THREADS {
@@ -151,7 +156,8 @@ pub fn reach(
     requires few { length facts.now ≤ MOST_FACTS }
     requires threads { All (λ (f : StepFact). f.thread < THREADS) facts.now }
     requires same { length reads.now ≡ length facts.now }
-    ensures { IfOk result (λ flags. flags.items ≡ reach facts.now (slots_of_each reads.now) changed.now) }
+    ensures { IfOk result (λ flags. flags.items
+        ≡ reach facts.now (slots_of_each reads.now) changed.now) }
 {
     let mut flags = Vec::with_capacity(alloc, facts.len())?;
     let mut past = Reached::new(alloc, changed)?;

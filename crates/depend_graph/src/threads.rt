@@ -63,7 +63,8 @@ impl ThreadClocks {
     pub fn add_each(&mut self, threads: &[u8], clock: &Clock)
         ensures at { (u : ℕ) → u < THREADS → is_in u threads.now ≡ true
             → IsLargerOf (thread_clock self.new u) (thread_clock self.old u) clock.now }
-        ensures others { (u : ℕ) → is_in u threads.now ≡ false → thread_clock self.new u ≡ thread_clock self.old u }
+        ensures others { (u : ℕ) → is_in u threads.now ≡ false
+            → thread_clock self.new u ≡ thread_clock self.old u }
     {
         for t in threads {
             if usize::from(*t) < THREADS {

@@ -23,7 +23,8 @@ pub fn line_spells_one_edit()
 
 /// A list says one thing: these edits and no others, or that this line is the first bad one, and not both.
 pub fn list_says_one_thing()
-    ensures { (bytes : List ℕ) (a b : Result (List LineEdit) ℕ) → Says bytes a → Says bytes b → a ≡ b }
+    ensures { (bytes : List ℕ) (a b : Result (List LineEdit) ℕ) → Says bytes a → Says bytes b
+        → a ≡ b }
 {}
 
 /// The bytes of a list of edits say something: edits, or which line is the first bad one.

@@ -60,7 +60,9 @@ pub fn pages_ascend(bytes: &[u8])
 
 /// A page is there exactly where a segment has an address on it.
 pub fn pages_are_the_touched(bytes: &[u8])
-    ensures { (n : ℕ) → (Contains (map (λ p. p.number) (image_pages bytes.now)) n ↔ IsTouched (segments bytes.now) n) }
+    ensures { (n : ℕ)
+        → (Contains (map (λ p. p.number) (image_pages bytes.now)) n
+        ↔ IsTouched (segments bytes.now) n) }
 {}
 
 /// There are as many pages of bytes as pages, and each has 4,096 bytes.

@@ -37,7 +37,8 @@ pub struct Done {
 
 /// The objects on which a put acts: the output, where it appends its bytes.
 fn put_on(map: &PageMap, start: u32, len: u32) -> ActedOn
-    ensures { objects_in result ≡ rows.one_of (rows.appends (is_readable map.now) start len) Object.Output }
+    ensures { objects_in result
+        ≡ rows.one_of (rows.appends (is_readable map.now) start len) Object.Output }
 {
     if appends_all(map, Range { start, len }) {
         ActedOn::One(Object::Output)
@@ -50,10 +51,12 @@ fn put_on(map: &PageMap, start: u32, len: u32) -> ActedOn
 pub fn act(map: &PageMap, objects: &mut Objects, t: u8, call: Call) -> Done
     requires exists { t < length objects.old.threads }
     requires free { rows.waits_at objects.old t ≡ 0 }
-    ensures acts_on { objects_in result.objects ≡ rows.acts_on (is_readable map.now) objects.old call }
+    ensures acts_on { objects_in result.objects
+        ≡ rows.acts_on (is_readable map.now) objects.old call }
     ensures effect { (n : ℕ) → order.served result.effect t n
         ≡ order.served (rows.act (is_readable map.now) objects.old t call).0 t n }
-    ensures created { result.effect.created ≡ (rows.act (is_readable map.now) objects.old t call).0.created }
+    ensures created { result.effect.created
+        ≡ (rows.act (is_readable map.now) objects.old t call).0.created }
     ensures objects { objects.new ≡ (rows.act (is_readable map.now) objects.old t call).1 }
 {
     match call {

@@ -110,7 +110,8 @@ impl Outline {
     /// the machine after the record.
     fn perform(&mut self, rec: &Record) -> Done
         requires { (m : Machine) × MayBeLaid m self.old rec.now }
-        ensures outline { (m : Machine) → MayBeLaid m self.old rec.now → IsOutlineOf (step.lay m rec.now) self.new }
+        ensures outline { (m : Machine) → MayBeLaid m self.old rec.now
+            → IsOutlineOf (step.lay m rec.now) self.new }
         ensures objects { (m : Machine) → MayBeLaid m self.old rec.now →
             objects_in result.objects ≡ order.objects_of m rec.now }
         ensures effect { (m : Machine) → MayBeLaid m self.old rec.now → (n : ℕ) →
@@ -136,7 +137,8 @@ impl Outline {
         last: bool,
     ) -> Result<Fact, AllocError>
         requires { (m : Machine) × MayBeLaid m self.old rec.now }
-        ensures outline { (m : Machine) → MayBeLaid m self.old rec.now → IsOutlineOf (step.lay m rec.now) self.new }
+        ensures outline { (m : Machine) → MayBeLaid m self.old rec.now
+            → IsOutlineOf (step.lay m rec.now) self.new }
         ensures says { IfOk result (λ fact. (m : Machine) → MayBeLaid m self.old rec.now →
             last ≡ is_some (step.lay m rec.now).ending → fact ≡ order.fact_of (order.reads_in records.now) m rec.now) }
     {

@@ -25,7 +25,8 @@ pub fn records_are_true()
 
 /// Each record of an honest history is true.
 pub fn honest_records_are_true()
-    ensures { (h : History) → IsHonest h → All (λ (r : Record). IsTrue (first h.setup).frame r.start r.kept) h.records }
+    ensures { (h : History) → IsHonest h
+        → All (λ (r : Record). IsTrue (first h.setup).frame r.start r.kept) h.records }
 {}
 
 /// An honest history is coherent.

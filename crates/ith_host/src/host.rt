@@ -81,9 +81,12 @@ pub trait Host {
     ///
     /// `Failed` only after a fault of printing, and then the first of the bytes may stand there.
     fn print(&mut self, bytes: &[u8]) -> Printed
-        ensures printed { result ≡ Printed.Ok → Appends (world self.old).printed (world self.new).printed bytes.now }
-        ensures failed { result ≡ Printed.Failed → Rose (world self.old).print_faults (world self.new).print_faults }
-        ensures part { result ≡ Printed.Failed → PrintedSome (world self.old) (world self.new) bytes.now }
+        ensures printed { result ≡ Printed.Ok
+            → Appends (world self.old).printed (world self.new).printed bytes.now }
+        ensures failed { result ≡ Printed.Failed
+            → Rose (world self.old).print_faults (world self.new).print_faults }
+        ensures part { result ≡ Printed.Failed
+            → PrintedSome (world self.old) (world self.new) bytes.now }
         ensures memory { result ≡ Printed.Memory → Stays (world self.old) (world self.new) }
         ensures tells { (world self.new).tells ≡ (world self.old).tells }
         ensures files { (world self.new).files ≡ (world self.old).files }

@@ -106,7 +106,8 @@ impl MemHost {
     fn fail_read(&mut self) -> Got
         ensures answer { result ≡ Got.Failed }
         ensures not_fewer { self.old.read_faults ≤ self.new.read_faults }
-        ensures count { self.new ≡ record self.old { read_faults = min (self.old.read_faults + 1) (2 ^ 64 - 1) } }
+        ensures count { self.new
+            ≡ record self.old { read_faults = min (self.old.read_faults + 1) (2 ^ 64 - 1) } }
     {
         self.read_faults = self.read_faults.saturating_add(1);
         Got::Failed
@@ -132,7 +133,8 @@ impl Host for MemHost {
           asked = self.new.asked;
           read_faults = self.new.read_faults;
         } }
-        ensures content { result ≡ Got.Ok → IsContent (memory_world self.old) name.now into.new.items }
+        ensures content { result ≡ Got.Ok
+            → IsContent (memory_world self.old) name.now into.new.items }
         ensures within { result ≡ Got.Ok → length into.new.items ≤ limit }
         ensures failed { result ≡ Got.Failed
             → Rose ((memory_world self.old).read_faults name.now) ((memory_world self.new).read_faults name.now) }
@@ -168,7 +170,8 @@ impl Host for MemHost {
         ensures failed { result ≡ Put.Failed
             → Rose ((memory_world self.old).write_faults name.now) ((memory_world self.new).write_faults name.now) }
         ensures untold { result ≡ Put.Failed → (memory_world self.new).files name.now ≡ None }
-        ensures memory { result ≡ Put.Memory → Stays (memory_world self.old) (memory_world self.new) }
+        ensures memory { result ≡ Put.Memory
+            → Stays (memory_world self.old) (memory_world self.new) }
         ensures others { StaysBut name.now (memory_world self.old) (memory_world self.new) }
         ensures asked { AsksNothing (memory_world self.old) (memory_world self.new) }
         ensures counts { NoneFell (memory_world self.old) (memory_world self.new) }
@@ -193,7 +196,8 @@ impl Host for MemHost {
     /// A print that is named to fail is `Failed` after its first bytes went out, as many as were named, unless there
     /// is no memory for them; and no other is.
     fn print(&mut self, bytes: &[u8]) -> Printed
-        ensures listed { fails_next self.old ≡ true → (result ≡ Printed.Failed) ⊎ (result ≡ Printed.Memory) }
+        ensures listed { fails_next self.old ≡ true
+            → (result ≡ Printed.Failed) ⊎ (result ≡ Printed.Memory) }
         ensures unlisted { result ≡ Printed.Failed → fails_next self.old ≡ true }
         ensures went_out { result ≡ Printed.Failed
             → self.new.printed.items ≡ self.old.printed.items ++ take self.old.part bytes.now }
@@ -210,7 +214,8 @@ impl Host for MemHost {
             → Rose (memory_world self.old).print_faults (memory_world self.new).print_faults }
         ensures part { result ≡ Printed.Failed
             → PrintedSome (memory_world self.old) (memory_world self.new) bytes.now }
-        ensures memory { result ≡ Printed.Memory → Stays (memory_world self.old) (memory_world self.new) }
+        ensures memory { result ≡ Printed.Memory
+            → Stays (memory_world self.old) (memory_world self.new) }
         ensures tells { (memory_world self.new).tells ≡ (memory_world self.old).tells }
         ensures files { (memory_world self.new).files ≡ (memory_world self.old).files }
         ensures asked { AsksNothing (memory_world self.old) (memory_world self.new) }

@@ -77,7 +77,8 @@ impl<S: Write> Watched<S> {
 /// empty.
 pub fn read_to_limit<S: Read>(source: &mut Watched<S>, limit: u64, into: &mut Vec<u8>) -> Got
     requires { into.old.items ≡ [] }
-    ensures all { result ≡ Got.Ok → IfSome (S.remaining source.old.inner) (λ content. content ≡ into.new.items) }
+    ensures all { result ≡ Got.Ok
+        → IfSome (S.remaining source.old.inner) (λ content. content ≡ into.new.items) }
     ensures within { result ≡ Got.Ok → length into.new.items ≤ limit }
     ensures failed { result ≡ Got.Failed → Rose source.old.faults source.new.faults }
     ensures quiet { result ≢ Got.Failed → source.new.faults ≡ source.old.faults }
@@ -130,7 +131,8 @@ fn room_for(limit: u64, taken: usize) -> usize
 /// It didn't only where an error of the sink ended the call, or where the sink took nothing of a piece that isn't
 /// empty, which counts as one.
 pub fn write_to_end<S: Write>(sink: &mut Watched<S>, bytes: &[u8]) -> bool
-    ensures all { result ≡ true → Appends (S.contents sink.old.inner) (S.contents sink.new.inner) bytes.now }
+    ensures all { result ≡ true
+        → Appends (S.contents sink.old.inner) (S.contents sink.new.inner) bytes.now }
     ensures failed { result ≡ false → Rose sink.old.faults sink.new.faults }
     ensures quiet { result ≡ true → sink.new.faults ≡ sink.old.faults }
     ensures counts { sink.old.faults ≤ sink.new.faults }

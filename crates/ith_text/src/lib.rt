@@ -21,7 +21,8 @@ pub fn decimal(alloc: Global, number: u64, into: &mut Vec<u8>) -> Result<(), All
 
 /// Appends a number's eight hexadecimal digits, in lower case.
 pub fn hex8(alloc: Global, number: u32, into: &mut Vec<u8>) -> Result<(), AllocError>
-    ensures ok { OnOk result (into.new.items ≡ into.old.items ++ encode_lower (to_be_bytes w32 number)) }
+    ensures ok { OnOk result (into.new.items
+        ≡ into.old.items ++ encode_lower (to_be_bytes w32 number)) }
     ensures err { OnErr result (into.new.items ≡ into.old.items) }
 {
     let text = hex::encode(alloc, number.to_be_bytes().as_slice())?;

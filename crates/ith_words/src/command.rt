@@ -124,7 +124,8 @@ fn command<'a>(
     args: Vec<Arg<'a>>,
 ) -> Result<Command<'a>, AllocError>
     requires { All (λ arg. arg.global ≡ false) args.items }
-    ensures shape { IfOk result (λ c. app_of c ≡ line.command name.entry.now (map rule_of args.entry.items)) }
+    ensures shape { IfOk result (λ c. app_of c
+        ≡ line.command name.entry.now (map rule_of args.entry.items)) }
     ensures local { IfOk result (λ c. (out-Command c).has_globals ≡ false) }
 {
     Command::new(alloc, name).about(about).args(args)

@@ -53,7 +53,8 @@ pub fn default_limits() -> Limits
 
 /// The number of an operand or option, if the line has one from the least to the most.
 fn number_of(given: &ArgMatches<'_>, id: &str, least: u32, most: u32) -> Option<u32>
-    ensures value { result ≡ line.number_given least most (one_of id.now (rows_of (found_of given.now))) }
+    ensures value { result
+        ≡ line.number_given least most (one_of id.now (rows_of (found_of given.now))) }
     ensures within { IfSome result (λ number. (least ≤ number) × (number ≤ most)) }
 {
     match given.get_one::<u32>(id) {
@@ -110,7 +111,8 @@ pub fn limits_of(given: &ArgMatches<'_>) -> Limits
 /// The name of the memo to write, if the line has one.
 #[tactic(auto, using(crate::proofs::Rows::first_value_of_rows))]
 pub fn memo_of<'a>(given: &ArgMatches<'a>) -> Option<&'a str>
-    ensures { option_map (λ name. name.now) result ≡ line.memo_named (rows_of (found_of given.now)) }
+    ensures { option_map (λ name. name.now) result
+        ≡ line.memo_named (rows_of (found_of given.now)) }
 {
     given.get_str("memo")
 }

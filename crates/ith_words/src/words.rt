@@ -49,7 +49,8 @@ fn fault_by(alloc: Global, error: Error) -> LineFault
 
 /// What the parser finds in the words.
 fn matches_given<'a>(alloc: Global, words: &'a [String]) -> Result<ArgMatches<'a>, LineFault>
-    ensures faultless { IfOk result (λ given. fault_of line.command_line (map string_bytes words.entry.now) ≡ []) }
+    ensures faultless { IfOk result
+        (λ given. fault_of line.command_line (map string_bytes words.entry.now) ≡ []) }
     ensures rows { IfOk result (λ given. subcommand_rows_of given ≡ subcommand_of line.command_line
         (map string_bytes words.entry.now)) }
     ensures refused { IfErr result (WhyNoLine (map string_bytes words.entry.now)) }
@@ -86,7 +87,8 @@ fn run_line<'a>(alloc: Global, given: &ArgMatches<'a>) -> Result<RunLine<'a>, Al
 
 /// The line of what was found for the command that goes on from a memo.
 fn rerun_line<'a>(alloc: Global, given: &ArgMatches<'a>) -> Result<RerunLine<'a>, AllocError>
-    ensures { IfOk result (λ said. rerun_said said ≡ line.rerun_line (rows_of (found_of given.now))) }
+    ensures { IfOk result (λ said. rerun_said said
+        ≡ line.rerun_line (rows_of (found_of given.now))) }
 {
     let edits = match edits_of(alloc, given) {
         Ok(edits) => edits,
@@ -204,7 +206,8 @@ fn line_found<'a>(alloc: Global, given: &ArgMatches<'a>) -> Result<Option<Line<'
 /// `Refused` where the words aren't accepted, and `Memory` where the host's memory ran out.
 #[tactic(auto, unfolding(crate::specs::Words::line_of))]
 pub fn line_of<'a>(alloc: Global, words: &'a [String]) -> Result<Line<'a>, LineFault>
-    ensures accepted { IfOk result (λ said. line.line_of (map string_bytes words.entry.now) ≡ Some (line_said said)) }
+    ensures accepted { IfOk result (λ said. line.line_of (map string_bytes words.entry.now)
+        ≡ Some (line_said said)) }
     ensures refused { IfErr result (WhyNoLine (map string_bytes words.entry.now)) }
 {
     let given = match matches_given(alloc, words) {

@@ -21,7 +21,8 @@ fn verdict_from<R: Threads + Sync>(
     workers: u32,
 ) -> Result<Verdict, AllocError>
     ensures first { IfOk result (λ verdict. IsFirstFalseFrom core records.now verdict.first) }
-    ensures instructions { IfOk result (λ verdict. verdict.instructions ≡ turns_from core records.now) }
+    ensures instructions { IfOk result (λ verdict. verdict.instructions
+        ≡ turns_from core records.now) }
 {
     let mut found = Verdict::of_none();
     let mut place = 0;

@@ -52,7 +52,8 @@ pub(super) fn claims_from(
     from: usize,
 ) -> Result<Vec<Claim>, AllocError>
     requires { from ≤ length records.now }
-    ensures claims { IfOk result (λ claims. AreClaims core.old (drop from records.now) claims.items core.new) }
+    ensures claims { IfOk result
+        (λ claims. AreClaims core.old (drop from records.now) claims.items core.new) }
     ensures few { IfOk result (λ claims. from + length claims.items ≤ length records.now) }
     ensures none { IfOk result (λ claims. claims.items ≡ [] → (r : Recorded)
         → slice_get records.now from ≡ Some r → can_apply core.old r ≡ false) }

@@ -76,7 +76,8 @@ fn are_same_deltas(a: &[PageDelta], b: &[PageDelta]) -> bool
 
 /// Whether two thunks read and stored the same.
 fn has_same_pages(a: &Record, b: &Record) -> bool
-    ensures { Decides result ((a.now.kept.reads ≡ b.now.kept.reads) × (a.now.kept.delta ≡ b.now.kept.delta)) }
+    ensures { Decides result ((a.now.kept.reads ≡ b.now.kept.reads)
+        × (a.now.kept.delta ≡ b.now.kept.delta)) }
 {
     are_same_reads(a.reads().pages(), b.reads().pages())
         && are_same_deltas(a.delta().pages(), b.delta().pages())

@@ -26,7 +26,8 @@ fn number_line(alloc: Global, name: &str, number: u64, into: &mut Vec<u8>) -> Re
 ///
 /// An error where the host's memory ran out.
 pub fn text(alloc: Global, entries: u64, verdict: Verdict) -> Result<Vec<u8>, AllocError>
-    ensures { IfOk result (λ text. text.items ≡ audit_text entries verdict.instructions verdict.first) }
+    ensures { IfOk result (λ text. text.items
+        ≡ audit_text entries verdict.instructions verdict.first) }
 {
     let mut text = Vec::new(alloc);
     number_line(alloc, "audit", entries, &mut text)?;

@@ -47,7 +47,8 @@ impl Verdict {
     /// no end comes.
     pub(super) fn closed(self, count: u32, is_false: bool) -> Verdict
         ensures instructions { result.instructions ≡ self.instructions }
-        ensures first { result.first ≡ first_of_both self.first count (if is_false then Some 0 else None) }
+        ensures first { result.first
+            ≡ first_of_both self.first count (if is_false then Some 0 else None) }
     {
         let first = match self.first {
             Some(place) => Some(place),

@@ -156,7 +156,8 @@ fn refuse_before_m(slots: &PageMap, history: &History) -> Result<(), ReadError>
     requires slots { slots.now ≡ map_of history.now.setup }
     requires sound { IsSetup history.now.setup }
     ensures today { IfOk result (λ _. is_before_m history.now ≡ false) }
-    ensures before { IfErr result (λ e. (is_before_m history.now ≡ true) × (e ≡ Refused (Old (last_number history.now)))) }
+    ensures before { IfErr result (λ e. (is_before_m history.now ≡ true)
+        × (e ≡ Refused (Old (last_number history.now)))) }
 {
     let records = history.records();
     let count = records.len();

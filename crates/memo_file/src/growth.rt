@@ -78,8 +78,10 @@ impl Growing {
     pub fn push(&mut self, alloc: Global, rec: Record, used: usize) -> Result<(), AllocError>
         requires few { length self.old.records < MOST_STEPS }
         requires thread { rec.thread < THREADS }
-        requires number { rec.number ≡ count_by (λ t. t == rec.thread) (threads_of_records self.old.records) }
-        ensures { OnOk result (self.new ≡ record { records = self.old.records ++ rec ∷ []; used = used }) }
+        requires number { rec.number
+            ≡ count_by (λ t. t == rec.thread) (threads_of_records self.old.records) }
+        ensures { OnOk result (self.new
+            ≡ record { records = self.old.records ++ rec ∷ []; used = used }) }
     {
         let thread = usize::from(rec.thread());
         self.records.push(Arc::new(alloc, rec)?)?;

@@ -22,7 +22,8 @@ use store_mask::ReadPage;
 #[tactic(auto, using(crate::proofs::Slots::slot_of_is, crate::proofs::Slots::far))]
 fn slot_of_page(slots: &PageMap, number: u32) -> Option<Slot>
     requires small { All (λ m. m.number < 2 ^ 20) slots.now }
-    ensures found { IfSome result (λ slot. (slot ≡ slot_of_number slots.now number) × (slot < length slots.now)) }
+    ensures found { IfSome result (λ slot. (slot ≡ slot_of_number slots.now number)
+        × (slot < length slots.now)) }
     ensures missing { IfNone result (slot_of_number slots.now number ≡ length slots.now) }
 {
     if number < 1 << 20 {

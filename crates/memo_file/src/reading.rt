@@ -197,7 +197,8 @@ pub fn read(alloc: Global, bytes: &[u8]) -> Result<History, ReadError>
     ensures spelled { IfOk result (λ h. IsTaken bytes.now h) }
     ensures refused { IfErr result (λ e. Fails e (reading bytes.now)) }
     ensures accepts { (h : Kept) → IsTaken bytes.now h → IsReadAs h result }
-    ensures written { (h : Kept) → IsSpellable h → is_coherent h ≡ true → bytes.now ≡ memo h → IsReadAs h result }
+    ensures written { (h : Kept) → IsSpellable h → is_coherent h ≡ true → bytes.now ≡ memo h
+        → IsReadAs h result }
 {
     memo_spec::taken_is_spelled(bytes);
     memo_spec::spelled_is_taken();

@@ -26,7 +26,8 @@ pub(super) fn entry_line(
     into: &mut Vec<u8>,
 ) -> Result<(), AllocError>
     requires { IsMappedIn (length addresses.now) rec.now }
-    ensures { OnOk result (into.new.items ≡ into.old.items ++ entry_line addresses.now place rec.now) }
+    ensures { OnOk result (into.new.items
+        ≡ into.old.items ++ entry_line addresses.now place rec.now) }
 {
     append_step(alloc, place, rec, into)?;
     append_pages(alloc, addresses, rec, into)?;

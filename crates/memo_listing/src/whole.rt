@@ -36,7 +36,8 @@ fn append_entries(
     into: &mut Vec<u8>,
 ) -> Result<(), AllocError>
     requires { All (IsMappedIn (length addresses.now)) records.now }
-    ensures { OnOk result (into.new.items ≡ into.old.items ++ entry_lines addresses.now 0 records.now) }
+    ensures { OnOk result (into.new.items
+        ≡ into.old.items ++ entry_lines addresses.now 0 records.now) }
 {
     for place in 0..records.len() {
         let record = records.at(place);

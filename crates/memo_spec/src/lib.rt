@@ -64,8 +64,10 @@ pub fn bytes_spell_one_history()
 
 /// In each version a history has one spelling, if it can be spelled, and else none.
 pub fn history_has_one_spelling()
-    ensures one { (format : Format) (a b : List ℕ) (h : History) → SpellsIn format a h → SpellsIn format b h → a ≡ b }
-    ensures some { (format : Format) (h : History) → IsSpellable h → SpellsIn format (memo_in format h) h }
+    ensures one { (format : Format) (a b : List ℕ) (h : History) → SpellsIn format a h
+        → SpellsIn format b h → a ≡ b }
+    ensures some { (format : Format) (h : History) → IsSpellable h
+        → SpellsIn format (memo_in format h) h }
 {}
 
 /// Bytes are taken as a history that they spell and that holds together, and in version 1 isn't old.

@@ -14,7 +14,8 @@ use std::array;
 /// The objects of one kind, each as it is made.
 pub fn all_of<C, F: Fn() -> C>(make: F) -> [C; OBJECTS]
     requires { F.IsAlwaysCallable make }
-    ensures { (made : C) → ((f : F) (c : C) → F.post f c → c ≡ made) → result ≡ replicate OBJECTS made }
+    ensures { (made : C) → ((f : F) (c : C) → F.post f c → c ≡ made)
+        → result ≡ replicate OBJECTS made }
 {
     array::from_fn(
         |_i: usize| -> C
@@ -30,7 +31,8 @@ pub fn row_at<C, T, R: FnOnce(&mut C) -> T>(
     number: u32,
     row: R,
 ) -> Option<T>
-    requires { (free : C) → number < OBJECTS → FnOnceTakesAtMut R.FnOnce row (slice_index_or cells.old number free) }
+    requires { (free : C) → number < OBJECTS
+        → FnOnceTakesAtMut R.FnOnce row (slice_index_or cells.old number free) }
     ensures { (free : C) (done : C → T × C) → rows.Does R.FnOnce row done
         → (result, cells.new) ≡ rows.row_at free done cells.old number }
 {
@@ -47,7 +49,8 @@ pub fn at_cell<C, R: FnOnce(&mut C) -> Effect>(
     number: u32,
     row: R,
 ) -> Effect
-    requires { (free : C) → number < OBJECTS → FnOnceTakesAtMut R.FnOnce row (slice_index_or cells.old number free) }
+    requires { (free : C) → number < OBJECTS
+        → FnOnceTakesAtMut R.FnOnce row (slice_index_or cells.old number free) }
     ensures { (free : C) (done : C → spec.Effect × C) → rows.Does R.FnOnce row done
         → (result, cells.new) ≡ tables.at_cell free done cells.old number }
 {

@@ -20,7 +20,8 @@ pub(super) fn number_at(pages: &[MappedPage], slot: usize) -> u32
 #[cold]
 pub(super) fn find(pages: &[MappedPage], address: u32) -> Option<usize>
     requires { ascends_above 0 pages.now ≡ true }
-    ensures found { IfSome result (λ slot. (slot ≡ slot_of pages.now address) × (slot < length pages.now)) }
+    ensures found { IfSome result (λ slot. (slot ≡ slot_of pages.now address)
+        × (slot < length pages.now)) }
     ensures missing { IfNone result (slot_of pages.now address ≡ length pages.now) }
 {
     let number = address / PAGE_SIZE as u32;

@@ -118,7 +118,8 @@ impl PageMap {
     /// The slot of an address. None exactly where no page has it.
     #[inline(always)]
     pub fn slot_of(&self, address: u32) -> Option<Slot>
-        ensures found { IfSome result (λ slot. (slot ≡ slot_of self.now address) × (slot < length self.now)) }
+        ensures found { IfSome result (λ slot. (slot ≡ slot_of self.now address)
+            × (slot < length self.now)) }
         ensures missing { IfNone result (slot_of self.now address ≡ length self.now) }
     {
         match self.listed_slot(address) {
@@ -131,7 +132,8 @@ impl PageMap {
     /// there is none, which says nothing.
     #[inline(always)]
     pub fn listed_slot(&self, address: u32) -> Option<Slot>
-        ensures { IfSome result (λ slot. (slot ≡ slot_of self.now address) × (slot < length self.now)) }
+        ensures { IfSome result (λ slot. (slot ≡ slot_of self.now address)
+            × (slot < length self.now)) }
     {
         self.table.slot_of(&self.pages, address)
     }

@@ -41,7 +41,8 @@ impl Table {
     ///
     /// An error where the host's memory ran out.
     pub(super) fn of(alloc: Global, pages: &[MappedPage]) -> Result<Table, AllocError>
-        ensures { IfOk result (λ table. IsTable pages.now table.starts table.places.items table.used) }
+        ensures { IfOk result
+            (λ table. IsTable pages.now table.starts table.places.items table.used) }
     {
         let mut table = Table {
             starts: [0; BLOCKS],
@@ -92,7 +93,8 @@ impl Table {
     pub(super) fn slot_of(&self, pages: &[MappedPage], address: u32) -> Option<usize>
         requires ascends { ascends_above 0 pages.now ≡ true }
         requires table { IsTable pages.now self.now.starts self.now.places.items self.now.used }
-        ensures { IfSome result (λ slot. (slot ≡ slot_of pages.now address) × (slot < length pages.now)) }
+        ensures { IfSome result (λ slot. (slot ≡ slot_of pages.now address)
+            × (slot < length pages.now)) }
     {
         let number = (address / PAGE_SIZE as u32) as usize;
         let start = usize::from(self.starts[number / BLOCK]);

@@ -55,7 +55,8 @@ pub trait Mem {
     /// Enters the page of an address, to run its instructions: a byte of it is taken. The slot of the page, which may be
     /// executed, and in which the memory has the view's bytes; or none, which says nothing, and nothing changes.
     fn enter(&mut self, address: u32) -> Option<Slot>
-        ensures entered { IfSome result (λ slot. Enters (workspace self.old) address slot (workspace self.new)) }
+        ensures entered { IfSome result
+            (λ slot. Enters (workspace self.old) address slot (workspace self.new)) }
         ensures stays { IfNone result (workspace self.new ≡ workspace self.old) };
 
     /// Whether the view has these bytes in a slot.

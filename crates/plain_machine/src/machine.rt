@@ -209,7 +209,8 @@ fn finish(
     requires ready { is_ready (hart_in harts.old.items t).status ≡ true }
     ensures harts { OnOk result (harts.new.items
         ≡ harts_after written.now.map.now objects.old written.now.memory.now t harts.old.items (asked_by t done.now)) }
-    ensures objects { OnOk result (objects.new ≡ objects_after written.now.map.now objects.old t (asked_by t done.now)) }
+    ensures objects { OnOk result (objects.new
+        ≡ objects_after written.now.map.now objects.old t (asked_by t done.now)) }
     ensures ending { IfOk result (λ r. r.1
         ≡ step.end_after (own_end written.now.map.now objects.old t (asked_by t done.now)) harts.new.items
         written.now.limit written.now.steps) }

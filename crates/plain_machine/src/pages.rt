@@ -58,8 +58,10 @@ impl LastPage {
 fn find_code(map: &PageMap, last: &mut LastPage, address: u32) -> Option<usize>
     requires { IsLast map.now last.old }
     ensures last { IsLast map.now last.new }
-    ensures slot { IfSome result (λ slot. (slot ≡ slot_of map.now address) × (slot < length map.now)) }
-    ensures executes { IfSome result (λ slot. allows execute_right (permission_at map.now address) ≡ true) }
+    ensures slot { IfSome result (λ slot. (slot ≡ slot_of map.now address)
+        × (slot < length map.now)) }
+    ensures executes { IfSome result (λ slot. allows execute_right (permission_at map.now address)
+        ≡ true) }
     ensures missing { IfNone result (allows execute_right (permission_at map.now address) ≡ false) }
 {
     let (slot, perm) = permitted(map, address)?;
@@ -79,8 +81,10 @@ fn find_code(map: &PageMap, last: &mut LastPage, address: u32) -> Option<usize>
 pub(super) fn code_slot(map: &PageMap, last: &mut LastPage, address: u32) -> Option<usize>
     requires { IsLast map.now last.old }
     ensures last { IsLast map.now last.new }
-    ensures slot { IfSome result (λ slot. (slot ≡ slot_of map.now address) × (slot < length map.now)) }
-    ensures executes { IfSome result (λ slot. allows execute_right (permission_at map.now address) ≡ true) }
+    ensures slot { IfSome result (λ slot. (slot ≡ slot_of map.now address)
+        × (slot < length map.now)) }
+    ensures executes { IfSome result (λ slot. allows execute_right (permission_at map.now address)
+        ≡ true) }
     ensures missing { IfNone result (allows execute_right (permission_at map.now address) ≡ false) }
 {
     if last.number == address / PAGE_SIZE as u32 {

@@ -70,7 +70,8 @@ fn bytes_from(
 ) -> Result<Vec<u8>, AllocError>
     requires in_range { start + count ≤ 2 ^ 32 }
     requires pages { length memory.now ≡ length map.now }
-    ensures { IfOk result (λ bytes. bytes.items ≡ rows.bytes_at map.now memory.now (range_with_len start count)) }
+    ensures { IfOk result (λ bytes. bytes.items
+        ≡ rows.bytes_at map.now memory.now (range_with_len start count)) }
 {
     let mut bytes = Vec::with_capacity(alloc, count as usize)?;
     for k in 0..count {
@@ -87,7 +88,8 @@ fn bytes_of_call(
     call: Option<Call>,
 ) -> Result<Vec<u8>, AllocError>
     requires { length memory.now ≡ length map.now }
-    ensures { IfOk result (λ bytes. bytes.items ≡ rows.bytes_at map.now memory.now (rows.appended_by map.now call)) }
+    ensures { IfOk result (λ bytes. bytes.items
+        ≡ rows.bytes_at map.now memory.now (rows.appended_by map.now call)) }
 {
     match call {
         Some(Call::Put(start, count)) => {

@@ -101,7 +101,8 @@ pub(super) fn run(
     turns: &mut Turns,
 ) -> Result<Done, AllocError>
     requires { IsMemory (arc_value map.now) view.now }
-    ensures done { IfOk result (λ d. IsDone (record { map = arc_value map.now; fuel = fuel }) view.now start d) }
+    ensures done { IfOk result
+        (λ d. IsDone (record { map = arc_value map.now; fuel = fuel }) view.now start d) }
     ensures most { IfOk result (λ d. d.count ≤ fuel) }
     ensures cost { IfOk result (λ d. turns.new ≡ turns.old + d.count) }
     ensures never_lower { turns.old ≤ turns.new }

@@ -36,7 +36,8 @@ impl Word {
     /// An error if the host's memory ran out.
     pub fn new(alloc: Global) -> Result<(Word, Writer), AllocError>
         ensures table { IfOk result (λ made. made.1.table ≡ made.0) }
-        ensures nothing { IfOk result (λ made. (made.1.added ≡ 0) × (made.1.seen ≡ 0) × (made.1.loads ≡ 0)) }
+        ensures nothing { IfOk result (λ made. (made.1.added ≡ 0) × (made.1.seen ≡ 0)
+            × (made.1.loads ≡ 0)) }
     {
         let (table, seat) = Table::of_words(alloc, &[0], &())?;
         Ok((Word { table }, Writer { seat }))

@@ -121,7 +121,8 @@ pub fn run_alone(
         → is_permitted setup (threads_of round.schedule) ≡ true) }
     ensures complete { IfOk result (λ round. IsSound (option_map arc_value past) setup
         → is_complete setup (threads_of round.schedule) ≡ true) }
-    ensures scratch { IfOk result (λ round. IsSound (option_map arc_value past) setup → IsFromScratch round) }
+    ensures scratch { IfOk result (λ round. IsSound (option_map arc_value past) setup
+        → IsFromScratch round) }
     ensures picked { IfOk result (λ round. IsSound (option_map arc_value past) setup
         → ArePicked setup (option_map arc_value past) round.schedule round.picked) }
     ensures least { IfOk result ReexecutesLeast }

@@ -149,7 +149,8 @@ impl Round {
     #[tactic(auto, using(crate::proofs::Keeping::valid_kept))]
     pub(super) fn make(&mut self, run: &Run) -> Result<(), AllocError>
         requires { CanCommit self.old (arc_value run.now.frame) (arc_value run.now.rec) }
-        ensures ok { OnOk result (self.new ≡ happens self.old (event.Commit (arc_value run.now.rec).thread)) }
+        ensures ok { OnOk result (self.new
+            ≡ happens self.old (event.Commit (arc_value run.now.rec).thread)) }
         ensures same { GoesOn (if is_ok result then 1 else 0) self.old self.new }
         ensures err { OnErr result (self.new ≡ self.old) }
         ensures valid { IsValid self.old }

@@ -112,7 +112,8 @@ impl Round {
     /// The history's record of the next step of thread `t`, which exists, if there is one.
     pub(super) fn next_record(&self, t: u8) -> Option<&Arc<Record>>
         requires { t < length self.now.machine.harts }
-        ensures { option_map (λ r. arc_value r.now) result ≡ record_for self.now.past self.now.machine t }
+        ensures { option_map (λ r. arc_value r.now) result
+            ≡ record_for self.now.past self.now.machine t }
     {
         self.old_record(t, self.core.number(t))
     }
@@ -216,7 +217,8 @@ impl Round {
 
     /// The best of the free threads. Looks at no clock.
     fn first_free(&self) -> Option<Candidate>
-        ensures { result ≡ leader_of self.now (free_below self.now (length self.now.machine.harts)) }
+        ensures { result
+            ≡ leader_of self.now (free_below self.now (length self.now.machine.harts)) }
     {
         let mut leader = None;
         for t in 0..self.core.threads() {

@@ -52,7 +52,8 @@ pub struct ThreadPast {
 fn first_from(accesses: &[Access], number: u32) -> usize
     requires { IsNonDecreasingBy (λ (a : Access). a.number) accesses.now }
     ensures within { result ≤ length accesses.now }
-    ensures rest { drop result accesses.now ≡ filter (λ (a : Access). not (nat_lt a.number number)) accesses.now }
+    ensures rest { drop result accesses.now
+        ≡ filter (λ (a : Access). not (nat_lt a.number number)) accesses.now }
 {
     let count = accesses.len();
     if count == 0 || number <= accesses[0].number {

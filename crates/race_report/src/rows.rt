@@ -153,7 +153,8 @@ impl FirstRaces {
             → slice_index_or self.new.rows.items i []
             ≡ slice_index_or self.old.rows.items i []
             ++ races_in i later touch (filter (races_with step.now touch.writes) (accesses_of page.now))) }
-        ensures count { IfOk result (λ count. count ≡ count_by (races_with step.now touch.writes) (accesses_of page.now)) }
+        ensures count { IfOk result (λ count. count
+            ≡ count_by (races_with step.now touch.writes) (accesses_of page.now)) }
         ensures long { OnOk result (length self.new.rows.items ≡ length self.old.rows.items) }
         ensures counted { OnOk result (IsCounted self.new) }
         ensures more { OnOk result (self.old.many ≤ self.new.many) }
@@ -173,7 +174,8 @@ impl FirstRaces {
         requires { IsCounted self.old }
         ensures rows { self.new.rows.items ≡ take (length self.new.rows.items) self.old.rows.items }
         ensures counted { IsCounted self.new }
-        ensures enough { (self.new.rows.items ≡ self.old.rows.items) ⊎ (self.old.most ≤ self.new.many) }
+        ensures enough { (self.new.rows.items ≡ self.old.rows.items)
+            ⊎ (self.old.most ≤ self.new.many) }
         ensures most { self.new.most ≡ self.old.most }
     {
         while let Some(row) = self.rows.last() {
@@ -203,7 +205,8 @@ impl FirstRaces {
 
     /// The races of all rows, as many as are wanted at most.
     pub fn listed(&self, alloc: Global) -> Result<Vec<Race>, AllocError>
-        ensures { IfOk result (λ races. races.items ≡ take self.now.most (flat_map (λ (row : List RaceOf). row) self.now.rows.items)) }
+        ensures { IfOk result (λ races. races.items
+            ≡ take self.now.most (flat_map (λ (row : List RaceOf). row) self.now.rows.items)) }
     {
         let mut races = Vec::new(alloc);
         for row in &self.rows {

@@ -59,7 +59,8 @@ fn race_line(
 /// The text of races, by the addresses of the pages: how many there are, and a line for each of the first.
 #[tactic(auto, unfolding(crate::specs::Text::races_text))]
 fn text(alloc: Global, addresses: &[u32], races: &Races) -> Result<Vec<u8>, AllocError>
-    ensures { IfOk result (λ text. text.items ≡ races_text addresses.now races.now.total races.now.first) }
+    ensures { IfOk result (λ text. text.items
+        ≡ races_text addresses.now races.now.total races.now.first) }
 {
     let mut text = Vec::new(alloc);
     append_number(alloc, "races ", races.total, &mut text)?;

@@ -82,7 +82,8 @@ fn merged(
 /// An error where the host's memory ran out.
 pub fn touches_of(alloc: Global, rec: &Record, pages: usize) -> Result<Vec<Touch>, AllocError>
     requires { IsMappedIn pages rec.now }
-    ensures { IfOk result (λ touches. touches.items ≡ touches_in pages (order.read_slots rec.now) (order.written_slots rec.now)) }
+    ensures { IfOk result (λ touches. touches.items
+        ≡ touches_in pages (order.read_slots rec.now) (order.written_slots rec.now)) }
 {
     let reads = read_slots(alloc, rec.reads().pages())?;
     let written = written_slots(alloc, rec.delta().pages())?;

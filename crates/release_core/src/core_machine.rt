@@ -127,7 +127,8 @@ impl Core {
 
     /// Whether thread `t` exists and has ended.
     pub fn gone(&self, t: u8) -> bool
-        ensures { result ≡ nat_lt t (length self.now.harts) && is_ended (hart_of self.now t).status }
+        ensures { result
+            ≡ nat_lt t (length self.now.harts) && is_ended (hart_of self.now t).status }
     {
         if usize::from(t) >= self.harts.len() {
             return false;
@@ -189,7 +190,8 @@ impl Core {
 
 /// The frame of a setup: all its pages and its fuel, with its decoded pages.
 fn frame_of(alloc: Global, setup: &Setup) -> Result<Arc<Frame>, AllocError>
-    ensures { IfOk result (λ frame. arc_value frame ≡ record { map = map_of setup.now; fuel = setup.now.fuel }) }
+    ensures { IfOk result (λ frame. arc_value frame
+        ≡ record { map = map_of setup.now; fuel = setup.now.fuel }) }
 {
     let map = Arc::new(alloc, setup.page_map(alloc)?)?;
     let code = Arc::try_clone(setup.code())?;
@@ -241,7 +243,8 @@ fn written(
     memory: &Arc<PageTable>,
     rec: &Record,
 ) -> Result<Arc<PageTable>, AllocError>
-    ensures { IfOk result (λ after. arc_value after ≡ masked (arc_value memory.now) rec.now.kept.delta) }
+    ensures { IfOk result (λ after. arc_value after
+        ≡ masked (arc_value memory.now) rec.now.kept.delta) }
 {
     if rec.delta().pages().is_empty() {
         return Arc::try_clone(memory);
@@ -259,7 +262,8 @@ fn prepare(
     rec: &Record,
 ) -> Result<Prepared, AllocError>
     requires { length view.now ≡ length map.now }
-    ensures memory { IfOk result (λ p. arc_value p.memory ≡ masked (arc_value memory.now) rec.now.kept.delta) }
+    ensures memory { IfOk result (λ p. arc_value p.memory
+        ≡ masked (arc_value memory.now) rec.now.kept.delta) }
     ensures put { IfOk result (λ p. p.put.items ≡ put_of map.now view.now rec.now.kept) }
     ensures views { IfOk result (λ p. AreViewsOf arc_value (arc_value p.memory) p.views.items) }
     ensures enough { IfOk result (λ p.

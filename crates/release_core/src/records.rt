@@ -69,7 +69,8 @@ impl Row {
 /// One place more in row `t`.
 fn add_place(rows: &mut [Row; THREADS], t: usize, place: u32) -> Result<(), AllocError>
     requires { t < THREADS }
-    ensures ok { OnOk result (rows.new ≡ slice_set rows.old t (slice_index_or rows.old t [] ++ place ∷ [])) }
+    ensures ok { OnOk result (rows.new
+        ≡ slice_set rows.old t (slice_index_or rows.old t [] ++ place ∷ [])) }
     ensures err { OnErr result (rows.new ≡ rows.old) }
     ensures count { length rows.old ≡ THREADS }
 {
@@ -195,7 +196,8 @@ impl Records {
     pub fn pop(&mut self)
         requires { 0 < length self.old }
         ensures rest { self.new ≡ take (length self.old - 1) self.old }
-        ensures undo { (rs : List Recorded) (rec : Recorded) → self.old ≡ rs ++ rec ∷ [] → self.new ≡ rs }
+        ensures undo { (rs : List Recorded) (rec : Recorded) → self.old ≡ rs ++ rec ∷ []
+            → self.new ≡ rs }
     {
         match self.list.pop() {
             Some(rec) => drop_place(&mut self.rows, usize::from(rec.thread())),

@@ -262,7 +262,8 @@ pub fn each_round_comes_to_an_end()
 /// a round that goes by a sound history holds of it. What it leaves is honest. However many workers there are, one or
 /// more, they can make a round of each input.
 pub fn each_round_may_be_made()
-    ensures scratch { (setup : Setup) (asked : AskedFor) → IsSetup setup → CanBegin (from_scratch setup asked) }
+    ensures scratch { (setup : Setup) (asked : AskedFor) → IsSetup setup
+        → CanBegin (from_scratch setup asked) }
     ensures memo { (h : History) (limits : Limits) (asked : AskedFor)
         → IsHonest h
         → AreLimits limits.fuel limits.steps
@@ -510,7 +511,8 @@ pub fn unedited_rerun_executes_nothing()
 /// choice. A rerun without lists is one round, round 1, on the memo's input; with the memo's limits it is without
 /// an edit.
 pub fn no_edit_list_is_one_round()
-    ensures marks { (setup : Setup) (schedule : List ℕ) → marked None setup schedule ≡ all_executed schedule }
+    ensures marks { (setup : Setup) (schedule : List ℕ)
+        → marked None setup schedule ≡ all_executed schedule }
     ensures reports { (setup : Setup) (asked : AskedFor) (inputs : List (List ℕ)) (f : Found)
         → AreInputs setup.input [] inputs
         → reports_of (rounds_after (from_scratch setup asked) inputs (f ∷ []))
@@ -548,8 +550,10 @@ pub fn reports_count_right()
         → length (reports_of (rounds_after b inputs found)) ≡ min (length inputs) (length found) }
     ensures made { (b : Beginning) (inputs : List (List ℕ)) (found : List Found)
         → length (made_reports (rounds_after b inputs found)) ≡ min (length inputs) (length found) }
-    ensures shares { (r : Round) (workers : ℕ) → IsMade workers r → length r.found.shares ≡ workers }
-    ensures steps { (r : Round) (workers : ℕ) → IsMade workers r → sum r.found.shares ≡ length (entries_of r) }
+    ensures shares { (r : Round) (workers : ℕ) → IsMade workers r
+        → length r.found.shares ≡ workers }
+    ensures steps { (r : Round) (workers : ℕ) → IsMade workers r
+        → sum r.found.shares ≡ length (entries_of r) }
     ensures steps_made { (r : Round) (workers : ℕ)
         → IsMade workers r
         → sum r.found.shares ≡ length (made r).schedule }

@@ -196,9 +196,11 @@ impl<J: Naming> Board<J> {
         requires name { blank.name ≡ J.name }
         requires parts { (blank.parts ≡ J.parts) × (J.parts ≡ workers) }
         requires workers { (workers ≡ J.workers) × (watches ≡ J.watches) }
-        requires table { (watched.counter.writer.table ≡ J.table) × (watched.counter.writer.added ≡ 0) }
+        requires table { (watched.counter.writer.table ≡ J.table)
+            × (watched.counter.writer.added ≡ 0) }
         requires opening { watched.round ≡ opening J.setup J.past }
-        ensures count { IfOk result (λ made. (vec_len made.1 ≡ workers) × (vec_len made.2 ≡ watches)) }
+        ensures count { IfOk result (λ made. (vec_len made.1 ≡ workers)
+            × (vec_len made.2 ≡ watches)) }
         ensures nothing { IfOk result (λ made. All (λ pass. pass.steps ≡ 0) made.1.items) }
     {
         let Watched { round, mut counter } = watched;
@@ -253,7 +255,8 @@ impl<J: Naming> Board<J> {
         ensures told { result ≢ task.Hold }
         ensures own { BeginsIn (first J.setup).frame result }
         ensures never_lower { pass.old.steps ≤ pass.new.steps }
-        ensures unedited { (h : History) → J.past ≡ Some h → IsUnedited h J.setup → BeginsNothing result }
+        ensures unedited { (h : History) → J.past ≡ Some h → IsUnedited h J.setup
+            → BeginsNothing result }
         ensures asked { pass.old.asked.number < pass.new.asked.number }
         ensures taken { pass.new.taken.number ≡ pass.old.taken.number + begun_by result }
         ensures ready { IsReady result (pass.new.ran.number + held pass.new.begun) pass.new.taken.number }
@@ -375,7 +378,8 @@ impl<J: Naming> Board<J> {
         ensures closed { IsClosed J.setup J.past result.0.round result.0.shares.items result.0.turns }
         ensures shares { result.0.shares.items ≡ map (λ pass. pass.steps) passes.items }
         ensures turns { result.0.turns ≡ sum_by (λ pass. pass.turns) passes.items }
-        ensures numbers { result.1.items ≡ replicate (vec_len watches) (length result.0.round.schedule) }
+        ensures numbers { result.1.items
+            ≡ replicate (vec_len watches) (length result.0.round.schedule) }
         ensures seen { All (λ watch. watch.reader.seen ≤ length result.0.round.schedule) watches.items }
     {
         let Board {

@@ -164,7 +164,8 @@ impl<J: Naming> Locked<J> {
         ensures does { TellsAfter self.old.round result self.new.round }
         ensures same { GoesOn 0 self.old.round self.new.round }
         ensures own { BeginsIn (first J.setup).frame result }
-        ensures unedited { (h : History) → J.past ≡ Some h → IsUnedited h J.setup → BeginsNothing result }
+        ensures unedited { (h : History) → J.past ≡ Some h → IsUnedited h J.setup
+            → BeginsNothing result }
     {
         let Locked { round, .. } = self;
         match round.take(t) {
@@ -185,7 +186,8 @@ impl<J: Naming> Locked<J> {
         ensures own { BeginsIn (first J.setup).frame result }
         ensures counts { Counts pass.old.steps self.old.round pass.new.steps self.new.round }
         ensures never_lower { pass.old.steps ≤ pass.new.steps }
-        ensures unedited { (h : History) → J.past ≡ Some h → IsUnedited h J.setup → BeginsNothing result }
+        ensures unedited { (h : History) → J.past ≡ Some h → IsUnedited h J.setup
+            → BeginsNothing result }
         ensures asked { pass.new.asked.number ≡ pass.old.asked.number + 1 }
         ensures taken { pass.new.taken.number ≡ pass.old.taken.number + begun_by result }
         ensures ready { IsReady result (pass.new.ran.number + held pass.new.begun) pass.new.taken.number }

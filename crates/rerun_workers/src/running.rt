@@ -48,11 +48,14 @@ fn run_by_first<G: Gate>(
 ) -> Result<Worked, AllocError>
     requires some { 1 ≤ workers }
     requires unused { workers ≡ 1 → turns ≡ 0 }
-    requires idle { (h : Kept) → option_map arc_value past ≡ Some h → IsUnedited h setup → turns ≡ 0 }
+    requires idle { (h : Kept) → option_map arc_value past ≡ Some h → IsUnedited h setup
+        → turns ≡ 0 }
     ensures round { IfOk result (λ r.
         IsRoundBy workers setup (option_map arc_value past) r.round r.shares.items) }
-    ensures shares { IfOk result (λ r. r.shares.items ≡ length r.round.schedule ∷ replicate (workers - 1) 0) }
-    ensures cost { IfOk result (λ r. IsCostOf workers setup (option_map arc_value past) r.round r.turns) }
+    ensures shares { IfOk result (λ r. r.shares.items
+        ≡ length r.round.schedule ∷ replicate (workers - 1) 0) }
+    ensures cost { IfOk result
+        (λ r. IsCostOf workers setup (option_map arc_value past) r.round r.turns) }
 {
     let round = run_alone_shown(alloc, setup, past, &mut turns, gate)?;
     let shares = first_makes(alloc, round.schedule().len() as u64, workers)?;
@@ -74,11 +77,14 @@ fn run_by_first_watched<G: Gate>(
 ) -> Result<(Worked, Vec<u64>), AllocError>
     requires some { 1 ≤ workers }
     requires unused { workers ≡ 1 → turns ≡ 0 }
-    requires idle { (h : Kept) → option_map arc_value past ≡ Some h → IsUnedited h setup → turns ≡ 0 }
+    requires idle { (h : Kept) → option_map arc_value past ≡ Some h → IsUnedited h setup
+        → turns ≡ 0 }
     ensures round { IfOk result (λ r.
         IsRoundBy workers setup (option_map arc_value past) r.0.round r.0.shares.items) }
-    ensures shares { IfOk result (λ r. r.0.shares.items ≡ length r.0.round.schedule ∷ replicate (workers - 1) 0) }
-    ensures cost { IfOk result (λ r. IsCostOf workers setup (option_map arc_value past) r.0.round r.0.turns) }
+    ensures shares { IfOk result (λ r. r.0.shares.items
+        ≡ length r.0.round.schedule ∷ replicate (workers - 1) 0) }
+    ensures cost { IfOk result
+        (λ r. IsCostOf workers setup (option_map arc_value past) r.0.round r.0.turns) }
     ensures progress { IfOk result (λ r. IsProgress workers (length r.0.round.schedule) r.1.items) }
 {
     let worked = run_by_first(alloc, setup, past, workers, gate, turns)?;
@@ -133,7 +139,8 @@ pub fn run_round<R: Threads + Wait + Sync, G: Gate + Sync>(
     requires { 1 ≤ workers }
     ensures round { IfOk result (λ r.
         IsRoundBy workers setup (option_map arc_value past) r.round r.shares.items) }
-    ensures cost { IfOk result (λ r. IsCostOf workers setup (option_map arc_value past) r.round r.turns) }
+    ensures cost { IfOk result
+        (λ r. IsCostOf workers setup (option_map arc_value past) r.round r.turns) }
 {
     if workers == 1 {
         return run_by_first(alloc, setup, past, workers, gate, Turns::new(rt));
@@ -177,7 +184,8 @@ pub fn run_round_watched<R: Threads + Wait + Sync, G: Gate + Sync>(
     requires { 1 ≤ workers }
     ensures round { IfOk result (λ r.
         IsRoundBy workers setup (option_map arc_value past) r.0.round r.0.shares.items) }
-    ensures cost { IfOk result (λ r. IsCostOf workers setup (option_map arc_value past) r.0.round r.0.turns) }
+    ensures cost { IfOk result
+        (λ r. IsCostOf workers setup (option_map arc_value past) r.0.round r.0.turns) }
     ensures progress { IfOk result (λ r. IsProgress workers (length r.0.round.schedule) r.1.items) }
 {
     if workers == 1 {

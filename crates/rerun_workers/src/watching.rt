@@ -85,7 +85,8 @@ impl Counter {
         requires { self.old.writer.table ≡ J.table }
         ensures added { self.new.writer.added ≡ self.old.writer.added }
         ensures table { self.new.writer.table ≡ self.old.writer.table }
-        ensures seen { (watch.reader.seen ≤ self.new.writer.seen) × (self.old.writer.seen ≤ self.new.writer.seen) }
+        ensures seen { (watch.reader.seen ≤ self.new.writer.seen)
+            × (self.old.writer.seen ≤ self.new.writer.seen) }
     {
         let Counter { word, writer } = self;
         let Watch { reader, .. } = watch;
@@ -131,8 +132,10 @@ pub(super) fn note(numbers: &mut Vec<u64>, number: u64)
     ensures ascends { IsStrictlyIncreasing numbers.new.items }
     ensures few { vec_len numbers.new ≤ vec_len numbers.old + 1 }
     ensures room { vec_capacity numbers.new ≡ vec_capacity numbers.old }
-    ensures last { All (λ n. n ≤ number) numbers.old.items → last_or None numbers.new.items ≡ Some number }
-    ensures below { All (λ n. n ≤ number) numbers.old.items → All (λ n. n ≤ number) numbers.new.items }
+    ensures last { All (λ n. n ≤ number) numbers.old.items
+        → last_or None numbers.new.items ≡ Some number }
+    ensures below { All (λ n. n ≤ number) numbers.old.items
+        → All (λ n. n ≤ number) numbers.new.items }
 {
     match numbers.last() {
         Some(last) if number <= *last => {}

@@ -44,7 +44,8 @@ fn run_job<J: Naming, W: Watch>(
     requires edited { (h : History) → J.past ≡ Some h → IsUnedited h J.setup → ⊥ }
     requires ready { pass.old.ran.number + held pass.old.begun < pass.old.taken.number }
     ensures run { IfOk result (λ run. IsRunOf job.now run) }
-    ensures cost { IfOk result (λ run. pass.new.turns ≡ pass.old.turns + (arc_value run.rec).kept.count) }
+    ensures cost { IfOk result (λ run. pass.new.turns
+        ≡ pass.old.turns + (arc_value run.rec).kept.count) }
     ensures same { pass.new.steps ≡ pass.old.steps }
 {
     let Pass { turns, ran, .. } = pass;
@@ -95,7 +96,8 @@ fn next_task<J: Naming, R: Wait, G: Gate>(
     ensures told { result ≢ task.Hold }
     ensures own { BeginsIn (first J.setup).frame result }
     ensures never_lower { pass.old.steps ≤ pass.new.steps }
-    ensures unedited { (h : History) → J.past ≡ Some h → IsUnedited h J.setup → BeginsNothing result }
+    ensures unedited { (h : History) → J.past ≡ Some h → IsUnedited h J.setup
+        → BeginsNothing result }
     ensures ready { IsReady result (pass.new.ran.number + held pass.new.begun) pass.new.taken.number }
 {
     let before = pass.steps();

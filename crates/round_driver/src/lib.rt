@@ -156,10 +156,12 @@ pub fn drive(
     events: &[Event],
     turns: &mut Turns,
 ) -> Result<Round, AllocError>
-    ensures round { IfOk result (λ round. round ≡ round_after setup (option_map arc_value past) events.now) }
+    ensures round { IfOk result (λ round. round
+        ≡ round_after setup (option_map arc_value past) events.now) }
     ensures cost { IfOk result (λ round. turns.new ≡ turns.old + executed_by round) }
     ensures never_lower { turns.old ≤ turns.new }
-    ensures scratch { IfOk result (λ round. IsSound (option_map arc_value past) setup → IsFromScratch round) }
+    ensures scratch { IfOk result (λ round. IsSound (option_map arc_value past) setup
+        → IsFromScratch round) }
     ensures every_order { IfOk result (λ round. (h : Kept) (places : List ℕ)
         → option_map arc_value past ≡ Some h
         → IsUnedited h setup

@@ -59,7 +59,8 @@ impl Inputs {
     ///
     /// `AllocError` where the host's memory ran out. The inputs that are to come are then as before.
     pub fn next(&mut self) -> Result<Option<Vec<u8>>, AllocError>
-        ensures taken { IfOk result (λ taken. IfSome taken (λ input. self.old ≡ input.items ∷ self.new)) }
+        ensures taken { IfOk result (λ taken. IfSome taken (λ input. self.old
+            ≡ input.items ∷ self.new)) }
         ensures none { IfOk result (λ taken. IfNone taken (self.old ≡ [])) }
         ensures same { IfOk result (λ taken. IfNone taken (self.new ≡ self.old)) }
         ensures kept { OnErr result (self.new ≡ self.old) }

@@ -56,7 +56,8 @@ fn done_to(
 /// the first that spells no edit, and `OutOfRange` where all lines spell edits and it is the first that passes its
 /// bound on the input before. Or `NoMemory`.
 pub fn inputs_of(alloc: Global, first: Vec<u8>, lists: &[Vec<u8>]) -> Result<Inputs, InputsError>
-    ensures inputs { IfOk result (λ inputs. AreInputs first.items (bytes_of_each lists.now) inputs) }
+    ensures inputs { IfOk result
+        (λ inputs. AreInputs first.items (bytes_of_each lists.now) inputs) }
     ensures short { length first.items ≤ MOST_INPUT_BYTES
         → IfOk result (λ inputs. All (λ input. length input ≤ MOST_INPUT_BYTES) inputs) }
     ensures refused { IfErr result (WhyNoInputs first.items (bytes_of_each lists.now)) }

@@ -67,7 +67,8 @@ pub(super) fn memory_line(
     digested: &Digested,
     into: &mut Vec<u8>,
 ) -> Result<(), AllocError>
-    ensures { OnOk result (into.new.items ≡ into.old.items ++ line (codes "memory") (memory_digest digested.now)) }
+    ensures { OnOk result (into.new.items
+        ≡ into.old.items ++ line (codes "memory") (memory_digest digested.now)) }
 {
     let digest = hex::encode(alloc, digested.digest().as_slice())?;
     text_line("memory", digest.as_bytes(), into)

@@ -12,7 +12,8 @@ use std::alloc::{AllocError, Global};
 
 /// Appends the line of the end, which names none where there is none.
 pub fn end_line(alloc: Global, ending: Option<End>, into: &mut Vec<u8>) -> Result<(), AllocError>
-    ensures { OnOk result (into.new.items ≡ into.old.items ++ line (codes "end") (ending_text ending)) }
+    ensures { OnOk result (into.new.items
+        ≡ into.old.items ++ line (codes "end") (ending_text ending)) }
 {
     into.extend_from_slice(b"end ")?;
     append_ending(alloc, ending, into)?;

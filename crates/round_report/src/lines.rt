@@ -79,7 +79,8 @@ fn executed_entries(schedule: &[Entry]) -> usize
 
 /// Appends the line of the workers' shares: each of them after a space.
 pub fn shares_line(alloc: Global, shares: &[u64], into: &mut Vec<u8>) -> Result<(), AllocError>
-    ensures { OnOk result (into.new.items ≡ into.old.items ++ list_line (codes "by") decimal shares.now) }
+    ensures { OnOk result (into.new.items
+        ≡ into.old.items ++ list_line (codes "by") decimal shares.now) }
 {
     ith_text::list(alloc, "by", shares, into)
 }
@@ -105,7 +106,8 @@ pub fn schedule_line(
     schedule: &[Entry],
     into: &mut Vec<u8>,
 ) -> Result<(), AllocError>
-    ensures { OnOk result (into.new.items ≡ into.old.items ++ list_line (codes "schedule") entry_text schedule.now) }
+    ensures { OnOk result (into.new.items
+        ≡ into.old.items ++ list_line (codes "schedule") entry_text schedule.now) }
 {
     into.extend_from_slice(b"schedule")?;
     for entry in schedule {

@@ -73,7 +73,8 @@ pub fn commit_lays_its_record()
 /// entries, and each thread as many as there are of it; its records are of the entries' threads, numbered
 /// so; and the record of a reused entry is the history's own. By which history it goes doesn't matter.
 pub fn rounds_count_right()
-    ensures event { (w : RoundState) (e : Event) → IsInOrder w → IsCounted w → IsCounted (happens w e) }
+    ensures event { (w : RoundState) (e : Event) → IsInOrder w → IsCounted w
+        → IsCounted (happens w e) }
     ensures events { (setup : Setup) (past : Option History) (events : List Event)
         → IsSetup setup
         → IsCounted (round_after setup past events) }
@@ -83,7 +84,8 @@ pub fn rounds_count_right()
 /// schedule comes to the same machine and the same records. So a round is known by its schedule with marks,
 /// whoever made its steps. By which history it goes doesn't matter.
 pub fn rounds_are_by_their_schedules()
-    ensures event { (w : RoundState) (e : Event) → IsInOrder w → IsBySchedule w → IsBySchedule (happens w e) }
+    ensures event { (w : RoundState) (e : Event) → IsInOrder w → IsBySchedule w
+        → IsBySchedule (happens w e) }
     ensures events { (setup : Setup) (past : Option History) (events : List Event)
         → IsSetup setup
         → IsBySchedule (round_after setup past events) }

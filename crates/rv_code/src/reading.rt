@@ -16,8 +16,10 @@ use rv_decode::decode;
 
 /// The index of a target's word in the page of an address; none where the page has no word there.
 fn index_in_page(target: u32, address: u32) -> Option<u32>
-    ensures found { IfSome result (λ index. (index < 1024) × (word_address address index ≡ target)) }
-    ensures missing { IfNone result ((index : ℕ) → index < 1024 → word_address address index ≢ target) }
+    ensures found { IfSome result (λ index. (index < 1024)
+        × (word_address address index ≡ target)) }
+    ensures missing { IfNone result ((index : ℕ) → index < 1024
+        → word_address address index ≢ target) }
 {
     let page = PAGE_SIZE as u32;
     if target % 4 == 0 && target / page == address / page {
@@ -30,7 +32,8 @@ fn index_in_page(target: u32, address: u32) -> Option<u32>
 /// A value put into rd, whatever the registers.
 fn constant(rd: u8, value: u32) -> Operation
     requires { rd < 32 }
-    ensures { (address : ℕ) (i : Instr) → PutsConstant address i rd value → ReadAs address i result }
+    ensures { (address : ℕ) (i : Instr) → PutsConstant address i rd value
+        → ReadAs address i result }
 {
     if rd == 0 {
         return NOTHING;

@@ -77,7 +77,8 @@ fn load_kind<M: Mem>(
     ensures ok { IfOk result (λ outcome.
         Makes (load_turn (M.workspace mem.old).map (M.workspace mem.old).memory regs.old kind rd address)
         (M.workspace mem.old) outcome regs.new (M.workspace mem.new)) }
-    ensures err { OnErr result ((regs.new ≡ regs.old) × (M.workspace mem.new ≡ M.workspace mem.old)) }
+    ensures err { OnErr result ((regs.new ≡ regs.old)
+        × (M.workspace mem.new ≡ M.workspace mem.old)) }
 {
     let size = size_loaded(kind);
     if !is_aligned(address, size) {
@@ -110,7 +111,8 @@ pub(super) fn execute_load<M: Mem>(
         Makes (load_turn (M.workspace mem.old).map (M.workspace mem.old).memory regs.old kind rd
         (sum_of (register regs.old rs1) offset))
         (M.workspace mem.old) outcome regs.new (M.workspace mem.new)) }
-    ensures err { OnErr result ((regs.new ≡ regs.old) × (M.workspace mem.new ≡ M.workspace mem.old)) }
+    ensures err { OnErr result ((regs.new ≡ regs.old)
+        × (M.workspace mem.new ≡ M.workspace mem.old)) }
 {
     let address = regs.get(rs1).wrapping_add(offset);
     match kind {
@@ -134,7 +136,8 @@ fn store_kind<M: Mem>(
     ensures ok { IfOk result (λ outcome.
         Makes (store_turn (M.workspace mem.old).map regs.old kind address value)
         (M.workspace mem.old) outcome regs.new (M.workspace mem.new)) }
-    ensures err { OnErr result ((regs.new ≡ regs.old) × (M.workspace mem.new ≡ M.workspace mem.old)) }
+    ensures err { OnErr result ((regs.new ≡ regs.old)
+        × (M.workspace mem.new ≡ M.workspace mem.old)) }
 {
     let size = size_stored(kind);
     if !is_aligned(address, size) {
@@ -166,7 +169,8 @@ pub(super) fn execute_store<M: Mem>(
         Makes (store_turn (M.workspace mem.old).map regs.old kind
         (sum_of (register regs.old rs1) offset) (register regs.old rs2))
         (M.workspace mem.old) outcome regs.new (M.workspace mem.new)) }
-    ensures err { OnErr result ((regs.new ≡ regs.old) × (M.workspace mem.new ≡ M.workspace mem.old)) }
+    ensures err { OnErr result ((regs.new ≡ regs.old)
+        × (M.workspace mem.new ≡ M.workspace mem.old)) }
 {
     let address = regs.get(rs1).wrapping_add(offset);
     let value = regs.get(rs2);

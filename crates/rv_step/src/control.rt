@@ -149,7 +149,8 @@ fn jump_alone(regs: &mut Regs, target: u32) -> Outcome
 #[inline(always)]
 pub(super) fn jump_by(regs: &mut Regs, rd: u8, offset: u32) -> Outcome
     requires { rd < 32 }
-    ensures { untouched result regs.new ≡ jumped regs.old (linked regs.old rd) (sum_of regs.old.pc offset) }
+    ensures { untouched result regs.new
+        ≡ jumped regs.old (linked regs.old rd) (sum_of regs.old.pc offset) }
 {
     let target = regs.pc().wrapping_add(offset);
     jump(regs, rd, target)

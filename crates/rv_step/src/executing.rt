@@ -45,7 +45,8 @@ pub(super) fn execute_operation<M: Mem>(
 ) -> Result<Flow, AllocError>
     ensures ok { IfOk result (λ flow.
         Leads flow placed (M.workspace mem.old) regs.old (M.workspace mem.new) regs.new) }
-    ensures err { OnErr result ((regs.new ≡ regs.old) × (M.workspace mem.new ≡ M.workspace mem.old)) }
+    ensures err { OnErr result ((regs.new ≡ regs.old)
+        × (M.workspace mem.new ≡ M.workspace mem.old)) }
 {
     by_kind!(placed.kind;
         load(placed, regs, mem) {

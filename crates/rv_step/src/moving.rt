@@ -30,7 +30,8 @@ pub(super) fn load<M: Mem>(
         ≡ Some (instr.Load kind placed.rd placed.rs1 placed.imm) }
     ensures ok { IfOk result (λ flow.
         Leads flow placed (M.workspace mem.old) regs.old (M.workspace mem.new) regs.new) }
-    ensures err { OnErr result ((regs.new ≡ regs.old) × (M.workspace mem.new ≡ M.workspace mem.old)) }
+    ensures err { OnErr result ((regs.new ≡ regs.old)
+        × (M.workspace mem.new ≡ M.workspace mem.old)) }
 {
     let address = regs.get(placed.rs1).wrapping_add(placed.imm);
     let size = size_loaded(kind);

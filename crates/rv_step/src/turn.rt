@@ -27,7 +27,8 @@ fn execute<M: Mem>(regs: &mut Regs, mem: &mut M, instr: Instr) -> Result<Outcome
     ensures ok { IfOk result (λ outcome.
         Makes (executed (M.workspace mem.old).map (M.workspace mem.old).memory regs.old instr)
         (M.workspace mem.old) outcome regs.new (M.workspace mem.new)) }
-    ensures err { OnErr result ((regs.new ≡ regs.old) × (M.workspace mem.new ≡ M.workspace mem.old)) }
+    ensures err { OnErr result ((regs.new ≡ regs.old)
+        × (M.workspace mem.new ≡ M.workspace mem.old)) }
 {
     match instr {
         Instr::Lui { rd, imm } => Ok(compute(regs, rd, imm)),
@@ -89,7 +90,8 @@ pub fn step<M: Mem>(regs: &mut Regs, mem: &mut M, turns: &mut Turns) -> Result<O
     ensures ok { IfOk result (λ outcome.
         Makes (turn (M.workspace mem.old).map (M.workspace mem.old).memory regs.old)
         (M.workspace mem.old) outcome regs.new (M.workspace mem.new)) }
-    ensures err { OnErr result ((regs.new ≡ regs.old) × TookAtMost regs.old.pc (M.workspace mem.old) (M.workspace mem.new)) }
+    ensures err { OnErr result ((regs.new ≡ regs.old)
+        × TookAtMost regs.old.pc (M.workspace mem.old) (M.workspace mem.new)) }
 {
     turns.count(1);
     let pc = regs.pc();

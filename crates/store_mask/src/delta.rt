@@ -107,7 +107,8 @@ impl PageDelta {
     ///
     /// An error where the host's memory ran out, or the own copy has as many holders as can be counted.
     pub fn written_shared(&self, page: &Page) -> Result<Arc<Page>, AllocError>
-        ensures { IfOk result (λ after. arc_value after ≡ spread self.now.mask self.now.bytes page.now) }
+        ensures { IfOk result (λ after. arc_value after
+            ≡ spread self.now.mask self.now.bytes page.now) }
     {
         if self.mask.gives_written(page.bytes(), self.page.bytes()) {
             return Arc::try_clone(&self.page);
@@ -119,7 +120,8 @@ impl PageDelta {
     /// the room for it also where the own copy is the page.
     #[inline(never)]
     fn made(&self, page: &Page) -> Result<Arc<Page>, AllocError>
-        ensures { IfOk result (λ after. arc_value after ≡ spread self.now.mask self.now.bytes page.now) }
+        ensures { IfOk result (λ after. arc_value after
+            ≡ spread self.now.mask self.now.bytes page.now) }
     {
         let after = Arc::new(self.alloc, self.written(page))?;
         Ok(after)

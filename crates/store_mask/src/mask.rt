@@ -112,7 +112,8 @@ impl Mask {
     pub fn gives_written(&self, page: &[u8], written: &[u8]) -> bool
         requires page_is_whole { length page.now ≡ PAGE_SIZE }
         requires written_is_whole { length written.now ≡ PAGE_SIZE }
-        ensures { Decides result (spread self.now (chosen self.now written.now) page.now ≡ written.now) }
+        ensures { Decides result (spread self.now (chosen self.now written.now) page.now
+            ≡ written.now) }
     {
         for number in 0..MASK_WORDS {
             if !gives_word(page, written, WORD_PLACES * number, self.word(number)) {

@@ -123,7 +123,8 @@ impl Barriers {
     /// pthread_barrier_wait).
     pub fn wait(&mut self, t: Thread, b: u32) -> Effect
         requires free { waits barrier_queue self.old t ≡ 0 }
-        ensures { (result, self.new) ≡ tables.at_cell uninitialised (barrier_wait_row t) self.old b }
+        ensures { (result, self.new)
+            ≡ tables.at_cell uninitialised (barrier_wait_row t) self.old b }
     {
         threads_are_few(t);
         at_cell(

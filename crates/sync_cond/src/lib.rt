@@ -138,7 +138,8 @@ impl Conditions {
     pub fn signal(&mut self, c: u32) -> Option<Leaving>
         ensures does { (result, self.new) ≡ leaving_at signal_leaving self.old c }
         ensures mutex { IfSome result (λ l. l.mutex < OBJECTS) }
-        ensures waited { IfSome result (λ l. (u : ℕ) → places u l.threads ≤ waits condition_queue self.old u) }
+        ensures waited { IfSome result (λ l. (u : ℕ)
+            → places u l.threads ≤ waits condition_queue self.old u) }
     {
         row_at(&mut self.cells, c, Cell::signal)
     }
@@ -148,7 +149,8 @@ impl Conditions {
     pub fn broadcast(&mut self, c: u32) -> Option<Leaving>
         ensures does { (result, self.new) ≡ leaving_at broadcast_leaving self.old c }
         ensures mutex { IfSome result (λ l. l.mutex < OBJECTS) }
-        ensures waited { IfSome result (λ l. (u : ℕ) → places u l.threads ≤ waits condition_queue self.old u) }
+        ensures waited { IfSome result (λ l. (u : ℕ)
+            → places u l.threads ≤ waits condition_queue self.old u) }
     {
         row_at(&mut self.cells, c, Cell::broadcast)
     }

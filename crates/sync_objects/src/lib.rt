@@ -48,7 +48,8 @@ fn cond_wait(
     m: u32,
 ) -> Effect
     requires { waits condition_queue conditions.old t ≡ 0 }
-    ensures { (result, (conditions.new, mutexes.new)) ≡ cond_wait_at t conditions.old mutexes.old c m }
+    ensures { (result, (conditions.new, mutexes.new))
+        ≡ cond_wait_at t conditions.old mutexes.old c m }
 {
     if !is_object(c) || !is_object(m) {
         return Effect::answers(EINVAL);
@@ -69,7 +70,8 @@ fn come_back(mutexes: &mut Mutexes, leaving: &Leaving) -> Effect
     requires once { (u : ℕ) → waits mutex_queue mutexes.old u + places u leaving.now.threads ≤ 1 }
     ensures effect { result
         ≡ wakes (Fate.Returns 0 None) (admit_each_at mutexes.old leaving.now.mutex leaving.now.threads).0 }
-    ensures mutexes { mutexes.new ≡ (admit_each_at mutexes.old leaving.now.mutex leaving.now.threads).1 }
+    ensures mutexes { mutexes.new
+        ≡ (admit_each_at mutexes.old leaving.now.mutex leaving.now.threads).1 }
 {
     let woken = mutexes.admit_each(leaving.mutex, &leaving.threads);
     Effect::wakes(Fate::Returns(0, None), woken)
@@ -77,8 +79,10 @@ fn come_back(mutexes: &mut Mutexes, leaving: &Leaving) -> Effect
 
 /// The first who waits for condition `c` comes to its mutex.
 fn signal(conditions: &mut Conditions, mutexes: &mut Mutexes, c: u32) -> Effect
-    requires { (u : ℕ) → waits mutex_queue mutexes.old u + waits condition_queue conditions.old u ≤ 1 }
-    ensures { (result, (conditions.new, mutexes.new)) ≡ leave_at signal_leaving conditions.old mutexes.old c }
+    requires { (u : ℕ)
+        → waits mutex_queue mutexes.old u + waits condition_queue conditions.old u ≤ 1 }
+    ensures { (result, (conditions.new, mutexes.new))
+        ≡ leave_at signal_leaving conditions.old mutexes.old c }
 {
     match conditions.signal(c) {
         None => Effect::answers(EINVAL),
@@ -88,8 +92,10 @@ fn signal(conditions: &mut Conditions, mutexes: &mut Mutexes, c: u32) -> Effect
 
 /// All who wait for condition `c` come to its mutex.
 fn broadcast(conditions: &mut Conditions, mutexes: &mut Mutexes, c: u32) -> Effect
-    requires { (u : ℕ) → waits mutex_queue mutexes.old u + waits condition_queue conditions.old u ≤ 1 }
-    ensures { (result, (conditions.new, mutexes.new)) ≡ leave_at broadcast_leaving conditions.old mutexes.old c }
+    requires { (u : ℕ)
+        → waits mutex_queue mutexes.old u + waits condition_queue conditions.old u ≤ 1 }
+    ensures { (result, (conditions.new, mutexes.new))
+        ≡ leave_at broadcast_leaving conditions.old mutexes.old c }
 {
     match conditions.broadcast(c) {
         None => Effect::answers(EINVAL),
@@ -199,7 +205,8 @@ impl Objects {
         requires exists { t < length self.old.threads }
         requires free { spec.waits_at self.old t ≡ 0 }
         requires no_put { is_put call ≡ false }
-        ensures { (readable : ℕ → ℕ → Bool) → (result, self.new) ≡ spec.act readable self.old t call }
+        ensures { (readable : ℕ → ℕ → Bool)
+            → (result, self.new) ≡ spec.act readable self.old t call }
     {
         act_on(&mut self.tables, t, call)
     }
@@ -208,7 +215,8 @@ impl Objects {
     /// the pages are.
     pub fn acts_on(&self, call: Call) -> ActedOn
         requires { is_put call ≡ false }
-        ensures { (readable : ℕ → ℕ → Bool) → objects_in result ≡ spec.acts_on readable self.now call }
+        ensures { (readable : ℕ → ℕ → Bool)
+            → objects_in result ≡ spec.acts_on readable self.now call }
     {
         acting::acts_on(&*self.tables.conditions, call)
     }

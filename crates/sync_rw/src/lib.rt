@@ -178,7 +178,8 @@ impl Cell {
 
     /// The first who waits becomes a reader, if it waits to read. Gives who it is.
     fn admit_first_reader(&mut self) -> Option<Thread>
-        ensures { (result, self.new) ≡ first_admitted self.old.writer self.old.readers self.old.queue }
+        ensures { (result, self.new)
+            ≡ first_admitted self.old.writer self.old.readers self.old.queue }
     {
         let first = *self.queue.as_slice().first()?;
         if first.writes {

@@ -51,7 +51,8 @@ fn page_shown<'a, M: Mem>(
 ) -> Option<&'a CodePage>
     requires mapped { slot < length (M.workspace mem.now).view }
     requires seen { AreSeen code.now (M.workspace mem.now).view seen.old }
-    ensures shown { IfSome result (λ page. page_of (M.workspace mem.now).view slot ≡ page.now.bytes) }
+    ensures shown { IfSome result (λ page. page_of (M.workspace mem.now).view slot
+        ≡ page.now.bytes) }
     ensures seen { AreSeen code.now (M.workspace mem.now).view seen.new }
 {
     let page = code.page(slot)?;
@@ -78,7 +79,8 @@ fn enter_page<'a, M: Mem>(
     requires { AreSeen code.now (M.workspace mem.old).view seen.old }
     ensures here { IfSome result (λ page. regs.now.pc / 4096 ≡ page.now.number) }
     ensures aligned { IfSome result (λ page. regs.now.pc % 4 ≡ 0) }
-    ensures runs { IfSome result (λ page. RunsFrom (M.workspace mem.new) page.now.number page.now.bytes) }
+    ensures runs { IfSome result
+        (λ page. RunsFrom (M.workspace mem.new) page.now.number page.now.bytes) }
     ensures seen { AreSeen code.now (M.workspace mem.new).view seen.new }
     ensures left { (n : ℕ) → 1 ≤ n
         → left_after n (M.workspace mem.new) regs.now ≡ left_after n (M.workspace mem.old) regs.now }

@@ -92,7 +92,8 @@ fn range_of(map: &PageMap, call: Option<Call>) -> Range
 /// The bytes that the thunk with this end and these registers appends; none where no put ends it.
 #[tactic(auto, unfolding(thunk_spec::specs::Put::put_addresses), using(crate::proofs::Ends::readable_none))]
 pub fn put_range(map: &PageMap, end: ThunkEnd, regs: &Regs) -> Range
-    ensures addresses { range_with_len result.start result.len ≡ put_addresses map.now end regs.now }
+    ensures addresses { range_with_len result.start result.len
+        ≡ put_addresses map.now end regs.now }
     ensures in_range { result.start + result.len ≤ 2 ^ 32 }
     ensures few { result.len ≤ 4096 }
     ensures readable { is_readable map.now result.start result.len ≡ true }
@@ -111,7 +112,8 @@ pub fn put_range(map: &PageMap, end: ThunkEnd, regs: &Regs) -> Range
 #[tactic(auto, unfolding(memory_spec::specs::Access::loaded))]
 fn take_byte<M: Mem>(mem: &mut M, address: u32) -> Result<(), AllocError>
     requires { allows read_right (permission_at (M.workspace mem.old).map address) ≡ true }
-    ensures { IfOk result (λ done. M.workspace mem.new ≡ after_taking (M.workspace mem.old) (address ∷ [])) }
+    ensures { IfOk result (λ done. M.workspace mem.new
+        ≡ after_taking (M.workspace mem.old) (address ∷ [])) }
 {
     match mem.load(address, Size::One) {
         Ok(_) | Err(MemoryError::Access) => Ok(()),

@@ -78,7 +78,8 @@ fn run_thunk<W: Watch>(
 /// An error where the host's memory ran out; the counter may have risen, and is never lower.
 pub fn execute(alloc: Global, job: &Job, turns: &mut Turns) -> Result<Run, AllocError>
     ensures run { IfOk result (λ run. IsRunOf job.now run) }
-    ensures within { IfOk result (λ run. IsWithinFuel (arc_value job.now.frame).fuel (arc_value run.rec).kept.count) }
+    ensures within { IfOk result
+        (λ run. IsWithinFuel (arc_value job.now.frame).fuel (arc_value run.rec).kept.count) }
     ensures cost { IfOk result (λ run. turns.new ≡ turns.old + (arc_value run.rec).kept.count) }
     ensures never_lower { turns.old ≤ turns.new }
 {
@@ -98,7 +99,8 @@ pub fn execute_watched<W: Watch>(
     watch: &W,
 ) -> Result<Run, AllocError>
     ensures run { IfOk result (λ run. IsRunOf job.now run) }
-    ensures within { IfOk result (λ run. IsWithinFuel (arc_value job.now.frame).fuel (arc_value run.rec).kept.count) }
+    ensures within { IfOk result
+        (λ run. IsWithinFuel (arc_value job.now.frame).fuel (arc_value run.rec).kept.count) }
     ensures cost { IfOk result (λ run. turns.new ≡ turns.old + (arc_value run.rec).kept.count) }
     ensures never_lower { turns.old ≤ turns.new }
 {

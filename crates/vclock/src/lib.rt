@@ -60,7 +60,8 @@ impl Clock {
     /// The larger of each thread's two counts.
     pub fn join(&mut self, other: &Clock)
         ensures count { length self.new ≡ THREADS }
-        ensures larger { (t : ℕ) → slice_index self.new t ≡ max (slice_index self.old t) (slice_index other.now t) }
+        ensures larger { (t : ℕ)
+            → slice_index self.new t ≡ max (slice_index self.old t) (slice_index other.now t) }
     {
         let theirs = u32x32::from_array(other.counts);
         self.counts = u32x32::from_array(self.counts).simd_max(theirs).to_array();

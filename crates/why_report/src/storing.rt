@@ -120,7 +120,8 @@ pub fn last_store(
 /// No search yet.
 pub fn no_searches(alloc: Global) -> Result<Vec<Search>, AllocError>
     ensures room { IfOk result (λ searches. 0 < length searches.items) }
-    ensures right { (records : List Recorded) → IfOk result (λ searches. All (IsRight records) searches.items) }
+    ensures right { (records : List Recorded)
+        → IfOk result (λ searches. All (IsRight records) searches.items) }
 {
     let mut searches = Vec::new(alloc);
     searches.resize(REMEMBERED, Search::of_none(0, 0))?;

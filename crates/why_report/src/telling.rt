@@ -46,7 +46,8 @@ fn append_place(
     place: usize,
     into: &mut Vec<u8>,
 ) -> Result<(), AllocError>
-    ensures { OnOk result (into.new.items ≡ into.old.items ++ codes "page " ++ hex8 page ++ codes " at " ++ decimal place) }
+    ensures { OnOk result (into.new.items
+        ≡ into.old.items ++ codes "page " ++ hex8 page ++ codes " at " ++ decimal place) }
 {
     into.extend_from_slice(b"page ")?;
     hex8(alloc, page, into)?;

@@ -150,7 +150,8 @@ fn reason_at(
     requires whole { IsWhole core.now }
     requires pages { AreOf round.now pages.old }
     ensures pages { AreOf round.now pages.new }
-    ensures reason { result ≡ reason_of (made_before round.now) round.now step (slice_get round.now.schedule step) }
+    ensures reason { result
+        ≡ reason_of (made_before round.now) round.now step (slice_get round.now.schedule step) }
     ensures each { GoesByOldRun round.now.past round.now.setup
         → is_some result ≡ is_executed (slice_get round.now.schedule step) }
 {
@@ -172,7 +173,8 @@ fn reason_at(
 
 /// Which threads are ready.
 fn ready_threads(core: &Core) -> [bool; THREADS]
-    ensures { (t : ℕ) → t < THREADS → slice_index_or result t false ≡ is_ready (hart_of core.now t).status }
+    ensures { (t : ℕ) → t < THREADS
+        → slice_index_or result t false ≡ is_ready (hart_of core.now t).status }
 {
     array::from_fn(|t| core.ready(t as u8))
 }

@@ -122,7 +122,8 @@ fn add_reads<'a>(
         ≡ fold with_page (pages_lent known.old.pool.items) (bytes_read reads.now)) }
     ensures places { OnOk result (places.new.items
         ≡ places.old.items ++ places_from (pages_lent known.old.pool.items) (bytes_read reads.now)) }
-    ensures few { OnOk result (length known.new.pool.items ≤ length known.old.pool.items + length reads.now) }
+    ensures few { OnOk result (length known.new.pool.items
+        ≤ length known.old.pool.items + length reads.now) }
 {
     for read in reads {
         let place = add_read(known, read)?;
@@ -138,7 +139,8 @@ pub fn pool_of_history<'a>(
     slots: usize,
 ) -> Result<Pool<'a>, AllocError>
     requires { IsSpellable history.now }
-    ensures { IfOk result (λ pool. IsPoolOf history.now (pages_lent pool.pages.items) pool.places.items) }
+    ensures { IfOk result
+        (λ pool. IsPoolOf history.now (pages_lent pool.pages.items) pool.places.items) }
 {
     let mut places = Vec::new(alloc);
     let mut known = Known {

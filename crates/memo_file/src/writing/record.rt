@@ -76,7 +76,8 @@ fn write_reads(
 /// Appends stored pages.
 fn write_delta(out: &mut Vec<u8>, slots: &PageMap, delta: &[PageDelta]) -> Result<(), AllocError>
     requires { All (λ d. d.slot < length slots.now) delta.now }
-    ensures { OnOk result (out.new.items ≡ out.old.items ++ flat_map (stored_page_bytes slots.now) delta.now) }
+    ensures { OnOk result (out.new.items
+        ≡ out.old.items ++ flat_map (stored_page_bytes slots.now) delta.now) }
 {
     for stored in delta {
         write_stored(out, slots, stored)?;
