@@ -12,6 +12,7 @@ use machine_spec::{MOST_FUEL, MOST_STEPS};
 use std::alloc::{AllocError, Global};
 
 /// An operand, which has to be there (POSIX.1-2017, XBD 12.1).
+#[inline(never)]
 fn operand<'a>(alloc: Global, id: &'a str, help: &'a str) -> Arg<'a>
     ensures rule { rule_of result ≡ line.operand_rule id.entry.now }
     ensures local { result.global ≡ false }
@@ -20,6 +21,7 @@ fn operand<'a>(alloc: Global, id: &'a str, help: &'a str) -> Arg<'a>
 }
 
 /// An operand that is a whole number of at most this, which has to be there (POSIX.1-2017, XBD 12.1).
+#[inline(never)]
 fn number_operand<'a>(alloc: Global, id: &'a str, most: u32, help: &'a str) -> Arg<'a>
     ensures rule { rule_of result ≡ line.number_operand_rule id.entry.now most }
     ensures local { result.global ≡ false }
@@ -31,6 +33,7 @@ fn number_operand<'a>(alloc: Global, id: &'a str, most: u32, help: &'a str) -> A
 }
 
 /// An option whose argument is a whole number, from 1 to the most.
+#[inline(never)]
 fn number<'a>(alloc: Global, id: &'a str, most: u32, help: &'a str) -> Arg<'a>
     ensures rule { rule_of result ≡ line.number_rule id.entry.now most }
     ensures local { result.global ≡ false }
@@ -43,6 +46,7 @@ fn number<'a>(alloc: Global, id: &'a str, most: u32, help: &'a str) -> Arg<'a>
 }
 
 /// The operand for edit lists, of which there may be any number (POSIX.1-2017, XBD 12.1).
+#[inline(never)]
 fn edits<'a>(alloc: Global) -> Arg<'a>
     ensures rule { rule_of result ≡ line.edits_rule }
     ensures local { result.global ≡ false }
@@ -53,6 +57,7 @@ fn edits<'a>(alloc: Global) -> Arg<'a>
 }
 
 /// The option for the number of workers.
+#[inline(never)]
 fn workers<'a>(alloc: Global) -> Arg<'a>
     ensures rule { rule_of result ≡ line.workers_rule }
     ensures local { result.global ≡ false }
@@ -66,6 +71,7 @@ fn workers<'a>(alloc: Global) -> Arg<'a>
 }
 
 /// The option for the most steps of a run.
+#[inline(never)]
 fn steps<'a>(alloc: Global, help: &'a str) -> Arg<'a>
     ensures rule { rule_of result ≡ line.steps_rule }
     ensures local { result.global ≡ false }
@@ -74,6 +80,7 @@ fn steps<'a>(alloc: Global, help: &'a str) -> Arg<'a>
 }
 
 /// The option for the memo to write.
+#[inline(never)]
 fn memo<'a>(alloc: Global) -> Arg<'a>
     ensures rule { rule_of result ≡ line.memo_rule }
     ensures local { result.global ≡ false }
@@ -85,6 +92,7 @@ fn memo<'a>(alloc: Global) -> Arg<'a>
 }
 
 /// An option that has no argument.
+#[inline(never)]
 fn flag<'a>(alloc: Global, name: &'a str, help: &'a str) -> Arg<'a>
     ensures rule { rule_of result ≡ line.flag_rule name.entry.now }
     ensures local { result.global ≡ false }
@@ -96,6 +104,7 @@ fn flag<'a>(alloc: Global, name: &'a str, help: &'a str) -> Arg<'a>
 }
 
 /// The option to tell what an edit reaches.
+#[inline(never)]
 fn reach<'a>(alloc: Global) -> Arg<'a>
     ensures rule { rule_of result ≡ line.flag_rule (codes "reach") }
     ensures local { result.global ≡ false }
@@ -104,6 +113,7 @@ fn reach<'a>(alloc: Global) -> Arg<'a>
 }
 
 /// The option to tell how many steps were made, as often as that was looked at.
+#[inline(never)]
 fn progress<'a>(alloc: Global) -> Arg<'a>
     ensures rule { rule_of result ≡ line.flag_rule (codes "progress") }
     ensures local { result.global ≡ false }
@@ -116,6 +126,7 @@ fn progress<'a>(alloc: Global) -> Arg<'a>
 }
 
 /// The command of this name with these arguments, in their order.
+#[inline(never)]
 #[tactic(auto, using(crate::proofs::Arguments::shape_in_turn, crate::proofs::Arguments::globals_in_turn))]
 fn command<'a>(
     alloc: Global,

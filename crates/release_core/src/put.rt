@@ -1,6 +1,6 @@
 //! The bytes that a put appends to the output.
 
-ghost use Rattle.std.specs.Prelude.{◌≡◌, ◌+◌, ◌/◌, ◌%◌, ◌≤◌, ◌^◌, ◌<◌, ℕ, true, length, slice_index, IfOk};
+ghost use Rattle.std.specs.Prelude.{◌≡◌, ◌+◌, ◌/◌, ◌%◌, ◌≤◌, ◌^◌, ◌<◌, ◌++◌, ℕ, true, length, slice_index, IfOk, OnOk};
 ghost use Rattle.std.specs.List.{range_with_len};
 ghost use Rattle.thunk_spec.specs.Put.{byte_at, bytes_at, is_readable};
 ghost use Rattle.record_spec.specs.Delta.{masked};
@@ -8,7 +8,7 @@ ghost use Rattle.record_spec.specs.Record.{put_of};
 
 use page_commit::committed_page;
 use page_map::PageMap;
-use page_store::{PAGE_SIZE, Page, PageTable};
+use page_store::{Page, PageTable};
 use std::alloc::{AllocError, Global};
 use thunk_record::Record;
 use thunk_run::{Range, put_range};
@@ -28,8 +28,27 @@ fn page_at(map: &PageMap, view: &PageTable, rec: &Record, address: u32) -> Page
     }
 }
 
-/// The bytes of a range that has some, and no more than a page: each stands in the page of the first or in that of
-/// the last.
+/// Appends the bytes of a part of one page.
+#[inline(never)]
+fn push_part(
+    bytes: &mut Vec<u8>,
+    map: &PageMap,
+    view: &PageTable,
+    rec: &Record,
+    part: Range,
+) -> Result<(), AllocError>
+    requires within { part.start % 4096 + part.len ≤ 4096 }
+    requires pages { length view.now ≡ length map.now }
+    ensures { OnOk result (bytes.new.items ≡ bytes.old.items
+        ++ bytes_at map.now (masked view.now rec.now.kept.delta) (range_with_len part.start part.len)) }
+{
+    let offset = (part.start % 4096) as usize;
+    let page = page_at(map, view, rec, part.start);
+    bytes.extend_from_slice(&page.bytes()[offset..offset + part.len as usize])?;
+    Ok(())
+}
+
+/// The bytes of a range that has no more than a page: each stands in the page of the first or in that of the last.
 fn bytes_of(
     alloc: Global,
     map: &PageMap,
@@ -37,22 +56,22 @@ fn bytes_of(
     rec: &Record,
     range: Range,
 ) -> Result<Vec<u8>, AllocError>
-    requires some { 0 < range.len }
     requires few { range.len ≤ 4096 }
     requires in_range { range.start + range.len ≤ 2 ^ 32 }
     requires pages { length view.now ≡ length map.now }
     ensures { IfOk result (λ bytes. bytes.items
         ≡ bytes_at map.now (masked view.now rec.now.kept.delta) (range_with_len range.start range.len)) }
 {
-    let offset = (range.start % 4096) as usize;
-    let count = range.len as usize;
-    let on_first = count.min(PAGE_SIZE - offset);
-    let mut bytes = Vec::with_capacity(alloc, count)?;
-    let first = page_at(map, view, rec, range.start);
-    bytes.extend_from_slice(&first.bytes()[offset..offset + on_first])?;
-    if on_first < count {
-        let last = page_at(map, view, rec, range.start + (range.len - 1));
-        bytes.extend_from_slice(&last.bytes()[..count - on_first])?;
+    let Range { start, len } = range;
+    let first = len.min(4096 - start % 4096);
+    let mut bytes = Vec::with_capacity(alloc, len as usize)?;
+    push_part(&mut bytes, map, view, rec, Range { start, len: first })?;
+    if first < len {
+        let rest = Range {
+            start: start + first,
+            len: len - first,
+        };
+        push_part(&mut bytes, map, view, rec, rest)?;
     }
     Ok(bytes)
 }

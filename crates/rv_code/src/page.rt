@@ -64,24 +64,32 @@ fn operations_of(number: u32, bytes: &[u8; PAGE_SIZE]) -> [Operation; 1025]
     operations
 }
 
+/// The page of a number, decoded.
+#[inline(never)]
+fn decoded(number: u32, page: Arc<Page>) -> CodePage
+    requires { number < 2 ^ 20 }
+    ensures number { result.number ≡ number }
+    ensures bytes { result.bytes ≡ arc_value page }
+{
+    CodePage {
+        number,
+        operations: operations_of(number, page.bytes()),
+        page,
+    }
+}
+
 impl CodePage {
-    /// The page of a number, decoded.
+    /// The page of a number, decoded, on the heap.
     ///
     /// # Errors
     ///
     /// An error where the host's memory ran out.
-    #[inline(never)]
     pub fn new(alloc: Global, number: u32, page: Arc<Page>) -> Result<Box<CodePage>, AllocError>
         requires { number < 2 ^ 20 }
         ensures number { IfOk result (λ code. code.value.number ≡ number) }
         ensures bytes { IfOk result (λ code. code.value.bytes ≡ arc_value page) }
     {
-        let code = CodePage {
-            number,
-            operations: operations_of(number, page.bytes()),
-            page,
-        };
-        Ok(Box::new(alloc, code)?)
+        Ok(Box::new(alloc, decoded(number, page))?)
     }
 
     /// Its number: its address divided by 4,096.
