@@ -1,4 +1,5 @@
 //! The command line that the program takes, as a command of `clap`.
+//! No call of it is inlined: commands and arguments are large values, and all of them would lie in one frame.
 
 ghost use Rattle.std.specs.Prelude.{◌≡◌, All, map, codes, IfOk, false};
 ghost use Rattle.clap.specs.Words.{App, app_of, rule_of, with_subcommand};
@@ -143,6 +144,7 @@ fn command<'a>(
 }
 
 /// The command that runs a guest.
+#[inline(never)]
 #[tactic(auto, unfolding(crate::specs::Words::run_command))]
 fn run_command<'a>(alloc: Global) -> Result<Command<'a>, AllocError>
     ensures shape { IfOk result (λ c. app_of c ≡ line.run_command) }
@@ -165,6 +167,7 @@ fn run_command<'a>(alloc: Global) -> Result<Command<'a>, AllocError>
 }
 
 /// The command that goes on from a memo.
+#[inline(never)]
 #[tactic(auto, unfolding(crate::specs::Words::rerun_command))]
 fn rerun_command<'a>(alloc: Global) -> Result<Command<'a>, AllocError>
     ensures shape { IfOk result (λ c. app_of c ≡ line.rerun_command) }
@@ -186,6 +189,7 @@ fn rerun_command<'a>(alloc: Global) -> Result<Command<'a>, AllocError>
 }
 
 /// The command that replays a schedule.
+#[inline(never)]
 #[tactic(auto, unfolding(crate::specs::Words::replay_command))]
 fn replay_command<'a>(alloc: Global) -> Result<Command<'a>, AllocError>
     ensures shape { IfOk result (λ c. app_of c ≡ line.replay_command) }
@@ -261,6 +265,7 @@ fn races_command<'a>(alloc: Global) -> Result<Command<'a>, AllocError>
 }
 
 /// The command that runs the generated guest.
+#[inline(never)]
 #[tactic(auto, unfolding(crate::specs::Words::generate_command))]
 fn generate_command<'a>(alloc: Global) -> Result<Command<'a>, AllocError>
     ensures shape { IfOk result (λ c. app_of c ≡ line.generate_command) }
@@ -279,6 +284,7 @@ fn generate_command<'a>(alloc: Global) -> Result<Command<'a>, AllocError>
 }
 
 /// A command with a command below it, where there was memory for that one.
+#[inline(never)]
 fn with_command<'a>(
     above: Command<'a>,
     below: Result<Command<'a>, AllocError>,
@@ -302,6 +308,7 @@ fn program<'a>(alloc: Global) -> Command<'a>
 }
 
 /// The program and the commands that run a guest which the line names.
+#[inline(never)]
 fn guest_commands<'a>(alloc: Global) -> Result<Command<'a>, AllocError>
     ensures { IfOk result (λ c. app_of c ≡ line.guest_commands) }
 {
@@ -311,6 +318,7 @@ fn guest_commands<'a>(alloc: Global) -> Result<Command<'a>, AllocError>
 }
 
 /// The same, and the commands that look at a memo.
+#[inline(never)]
 fn memo_commands<'a>(alloc: Global) -> Result<Command<'a>, AllocError>
     ensures { IfOk result (λ c. app_of c ≡ line.memo_commands) }
 {
@@ -319,6 +327,7 @@ fn memo_commands<'a>(alloc: Global) -> Result<Command<'a>, AllocError>
 }
 
 /// The same, and the commands that judge the run of a memo.
+#[inline(never)]
 fn judging_commands<'a>(alloc: Global) -> Result<Command<'a>, AllocError>
     ensures { IfOk result (λ c. app_of c ≡ line.judging_commands) }
 {
@@ -331,6 +340,7 @@ fn judging_commands<'a>(alloc: Global) -> Result<Command<'a>, AllocError>
 /// # Errors
 ///
 /// An error where the host's memory ran out.
+#[inline(never)]
 pub fn command_line<'a>(alloc: Global) -> Result<Command<'a>, AllocError>
     ensures { IfOk result (λ c. app_of c ≡ line.command_line) }
 {

@@ -48,6 +48,7 @@ fn fault_by(alloc: Global, error: Error) -> LineFault
 }
 
 /// What the parser finds in the words.
+#[inline(never)]
 fn matches_given<'a>(alloc: Global, words: &'a [String]) -> Result<ArgMatches<'a>, LineFault>
     ensures faultless { IfOk result
         (λ given. fault_of line.command_line (map string_bytes words.entry.now) ≡ []) }

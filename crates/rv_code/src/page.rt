@@ -52,6 +52,7 @@ fn word_at(bytes: &[u8; PAGE_SIZE], index: usize) -> u32
 }
 
 /// The operations of the words of a page by its number, and the one behind them.
+#[inline(never)]
 fn operations_of(number: u32, bytes: &[u8; PAGE_SIZE]) -> [Operation; 1025]
     requires { number < 2 ^ 20 }
     ensures { IsCodeOf (record { number = number; bytes = bytes.now; operations = result }) }
