@@ -1,6 +1,6 @@
 -- A command to which arguments were added in turn has their rules, in their order.
-use Rattle.std.proofs.Common.{◌≡◌, List, [], ◌∷◌, All, false, ◌||◌, map, refl, sym, ap, ◌∙◌, subst}
-use Rattle.std.proofs.lemmas.List.Elements.{All-head, All-tail}
+use Rattle.std.proofs.Common.{◌≡◌, List, [], ◌∷◌, ◌++◌, All, false, ◌||◌, map, refl, sym, ap, ◌∙◌, subst}
+use Rattle.std.proofs.lemmas.List.Elements.{All-head, All-tail, All-push}
 use Rattle.clap.specs.Words.{AddsArg, AddsInTurn, App, app_of, rule_of}
 use Rattle.clap.specs.declared.builder.arg.Arg.{Arg}
 use Rattle.clap.specs.declared.builder.command.Command.{Command}
@@ -27,3 +27,10 @@ globals_in_turn old new (arg ∷ args) local (between, adds, rest) none =
     let here = All-head (λ a. a.global ≡ false) arg args local in
     let others = All-tail (λ a. a.global ≡ false) arg args local in
     globals_in_turn between new args others rest (rw (adds.globals, none, here) refl)
+
+-- one argument more, of this command alone
+pub local_push :
+    (args more : List Arg) (arg : Arg) → more ≡ args ++ arg ∷ []
+    → All (λ (a : Arg). a.global ≡ false) args → arg.global ≡ false → All (λ (a : Arg). a.global ≡ false) more
+local_push args more arg is local one =
+    subst (All (λ (a : Arg). a.global ≡ false)) (sym is) (All-push (λ (a : Arg). a.global ≡ false) args arg local one)

@@ -141,19 +141,22 @@ with_rules command (rule ∷ rules) = with_rules (with_rule command rule) rules
 abbrev pub command : Text → List Rule → App
 command name rules = with_rules (new_app name) rules
 
+-- The options of a command that makes rounds: for workers, limits, the memo to write, and two more lines of reports.
+abbrev pub round_options : List Rule
+round_options =
+    workers_rule ∷ fuel_rule ∷ steps_rule ∷ memo_rule ∷ flag_rule (codes "reach") ∷ flag_rule (codes "progress") ∷ []
+
 -- The command that runs a guest: the executable, the input, any number of edit lists, and six options.
 unfoldable pub run_command : App
 run_command =
     command (codes "run")
-    (operand_rule (codes "ELF") ∷ operand_rule (codes "INPUT") ∷ edits_rule ∷ workers_rule ∷ fuel_rule ∷ steps_rule
-    ∷ memo_rule ∷ flag_rule (codes "reach") ∷ flag_rule (codes "progress") ∷ [])
+    (operand_rule (codes "ELF") ∷ operand_rule (codes "INPUT") ∷ edits_rule ∷ round_options)
 
 -- The command that goes on from a memo: the memo, any number of edit lists, and six options.
 unfoldable pub rerun_command : App
 rerun_command =
     command (codes "rerun")
-    (operand_rule (codes "MEMO") ∷ edits_rule ∷ workers_rule ∷ fuel_rule ∷ steps_rule ∷ memo_rule
-    ∷ flag_rule (codes "reach") ∷ flag_rule (codes "progress") ∷ [])
+    (operand_rule (codes "MEMO") ∷ edits_rule ∷ round_options)
 
 -- The command that replays a schedule: three operands, and two options.
 unfoldable pub replay_command : App

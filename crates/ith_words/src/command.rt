@@ -1,7 +1,7 @@
 //! The command line that the program takes, as a command of `clap`.
 //! No call of it is inlined: commands and arguments are large values, and all of them would lie in one frame.
 
-ghost use Rattle.std.specs.Prelude.{◌≡◌, All, map, codes, IfOk, false};
+ghost use Rattle.std.specs.Prelude.{◌≡◌, ◌++◌, All, map, codes, IfOk, OnOk, false};
 ghost use Rattle.clap.specs.Words.{App, app_of, rule_of, with_subcommand};
 ghost use Rattle.clap.specs.declared.builder.command.Command.TheViews.{out-Command};
 ghost use Rattle.ith_words.specs.Words as line;
@@ -143,6 +143,28 @@ fn command<'a>(
     Command::new(alloc, name).about(about).args(args)
 }
 
+/// Adds the options of a command that makes rounds.
+#[inline(never)]
+fn add_round_options<'a>(
+    alloc: Global,
+    args: &mut Vec<Arg<'a>>,
+    fuel: &'a str,
+    most: &'a str,
+) -> Result<(), AllocError>
+    requires { All (λ arg. arg.global ≡ false) args.old.items }
+    ensures rules { OnOk result (map rule_of args.new.items
+        ≡ map rule_of args.old.items ++ line.round_options) }
+    ensures local { OnOk result (All (λ arg. arg.global ≡ false) args.new.items) }
+{
+    args.push(workers(alloc))?;
+    args.push(number(alloc, "fuel", MOST_FUEL, fuel))?;
+    args.push(steps(alloc, most))?;
+    args.push(memo(alloc))?;
+    args.push(reach(alloc))?;
+    args.push(progress(alloc))?;
+    Ok(())
+}
+
 /// The command that runs a guest.
 #[inline(never)]
 #[tactic(auto, unfolding(crate::specs::Words::run_command))]
@@ -152,17 +174,12 @@ fn run_command<'a>(alloc: Global) -> Result<Command<'a>, AllocError>
 {
     let fuel = "The most turns of a thunk, 1 to 16777216 [default: 1000000]";
     let most = "The most steps of a run, 1 to 65536 [default: 4096]";
-    let args = vec![in alloc;
+    let mut args = vec![in alloc;
         operand(alloc, "ELF", "The name of the executable"),
         operand(alloc, "INPUT", "The name of the input"),
         edits(alloc),
-        workers(alloc),
-        number(alloc, "fuel", MOST_FUEL, fuel),
-        steps(alloc, most),
-        memo(alloc),
-        reach(alloc),
-        progress(alloc),
     ]?;
+    add_round_options(alloc, &mut args, fuel, most)?;
     command(alloc, "run", "Runs a guest from scratch", args)
 }
 
@@ -175,16 +192,11 @@ fn rerun_command<'a>(alloc: Global) -> Result<Command<'a>, AllocError>
 {
     let fuel = "The most turns of a thunk, 1 to 16777216 [default: the memo's]";
     let most = "The most steps of a run, 1 to 65536 [default: the memo's]";
-    let args = vec![in alloc;
+    let mut args = vec![in alloc;
         operand(alloc, "MEMO", "The name of the memo to read"),
         edits(alloc),
-        workers(alloc),
-        number(alloc, "fuel", MOST_FUEL, fuel),
-        steps(alloc, most),
-        memo(alloc),
-        reach(alloc),
-        progress(alloc),
     ]?;
+    add_round_options(alloc, &mut args, fuel, most)?;
     command(alloc, "rerun", "Goes on from a memo", args)
 }
 
