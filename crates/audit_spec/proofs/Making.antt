@@ -2,20 +2,20 @@
 use Rattle.std.proofs.Common.{◌≡◌, ℕ, zero, suc, ◌<◌, true, List, [], ◌∷◌, length, Option, Some, None, is_some, refl, sym, ap, ◌∙◌, subst, arith}
 use Rattle.record_spec.specs.Record.{Record}
 use Rattle.machine_spec.specs.Machine.{Machine}
-use Rattle.machine_spec.specs.Step.{step, lay, can_step}
+use Rattle.machine_spec.specs.Step.{step, apply, can_step}
 use Rattle.machine_spec.specs.Schedule.{is_permitted_from, is_complete_from, record_of, records_from}
 use Rattle.machine_spec.specs.Setup.{IsSetup, first}
 use Rattle.machine_spec.specs.Whole.{IsWhole}
 use Rattle.machine_spec.proofs.Beginning.{IsWhole-first}
 use Rattle.machine_spec.proofs.Steps.{step-whole}
-use Rattle.history_spec.specs.History.{History, IsHonest, schedule_of, threads_of_records, laid_from, can_lay_from, is_coherent}
+use Rattle.history_spec.specs.History.{History, IsHonest, schedule_of, threads_of_records, applied_from, can_apply_from, is_coherent}
 use Rattle.history_spec.proofs.Scratch.{and-left, and-right}
-use Rattle.history_spec.proofs.Truth.{record-lay}
+use Rattle.history_spec.proofs.Truth.{record-apply}
 use Rattle.audit_spec.specs.Audit.{IsMade, IsFirstFalseFrom, IsFirstFalse, IsVerdict}
 
--- A made record is laid as a step is.
-pub made-lay : (m : Machine) (r : Record) → IsWhole m → IsMade m r → lay m r ≡ step m r.thread
-made-lay m r whole is = ap (lay m) is.made ∙ record-lay m r.thread whole is.can
+-- A made record is applied as a step is.
+pub made-apply : (m : Machine) (r : Record) → IsWhole m → IsMade m r → apply m r ≡ step m r.thread
+made-apply m r whole is = ap (apply m) is.made ∙ record-apply m r.thread whole is.can
 
 -- Records that are those of a schedule that is permitted and complete.
 record AreOfSteps (m : Machine) (rs : List Record) : Type 0 where
@@ -27,7 +27,7 @@ all-made : (m : Machine) (rs : List Record) → IsWhole m → IsFirstFalseFrom m
 all-made m [] whole none = record { permitted = refl; complete = none; recorded = refl }
 all-made m (r ∷ rs) whole none =
     let next : IsFirstFalseFrom (step m r.thread) rs None =
-    subst (λ (x : Machine). IsFirstFalseFrom x rs None) (made-lay m r whole none.0) none.1 in
+    subst (λ (x : Machine). IsFirstFalseFrom x rs None) (made-apply m r whole none.0) none.1 in
     let rest = all-made (step m r.thread) rs (step-whole m r.thread whole none.0.can) next in
     record {
       permitted = rw none.0.can rest.permitted;
@@ -47,7 +47,7 @@ steps-made m (t ∷ ts) whole permitted complete =
     steps-made (step m t) ts (step-whole m t whole can)
     (and-right (can_step m t) (is_permitted_from (step m t) ts) permitted) complete in (
       record { can = can; made = refl },
-      subst (λ (x : Machine). IsFirstFalseFrom x (records_from (step m t) ts) None) (sym (record-lay m t whole can))
+      subst (λ (x : Machine). IsFirstFalseFrom x (records_from (step m t) ts) None) (sym (record-apply m t whole can))
           rest,
     )
 
@@ -74,26 +74,26 @@ one-first m [] (Some (suc i)) b x y = absurd x
 one-first m (r ∷ rs) None None x y = refl
 one-first m (r ∷ rs) None (Some zero) x y = absurd (y x.0)
 one-first m (r ∷ rs) None (Some (suc j)) x y =
-    let no : None ≡ Some j = one-first (lay m r) rs None (Some j) x.1 y.1 in cc
+    let no : None ≡ Some j = one-first (apply m r) rs None (Some j) x.1 y.1 in cc
 one-first m (r ∷ rs) (Some zero) None x y = absurd (x y.0)
 one-first m (r ∷ rs) (Some zero) (Some zero) x y = refl
 one-first m (r ∷ rs) (Some zero) (Some (suc j)) x y = absurd (x y.0)
 one-first m (r ∷ rs) (Some (suc i)) None x y =
-    let no : Some i ≡ None = one-first (lay m r) rs (Some i) None x.1 y.1 in cc
+    let no : Some i ≡ None = one-first (apply m r) rs (Some i) None x.1 y.1 in cc
 one-first m (r ∷ rs) (Some (suc i)) (Some zero) x y = absurd (y x.0)
 one-first m (r ∷ rs) (Some (suc i)) (Some (suc j)) x y =
-    let same : Some i ≡ Some j = one-first (lay m r) rs (Some i) (Some j) x.1 y.1 in
+    let same : Some i ≡ Some j = one-first (apply m r) rs (Some i) (Some j) x.1 y.1 in
     let also : i ≡ j = cc in
     ap (λ (k : ℕ). Some (suc k)) also
 
 -- where an end comes after the records, the first false one is one of them
 false-below :
-    (m : Machine) (rs : List Record) (i : ℕ) → is_some (laid_from m rs).ending ≡ true
+    (m : Machine) (rs : List Record) (i : ℕ) → is_some (applied_from m rs).ending ≡ true
     → IsFirstFalseFrom m rs (Some i) → i < length rs
 false-below m [] zero ended x = cc
 false-below m [] (suc i) ended x = absurd x
 false-below m (r ∷ rs) zero ended x = omega arith
-false-below m (r ∷ rs) (suc i) ended x = omega (arith, false-below (lay m r) rs i ended x.1)
+false-below m (r ∷ rs) (suc i) ended x = omega (arith, false-below (apply m r) rs i ended x.1)
 
 pub verdict-by :
     (h : History) (place : Option ℕ) → IsSetup h.setup → is_coherent h ≡ true → IsFirstFalse h place → IsVerdict h place
@@ -102,7 +102,7 @@ verdict-by h (Some i) valid coherent x = (
   λ honest. let no : None ≡ Some i = one-first (first h.setup) h.records None (Some i) (honest-made h honest) x in cc,
   (
     false-below (first h.setup) h.records i
-        (and-right (can_lay_from (first h.setup) h.records) (is_some (laid_from (first h.setup) h.records).ending) coherent) x,
+        (and-right (can_apply_from (first h.setup) h.records) (is_some (applied_from (first h.setup) h.records).ending) coherent) x,
     x,
   ),
 )

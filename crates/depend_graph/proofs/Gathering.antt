@@ -6,9 +6,9 @@ use Rattle.guest_call.specs.declared.thread_number.TheConstants.{THREADS}
 use Rattle.guest_call.specs.declared.Object.{Object}
 use Rattle.guest_call.specs.Locality.{is_among, same_object}
 use Rattle.order_spec.specs.Facts.{Fact}
-use Rattle.order_spec.specs.Before.{is_in, meets, share, fact_at, before_at}
+use Rattle.order_spec.specs.Before.{is_in, meets, overlap, fact_at, before_at}
 use Rattle.order_spec.specs.Ancestors.{any_below}
-use Rattle.order_spec.proofs.Lists.{or-in_left, or-in_right, is_or_not, meets-not, share-not}
+use Rattle.order_spec.proofs.Lists.{or-in_left, or-in_right, is_or_not, meets-not, overlap-not}
 use Rattle.order_spec.proofs.Clocks.{below-some}
 use Rattle.depend_graph.specs.Joins.{count_up_to, IsJoinOf}
 use Rattle.depend_graph.specs.Clocks.{thread_clock, object_clock, page_clock, largest_at, largest_below, IsLargerOf}
@@ -48,29 +48,29 @@ meets-back ks ls is = here ks (λ k at. at) is
 meets-same : (ks ls : List ℕ) → meets ks ls ≡ meets ls ks
 meets-same ks ls = bool-is (meets ks ls) (meets ls ks) (meets-back ks ls) (meets-back ls ks)
 
-share-back : (os qs : List Object) → share os qs ≡ true → share qs os ≡ true
-share-back os qs is = here os (λ o at. at) is
+overlap-back : (os qs : List Object) → overlap os qs ≡ true → overlap qs os ≡ true
+overlap-back os qs is = here os (λ o at. at) is
   where
     apart :
-        (o : Object) → is_among o os ≡ true → is_among o qs ≡ true → (share qs os ≡ true) ⊎ (share qs os ≡ false)
-        → share qs os ≡ true
+        (o : Object) → is_among o os ≡ true → is_among o qs ≡ true → (overlap qs os ≡ true) ⊎ (overlap qs os ≡ false)
+        → overlap qs os ≡ true
     apart o own other (inl both) = both
-    apart o own other (inr none) = let out = share-not o qs os none other in cc
+    apart o own other (inr none) = let out = overlap-not o qs os none other in cc
 
     here :
-        (rest : List Object) → ((o : Object) → is_among o rest ≡ true → is_among o os ≡ true) → share rest qs ≡ true
-        → share qs os ≡ true
+        (rest : List Object) → ((o : Object) → is_among o rest ≡ true → is_among o os ≡ true) → overlap rest qs ≡ true
+        → overlap qs os ≡ true
     here [] within is = cc
     here (o ∷ rest) within is =
         elim (is_or_not (is_among o qs)) [
           | inl other ↦
               apart o (within o (or-in_left (same_object o o) (is_among o rest) (same-own o))) other
-              (is_or_not (share qs os))
+              (is_or_not (overlap qs os))
           | inr isnt ↦ here rest (λ q at. within q (or-in_right (same_object q o) (is_among q rest) at)) (rw isnt at is)
         ]
 
-share-same : (os qs : List Object) → share os qs ≡ share qs os
-share-same os qs = bool-is (share os qs) (share qs os) (share-back os qs) (share-back qs os)
+overlap-same : (os qs : List Object) → overlap os qs ≡ overlap qs os
+overlap-same os qs = bool-is (overlap os qs) (overlap qs os) (overlap-back os qs) (overlap-back qs os)
 
 -- clocks of several things
 
@@ -136,7 +136,7 @@ abbrev before_by : List Fact → ℕ → ℕ → Fact → Bool
 before_by fs n i f =
     is_of fs f.thread i
     || (gives fs n f.thread i
-    || (share (fact_at fs i).objects f.objects
+    || (overlap (fact_at fs i).objects f.objects
     || (meets (fact_at fs i).written f.written
     || (meets (fact_at fs i).written f.opened || (meets (fact_at fs i).opened f.written || f.last)))))
 
@@ -185,12 +185,12 @@ touches fs n f i =
 
 touches-before : (fs : List Fact) (n : ℕ) (f : Fact) (i : ℕ) → (touches fs n f i || f.last) ≡ before_by fs n i f
 touches-before fs n f i =
-    let objects = share-same f.objects (fact_at fs i).objects in
+    let objects = overlap-same f.objects (fact_at fs i).objects in
     let wrote = meets-same f.written (fact_at fs i).written in
     let opened = meets-same f.opened (fact_at fs i).written in
     let over = meets-same f.written (fact_at fs i).opened in
     rw (objects, wrote, opened, over)
-    (regroup (is_of fs f.thread i) (gives fs n f.thread i) (share (fact_at fs i).objects f.objects)
+    (regroup (is_of fs f.thread i) (gives fs n f.thread i) (overlap (fact_at fs i).objects f.objects)
     (meets (fact_at fs i).written f.written) (meets (fact_at fs i).written f.opened)
     (meets (fact_at fs i).opened f.written) f.last)
 

@@ -37,8 +37,8 @@ fn is_among(object: Object, objects: ActedOn) -> bool
 }
 
 /// Whether some have an object in common with others.
-fn share(objects: ActedOn, others: ActedOn) -> bool
-    ensures { result ≡ spec.share (objects_in objects) (objects_in others) }
+fn overlap(objects: ActedOn, others: ActedOn) -> bool
+    ensures { result ≡ spec.overlap (objects_in objects) (objects_in others) }
 {
     match objects {
         ActedOn::Nothing => false,
@@ -80,7 +80,7 @@ pub fn is_before(facts: &[Fact], i: usize, j: usize) -> bool
     let later = &facts[j];
     earlier.thread == later.thread
         || (has_thread(&earlier.given, later.thread) && is_next(facts, later.thread, i, j))
-        || share(earlier.objects, later.objects)
+        || overlap(earlier.objects, later.objects)
         || meets(&earlier.written, &later.written)
         || meets(&earlier.written, &later.opened)
         || meets(&earlier.opened, &later.written)

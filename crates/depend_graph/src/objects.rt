@@ -64,7 +64,8 @@ impl ObjectClocks {
     /// Joins the clocks of some objects into another.
     pub fn join_into(&self, objects: ActedOn, clock: &mut Clock)
         ensures { (u : ℕ) → slice_index clock.new u
-            ≡ max (slice_index clock.old u) (largest_at (object_clock self.now) (objects_in objects) u) }
+            ≡ max (slice_index clock.old u)
+            (largest_at (object_clock self.now) (objects_in objects) u) }
     {
         match objects {
             ActedOn::Nothing => {}

@@ -46,7 +46,8 @@ impl PageClocks {
 
     /// Joins a clock to that of a page.
     fn add_one(&mut self, slot: usize, clock: &Clock) -> Result<(), AllocError>
-        ensures at { OnOk result (IsLargerOf (page_clock self.new slot) (page_clock self.old slot) clock.now) }
+        ensures at { OnOk result
+            (IsLargerOf (page_clock self.new slot) (page_clock self.old slot) clock.now) }
         ensures others { (p : ℕ)
             → OnOk result (p ≢ slot → page_clock self.new p ≡ page_clock self.old p) }
     {

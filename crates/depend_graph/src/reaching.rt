@@ -104,7 +104,8 @@ impl Reached {
     fn reaches(&self, fact: &Fact, reads: &[usize]) -> bool
         requires { fact.now.thread < THREADS }
         ensures { result ≡ (led_of self.now fact.now.thread
-            || list_any (λ p. shows self.now.changes p (end_of self.now fact.now.thread)) reads.now) }
+            || list_any
+            (λ p. shows self.now.changes p (end_of self.now fact.now.thread)) reads.now) }
     {
         let thread = usize::from(fact.thread);
         self.led[thread] || self.changes.any_shows(reads, self.ends[thread])

@@ -1,4 +1,4 @@
--- A text is a numeral exactly where it is the decimal spelling of a small number.
+-- A text is a numeral exactly where it is the decimal encoding of a small number.
 use Rattle.std.proofs.Common.{Bool, ◌&&◌, ◌||◌, ◌==◌, not, nat_lt, nat_le, slice_index, inl, inr, ◌≡◌, ℕ, ◌+◌, ◌-◌, ◌*◌, ◌<◌, ◌≤◌, true, List, length, get_or, take, refl, sym, ap, arith, rules}
 use Rattle.std.specs.Prelude.{decimal}
 use Rattle.std.specs.List.{list_all}
@@ -44,7 +44,7 @@ one_more ds i all within =
 ands : (a b c d : Bool) → a ≡ true → b ≡ true → c ≡ true → d ≡ true → (a && b && c && d) ≡ true
 ands a b c d p q r s = rw (p, q, r, s) refl
 
--- a numeral is the spelling of its number
+-- a numeral is the encoding of its number
 pub numeral_is :
     (ds : List ℕ) → is_numeral ds ≡ true
     → (digits_value 10 ds < number_limit) × (ds ≡ decimal (digits_value 10 ds))
@@ -65,7 +65,7 @@ numeral_is ds is =
     single : (first count : ℕ) → (not (first == 48) || count == 1) ≡ true → first ≡ 48 → count ≡ 1
     single first count h is = grind (arith, nat_tests, h)
 
--- a number's spelling has no zero in front, but for the number 0
+-- a number's encoding has no zero in front, but for the number 0
 single_zero : (n : ℕ) → n < number_limit → (not (slice_index (decimal n) 0 == 48) || length (decimal n) == 1) ≡ true
 single_zero n small =
     elim (cases_lt 0 n) [
@@ -75,7 +75,7 @@ single_zero n small =
           grind (arith, nat_tests, count)
     ]
 
--- the spelling of a small number is a numeral
+-- the encoding of a small number is a numeral
 pub is_numeral-decimal : (n : ℕ) → n < number_limit → is_numeral (decimal n) ≡ true
 is_numeral-decimal n small =
     let some = decimal_nonempty n (omega arith) in

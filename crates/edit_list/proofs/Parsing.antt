@@ -7,7 +7,7 @@ use Rattle.edit_list.specs.declared.parser.ParseError.TheVariants.{BadLine, NoMe
 use Rattle.edit_list.specs.Refusals.{WhyNotAdded, WhyNotParsed}
 use Rattle.std.proofs.lemmas.List.{append-nil}
 use Rattle.edit_spec.specs.Edit.{Edit, LineEdit}
-use Rattle.edit_spec.specs.Grammar.{lines, IsEdit, Spells, SpellAll, Say, Says, newline}
+use Rattle.edit_spec.specs.Grammar.{lines, IsEdit, Encodes, EncodeAll, Say, Says, newline}
 use Rattle.edit_list.specs.Adding.{lines_from, AddsLine}
 
 -- an answer about lines, with the edits of the lines before them
@@ -22,7 +22,7 @@ Leads bytes number pieces front =
 
 -- the edits of one line, and what the lines after it say
 joined : (number : ℕ) (text : List ℕ) (more : List (List ℕ)) (added : List LineEdit) (answer : Result (List LineEdit) ℕ)
-    → SpellAll (lines_from number (text ∷ [])) added → Say (lines_from (number + 1) more) answer
+    → EncodeAll (lines_from number (text ∷ [])) added → Say (lines_from (number + 1) more) answer
     → Say (lines_from number (text ∷ more)) (after_front added answer)
 joined number [] more [] (Ok edits) s said = said
 joined number [] more [] (Err bad) s said = said
@@ -68,11 +68,11 @@ all_lines bytes number edits leads =
 
 -- the edit of a line is put behind others
 pub edit_added : (number : ℕ) (text : List ℕ) (edit : Edit) (before after : List LineEdit)
-    → 0 < length text → Spells text edit → after ≡ before ++ record { line = number; edit = edit } ∷ []
+    → 0 < length text → Encodes text edit → after ≡ before ++ record { line = number; edit = edit } ∷ []
     → AddsLine number text before after
-edit_added number [] edit before after some spells is = absurd (omega arith)
-edit_added number (b ∷ text) edit before after some spells is =
-    (record { line = number; edit = edit } ∷ [], ((refl, spells), tt), is)
+edit_added number [] edit before after some encodes is = absurd (omega arith)
+edit_added number (b ∷ text) edit before after some encodes is =
+    (record { line = number; edit = edit } ∷ [], ((refl, encodes), tt), is)
 
 -- the rest of a list is cut at its first newline
 pub cut_leads : (bytes : List ℕ) (number : ℕ) (rest text after : List ℕ) (front : List LineEdit)

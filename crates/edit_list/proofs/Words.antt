@@ -8,8 +8,8 @@ use Rattle.std.proofs.lemmas.Bool.Decides.{nat_tests}
 use Rattle.std.proofs.lemmas.List.Elements.{All-cons, All-head, All-tail}
 use Rattle.std.proofs.lemmas.Fmt.{digits_decimal}
 use Rattle.edit_spec.specs.Edit.{Set, Size}
-use Rattle.edit_spec.specs.Grammar.{SpellBytes, IsEdit, number_limit}
-use Rattle.edit_spec.proofs.Spelling.{other_word}
+use Rattle.edit_spec.specs.Grammar.{EncodeBytes, IsEdit, number_limit}
+use Rattle.edit_spec.proofs.Encoding.{other_word}
 use Rattle.edit_list.specs.declared.line.LineFault.{LineFault}
 use Rattle.edit_list.specs.declared.line.LineFault.TheVariants as fault
 use Rattle.edit_list.specs.Refusals.{WhyNoBytes, WhyNoEdit}
@@ -26,7 +26,7 @@ no_space (c ∷ cs) h =
     let parts = and_parts (is_ascii_digit c) (list_all is_ascii_digit cs) h in
     All-cons NoSpace c cs (grind (arith, nat_tests, parts.0)) (no_space cs parts.1)
 
--- a number's spelling has no space in it
+-- a number's encoding has no space in it
 pub no_space-decimal : (n : ℕ) → n < number_limit → All NoSpace (decimal n)
 no_space-decimal n small = no_space (decimal n) (digits_decimal decimal_texts n (omega arith))
 
@@ -62,7 +62,7 @@ space_is_there (x ∷ xs) (y ∷ ys) a p e =
 -- what a line says that begins with `set `
 pub set_line : (rest : List ℕ) → IsEdit (codes "set " ++ rest)
     → (offset : ℕ) × (bytes : List ℕ) × (digits : List ℕ) × (offset < number_limit) × (0 < length bytes)
-    × SpellBytes digits bytes × (rest ≡ decimal offset ++ 32 ∷ digits)
+    × EncodeBytes digits bytes × (rest ≡ decimal offset ++ 32 ∷ digits)
 set_line rest (Set offset bytes, s) = (offset, bytes, s.2, s.0, s.1, s.3, cc)
 set_line rest (Size size, s) = absurd (other_word (codes "set " ++ rest) refl (sym s.1))
 
@@ -83,7 +83,7 @@ no_other_line text no_set no_size (Size size, s) = no_size (decimal size) s.1
 
 -- why a line that begins with `set ` gave no edit, where its digits gave no bytes
 pub no_set_without_bytes : (rest digits : List ℕ) (answer : LineFault) → WhyNoBytes digits answer
-    → (IsEdit (codes "set " ++ rest) → (bytes : List ℕ) × (0 < length bytes) × SpellBytes digits bytes)
+    → (IsEdit (codes "set " ++ rest) → (bytes : List ℕ) × (0 < length bytes) × EncodeBytes digits bytes)
     → WhyNoEdit (codes "set " ++ rest) answer
 no_set_without_bytes rest digits fault.Bad why from = λ is. let found = from is in why found.0 found.1 found.2
 no_set_without_bytes rest digits fault.NoMemory why from = tt

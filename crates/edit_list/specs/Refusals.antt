@@ -1,7 +1,7 @@
 -- Why the code gives no answer.
 use Rattle.std.specs.Prelude.{ℕ, ◌≡◌, ◌<◌, List, length, Err, Some}
 use Rattle.edit_spec.specs.Edit.{LineEdit}
-use Rattle.edit_spec.specs.Grammar.{SpellBytes, IsEdit, Says}
+use Rattle.edit_spec.specs.Grammar.{EncodeBytes, IsEdit, Says}
 use Rattle.edit_spec.specs.Editing.{edited}
 use Rattle.edit_list.specs.Lengths.{line_out_of_range}
 use Rattle.edit_list.specs.declared.line.LineFault.{LineFault}
@@ -12,22 +12,22 @@ use Rattle.edit_list.specs.declared.apply.ApplyError.{ApplyError}
 use Rattle.edit_list.specs.declared.apply.ApplyError.TheVariants.{OutOfRange}
 use Rattle.edit_list.specs.declared.apply.ApplyError.TheVariants as applying
 
--- why digits gave no bytes: they spell none, or memory ran out
+-- why digits gave no bytes: they encode none, or memory ran out
 abbrev pub WhyNoBytes : List ℕ → LineFault → Type 0
-WhyNoBytes digits fault.Bad = (bytes : List ℕ) → 0 < length bytes → SpellBytes digits bytes → ⊥
+WhyNoBytes digits fault.Bad = (bytes : List ℕ) → 0 < length bytes → EncodeBytes digits bytes → ⊥
 WhyNoBytes digits fault.NoMemory = Unit {0}
 
--- why a line gave no edit: it spells none, or memory ran out
+-- why a line gave no edit: it encodes none, or memory ran out
 abbrev pub WhyNoEdit : List ℕ → LineFault → Type 0
 WhyNoEdit text fault.Bad = IsEdit text → ⊥
 WhyNoEdit text fault.NoMemory = Unit {0}
 
--- why a list gave no edits: the first line that spells none has this number, or memory ran out
+-- why a list gave no edits: the first line that encodes none has this number, or memory ran out
 abbrev pub WhyNotParsed : List ℕ → ParseError → Type 0
 WhyNotParsed bytes (BadLine number) = Says bytes (Err number)
 WhyNotParsed bytes NoMemory = Unit {0}
 
--- why a line was not added to others: it spells no edit, or memory ran out
+-- why a line was not added to others: it encodes no edit, or memory ran out
 abbrev pub WhyNotAdded : ℕ → List ℕ → ParseError → Type 0
 WhyNotAdded number text (BadLine bad) = (bad ≡ number) × (0 < length text) × (IsEdit text → ⊥)
 WhyNotAdded number text NoMemory = Unit {0}

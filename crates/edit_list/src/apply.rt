@@ -13,7 +13,7 @@ use machine_spec::MOST_INPUT_BYTES;
 use std::alloc::{AllocError, Global};
 
 /// Why edits were not done.
-#[derive(Clone, Copy, Debug, PartialEq, Eq)]
+#[derive(Clone, Copy, PartialEq, Eq)]
 pub enum ApplyError {
     /// The line of this number is the first that passes its bound.
     OutOfRange(usize),

@@ -2,7 +2,7 @@
 
 ghost use Rattle.std.specs.Prelude.{ℕ, ◌≡◌, ◌≢◌, ◌<◌, ◌==◌, false, List, ◌∷◌, ◌++◌, length, codes, MatchOption, IfOk, IfErr};
 ghost use Rattle.std.specs.List.{All};
-ghost use Rattle.edit_spec.specs.Grammar.{SpellBytes, Spells};
+ghost use Rattle.edit_spec.specs.Grammar.{EncodeBytes, Encodes};
 ghost use Rattle.edit_list.specs.Said.{edit_said};
 ghost use Rattle.edit_list.specs.Refusals.{WhyNoBytes, WhyNoEdit};
 
@@ -12,9 +12,9 @@ use hex::FromHexError;
 use std::alloc::Global;
 
 /// Why a line gave no edit.
-#[derive(Clone, Copy, Debug, PartialEq, Eq)]
+#[derive(Clone, Copy)]
 pub enum LineFault {
-    /// It spells none.
+    /// It encodes none.
     Bad,
     /// The host's memory ran out.
     NoMemory,
@@ -23,7 +23,8 @@ pub enum LineFault {
 /// The bytes before the first of this value and those after it, where there is one.
 pub fn split_once(bytes: &[u8], byte: u8) -> Option<(&[u8], &[u8])>
     ensures { MatchOption result (All (λ b. (b == byte) ≡ false) bytes.now)
-        (λ parts. All (λ b. (b == byte) ≡ false) parts.0.now × (bytes.now ≡ parts.0.now ++ byte ∷ parts.1.now)) }
+        (λ parts. All (λ b. (b == byte) ≡ false) parts.0.now
+        × (bytes.now ≡ parts.0.now ++ byte ∷ parts.1.now)) }
 {
     match bytes.iter().position(|b| *b == byte) {
         Some(at) => Some((&bytes[..at], &bytes[at + 1..])),
@@ -49,9 +50,9 @@ fn fault_of(error: FromHexError) -> LineFault
     }
 }
 
-/// The bytes that hexadecimal digits spell, at least one.
+/// The bytes that hexadecimal digits encode, at least one.
 fn bytes_of(alloc: Global, digits: &[u8]) -> Result<Vec<u8>, LineFault>
-    ensures spelled { IfOk result (λ bytes. SpellBytes digits.now bytes.items) }
+    ensures encoded { IfOk result (λ bytes. EncodeBytes digits.now bytes.items) }
     ensures some { IfOk result (λ bytes. 0 < length bytes.items) }
     ensures refused { IfErr result (WhyNoBytes digits.now) }
 {
@@ -66,7 +67,7 @@ fn bytes_of(alloc: Global, digits: &[u8]) -> Result<Vec<u8>, LineFault>
 
 /// The edit of a line that begins with `set `, from what follows.
 fn set_of(alloc: Global, rest: &[u8]) -> Result<Edit, LineFault>
-    ensures spelled { IfOk result (λ edit. Spells (codes "set " ++ rest.now) (edit_said edit)) }
+    ensures encoded { IfOk result (λ edit. Encodes (codes "set " ++ rest.now) (edit_said edit)) }
     ensures refused { IfErr result (WhyNoEdit (codes "set " ++ rest.now)) }
 {
     let Some((number, digits)) = split_once(rest, b' ') else {
@@ -81,7 +82,7 @@ fn set_of(alloc: Global, rest: &[u8]) -> Result<Edit, LineFault>
 
 /// The edit of a line that begins with `size `, from what follows.
 fn size_of(number: &[u8]) -> Result<Edit, LineFault>
-    ensures spelled { IfOk result (λ edit. Spells (codes "size " ++ number.now) (edit_said edit)) }
+    ensures encoded { IfOk result (λ edit. Encodes (codes "size " ++ number.now) (edit_said edit)) }
     ensures refused { IfErr result (WhyNoEdit (codes "size " ++ number.now)) }
 {
     match number_of(number) {
@@ -90,9 +91,9 @@ fn size_of(number: &[u8]) -> Result<Edit, LineFault>
     }
 }
 
-/// The edit that a line spells.
+/// The edit that a line encodes.
 pub fn edit_of(alloc: Global, text: &[u8]) -> Result<Edit, LineFault>
-    ensures spelled { IfOk result (λ edit. Spells text.now (edit_said edit)) }
+    ensures encoded { IfOk result (λ edit. Encodes text.now (edit_said edit)) }
     ensures refused { IfErr result (WhyNoEdit text.now) }
 {
     if let Some(rest) = after_word(text, b"set ") {

@@ -11,7 +11,7 @@ use super::line::{LineFault, edit_of, split_once};
 use std::alloc::{AllocFailed, Global};
 
 /// Why the bytes of a list gave no edits.
-#[derive(Clone, Copy, Debug, PartialEq, Eq)]
+#[derive(Clone, Copy, PartialEq, Eq)]
 pub enum ParseError {
     /// The line of this number, counted from 1, is the first that is no edit.
     BadLine(usize),
@@ -52,7 +52,7 @@ fn add_line(
     Ok(())
 }
 
-/// The edits that the bytes of a list spell, one a line.
+/// The edits that the bytes of a list encode, one a line.
 ///
 /// A line is `set D H` or `size D`, with single spaces. `D` is a decimal number of one to seven digits without
 /// leading zeros; `H` is an even number, at least two, of hexadecimal digits in either case. Lines are counted
@@ -62,7 +62,7 @@ fn add_line(
 ///
 /// `BadLine` with the number of the first line that is none of these, or `NoMemory`.
 pub fn parse(alloc: Global, bytes: &[u8]) -> Result<Edits, ParseError>
-    ensures spelled { IfOk result (λ edits. Says bytes.now (Ok edits)) }
+    ensures encoded { IfOk result (λ edits. Says bytes.now (Ok edits)) }
     ensures refused { IfErr result (WhyNotParsed bytes.now) }
 {
     let mut lines = Vec::new(alloc);

@@ -1,5 +1,5 @@
--- Whether a line spells an edit is decided, so each list of edits says something. Numbers of lines are bounded, so each
--- is tried; no definition computes this.
+-- Whether a line encodes an edit is decided, so each list of edits says something. Numbers of lines are bounded, so
+-- each is tried; no definition computes this.
 use Rattle.std.proofs.Common.{◌≡◌, ◌<◌, ◌+◌, ◌*◌, ◌/◌, ◌%◌, ℕ, zero, suc, List, [], ◌∷◌, ◌++◌, length, Option, Some, None, Result, Ok, Err, ◌⊎◌, inl, inr, refl, ap, sym, ◌∙◌, subst, append_assoc, arith}
 use Rattle.std.proofs.lemmas.List.{append_cancel_left}
 use Rattle.std.proofs.lemmas.Bool.{cases_eq}
@@ -7,7 +7,7 @@ use Rattle.std.proofs.lemmas.Bool.Decides.{leb_tells}
 use Rattle.std.specs.Prelude.{codes, decimal}
 use Rattle.hex.specs.Hex.{hex_digit_value}
 use Rattle.edit_spec.specs.Edit.{Edit, Set, Size, LineEdit}
-use Rattle.edit_spec.specs.Grammar.{number_limit, space, SpellBytes, Spells, IsEdit, Line, Say}
+use Rattle.edit_spec.specs.Grammar.{number_limit, space, EncodeBytes, Encodes, IsEdit, Line, Say}
 
 -- a fact holds, or it doesn't
 abbrev pub Decided : Type 0 → Type 0
@@ -75,37 +75,37 @@ none-some o n p q = cc
 two-some : (o : Option ℕ) (m n : ℕ) → o ≡ Some m → o ≡ Some n → m ≡ n
 two-some o m n p q = cc
 
--- two digits spell a byte where each has a value, and the lower one's is below 16
+-- two digits encode a byte where each has a value, and the lower one's is below 16
 no-byte-high :
-    (high low : ℕ) (digits bytes : List ℕ) → hex_digit_value high ≡ None → SpellBytes (high ∷ low ∷ digits) bytes
+    (high low : ℕ) (digits bytes : List ℕ) → hex_digit_value high ≡ None → EncodeBytes (high ∷ low ∷ digits) bytes
     → ⊥
-no-byte-high high low digits [] none spelled = spelled
-no-byte-high high low digits (byte ∷ bytes) none spelled = none-some (hex_digit_value high) (byte / 16) none spelled.0
+no-byte-high high low digits [] none encoded = encoded
+no-byte-high high low digits (byte ∷ bytes) none encoded = none-some (hex_digit_value high) (byte / 16) none encoded.0
 
 no-byte-low :
-    (high low : ℕ) (digits bytes : List ℕ) → hex_digit_value low ≡ None → SpellBytes (high ∷ low ∷ digits) bytes
+    (high low : ℕ) (digits bytes : List ℕ) → hex_digit_value low ≡ None → EncodeBytes (high ∷ low ∷ digits) bytes
     → ⊥
-no-byte-low high low digits [] none spelled = spelled
-no-byte-low high low digits (byte ∷ bytes) none spelled = none-some (hex_digit_value low) (byte % 16) none spelled.1
+no-byte-low high low digits [] none encoded = encoded
+no-byte-low high low digits (byte ∷ bytes) none encoded = none-some (hex_digit_value low) (byte % 16) none encoded.1
 
 no-byte-large :
     (high low b : ℕ) (digits bytes : List ℕ) → hex_digit_value low ≡ Some b → 15 < b
-    → SpellBytes (high ∷ low ∷ digits) bytes
+    → EncodeBytes (high ∷ low ∷ digits) bytes
     → ⊥
-no-byte-large high low b digits [] is large spelled = spelled
-no-byte-large high low b digits (byte ∷ bytes) is large spelled =
-    let same : b ≡ byte % 16 = two-some (hex_digit_value low) b (byte % 16) is spelled.1 in
+no-byte-large high low b digits [] is large encoded = encoded
+no-byte-large high low b digits (byte ∷ bytes) is large encoded =
+    let same : b ≡ byte % 16 = two-some (hex_digit_value low) b (byte % 16) is encoded.1 in
     omega arith
 
 no-byte-rest :
     (high low : ℕ) (digits bytes : List ℕ)
-    → ((rest : List ℕ) → SpellBytes digits rest → ⊥) → SpellBytes (high ∷ low ∷ digits) bytes → ⊥
-no-byte-rest high low digits [] none spelled = spelled
-no-byte-rest high low digits (byte ∷ bytes) none spelled = none bytes spelled.2
+    → ((rest : List ℕ) → EncodeBytes digits rest → ⊥) → EncodeBytes (high ∷ low ∷ digits) bytes → ⊥
+no-byte-rest high low digits [] none encoded = encoded
+no-byte-rest high low digits (byte ∷ bytes) none encoded = none bytes encoded.2
 
-pub no-byte-odd : (high : ℕ) (bytes : List ℕ) → SpellBytes (high ∷ []) bytes → ⊥
-no-byte-odd high [] spelled = spelled
-no-byte-odd high (byte ∷ bytes) spelled = spelled
+pub no-byte-odd : (high : ℕ) (bytes : List ℕ) → EncodeBytes (high ∷ []) bytes → ⊥
+no-byte-odd high [] encoded = encoded
+no-byte-odd high (byte ∷ bytes) encoded = encoded
 
 higher : (a b : ℕ) → b < 16 → a ≡ (16 * a + b) / 16
 higher a b below = omega arith
@@ -113,19 +113,19 @@ higher a b below = omega arith
 lower : (a b : ℕ) → b < 16 → b ≡ (16 * a + b) % 16
 lower a b below = omega arith
 
-bytes-spelled : (digits : List ℕ) → Decided ((bytes : List ℕ) × SpellBytes digits bytes)
-bytes-spelled [] = inl ([], tt)
-bytes-spelled (high ∷ []) = inr (λ found. no-byte-odd high found.0 found.1)
-bytes-spelled (high ∷ low ∷ digits) = by (hex_digit_value high) (hex_digit_value low) refl refl (bytes-spelled digits)
+bytes-encoded : (digits : List ℕ) → Decided ((bytes : List ℕ) × EncodeBytes digits bytes)
+bytes-encoded [] = inl ([], tt)
+bytes-encoded (high ∷ []) = inr (λ found. no-byte-odd high found.0 found.1)
+bytes-encoded (high ∷ low ∷ digits) = by (hex_digit_value high) (hex_digit_value low) refl refl (bytes-encoded digits)
   where
     by :
         (a b : Option ℕ) → hex_digit_value high ≡ a → hex_digit_value low ≡ b
-        → Decided ((bytes : List ℕ) × SpellBytes digits bytes)
-        → Decided ((bytes : List ℕ) × SpellBytes (high ∷ low ∷ digits) bytes)
+        → Decided ((bytes : List ℕ) × EncodeBytes digits bytes)
+        → Decided ((bytes : List ℕ) × EncodeBytes (high ∷ low ∷ digits) bytes)
     by None b is_a is_b rest = inr (λ found. no-byte-high high low digits found.0 is_a found.1)
     by (Some a) None is_a is_b rest = inr (λ found. no-byte-low high low digits found.0 is_b found.1)
     by (Some a) (Some b) is_a is_b (inr none) =
-        inr (λ found. no-byte-rest high low digits found.0 (λ bytes spelled. none (bytes, spelled)) found.1)
+        inr (λ found. no-byte-rest high low digits found.0 (λ bytes encoded. none (bytes, encoded)) found.1)
     by (Some a) (Some b) is_a is_b (inl rest) =
         elim (leb_tells 16 b) [
           | inl large ↦ inr (λ found. no-byte-large high low b digits found.0 is_b large.1 found.1)
@@ -142,35 +142,35 @@ bytes-spelled (high ∷ low ∷ digits) = by (hex_digit_value high) (hex_digit_v
         ]
 
 -- at least one byte
-empty-spelled : (digits bytes : List ℕ) → digits ≡ [] → 0 < length bytes → SpellBytes digits bytes → ⊥
-empty-spelled [] [] is some spelled = omega arith
-empty-spelled [] (byte ∷ bytes) is some spelled = spelled
-empty-spelled (d ∷ digits) bytes is some spelled = cc
+empty-encoded : (digits bytes : List ℕ) → digits ≡ [] → 0 < length bytes → EncodeBytes digits bytes → ⊥
+empty-encoded [] [] is some encoded = omega arith
+empty-encoded [] (byte ∷ bytes) is some encoded = encoded
+empty-encoded (d ∷ digits) bytes is some encoded = cc
 
-none-spelled : (d : ℕ) (digits : List ℕ) → SpellBytes (d ∷ digits) [] → ⊥
-none-spelled d [] spelled = spelled
-none-spelled d (e ∷ digits) spelled = spelled
+none-encoded : (d : ℕ) (digits : List ℕ) → EncodeBytes (d ∷ digits) [] → ⊥
+none-encoded d [] encoded = encoded
+none-encoded d (e ∷ digits) encoded = encoded
 
-some-bytes : (digits : List ℕ) → Decided ((bytes : List ℕ) × (0 < length bytes) × SpellBytes digits bytes)
-some-bytes [] = inr (λ found. empty-spelled [] found.0 refl found.1 found.2)
-some-bytes (d ∷ digits) = by (bytes-spelled (d ∷ digits))
+some-bytes : (digits : List ℕ) → Decided ((bytes : List ℕ) × (0 < length bytes) × EncodeBytes digits bytes)
+some-bytes [] = inr (λ found. empty-encoded [] found.0 refl found.1 found.2)
+some-bytes (d ∷ digits) = by (bytes-encoded (d ∷ digits))
   where
     filled :
-        (bytes : List ℕ) → SpellBytes (d ∷ digits) bytes
-        → Decided ((bytes : List ℕ) × (0 < length bytes) × SpellBytes (d ∷ digits) bytes)
-    filled [] spelled = absurd (none-spelled d digits spelled)
-    filled (byte ∷ bytes) spelled = inl (byte ∷ bytes, omega arith, spelled)
+        (bytes : List ℕ) → EncodeBytes (d ∷ digits) bytes
+        → Decided ((bytes : List ℕ) × (0 < length bytes) × EncodeBytes (d ∷ digits) bytes)
+    filled [] encoded = absurd (none-encoded d digits encoded)
+    filled (byte ∷ bytes) encoded = inl (byte ∷ bytes, omega arith, encoded)
 
     by :
-        Decided ((bytes : List ℕ) × SpellBytes (d ∷ digits) bytes)
-        → Decided ((bytes : List ℕ) × (0 < length bytes) × SpellBytes (d ∷ digits) bytes)
+        Decided ((bytes : List ℕ) × EncodeBytes (d ∷ digits) bytes)
+        → Decided ((bytes : List ℕ) × (0 < length bytes) × EncodeBytes (d ∷ digits) bytes)
     by (inl found) = filled found.0 found.1
     by (inr none) = inr (λ found. none (found.0, found.2))
 
 -- a line sets bytes at an offset
 abbrev IsSetAt : List ℕ → ℕ → Type 0
 IsSetAt text offset =
-    (bytes : List ℕ) × (0 < length bytes) × (digits : List ℕ) × SpellBytes digits bytes
+    (bytes : List ℕ) × (0 < length bytes) × (digits : List ℕ) × EncodeBytes digits bytes
     × (text ≡ codes "set " ++ (decimal offset ++ space ∷ digits))
 
 abbrev front_of : ℕ → List ℕ
@@ -186,14 +186,14 @@ set-decided text offset = by (rest-after (front_of offset) text)
   where
     with-digits :
         (digits : List ℕ) → text ≡ front_of offset ++ digits
-        → Decided ((bytes : List ℕ) × (0 < length bytes) × SpellBytes digits bytes) → Decided (IsSetAt text offset)
+        → Decided ((bytes : List ℕ) × (0 < length bytes) × EncodeBytes digits bytes) → Decided (IsSetAt text offset)
     with-digits digits is (inl found) = inl (found.0, found.1, digits, found.2, is ∙ front-rest offset digits)
     with-digits digits is (inr none) =
         inr
         (λ set.
         let same : set.2 ≡ digits =
         append_cancel_left (front_of offset) set.2 digits (front-rest offset set.2 ∙ sym set.4 ∙ is) in
-        none (set.0, set.1, subst (λ (ds : List ℕ). SpellBytes ds set.0) same set.3))
+        none (set.0, set.1, subst (λ (ds : List ℕ). EncodeBytes ds set.0) same set.3))
 
     by : Decided ((rest : List ℕ) × (text ≡ front_of offset ++ rest)) → Decided (IsSetAt text offset)
     by (inl found) = with-digits found.0 found.1 (some-bytes found.0)
@@ -207,10 +207,10 @@ neither :
     (text : List ℕ) (e : Edit)
     → ((offset : ℕ) × (offset < number_limit) × IsSetAt text offset → ⊥)
     → ((size : ℕ) × (size < number_limit) × IsSizeOf text size → ⊥)
-    → Spells text e → ⊥
-neither text (Set offset bytes) no_set no_size spelled =
-    no_set (offset, spelled.0, (bytes, spelled.1, spelled.2, spelled.3, spelled.4))
-neither text (Size size) no_set no_size spelled = no_size (size, spelled.0, spelled.1)
+    → Encodes text e → ⊥
+neither text (Set offset bytes) no_set no_size encoded =
+    no_set (offset, encoded.0, (bytes, encoded.1, encoded.2, encoded.3, encoded.4))
+neither text (Size size) no_set no_size encoded = no_size (size, encoded.0, encoded.1)
 
 edit-decided :
     (text : List ℕ)
@@ -231,10 +231,10 @@ lines-say [] = (Ok [], tt)
 lines-say (line ∷ lines) = by (edit-or-none line.1) (lines-say lines)
   where
     after :
-        (edit : Edit) → Spells line.1 edit → (answer : Result (List LineEdit) ℕ) → Say lines answer
+        (edit : Edit) → Encodes line.1 edit → (answer : Result (List LineEdit) ℕ) → Say lines answer
         → (answer : Result (List LineEdit) ℕ) × Say (line ∷ lines) answer
-    after edit spelled (Ok edits) said = (Ok (record { line = line.0; edit = edit } ∷ edits), ((refl, spelled), said))
-    after edit spelled (Err number) bad = (Err number, inr ((edit, spelled), bad))
+    after edit encoded (Ok edits) said = (Ok (record { line = line.0; edit = edit } ∷ edits), ((refl, encoded), said))
+    after edit encoded (Err number) bad = (Err number, inr ((edit, encoded), bad))
 
     by :
         Decided (IsEdit line.1) → (answer : Result (List LineEdit) ℕ) × Say lines answer

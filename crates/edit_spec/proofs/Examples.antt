@@ -3,9 +3,9 @@ use Rattle.std.proofs.Common.{◌≡◌, ℕ, ◌<◌, List, [], ◌∷◌, ◌+
 use Rattle.std.specs.Prelude.{codes, decimal}
 use Rattle.std.specs.Fmt.{digits}
 use Rattle.edit_spec.specs.Edit.{Set, Size, LineEdit}
-use Rattle.edit_spec.specs.Grammar.{SpellBytes, Spells, IsEdit, Says, lines}
+use Rattle.edit_spec.specs.Grammar.{EncodeBytes, Encodes, IsEdit, Says, lines}
 use Rattle.edit_spec.specs.Editing.{edited}
-use Rattle.edit_spec.proofs.Spelling.{digits-decimal, same_around_space, other_word}
+use Rattle.edit_spec.proofs.Encoding.{digits-decimal, same_around_space, other_word}
 
 abbrev pub five : List ℕ
 five = 1 ∷ 2 ∷ 3 ∷ 4 ∷ 5 ∷ []
@@ -15,29 +15,29 @@ abbrev pub cut_and_set : List LineEdit
 cut_and_set = record { line = 1; edit = Size 3 } ∷ record { line = 2; edit = Set 2 (255 ∷ []) } ∷ []
 
 -- letters stand in either case
-pub set_is_spelled : Spells (codes "set 2 fF") (Set 2 (255 ∷ []))
+pub set_is_encoded : Encodes (codes "set 2 fF") (Set 2 (255 ∷ []))
 unfolding digits
-set_is_spelled = (lit< tt, lit< tt, codes "fF", (refl, refl, tt), refl)
+set_is_encoded = (lit< tt, lit< tt, codes "fF", (refl, refl, tt), refl)
 
 -- an offset of six digits, and two bytes of other digits, the higher digit first
-pub six_digits_are_spelled : Spells (codes "set 123456 f0A1") (Set 123456 (240 ∷ 161 ∷ []))
+pub six_digits_are_encoded : Encodes (codes "set 123456 f0A1") (Set 123456 (240 ∷ 161 ∷ []))
 unfolding digits
-six_digits_are_spelled = (lit< tt, lit< tt, codes "f0A1", (refl, refl, (refl, refl, tt)), refl)
+six_digits_are_encoded = (lit< tt, lit< tt, codes "f0A1", (refl, refl, (refl, refl, tt)), refl)
 
 -- the largest number of a line has seven digits
-pub seven_digits_are_spelled : Spells (codes "size 9999999") (Size 9999999)
+pub seven_digits_are_encoded : Encodes (codes "size 9999999") (Size 9999999)
 unfolding digits
-seven_digits_are_spelled = (lit< tt, refl)
+seven_digits_are_encoded = (lit< tt, refl)
 
 -- the number 0 is written as one digit
-pub zero_is_spelled : Spells (codes "size 0") (Size 0)
+pub zero_is_encoded : Encodes (codes "size 0") (Size 0)
 unfolding digits
-zero_is_spelled = (lit< tt, refl)
+zero_is_encoded = (lit< tt, refl)
 
 -- empty lines are counted
 pub list_is_said : Says (codes "\n\nsize 0\n") (Ok (record { line = 3; edit = Size 0 } ∷ []))
 unfolding lines
-list_is_said = ((refl, zero_is_spelled), tt)
+list_is_said = ((refl, zero_is_encoded), tt)
 
 -- a `set` of no byte is no edit
 pub no_byte_is_no_edit : IsEdit (codes "set 7 ") → ⊥
@@ -46,11 +46,11 @@ no_byte_is_no_edit (Set offset bytes, p) =
     let e : decimal offset ++ 32 ∷ p.2 ≡ decimal 7 ++ 32 ∷ [] = cc in
     let k =
     same_around_space (decimal offset) (decimal 7) p.2 [] (digits-decimal offset p.0) (digits-decimal 7 (lit< tt)) e in
-    some_byte bytes p.1 (subst (λ ds. SpellBytes ds bytes) k.1 p.3)
+    some_byte bytes p.1 (subst (λ ds. EncodeBytes ds bytes) k.1 p.3)
   where
-    some_byte : (bytes : List ℕ) → 0 < length bytes → SpellBytes [] bytes → ⊥
-    some_byte [] some spelled = omega arith
-    some_byte (byte ∷ bytes) some spelled = spelled
+    some_byte : (bytes : List ℕ) → 0 < length bytes → EncodeBytes [] bytes → ⊥
+    some_byte [] some encoded = omega arith
+    some_byte (byte ∷ bytes) some encoded = encoded
 no_byte_is_no_edit (Size size, p) = other_word (codes "set 7 ") refl (sym p.1)
 
 -- so its line is the bad one

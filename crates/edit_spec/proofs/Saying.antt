@@ -1,8 +1,8 @@
 -- A list says one thing.
 use Rattle.std.proofs.Common.{◌≡◌, ℕ, List, [], ◌∷◌, Result, Ok, Err, refl, ap, sym, ◌∙◌, inl, inr}
 use Rattle.edit_spec.specs.Edit.{Edit, LineEdit}
-use Rattle.edit_spec.specs.Grammar.{Line, SpellAll, IsFirstBad, Say}
-use Rattle.edit_spec.proofs.Spelling.{one_edit}
+use Rattle.edit_spec.specs.Grammar.{Line, EncodeAll, IsFirstBad, Say}
+use Rattle.edit_spec.proofs.Encoding.{one_edit}
 
 -- edits of the same line that do the same are one
 same_line_edit :
@@ -10,8 +10,8 @@ same_line_edit :
     → (let x : LineEdit = record { line = m; edit = a } in x) ≡ record { line = n; edit = b }
 same_line_edit m n a b number edit = cc
 
--- lines spell one list of edits
-same_edits : (lines : List Line) (a b : List LineEdit) → SpellAll lines a → SpellAll lines b → a ≡ b
+-- lines encode one list of edits
+same_edits : (lines : List Line) (a b : List LineEdit) → EncodeAll lines a → EncodeAll lines b → a ≡ b
 same_edits [] [] [] p q = refl
 same_edits [] [] (y ∷ b) p q = absurd q
 same_edits [] (x ∷ a) b p q = absurd p
@@ -24,8 +24,8 @@ same_edits (line ∷ lines) (x ∷ a) (y ∷ b) p q =
     let front : x ≡ y = same_line_edit x.line y.line x.edit y.edit number edit in
     cc
 
--- where all lines spell edits, none is bad
-none_bad : (lines : List Line) (edits : List LineEdit) (number : ℕ) → SpellAll lines edits → IsFirstBad lines number → ⊥
+-- where all lines encode edits, none is bad
+none_bad : (lines : List Line) (edits : List LineEdit) (number : ℕ) → EncodeAll lines edits → IsFirstBad lines number → ⊥
 none_bad [] edits number p q = q
 none_bad (line ∷ lines) [] number p q = p
 none_bad (line ∷ lines) (e ∷ edits) number p (inl bad) = bad.0 (e.edit, p.0.1)

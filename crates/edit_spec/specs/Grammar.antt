@@ -1,4 +1,4 @@
--- The grammar of a list of edits: what its lines spell.
+-- The grammar of a list of edits: what its lines encode.
 use Rattle.std.specs.Prelude.{ℕ, ◌≡◌, ◌<◌, ◌/◌, ◌%◌, ◌==◌, Bool, true, false, List, [], ◌∷◌, ◌++◌, filter, length, codes, decimal, Some, Result, Ok, Err, ◌⊎◌}
 use Rattle.std.specs.List.{AllZip, enumerate_from, slice_split}
 use Rattle.hex.specs.Hex.{hex_digit_value}
@@ -16,24 +16,24 @@ space = 32
 abbrev pub newline : ℕ
 newline = 10
 
--- Hexadecimal digits, in either case, spell bytes: two digits for each byte, the higher one first.
-abbrev pub SpellBytes : List ℕ → List ℕ → Type 0
-SpellBytes [] [] = Unit {0}
-SpellBytes (high ∷ low ∷ digits) (byte ∷ bytes) =
-    (hex_digit_value high ≡ Some (byte / 16)) × (hex_digit_value low ≡ Some (byte % 16)) × SpellBytes digits bytes
-SpellBytes _ _ = ⊥
+-- Hexadecimal digits, in either case, encode bytes: two digits for each byte, the higher one first.
+abbrev pub EncodeBytes : List ℕ → List ℕ → Type 0
+EncodeBytes [] [] = Unit {0}
+EncodeBytes (high ∷ low ∷ digits) (byte ∷ bytes) =
+    (hex_digit_value high ≡ Some (byte / 16)) × (hex_digit_value low ≡ Some (byte % 16)) × EncodeBytes digits bytes
+EncodeBytes _ _ = ⊥
 
--- A line spells an edit: `set`, the offset and the digits of at least one byte, or `size` and the length, with single
+-- A line encodes an edit: `set`, the offset and the digits of at least one byte, or `size` and the length, with single
 -- spaces between them and numbers in decimal without leading zeros.
-abbrev pub Spells : List ℕ → Edit → Type 0
-Spells text (Set offset bytes) =
-    (offset < number_limit) × (0 < length bytes) × (digits : List ℕ) × SpellBytes digits bytes
+abbrev pub Encodes : List ℕ → Edit → Type 0
+Encodes text (Set offset bytes) =
+    (offset < number_limit) × (0 < length bytes) × (digits : List ℕ) × EncodeBytes digits bytes
     × (text ≡ codes "set " ++ (decimal offset ++ space ∷ digits))
-Spells text (Size size) = (size < number_limit) × (text ≡ codes "size " ++ decimal size)
+Encodes text (Size size) = (size < number_limit) × (text ≡ codes "size " ++ decimal size)
 
--- Some edit is spelled by a line.
+-- Some edit is encoded by a line.
 abbrev pub IsEdit : List ℕ → Type 0
-IsEdit text = (edit : Edit) × Spells text edit
+IsEdit text = (edit : Edit) × Encodes text edit
 
 -- A line: its number, and its bytes without the newline.
 abbrev pub Line : Type 0
@@ -48,18 +48,18 @@ is_filled (byte ∷ bytes) = true
 unfoldable pub lines : List ℕ → List Line
 lines bytes = filter (λ line. is_filled line.1) (enumerate_from 1 (slice_split (λ byte. byte == newline) bytes))
 
--- The lines spell the edits, each line one edit, in order.
-abbrev pub SpellAll : List Line → List LineEdit → Type 0
-SpellAll lines edits = AllZip (λ line e. (e.line ≡ line.0) × Spells line.1 e.edit) lines edits
+-- The lines encode the edits, each line one edit, in order.
+abbrev pub EncodeAll : List Line → List LineEdit → Type 0
+EncodeAll lines edits = AllZip (λ line e. (e.line ≡ line.0) × Encodes line.1 e.edit) lines edits
 
--- The first of the lines that spells no edit has this number.
+-- The first of the lines that encodes no edit has this number.
 abbrev pub IsFirstBad : List Line → ℕ → Type 0
 IsFirstBad [] number = ⊥
 IsFirstBad (line ∷ lines) number = ((IsEdit line.1 → ⊥) × (number ≡ line.0)) ⊎ (IsEdit line.1 × IsFirstBad lines number)
 
--- What lines say: the edits that they spell, or the number of the first that spells none.
+-- What lines say: the edits that they encode, or the number of the first that encodes none.
 abbrev pub Say : List Line → Result (List LineEdit) ℕ → Type 0
-Say lines (Ok edits) = SpellAll lines edits
+Say lines (Ok edits) = EncodeAll lines edits
 Say lines (Err number) = IsFirstBad lines number
 
 -- What the bytes of a list of edits say.

@@ -1,14 +1,14 @@
 //! Lists of edits of an input: their grammar, and what they do.
 //!
-//! This crate holds definitions alone. `specs/` says what the bytes of a list spell, or which line is the first
-//! that spells nothing, and what edits make of an input. Each public function is a law: its contract is the
+//! This crate holds definitions alone. `specs/` says what the bytes of a list encode, or which line is the first
+//! that encodes nothing, and what edits make of an input. Each public function is a law: its contract is the
 //! statement, and its body does nothing.
 #![tactic(auto)]
 
 ghost use Rattle.std.specs.Prelude.{ℕ, ◌≡◌, ◌<◌, ◌≤◌, List, [], ◌∷◌, ◌++◌, length, map, Contains, Result};
 ghost use Rattle.std.specs.List.{AllByRecursion};
 ghost use Rattle.edit_spec.specs.Edit.{Edit, LineEdit};
-ghost use Rattle.edit_spec.specs.Grammar.{Spells, Says};
+ghost use Rattle.edit_spec.specs.Grammar.{Encodes, Says};
 ghost use Rattle.edit_spec.specs.Editing.{edited};
 
 use machine_spec::MOST_INPUT_BYTES;
@@ -16,9 +16,9 @@ use machine_spec::MOST_INPUT_BYTES;
 /// The most bytes of a list of edits.
 pub const MOST_LIST_BYTES: usize = 1_048_576;
 
-/// A line spells at most one edit.
-pub fn line_spells_one_edit()
-    ensures { (text : List ℕ) (a b : Edit) → Spells text a → Spells text b → a ≡ b }
+/// A line encodes at most one edit.
+pub fn line_encodes_one_edit()
+    ensures { (text : List ℕ) (a b : Edit) → Encodes text a → Encodes text b → a ≡ b }
 {}
 
 /// A list says one thing: these edits and no others, or that this line is the first bad one, and not both.

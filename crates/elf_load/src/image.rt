@@ -27,7 +27,8 @@ pub fn segments_of(alloc: Global, bytes: &[u8]) -> Result<Vec<Header>, AllocErro
 /// Puts a header behind the others, if it is a segment's.
 fn push_segment(found: &mut Vec<Header>, header: Header) -> Result<(), AllocError>
     ensures { OnOk result (found.new.items
-        ≡ (if segment_header.is_segment (header_of header) then found.old.items ++ header ∷ [] else found.old.items)) }
+        ≡ (if segment_header.is_segment (header_of header) then found.old.items ++ header ∷ []
+        else found.old.items)) }
 {
     if is_segment(header) {
         found.push(header)?;
@@ -54,7 +55,8 @@ pub fn segments_on(
 /// Puts a header behind the others, if it touches the page of a number.
 fn push_touching(found: &mut Vec<Header>, header: Header, number: u32) -> Result<(), AllocError>
     ensures { OnOk result (found.new.items
-        ≡ (if segment.touches number (header_of header) then found.old.items ++ header ∷ [] else found.old.items)) }
+        ≡ (if segment.touches number (header_of header) then found.old.items ++ header ∷ []
+        else found.old.items)) }
 {
     if touches(number, header) {
         found.push(header)?;

@@ -31,7 +31,7 @@ pub struct Image {
 }
 
 /// Why no image was made.
-#[derive(Clone, Copy, Debug, PartialEq, Eq)]
+#[derive(Clone, Copy)]
 pub enum LoadError {
     /// The file isn't an executable that is taken, for this reason.
     Refused(Refusal),

@@ -32,7 +32,8 @@ pub fn touches(number: u32, header: Header) -> bool
 fn higher(page: u32, header: Header) -> u32
     requires { page < 2 ^ 21 }
     ensures page { result ≡
-        (if is_segment_of (header_of header) then max page (segment.last_page (header_of header)) else page) }
+        (if is_segment_of (header_of header) then max page (segment.last_page (header_of header))
+        else page) }
     ensures small { result < 2 ^ 21 }
 {
     if is_segment(header) {
@@ -59,7 +60,8 @@ fn mark_pages(marks: &mut [bool], first: usize, last: usize)
     requires { last < 2 ^ 21 }
     ensures same { length marks.new ≡ length marks.old }
     ensures each { (k : ℕ) → k < length marks.old
-        → get_or marks.new k false ≡ (get_or marks.old k false || (nat_le first k && nat_le k last)) }
+        → get_or marks.new k false
+        ≡ (get_or marks.old k false || (nat_le first k && nat_le k last)) }
 {
     for number in first..(last + 1).min(marks.len()) {
         marks[number] = true;
@@ -70,7 +72,8 @@ fn mark_pages(marks: &mut [bool], first: usize, last: usize)
 fn mark_segment(marks: &mut [bool], header: Header)
     ensures same { length marks.new ≡ length marks.old }
     ensures each { (k : ℕ) → k < length marks.old → get_or marks.new k false
-        ≡ (get_or marks.old k false || (is_segment_of (header_of header) && segment.touches k (header_of header))) }
+        ≡ (get_or marks.old k false
+        || (is_segment_of (header_of header) && segment.touches k (header_of header))) }
 {
     if is_segment(header) {
         mark_pages(

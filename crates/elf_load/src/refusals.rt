@@ -194,7 +194,8 @@ fn overlap_from(bytes: &[u8], headers: &[Header], earlier: u32, from: u32) -> Op
     requires headers { map header_of headers.now ≡ program_headers bytes.now }
     requires earlier { earlier < e_phnum bytes.now }
     requires from { from ≤ e_phnum bytes.now }
-    ensures { result ≡ find (λ j. row.overlaps (program_header bytes.now earlier) (program_header bytes.now j))
+    ensures { result
+        ≡ find (λ j. row.overlaps (program_header bytes.now earlier) (program_header bytes.now j))
         (range_with_len from (e_phnum bytes.now - from)) }
 {
     let one = header_read(bytes, headers, earlier);

@@ -82,5 +82,6 @@ pub fn accepted_is_small(bytes: &[u8])
 pub fn accepted_is_inside(bytes: &[u8])
     requires { is_image bytes.now ≡ true }
     ensures map { ascends_above 0 (image_pages bytes.now) ≡ true }
-    ensures inside { All (λ page. (1 ≤ page.number) × (page.number < 0xC0000)) (image_pages bytes.now) }
+    ensures inside { All (λ page. (1 ≤ page.number) × (page.number < 0xC0000))
+        (image_pages bytes.now) }
 {}

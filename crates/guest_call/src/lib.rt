@@ -38,7 +38,7 @@ pub const EDEADLK: u32 = 0xFFFF_FFDD;
 
 /// An environment call with its arguments, as the guest makes it by ECALL: the number stands in a7, the
 /// first argument in a0 and the second in a1.
-#[derive(Clone, Copy, Debug, PartialEq, Eq)]
+#[derive(Clone, Copy, PartialEq, Eq)]
 pub enum Call {
     /// 0, `exit(code)`: ends the run, as `exit` of POSIX ends a process, with the whole of a0.
     Exit(u32),

@@ -10,8 +10,8 @@ use Rattle.std.proofs.lemmas.List.Elements.{All-cons, All-append, All-nil}
 use Rattle.std.proofs.lemmas.List.Splits.{slice_split_none}
 use Rattle.hex.specs.Hex.{encode_with, encode_lower, lower_digits, hex_digit_value}
 use Rattle.hex.proofs.HexLemmas.{IsDigits-lower_digits}
-use Rattle.edit_spec.specs.Grammar.{newline, space, SpellBytes, Spells, Line, lines, is_filled, Says, SpellAll}
-use Rattle.edit_spec.proofs.Spelling.{digits-decimal}
+use Rattle.edit_spec.specs.Grammar.{newline, space, EncodeBytes, Encodes, Line, lines, is_filled, Says, EncodeAll}
+use Rattle.edit_spec.proofs.Encoding.{digits-decimal}
 use Rattle.guest_gen.specs.Generated.{place_of, byte_of, edit_of, list_of, edits_of}
 
 -- a byte that ends no line
@@ -37,9 +37,9 @@ in_line-hex c d is =
     ]
 
 -- the two digits of a byte
-spell-byte : (byte : ℕ) → byte < 256 → SpellBytes (encode_lower (byte ∷ [])) (byte ∷ [])
+encode-byte : (byte : ℕ) → byte < 256 → EncodeBytes (encode_lower (byte ∷ [])) (byte ∷ [])
 unfolding encode_with
-spell-byte byte small =
+encode-byte byte small =
     (IsDigits-lower_digits (byte / 16) (omega arith), IsDigits-lower_digits (byte % 16) (omega arith), tt)
 
 in_line-byte : (byte : ℕ) → byte < 256 → All InLine (encode_lower (byte ∷ []))
@@ -74,19 +74,19 @@ in_line-list number =
     (All-cons InLine 101 (116 ∷ 32 ∷ back) refl
     (All-cons InLine 116 (32 ∷ back) refl (All-cons InLine 32 back refl behind)))
 
--- and spells the edit
-list-spells : (number : ℕ) → Spells (list_of number) (edit_of number)
-list-spells number = (
+-- and encodes the edit
+list-encodes : (number : ℕ) → Encodes (list_of number) (edit_of number)
+list-encodes number = (
   omega arith,
   lit< tt,
   encode_lower (byte_of number ∷ []),
-  spell-byte (byte_of number) (omega arith),
+  encode-byte (byte_of number) (omega arith),
   refl,
 )
 
 pub list-says : (number : ℕ) → Says (list_of number) (Ok (edits_of number))
 list-says number =
     let back = decimal (place_of number) ++ space ∷ encode_lower (byte_of number ∷ []) in
-    subst (λ (ls : List Line). SpellAll ls (edits_of number))
+    subst (λ (ls : List Line). EncodeAll ls (edits_of number))
     (sym (one_line 115 (101 ∷ 116 ∷ 32 ∷ back) (in_line-list number)))
-    ((refl, list-spells number), tt)
+    ((refl, list-encodes number), tt)

@@ -6,7 +6,7 @@ use crate::waits::{Wait, Waits};
 use call_effect::Effect;
 use guest_call::{Fate, THREADS};
 use machine_spec::{Asked, End, Status};
-use plain_machine::{Made, PlainMachine};
+use plain_machine::{PlainMachine, StepResult};
 use release_core::Setup;
 use std::alloc::Global;
 use std::io;
@@ -76,7 +76,12 @@ fn write_others<W: Write>(out: &mut W, effect: &Effect) -> io::Result<()> {
 }
 
 /// Writes what a step's thunk asked for, and what came of it.
-fn write_made<W: Write>(out: &mut W, waits: &Waits, thread: u8, made: &Made) -> io::Result<()> {
+fn write_made<W: Write>(
+    out: &mut W,
+    waits: &Waits,
+    thread: u8,
+    made: &StepResult,
+) -> io::Result<()> {
     match made.asked {
         Asked::Asks(call) => {
             write!(out, "{}", Named(call))?;
@@ -99,7 +104,7 @@ fn write_made<W: Write>(out: &mut W, waits: &Waits, thread: u8, made: &Made) -> 
 }
 
 /// Notes what a step's call tells of mutexes and waits.
-fn note(waits: &mut Waits, thread: u8, made: &Made) {
+fn note(waits: &mut Waits, thread: u8, made: &StepResult) {
     if let Asked::Asks(call) = made.asked {
         if let Some(effect) = &made.effect {
             waits.note(thread, call, effect);

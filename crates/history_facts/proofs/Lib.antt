@@ -1,4 +1,4 @@
 -- The lemmas of this crate.
-pub mod Laying
-pub mod Coming
+pub mod Applying
+pub mod PendingFacts
 pub mod Outlining

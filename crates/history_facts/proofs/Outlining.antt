@@ -3,7 +3,6 @@ use Rattle.std.proofs.Common.{◌≡◌, ◌<◌, ◌≤◌, ◌+◌, ℕ, zero,
 use Rattle.std.proofs.lemmas.Bool.{and_parts, cases_eq, eq-eqb}
 use Rattle.std.proofs.lemmas.Bool.Decides.{nat_tests}
 use Rattle.std.proofs.lemmas.List.{get_or-set_same, get_or-set_other, length-set}
-use Rattle.std.proofs.lemmas.Option.{slice_get_within}
 use Rattle.std.specs.List.{slice_get}
 use Rattle.std.specs.Prelude.{◌&&◌}
 use Rattle.memory_spec.specs.Pages.{Mapped}
@@ -14,54 +13,54 @@ use Rattle.machine_spec.specs.declared.states.End.{End}
 use Rattle.machine_spec.specs.Machine.{Machine, hart_of, is_ready}
 use Rattle.machine_spec.specs.Whole.{IsWhole}
 use Rattle.machine_spec.specs.Setup.{Setup, IsSetup, first, map_of}
-use Rattle.machine_spec.specs.Step.{lay, fits, can_step}
+use Rattle.machine_spec.specs.Step.{apply, fits}
 use Rattle.machine_spec.proofs.Beginning.{IsWhole-first}
 use Rattle.machine_spec.proofs.Harts.{ready-below}
-use Rattle.history_spec.specs.History.{History, laid_from, can_lay_from, is_coherent}
-use Rattle.history_spec.proofs.Laying.{lay-frame, lay-whole}
+use Rattle.history_spec.specs.History.{History, applied_from, can_apply_from, is_coherent}
+use Rattle.history_spec.proofs.Applying.{apply-frame, apply-whole}
 use Rattle.history_spec.proofs.Mapped.{first-map}
-use Rattle.history_spec.proofs.Numbers.{one_for, first-number, lay-number}
+use Rattle.history_spec.proofs.Numbers.{first-number, apply-number}
 use Rattle.order_spec.specs.Facts.{Fact, ask_of, acted, effect_of, objects_of, served_by, written_slots, read_by, fact_of}
-use Rattle.order_spec.proofs.After.{lay-length, lay-objects}
+use Rattle.order_spec.proofs.After.{apply-length, apply-objects}
 use Rattle.release_core.specs.Applying.{can_apply}
 use Rattle.machine_calls.proofs.Asking.{few_numbers}
 use Rattle.history_facts.specs.declared.outline.Outline.{Outline}
-use Rattle.history_facts.specs.Outlining.{machine_at, numbered, IsOutlineOf, MayBeLaid}
-use Rattle.history_facts.proofs.Laying.{ready, can-make}
+use Rattle.history_facts.specs.Outlining.{machine_at, numbered, IsOutlineOf, MayBeApplied}
+use Rattle.history_facts.proofs.Applying.{ready, can-make}
 
 -- the machine after a record that stands at a place
-laid-more :
+applied-more :
     (m : Machine) (rs : List Record) (k : ℕ) (r : Record) → slice_get rs k ≡ Some r
-    → laid_from m (take (suc k) rs) ≡ lay (laid_from m (take k rs)) r
-laid-more m [] k r at = cc
-laid-more m (x ∷ rs) zero r at = let same : x ≡ r = cc in ap (lay m) same
-laid-more m (x ∷ rs) (suc k) r at = laid-more (lay m x) rs k r at
+    → applied_from m (take (suc k) rs) ≡ apply (applied_from m (take k rs)) r
+applied-more m [] k r at = cc
+applied-more m (x ∷ rs) zero r at = let same : x ≡ r = cc in ap (apply m) same
+applied-more m (x ∷ rs) (suc k) r at = applied-more (apply m x) rs k r at
 
 pub machine-more :
     (h : History) (k : ℕ) (r : Record) → slice_get h.records k ≡ Some r
-    → machine_at h (k + 1) ≡ lay (machine_at h k) r
+    → machine_at h (k + 1) ≡ apply (machine_at h k) r
 machine-more h k r at =
     let next : k + 1 ≡ suc k = omega arith in
-    ap (machine_at h) next ∙ laid-more (first h.setup) h.records k r at
+    ap (machine_at h) next ∙ applied-more (first h.setup) h.records k r at
 
--- where each record can be laid, so can the one at a place, on a machine that holds together
+-- where each record can be applied, so can the one at a place, on a machine that holds together
 can-at :
-    (m : Machine) (rs : List Record) (k : ℕ) (r : Record) → can_lay_from m rs ≡ true → slice_get rs k ≡ Some r
-    → can_apply (laid_from m (take k rs)) r ≡ true
+    (m : Machine) (rs : List Record) (k : ℕ) (r : Record) → can_apply_from m rs ≡ true → slice_get rs k ≡ Some r
+    → can_apply (applied_from m (take k rs)) r ≡ true
 can-at m [] k r can at = cc
 can-at m (x ∷ rs) zero r can at =
     let same : x ≡ r = cc in subst (λ (y : Record). can_apply m y ≡ true) same (and_parts _ _ can).0
-can-at m (x ∷ rs) (suc k) r can at = can-at (lay m x) rs k r (and_parts _ _ can).1 at
+can-at m (x ∷ rs) (suc k) r can at = can-at (apply m x) rs k r (and_parts _ _ can).1 at
 
 whole-at :
-    (m : Machine) (rs : List Record) (k : ℕ) → IsWhole m → can_lay_from m rs ≡ true
-    → IsWhole (laid_from m (take k rs))
+    (m : Machine) (rs : List Record) (k : ℕ) → IsWhole m → can_apply_from m rs ≡ true
+    → IsWhole (applied_from m (take k rs))
 whole-at m [] zero whole can = whole
 whole-at m [] (suc k) whole can = whole
 whole-at m (x ∷ rs) zero whole can = whole
 whole-at m (x ∷ rs) (suc k) whole can =
-    let parts = and_parts (is_none m.ending && fits m x) (can_lay_from (lay m x) rs) can in
-    whole-at (lay m x) rs k (lay-whole m x whole (can-make m x parts.0)) parts.1
+    let parts = and_parts (is_none m.ending && fits m x) (can_apply_from (apply m x) rs) can in
+    whole-at (apply m x) rs k (apply-whole m x whole (can-make m x parts.0)) parts.1
 
 none-some : (e : Option End) → is_none e ≡ true → is_some e ≡ false
 none-some None none = refl
@@ -69,23 +68,23 @@ none-some (Some e) none = cc
 
 -- the end comes after the last of them, and only then
 last-at :
-    (m : Machine) (rs : List Record) (k : ℕ) (r : Record) → can_lay_from m rs ≡ true
-    → is_some (laid_from m rs).ending ≡ true → slice_get rs k ≡ Some r
-    → eqb (k + 1) (length rs) ≡ is_some (lay (laid_from m (take k rs)) r).ending
+    (m : Machine) (rs : List Record) (k : ℕ) (r : Record) → can_apply_from m rs ≡ true
+    → is_some (applied_from m rs).ending ≡ true → slice_get rs k ≡ Some r
+    → eqb (k + 1) (length rs) ≡ is_some (apply (applied_from m (take k rs)) r).ending
 last-at m [] k r can ended at = cc
 last-at m (x ∷ []) zero r can ended at =
-    let same : x ≡ r = cc in sym (subst (λ (y : Record). is_some (lay m y).ending ≡ true) same ended)
+    let same : x ≡ r = cc in sym (subst (λ (y : Record). is_some (apply m y).ending ≡ true) same ended)
 last-at m (x ∷ []) (suc k) r can ended at = cc
 last-at m (x ∷ y ∷ rs) zero r can ended at =
     let same : x ≡ r = cc in
-    let rest : can_lay_from (lay m x) (y ∷ rs) ≡ true = (and_parts (is_none m.ending && fits m x) _ can).1 in
-    let fit : (is_none (lay m x).ending && fits (lay m x) y) ≡ true = (and_parts _ (can_lay_from (lay (lay m x) y) rs) rest).0 in
-    let next : is_none (lay m x).ending ≡ true = (and_parts _ _ fit).0 in
+    let rest : can_apply_from (apply m x) (y ∷ rs) ≡ true = (and_parts (is_none m.ending && fits m x) _ can).1 in
+    let fit : (is_none (apply m x).ending && fits (apply m x) y) ≡ true = (and_parts _ (can_apply_from (apply (apply m x) y) rs) rest).0 in
+    let next : is_none (apply m x).ending ≡ true = (and_parts _ _ fit).0 in
     let later : eqb (0 + 1) (length (x ∷ y ∷ rs)) ≡ false = grind (arith, nat_tests) in
-    later ∙ sym (subst (λ (z : Record). is_some (lay m z).ending ≡ false) same (none-some (lay m x).ending next))
+    later ∙ sym (subst (λ (z : Record). is_some (apply m z).ending ≡ false) same (none-some (apply m x).ending next))
 last-at m (x ∷ y ∷ rs) (suc k) r can ended at =
     let same : eqb (suc k + 1) (length (x ∷ y ∷ rs)) ≡ eqb (k + 1) (length (y ∷ rs)) = grind (arith, nat_tests) in
-    same ∙ last-at (lay m x) (y ∷ rs) k r (and_parts (is_none m.ending && fits m x) _ can).1 ended at
+    same ∙ last-at (apply m x) (y ∷ rs) k r (and_parts (is_none m.ending && fits m x) _ can).1 ended at
 
 pub coherent-can :
     (h : History) (k : ℕ) (r : Record) → is_coherent h ≡ true → slice_get h.records k ≡ Some r
@@ -96,11 +95,11 @@ coherent-whole : (h : History) (k : ℕ) → IsSetup h.setup → is_coherent h �
 coherent-whole h k valid coherent =
     whole-at (first h.setup) h.records k (IsWhole-first h.setup valid) (and_parts _ _ coherent).0
 
-pub coherent-laid :
+pub coherent-applied :
     (h : History) (k : ℕ) (r : Record) (o : Outline)
     → IsSetup h.setup → is_coherent h ≡ true → slice_get h.records k ≡ Some r → IsOutlineOf (machine_at h k) o
-    → MayBeLaid (machine_at h k) o r
-coherent-laid h k r o valid coherent at is = record {
+    → MayBeApplied (machine_at h k) o r
+coherent-applied h k r o valid coherent at is = record {
   outline = is;
   whole = coherent-whole h k valid coherent;
   can = coherent-can h k r coherent at;
@@ -108,12 +107,12 @@ coherent-laid h k r o valid coherent at is = record {
 
 pub coherent-last :
     (h : History) (k : ℕ) (r : Record) → is_coherent h ≡ true → slice_get h.records k ≡ Some r
-    → eqb (k + 1) (length h.records) ≡ is_some (lay (machine_at h k) r).ending
+    → eqb (k + 1) (length h.records) ≡ is_some (apply (machine_at h k) r).ending
 coherent-last h k r coherent at =
-    let parts = and_parts (can_lay_from (first h.setup) h.records) _ coherent in
+    let parts = and_parts (can_apply_from (first h.setup) h.records) _ coherent in
     last-at (first h.setup) h.records k r parts.0 parts.1 at
 
--- after a record was laid
+-- after a record was applied
 
 few : (m : Machine) → IsWhole m → length m.harts ≤ 32
 few m whole = omega (arith, whole.tied.threads, whole.tied.kept.few_threads)
@@ -125,16 +124,16 @@ number-more :
     (m : Machine) (r : Record) (numbers : List ℕ) (u : ℕ)
     → ((t : ℕ) → get_or numbers t 0 ≡ (hart_of m t).number)
     → r.thread < length numbers → is_ready (hart_of m r.thread).status ≡ true
-    → get_or (set numbers r.thread (get_or numbers r.thread 0 + 1)) u 0 ≡ (hart_of (lay m r) u).number
+    → get_or (set numbers r.thread (get_or numbers r.thread 0 + 1)) u 0 ≡ (hart_of (apply m r) u).number
 number-more m r numbers u are inside able =
-    let after = lay-number m r u able in
+    let after = apply-number m r u able in
     let at = are u in
     elim (cases_eq u r.thread) [
       | inl same ↦
           let is : eqb r.thread r.thread ≡ true = eq-eqb r.thread r.thread refl in
           rw same (get_or-set_same numbers r.thread (get_or numbers r.thread 0 + 1) 0 inside
           ∙ ap (λ n. n + 1) (are r.thread)
-          ∙ sym (lay-number m r r.thread able ∙ rw is refl))
+          ∙ sym (apply-number m r r.thread able ∙ rw is refl))
       | inr other ↦
           let is : eqb r.thread u ≡ false = grind (arith, nat_tests) in
           get_or-set_other numbers r.thread u (get_or numbers r.thread 0 + 1) 0 other
@@ -147,11 +146,11 @@ pub outline-more :
     → objects ≡ (acted m r.thread (ask_of r)).1
     → threads ≡ o.threads + created_count (effect_of m r).created
     → numbers ≡ set o.numbers r.thread (get_or o.numbers r.thread 0 + 1)
-    → IsOutlineOf (lay m r) (record { map = o.map; objects = objects; threads = threads; numbers = numbers })
+    → IsOutlineOf (apply m r) (record { map = o.map; objects = objects; threads = threads; numbers = numbers })
 outline-more m r o objects threads numbers is whole can is_objects is_threads is_numbers = record {
-  map = is.map ∙ sym (ap (λ f. f.map) (lay-frame m r));
-  objects = is_objects ∙ sym (lay-objects m r);
-  threads = is_threads ∙ ap (λ n. n + created_count (effect_of m r).created) is.threads ∙ sym (lay-length m r);
+  map = is.map ∙ sym (ap (λ f. f.map) (apply-frame m r));
+  objects = is_objects ∙ sym (apply-objects m r);
+  threads = is_threads ∙ ap (λ n. n + created_count (effect_of m r).created) is.threads ∙ sym (apply-length m r);
   each = ap (λ (ns : List ℕ). length ns) is_numbers
       ∙ length-set o.numbers r.thread (get_or o.numbers r.thread 0 + 1) ∙ is.each;
   numbers = λ u.
@@ -211,7 +210,7 @@ pub fact-is :
     (reads : ℕ → ℕ → List ℕ) (m : Machine) (r : Record) (thread : ℕ) (objects : List Object)
     (given written opened : List ℕ) (last : Bool)
     → thread ≡ r.thread → objects ≡ objects_of m r → given ≡ served_by m r → written ≡ written_slots r
-    → opened ≡ read_by reads (lay m r) (served_by m r) → last ≡ is_some (lay m r).ending
+    → opened ≡ read_by reads (apply m r) (served_by m r) → last ≡ is_some (apply m r).ending
     → (let f : Fact =
     record {
       thread = thread;

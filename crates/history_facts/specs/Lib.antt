@@ -1,4 +1,4 @@
 -- The files of definitions of this crate.
 pub mod Asking
-pub mod Coming
+pub mod PendingFacts
 pub mod Outlining

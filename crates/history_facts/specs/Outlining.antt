@@ -5,13 +5,13 @@ use Rattle.record_spec.specs.Record.{Record}
 use Rattle.machine_spec.specs.Machine.{Machine, hart_of}
 use Rattle.machine_spec.specs.Setup.{first}
 use Rattle.machine_spec.specs.Whole.{IsWhole}
-use Rattle.history_spec.specs.History.{History, laid_from}
+use Rattle.history_spec.specs.History.{History, applied_from}
 use Rattle.release_core.specs.Applying.{can_apply}
 use Rattle.history_facts.specs.declared.outline.Outline.{Outline}
 
 -- The machine that the records of a history before a place leave.
 abbrev pub machine_at : History → ℕ → Machine
-machine_at h place = laid_from (first h.setup) (take place h.records)
+machine_at h place = applied_from (first h.setup) (take place h.records)
 
 -- The page map and the objects of a machine, how many threads it has, and how many steps each of them has made.
 pub record IsOutlineOf (m : Machine) (outline : Outline) : Type 0 where
@@ -21,8 +21,8 @@ pub record IsOutlineOf (m : Machine) (outline : Outline) : Type 0 where
   pub each : length outline.numbers ≡ THREADS
   pub numbers : (t : ℕ) → slice_index outline.numbers t ≡ (hart_of m t).number
 
--- A record that may be laid on a machine which holds together, with the machine's outline.
-pub record MayBeLaid (m : Machine) (o : Outline) (r : Record) : Type 0 where
+-- A record that may be applied to a machine which holds together, with the machine's outline.
+pub record MayBeApplied (m : Machine) (o : Outline) (r : Record) : Type 0 where
   pub outline : IsOutlineOf m o
   pub whole : IsWhole m
   pub can : can_apply m r ≡ true

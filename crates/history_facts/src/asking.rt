@@ -28,7 +28,7 @@ pub fn call_of(rec: &Record) -> Option<Call>
 
 /// What a call does: the objects on which it acts, and its effect. The answer of a put isn't looked at.
 #[derive(Drop)]
-pub struct Done {
+pub struct CallResult {
     /// The objects.
     pub objects: ActedOn,
     /// The effect.
@@ -48,7 +48,7 @@ fn put_on(map: &PageMap, start: u32, len: u32) -> ActedOn
 }
 
 /// Does a call of thread `t`, which is ready.
-pub fn act(map: &PageMap, objects: &mut Objects, t: u8, call: Call) -> Done
+pub fn act(map: &PageMap, objects: &mut Objects, t: u8, call: Call) -> CallResult
     requires exists { t < length objects.old.threads }
     requires free { rows.waits_at objects.old t ≡ 0 }
     ensures acts_on { objects_in result.objects
@@ -60,12 +60,12 @@ pub fn act(map: &PageMap, objects: &mut Objects, t: u8, call: Call) -> Done
     ensures objects { objects.new ≡ (rows.act (is_readable map.now) objects.old t call).1 }
 {
     match call {
-        Call::Put(start, len) => Done {
+        Call::Put(start, len) => CallResult {
             objects: put_on(map, start, len),
             effect: Effect::answers(0),
         },
         other => match objects.thread(t) {
-            Some(thread) => Done {
+            Some(thread) => CallResult {
                 objects: objects.acts_on(other),
                 effect: objects.act(thread, other),
             },

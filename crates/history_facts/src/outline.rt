@@ -1,4 +1,4 @@
-//! What the facts of steps need of the machine on which their records are laid: no page, and no register.
+//! What the facts of steps need of the machine on which their records are applied: no page, and no register.
 
 ghost use Rattle.std.specs.Prelude.{◌≡◌, ◌<◌, ◌≤◌, ◌+◌, ℕ, if◌then◌else◌, slice_index, slice_set, is_some, IfOk};
 ghost use Rattle.sync_objects.specs.Acting.{objects_in};
@@ -6,9 +6,9 @@ ghost use Rattle.machine_spec.specs.Machine.{Machine};
 ghost use Rattle.machine_spec.specs.Setup.{IsSetup, first};
 ghost use Rattle.machine_spec.specs.Step as step;
 ghost use Rattle.order_spec.specs.Facts as order;
-ghost use Rattle.history_facts.specs.Outlining.{numbered, IsOutlineOf, MayBeLaid};
+ghost use Rattle.history_facts.specs.Outlining.{numbered, IsOutlineOf, MayBeApplied};
 
-use super::asking::{Done, act, call_of};
+use super::asking::{CallResult, act, call_of};
 use super::serving::served;
 use super::slots::{push_read, written};
 use call_effect::Effect;
@@ -70,22 +70,24 @@ impl Outline {
         })
     }
 
-    /// Does the call of a record that may be laid on a machine of which this is the outline.
-    fn call(&mut self, rec: &Record) -> Done
-        requires { (m : Machine) × MayBeLaid m self.old rec.now }
-        ensures stays { (m : Machine) → MayBeLaid m self.old rec.now → self.new ≡ record self.old {
-          objects = (order.acted m rec.now.thread (order.ask_of rec.now)).1;
-        } }
-        ensures objects { (m : Machine) → MayBeLaid m self.old rec.now →
+    /// Does the call of a record that may be applied to a machine of which this is the outline.
+    fn call(&mut self, rec: &Record) -> CallResult
+        requires { (m : Machine) × MayBeApplied m self.old rec.now }
+        ensures stays { (m : Machine) → MayBeApplied m self.old rec.now
+            → self.new ≡ record self.old {
+              objects = (order.acted m rec.now.thread (order.ask_of rec.now)).1;
+            } }
+        ensures objects { (m : Machine) → MayBeApplied m self.old rec.now →
             objects_in result.objects ≡ order.objects_of m rec.now }
-        ensures created { (m : Machine) → MayBeLaid m self.old rec.now →
+        ensures created { (m : Machine) → MayBeApplied m self.old rec.now →
             result.effect.created ≡ (order.effect_of m rec.now).created }
-        ensures effect { (m : Machine) → MayBeLaid m self.old rec.now → (n : ℕ) →
-            order.served result.effect rec.now.thread n ≡ order.served (order.effect_of m rec.now) rec.now.thread n }
+        ensures effect { (m : Machine) → MayBeApplied m self.old rec.now → (n : ℕ) →
+            order.served result.effect rec.now.thread n
+            ≡ order.served (order.effect_of m rec.now) rec.now.thread n }
     {
         match call_of(rec) {
             Some(call) => act(&self.map, &mut self.objects, rec.thread(), call),
-            None => Done {
+            None => CallResult {
                 objects: ActedOn::Nothing,
                 effect: Effect::exits(0),
             },
@@ -106,25 +108,26 @@ impl Outline {
         self.numbers[usize::from(t)] += 1;
     }
 
-    /// Does what a record asks for that may be laid on a machine of which this is the outline: from then on it is that of
-    /// the machine after the record.
-    fn perform(&mut self, rec: &Record) -> Done
-        requires { (m : Machine) × MayBeLaid m self.old rec.now }
-        ensures outline { (m : Machine) → MayBeLaid m self.old rec.now
-            → IsOutlineOf (step.lay m rec.now) self.new }
-        ensures objects { (m : Machine) → MayBeLaid m self.old rec.now →
+    /// Does what a record asks for that may be applied to a machine of which this is the outline: from then on it is
+    /// that of the machine after the record.
+    fn perform(&mut self, rec: &Record) -> CallResult
+        requires { (m : Machine) × MayBeApplied m self.old rec.now }
+        ensures outline { (m : Machine) → MayBeApplied m self.old rec.now
+            → IsOutlineOf (step.apply m rec.now) self.new }
+        ensures objects { (m : Machine) → MayBeApplied m self.old rec.now →
             objects_in result.objects ≡ order.objects_of m rec.now }
-        ensures effect { (m : Machine) → MayBeLaid m self.old rec.now → (n : ℕ) →
-            order.served result.effect rec.now.thread n ≡ order.served (order.effect_of m rec.now) rec.now.thread n }
+        ensures effect { (m : Machine) → MayBeApplied m self.old rec.now → (n : ℕ) →
+            order.served result.effect rec.now.thread n
+            ≡ order.served (order.effect_of m rec.now) rec.now.thread n }
     {
         let done = self.call(rec);
         self.count(rec.thread(), done.effect.created().is_some());
         done
     }
 
-    /// The fact of the step of a record that may be laid on a machine of which this is the outline, by the thunks of a
-    /// history, where it is known whether an end comes after it. From then on this is the outline of the machine after it,
-    /// also after an error.
+    /// The fact of the step of a record that may be applied to a machine of which this is the outline, by the thunks of
+    /// a history, where it is known whether an end comes after it. From then on this is the outline of the machine
+    /// after it, also after an error.
     ///
     /// # Errors
     ///
@@ -136,11 +139,12 @@ impl Outline {
         rec: &Record,
         last: bool,
     ) -> Result<Fact, AllocError>
-        requires { (m : Machine) × MayBeLaid m self.old rec.now }
-        ensures outline { (m : Machine) → MayBeLaid m self.old rec.now
-            → IsOutlineOf (step.lay m rec.now) self.new }
-        ensures says { IfOk result (λ fact. (m : Machine) → MayBeLaid m self.old rec.now →
-            last ≡ is_some (step.lay m rec.now).ending → fact ≡ order.fact_of (order.reads_in records.now) m rec.now) }
+        requires { (m : Machine) × MayBeApplied m self.old rec.now }
+        ensures outline { (m : Machine) → MayBeApplied m self.old rec.now
+            → IsOutlineOf (step.apply m rec.now) self.new }
+        ensures says { IfOk result (λ fact. (m : Machine) → MayBeApplied m self.old rec.now →
+            last ≡ is_some (step.apply m rec.now).ending
+            → fact ≡ order.fact_of (order.reads_in records.now) m rec.now) }
     {
         let next = self.threads;
         let done = self.perform(rec);

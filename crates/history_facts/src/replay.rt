@@ -1,4 +1,4 @@
-//! The machine that records leave, laid one after the other, and the facts of their steps.
+//! The machine that records leave, applied one after the other, and the facts of their steps.
 
 ghost use Rattle.std.specs.Prelude.{◌≡◌, true, IfOk, OnOk};
 ghost use Rattle.machine_spec.specs.Setup.{first};
@@ -46,30 +46,30 @@ impl Replay {
         })
     }
 
-    /// Whether a record may be laid: there is no end yet, and it fits.
+    /// Whether a record may be applied: there is no end yet, and it fits.
     pub fn fits(&self, rec: &Record) -> bool
         ensures { result ≡ can_apply self.now rec.now }
     {
         self.core.ended().is_none() && self.core.fits(rec)
     }
 
-    /// Lays a record that may be laid, and gives the fact of its step, by the thunks of a history.
+    /// Applies a record that may be applied, and gives the fact of its step, by the thunks of a history.
     ///
     /// # Errors
     ///
     /// An error where the host's memory ran out.
-    pub fn lay(
+    pub fn apply(
         &mut self,
         alloc: Global,
         records: &Records,
         rec: &Record,
     ) -> Result<Fact, AllocError>
         requires { can_apply self.old rec.now ≡ true }
-        ensures laid { OnOk result (self.new ≡ step.lay self.old rec.now) }
+        ensures applied { OnOk result (self.new ≡ step.apply self.old rec.now) }
         ensures says { IfOk result (λ fact.
             fact ≡ order.fact_of (order.reads_in records.now) self.old rec.now) }
     {
-        self.core.lay(rec)?;
+        self.core.apply(rec)?;
         let last = self.core.ended().is_some();
         self.outline.next(alloc, records, rec, last)
     }

@@ -8,15 +8,15 @@ use Rattle.record_spec.specs.Reads.{ReadPage}
 use Rattle.record_spec.specs.Record.{Record, may_end}
 use Rattle.machine_spec.specs.declared.states.End.{End}
 use Rattle.machine_spec.specs.Machine.{Machine}
-use Rattle.machine_spec.specs.Step.{step, lay, fits, can_step}
+use Rattle.machine_spec.specs.Step.{step, apply, fits, can_step}
 use Rattle.machine_spec.specs.Schedule.{record_of}
 use Rattle.machine_spec.specs.Setup.{Setup, IsSetup, first, is_permitted, is_complete, records}
 use Rattle.machine_spec.specs.Whole.{IsWhole}
 use Rattle.machine_spec.proofs.Alone.{step-limit, step-steps, first-limit}
 use Rattle.machine_spec.proofs.Beginning.{IsWhole-first}
 use Rattle.machine_spec.proofs.Steps.{step-whole}
-use Rattle.history_spec.specs.History.{History, IsHonest, CanGoBy, IsMappedIn, is_coherent, can_lay_from}
-use Rattle.history_spec.proofs.Truth.{fits-within, record-lay, honest-coherent}
+use Rattle.history_spec.specs.History.{History, IsHonest, CanGoBy, IsMappedIn, is_coherent, can_apply_from}
+use Rattle.history_spec.proofs.Truth.{fits-within, record-apply, honest-coherent}
 
 -- the guest that prints "hi", on no input, with one turn and one step
 abbrev pub shortest : Setup
@@ -78,7 +78,7 @@ abbrev pub no_end : History
 no_end = record { setup = shortest; records = [] }
 
 -- Each of its records fits, but it isn't coherent, since it has no end.
-pub no_end-fits : can_lay_from (first shortest) no_end.records ≡ true
+pub no_end-fits : can_apply_from (first shortest) no_end.records ≡ true
 no_end-fits = refl
 
 pub no_end-not_coherent : is_coherent no_end ≡ false
@@ -97,10 +97,10 @@ twice = record { setup = shortest; records = record_of (first shortest) 0 ∷ re
 pub twice-not_coherent : is_coherent twice ≡ false
 twice-not_coherent =
     after (is_none (first shortest).ending) (fits (first shortest) (record_of (first shortest) 0))
-    (fits (lay (first shortest) (record_of (first shortest) 0)) (record_of (first shortest) 0))
-    (lay (first shortest) (record_of (first shortest) 0)).ending _
+    (fits (apply (first shortest) (record_of (first shortest) 0)) (record_of (first shortest) 0))
+    (apply (first shortest) (record_of (first shortest) 0)).ending _
     (ap (λ (m : Machine). is_some m.ending)
-    (record-lay (first shortest) 0 (IsWhole-first shortest shortest-setup) first-can) ∙ only-complete)
+    (record-apply (first shortest) 0 (IsWhole-first shortest shortest-setup) first-can) ∙ only-complete)
   where
     after :
         (a b c : Bool) (e : Option End) (d : Bool) → is_some e ≡ true
@@ -136,7 +136,7 @@ early-fits = refused (fits (first longer) early) refl
 -- Its history isn't coherent, since the fuel ends a thunk after as many turns as it allows.
 pub early-not_coherent : is_coherent (record { setup = longer; records = early ∷ [] }) ≡ false
 early-not_coherent =
-    rw early-fits (never (is_none (first longer).ending) (is_some (lay (first longer) early).ending))
+    rw early-fits (never (is_none (first longer).ending) (is_some (apply (first longer) early).ending))
   where
     never : (a b : Bool) → (((a && false) && true) && b) ≡ false
     never true b = refl

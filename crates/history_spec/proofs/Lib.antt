@@ -1,6 +1,6 @@
 -- The files of lemmas and examples of this crate.
 pub mod Scratch
-pub mod Laying
+pub mod Applying
 pub mod Truth
 pub mod Numbers
 pub mod Mapped

@@ -17,7 +17,7 @@ use Rattle.machine_spec.specs.declared.states.Asked.{Asked}
 use Rattle.machine_spec.specs.declared.states.Asked.TheVariants.{Asks, Stops}
 use Rattle.machine_spec.specs.Machine.{Hart, Machine, hart_in, hart_of, nobody, is_ready}
 use Rattle.machine_spec.specs.Performing.{returned, fated, woken, first_hart, with_created, settled}
-use Rattle.machine_spec.specs.Step.{advanced, written, asked, done_as_asked, finished, step, lay, can_step}
+use Rattle.machine_spec.specs.Step.{advanced, written, asked, done_as_asked, finished, step, apply, can_step}
 use Rattle.machine_spec.specs.Schedule.{scratch_from, is_permitted_from, records_from}
 use Rattle.machine_spec.specs.Setup.{Setup, first}
 use Rattle.machine_spec.proofs.Alone.{finished-steps}
@@ -118,15 +118,15 @@ pub step-number :
 unfolding step
 step-number m t u ready = finished-number m t _ _ _ _ u ready
 
-pub lay-number :
+pub apply-number :
     (m : Machine) (r : Record) (u : ℕ) → is_ready (hart_of m r.thread).status ≡ true
-    → (hart_of (lay m r) u).number ≡ (hart_of m u).number + one_for u r.thread
-unfolding lay
-lay-number m r u ready = finished-number m r.thread _ _ _ _ u ready
+    → (hart_of (apply m r) u).number ≡ (hart_of m u).number + one_for u r.thread
+unfolding apply
+apply-number m r u ready = finished-number m r.thread _ _ _ _ u ready
 
-pub lay-steps : (m : Machine) (r : Record) → (lay m r).steps ≡ suc m.steps
-unfolding lay
-lay-steps m r = finished-steps m r.thread _ _ _ _
+pub apply-steps : (m : Machine) (r : Record) → (apply m r).steps ≡ suc m.steps
+unfolding apply
+apply-steps m r = finished-steps m r.thread _ _ _ _
 
 pub count-cons :
     (u t : ℕ) (ts : List ℕ)

@@ -1,4 +1,4 @@
--- The records of a permitted schedule are true, so those of an honest history are; laid where they fit they are the
+-- The records of a permitted schedule are true, so those of an honest history are; applied where they fit they are the
 -- steps.
 use Rattle.std.proofs.Common.{◌≡◌, ℕ, Bool, true, false, cond, ◌&&◌, eqb, List, [], ◌∷◌, Option, Some, None, is_none, is_some, find, refl, ap, sym, ◌∙◌, subst, arith}
 use Rattle.std.proofs.lemmas.Bool.{eq-eqb, eqb-true}
@@ -13,14 +13,14 @@ use Rattle.record_spec.specs.Record.{Kept, Record, IsTrue, kept_thunk, may_end, 
 use Rattle.record_spec.proofs.Truth.{has-kept, IsTrue-kept}
 use Rattle.record_spec.proofs.Fuel.{IsTrue-within, kept-within}
 use Rattle.machine_spec.specs.Machine.{Hart, Machine, hart_of, is_ready}
-use Rattle.machine_spec.specs.Step.{step, lay, fits, can_step}
+use Rattle.machine_spec.specs.Step.{step, apply, fits, can_step}
 use Rattle.machine_spec.specs.Schedule.{scratch_from, is_permitted_from, record_of, records_from}
 use Rattle.machine_spec.specs.Setup.{Setup, first, map_of}
 use Rattle.machine_spec.specs.Whole.{IsWhole}
 use Rattle.machine_spec.proofs.Harts.{ready-below}
 use Rattle.machine_spec.proofs.Beginning.{IsWhole-first}
-use Rattle.machine_spec.proofs.Steps.{hart-at, step-whole, lay-step}
-use Rattle.history_spec.specs.History.{History, IsHonest, IsSameProgram, schedule_of, laid_from, can_lay_from, is_coherent, IsSound, is_of, past_records, found}
+use Rattle.machine_spec.proofs.Steps.{hart-at, step-whole, apply-step}
+use Rattle.history_spec.specs.History.{History, IsHonest, IsSameProgram, schedule_of, applied_from, can_apply_from, is_coherent, IsSound, is_of, past_records, found}
 use Rattle.history_spec.proofs.Scratch.{and-left, and-right, step-frame}
 
 -- a record that is true in a frame
@@ -134,48 +134,48 @@ record-fits m t ready =
     let within = kept-within m.frame (hart_of m t).view (hart_of m t).regs in
     rw (ready, number, regs, reads, within) refl
 
--- laid, it is the step
-pub record-lay : (m : Machine) (t : ℕ) → IsWhole m → can_step m t ≡ true → lay m (record_of m t) ≡ step m t
-record-lay m t whole can =
-    lay-step m (record_of m t) whole (record-true m t whole can)
+-- applied, it is the step
+pub record-apply : (m : Machine) (t : ℕ) → IsWhole m → can_step m t ≡ true → apply m (record_of m t) ≡ step m t
+record-apply m t whole can =
+    apply-step m (record_of m t) whole (record-true m t whole can)
     (record-fits m t (and-right (is_none m.ending) (is_ready (hart_of m t).status) can))
 
--- laying the records of a permitted schedule is making its steps
-pub records-laid :
+-- applying the records of a permitted schedule is making its steps
+pub records-applied :
     (m : Machine) (ts : List ℕ) → IsWhole m → is_permitted_from m ts ≡ true
-    → laid_from m (records_from m ts) ≡ scratch_from m ts
-records-laid m [] whole permitted = refl
-records-laid m (t ∷ ts) whole permitted =
+    → applied_from m (records_from m ts) ≡ scratch_from m ts
+records-applied m [] whole permitted = refl
+records-applied m (t ∷ ts) whole permitted =
     let can : can_step m t ≡ true = and-left (can_step m t) (is_permitted_from (step m t) ts) permitted in
-    ap (λ (x : Machine). laid_from x (records_from (step m t) ts)) (record-lay m t whole can)
-    ∙ (records-laid (step m t) ts (step-whole m t whole can)
+    ap (λ (x : Machine). applied_from x (records_from (step m t) ts)) (record-apply m t whole can)
+    ∙ (records-applied (step m t) ts (step-whole m t whole can)
     (and-right (can_step m t) (is_permitted_from (step m t) ts) permitted))
 
-pub records-can_lay :
+pub records-can_apply :
     (m : Machine) (ts : List ℕ) → IsWhole m → is_permitted_from m ts ≡ true
-    → can_lay_from m (records_from m ts) ≡ true
-records-can_lay m [] whole permitted = refl
-records-can_lay m (t ∷ ts) whole permitted =
+    → can_apply_from m (records_from m ts) ≡ true
+records-can_apply m [] whole permitted = refl
+records-can_apply m (t ∷ ts) whole permitted =
     let can : can_step m t ≡ true = and-left (can_step m t) (is_permitted_from (step m t) ts) permitted in
     let none : is_none m.ending ≡ true = and-left (is_none m.ending) (is_ready (hart_of m t).status) can in
     let fit : fits m (record_of m t) ≡ true =
     record-fits m t (and-right (is_none m.ending) (is_ready (hart_of m t).status) can) in
-    rw (none, fit, record-lay m t whole can)
-    (records-can_lay (step m t) ts (step-whole m t whole can)
+    rw (none, fit, record-apply m t whole can)
+    (records-can_apply (step m t) ts (step-whole m t whole can)
     (and-right (can_step m t) (is_permitted_from (step m t) ts) permitted))
 
 -- an honest history is coherent
 pub honest-coherent : (h : History) → IsHonest h → is_coherent h ≡ true
 honest-coherent h honest =
     let whole : IsWhole (first h.setup) = IsWhole-first h.setup honest.valid in
-    let can : can_lay_from (first h.setup) h.records ≡ true =
-    ap (λ (rs : List Record). can_lay_from (first h.setup) rs) honest.recorded
-    ∙ records-can_lay (first h.setup) (schedule_of h) whole honest.permitted in
-    let laid : laid_from (first h.setup) h.records ≡ scratch_from (first h.setup) (schedule_of h) =
-    ap (λ (rs : List Record). laid_from (first h.setup) rs) honest.recorded
-    ∙ records-laid (first h.setup) (schedule_of h) whole honest.permitted in
-    let ended : is_some (laid_from (first h.setup) h.records).ending ≡ true =
-    ap (λ (m : Machine). is_some m.ending) laid ∙ honest.complete in
+    let can : can_apply_from (first h.setup) h.records ≡ true =
+    ap (λ (rs : List Record). can_apply_from (first h.setup) rs) honest.recorded
+    ∙ records-can_apply (first h.setup) (schedule_of h) whole honest.permitted in
+    let applied : applied_from (first h.setup) h.records ≡ scratch_from (first h.setup) (schedule_of h) =
+    ap (λ (rs : List Record). applied_from (first h.setup) rs) honest.recorded
+    ∙ records-applied (first h.setup) (schedule_of h) whole honest.permitted in
+    let ended : is_some (applied_from (first h.setup) h.records).ending ≡ true =
+    ap (λ (m : Machine). is_some m.ending) applied ∙ honest.complete in
     rw (can, ended) refl
 
 -- what a run may go by has records that are true where they ended within its fuel
@@ -217,14 +217,14 @@ reuse-record setup past m t number r sound whole frame there fit =
     fits-record m r whole (found-true setup past m t number r sound frame there fit) fit
     ∙ ap (record_of m) (past-of past t number r there).0
 
--- and laid it is the step
-pub reuse-lay :
+-- and applied it is the step
+pub reuse-apply :
     (setup : Setup) (past : Option History) (m : Machine) (t number : ℕ) (r : Record)
     → IsSound past setup → IsWhole m → m.frame ≡ (first setup).frame
     → found past t number ≡ Some r → fits m r ≡ true
-    → lay m r ≡ step m t
-reuse-lay setup past m t number r sound whole frame there fit =
-    lay-step m r whole (found-true setup past m t number r sound frame there fit) fit
+    → apply m r ≡ step m t
+reuse-apply setup past m t number r sound whole frame there fit =
+    apply-step m r whole (found-true setup past m t number r sound frame there fit) fit
     ∙ ap (step m) (past-of past t number r there).0
 
 -- under one fuel a record fits by its thread's hart alone

@@ -4,7 +4,7 @@ use Rattle.record_spec.specs.Delta.{PageDelta}
 use Rattle.record_spec.specs.Reads.{ReadPage}
 use Rattle.record_spec.specs.Record.{Record}
 use Rattle.machine_spec.specs.Machine.{Machine}
-use Rattle.machine_spec.specs.Step.{lay, fits}
+use Rattle.machine_spec.specs.Step.{apply, fits}
 use Rattle.machine_spec.specs.Setup.{Setup, IsSetup, first, map_of, is_permitted, is_complete, records}
 
 -- A history: what a run started from, and the records of its steps in order.
@@ -26,20 +26,20 @@ pub record IsHonest (h : History) : Type 0 where
   pub complete : is_complete h.setup (schedule_of h) ≡ true
   pub recorded : h.records ≡ records h.setup (schedule_of h)
 
--- The machine after records were laid one after the other.
-abbrev pub laid_from : Machine → List Record → Machine
-laid_from m [] = m
-laid_from m (r ∷ rs) = laid_from (lay m r) rs
+-- The machine after records were applied one after the other.
+abbrev pub applied_from : Machine → List Record → Machine
+applied_from m [] = m
+applied_from m (r ∷ rs) = applied_from (apply m r) rs
 
 -- Whether each record fits the machine that those before it leave, and no end came before it.
-abbrev pub can_lay_from : Machine → List Record → Bool
-can_lay_from m [] = true
-can_lay_from m (r ∷ rs) = (is_none m.ending && fits m r) && can_lay_from (lay m r) rs
+abbrev pub can_apply_from : Machine → List Record → Bool
+can_apply_from m [] = true
+can_apply_from m (r ∷ rs) = (is_none m.ending && fits m r) && can_apply_from (apply m r) rs
 
--- Whether a history holds together: laid in order, each record fits, no end comes before the last, and one comes after
--- it.
+-- Whether a history holds together: applied in order, each record fits, no end comes before the last, and one comes
+-- after it.
 abbrev pub is_coherent : History → Bool
-is_coherent h = can_lay_from (first h.setup) h.records && is_some (laid_from (first h.setup) h.records).ending
+is_coherent h = can_apply_from (first h.setup) h.records && is_some (applied_from (first h.setup) h.records).ending
 
 -- Two setups of one program: their executables are the same; their inputs, fuels and step limits may differ.
 abbrev pub IsSameProgram : Setup → Setup → Type 0

@@ -1,6 +1,6 @@
 //! Histories of finished runs, as definitions: when a history is honest, when it is coherent, when a
 //! new run may go by it, and which of its records stands for a step; with the laws that each record
-//! of an honest history is true, that to lay one that fits is the step of its thread, that an honest
+//! of an honest history is true, that to apply one that fits is the step of its thread, that an honest
 //! history is coherent, that a ready thread's view is fixed until it makes its step, and that records
 //! have their slots in the page map. No code.
 #![tactic(auto)]
@@ -9,7 +9,7 @@ ghost use Rattle.std.specs.Prelude.{◌≡◌, ℕ, List, All, length, Option, c
 ghost use Rattle.std.specs.List.{list_any};
 ghost use Rattle.record_spec.specs.Record.{Record, IsTrue};
 ghost use Rattle.machine_spec.specs.Machine.{Machine, hart_of, is_ready};
-ghost use Rattle.machine_spec.specs.Step.{step, lay, fits};
+ghost use Rattle.machine_spec.specs.Step.{step, apply, fits};
 ghost use Rattle.machine_spec.specs.Schedule.{scratch_from, is_permitted_from, record_of};
 ghost use Rattle.machine_spec.specs.Setup.{Setup, IsSetup, first, map_of, is_permitted, records, scratch};
 ghost use Rattle.machine_spec.specs.Whole.{IsWhole};
@@ -35,20 +35,22 @@ pub fn honest_is_coherent()
 {}
 
 /// Where a record that is found fits the machine from scratch, it is the record of the step that its
-/// thread would make there, and to lay it is that step. The history may be of another input and fuel.
+/// thread would make there, and to apply it is that step. The history may be of another input and fuel.
 pub fn reuse_is_step()
-    ensures record { (setup : Setup) (past : Option History) (schedule : List ℕ) (t number : ℕ) (r : Record)
+    ensures record { (setup : Setup) (past : Option History) (schedule : List ℕ) (t number : ℕ)
+        (r : Record)
         → CanGoBy past setup
         → is_permitted setup schedule ≡ true
         → found past t number ≡ Some r
         → fits (scratch setup schedule) r ≡ true
         → r ≡ record_of (scratch setup schedule) t }
-    ensures lay { (setup : Setup) (past : Option History) (schedule : List ℕ) (t number : ℕ) (r : Record)
+    ensures apply { (setup : Setup) (past : Option History) (schedule : List ℕ) (t number : ℕ)
+        (r : Record)
         → CanGoBy past setup
         → is_permitted setup schedule ≡ true
         → found past t number ≡ Some r
         → fits (scratch setup schedule) r ≡ true
-        → lay (scratch setup schedule) r ≡ step (scratch setup schedule) t }
+        → apply (scratch setup schedule) r ≡ step (scratch setup schedule) t }
 {}
 
 /// A thread that is ready, and makes none of the steps of a schedule, keeps its registers, its number

@@ -11,7 +11,7 @@ ghost use Rattle.isa_spec.specs.Table.{decoded};
 ghost use Rattle.isa_spec.specs.Encoding.{encoding, InRange, Spells};
 
 /// When a conditional branch is taken (RISC-V unprivileged ISA 20191213, 2.5).
-#[derive(Clone, Copy, Debug, PartialEq, Eq)]
+#[derive(Clone, Copy, PartialEq, Eq)]
 pub enum BranchTest {
     /// BEQ: the operands are equal.
     Equal,
@@ -28,7 +28,7 @@ pub enum BranchTest {
 }
 
 /// What a load reads, and how it fills the register (RISC-V unprivileged ISA 20191213, 2.6).
-#[derive(Clone, Copy, Debug, PartialEq, Eq)]
+#[derive(Clone, Copy, PartialEq, Eq)]
 pub enum Load {
     /// LB: a byte, sign-extended.
     Byte,
@@ -43,7 +43,7 @@ pub enum Load {
 }
 
 /// How many bytes a store writes (RISC-V unprivileged ISA 20191213, 2.6).
-#[derive(Clone, Copy, Debug, PartialEq, Eq)]
+#[derive(Clone, Copy, PartialEq, Eq)]
 pub enum Store {
     /// SB: the low byte of the register.
     Byte,
@@ -55,7 +55,7 @@ pub enum Store {
 
 /// An operation on a register and an immediate, other than a shift
 /// (RISC-V unprivileged ISA 20191213, 2.4, Integer Register-Immediate Instructions).
-#[derive(Clone, Copy, Debug, PartialEq, Eq)]
+#[derive(Clone, Copy, PartialEq, Eq)]
 pub enum ImmediateOperation {
     /// ADDI.
     Add,
@@ -72,7 +72,7 @@ pub enum ImmediateOperation {
 }
 
 /// A shift by a constant (RISC-V unprivileged ISA 20191213, 2.4, Integer Register-Immediate Instructions).
-#[derive(Clone, Copy, Debug, PartialEq, Eq)]
+#[derive(Clone, Copy, PartialEq, Eq)]
 pub enum ShiftOperation {
     /// SLLI: zeros come in at the bottom.
     LeftLogical,
@@ -84,7 +84,7 @@ pub enum ShiftOperation {
 
 /// An operation on two registers (RISC-V unprivileged ISA 20191213, 2.4, Integer Register-Register Operations; the last
 /// eight 7.1 and 7.2, the standard extension M).
-#[derive(Clone, Copy, Debug, PartialEq, Eq)]
+#[derive(Clone, Copy, PartialEq, Eq)]
 pub enum RegisterOperation {
     /// ADD.
     Add,
@@ -128,7 +128,7 @@ pub enum RegisterOperation {
 ///
 /// Registers are numbers below 32. `imm` is the immediate as the word that the hart adds or
 /// compares: sign-extended to 32 bits, and with its twelve zeros for LUI and AUIPC.
-#[derive(Clone, Copy, Debug, PartialEq, Eq)]
+#[derive(Clone, Copy, PartialEq, Eq)]
 pub enum Instr {
     /// LUI: rd takes the immediate.
     Lui {

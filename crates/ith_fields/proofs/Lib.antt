@@ -1,2 +1,2 @@
 -- The files of lemmas of this crate.
-pub mod Spelling
+pub mod Encoding

@@ -112,7 +112,7 @@ impl<'a> Cursor<'a> {
     }
 }
 
-/// The number that two bytes spell, the lowest first.
+/// The number that two bytes encode, the lowest first.
 fn u16_of(piece: &[u8]) -> u16
     requires { length piece.now ≡ 2 }
     ensures { little_bytes 2 result ≡ piece.now }
@@ -120,7 +120,7 @@ fn u16_of(piece: &[u8]) -> u16
     LittleEndian::read_u16(piece)
 }
 
-/// The number that four bytes spell, the lowest first.
+/// The number that four bytes encode, the lowest first.
 fn u32_of(piece: &[u8]) -> u32
     requires { length piece.now ≡ 4 }
     ensures { little_bytes 4 result ≡ piece.now }
@@ -128,7 +128,7 @@ fn u32_of(piece: &[u8]) -> u32
     LittleEndian::read_u32(piece)
 }
 
-/// The number that eight bytes spell, the lowest first.
+/// The number that eight bytes encode, the lowest first.
 fn u64_of(piece: &[u8]) -> u64
     requires { length piece.now ≡ 8 }
     ensures { little_bytes 8 result ≡ piece.now }

@@ -5,7 +5,7 @@ ghost use Rattle.std.specs.Io.KnownBytes.{Appends};
 ghost use Rattle.ith_host.specs.World.{World, Rose, NoneFell, Stays, StaysBut, AsksFor, AsksNothing, IsContent, Holds, PrintedSome};
 
 /// How a read ended.
-#[derive(Clone, Copy, Debug, PartialEq, Eq)]
+#[derive(Clone, Copy, PartialEq, Eq)]
 pub enum Got {
     /// The whole file was read.
     Ok,
@@ -18,7 +18,7 @@ pub enum Got {
 }
 
 /// How a write ended.
-#[derive(Clone, Copy, Debug, PartialEq, Eq)]
+#[derive(Clone, Copy, PartialEq, Eq)]
 pub enum Put {
     /// The file holds the bytes.
     Ok,
@@ -29,7 +29,7 @@ pub enum Put {
 }
 
 /// How a print ended.
-#[derive(Clone, Copy, Debug, PartialEq, Eq)]
+#[derive(Clone, Copy, PartialEq, Eq)]
 pub enum Printed {
     /// All of the bytes were printed.
     Ok,

@@ -15,4 +15,4 @@ pub use gate::{Gate, OpenGate};
 pub use host::{Got, Host, Printed, Put};
 pub use memory::MemHost;
 pub use system::OsHost;
-pub use transfer::{Watched, read_to_limit, write_to_end};
+pub use transfer::{FaultCounter, read_to_limit, write_to_end};

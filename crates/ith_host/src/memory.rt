@@ -137,7 +137,8 @@ impl Host for MemHost {
             → IsContent (memory_world self.old) name.now into.new.items }
         ensures within { result ≡ Got.Ok → length into.new.items ≤ limit }
         ensures failed { result ≡ Got.Failed
-            → Rose ((memory_world self.old).read_faults name.now) ((memory_world self.new).read_faults name.now) }
+            → Rose ((memory_world self.old).read_faults name.now)
+            ((memory_world self.new).read_faults name.now) }
         ensures too_long { result ≡ Got.TooLong
             → IfSome ((memory_world self.old).files name.now) (λ content. limit < length content) }
         ensures emptied { result ≢ Got.Ok → into.new.items ≡ [] }
@@ -168,7 +169,8 @@ impl Host for MemHost {
         } }
         ensures written { result ≡ Put.Ok → Holds (memory_world self.new) name.now bytes.now }
         ensures failed { result ≡ Put.Failed
-            → Rose ((memory_world self.old).write_faults name.now) ((memory_world self.new).write_faults name.now) }
+            → Rose ((memory_world self.old).write_faults name.now)
+            ((memory_world self.new).write_faults name.now) }
         ensures untold { result ≡ Put.Failed → (memory_world self.new).files name.now ≡ None }
         ensures memory { result ≡ Put.Memory
             → Stays (memory_world self.old) (memory_world self.new) }

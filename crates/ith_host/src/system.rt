@@ -5,7 +5,7 @@ ghost use Rattle.ith_host.specs.World.{World, Rose, NoneFell, Stays, StaysBut, A
 
 use crate::asked::Asked;
 use crate::host::{Got, Host, Printed, Put};
-use crate::transfer::{Watched, read_to_limit, write_to_end};
+use crate::transfer::{FaultCounter, read_to_limit, write_to_end};
 use std::fs::{File, Files};
 use std::io::{self, Eprint, Print};
 
@@ -54,7 +54,7 @@ impl<'a, R: Files + Print + Eprint> Host for OsHost<'a, R> {
         self.asked.note(name.as_bytes());
         match File::open(self.rt, name) {
             Ok(file) => {
-                let mut source = Watched::new(file, self.read_faults);
+                let mut source = FaultCounter::new(file, self.read_faults);
                 let got = read_to_limit(&mut source, limit, into);
                 self.read_faults = source.faults();
                 got
@@ -71,14 +71,14 @@ impl<'a, R: Files + Print + Eprint> Host for OsHost<'a, R> {
             self.write_faults = self.write_faults.saturating_add(1);
             return Put::Failed;
         };
-        let mut sink = Watched::new(file, self.write_faults);
+        let mut sink = FaultCounter::new(file, self.write_faults);
         let written = write_to_end(&mut sink, bytes);
         self.write_faults = sink.faults();
         if written { Put::Ok } else { Put::Failed }
     }
 
     fn print(&mut self, bytes: &[u8]) -> Printed {
-        let mut sink = Watched::new(io::writer(self.rt), self.print_faults);
+        let mut sink = FaultCounter::new(io::writer(self.rt), self.print_faults);
         let printed = write_to_end(&mut sink, bytes);
         self.print_faults = sink.faults();
         if printed {

@@ -14,18 +14,18 @@ const PIECE: usize = 4096;
 
 /// A source or a sink whose errors are counted.
 #[derive(Drop)]
-pub struct Watched<S> {
+pub struct FaultCounter<S> {
     inner: S,
     faults: u64,
 }
 
-impl<S> Watched<S> {
+impl<S> FaultCounter<S> {
     /// Counts the errors of a source or a sink on from this number.
     pub fn new(inner: S, faults: u64) -> Self
         ensures inner { result.inner ≡ inner }
         ensures faults { result.faults ≡ faults }
     {
-        Watched { inner, faults }
+        FaultCounter { inner, faults }
     }
 
     /// How many errors there were, from the number on that it began with.
@@ -36,11 +36,12 @@ impl<S> Watched<S> {
     }
 }
 
-impl<S: Read> Watched<S> {
+impl<S: Read> FaultCounter<S> {
     /// Reads as the source does, and counts its error.
     fn read(&mut self, piece: &mut [u8]) -> io::Result<usize>
         ensures bound { ReadsAtMost result piece.new }
-        ensures bytes { ReadConsumes (S.remaining self.old.inner) (S.remaining self.new.inner) result piece.new }
+        ensures bytes { ReadConsumes (S.remaining self.old.inner)
+            (S.remaining self.new.inner) result piece.new }
         ensures failed { IfErr result (λ _. Rose self.old.faults self.new.faults) }
         ensures quiet { IfOk result (λ _. self.new.faults ≡ self.old.faults) }
         ensures counts { self.old.faults ≤ self.new.faults }
@@ -53,11 +54,12 @@ impl<S: Read> Watched<S> {
     }
 }
 
-impl<S: Write> Watched<S> {
+impl<S: Write> FaultCounter<S> {
     /// Writes as the sink does, and counts its error.
     fn write(&mut self, piece: &[u8]) -> io::Result<usize>
         ensures bound { WritesAtMost result piece.now }
-        ensures bytes { WriteAppends (S.contents self.old.inner) (S.contents self.new.inner) result piece.now }
+        ensures bytes { WriteAppends (S.contents self.old.inner)
+            (S.contents self.new.inner) result piece.now }
         ensures failed { IfErr result (λ _. Rose self.old.faults self.new.faults) }
         ensures quiet { IfOk result (λ _. self.new.faults ≡ self.old.faults) }
         ensures counts { self.old.faults ≤ self.new.faults }
@@ -75,7 +77,7 @@ impl<S: Write> Watched<S> {
 /// A source that gives nothing is at its end, and any error of it ends the call as `Failed`, which no other cause
 /// does. At most `limit + 1` bytes are taken: then the answer is `TooLong`. After any answer but `Ok` the vector is
 /// empty.
-pub fn read_to_limit<S: Read>(source: &mut Watched<S>, limit: u64, into: &mut Vec<u8>) -> Got
+pub fn read_to_limit<S: Read>(source: &mut FaultCounter<S>, limit: u64, into: &mut Vec<u8>) -> Got
     requires { into.old.items ≡ [] }
     ensures all { result ≡ Got.Ok
         → IfSome (S.remaining source.old.inner) (λ content. content ≡ into.new.items) }
@@ -86,7 +88,8 @@ pub fn read_to_limit<S: Read>(source: &mut Watched<S>, limit: u64, into: &mut Ve
         → IfSome (S.remaining source.old.inner) (λ content. limit < length content) }
     ensures emptied { result ≢ Got.Ok → into.new.items ≡ [] }
     ensures counts { source.old.faults ≤ source.new.faults }
-    ensures taken { TakesAtMost (limit + 1) (S.remaining source.old.inner) (S.remaining source.new.inner) }
+    ensures taken { TakesAtMost (limit + 1) (S.remaining source.old.inner)
+        (S.remaining source.new.inner) }
 {
     let mut piece = [0u8; PIECE];
     loop {
@@ -130,7 +133,7 @@ fn room_for(limit: u64, taken: usize) -> usize
 ///
 /// It didn't only where an error of the sink ended the call, or where the sink took nothing of a piece that isn't
 /// empty, which counts as one.
-pub fn write_to_end<S: Write>(sink: &mut Watched<S>, bytes: &[u8]) -> bool
+pub fn write_to_end<S: Write>(sink: &mut FaultCounter<S>, bytes: &[u8]) -> bool
     ensures all { result ≡ true
         → Appends (S.contents sink.old.inner) (S.contents sink.new.inner) bytes.now }
     ensures failed { result ≡ false → Rose sink.old.faults sink.new.faults }

@@ -6,9 +6,9 @@ use Rattle.edit_spec.specs.declared.TheConstants.{MOST_LIST_BYTES}
 use Rattle.machine_spec.specs.declared.TheConstants.{MOST_INPUT_BYTES}
 use Rattle.memo_spec.specs.declared.TheConstants.{MOST_MEMO_BYTES}
 use Rattle.memo_spec.specs.declared.Refusal.{Refusal as MemoRefusal}
-use Rattle.memo_spec.specs.Spelling.{Spells}
+use Rattle.memo_spec.specs.Encoding.{Encodes}
 use Rattle.memo_spec.specs.Reading.{reading}
-use Rattle.memo_spec.proofs.Laws.{one_history, spelled_is_read}
+use Rattle.memo_spec.proofs.Laws.{one_history, encoded_is_read}
 use Rattle.history_spec.specs.History.{History}
 use Rattle.machine_spec.specs.Setup.{Setup, is_permitted, is_complete}
 use Rattle.schedule_list.specs.declared.TheConstants.{MOST_SCHEDULE_BYTES}
@@ -100,7 +100,7 @@ unfailing line before after none fails =
 -- what is accepted as a memo of a history isn't refused
 accepted-taken : (memo : List ℕ) (h : History) (why : MemoRefusal) → IsMemoOf memo h → reading memo ≡ Err why → ⊥
 accepted-taken memo h why is refused =
-    let taken : reading memo ≡ Ok h = spelled_is_read memo h is in
+    let taken : reading memo ≡ Ok h = encoded_is_read memo h is in
     absurd (let no : Ok h ≡ Err why = sym taken ∙ refused in cc)
 
 unrefused :
@@ -181,8 +181,8 @@ run-free line before after are =
 -- one memo, told, is of one history
 one-memo : (memo other : List ℕ) (h k : History) → memo ≡ other → IsMemoOf memo h → IsMemoOf other k → h ≡ k
 one-memo memo other h k same is also =
-    one_history memo h k (is.format, is.spells)
-    (subst (λ (m : List ℕ). Spells m k) (sym same) (also.format, also.spells))
+    one_history memo h k (is.format, is.encodes)
+    (subst (λ (m : List ℕ). Encodes m k) (sym same) (also.format, also.encodes))
 
 -- edit lists that are accepted aren't refused
 rerun-unlisted :

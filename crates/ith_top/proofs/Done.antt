@@ -3,7 +3,7 @@ use Rattle.std.proofs.Common.{◌≡◌, Bool, ℕ, true, false, List, ◌++◌,
 use Rattle.std.specs.Prelude.{Result, Ok, Err, IfOk, IfErr}
 use Rattle.std.specs.List.{concat}
 use Rattle.std.specs.Io.KnownBytes.{Appends}
-use Rattle.memo_spec.specs.Spelling.{memo}
+use Rattle.memo_spec.specs.Encoding.{memo}
 use Rattle.history_spec.specs.History.{History}
 use Rattle.rerun_spec.specs.Rounds.{Found}
 use Rattle.ith_host.specs.World.{World, NoneFell, Stays, AsksNothing}
@@ -12,7 +12,7 @@ use Rattle.ith_top.specs.declared.status.Status.{Status}
 use Rattle.ith_top.specs.declared.status.Status.TheVariants as status
 use Rattle.ith_top.specs.Statuses.{status_in}
 use Rattle.ith_top.specs.Contents.{Plan, workers_of}
-use Rattle.ith_top.specs.Ends.{HasRounds, texts_of, left_of, kept_by, Prints, PrintsAndKeeps, IsKeptWithin, IsDone, RoundsEnd}
+use Rattle.ith_top.specs.Ends.{HasRounds, texts_of, left_of, new_memo_of, Prints, PrintsAndKeeps, IsKeptWithin, IsDone, RoundsEnd}
 use Rattle.ith_top.specs.Counting.{Work, SpendsTurns, RoundsSpend}
 use Rattle.ith_top.specs.Refusals.{Keeps, WhyCutShort, WhyUnkept, WhyUndone}
 use Rattle.ith_top.specs.Playing.{IsPrepared, AreFound, IsPlayed, IsCarriedOut}
@@ -33,8 +33,8 @@ rounds_in line a b p found ready are =
       few = are.few;
       made = are.made;
       watched = are.watched;
-      promised = promised_of line a p found ready.is ready.playable ready.spelled are;
-      kept = each_kept (workers_of line) p found ready.playable ready.spelled are;
+      promised = promised_of line a p found ready.is ready.playable ready.encoded are;
+      kept = each_kept (workers_of line) p found ready.playable ready.encoded are;
     }
 
 -- a file was kept after all was printed
@@ -134,14 +134,14 @@ carried_unkept name workers p a b c earlier later exits left why played counts c
 done_by :
     (line : Line) (a b c : World) (p : Plan) (earlier later : Work) (exits : Bool)
     → IsPrepared line a b p → AsksNothing b c
-    → IsCarriedOut (kept_by line) (workers_of line) p b c earlier later exits → IsDone line exits a c
+    → IsCarriedOut (new_memo_of line) (workers_of line) p b c earlier later exits → IsDone line exits a c
 unfolding rounds_in
 done_by line a b c p earlier later exits ready none done =
     record {
       asked = none ∙ ready.reads.asked;
       has = rounds_in line a b p done.found ready done.made;
       all = done.all;
-      keeps = kept_after (kept_by line) (memo (left_of p done.found)) a b c (concat (texts_of p done.found))
+      keeps = kept_after (new_memo_of line) (memo (left_of p done.found)) a b c (concat (texts_of p done.found))
           ready.reads.stays done.keeps;
       within = done.within;
       ends = done.are_exits;
@@ -151,7 +151,7 @@ done_by line a b c p earlier later exits ready none done =
 spent_by :
     (line : Line) (a b c : World) (p : Plan) (earlier later : Work) (exits : Bool)
     → IsPrepared line a b p → AsksNothing b c
-    → IsCarriedOut (kept_by line) (workers_of line) p b c earlier later exits
+    → IsCarriedOut (new_memo_of line) (workers_of line) p b c earlier later exits
     → (done : IsDone line exits a c) × SpendsTurns line a done.has earlier later
 unfolding rounds_in done_by
 spent_by line a b c p earlier later exits ready none done =
@@ -190,7 +190,7 @@ cut_short line a b c p found _ ready none are cause = absurd cause
 unkept :
     (line : Line) (a b m c : World) (p : Plan) (found : List Found) (name : Text) (why : Status)
     → IsPrepared line a b p → AsksNothing b c → AreFound (workers_of line) p found → length found ≡ length p.inputs
-    → NoneFell b m → kept_by line ≡ Some name → Prints b m (concat (texts_of p found))
+    → NoneFell b m → new_memo_of line ≡ Some name → Prints b m (concat (texts_of p found))
     → WhyUnkept name (memo (left_of p found)) m c why
     → RoundsEnd line a c why
 unfolding rounds_in
@@ -237,7 +237,7 @@ unkept line a b m c p found name _ ready none are all later by prints cause = ab
 undone :
     (line : Line) (a b c : World) (p : Plan) (earlier later : Work) (why : Status)
     → IsPrepared line a b p → AsksNothing b c
-    → WhyUndone (kept_by line) (workers_of line) p b c earlier later why → RoundsEnd line a c why
+    → WhyUndone (new_memo_of line) (workers_of line) p b c earlier later why → RoundsEnd line a c why
 undone line a b c p earlier later why ready none cause =
     elim cause [
       | inl short ↦ cut_short line a b c p short.found why ready none short.made short.why
@@ -249,8 +249,8 @@ undone line a b c p earlier later why ready none cause =
 pub rounds_end :
     (line : Line) (a b c : World) (p : Plan) (earlier later : Work) (r : Result Bool Status)
     → IsPrepared line a b p → AsksNothing b c
-    → IfOk r (IsCarriedOut (kept_by line) (workers_of line) p b c earlier later)
-    → IfErr r (WhyUndone (kept_by line) (workers_of line) p b c earlier later)
+    → IfOk r (IsCarriedOut (new_memo_of line) (workers_of line) p b c earlier later)
+    → IfErr r (WhyUndone (new_memo_of line) (workers_of line) p b c earlier later)
     → RoundsEnd line a c (status_in r)
 rounds_end line a b c p earlier later (Ok true) ready none done why =
     done_by line a b c p earlier later true ready none done
@@ -262,13 +262,13 @@ rounds_end line a b c p earlier later (Err s) ready none done why = undone line 
 pub rounds_spend :
     (line : Line) (a b c : World) (p : Plan) (earlier later : Work) (r : Result Bool Status)
     → IsPrepared line a b p → AsksNothing b c
-    → IfOk r (IsCarriedOut (kept_by line) (workers_of line) p b c earlier later)
-    → IfErr r (WhyUndone (kept_by line) (workers_of line) p b c earlier later)
+    → IfOk r (IsCarriedOut (new_memo_of line) (workers_of line) p b c earlier later)
+    → IfErr r (WhyUndone (new_memo_of line) (workers_of line) p b c earlier later)
     → RoundsSpend line a c earlier later (status_in r)
 rounds_spend line a b c p earlier later (Ok true) ready none done why =
     spent_by line a b c p earlier later true ready none done
 rounds_spend line a b c p earlier later (Ok false) ready none done why =
     spent_by line a b c p earlier later false ready none done
 rounds_spend line a b c p earlier later (Err s) ready none done why =
-    rounds_unspent (kept_by line) (workers_of line) p b c earlier later s
+    rounds_unspent (new_memo_of line) (workers_of line) p b c earlier later s
     (λ exits. (done : IsDone line exits a c) × SpendsTurns line a done.has earlier later) why

@@ -27,7 +27,7 @@ use Rattle.ith_top.specs.Playing.{plan_said, IsPrepared, TellsReasons}
 use Rattle.ith_top.specs.declared.plan.Plan.{Plan as Planned}
 use Rattle.std.specs.Prelude.{Result, Ok, Err, IfOk}
 use Rattle.ith_top.proofs.Worlds.{stays_same}
-use Rattle.ith_top.proofs.Told.{told, untold}
+use Rattle.ith_top.proofs.OneText.{told, untold}
 
 -- the host's memory ran out before a file was asked for
 pub explain_unasked : (line : ExplainLine) (a : World) → EndsEarly (Explains line) a a status.Memory
@@ -48,7 +48,7 @@ pub explain_prepared :
     → IfOk r (λ p. IsPrepared (Reruns (as_rerun line)) a b (plan_said p))
     → IfOk r (λ p. IsPrepared (Explains line) a b (plan_said p))
 explain_prepared line a b (Ok p) ready =
-    record { is = ready.is; playable = ready.playable; spelled = ready.spelled; reads = ready.reads }
+    record { is = ready.is; playable = ready.playable; encoded = ready.encoded; reads = ready.reads }
 explain_prepared line a b (Err s) ready = ready
 
 -- the reasons of a round that one worker made are those of the round that is explained

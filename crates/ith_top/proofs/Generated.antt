@@ -30,7 +30,7 @@ use Rattle.ith_top.specs.Ends.{Prints, HasRounds, IsGenerated, generated_text, E
 use Rattle.ith_top.specs.Rounds.{rounds_of}
 use Rattle.ith_top.specs.Refusals.{WhyUnprinted}
 use Rattle.ith_top.specs.Counting.{Work, IsCounted, turns_for, MakesRounds, SpendsTurns, GenerateSpends}
-use Rattle.ith_top.specs.Playing.{AreFound, AreTheGenerated, CanBePlayed, CanBeSpelled, IsMadeOn}
+use Rattle.ith_top.specs.Playing.{AreFound, AreTheGenerated, CanBePlayed, CanBeEncoded, IsMadeOn}
 use Rattle.ith_top.specs.declared.report.Telling.TheVariants as telling
 use Rattle.ith_top.proofs.Worlds.{stays_same, none_fell_same}
 use Rattle.ith_top.proofs.Asking.{unbegun}
@@ -45,7 +45,7 @@ short_made workers r is = ap (λ (m : Machine). short_text r.number (record {
   schedule = [];
   extras = no_extras;
   instructions = 0;
-  shares = [];
+  worker_steps = [];
   memory = m.memory;
   output = m.output;
 })) (round-machine workers r is)
@@ -61,10 +61,10 @@ all_short workers (r ∷ rounds) each =
 -- the lines of rounds from scratch
 shorts_made :
     (workers : ℕ) (s : Setup) (p : Plan) (found : List Found)
-    → p.beginning ≡ from_scratch s nothing_asked → CanBePlayed p → CanBeSpelled p → AreFound workers p found
+    → p.beginning ≡ from_scratch s nothing_asked → CanBePlayed p → CanBeEncoded p → AreFound workers p found
     → map made_short (rounds_of p found) ≡ map short_of (rounds_of p found)
-shorts_made workers s p found begins playable spelled are =
-    let valid : IsSetup s = subst (λ (b : Beginning). IsSetup b.setup) begins spelled.valid in
+shorts_made workers s p found begins playable encoded are =
+    let valid : IsSetup s = subst (λ (b : Beginning). IsSetup b.setup) begins encoded.valid in
     let made : All (IsMade workers) (rounds_after (from_scratch s nothing_asked) p.inputs found) =
     subst (λ (b : Beginning). All (IsMade workers) (rounds_after b p.inputs found)) begins are.made in
     subst (λ (b : Beginning). map made_short (rounds_after b p.inputs found) ≡ map short_of (rounds_after b p.inputs found))
@@ -196,14 +196,14 @@ two_rounds workers s input next t u o one other exit ended after last on on_next
 pub both_generated :
     (workers number : ℕ) (p : Plan) (input next : List ℕ) (rest : List (List ℕ)) (one other text : List ℕ)
     (exit ended exits : Bool) (after last : Beginning) (earlier between later : Work)
-    → later.rounds ≡ earlier.rounds + 2 → IsGeneratedPlan number p → CanBePlayed p → CanBeSpelled p → p.inputs ≡ input ∷ next ∷ rest
+    → later.rounds ≡ earlier.rounds + 2 → IsGeneratedPlan number p → CanBePlayed p → CanBeEncoded p → p.inputs ≡ input ∷ next ∷ rest
     → IsMadeOn workers telling.Line p.beginning input earlier.turns between.turns one exit after
     → IsMadeOn workers telling.Line after next between.turns later.turns other ended last
     → text ≡ text_line (codes "gen") (decimal number) ++ one ++ other
     → exits ≡ (exit && ended)
     → AreTheGenerated workers number earlier later text exits
 unfolding all_made_exit
-both_generated workers number p input next rest one other text exit ended exits after last earlier between later rise is playable spelled inputs on on_next told ends =
+both_generated workers number p input next rest one other text exit ended exits after last earlier between later rise is playable encoded inputs on on_next told ends =
     let s : Setup = p.beginning.setup in
     let begins : p.beginning ≡ from_scratch s nothing_asked =
     is.beginning ∙ ap (λ (t : Setup). from_scratch t nothing_asked) (sym (ap (λ (b : Beginning). b.setup) is.beginning)) in
@@ -227,12 +227,12 @@ both_generated workers number p input next rest one other text exit ended exits 
       counted = subst (All (IsCounted workers)) (sym rounds)
           (All-from_recursion (IsCounted workers) (two.first ∷ two.second ∷ []) (two.counted_first, (two.counted_second, tt)));
     } in
-    let promised = promised_from_scratch workers s nothing_asked p two.found begins playable spelled are in
+    let promised = promised_from_scratch workers s nothing_asked p two.found begins playable encoded are in
     record {
       plan = p;
       is_plan = is;
       playable = playable;
-      spelled = spelled;
+      encoded = encoded;
       found = two.found;
       made = are;
       all = two.count ∙ sym count;
@@ -243,7 +243,7 @@ both_generated workers number p input next rest one other text exit ended exits 
           ∙ ap (λ (l : List ℕ). text_line (codes "gen") (decimal number) ++ l)
           (two.lines
           ∙ ap (λ (rs : List Round). concat (map made_short rs)) (sym rounds)
-          ∙ ap (λ (texts : List (List ℕ)). concat texts) (shorts_made workers s p two.found begins playable spelled are));
+          ∙ ap (λ (texts : List (List ℕ)). concat texts) (shorts_made workers s p two.found begins playable encoded are));
       are_exits = sym promised.exits ∙ ap (list_all made_exits) rounds ∙ sym two.exits ∙ sym ends;
     }
 
@@ -257,8 +257,8 @@ has_generated line a earlier later text exits is =
       few = is.made.few;
       made = is.made.made;
       watched = is.made.watched;
-      promised = promised_of (Generates line) a is.plan is.found is.is_plan is.playable is.spelled is.made;
-      kept = each_kept line.workers is.plan is.found is.playable is.spelled is.made;
+      promised = promised_of (Generates line) a is.plan is.found is.is_plan is.playable is.encoded is.made;
+      kept = each_kept line.workers is.plan is.found is.playable is.encoded is.made;
     }
 
 both_made :

@@ -10,7 +10,7 @@ pub mod Going
 pub mod Promises
 pub mod Done
 pub mod Spent
-pub mod Told
+pub mod OneText
 pub mod Explained
 pub mod Permitting
 pub mod Replayed

@@ -6,17 +6,17 @@ use Rattle.machine_spec.specs.Machine.{Machine}
 use Rattle.machine_spec.specs.Setup.{Setup}
 use Rattle.history_spec.specs.History.{History}
 use Rattle.report_spec.specs.declared.Entry.{Entry}
-use Rattle.report_spec.specs.Report.{Told, Extras, no_extras, report_text}
+use Rattle.report_spec.specs.Report.{ReportData, Extras, no_extras, report_text}
 use Rattle.round_spec.specs.Rounds.{RoundState, history_of}
 use Rattle.round_spec.specs.Instructions.{executed_instructions}
 use Rattle.round_spec.specs.Schedules.{IsBySchedule, events_in, round_by}
 use Rattle.round_spec.proofs.Leaving.{round-past}
 use Rattle.worker_spec.specs.Workers.{IsMadeBy}
 use Rattle.worker_spec.specs.Watching.{IsProgress}
-use Rattle.propagate.specs.Kept.{IsOfMap}
+use Rattle.propagate.specs.Consistency.{IsOfMap}
 use Rattle.propagate.proofs.Mapped.{same_image}
 use Rattle.rerun_spec.specs.Rounds.{Found, Round, Beginning, made, left_by, round_on, with_input}
-use Rattle.rerun_spec.specs.Reports.{extras_of, made_extras, told_as_made, is_exit}
+use Rattle.rerun_spec.specs.Reports.{extras_of, made_extras, data_as_made, is_exit}
 use Rattle.rerun_spec.proofs.Ending.{left-own}
 use Rattle.round_report.specs.Short.{short_text}
 use Rattle.rerun_workers.specs.Making.{IsCostOf}
@@ -26,14 +26,14 @@ use Rattle.ith_top.specs.declared.report.Telling.{Telling}
 use Rattle.ith_top.specs.declared.report.Telling.TheVariants as telling
 
 -- what is told of a round, part by part
-abbrev told_of : Machine → List Entry → Extras → List Record → List ℕ → Told
-told_of m schedule extras records shares =
+abbrev data_of : Machine → List Entry → Extras → List Record → List ℕ → ReportData
+data_of m schedule extras records worker_steps =
     record {
       ending = m.ending;
       schedule = schedule;
       extras = extras;
       instructions = executed_instructions schedule records;
-      shares = shares;
+      worker_steps = worker_steps;
       memory = m.memory;
       output = m.output;
     }
@@ -63,12 +63,12 @@ alike_of r w setup past entries by =
     }
 
 alike-told :
-    (r : Round) (w : RoundState) (extras : Extras) (shares : List ℕ)
-    → IsAlike r w → told_as_made w extras shares ≡ told_as_made (made r) extras shares
-alike-told r w extras shares alike =
-    ap (λ (m : Machine). told_of m w.schedule extras w.records shares) (sym alike.machine)
-    ∙ ap (λ (es : List Entry). told_of (made r).machine es extras w.records shares) (sym alike.schedule)
-    ∙ ap (λ (rs : List Record). told_of (made r).machine (made r).schedule extras rs shares) (sym alike.records)
+    (r : Round) (w : RoundState) (extras : Extras) (worker_steps : List ℕ)
+    → IsAlike r w → data_as_made w extras worker_steps ≡ data_as_made (made r) extras worker_steps
+alike-told r w extras worker_steps alike =
+    ap (λ (m : Machine). data_of m w.schedule extras w.records worker_steps) (sym alike.machine)
+    ∙ ap (λ (es : List Entry). data_of (made r).machine es extras w.records worker_steps) (sym alike.schedule)
+    ∙ ap (λ (rs : List Record). data_of (made r).machine (made r).schedule extras rs worker_steps) (sym alike.records)
 
 -- and so is what is told of it only if it is asked for
 alike-extras :
@@ -100,26 +100,26 @@ alike-cost workers r w alike cost =
 -- and so is the text that tells of it
 alike-text :
     (way : Telling) (r : Round) (w : RoundState) (text : List ℕ) → IsAlike r w
-    → text ≡ text_by way r.number (told_as_made w (extras_of r.asked w.past w.setup r.found.progress) r.found.shares)
+    → text ≡ text_by way r.number (data_as_made w (extras_of r.asked w.past w.setup r.found.progress) r.found.worker_steps)
     → text ≡ told_by way r
 unfolding short_text
 alike-text telling.Report r w text alike is =
     is
-    ∙ ap (λ (e : Extras). report_text r.number (told_as_made w e r.found.shares)) (alike-extras r w alike)
-    ∙ ap (report_text r.number) (alike-told r w (made_extras r) r.found.shares alike)
+    ∙ ap (λ (e : Extras). report_text r.number (data_as_made w e r.found.worker_steps)) (alike-extras r w alike)
+    ∙ ap (report_text r.number) (alike-told r w (made_extras r) r.found.worker_steps alike)
 alike-text telling.Line r w text alike is =
-    is ∙ ap (short_text r.number) (alike-told r w no_extras r.found.shares alike)
+    is ∙ ap (short_text r.number) (alike-told r w no_extras r.found.worker_steps alike)
 
 -- what workers made of a round, its text, its end and what it leaves
 pub made_on :
     (workers : ℕ) (way : Telling) (b : Beginning) (input : List ℕ) (w : RoundState) (f : Found) (t u : ℕ) (text : List ℕ)
     (exit : Bool) (next : Beginning)
     → w.setup ≡ with_input b.setup input → w.past ≡ b.past → IsBySchedule w → f.entries ≡ w.schedule
-    → IsMadeBy workers (with_input b.setup input) b.past w.schedule f.shares
+    → IsMadeBy workers (with_input b.setup input) b.past w.schedule f.worker_steps
     → (b.asked.progress ≡ true → IsProgress workers (length w.schedule) f.progress)
     → IsCostOf workers (with_input b.setup input) b.past w f.turns
     → u ≡ t + f.turns
-    → text ≡ text_by way b.number (told_as_made w (extras_of b.asked w.past w.setup f.progress) f.shares)
+    → text ≡ text_by way b.number (data_as_made w (extras_of b.asked w.past w.setup f.progress) f.worker_steps)
     → exit ≡ is_exit w.machine.ending
     → next ≡ record { number = b.number + 1; past = Some (history_of w); setup = b.setup; asked = b.asked }
     → IsMadeOn workers way b input t u text exit next
@@ -128,7 +128,7 @@ made_on workers way b input w f t u text exit next setup past by entries is watc
     let alike : IsAlike r w = alike_of r w setup past entries by in
     record {
       found = f;
-      made = subst (λ (es : List Entry). IsMadeBy workers (with_input b.setup input) b.past es f.shares) (sym entries) is;
+      made = subst (λ (es : List Entry). IsMadeBy workers (with_input b.setup input) b.past es f.worker_steps) (sym entries) is;
       watched = λ yes. subst (λ (es : List Entry). IsProgress workers (length es) f.progress) (sym entries) (watched yes);
       counted = alike-cost workers r w alike cost;
       turns = rise;

@@ -6,7 +6,7 @@ use Rattle.std.proofs.lemmas.List.Elements.{All-from_recursion, recursion_from_A
 use Rattle.machine_spec.specs.Limits.{Limits}
 use Rattle.machine_spec.specs.Setup.{Setup, IsSetup}
 use Rattle.history_spec.specs.History.{History, IsHonest, IsSameProgram}
-use Rattle.memo_spec.specs.Spelling.{AreBytes, IsSpellable}
+use Rattle.memo_spec.specs.Encoding.{AreBytes, IsEncodable}
 use Rattle.round_spec.specs.Rounds.{RoundState}
 use Rattle.round_spec.specs.Schedules.{events_in}
 use Rattle.worker_spec.proofs.Workers.{workers-permitted, workers-complete}
@@ -18,26 +18,26 @@ use Rattle.rerun_spec.proofs.Rounds.{IsSoundlyMade, each-round, each-made, each-
 use Rattle.rerun_spec.proofs.Repeating.{IsAgain, repeated-after, rerun-again, again-reuses, again-instructions, after-schedule, after-machine}
 use Rattle.rerun_spec.proofs.Reports.{reports-made, exits-made}
 use Rattle.rerun_spec.proofs.Ending.{left-own}
-use Rattle.round_memo_spec.specs.Spelled.{IsSpelledPast}
-use Rattle.round_memo_spec.proofs.Events.{round-spelled}
+use Rattle.round_memo_spec.specs.Encoded.{IsEncodedPast}
+use Rattle.round_memo_spec.proofs.Events.{round-encoded}
 use Rattle.ith_host.specs.World.{World}
 use Rattle.ith_words.specs.Words.{Line, Runs, Reruns, Replays, Shows, Explains, FindsRaces, Audits, Generates, RerunLine}
 use Rattle.ith_top.specs.Contents.{Plan, IsRerunPlan, IsPlan, setup_of, as_rerun, workers_of, limits_for}
 use Rattle.ith_top.specs.Rounds.{IsPromised, ArePromised, OnlyRepeats, BeginsHonestly, CanBeKept, rounds_of}
 use Rattle.ith_top.specs.Ends.{left_of}
-use Rattle.ith_top.specs.Playing.{AreFound, CanBePlayed, CanBeSpelled}
+use Rattle.ith_top.specs.Playing.{AreFound, CanBePlayed, CanBeEncoded}
 
 -- what is promised of a round holds of each that was made by a history that it can go by
 promised : (workers : ℕ) (r : Round) → IsSoundlyMade workers r → IsPromised workers r
 promised workers r is =
     record {
       entries = is.made.stands;
-      permitted = workers-permitted workers r.setup r.past r.found.entries r.found.shares is.can is.made;
-      complete = workers-complete workers r.setup r.past r.found.entries r.found.shares is.can is.made;
+      permitted = workers-permitted workers r.setup r.past r.found.entries r.found.worker_steps is.can is.made;
+      complete = workers-complete workers r.setup r.past r.found.entries r.found.worker_steps is.can is.made;
       marks = round-found workers r is;
       alone = λ one. round-alone r (subst (λ (n : ℕ). IsSoundlyMade n r) one is);
       picked = is.made.picked is.can.sound;
-      least = reexecutes-made workers r.setup r.past r.found.entries r.found.shares is.can.valid is.made;
+      least = reexecutes-made workers r.setup r.past r.found.entries r.found.worker_steps is.can.valid is.made;
       setup = left-own r;
       honest = round-honest workers r is;
       records = ap (λ (w : RoundState). w.records) (round-made workers r is);
@@ -109,10 +109,10 @@ memo_unedited workers h limits asked inputs found honest made r k first past sam
 -- rounds from scratch
 pub promised_from_scratch :
     (workers : ℕ) (s : Setup) (asked : Asked) (p : Plan) (found : List Found)
-    → p.beginning ≡ from_scratch s asked → CanBePlayed p → CanBeSpelled p → AreFound workers p found
+    → p.beginning ≡ from_scratch s asked → CanBePlayed p → CanBeEncoded p → AreFound workers p found
     → ArePromised workers (rounds_of p found)
-promised_from_scratch workers s asked p found begins playable spelled are =
-    let valid : IsSetup s = subst (λ (b : Beginning). IsSetup b.setup) begins spelled.valid in
+promised_from_scratch workers s asked p found begins playable encoded are =
+    let valid : IsSetup s = subst (λ (b : Beginning). IsSetup b.setup) begins encoded.valid in
     let made : All (IsMade workers) (rounds_after (from_scratch s asked) p.inputs found) =
     subst (λ (b : Beginning). All (IsMade workers) (rounds_after b p.inputs found)) begins are.made in
     subst (λ (b : Beginning). ArePromised workers (rounds_after b p.inputs found)) (sym begins)
@@ -122,14 +122,14 @@ promised_from_scratch workers s asked p found begins playable spelled are =
 -- rounds that go by a memo
 promised_rerun :
     (line : RerunLine) (a : World) (p : Plan) (found : List Found)
-    → IsRerunPlan line a p → CanBePlayed p → CanBeSpelled p → AreFound line.workers p found
+    → IsRerunPlan line a p → CanBePlayed p → CanBeEncoded p → AreFound line.workers p found
     → BeginsHonestly p.beginning → ArePromised line.workers (rounds_of p found)
-promised_rerun line a p found is playable spelled are honest =
+promised_rerun line a p found is playable encoded are honest =
     let h = is.history in
     let limits = limits_for line h in
     let true_of : IsHonest h = subst (λ (b : Beginning). BeginsHonestly b) is.beginning honest in
     let valid : IsSetup (with_limits h.setup limits) =
-    subst (λ (b : Beginning). IsSetup b.setup) is.beginning spelled.valid in
+    subst (λ (b : Beginning). IsSetup b.setup) is.beginning encoded.valid in
     let made : All (IsMade line.workers) (rounds_after (after_memo h limits (asked_by line.reach line.progress)) p.inputs found) =
     subst (λ (b : Beginning). All (IsMade line.workers) (rounds_after b p.inputs found)) is.beginning are.made in
     subst (λ (b : Beginning). ArePromised line.workers (rounds_after b p.inputs found)) (sym is.beginning)
@@ -139,24 +139,24 @@ promised_rerun line a p found is playable spelled are honest =
 -- the rounds of a line begin with what its plan says
 pub promised_of :
     (line : Line) (a : World) (p : Plan) (found : List Found)
-    → IsPlan line a p → CanBePlayed p → CanBeSpelled p → AreFound (workers_of line) p found
+    → IsPlan line a p → CanBePlayed p → CanBeEncoded p → AreFound (workers_of line) p found
     → BeginsHonestly p.beginning → ArePromised (workers_of line) (rounds_of p found)
-promised_of (Runs line) a p found is playable spelled are honest =
-    promised_from_scratch line.workers (setup_of line is.contents) (asked_by line.reach line.progress) p found is.beginning playable spelled are
-promised_of (Reruns line) a p found is playable spelled are honest =
-    promised_rerun line a p found is playable spelled are honest
-promised_of (Replays line) a p found is playable spelled are honest = absurd is
-promised_of (Shows line) a p found is playable spelled are honest = absurd is
-promised_of (FindsRaces line) a p found is playable spelled are honest = absurd is
-promised_of (Explains line) a p found is playable spelled are honest =
-    promised_rerun (as_rerun line) a p found is playable spelled are honest
-promised_of (Audits line) a p found is playable spelled are honest = absurd is
-promised_of (Generates line) a p found is playable spelled are honest =
-    promised_from_scratch line.workers _ nothing_asked p found is.beginning playable spelled are
+promised_of (Runs line) a p found is playable encoded are honest =
+    promised_from_scratch line.workers (setup_of line is.contents) (asked_by line.reach line.progress) p found is.beginning playable encoded are
+promised_of (Reruns line) a p found is playable encoded are honest =
+    promised_rerun line a p found is playable encoded are honest
+promised_of (Replays line) a p found is playable encoded are honest = absurd is
+promised_of (Shows line) a p found is playable encoded are honest = absurd is
+promised_of (FindsRaces line) a p found is playable encoded are honest = absurd is
+promised_of (Explains line) a p found is playable encoded are honest =
+    promised_rerun (as_rerun line) a p found is playable encoded are honest
+promised_of (Audits line) a p found is playable encoded are honest = absurd is
+promised_of (Generates line) a p found is playable encoded are honest =
+    promised_from_scratch line.workers _ nothing_asked p found is.beginning playable encoded are
 
 any_after :
     (workers : ℕ) (b : Beginning) (inputs : List (List ℕ)) (found : List Found)
-    → IsSetup b.setup → AreBytes b.setup.elf → IsSpelledPast b.past b.setup
+    → IsSetup b.setup → AreBytes b.setup.elf → IsEncodedPast b.past b.setup
     → AllByRecursion (λ i. length i ≤ 1048576) inputs → AllByRecursion AreBytes inputs
     → AllByRecursion (IsMade workers) (rounds_after b inputs found)
     → AllByRecursion CanBeKept (rounds_after b inputs found)
@@ -165,47 +165,47 @@ any_after workers b (input ∷ inputs) [] valid elf known short bytes made = tt
 any_after workers b (input ∷ inputs) (f ∷ found) valid elf known short bytes made =
     let r = round_on b input f in
     let may : IsSetup r.setup = with-short b.setup input valid short.0 in
-    let left : IsSpellable (left_by r) =
-    round-spelled r.setup r.past (events_in f.entries)
+    let left : IsEncodable (left_by r) =
+    round-encoded r.setup r.past (events_in f.entries)
     (record { valid = may; elf_bytes = elf; input_bytes = bytes.0; past = known_on b.past b.setup input known })
     made.0.ended in
     let own = left-own r in
     let same : IsSameProgram (left_by r).setup b.setup = ap (λ (s : Setup). s.elf) own in (
-      record { ended = made.0.ended; spelled = left },
+      record { ended = made.0.ended; encoded = left },
       any_after workers (after_round b input f) inputs found valid elf
           (left, same) short.1 bytes.1 made.1,
     )
   where
-    known_on : (past : Option History) (s : Setup) (input : List ℕ) → IsSpelledPast past s
-        → IsSpelledPast past (with_input s input)
+    known_on : (past : Option History) (s : Setup) (input : List ℕ) → IsEncodedPast past s
+        → IsEncodedPast past (with_input s input)
     known_on None s input known = tt
     known_on (Some h) s input known = known
 
 -- what holds of the rounds of any plan
 pub each_kept :
-    (workers : ℕ) (p : Plan) (found : List Found) → CanBePlayed p → CanBeSpelled p → AreFound workers p found
+    (workers : ℕ) (p : Plan) (found : List Found) → CanBePlayed p → CanBeEncoded p → AreFound workers p found
     → All CanBeKept (rounds_of p found)
-each_kept workers p found playable spelled are =
+each_kept workers p found playable encoded are =
     All-from_recursion CanBeKept (rounds_of p found)
-    (any_after workers p.beginning p.inputs found spelled.valid spelled.elf spelled.past
+    (any_after workers p.beginning p.inputs found encoded.valid encoded.elf encoded.past
     (each-short p.inputs playable.short)
-    (recursion_from_All AreBytes p.inputs spelled.inputs)
+    (recursion_from_All AreBytes p.inputs encoded.inputs)
     (recursion_from_All (IsMade workers) (rounds_of p found) are.made))
 
--- so what the last one leaves can be spelled
+-- so what the last one leaves can be encoded
 last_kept :
     (b : Beginning) (inputs : List (List ℕ)) (found : List Found) → 0 < length inputs → length found ≡ length inputs
     → AllByRecursion CanBeKept (rounds_after b inputs found)
-    → IsSpellable (last_left b inputs found)
+    → IsEncodable (last_left b inputs found)
 last_kept b [] found some all any = let no : ⊥ = omega arith in absurd no
 last_kept b (input ∷ inputs) [] some all any = let no : ⊥ = omega arith in absurd no
-last_kept b (input ∷ []) (f ∷ found) some all any = any.0.spelled
+last_kept b (input ∷ []) (f ∷ found) some all any = any.0.encoded
 last_kept b (input ∷ next ∷ inputs) (f ∷ found) some all any =
     last_kept (after_round b input f) (next ∷ inputs) found (omega arith) (omega arith) any.1
 
-pub last_spelled :
-    (workers : ℕ) (p : Plan) (found : List Found) → CanBePlayed p → CanBeSpelled p → AreFound workers p found
-    → length found ≡ length p.inputs → IsSpellable (left_of p found)
-last_spelled workers p found playable spelled are all =
+pub last_encoded :
+    (workers : ℕ) (p : Plan) (found : List Found) → CanBePlayed p → CanBeEncoded p → AreFound workers p found
+    → length found ≡ length p.inputs → IsEncodable (left_of p found)
+last_encoded workers p found playable encoded are all =
     last_kept p.beginning p.inputs found playable.some all
-    (recursion_from_All CanBeKept (rounds_of p found) (each_kept workers p found playable spelled are))
+    (recursion_from_All CanBeKept (rounds_of p found) (each_kept workers p found playable encoded are))

@@ -9,7 +9,7 @@ use Rattle.machine_spec.specs.Machine.{Machine}
 use Rattle.machine_spec.specs.Setup.{Setup, first, scratch}
 use Rattle.memory_spec.specs.Pages.{Memory}
 use Rattle.report_spec.specs.declared.Entry.{Entry as Executed}
-use Rattle.report_spec.specs.Report.{Told, no_extras, threads_of, told_of}
+use Rattle.report_spec.specs.Report.{ReportData, no_extras, threads_of, data_of}
 use Rattle.rerun_spec.specs.Reports.{is_exit, all_executed}
 use Rattle.plain_machine.specs.declared.replaying.Outcome.{Outcome}
 use Rattle.plain_machine.specs.Replaying.{IsOutcomeOf}
@@ -29,7 +29,7 @@ use Rattle.ith_top.specs.Playing.{IsAskedReplay, TellsOfReplay}
 use Rattle.ith_top.proofs.Worlds.{content_before, reads_then}
 use Rattle.ith_top.proofs.Going.{prints_after}
 use Rattle.ith_top.proofs.Ending.{cut_ends}
-use Rattle.ith_top.proofs.Told.{untold}
+use Rattle.ith_top.proofs.OneText.{untold}
 use Rattle.ith_top.proofs.Permitting.{executed-turns, executed-threads}
 
 -- all files were read
@@ -87,14 +87,14 @@ replay_endless line a b c setup text status.Memory is quiet why =
 replay_endless line a b c setup text _ is quiet why = absurd why
 
 -- what there is to tell of a replay, part by part
-abbrev telling : List Executed → Option End → ℕ → Memory → List ℕ → Told
+abbrev telling : List Executed → Option End → ℕ → Memory → List ℕ → ReportData
 telling entries ending instructions memory output =
     record {
       ending = ending;
       schedule = entries;
       extras = no_extras;
       instructions = instructions;
-      shares = [];
+      worker_steps = [];
       memory = memory;
       output = output;
     }
@@ -105,7 +105,7 @@ pub replay_told :
     → IsOutcomeOf setup threads o → TellsOfReplay threads o text → text ≡ replay_of setup threads
 replay_told setup threads text o is tells =
     let entries = all_executed threads in
-    let told : Told = told_of setup entries no_extras [] in
+    let told : ReportData = data_of setup entries no_extras [] in
     let machine : scratch setup threads ≡ scratch setup (threads_of entries) =
     ap (scratch setup) (sym (executed-threads threads)) in
     let ending : Some o.ending ≡ told.ending = sym is.ending ∙ ap (λ (m : Machine). m.ending) machine in

@@ -8,14 +8,14 @@ use Rattle.ith_words.specs.Words.{Text, Line, Runs, Reruns, Replays, Shows, Expl
 use Rattle.ith_top.specs.declared.status.Status.TheVariants as status
 use Rattle.ith_top.specs.Files.{FailedToRead, files_named}
 use Rattle.ith_top.specs.Contents.{AreLists, Contents, WasRead, ReplayContents, WasReplayRead, replay_setup_of, CanBeReplayed, IsMemoContent, IsMemoOf, as_rerun}
-use Rattle.ith_top.specs.Ends.{OfNone, kept_by, IsTooLargeToKeep}
+use Rattle.ith_top.specs.Ends.{OfNone, new_memo_of, IsTooLargeToKeep}
 use Rattle.ith_top.specs.Statuses.{code_of}
 
 -- The host failed at nothing that the line asks of it: no count of faults rose.
 pub record HasNoFault (line : Line) (before after : World) : Type 0 where
   pub reads : OfNone (FailedToRead before after) (files_named line)
   pub prints : Rose before.print_faults after.print_faults → ⊥
-  pub writes : IfSome (kept_by line) (λ name. Rose (before.write_faults name) (after.write_faults name) → ⊥)
+  pub writes : IfSome (new_memo_of line) (λ name. Rose (before.write_faults name) (after.write_faults name) → ⊥)
 
 -- Edit lists are told.
 abbrev pub AreTold : World → List Text → List (List ℕ) → Type 0

@@ -84,8 +84,8 @@ pub record IsMemoContent (before : World) (name : Text) (bytes : List ℕ) : Typ
   pub content : IsContent before name bytes
   pub within : length bytes ≤ MOST_MEMO_BYTES
 
--- Bytes that are accepted as a memo of a history: they spell it, in version 1 it isn't from before the standard extension
--- M, and it holds together.
+-- Bytes that are accepted as a memo of a history: they encode it, in version 1 it isn't from before the standard
+-- extension M or reader-writer locks, and it holds together.
 abbrev pub IsMemoOf : List ℕ → History → Type 0
 IsMemoOf bytes h = IsTaken bytes h
 
@@ -114,8 +114,8 @@ limits_for line h =
     record { fuel = unwrap_or line.fuel h.setup.fuel; steps = unwrap_or line.limit h.setup.limit }
 
 -- The plan of a line that reruns a memo: its files were read, and the memo is accepted; round 1 goes by the history
--- that the memo spells, with the line's limits; and each edit list makes the input of a round, or there is one round on
--- the memo's input.
+-- that the memo encodes, with the line's limits; and each edit list makes the input of a round, or there is one round
+-- on the memo's input.
 pub record IsRerunPlan (line : RerunLine) (before : World) (p : Plan) : Type 0 where
   pub memo : List ℕ
   pub read : IsMemoContent before line.memo memo
@@ -135,7 +135,7 @@ as_rerun line =
       workers = 1;
       fuel = None;
       limit = None;
-      kept = None;
+      new_memo = None;
       reach = false;
       progress = false;
     }

@@ -8,7 +8,7 @@ use Rattle.machine_spec.specs.Setup.{Setup, scratch, is_permitted, is_complete}
 use Rattle.history_spec.specs.History.{History}
 use Rattle.memo_spec.specs.declared.Refusal.{Refusal as MemoRefusal}
 use Rattle.memo_spec.specs.declared.TheConstants.{MOST_MEMO_BYTES}
-use Rattle.memo_spec.specs.Spelling.{memo}
+use Rattle.memo_spec.specs.Encoding.{memo}
 use Rattle.memo_spec.specs.Reading.{reading}
 use Rattle.audit_spec.specs.Audit.{IsVerdict, turns_of}
 use Rattle.memo_audit.specs.Text.{audit_text}
@@ -35,7 +35,7 @@ use Rattle.ith_top.specs.Statuses.{code_of}
 -- What a line's rounds come from, the schedules that its workers found of the first of them, and what is promised of
 -- these rounds: so many workers made each of them; if the progress is asked for, each report tells what was read of it,
 -- of which the last is how many steps the round has; they are from scratch where they begin with no history or with an
--- honest one; and whatever they begin with, each has an end, and what it leaves can be spelled.
+-- honest one; and whatever they begin with, each has an end, and what it leaves can be encoded.
 pub record HasRounds (line : Line) (before : World) : Type 0 where
   pub plan : Plan
   pub is_plan : IsPlan line before plan
@@ -60,10 +60,10 @@ abbrev pub left_of : Plan → List Found → History
 left_of p found = last_left p.beginning p.inputs found
 
 -- The name of the memo that a line asks to write, if it does.
-abbrev pub kept_by : Line → Option Text
-kept_by (Runs line) = line.kept
-kept_by (Reruns line) = line.kept
-kept_by _ = None
+abbrev pub new_memo_of : Line → Option Text
+new_memo_of (Runs line) = line.new_memo
+new_memo_of (Reruns line) = line.new_memo
+new_memo_of _ = None
 
 -- Of the files nothing changed, and these bytes were printed.
 pub record Prints (before after : World) (bytes : List ℕ) : Type 0 where
@@ -90,9 +90,9 @@ pub record IsDone (line : Line) (exits : Bool) (before after : World) : Type 0 w
   pub has : HasRounds line before
   pub all : HasAll line before has
   pub keeps :
-      PrintsAndKeeps (kept_by line) (memo (left_of has.plan has.found)) before after
+      PrintsAndKeeps (new_memo_of line) (memo (left_of has.plan has.found)) before after
       (concat (texts_of has.plan has.found))
-  pub within : IsKeptWithin (kept_by line) (memo (left_of has.plan has.found))
+  pub within : IsKeptWithin (new_memo_of line) (memo (left_of has.plan has.found))
   pub ends : all_made_exit (rounds_of has.plan has.found) ≡ exits
 
 -- A fact holds of none of these files.
@@ -178,7 +178,7 @@ pub record IsTooLargeToKeep (line : Line) (before after : World) : Type 0 where
   pub has : HasRounds line before
   pub all : HasAll line before has
   pub name : Text
-  pub is_named : kept_by line ≡ Some name
+  pub is_named : new_memo_of line ≡ Some name
   pub long : MOST_MEMO_BYTES < length (memo (left_of has.plan has.found))
   pub prints : Prints before after (concat (texts_of has.plan has.found))
 
@@ -204,7 +204,7 @@ pub record IsUnkept (line : Line) (before after : World) : Type 0 where
   pub has : HasRounds line before
   pub all : HasAll line before has
   pub name : Text
-  pub is_named : kept_by line ≡ Some name
+  pub is_named : new_memo_of line ≡ Some name
   pub within : length (memo (left_of has.plan has.found)) ≤ MOST_MEMO_BYTES
   pub cause : Rose (before.write_faults name) (after.write_faults name)
   pub tells : after.tells ≡ before.tells
@@ -285,15 +285,16 @@ pub record IsReplayImageRefused (line : ReplayLine) (before after : World) : Typ
   pub refused : is_image contents.elf ≡ false
   pub stays : Stays before after
 
--- Why a schedule is refused: a token, numbered from 0, spells no thread; an entry, numbered from 0, isn't permitted; or
--- no end comes after the last entry.
+-- Why a schedule is refused: a token, numbered from 0, encodes no thread; an entry, numbered from 0, isn't permitted;
+-- or no end comes after the last entry.
 pub data ScheduleRefusal : Type 0 where
   Token : ℕ → ScheduleRefusal
   Entry : ℕ → ScheduleRefusal
   Incomplete : ScheduleRefusal
 
--- A schedule is refused where it is replayed: by the first token of its text that spells no thread; where there is none
--- by the first entry that isn't permitted from scratch; and where all are permitted since none of them comes to an end.
+-- A schedule is refused where it is replayed: by the first token of its text that encodes no thread; where there is
+-- none by the first entry that isn't permitted from scratch; and where all are permitted since none of them comes to an
+-- end.
 abbrev pub RefusesSchedule : Setup → List ℕ → ScheduleRefusal → Type 0
 RefusesSchedule setup text (Token i) = Says text (Err i)
 RefusesSchedule setup text (Entry i) = (threads : List ℕ) × Says text (Ok threads) × IsFirstForbidden setup threads i

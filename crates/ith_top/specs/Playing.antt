@@ -6,11 +6,11 @@ use Rattle.machine_spec.specs.Setup.{Setup, IsSetup}
 use Rattle.history_spec.specs.History.{History, IsSound}
 use Rattle.why_report.specs.declared.reason.Reason.{Reason}
 use Rattle.why_report.specs.Reasons.{reasons_of, reasons_by, scratch_before, executed_places, GoesByOldRun}
-use Rattle.memo_spec.specs.Spelling.{AreBytes, memo}
-use Rattle.round_memo_spec.specs.Spelled.{IsSpelledPast}
-use Rattle.propagate.specs.Kept.{IsOfMap}
+use Rattle.memo_spec.specs.Encoding.{AreBytes, memo}
+use Rattle.round_memo_spec.specs.Encoded.{IsEncodedPast}
+use Rattle.propagate.specs.Consistency.{IsOfMap}
 use Rattle.report_spec.specs.declared.Entry.{Entry}
-use Rattle.report_spec.specs.Report.{Told, no_extras, report_text}
+use Rattle.report_spec.specs.Report.{ReportData, no_extras, report_text}
 use Rattle.rerun_spec.specs.Inputs.{AreShort}
 use Rattle.rerun_spec.specs.Rounds.{Found, Round, Beginning, IsMade, IsWatched, round_on, after_round, with_input}
 use Rattle.rerun_spec.specs.Reports.{made_report, made_exits, all_exit, all_made_exit, all_executed}
@@ -47,22 +47,22 @@ pub record CanBePlayed (p : Plan) : Type 0 where
   pub few : p.beginning.number + length p.inputs < 2 ^ 64
   pub map : IsOfMap p.beginning.past p.beginning.setup
 
--- A plan whose executable and inputs are bytes, and whose history, if there is one, can be spelled.
-pub record CanBeSpelled (p : Plan) : Type 0 where
+-- A plan whose executable and inputs are bytes, and whose history, if there is one, can be encoded.
+pub record CanBeEncoded (p : Plan) : Type 0 where
   pub valid : IsSetup p.beginning.setup
   pub elf : AreBytes p.beginning.setup.elf
   pub inputs : All AreBytes p.inputs
-  pub past : IsSpelledPast p.beginning.past p.beginning.setup
+  pub past : IsEncodedPast p.beginning.past p.beginning.setup
 
 -- This is a plan of a line, whose rounds can be made and kept; all files of the line were read for it.
 pub record IsPrepared (line : Line) (before after : World) (p : Plan) : Type 0 where
   pub is : IsPlan line before p
   pub playable : CanBePlayed p
-  pub spelled : CanBeSpelled p
+  pub encoded : CanBeEncoded p
   pub reads : Reads (files_named line) before after
 
 -- The text that tells of a round in this way, what is told of it.
-abbrev pub text_by : Telling → ℕ → Told → List ℕ
+abbrev pub text_by : Telling → ℕ → ReportData → List ℕ
 text_by telling.Report number told = report_text number told
 text_by telling.Line number told = short_text number told
 
@@ -133,21 +133,21 @@ pub record IsAskedReplay (line : ReplayLine) (before after : World) (setup : Set
   pub reads : Reads (files_named (Replays line)) before after
 
 -- What there is to tell of a schedule of these entries, by what it came to.
-abbrev pub told_of_outcome : List Entry → Outcome → Told
-told_of_outcome entries o =
+abbrev pub data_of_outcome : List Entry → Outcome → ReportData
+data_of_outcome entries o =
     record {
       ending = Some o.ending;
       schedule = entries;
       extras = no_extras;
       instructions = o.instructions;
-      shares = [];
+      worker_steps = [];
       memory = o.memory;
       output = o.output.items;
     }
 
 -- The text that tells of what a schedule came to.
 abbrev pub TellsOfReplay : List ℕ → Outcome → List ℕ → Type 0
-TellsOfReplay threads o text = text ≡ replay_text (told_of_outcome (all_executed threads) o)
+TellsOfReplay threads o text = text ≡ replay_text (data_of_outcome (all_executed threads) o)
 
 -- A text tells why the executed steps were executed of the one round of a plan, as one worker makes it: each of them
 -- has a reason, and no other step has, where the round goes by a run that holds together; and where it goes by a sound
@@ -172,7 +172,7 @@ pub record AreTheGenerated (workers number : ℕ) (earlier later : Work) (text :
   pub plan : Plan
   pub is_plan : IsGeneratedPlan number plan
   pub playable : CanBePlayed plan
-  pub spelled : CanBeSpelled plan
+  pub encoded : CanBeEncoded plan
   pub found : List Found
   pub made : AreFound workers plan found
   pub all : length found ≡ length plan.inputs

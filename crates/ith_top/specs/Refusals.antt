@@ -6,7 +6,7 @@ use Rattle.elf_spec.specs.Image.{is_image}
 use Rattle.memo_spec.specs.declared.Refusal.{Refusal as MemoRefusal}
 use Rattle.memo_spec.specs.declared.TheConstants.{MOST_MEMO_BYTES}
 use Rattle.memo_spec.specs.Reading.{reading}
-use Rattle.memo_spec.specs.Spelling.{memo}
+use Rattle.memo_spec.specs.Encoding.{memo}
 use Rattle.machine_spec.specs.Setup.{Setup}
 use Rattle.schedule_list.specs.Schedule.{Says}
 use Rattle.rerun_spec.specs.Inputs.{Refusal, IsFirstRefused}
@@ -42,7 +42,7 @@ WhyUnedited first lists status.EditList = (place : ℕ) × (why : Refusal) × Is
 WhyUnedited first lists status.Memory = ⊤
 WhyUnedited first lists _ = ⊥
 
--- Why no threads were had from the text of a schedule: a token is the first that spells none.
+-- Why no threads were had from the text of a schedule: a token is the first that encodes none.
 abbrev pub WhyNoThreads : List ℕ → Status → Type 0
 WhyNoThreads text status.Schedule = (number : ℕ) × Says text (Err number)
 WhyNoThreads text status.Memory = ⊤

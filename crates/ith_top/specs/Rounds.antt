@@ -2,7 +2,7 @@
 use Rattle.std.specs.Prelude.{◌≡◌, ℕ, true, List, All, IfSome, Some, slice_get, is_some}
 use Rattle.machine_spec.specs.Setup.{first, is_permitted, is_complete, records}
 use Rattle.history_spec.specs.History.{History, IsHonest}
-use Rattle.memo_spec.specs.Spelling.{IsSpellable}
+use Rattle.memo_spec.specs.Encoding.{IsEncodable}
 use Rattle.report_spec.specs.Report.{instructions_from}
 use Rattle.round_spec.specs.Alone.{one_worker}
 use Rattle.round_spec.specs.Unedited.{OnlyReuses}
@@ -62,7 +62,7 @@ abbrev pub BeginsHonestly : Beginning → Type 0
 BeginsHonestly b = IfSome b.past IsHonest
 
 -- What holds of each round, also where it goes by a history that isn't honest: it has an end, and what it leaves can be
--- spelled.
+-- encoded.
 pub record CanBeKept (r : Round) : Type 0 where
   pub ended : is_some (made r).machine.ending ≡ true
-  pub spelled : IsSpellable (left_by r)
+  pub encoded : IsEncodable (left_by r)

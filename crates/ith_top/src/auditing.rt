@@ -20,7 +20,7 @@ use std::alloc::{AllocError, Global};
 use std::thread::Threads;
 
 /// The verdict of a history that holds together, by so many workers, and the lines that tell of it.
-fn told_of<R: Threads + Sync>(
+fn verdict_of<R: Threads + Sync>(
     rt: &R,
     alloc: Global,
     history: &History,
@@ -47,7 +47,7 @@ pub fn audit<R: Threads + Sync, H: Host>(
         (H.world host.old) (H.world host.new) (status_in result) }
 {
     let history = remember(alloc, host, line.memo)?;
-    let (verdict, text) = told_of(rt, alloc, &history, line.workers)?;
+    let (verdict, text) = verdict_of(rt, alloc, &history, line.workers)?;
     print_text(alloc, host, text.as_slice())?;
     match verdict.first {
         None => Ok(true),

@@ -11,7 +11,7 @@ ghost use Rattle.ith_top.specs.Counting.{Spends};
 use ith_host::Gate;
 use propagate::Round;
 use release_core::{History, Setup};
-use rerun_workers::{Worked, run_round, run_round_watched};
+use rerun_workers::{ClosedRound, run_round, run_round_watched};
 use std::alloc::{AllocError, Global};
 use std::marker::Model;
 use std::sync::{Arc, Wait};
@@ -36,11 +36,11 @@ impl Model for Work {
 
 /// A round that the crew made.
 #[derive(Drop)]
-pub struct Made {
+pub struct MadeRound {
     /// The round, which has an end.
     pub round: Round,
     /// How many of its steps each worker made.
-    pub shares: Vec<u64>,
+    pub worker_steps: Vec<u64>,
     /// The numbers of steps that were read meanwhile; none if nobody watched.
     pub progress: Vec<u64>,
 }
@@ -53,10 +53,10 @@ fn run_unwatched<R: Threads + Wait + Sync, G: Gate + Sync>(
     past: Option<Arc<History>>,
     workers: u32,
     gate: &G,
-) -> Result<(Worked, Vec<u64>), AllocError>
+) -> Result<(ClosedRound, Vec<u64>), AllocError>
     requires { 1 ≤ workers }
     ensures round { IfOk result (λ r.
-        IsRoundBy workers setup (option_map arc_value past) r.0.round r.0.shares.items) }
+        IsRoundBy workers setup (option_map arc_value past) r.0.round r.0.worker_steps.items) }
     ensures cost { IfOk result (λ r. IsCostOf workers setup (option_map arc_value past)
         r.0.round r.0.turns) }
 {
@@ -76,7 +76,7 @@ pub struct Crew<'a, R, G> {
 }
 
 impl<'a, R: Threads + Wait + Sync, G: Gate + Sync> Crew<'a, R, G> {
-    /// So many workers, each of whom comes to the gate before it executes a thunk. They made no round so far.
+    /// So many workers; each of several comes to the gate before it executes a thunk. They made no round so far.
     pub fn new(rt: &'a R, workers: u32, gate: &'a G) -> Self
         requires { 1 ≤ workers }
         ensures { result.workers ≡ workers }
@@ -105,13 +105,13 @@ impl<'a, R: Threads + Wait + Sync, G: Gate + Sync> Crew<'a, R, G> {
         setup: Setup,
         past: Option<Arc<History>>,
         watched: bool,
-    ) -> Result<Made, AllocError>
+    ) -> Result<MadeRound, AllocError>
         ensures setup { IfOk result (λ r. r.round.setup ≡ setup) }
         ensures past { IfOk result (λ r. r.round.past ≡ option_map arc_value past) }
         ensures stands { IfOk result (λ r. IsBySchedule r.round) }
         ensures made { IfOk result (λ r.
             IsMadeBy self.old.workers setup (option_map arc_value past)
-            r.round.schedule r.shares.items) }
+            r.round.schedule r.worker_steps.items) }
         ensures watched { IfOk result (λ r. watched ≡ true
             → IsProgress self.old.workers (length r.round.schedule) r.progress.items) }
         ensures cost { IfOk result (λ r. Spends self.old.workers setup (option_map arc_value past)
@@ -129,15 +129,15 @@ impl<'a, R: Threads + Wait + Sync, G: Gate + Sync> Crew<'a, R, G> {
         };
         self.gate.end();
         let (worked, progress) = made?;
-        let Worked {
+        let ClosedRound {
             round,
-            shares,
+            worker_steps,
             turns,
         } = worked;
         self.work.turns.merge(turns);
-        Ok(Made {
+        Ok(MadeRound {
             round,
-            shares,
+            worker_steps,
             progress,
         })
     }

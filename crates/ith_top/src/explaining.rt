@@ -33,7 +33,7 @@ fn as_rerun<'a>(alloc: Global, line: &ExplainLine<'a>) -> Result<RerunLine<'a>, 
         workers: 1,
         fuel: None,
         steps: None,
-        kept: None,
+        new_memo: None,
         reach: false,
         progress: false,
     })
@@ -62,7 +62,7 @@ fn text_of(alloc: Global, plan: Plan, turns: &mut Turns) -> Result<Vec<u8>, Allo
         beginning: Beginning { past, setup, .. },
         mut inputs,
     } = plan;
-    let Some(input) = inputs.next()? else {
+    let Some(input) = inputs.take_next()? else {
         unreachable!()
     };
     let edited = setup.with(input, setup.limits())?;

@@ -5,7 +5,7 @@ ghost use Rattle.elf_load.specs.Load.{Refuses};
 ghost use Rattle.elf_spec.specs.declared.TheConstants.{MOST_ELF_BYTES};
 ghost use Rattle.machine_spec.specs.declared.TheConstants.{MOST_INPUT_BYTES};
 ghost use Rattle.machine_spec.specs.Setup.{IsSetup};
-ghost use Rattle.memo_spec.specs.Spelling.{AreBytes};
+ghost use Rattle.memo_spec.specs.Encoding.{AreBytes};
 ghost use Rattle.report_spec.specs.Text.{line as text_line};
 ghost use Rattle.ith_words.specs.Words.{Generates, default_fuel, default_limit};
 ghost use Rattle.ith_words.specs.Said.{generate_said};
@@ -13,7 +13,7 @@ ghost use Rattle.ith_top.specs.Statuses.{status_in};
 ghost use Rattle.ith_top.specs.Contents.{IsGeneratedPlan};
 ghost use Rattle.ith_top.specs.Ends.{Ends};
 ghost use Rattle.ith_top.specs.Counting.{MakesRounds, GenerateSpends};
-ghost use Rattle.ith_top.specs.Playing.{plan_said, CanBePlayed, CanBeSpelled, AreTheGenerated};
+ghost use Rattle.ith_top.specs.Playing.{plan_said, CanBePlayed, CanBeEncoded, AreTheGenerated};
 
 use super::crew::Crew;
 use super::outside::print_text;
@@ -54,7 +54,7 @@ fn default_setup(alloc: Global, elf: Vec<u8>, input: Vec<u8>) -> Result<Setup, L
 fn prepare(alloc: Global, number: u32) -> Result<Plan, AllocError>
     ensures plan { IfOk result (λ plan. IsGeneratedPlan number (plan_said plan)) }
     ensures playable { IfOk result (λ plan. CanBePlayed (plan_said plan)) }
-    ensures spelled { IfOk result (λ plan. CanBeSpelled (plan_said plan)) }
+    ensures encoded { IfOk result (λ plan. CanBeEncoded (plan_said plan)) }
 {
     let Generated { elf, input, edits } = make(alloc, number)?;
     let copy = Vec::from_slice(alloc, &input)?;
@@ -113,10 +113,10 @@ fn make_both<R: Threads + Wait + Sync, G: Gate + Sync>(
         beginning,
         mut inputs,
     } = prepare(alloc, number)?;
-    let Some(input) = inputs.next()? else {
+    let Some(input) = inputs.take_next()? else {
         unreachable!()
     };
-    let Some(edited) = inputs.next()? else {
+    let Some(edited) = inputs.take_next()? else {
         unreachable!()
     };
     let mut last = None;

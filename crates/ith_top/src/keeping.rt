@@ -3,7 +3,7 @@
 ghost use Rattle.std.specs.Prelude.{◌≤◌, length, IfErr, OnOk};
 ghost use Rattle.ith_host.specs.World.{AsksNothing};
 ghost use Rattle.memo_spec.specs.declared.TheConstants.{MOST_MEMO_BYTES};
-ghost use Rattle.memo_spec.specs.Spelling.{memo, IsSpellable};
+ghost use Rattle.memo_spec.specs.Encoding.{memo, IsEncodable};
 ghost use Rattle.ith_top.specs.Refusals.{Keeps, WhyUnkept};
 
 use super::complaints::{long_memo_line, name_line};
@@ -32,13 +32,13 @@ fn put_memo<H: Host>(alloc: Global, host: &mut H, name: &str, bytes: &[u8]) -> R
 }
 
 /// Writes the memo of a history to the file of a name.
-pub fn keep<H: Host>(
+pub fn write_memo<H: Host>(
     alloc: Global,
     host: &mut H,
     name: &str,
     history: &History,
 ) -> Result<(), Status>
-    requires { IsSpellable history.now }
+    requires { IsEncodable history.now }
     ensures kept { OnOk result (Keeps name.now (memo history.now) (H.world host.old)
         (H.world host.new)) }
     ensures within { OnOk result (length (memo history.now) ≤ MOST_MEMO_BYTES) }

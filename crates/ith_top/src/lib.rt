@@ -40,7 +40,7 @@ pub use status::Status;
 /// none.
 ///
 /// The line's workers make each round together: it takes from the round before it the steps whose records fit, and
-/// they execute the others, where each comes to the gate before it executes a thunk. The report of each round tells the
+/// they execute the others; each of several comes to the gate before it executes a thunk. The report of each round tells the
 /// schedule that they found and how many steps each of them made, with `--reach` how many steps of the round before its
 /// edit reaches, and with `--progress` how many steps were made as often as somebody looked. It is printed before the
 /// next round begins; after the last one the memo of what it leaves is written, where the line names one. The options

@@ -1,10 +1,10 @@
 //! What rounds a line asks for: its files are read, then the executable or the memo is looked at, and then the edit
 //! lists are.
 
-ghost use Rattle.std.specs.Prelude.{◌≡◌, ◌≤◌, ◌<◌, ◌+◌, ◌^◌, [], ◌∷◌, length, IfOk, IfErr};
+ghost use Rattle.std.specs.Prelude.{◌≡◌, ◌≤◌, [], ◌∷◌, length, IfOk, IfErr};
 ghost use Rattle.machine_spec.specs.Limits.{AreLimits};
 ghost use Rattle.machine_spec.specs.Setup.{IsSetup};
-ghost use Rattle.memo_spec.specs.Spelling.{AreBytes};
+ghost use Rattle.memo_spec.specs.Encoding.{AreBytes};
 ghost use Rattle.rerun_spec.specs.Inputs.{AreInputs, AreRerunInputs};
 ghost use Rattle.rerun_spec.specs.Rounds as begin;
 ghost use Rattle.round_inputs.specs.Lists.{bytes_of_each};
@@ -85,7 +85,7 @@ pub fn set_up<H: Host>(
     }
 }
 
-/// The history that a memo spells.
+/// The history that a memo encodes.
 fn recall<H: Host>(alloc: Global, host: &mut H, memo: &[u8]) -> Result<History, Status>
     ensures history { IfOk result (λ h. IsMemoOf memo.now h) }
     ensures refused { IfErr result (λ status. WhyNoHistory memo.now status) }
@@ -101,7 +101,7 @@ fn recall<H: Host>(alloc: Global, host: &mut H, memo: &[u8]) -> Result<History, 
     }
 }
 
-/// The history that the memo of a name spells. What was read of its file is freed.
+/// The history that the memo of a name encodes. What was read of its file is freed.
 pub fn remember<H: Host>(alloc: Global, host: &mut H, name: &str) -> Result<History, Status>
     ensures history { IfOk result (λ h. IsRemembered (H.world host.old) name.now h) }
     ensures reads { IfOk result (λ _. Reads (memo_named name.now ∷ []) (H.world host.old)
@@ -148,17 +148,15 @@ fn edit_again<H: Host>(
 ) -> Result<Inputs, Status>
     ensures inputs { IfOk result (λ inputs.
         AreRerunInputs first.now (bytes_of_each lists.now) inputs) }
-    ensures few { IfOk result (λ inputs. 1 + length inputs < 2 ^ 64) }
     ensures refused { IfErr result (λ status.
         WhyUnedited first.now (bytes_of_each lists.now) status) }
     ensures quiet { Quiet (H.world host.old) (H.world host.new) }
 {
     let mut inputs = edit(alloc, host, first, lists, names)?;
-    let _count = inputs.len();
     if lists.is_empty() {
         return Ok(inputs);
     }
-    inputs.next()?;
+    inputs.take_next()?;
     Ok(inputs)
 }
 
@@ -176,6 +174,15 @@ fn limits_for(line: &RerunLine<'_>, history: &History) -> Limits
     }
 }
 
+/// The setup of a history with these limits.
+fn with_limits(alloc: Global, history: &History, limits: Limits) -> Result<Setup, AllocError>
+    ensures { IfOk result (λ setup. setup ≡ begin.with_limits history.now.setup limits) }
+{
+    let setup = history.setup();
+    let input = Vec::from_slice(alloc, setup.input())?;
+    setup.with(input, limits)
+}
+
 /// The plan of rounds with these limits on these inputs, of which the first goes by a memo.
 fn after_memo(
     alloc: Global,
@@ -188,8 +195,7 @@ fn after_memo(
         ≡ begin.after_memo history limits asked) }
     ensures inputs { IfOk result (λ plan. plan.inputs ≡ inputs) }
 {
-    let input = Vec::from_slice(alloc, history.setup().input())?;
-    let setup = history.setup().with(input, limits)?;
+    let setup = with_limits(alloc, &history, limits)?;
     let past = Arc::new(alloc, history)?;
     let beginning = Beginning {
         number: 1,
@@ -204,9 +210,7 @@ fn after_memo(
 pub fn from_scratch(setup: Setup, inputs: Inputs, asked: Asked) -> Plan
     ensures beginning { beginning_said result.beginning ≡ begin.from_scratch setup asked }
     ensures inputs { result.inputs ≡ inputs }
-    ensures few { length inputs < 2 ^ 64 }
 {
-    let _count = inputs.len();
     let beginning = Beginning {
         number: 0,
         past: None,

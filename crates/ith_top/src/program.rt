@@ -9,14 +9,14 @@ ghost use Rattle.ith_top.specs.Statuses.{status_in};
 ghost use Rattle.ith_top.specs.Ends.{Ends};
 ghost use Rattle.ith_top.specs.Counting.{MakesRounds, RoundsSpend};
 ghost use Rattle.ith_top.specs.Refusals.{WhyUndone};
-ghost use Rattle.ith_top.specs.Playing.{plan_said, CanBePlayed, CanBeSpelled, IsCarriedOut};
+ghost use Rattle.ith_top.specs.Playing.{plan_said, CanBePlayed, CanBeEncoded, IsCarriedOut};
 
 use super::auditing::audit;
 use super::complaints::NO_MEMORY;
 use super::crew::Crew;
 use super::explaining::explain;
 use super::generating::generate;
-use super::keeping::keep;
+use super::keeping::write_memo;
 use super::plan::{Plan, prepare, prepare_rerun};
 use super::racing::find_races;
 use super::replaying::replay;
@@ -37,21 +37,22 @@ fn carry_out<R: Threads + Wait + Sync, H: Host, G: Gate + Sync>(
     host: &mut H,
     plan: Plan,
     crew: &mut Crew<'_, R, G>,
-    kept: Option<&str>,
+    new_memo: Option<&str>,
 ) -> Result<bool, Status>
     requires playable { CanBePlayed (plan_said plan) }
-    requires spelled { CanBeSpelled (plan_said plan) }
+    requires encoded { CanBeEncoded (plan_said plan) }
     ensures done { IfOk result (λ exits.
-        IsCarriedOut (option_map (λ name. name.now) kept.entry) crew.old.workers (plan_said plan)
+        IsCarriedOut (option_map (λ name. name.now) new_memo.entry) crew.old.workers
+        (plan_said plan)
         (H.world host.old) (H.world host.new) crew.old.work crew.new.work exits) }
     ensures refused { IfErr result (λ status.
-        WhyUndone (option_map (λ name. name.now) kept.entry) crew.old.workers (plan_said plan)
+        WhyUndone (option_map (λ name. name.now) new_memo.entry) crew.old.workers (plan_said plan)
         (H.world host.old) (H.world host.new) crew.old.work crew.new.work status) }
     ensures asked { AsksNothing (H.world host.old) (H.world host.new) }
 {
     let Outcome { exits, left } = make_rounds(alloc, host, plan, crew)?;
-    if let Some(name) = kept {
-        keep(alloc, host, name, &left)?;
+    if let Some(name) = new_memo {
+        write_memo(alloc, host, name, &left)?;
     }
     Ok(exits)
 }
@@ -72,7 +73,7 @@ fn run<R: Threads + Wait + Sync, H: Host, G: Gate + Sync>(
         crew.old.work crew.new.work (status_in result) }
 {
     let plan = prepare(alloc, host, line)?;
-    carry_out(alloc, host, plan, crew, line.kept)
+    carry_out(alloc, host, plan, crew, line.new_memo)
 }
 
 /// All that a line that reruns a memo asks for.
@@ -91,7 +92,7 @@ fn rerun<R: Threads + Wait + Sync, H: Host, G: Gate + Sync>(
         crew.old.work crew.new.work (status_in result) }
 {
     let plan = prepare_rerun(alloc, host, line)?;
-    carry_out(alloc, host, plan, crew, line.kept)
+    carry_out(alloc, host, plan, crew, line.new_memo)
 }
 
 /// All that the words ask for.

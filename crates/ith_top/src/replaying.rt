@@ -11,7 +11,7 @@ ghost use Rattle.ith_top.specs.Files.{Quiet};
 ghost use Rattle.ith_top.specs.Ends.{Ends, EndsEarly};
 ghost use Rattle.ith_top.specs.Counting.{ReplaySpends};
 ghost use Rattle.ith_top.specs.Refusals.{WhyNoThreads, WhyUnreplayed};
-ghost use Rattle.ith_top.specs.Playing.{IsAskedReplay, TellsOfReplay, told_of_outcome};
+ghost use Rattle.ith_top.specs.Playing.{IsAskedReplay, TellsOfReplay, data_of_outcome};
 
 use super::complaints::{INCOMPLETE, schedule_line};
 use super::files::{ReplayFiles, read_replay_files};
@@ -24,7 +24,7 @@ use ith_words::ReplayLine;
 use plain_machine::{Outcome, ReplayError, replay as replay_from_scratch};
 use release_core::Setup;
 use report_spec::Entry;
-use round_report::{Told, replayed};
+use round_report::{ReportData, replayed};
 use schedule_list::{ParseError, parse};
 use std::alloc::{AllocError, Global};
 use turn_count::Turns;
@@ -110,16 +110,16 @@ fn all_executed(alloc: Global, threads: &[u8]) -> Result<Vec<Entry>, AllocError>
 }
 
 /// What there is to tell of a schedule of these entries, by what it came to.
-fn told_of<'a>(entries: &'a [Entry], outcome: &'a Outcome) -> Told<'a>
-    ensures { result ≡ told_of_outcome entries.now outcome.now }
+fn data_of<'a>(entries: &'a [Entry], outcome: &'a Outcome) -> ReportData<'a>
+    ensures { result ≡ data_of_outcome entries.now outcome.now }
 {
-    Told {
+    ReportData {
         ending: Some(outcome.ending),
         schedule: entries,
         reached: None,
         progress: None,
         instructions: outcome.instructions,
-        shares: &[],
+        worker_steps: &[],
         memory: &outcome.memory,
         output: outcome.output.as_slice(),
     }
@@ -130,7 +130,7 @@ fn text_of(alloc: Global, threads: &[u8], outcome: &Outcome) -> Result<Vec<u8>, 
     ensures { IfOk result (λ text. TellsOfReplay threads.now outcome.now text.items) }
 {
     let entries = all_executed(alloc, threads)?;
-    replayed(alloc, &told_of(entries.as_slice(), outcome))
+    replayed(alloc, &data_of(entries.as_slice(), outcome))
 }
 
 /// All that a line that replays a schedule asks for. Every turn that it executes is counted.

@@ -3,24 +3,24 @@
 ghost use Rattle.std.specs.Prelude.{◌≡◌, ◌+◌, ◌^◌, ◌<◌, ◌≤◌, length, option_map, IfOk};
 ghost use Rattle.std.specs.Arc.{arc_value};
 ghost use Rattle.machine_spec.specs.declared.TheConstants.{MOST_INPUT_BYTES};
-ghost use Rattle.propagate.specs.Kept.{IsOfMap};
+ghost use Rattle.propagate.specs.Consistency.{IsOfMap};
 ghost use Rattle.rerun_spec.specs.Reports as reports;
 ghost use Rattle.ith_top.specs.Playing.{beginning_said, text_by, IsMadeOn};
 
-use super::crew::{Crew, Made};
+use super::crew::{Crew, MadeRound};
 use super::plan::Beginning;
 use ith_host::Gate;
 use machine_spec::End;
 use propagate::Round;
 use rerun_spec::Asked;
-use round_report::{Digested, Told, short, text};
+use round_report::{Digested, ReportData, short, text};
 use std::alloc::{AllocError, Global};
 use std::sync::{Arc, Wait};
 use std::thread::Threads;
 
 /// What there is of a round that was made.
 #[derive(Drop)]
-pub struct Played {
+pub struct ReportedRound {
     /// The text that tells of it.
     pub text: Vec<u8>,
     /// Whether it ended by exit.
@@ -29,28 +29,28 @@ pub struct Played {
     pub next: Beginning,
 }
 
-/// What there is to tell of a round, with the lines that are asked for, and with the shares of its workers.
-fn told_of<'a>(
+/// What there is to tell of a round, with the lines that are asked for, and with how many steps each worker made.
+fn data_of<'a>(
     round: &'a Round,
     asked: Asked,
-    shares: &'a [u64],
+    worker_steps: &'a [u64],
     progress: &'a [u64],
-) -> Result<Told<'a>, AllocError>
-    ensures { IfOk result (λ told. told ≡ reports.told_as_made round.now
-        (reports.extras_of asked round.now.past round.now.setup progress.now) shares.now) }
+) -> Result<ReportData<'a>, AllocError>
+    ensures { IfOk result (λ told. told ≡ reports.data_as_made round.now
+        (reports.extras_of asked round.now.past round.now.setup progress.now) worker_steps.now) }
 {
     let reached = if asked.reach {
         Some(round.reached()?)
     } else {
         None
     };
-    Ok(Told {
+    Ok(ReportData {
         ending: round.end(),
         schedule: round.schedule(),
         reached,
         progress: if asked.progress { Some(progress) } else { None },
         instructions: round.instructions(),
-        shares,
+        worker_steps,
         memory: round.memory(),
         output: round.output(),
     })
@@ -69,7 +69,7 @@ pub enum Telling {
 fn text_of(
     alloc: Global,
     number: usize,
-    told: &Told<'_>,
+    told: &ReportData<'_>,
     telling: Telling,
     last: &mut Option<Digested>,
 ) -> Result<Vec<u8>, AllocError>
@@ -100,7 +100,7 @@ pub fn make_round<R: Threads + Wait + Sync, G: Gate + Sync>(
     crew: &mut Crew<'_, R, G>,
     telling: Telling,
     last: &mut Option<Digested>,
-) -> Result<Played, AllocError>
+) -> Result<ReportedRound, AllocError>
     requires short { length input.items ≤ MOST_INPUT_BYTES }
     requires same { IsOfMap (option_map arc_value beginning.past) beginning.setup }
     requires few { beginning.number + 1 < 2 ^ 64 }
@@ -118,12 +118,12 @@ pub fn make_round<R: Threads + Wait + Sync, G: Gate + Sync>(
         asked,
     } = beginning;
     let start = setup.with(input, setup.limits())?;
-    let Made {
+    let MadeRound {
         round,
-        shares,
+        worker_steps,
         progress,
     } = crew.make(alloc, number as u64, start, past, asked.progress)?;
-    let told = told_of(&round, asked, shares.as_slice(), progress.as_slice())?;
+    let told = data_of(&round, asked, worker_steps.as_slice(), progress.as_slice())?;
     let text = text_of(alloc, number, &told, telling, last)?;
     let exited = is_exit(round.end());
     let Some(left) = round.into_history() else {
@@ -136,5 +136,5 @@ pub fn make_round<R: Threads + Wait + Sync, G: Gate + Sync>(
         setup,
         asked,
     };
-    Ok(Played { text, exited, next })
+    Ok(ReportedRound { text, exited, next })
 }

@@ -9,7 +9,7 @@ ghost use Rattle.ith_top.specs.Playing.{plan_said, CanBePlayed, IsPlayed};
 use super::crew::Crew;
 use super::outside::print_text;
 use super::plan::{Beginning, Plan};
-use super::report::{Played, Telling, make_round};
+use super::report::{ReportedRound, Telling, make_round};
 use super::status::Status;
 use ith_host::{Gate, Host};
 use release_core::History;
@@ -50,10 +50,10 @@ pub fn make_rounds<R: Threads + Wait + Sync, H: Host, G: Gate + Sync>(
     let mut last = None;
     let mut exits = true;
     for place in 0..inputs.len() {
-        let Some(input) = inputs.next()? else {
+        let Some(input) = inputs.take_next()? else {
             unreachable!()
         };
-        let Played { text, exited, next } = make_round(
+        let ReportedRound { text, exited, next } = make_round(
             alloc,
             beginning,
             input,

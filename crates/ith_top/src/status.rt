@@ -11,7 +11,7 @@ use std::alloc::{AllocError, AllocFailed};
 pub enum Status {
     /// 0: every report was printed, each round ended by exit, and the memo that was asked for was written; or a
     /// schedule was replayed, or the generated guest run, to an exit; or a memo was listed, or is honest as its audit
-    /// found, or it was told why steps were executed.
+    /// found, or its races were printed, or the reasons why steps were executed.
     Finished,
     /// 1: the same, but some end isn't an exit.
     Unfinished,

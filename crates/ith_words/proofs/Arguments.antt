@@ -1,5 +1,5 @@
 -- A command to which arguments were added in turn has their rules, in their order.
-use Rattle.std.proofs.Common.{◌≡◌, List, [], ◌∷◌, ◌++◌, All, false, ◌||◌, map, refl, sym, ap, ◌∙◌, subst}
+use Rattle.std.proofs.Common.{◌≡◌, List, [], ◌∷◌, ◌++◌, All, false, map, refl, sym, ap, ◌∙◌, subst}
 use Rattle.std.proofs.lemmas.List.Elements.{All-head, All-tail, All-push}
 use Rattle.clap.specs.Words.{AddsArg, AddsInTurn, App, app_of, rule_of}
 use Rattle.clap.specs.declared.builder.arg.Arg.{Arg}

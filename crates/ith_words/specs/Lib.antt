@@ -2,3 +2,4 @@
 pub mod Words
 pub mod Said
 pub mod Refusals
+pub mod Arguments

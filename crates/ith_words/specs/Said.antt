@@ -20,7 +20,7 @@ run_said l = record {
   workers = l.workers;
   fuel = l.limits.fuel;
   limit = l.limits.steps;
-  kept = option_map (λ name. name.now) l.kept;
+  new_memo = option_map (λ name. name.now) l.new_memo;
   reach = l.reach;
   progress = l.progress;
 }
@@ -33,7 +33,7 @@ rerun_said l = record {
   workers = l.workers;
   fuel = l.fuel;
   limit = l.steps;
-  kept = option_map (λ name. name.now) l.kept;
+  new_memo = option_map (λ name. name.now) l.new_memo;
   reach = l.reach;
   progress = l.progress;
 }

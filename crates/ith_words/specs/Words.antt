@@ -25,7 +25,7 @@ pub record RunLine : Type 0 where
   pub workers : ℕ
   pub fuel : ℕ
   pub limit : ℕ
-  pub kept : Option Text
+  pub new_memo : Option Text
   pub reach : Bool
   pub progress : Bool
 
@@ -38,7 +38,7 @@ pub record RerunLine : Type 0 where
   pub workers : ℕ
   pub fuel : Option ℕ
   pub limit : Option ℕ
-  pub kept : Option Text
+  pub new_memo : Option Text
   pub reach : Bool
   pub progress : Bool
 
@@ -270,7 +270,7 @@ run_line rows =
       workers = workers_named rows;
       fuel = fuel_named rows;
       limit = limit_named rows;
-      kept = memo_named rows;
+      new_memo = memo_named rows;
       reach = flag_named (codes "reach") rows;
       progress = flag_named (codes "progress") rows;
     }
@@ -284,7 +284,7 @@ rerun_line rows =
       workers = workers_named rows;
       fuel = fuel_given rows;
       limit = limit_given rows;
-      kept = memo_named rows;
+      new_memo = memo_named rows;
       reach = flag_named (codes "reach") rows;
       progress = flag_named (codes "progress") rows;
     }

@@ -1,223 +1,100 @@
 //! The command line that the program takes, as a command of `clap`.
-//! No call of it is inlined: commands and arguments are large values, and all of them would lie in one frame.
+//! No call that makes a command is inlined: commands are large values, and all of them would lie in one frame.
 
-ghost use Rattle.std.specs.Prelude.{◌≡◌, ◌++◌, All, map, codes, IfOk, OnOk, false};
-ghost use Rattle.clap.specs.Words.{App, app_of, rule_of, with_subcommand};
+ghost use Rattle.std.specs.Prelude.{◌≡◌, ◌++◌, map, IfOk, false};
+ghost use Rattle.clap.specs.Words.{App, app_of, with_subcommand};
 ghost use Rattle.clap.specs.declared.builder.command.Command.TheViews.{out-Command};
+ghost use Rattle.ith_words.specs.Arguments.{rule_in};
 ghost use Rattle.ith_words.specs.Words as line;
 
-use super::line::{MOST_NUMBER, MOST_WORKERS};
-use clap::builder::ValueParser;
-use clap::{Arg, ArgAction, Command};
-use machine_spec::{MOST_FUEL, MOST_STEPS};
+use super::argument::{Argument, add_arguments, fuel, round_options, steps, workers};
+use super::line::MOST_NUMBER;
+use clap::Command;
 use std::alloc::{AllocError, Global};
 
-/// An operand, which has to be there (POSIX.1-2017, XBD 12.1).
-#[inline(never)]
-fn operand<'a>(alloc: Global, id: &'a str, help: &'a str) -> Arg<'a>
-    ensures rule { rule_of result ≡ line.operand_rule id.entry.now }
-    ensures local { result.global ≡ false }
-{
-    Arg::new(alloc, id).required(true).help(help)
-}
-
-/// An operand that is a whole number of at most this, which has to be there (POSIX.1-2017, XBD 12.1).
-#[inline(never)]
-fn number_operand<'a>(alloc: Global, id: &'a str, most: u32, help: &'a str) -> Arg<'a>
-    ensures rule { rule_of result ≡ line.number_operand_rule id.entry.now most }
-    ensures local { result.global ≡ false }
-{
-    Arg::new(alloc, id)
-        .required(true)
-        .value_parser(ValueParser::Unsigned(0, u64::from(most)))
-        .help(help)
-}
-
-/// An option whose argument is a whole number, from 1 to the most.
-#[inline(never)]
-fn number<'a>(alloc: Global, id: &'a str, most: u32, help: &'a str) -> Arg<'a>
-    ensures rule { rule_of result ≡ line.number_rule id.entry.now most }
-    ensures local { result.global ≡ false }
-{
-    Arg::new(alloc, id)
-        .long(id)
-        .action(ArgAction::Set)
-        .value_parser(ValueParser::Unsigned(1, u64::from(most)))
-        .help(help)
-}
-
-/// The operand for edit lists, of which there may be any number (POSIX.1-2017, XBD 12.1).
-#[inline(never)]
-fn edits<'a>(alloc: Global) -> Arg<'a>
-    ensures rule { rule_of result ≡ line.edits_rule }
-    ensures local { result.global ≡ false }
-{
-    Arg::new(alloc, "EDITS")
-        .action(ArgAction::Append)
-        .help("The names of edit lists, for a round each")
-}
-
-/// The option for the number of workers.
-#[inline(never)]
-fn workers<'a>(alloc: Global) -> Arg<'a>
-    ensures rule { rule_of result ≡ line.workers_rule }
-    ensures local { result.global ≡ false }
-{
-    number(
-        alloc,
-        "workers",
-        MOST_WORKERS,
-        "How many workers, 1 to 16 [default: 4]",
-    )
-}
-
-/// The option for the most steps of a run.
-#[inline(never)]
-fn steps<'a>(alloc: Global, help: &'a str) -> Arg<'a>
-    ensures rule { rule_of result ≡ line.steps_rule }
-    ensures local { result.global ≡ false }
-{
-    number(alloc, "steps", MOST_STEPS, help)
-}
-
-/// The option for the memo to write.
-#[inline(never)]
-fn memo<'a>(alloc: Global) -> Arg<'a>
-    ensures rule { rule_of result ≡ line.memo_rule }
-    ensures local { result.global ≡ false }
-{
-    Arg::new(alloc, "memo")
-        .long("memo")
-        .action(ArgAction::Set)
-        .help("The name of the memo to write")
-}
-
-/// An option that has no argument.
-#[inline(never)]
-fn flag<'a>(alloc: Global, name: &'a str, help: &'a str) -> Arg<'a>
-    ensures rule { rule_of result ≡ line.flag_rule name.entry.now }
-    ensures local { result.global ≡ false }
-{
-    Arg::new(alloc, name)
-        .long(name)
-        .action(ArgAction::SetTrue)
-        .help(help)
-}
-
-/// The option to tell what an edit reaches.
-#[inline(never)]
-fn reach<'a>(alloc: Global) -> Arg<'a>
-    ensures rule { rule_of result ≡ line.flag_rule (codes "reach") }
-    ensures local { result.global ≡ false }
-{
-    flag(alloc, "reach", "Tells how many old steps an edit reaches")
-}
-
-/// The option to tell how many steps were made, as often as that was looked at.
-#[inline(never)]
-fn progress<'a>(alloc: Global) -> Arg<'a>
-    ensures rule { rule_of result ≡ line.flag_rule (codes "progress") }
-    ensures local { result.global ≡ false }
-{
-    flag(
-        alloc,
-        "progress",
-        "Tells how many steps were made, as often as it was looked at",
-    )
-}
-
-/// The command of this name with these arguments, in their order.
+/// The command of this name with these operands and options, in their order.
 #[inline(never)]
 #[tactic(auto, using(crate::proofs::Arguments::shape_in_turn, crate::proofs::Arguments::globals_in_turn))]
 fn command<'a>(
     alloc: Global,
     name: &'a str,
     about: &'a str,
-    args: Vec<Arg<'a>>,
+    operands: &[Argument<'a>],
+    options: &[Argument<'a>],
 ) -> Result<Command<'a>, AllocError>
-    requires { All (λ arg. arg.global ≡ false) args.items }
     ensures shape { IfOk result (λ c. app_of c
-        ≡ line.command name.entry.now (map rule_of args.entry.items)) }
+        ≡ line.command name.entry.now (map rule_in operands.now ++ map rule_in options.now)) }
     ensures local { IfOk result (λ c. (out-Command c).has_globals ≡ false) }
 {
+    let mut args = Vec::new(alloc);
+    add_arguments(alloc, operands, &mut args)?;
+    add_arguments(alloc, options, &mut args)?;
     Command::new(alloc, name).about(about).args(args)
 }
 
-/// Adds the options of a command that makes rounds.
-#[inline(never)]
-fn add_round_options<'a>(
-    alloc: Global,
-    args: &mut Vec<Arg<'a>>,
-    fuel: &'a str,
-    most: &'a str,
-) -> Result<(), AllocError>
-    requires { All (λ arg. arg.global ≡ false) args.old.items }
-    ensures rules { OnOk result (map rule_of args.new.items
-        ≡ map rule_of args.old.items ++ line.round_options) }
-    ensures local { OnOk result (All (λ arg. arg.global ≡ false) args.new.items) }
-{
-    args.push(workers(alloc))?;
-    args.push(number(alloc, "fuel", MOST_FUEL, fuel))?;
-    args.push(steps(alloc, most))?;
-    args.push(memo(alloc))?;
-    args.push(reach(alloc))?;
-    args.push(progress(alloc))?;
-    Ok(())
-}
-
 /// The command that runs a guest.
-#[inline(never)]
 #[tactic(auto, unfolding(crate::specs::Words::run_command))]
 fn run_command<'a>(alloc: Global) -> Result<Command<'a>, AllocError>
     ensures shape { IfOk result (λ c. app_of c ≡ line.run_command) }
     ensures local { IfOk result (λ c. (out-Command c).has_globals ≡ false) }
 {
-    let fuel = "The most turns of a thunk, 1 to 16777216 [default: 1000000]";
+    let turns = "The most turns of a thunk, 1 to 16777216 [default: 1000000]";
     let most = "The most steps of a run, 1 to 65536 [default: 4096]";
-    let mut args = vec![in alloc;
-        operand(alloc, "ELF", "The name of the executable"),
-        operand(alloc, "INPUT", "The name of the input"),
-        edits(alloc),
-    ]?;
-    add_round_options(alloc, &mut args, fuel, most)?;
-    command(alloc, "run", "Runs a guest from scratch", args)
+    let operands = [
+        Argument::Operand("ELF", "The name of the executable"),
+        Argument::Operand("INPUT", "The name of the input"),
+        Argument::Edits,
+    ];
+    command(
+        alloc,
+        "run",
+        "Runs a guest from scratch",
+        &operands,
+        &round_options(turns, most),
+    )
 }
 
 /// The command that goes on from a memo.
-#[inline(never)]
 #[tactic(auto, unfolding(crate::specs::Words::rerun_command))]
 fn rerun_command<'a>(alloc: Global) -> Result<Command<'a>, AllocError>
     ensures shape { IfOk result (λ c. app_of c ≡ line.rerun_command) }
     ensures local { IfOk result (λ c. (out-Command c).has_globals ≡ false) }
 {
-    let fuel = "The most turns of a thunk, 1 to 16777216 [default: the memo's]";
+    let turns = "The most turns of a thunk, 1 to 16777216 [default: the memo's]";
     let most = "The most steps of a run, 1 to 65536 [default: the memo's]";
-    let mut args = vec![in alloc;
-        operand(alloc, "MEMO", "The name of the memo to read"),
-        edits(alloc),
-    ]?;
-    add_round_options(alloc, &mut args, fuel, most)?;
-    command(alloc, "rerun", "Goes on from a memo", args)
+    let operands = [
+        Argument::Operand("MEMO", "The name of the memo to read"),
+        Argument::Edits,
+    ];
+    command(
+        alloc,
+        "rerun",
+        "Goes on from a memo",
+        &operands,
+        &round_options(turns, most),
+    )
 }
 
 /// The command that replays a schedule.
-#[inline(never)]
 #[tactic(auto, unfolding(crate::specs::Words::replay_command))]
 fn replay_command<'a>(alloc: Global) -> Result<Command<'a>, AllocError>
     ensures shape { IfOk result (λ c. app_of c ≡ line.replay_command) }
     ensures local { IfOk result (λ c. (out-Command c).has_globals ≡ false) }
 {
-    let about = "Executes each instruction of a schedule, from scratch";
-    let fuel = "The most turns of a thunk, 1 to 16777216 [default: 1000000]";
+    let turns = "The most turns of a thunk, 1 to 16777216 [default: 1000000]";
     let most = "The most steps of a run, 1 to 65536 [default: 4096]";
-    let args = vec![in alloc;
-        operand(alloc, "ELF", "The name of the executable"),
-        operand(alloc, "INPUT", "The name of the input"),
-        operand(alloc, "SCHEDULE", "The name of the schedule"),
-        number(alloc, "fuel", MOST_FUEL, fuel),
-        steps(alloc, most),
-    ]?;
-    command(alloc, "replay", about, args)
+    let operands = [
+        Argument::Operand("ELF", "The name of the executable"),
+        Argument::Operand("INPUT", "The name of the input"),
+        Argument::Operand("SCHEDULE", "The name of the schedule"),
+    ];
+    command(
+        alloc,
+        "replay",
+        "Executes each instruction of a schedule, from scratch",
+        &operands,
+        &[fuel(turns), steps(most)],
+    )
 }
 
 /// The command that lists a memo.
@@ -226,8 +103,8 @@ fn show_command<'a>(alloc: Global) -> Result<Command<'a>, AllocError>
     ensures shape { IfOk result (λ c. app_of c ≡ line.show_command) }
     ensures local { IfOk result (λ c. (out-Command c).has_globals ≡ false) }
 {
-    let args = vec![in alloc; operand(alloc, "MEMO", "The name of the memo to read")]?;
-    command(alloc, "show", "Lists a memo", args)
+    let operands = [Argument::Operand("MEMO", "The name of the memo to read")];
+    command(alloc, "show", "Lists a memo", &operands, &[])
 }
 
 /// The command that tells why steps were executed.
@@ -236,15 +113,16 @@ fn explain_command<'a>(alloc: Global) -> Result<Command<'a>, AllocError>
     ensures shape { IfOk result (λ c. app_of c ≡ line.explain_command) }
     ensures local { IfOk result (λ c. (out-Command c).has_globals ≡ false) }
 {
-    let args = vec![in alloc;
-        operand(alloc, "MEMO", "The name of the memo to read"),
-        operand(alloc, "EDITS", "The name of the edit list"),
-    ]?;
+    let operands = [
+        Argument::Operand("MEMO", "The name of the memo to read"),
+        Argument::Operand("EDITS", "The name of the edit list"),
+    ];
     command(
         alloc,
         "why",
         "Tells why steps of a rerun are executed",
-        args,
+        &operands,
+        &[],
     )
 }
 
@@ -254,11 +132,14 @@ fn audit_command<'a>(alloc: Global) -> Result<Command<'a>, AllocError>
     ensures shape { IfOk result (λ c. app_of c ≡ line.audit_command) }
     ensures local { IfOk result (λ c. (out-Command c).has_globals ≡ false) }
 {
-    let args = vec![in alloc;
-        operand(alloc, "MEMO", "The name of the memo to read"),
-        workers(alloc),
-    ]?;
-    command(alloc, "audit", "Tells whether a memo is honest", args)
+    let operands = [Argument::Operand("MEMO", "The name of the memo to read")];
+    command(
+        alloc,
+        "audit",
+        "Tells whether a memo is honest",
+        &operands,
+        &[workers()],
+    )
 }
 
 /// The command that tells which steps race.
@@ -267,31 +148,29 @@ fn races_command<'a>(alloc: Global) -> Result<Command<'a>, AllocError>
     ensures shape { IfOk result (λ c. app_of c ≡ line.races_command) }
     ensures local { IfOk result (λ c. (out-Command c).has_globals ≡ false) }
 {
-    let args = vec![in alloc; operand(alloc, "MEMO", "The name of the memo to read")]?;
+    let operands = [Argument::Operand("MEMO", "The name of the memo to read")];
     command(
         alloc,
         "races",
         "Lists steps that touch a page without an order",
-        args,
+        &operands,
+        &[],
     )
 }
 
 /// The command that runs the generated guest.
-#[inline(never)]
 #[tactic(auto, unfolding(crate::specs::Words::generate_command))]
 fn generate_command<'a>(alloc: Global) -> Result<Command<'a>, AllocError>
     ensures shape { IfOk result (λ c. app_of c ≡ line.generate_command) }
     ensures local { IfOk result (λ c. (out-Command c).has_globals ≡ false) }
 {
-    let args = vec![in alloc;
-        number_operand(alloc, "NUMBER", MOST_NUMBER, "The number, 0 to 4294967295"),
-        workers(alloc),
-    ]?;
+    let operands = [Argument::NumberOperand("NUMBER", MOST_NUMBER, "The number, 0 to 4294967295")];
     command(
         alloc,
         "gen",
         "Runs a guest that is generated from a number",
-        args,
+        &operands,
+        &[workers()],
     )
 }
 

@@ -1,6 +1,7 @@
 //! What the words of a command line ask for.
 #![tactic(auto)]
 
+mod argument;
 mod command;
 mod given;
 mod line;

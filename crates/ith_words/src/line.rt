@@ -20,7 +20,7 @@ pub fn limits_are_as_documented()
 {}
 
 /// What a line asks for.
-#[derive(Debug, Drop)]
+#[derive(Drop)]
 pub enum Line<'a> {
     /// A guest is run from scratch.
     Run(RunLine<'a>),
@@ -41,7 +41,7 @@ pub enum Line<'a> {
 }
 
 /// A line that runs a guest.
-#[derive(Debug, Drop)]
+#[derive(Drop)]
 pub struct RunLine<'a> {
     /// The name of the executable.
     pub elf: &'a str,
@@ -54,7 +54,7 @@ pub struct RunLine<'a> {
     /// The most turns of a thunk, and the most steps of a run.
     pub limits: Limits,
     /// The name of the memo to write, if there is to be one.
-    pub kept: Option<&'a str>,
+    pub new_memo: Option<&'a str>,
     /// Whether the reports tell what an edit reaches.
     pub reach: bool,
     /// Whether the reports tell how many steps were made, as often as that was looked at meanwhile.
@@ -64,7 +64,7 @@ pub struct RunLine<'a> {
 }
 
 /// A line that goes on from a memo.
-#[derive(Debug, Drop)]
+#[derive(Drop)]
 pub struct RerunLine<'a> {
     /// The name of the memo to read.
     pub memo: &'a str,
@@ -77,7 +77,7 @@ pub struct RerunLine<'a> {
     /// The most steps of a run, if it isn't to be the memo's.
     pub steps: Option<u32>,
     /// The name of the memo to write, if there is to be one.
-    pub kept: Option<&'a str>,
+    pub new_memo: Option<&'a str>,
     /// Whether the reports tell what an edit reaches.
     pub reach: bool,
     /// Whether the reports tell how many steps were made, as often as that was looked at meanwhile.
@@ -89,7 +89,7 @@ pub struct RerunLine<'a> {
 }
 
 /// A line that replays a schedule.
-#[derive(Debug, Drop)]
+#[derive(Drop)]
 pub struct ReplayLine<'a> {
     /// The name of the executable.
     pub elf: &'a str,
@@ -102,14 +102,14 @@ pub struct ReplayLine<'a> {
 }
 
 /// A line that lists a memo.
-#[derive(Debug, Drop)]
+#[derive(Drop)]
 pub struct ShowLine<'a> {
     /// The name of the memo to read.
     pub memo: &'a str,
 }
 
 /// A line that tells why steps were executed.
-#[derive(Debug, Drop)]
+#[derive(Drop)]
 pub struct ExplainLine<'a> {
     /// The name of the memo to read.
     pub memo: &'a str,
@@ -118,7 +118,7 @@ pub struct ExplainLine<'a> {
 }
 
 /// A line that audits a memo.
-#[derive(Debug, Drop)]
+#[derive(Drop)]
 pub struct AuditLine<'a> {
     /// The name of the memo to read.
     pub memo: &'a str,
@@ -129,14 +129,14 @@ pub struct AuditLine<'a> {
 }
 
 /// A line that tells which steps race.
-#[derive(Debug, Drop)]
+#[derive(Drop)]
 pub struct RacesLine<'a> {
     /// The name of the memo to read.
     pub memo: &'a str,
 }
 
 /// A line that runs the generated guest.
-#[derive(Debug, Clone, Copy)]
+#[derive(Clone, Copy)]
 pub struct GenerateLine {
     /// The number that guest, input and edit are generated from.
     pub number: u32,

@@ -18,7 +18,7 @@ use clap::{ArgMatches, Error};
 use std::alloc::{AllocError, Global};
 
 /// Why words give no line.
-#[derive(Debug, Drop)]
+#[derive(Drop)]
 pub enum LineFault {
     /// They aren't accepted, or ask for help: the text to show.
     Refused(Vec<u8>),
@@ -80,7 +80,7 @@ fn run_line<'a>(alloc: Global, given: &ArgMatches<'a>) -> Result<RunLine<'a>, Al
         edits,
         workers: workers_of(given),
         limits: limits_of(given),
-        kept: memo_of(given),
+        new_memo: memo_of(given),
         reach: flag_of(given, "reach"),
         progress: flag_of(given, "progress"),
     })
@@ -101,7 +101,7 @@ fn rerun_line<'a>(alloc: Global, given: &ArgMatches<'a>) -> Result<RerunLine<'a>
         workers: workers_of(given),
         fuel: fuel_of(given),
         steps: steps_of(given),
-        kept: memo_of(given),
+        new_memo: memo_of(given),
         reach: flag_of(given, "reach"),
         progress: flag_of(given, "progress"),
     })

@@ -1,6 +1,7 @@
 //! What no clause says: that calls succeed, that calls which are to fail do, and what the system does.
 use ith_host::{
-    Gate, Got, Host, MemHost, OpenGate, OsHost, Printed, Put, Watched, read_to_limit, write_to_end,
+    FaultCounter, Gate, Got, Host, MemHost, OpenGate, OsHost, Printed, Put, read_to_limit,
+    write_to_end,
 };
 use std::alloc::{AllocError, Global};
 use std::collections::BTreeMap;
@@ -137,7 +138,7 @@ const SEVEN: &[u8] = b"sevenby";
 
 /// Whether a source is read with this answer: all of it or nothing is kept, and a failure is counted.
 fn is_read(alloc: Global, inner: Source<'_>, limit: u64, want: Got) -> bool {
-    let mut source = Watched::new(inner, 5);
+    let mut source = FaultCounter::new(inner, 5);
     let mut bytes = Vec::new(alloc);
     let got = read_to_limit(&mut source, limit, &mut bytes);
     let kept = if want == Got::Ok { SEVEN } else { b"" };
@@ -171,7 +172,7 @@ fn a_source_is_read_to_its_end(rt: HostRuntime) {
 
 /// Whether bytes are written into a sink with this answer: a failure is counted.
 fn is_written(inner: Sink, want: bool) -> bool {
-    let mut sink = Watched::new(inner, 5);
+    let mut sink = FaultCounter::new(inner, 5);
     let written = write_to_end(&mut sink, SEVEN);
     let faults = if want { 5 } else { 6 };
     written == want && sink.faults() == faults

@@ -20,7 +20,7 @@ fn made_of_five(alloc: Global, texts: &[&[u8]]) -> Result<Result<Inputs, InputsE
 
 /// Whether the next input is this one, with so many to come behind it.
 fn is_next(inputs: &mut Inputs, wanted: &[u8], left: usize) -> Result<bool, AllocError> {
-    match inputs.next()? {
+    match inputs.take_next()? {
         Some(input) => Ok(input.as_slice() == wanted && inputs.len() == left),
         None => Ok(false),
     }
@@ -33,7 +33,7 @@ fn are_these(mut inputs: Inputs, wanted: &[&[u8]]) -> Result<bool, AllocError> {
             return Ok(false);
         }
     }
-    Ok(inputs.next()?.is_none())
+    Ok(inputs.take_next()?.is_none())
 }
 
 /// Whether the inputs of these lists are these.

@@ -18,7 +18,7 @@ fn is_refused(alloc: Global, text: &[u8], token: usize) -> bool {
     }
 }
 
-/// A text, and the threads that it spells.
+/// A text, and the threads that it encodes.
 type Row = (&'static [u8], &'static [u8]);
 
 const ROWS: [Row; 8] = [

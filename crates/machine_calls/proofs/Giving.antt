@@ -1,5 +1,5 @@
 -- How many threads a call wakes.
-use Rattle.std.proofs.Common.{◌≡◌, ◌≤◌, ◌+◌, ◌%◌, ℕ, Bool, true, false, cond, List, [], ◌∷◌, ◌++◌, Option, Some, None, length, refl, ap, arith}
+use Rattle.std.proofs.Common.{◌≡◌, ◌<◌, ◌≤◌, ◌+◌, ◌%◌, ℕ, Bool, true, false, cond, List, [], ◌∷◌, ◌++◌, Option, Some, None, length, refl, ap, arith}
 use Rattle.std.specs.Prelude.{nat_lt, nat_le, is_none, is_some, not, ◌&&◌, ◌==◌, slice_index_or}
 use Rattle.guest_call.specs.declared.TheConstants.{OBJECTS}
 use Rattle.guest_call.specs.declared.thread_number.TheConstants.{THREADS}
@@ -123,48 +123,47 @@ join t u members =
     (either (u == t) _ _ (omega arith)
     (either (is_some (member_at members u).joiner) _ _ (omega arith) (joined (member_at members u).value)))
 
--- The caller, those who are woken and a thread that is created get no more views than were made.
+-- Views that are too few for the caller, for those who are woken and for a thread that is created are fewer than are made.
 pub gives_few :
-    (readable : ℕ → ℕ → Bool) (o : Objects) (t : ℕ) (call : Call)
-    → length (act readable o t call).0.woken ≤ THREADS
-    → length (act readable o t call).0.woken + 2 ≤ most_views (Asks call)
-gives_few readable o t (Exit code) le = omega arith
-gives_few readable o t (Put p n) le = omega arith
-gives_few readable o t (Create pc argument) le = let few = create pc argument o.threads in omega (arith, few)
-gives_few readable o t (ThreadExit v) le =
+    (readable : ℕ → ℕ → Bool) (o : Objects) (t : ℕ) (call : Call) (views : ℕ)
+    → views < length (act readable o t call).0.woken + 2 → views < THREADS + 2 → views < most_views (Asks call)
+gives_few readable o t (Exit code) views lt room = omega arith
+gives_few readable o t (Put p n) views lt room = omega arith
+gives_few readable o t (Create pc argument) views lt room = let few = create pc argument o.threads in omega (arith, few)
+gives_few readable o t (ThreadExit v) views lt room =
     let few = joiner (member_at o.threads t).value (member_at o.threads t).joiner in omega (arith, few)
-gives_few readable o t (Join u) le = let few = join t u o.threads in omega (arith, few)
-gives_few readable o t Yield le = omega arith
-gives_few readable o t (Lock m) le = let few = at_object unlocked (lock_row t) o.mutexes m (lock t) in omega (arith, few)
-gives_few readable o t (TryLock m) le =
+gives_few readable o t (Join u) views lt room = let few = join t u o.threads in omega (arith, few)
+gives_few readable o t Yield views lt room = omega arith
+gives_few readable o t (Lock m) views lt room = let few = at_object unlocked (lock_row t) o.mutexes m (lock t) in omega (arith, few)
+gives_few readable o t (TryLock m) views lt room =
     let few = at_object unlocked (trylock_row t) o.mutexes m (trylock t) in omega (arith, few)
-gives_few readable o t (Unlock m) le =
+gives_few readable o t (Unlock m) views lt room =
     let few = at_object unlocked (unlock_row t) o.mutexes m (unlock t) in omega (arith, few)
-gives_few readable o t (SemWait s) le =
+gives_few readable o t (SemWait s) views lt room =
     let few = at_object unposted (sem_wait_row t) o.semaphores s (wait t) in omega (arith, few)
-gives_few readable o t (SemTryWait s) le =
+gives_few readable o t (SemTryWait s) views lt room =
     let few = at_object unposted sem_trywait_row o.semaphores s try_wait in omega (arith, few)
-gives_few readable o t (SemPost s) le =
+gives_few readable o t (SemPost s) views lt room =
     let few = at_object unposted sem_post_row o.semaphores s (λ x. post x.value x.queue) in omega (arith, few)
-gives_few readable o t (SemInit s n) le =
+gives_few readable o t (SemInit s n) views lt room =
     let few = in_range (nat_le n largest_value) o (on_semaphore (sem_init_row n) o s)
     (at_object unposted (sem_init_row n) o.semaphores s (set_value n)) in
     omega (arith, few)
-gives_few readable o t (BarrierInit b n) le =
+gives_few readable o t (BarrierInit b n) views lt room =
     let few = in_range (is_count n) o (on_barrier (barrier_init_row n) o b)
     (at_object uninitialised (barrier_init_row n) o.barriers b (set_count n)) in
     omega (arith, few)
-gives_few readable o t (BarrierWait b) le = omega arith
-gives_few readable o t (CondWait c m) le =
+gives_few readable o t (BarrierWait b) views lt room = omega arith
+gives_few readable o t (CondWait c m) views lt room =
     let few = in_range (nat_lt c OBJECTS && nat_lt m OBJECTS) o (on_pair (cond_wait_row t m) o c m)
     (await t m (condition_at o c) (mutex_at o m)) in
     omega (arith, few)
-gives_few readable o t (Signal c) le = let few = leaves signal_leaving o c in omega (arith, few)
-gives_few readable o t (Broadcast c) le = let few = leaves broadcast_leaving o c in omega (arith, few)
-gives_few readable o t (RdLock r) le =
+gives_few readable o t (Signal c) views lt room = let few = leaves signal_leaving o c in omega (arith, few)
+gives_few readable o t (Broadcast c) views lt room = let few = leaves broadcast_leaving o c in omega (arith, few)
+gives_few readable o t (RdLock r) views lt room =
     let few = at_object unheld (rdlock_row t) o.rwlocks r (rdlock t) in omega (arith, few)
-gives_few readable o t (WrLock r) le =
+gives_few readable o t (WrLock r) views lt room =
     let few = at_object unheld (wrlock_row t) o.rwlocks r (wrlock t) in omega (arith, few)
-gives_few readable o t (RwUnlock r) le = omega arith
-gives_few readable o t (TryWrLock r) le =
+gives_few readable o t (RwUnlock r) views lt room = omega arith
+gives_few readable o t (TryWrLock r) views lt room =
     let few = at_object unheld (trywrlock_row t) o.rwlocks r (trywrlock t) in omega (arith, few)

@@ -199,7 +199,6 @@ pub fn do_as_asked<V: View>(
     match asked {
         Asked::Asks(call) => {
             let effect = effect_of::<V>(written.map, objects, t, call);
-            let _woken = effect.woken().len();
             settle(harts, written.memory, views, t, &effect)?;
             let ending = end_after(
                 effect.fate(),

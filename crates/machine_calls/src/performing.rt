@@ -95,6 +95,7 @@ fn wake<V: View>(
     ensures rest { AreViewsOf V.pages (V.pages memory.now) views.new.items }
     ensures count { vec_len views.old ≤ vec_len views.new + length threads.now }
     ensures few { OnErr result (vec_len views.old < length threads.now) }
+    ensures fits { length threads.now ≤ THREADS }
 {
     for i in 0..threads.len() {
         let thread = usize::from(threads.at(i).number());
@@ -147,7 +148,8 @@ pub(super) fn settle<V: View>(
     ensures harts { OnOk result (harts.new.items
         ≡ settled effect.now (V.pages memory.now) t harts.old.items) }
     ensures full { OnErr result (vec_capacity harts.old ≤ vec_len harts.old
-        ⊎ vec_len views.old < length effect.now.woken + 2) }
+        ⊎ (vec_len views.old < length effect.now.woken + 2)
+        × (vec_len views.old < THREADS + 2)) }
 {
     let hart = &mut harts[usize::from(t)];
     meet_fate(hart, memory, views, effect.fate())?;

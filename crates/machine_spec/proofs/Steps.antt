@@ -1,4 +1,4 @@
--- A step leaves every other ready hart as it is, keeps what holds of machines, and is what laying a true record that
+-- A step leaves every other ready hart as it is, keeps what holds of machines, and is what applying a true record that
 -- fits is.
 use Rattle.std.proofs.Common.{◌≡◌, ◌≢◌, ◌<◌, ◌≤◌, ◌+◌, ℕ, zero, suc, Bool, true, false, ◌&&◌, not, eqb, leb, cond, List, [], ◌∷◌, ◌++◌, length, get_or, set, Option, Some, None, is_none, refl, ap, sym, ◌∙◌, subst, inl, inr, arith}
 use Rattle.std.proofs.lemmas.Bool.{eqb-true}
@@ -30,7 +30,7 @@ use Rattle.machine_spec.specs.declared.states.End.{End}
 use Rattle.machine_spec.specs.Limits.{AreLimits}
 use Rattle.machine_spec.specs.Machine.{Hart, Machine, hart_in, hart_of, nobody, is_ready, is_ended}
 use Rattle.machine_spec.specs.Performing.{returned, fated, woken, first_hart, with_created, settled}
-use Rattle.machine_spec.specs.Step.{advanced, written, Asked, Asks, Stops, asked, fate_end, state_end, end_after, performed, done_as_asked, finished, step, lay, fits, can_step}
+use Rattle.machine_spec.specs.Step.{advanced, written, Asked, Asks, Stops, asked, fate_end, state_end, end_after, performed, done_as_asked, finished, step, apply, fits, can_step}
 use Rattle.machine_spec.specs.Whole.{IsTied, IsHartOf, IsWhole}
 use Rattle.machine_spec.proofs.Harts.{ready-below, status-set}
 use Rattle.machine_spec.proofs.Tied.{tied-written, tied-called, stays-called}
@@ -281,15 +281,15 @@ step-whole m t whole can =
     whole can
     (IsMemory-laid m.frame.map m.memory (thunk m.frame (hart_of m t).view (hart_of m t).regs).stores whole.memory)
 
--- laying
+-- applying
 
--- laying a true record that fits is the step of its thread
-pub lay-step :
+-- applying a true record that fits is the step of its thread
+pub apply-step :
     (m : Machine) (r : Record)
     → IsWhole m → IsTrue m.frame r.start r.kept → fits m r ≡ true
-    → lay m r ≡ step m r.thread
-unfolding lay step fits fits_at
-lay-step m r whole honest fit =
+    → apply m r ≡ step m r.thread
+unfolding apply step fits fits_at
+apply-step m r whole honest fit =
     let ready : is_ready (hart_of m r.thread).status ≡ true = grind (arith, nat_tests) in
     let regs : r.start ≡ (hart_of m r.thread).regs =
     same_registers-true r.start (hart_of m r.thread).regs (grind (arith, nat_tests)) in

@@ -96,8 +96,8 @@ step m t =
     finished m t (laid m.frame.map m.memory done.stores) done.regs done.end done.put
 
 -- One record in a step's place: its masked bytes are written into shared memory.
-unfoldable pub lay : Machine → Record → Machine
-lay m r =
+unfoldable pub apply : Machine → Record → Machine
+apply m r =
     finished m r.thread (masked m.memory r.kept.delta) r.kept.finish r.kept.end
     (put_of m.frame.map (hart_of m r.thread).view r.kept)
 

@@ -1,6 +1,6 @@
 //! The guest machine, as definitions: shared memory, harts with a view each, one step of a thread, and
 //! whole schedules from scratch; with the laws that a step leaves every other ready thread as it is,
-//! that laying a true record that fits is the step, and that the choice leads to an end. No code but
+//! that applying a true record that fits is the step, and that the choice leads to an end. No code but
 //! four plain types, and the constants of the limits.
 #![tactic(auto)]
 
@@ -8,7 +8,7 @@ ghost use Rattle.std.specs.Prelude.{◌≡◌, ◌≢◌, ℕ, true};
 ghost use Rattle.memory_spec.specs.Pages.{ascends_above};
 ghost use Rattle.record_spec.specs.Record.{Record, IsTrue};
 ghost use Rattle.machine_spec.specs.Machine.{Machine, hart_of, is_ready};
-ghost use Rattle.machine_spec.specs.Step.{step, lay, fits, can_step};
+ghost use Rattle.machine_spec.specs.Step.{step, apply, fits, can_step};
 ghost use Rattle.machine_spec.specs.Setup.{Setup, IsSetup, first, map_of, is_permitted, is_complete};
 ghost use Rattle.machine_spec.specs.Choice.{alone};
 ghost use Rattle.machine_spec.specs.Whole.{IsWhole};
@@ -70,13 +70,13 @@ pub fn step_keeps_whole()
     ensures { (m : Machine) (t : ℕ) → IsWhole m → can_step m t ≡ true → IsWhole (step m t) }
 {}
 
-/// To lay a true record that fits is the step of its thread.
-pub fn lay_is_step()
+/// To apply a true record that fits is the step of its thread.
+pub fn apply_is_step()
     ensures { (m : Machine) (r : Record)
         → IsWhole m
         → IsTrue m.frame r.start r.kept
         → fits m r ≡ true
-        → lay m r ≡ step m r.thread }
+        → apply m r ≡ step m r.thread }
 {}
 
 /// The schedule that the choice gives is permitted, and there is an end after it.

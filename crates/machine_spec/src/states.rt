@@ -35,7 +35,7 @@ pub enum End {
 }
 
 /// What the end of a thunk asks of the machine.
-#[derive(Clone, Copy, Debug, PartialEq, Eq)]
+#[derive(Clone, Copy, PartialEq, Eq)]
 pub enum Asked {
     /// To do an environment call.
     Asks(Call),

@@ -91,11 +91,11 @@ fn stores_into_code_are_seen_and_kept(rt: HostRuntime) -> Result<(), AllocError>
 
 /// A watch that counts what it is told.
 #[derive(Drop)]
-struct Told {
+struct CountingWatch {
     times: AtomicU64,
 }
 
-impl Watch for Told {
+impl Watch for CountingWatch {
     fn runs_long(&self) {
         self.times.fetch_add(1, Ordering::SeqCst);
     }
@@ -108,7 +108,7 @@ fn times_told<R: Threads>(
     code: &[u8],
     fuel: u32,
 ) -> Result<(u32, u64), AllocError> {
-    let told = Told {
+    let told = CountingWatch {
         times: AtomicU64::new(0),
     };
     let job = job_of(alloc, code, fuel)?;

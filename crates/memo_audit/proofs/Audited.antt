@@ -6,7 +6,7 @@ use Rattle.record_spec.specs.Record.{Record}
 use Rattle.machine_spec.specs.Machine.{Machine}
 use Rattle.machine_spec.specs.declared.states.End.{End}
 use Rattle.machine_spec.specs.Schedule.{record_of}
-use Rattle.machine_spec.specs.Step.{lay}
+use Rattle.machine_spec.specs.Step.{apply}
 use Rattle.release_core.specs.Applying.{can_apply}
 use Rattle.audit_spec.specs.Audit.{IsFirstFalseFrom, turns_from}
 use Rattle.memo_audit.specs.declared.claims.Claim.{Claim}
@@ -14,7 +14,7 @@ use Rattle.memo_audit.specs.declared.verdict.Verdict.{Verdict}
 use Rattle.memo_audit.specs.Claims.{AreClaims, IsFoundIn, turns_in, first_of_both}
 use Rattle.memo_audit.proofs.Following.{IsSoFar, far-then, far-closed, far-nothing, claims-far, claims-turns, unlaid-unmade, drop-nil, front-of}
 
--- So many records were laid, which led to a machine, and what was found in them tells of all.
+-- So many records were applied, which led to a machine, and what was found in them tells of all.
 pub record IsAuditedTo (m : Machine) (rs : List Record) (place : ℕ) (core : Machine) (found : Verdict) : Type 0 where
   pub within : place ≤ length rs
   pub few : found.instructions ≤ place * 2 ^ 32
@@ -73,7 +73,7 @@ pub record IsOfAll (m : Machine) (rs : List Record) (v : Verdict) : Type 0 where
   pub first : IsFirstFalseFrom m rs v.first
   pub turns : v.instructions ≡ turns_from m rs
 
--- the verdict is known where the first of the rest can't be laid
+-- the verdict is known where the first of the rest can't be applied
 pub audited-stuck :
     (m : Machine) (rs : List Record) (place : ℕ) (core : Machine) (found then : Verdict)
     → IsAuditedTo m rs place core found → place < length rs
@@ -85,7 +85,7 @@ audited-stuck m rs place core found then so lt stuck first sum =
     let cannot : can_apply core f.r ≡ false = stuck f.r f.there in
     let none : turns_from core (drop place rs) ≡ 0 =
     ap (turns_from core) f.are
-    ∙ ap (λ (b : Bool). cond b ((record_of core f.r.thread).kept.count + turns_from (lay core f.r) f.rest) 0) cannot in
+    ∙ ap (λ (b : Bool). cond b ((record_of core f.r.thread).kept.count + turns_from (apply core f.r) f.rest) 0) cannot in
     record {
       first = subst (IsFirstFalseFrom m rs) (sym first)
           (far-closed (IsFirstFalseFrom m rs) (IsFirstFalseFrom core (drop place rs)) place found.first (Some 0) so.so_far

@@ -3,10 +3,10 @@ use Rattle.std.proofs.Common.{◌≡◌, ℕ, zero, suc, ◌+◌, ◌<◌, ◌�
 use Rattle.std.specs.Prelude.{slice_get}
 use Rattle.record_spec.specs.Record.{Record}
 use Rattle.machine_spec.specs.Machine.{Machine, hart_of, is_ready}
-use Rattle.machine_spec.specs.Step.{lay, fits, can_step}
+use Rattle.machine_spec.specs.Step.{apply, fits, can_step}
 use Rattle.machine_spec.specs.Schedule.{record_of}
 use Rattle.history_spec.proofs.Scratch.{and-left, and-right}
-use Rattle.history_spec.proofs.Laying.{fits-can_step}
+use Rattle.history_spec.proofs.Applying.{fits-can_step}
 use Rattle.history_spec.proofs.Truth.{record-fits}
 use Rattle.release_core.specs.Applying.{can_apply}
 use Rattle.audit_spec.specs.Audit.{IsMade, IsFirstFalseFrom, turns_from}
@@ -23,7 +23,7 @@ claim-made m r c can is true_claim = record {
 made-claim : (m : Machine) (r : Record) (c : Claim) → IsClaimOf m r c → IsMade m r → IsTrueClaim c
 made-claim m r c is made = is.told ∙ made.made ∙ sym is.makes
 
--- a record that can't be laid isn't as the machine makes it
+-- a record that can't be applied isn't as the machine makes it
 pub unlaid-unmade : (m : Machine) (r : Record) → can_apply m r ≡ false → IsMade m r → ⊥
 unlaid-unmade m r cannot made =
     let none : is_none m.ending ≡ true = and-left (is_none m.ending) _ made.can in
@@ -32,7 +32,7 @@ unlaid-unmade m r cannot made =
     let can : can_apply m r ≡ true = rw (none, fit) refl in
     absurd (let no : true ≡ false = sym can ∙ cannot in cc)
 
--- a record that can be laid is of a ready thread, which may make a step
+-- a record that can be applied is of a ready thread, which may make a step
 pub apply_can : (m : Machine) (r : Record) → can_apply m r ≡ true → can_step m r.thread ≡ true
 apply_can m r can =
     fits-can_step m r (and-left (is_none m.ending) (fits m r) can) (and-right (is_none m.ending) (fits m r) can)
@@ -85,12 +85,12 @@ claims-far m rs [] after None led found =
 claims-far m rs [] after (Some i) led found = absurd found
 claims-far m [] (c ∷ cs) after first led found = absurd led
 claims-far m (r ∷ rs) (c ∷ cs) after None led found = λ p rest.
-    step p (claims-far (lay m r) rs cs after None led.1.1 found.1 p rest)
+    step p (claims-far (apply m r) rs cs after None led.1.1 found.1 p rest)
   where
     made : IsMade m r
     made = claim-made m r c led.0 led.1.0 found.0
 
-    step : (p : Option ℕ) → IsFirstFalseFrom (lay m r) rs (first_of_both None (length cs) p)
+    step : (p : Option ℕ) → IsFirstFalseFrom (apply m r) rs (first_of_both None (length cs) p)
         → IsFirstFalseFrom m (r ∷ rs) (first_of_both None (suc (length cs)) p)
     step None rest = (made, rest)
     step (Some i) rest =
@@ -98,7 +98,7 @@ claims-far m (r ∷ rs) (c ∷ cs) after None led found = λ p rest.
         subst (λ (k : ℕ). IsFirstFalseFrom m (r ∷ rs) (Some k)) e (made, rest)
 claims-far m (r ∷ rs) (c ∷ cs) after (Some zero) led found = λ made. found (made-claim m r c led.1.0 made)
 claims-far m (r ∷ rs) (c ∷ cs) after (Some (suc i)) led found =
-    (claim-made m r c led.0 led.1.0 found.0, claims-far (lay m r) rs cs after (Some i) led.1.1 found.1)
+    (claim-made m r c led.0 led.1.0 found.0, claims-far (apply m r) rs cs after (Some i) led.1.1 found.1)
 
 -- and their turns are those of the first records
 pub claims-turns :
@@ -109,25 +109,25 @@ claims-turns m [] (c ∷ cs) after led = absurd led
 claims-turns m (r ∷ rs) (c ∷ cs) after led =
     let one : (record_of m r.thread).kept.count ≡ (made_by c).kept.count =
     ap (λ (x : Record). x.kept.count) (sym led.1.0.makes) in
-    let step : turns_from m (r ∷ rs) ≡ (record_of m r.thread).kept.count + turns_from (lay m r) rs =
-    ap (λ (b : Bool). cond b ((record_of m r.thread).kept.count + turns_from (lay m r) rs) 0) led.0 in
-    step ∙ omega (arith, one, claims-turns (lay m r) rs cs after led.1.1)
+    let step : turns_from m (r ∷ rs) ≡ (record_of m r.thread).kept.count + turns_from (apply m r) rs =
+    ap (λ (b : Bool). cond b ((record_of m r.thread).kept.count + turns_from (apply m r) rs) 0) led.0 in
+    step ∙ omega (arith, one, claims-turns (apply m r) rs cs after led.1.1)
 
 -- one claim more
 pub claims-more :
     (m : Machine) (rs : List Record) (cs : List Claim) (after : Machine) (r : Record) (c : Claim)
     → AreClaims m rs cs after → slice_get rs (length cs) ≡ Some r → can_apply after r ≡ true → IsClaimOf after r c
-    → AreClaims m rs (cs ++ c ∷ []) (lay after r)
+    → AreClaims m rs (cs ++ c ∷ []) (apply after r)
 claims-more m [] [] after r c led there can is = let no : None ≡ Some r = there in cc
 claims-more m (x ∷ rs) [] after r c led there can is =
     let same : x ≡ r = cc in
-    subst (λ (y : Record). AreClaims m (y ∷ rs) (c ∷ []) (lay after r)) (sym same) (
+    subst (λ (y : Record). AreClaims m (y ∷ rs) (c ∷ []) (apply after r)) (sym same) (
       subst (λ (n : Machine). can_apply n r ≡ true) led can,
-      (subst (λ (n : Machine). IsClaimOf n r c) led is, ap (λ (n : Machine). lay n r) led),
+      (subst (λ (n : Machine). IsClaimOf n r c) led is, ap (λ (n : Machine). apply n r) led),
     )
 claims-more m [] (d ∷ cs) after r c led there can is = absurd led
 claims-more m (x ∷ rs) (d ∷ cs) after r c led there can is =
-    (led.0, (led.1.0, claims-more (lay m x) rs cs after r c led.1.1 there can is))
+    (led.0, (led.1.0, claims-more (apply m x) rs cs after r c led.1.1 there can is))
 
 none-there : (n : ℕ) → slice_get {X = Record} [] n ≡ None
 none-there zero = refl

@@ -1,9 +1,9 @@
--- Records that are laid, each with the job that should make it, and what is found where these jobs are executed.
+-- Records that are applied, each with the job that should make it, and what is found where these jobs are executed.
 use Rattle.std.specs.Prelude.{◌≡◌, ℕ, zero, suc, ◌+◌, ◌*◌, ◌^◌, ◌≤◌, true, List, [], ◌∷◌, length, Option, Some, None}
 use Rattle.std.specs.Arc.{arc_value}
 use Rattle.record_spec.specs.Record.{Record, kept_thunk}
 use Rattle.machine_spec.specs.Machine.{Machine}
-use Rattle.machine_spec.specs.Step.{lay}
+use Rattle.machine_spec.specs.Step.{apply}
 use Rattle.machine_spec.specs.Schedule.{record_of}
 use Rattle.release_core.specs.Applying.{can_apply}
 use Rattle.memo_audit.specs.declared.claims.Claim.{Claim}
@@ -28,11 +28,12 @@ pub record IsClaimOf (m : Machine) (r : Record) (c : Claim) : Type 0 where
   pub told : arc_value c.rec ≡ r
   pub makes : made_by c ≡ record_of m r.thread
 
--- Claims of the first of some records, each of which can be laid where those before it were, and the machine after them.
+-- Claims of the first of some records, each of which can be applied where those before it were, and the machine after
+-- them.
 abbrev pub AreClaims : Machine → List Record → List Claim → Machine → Type 0
 AreClaims m rs [] after = after ≡ m
 AreClaims m [] (c ∷ cs) after = ⊥
-AreClaims m (r ∷ rs) (c ∷ cs) after = (can_apply m r ≡ true) × (IsClaimOf m r c × AreClaims (lay m r) rs cs after)
+AreClaims m (r ∷ rs) (c ∷ cs) after = (can_apply m r ≡ true) × (IsClaimOf m r c × AreClaims (apply m r) rs cs after)
 
 -- The turns of the thunks of claims.
 abbrev pub turns_in : List Claim → ℕ

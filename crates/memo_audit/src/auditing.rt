@@ -12,22 +12,22 @@ use release_core::{Core, History, Records};
 use std::alloc::{AllocError, Global};
 use std::thread::Threads;
 
-/// The first false one of some records, which are laid from a machine on, and how many turns their thunks make.
+/// The first false one of some records, which are applied from a machine on, and how many turns their thunks make.
 fn verdict_from<R: Threads + Sync>(
     rt: &R,
     alloc: Global,
-    mut core: Core,
+    core: &mut Core,
     records: &Records,
     workers: u32,
 ) -> Result<Verdict, AllocError>
-    ensures first { IfOk result (λ verdict. IsFirstFalseFrom core records.now verdict.first) }
+    ensures first { IfOk result (λ verdict. IsFirstFalseFrom core.old records.now verdict.first) }
     ensures instructions { IfOk result (λ verdict. verdict.instructions
-        ≡ turns_from core records.now) }
+        ≡ turns_from core.old records.now) }
 {
     let mut found = Verdict::of_none();
     let mut place = 0;
     while place < records.len() {
-        let claims = claims_from(alloc, &mut core, records, place)?;
+        let claims = claims_from(alloc, core, records, place)?;
         if claims.is_empty() {
             return Ok(found.closed(place as u32, true));
         }
@@ -38,10 +38,10 @@ fn verdict_from<R: Threads + Sync>(
     Ok(found.closed(place as u32, core.ended().is_none()))
 }
 
-/// Whether a history is honest: its records are laid one after the other, the thunk of each is executed again on what
-/// it was laid on, by so many workers side by side, and what it makes is compared with the record. The verdict depends on
-/// the history alone, and not on the number of workers or on what they do first. The memory that it takes is that of a run
-/// of the history, and of the views of 4,096 steps.
+/// Whether a history is honest: its records are applied one after the other, the thunk of each is executed again on
+/// what it was applied to, by so many workers side by side, and what it makes is compared with the record. The verdict
+/// depends on the history alone, and not on the number of workers or on what they do first. The memory that it takes is
+/// that of a run of the history, and of the views of 4,096 steps.
 ///
 /// # Errors
 ///
@@ -60,6 +60,6 @@ pub fn audit<R: Threads + Sync>(
 {
     audit_spec::honest_has_no_false_record();
     audit_spec::audits_agree();
-    let core = Core::new(alloc, history.setup())?;
-    verdict_from(rt, alloc, core, history.records(), workers)
+    let mut core = Core::new(alloc, history.setup())?;
+    verdict_from(rt, alloc, &mut core, history.records(), workers)
 }

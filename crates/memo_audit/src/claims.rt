@@ -1,4 +1,4 @@
-//! Records that are laid, with what their thunks are executed on.
+//! Records that are applied, with what their thunks are executed on.
 
 ghost use Rattle.std.specs.Prelude.{◌≡◌, ◌≤◌, ◌+◌, true, false, [], length, drop, slice_get, Some, IfOk, OnOk};
 ghost use Rattle.std.specs.Arc.{arc_value};
@@ -20,27 +20,27 @@ const MOST_CLAIMS: usize = 4_096;
 /// What a record claims: that this job makes it.
 #[derive(Drop)]
 pub struct Claim {
-    /// The next thunk of the record's thread, where the record was laid.
+    /// The next thunk of the record's thread, where the record was applied.
     pub job: Job,
     /// The record.
     pub rec: Arc<Record>,
 }
 
-/// The claim of a record that can be laid, and is.
+/// The claim of a record that can be applied, and is.
 #[tactic(auto, using(crate::proofs::Following::apply_ready, crate::proofs::Following::apply_can))]
 fn claim_of(core: &mut Core, rec: &Arc<Record>) -> Result<Claim, AllocError>
     requires { can_apply core.old (arc_value rec.now) ≡ true }
     ensures claim { IfOk result (IsClaimOf core.old (arc_value rec.now)) }
-    ensures laid { OnOk result (core.new ≡ step.lay core.old (arc_value rec.now)) }
+    ensures applied { OnOk result (core.new ≡ step.apply core.old (arc_value rec.now)) }
 {
     let job = core.start_of(rec.thread())?;
     let rec = Arc::try_clone(rec)?;
-    core.lay(&rec)?;
+    core.apply(&rec)?;
     Ok(Claim { job, rec })
 }
 
-/// The claims of the records from a place on that can be laid, and are; no more than `MOST_CLAIMS`. There is none only
-/// where the record there can't be laid.
+/// The claims of the records from a place on that can be applied, and are; no more than `MOST_CLAIMS`. There is none
+/// only where the record there can't be applied.
 ///
 /// # Errors
 ///

@@ -6,7 +6,8 @@ use Rattle.std.proofs.lemmas.Bool.{ne_eqb}
 use Rattle.std.proofs.lemmas.List.{nil_from_length}
 use Rattle.std.proofs.lemmas.List.Sums.{sum_by-cons}
 use Rattle.std.proofs.lemmas.Option.{slice_get-get_or}
-use Rattle.memory_spec.specs.Pages.{Mapped, slot_of}
+use Rattle.memory_spec.specs.Pages.{Mapped, slot_of, AreAddressable}
+use Rattle.memory_spec.specs.declared.TheConstants.{PAGE_NUMBERS}
 use Rattle.record_spec.specs.Delta.{PageDelta, chosen}
 use Rattle.record_spec.specs.Record.{Record}
 use Rattle.history_spec.specs.History.{History}
@@ -45,11 +46,11 @@ stored_at d s k is len within marked =
     rw b (chosen_at s.mask s.page k len marked ∙ slice_get-get_or s.page k 0 within)
 
 -- Behind the last address no page has its slot.
-pub no_slot : (map : List Mapped) (address : ℕ) → All (λ m. m.number < 2 ^ 20) map → 2 ^ 32 ≤ address
+pub no_slot : (map : List Mapped) (address : ℕ) → AreAddressable map → 2 ^ 32 ≤ address
     → slot_of map address ≡ length map
 no_slot [] address small far = refl
 no_slot (m ∷ map) address small far =
-    let first : m.number < 2 ^ 20 = small 0 m (omega arith) in
+    let first : m.number < PAGE_NUMBERS = small 0 m (omega arith) in
     let ne : m.number ≢ address / 4096 = λ e. omega arith in
     rw (ne_eqb m.number (address / 4096) ne, no_slot map address (λ k d lt. small (suc k) d (omega arith)) far) refl
 

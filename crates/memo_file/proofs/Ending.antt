@@ -18,7 +18,7 @@ use Rattle.std.specs.Int.{w32}
 use Rattle.memo_file.specs.Wholes.{uses_all}
 use Rattle.memo_spec.specs.Reader.{onward, done, number_at, ruled, limited}
 use Rattle.memo_spec.specs.Reading.{RecordState, is_within, setup_at, pool_and_records_at, todays, ended, history_at, behind_version, taken_as, IsTaken}
-use Rattle.memo_spec.specs.Spelling.{word, profile, memo, IsSpellable}
+use Rattle.memo_spec.specs.Encoding.{word, profile, memo, IsEncodable}
 use Rattle.memo_spec.proofs.Formats.{ok_is, wide32, agrees_number, agrees_tested}
 use Rattle.memo_spec.proofs.Laws.{memo_taken}
 use Rattle.memo_file.specs.declared.error.ReadError.{ReadError}
@@ -140,6 +140,6 @@ pub no_refusal : (e : ReadError) (r : Result History Refusal) (h : History) → 
 no_refusal errors.NoMemory r h fails taken = refl
 no_refusal (errors.Refused why) r h fails taken = absurd cc
 
-pub written_taken : (bytes : List ℕ) (h : History) → IsSpellable h → is_coherent h ≡ true → bytes ≡ memo h
+pub written_taken : (bytes : List ℕ) (h : History) → IsEncodable h → is_coherent h ≡ true → bytes ≡ memo h
     → IsTaken bytes h
 written_taken bytes h fit whole is = subst (λ (b : List ℕ). IsTaken b h) (sym is) (memo_taken h fit whole)

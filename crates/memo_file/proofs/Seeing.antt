@@ -1,7 +1,7 @@
 -- The pages of a pool, and those that were seen.
 use Rattle.std.proofs.Common.{◌≡◌, ◌⊎◌, ℕ, Bool, true, false, cond, ◌||◌, List, [], ◌∷◌, ◌++◌, Option, Some, refl, sym, ap, ◌∙◌, inl, inr}
 use Rattle.std.specs.Prelude.{bytes_eq, is_some}
-use Rattle.memo_spec.specs.Spelling.{has_page}
+use Rattle.memo_spec.specs.Encoding.{has_page}
 use Rattle.memo_spec.proofs.Pool.{bytes_tell}
 
 abbrev Piece : Type 0

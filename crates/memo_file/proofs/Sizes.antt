@@ -1,9 +1,10 @@
--- The page map of a setup has small numbers, and what spells a history has its slots in it.
+-- The page map of a setup has small numbers, and what encodes a history has its slots in it.
 use Rattle.std.proofs.Common.{◌≡◌, ℕ, zero, suc, ◌+◌, ◌^◌, ◌<◌, ◌≤◌, List, [], ◌∷◌, ◌++◌, length, map, All, Ok, arith}
 use Rattle.std.specs.Prelude.{slice_index}
 use Rattle.std.specs.List.{AllByRecursion, range_with_len}
 use Rattle.std.proofs.lemmas.List.Elements.{All-from_recursion, recursion_from_All}
-use Rattle.memory_spec.specs.Pages.{Mapped}
+use Rattle.memory_spec.specs.Pages.{Mapped, AreAddressable}
+use Rattle.memory_spec.specs.declared.TheConstants.{PAGE_NUMBERS}
 use Rattle.elf_spec.specs.Image.{image_pages}
 use Rattle.elf_spec.proofs.Touched.{pages_inside}
 use Rattle.record_spec.specs.Record.{Record}
@@ -12,12 +13,12 @@ use Rattle.record_spec.specs.Delta.{PageDelta}
 use Rattle.machine_spec.specs.Setup.{Setup, IsSetup, map_of, data_pages}
 use Rattle.history_spec.specs.History.{History, IsMappedIn, IsMapped}
 use Rattle.ith_fields.specs.Place.{Place}
-use Rattle.memo_spec.specs.Spelling.{IsReadPage, IsStoredPage, IsRecord, IsSpellable}
+use Rattle.memo_spec.specs.Encoding.{IsReadPage, IsStoredPage, IsRecord, IsEncodable}
 use Rattle.memo_spec.specs.Reading.{history_at}
 use Rattle.memo_spec.proofs.Top.{agrees_history}
 
 abbrev IsSmall : Mapped → Type 0
-IsSmall m = m.number < 2 ^ 20
+IsSmall m = m.number < PAGE_NUMBERS
 
 both : {A : Type 0} (P : A → Type 0) (xs ys : List A) → AllByRecursion P xs → AllByRecursion P ys
     → AllByRecursion P (xs ++ ys)
@@ -49,7 +50,7 @@ small s h =
     (both IsSmall (image_pages s.elf) (data_pages 0xC0000 1) image (data_small 0xC0000 1 (omega arith)))
     (data_small 0xC0001 256 (omega arith))) (data_small 0xD0000 512 (omega arith))
 
-pub small_pages : (s : Setup) → IsSetup s → All (λ (m : Mapped). m.number < 2 ^ 20) (map_of s)
+pub small_pages : (s : Setup) → IsSetup s → AreAddressable (map_of s)
 small_pages s h = All-from_recursion IsSmall (map_of s) (small s h)
 
 weaker : {A : Type 0} (P Q : A → Type 0) → ((x : A) → P x → Q x) → (xs : List A) → AllByRecursion P xs
@@ -65,12 +66,12 @@ mapped_in pages fuel r h = record {
       (weaker (IsStoredPage pages) (λ (d : PageDelta). d.slot < length pages) (λ d i. i.mapped) r.kept.delta h.delta);
 }
 
-spellable_is_mapped : (h : History) → IsSpellable h → IsMapped h
-spellable_is_mapped h s =
+encodable_is_mapped : (h : History) → IsEncodable h → IsMapped h
+encodable_is_mapped h s =
     All-from_recursion (IsMappedIn (length (map_of h.setup))) h.records
     (weaker (IsRecord (map_of h.setup) h.setup.fuel) (IsMappedIn (length (map_of h.setup)))
     (mapped_in (map_of h.setup) h.setup.fuel) h.records s.records)
 
 pub read_is_mapped : (p : Place) (h : History) (q : Place) → ((i : ℕ) → slice_index p.left i < 256)
     → history_at p ≡ Ok (h, q) → IsMapped h
-read_is_mapped p h q bytes e = spellable_is_mapped h (agrees_history.takes p h q bytes e).1
+read_is_mapped p h q bytes e = encodable_is_mapped h (agrees_history.takes p h q bytes e).1

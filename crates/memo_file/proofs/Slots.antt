@@ -2,7 +2,7 @@
 use Rattle.std.proofs.Common.{◌≡◌, ℕ, suc, ◌+◌, ◌*◌, ◌/◌, ◌^◌, ◌<◌, ◌≤◌, Bool, true, false, not, cond, List, [], ◌∷◌, length, All, refl, ap, ◌∙◌, arith}
 use Rattle.std.specs.Prelude.{◌==◌}
 use Rattle.std.proofs.lemmas.Bool.{ne_eqb}
-use Rattle.memory_spec.specs.Pages.{Mapped, slot_of}
+use Rattle.memory_spec.specs.Pages.{Mapped, slot_of, AreAddressable}
 use Rattle.memo_spec.specs.Reading.{slot_of_number}
 
 flip : (b : Bool) (a : ℕ) → cond b 0 (suc a) ≡ cond (not b) (1 + a) 0
@@ -17,7 +17,7 @@ slot_of_is (m ∷ pages) n =
     ∙ ap (λ (k : ℕ). cond (m.number == n) 0 (suc k)) (slot_of_is pages n)
     ∙ flip (m.number == n) (slot_of_number pages n)
 
-pub far : (pages : List Mapped) (n : ℕ) → All (λ (m : Mapped). m.number < 2 ^ 20) pages → 2 ^ 20 ≤ n
+pub far : (pages : List Mapped) (n : ℕ) → AreAddressable pages → 2 ^ 20 ≤ n
     → slot_of_number pages n ≡ length pages
 far [] n small le = refl
 far (m ∷ pages) n small le =

@@ -11,7 +11,7 @@ use Rattle.std.proofs.lemmas.List.{append-nil, length-append, length-map}
 use Rattle.record_spec.specs.Record.{Record}
 use Rattle.record_spec.specs.Reads.{ReadPage}
 use Rattle.history_spec.specs.History.{History}
-use Rattle.memo_spec.specs.Spelling.{has_page, with_page, index_in, pages_read, pool_of}
+use Rattle.memo_spec.specs.Encoding.{has_page, with_page, index_in, pages_read, pool_of}
 use Rattle.memo_spec.proofs.Order.{Pages, has_in_front, index_push, index_new, fold_front, fold_append, write_step}
 use Rattle.memo_spec.proofs.Pool.{bytes_tell}
 use Rattle.memo_file.specs.WritingPool.{pages_lent, bytes_read, places_from, StandsAt, IsIndexed, IsPoolOf}

@@ -10,7 +10,7 @@ use Rattle.memory_spec.specs.Pages.{Mapped}
 use Rattle.record_spec.specs.Record.{Record}
 use Rattle.record_spec.specs.Reads.{ReadPage}
 use Rattle.history_spec.specs.History.{IsMappedIn}
-use Rattle.memo_spec.specs.Spelling.{word, page_number, index_in, read_page, pages_read}
+use Rattle.memo_spec.specs.Encoding.{word, page_number, index_in, read_page, pages_read}
 use Rattle.memo_file.specs.WritingPool.{bytes_read, ArePlaced}
 use Rattle.memo_file.proofs.WritingPool.{drop_at, pages_from}
 

@@ -14,7 +14,7 @@ use Rattle.record_spec.specs.Reads.{ReadPage}
 use Rattle.record_spec.specs.Record.{Record}
 use Rattle.machine_spec.specs.Setup.{map_of}
 use Rattle.history_spec.specs.History.{History}
-use Rattle.memo_spec.specs.Spelling.{head, byte, half, word, registers, end_number, page_number, mask, read_page, stored_page, record_bytes, pages_read, pool_of, body, memo_in, memo, SpellsIn, IsStoredPage, IsRecord, IsSpellable}
+use Rattle.memo_spec.specs.Encoding.{head, byte, half, word, registers, end_number, page_number, mask, read_page, stored_page, record_bytes, pages_read, pool_of, body, memo_in, memo, EncodesIn, IsStoredPage, IsRecord, IsEncodable}
 use Rattle.memo_spec.specs.declared.Format.TheVariants.{Version2}
 use Rattle.memo_spec.proofs.Chains.{few_reads, few_stored}
 use Rattle.memo_spec.proofs.Masks.{marks_again}
@@ -113,7 +113,7 @@ length_pool [] all = refl
 length_pool (page ∷ pool) all = omega (arith, length-append page (concat pool), all.0.0, length_pool pool all.1)
 
 -- The pages of a history's pool are pages.
-pool_pages : (h : History) → IsSpellable h → AllByRecursion IsPage (pool_of h)
+pool_pages : (h : History) → IsEncodable h → AllByRecursion IsPage (pool_of h)
 pool_pages h s = fold_pages (pages_read h.records) [] (read_pages (map_of h.setup) h.setup.fuel h.records s.records) tt
 
 eleven_parts : (a c d e f g h i j k l : List ℕ)
@@ -122,7 +122,7 @@ eleven_parts : (a c d e f g h i j k l : List ℕ)
     length k + length l
 eleven_parts a c d e f g h i j k l = simp length-append
 
-length_body : (h : History) → IsSpellable h → length (body Version2 h) + 32 ≡ memo_size h (length (pool_of h))
+length_body : (h : History) → IsEncodable h → length (body Version2 h) + 32 ≡ memo_size h (length (pool_of h))
 length_body h s =
     let parts = eleven_parts (head Version2) (word (length h.setup.elf)) h.setup.elf
     (word (length h.setup.input)) h.setup.input
@@ -138,19 +138,19 @@ length_body h s =
         → 12 + 4 + elf + 4 + input + 4 + 4 + 4 + 4 + pages + records + 32 ≡ 68 + elf + input + 4096 * pool + size
     sum_up elf input pages pool records size p r = omega arith
 
--- What spells a history in version 2 is its memo.
-pub second_is : (bytes : List ℕ) (h : History) → SpellsIn Version2 bytes h → bytes ≡ memo h
+-- What encodes a history in version 2 is its memo.
+pub second_is : (bytes : List ℕ) (h : History) → EncodesIn Version2 bytes h → bytes ≡ memo h
 unfolding memo
 second_is bytes h s = s.is
 
 -- The length of a memo is its size.
-pub length_memo : (h : History) → IsSpellable h → length (memo h) ≡ memo_size h (length (pool_of h))
+pub length_memo : (h : History) → IsEncodable h → length (memo h) ≡ memo_size h (length (pool_of h))
 unfolding memo memo_in
 length_memo h s =
     let text = body Version2 h in
     length-append text (sha256 text) ∙ ap (λ n. length text + n) (length-sha256 text) ∙ length_body h s
 
--- ---- what is known of the records of a history that has a spelling
+-- ---- what is known of the records of a history that has an encoding
 
 record_at : (pages : List Mapped) (fuel : ℕ) (rs : List Record) (k : ℕ) (r : Record)
     → AllByRecursion (IsRecord pages fuel) rs → slice_get rs k ≡ Some r → IsRecord pages fuel r
@@ -161,9 +161,9 @@ record_at pages fuel [] k r all e = absurd (differ e)
 record_at pages fuel (x ∷ rs) zero r all e = let same : x ≡ r = cc in subst (IsRecord pages fuel) same all.0
 record_at pages fuel (x ∷ rs) (suc k) r all e = record_at pages fuel rs k r all.1 e
 
-pub spelled_record : (h : History) (k : ℕ) (r : Record) → IsSpellable h → slice_get h.records k ≡ Some r
+pub encoded_record : (h : History) (k : ℕ) (r : Record) → IsEncodable h → slice_get h.records k ≡ Some r
     → IsRecord (map_of h.setup) h.setup.fuel r
-spelled_record h k r s e = record_at (map_of h.setup) h.setup.fuel h.records k r s.records e
+encoded_record h k r s e = record_at (map_of h.setup) h.setup.fuel h.records k r s.records e
 
 pub few_of : (pages : List Mapped) (fuel : ℕ) (r : Record) → length pages < 2 ^ 16 → IsRecord pages fuel r
     → HasFewPages r
@@ -172,11 +172,11 @@ few_of pages fuel r few h = record {
   delta = omega (arith, few_stored pages r.kept.delta 0 (omega arith) h.delta_ascends h.delta, few);
 }
 
-pub few_in_record : (h : History) (k : ℕ) (r : Record) → IsSpellable h → slice_get h.records k ≡ Some r → HasFewPages r
-few_in_record h k r s e = few_of (map_of h.setup) h.setup.fuel r (few_pages h.setup s.setup) (spelled_record h k r s e)
+pub few_in_record : (h : History) (k : ℕ) (r : Record) → IsEncodable h → slice_get h.records k ≡ Some r → HasFewPages r
+few_in_record h k r s e = few_of (map_of h.setup) h.setup.fuel r (few_pages h.setup s.setup) (encoded_record h k r s e)
 
 -- The read pages of a history are fewer than four bytes can count, and so are those of its pool.
-pub few_read : (h : History) → IsSpellable h → length (pages_read h.records) < 2 ^ 32
+pub few_read : (h : History) → IsEncodable h → length (pages_read h.records) < 2 ^ 32
 few_read h s =
     omega (
       arith,
@@ -185,7 +185,7 @@ few_read h s =
       s.setup.limits.most_steps,
     )
 
-pub few_in_pool : (h : History) → IsSpellable h → length (pool_of h) < 2 ^ 32
+pub few_in_pool : (h : History) → IsEncodable h → length (pool_of h) < 2 ^ 32
 few_in_pool h s = omega (arith, fold_few (pages_read h.records) [], few_read h s)
 
 -- ---- sums so far
@@ -195,7 +195,7 @@ pub sum_from : {A : Type 0} (f : A → ℕ) (xs : List A) (k : ℕ) (x : A) → 
 sum_from f xs k x e = ap (sum_by f) (drop_at xs k x e) ∙ sum_by-cons f x (drop (k + 1) xs)
 
 -- The size of a memo with a pool that is lent is the memo's length.
-pub size_found : (h : History) (lent : List (Bor (List ℕ))) (places : List ℕ) (n : ℕ) → IsSpellable h
+pub size_found : (h : History) (lent : List (Bor (List ℕ))) (places : List ℕ) (n : ℕ) → IsEncodable h
     → n ≡ length lent → IsPoolOf h (pages_lent lent) places → memo_size h n ≡ length (memo h)
 size_found h lent places n s e is =
     ap (memo_size h) (e ∙ sym (length-map lent (λ (p : Bor (List ℕ)). p.now)) ∙ ap length is.pages)

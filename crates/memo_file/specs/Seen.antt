@@ -4,7 +4,7 @@ use Rattle.std.specs.Ordering.{nat_cmp}
 use Rattle.std.specs.BTreeMap.{BTreeMap, get_by}
 use Rattle.std.specs.Borrow.{Bor}
 use Rattle.std.specs.Cmp.Lexicographic.{slice_cmp}
-use Rattle.memo_spec.specs.Spelling.{has_page}
+use Rattle.memo_spec.specs.Encoding.{has_page}
 
 -- A map has exactly the pages of a pool.
 abbrev pub Knows : {X : Type 0} → BTreeMap (Bor (List ℕ)) X → List (List ℕ) → Type 0

@@ -6,7 +6,7 @@ use Rattle.std.specs.Borrow.{Bor}
 use Rattle.std.specs.Cmp.Lexicographic.{slice_cmp}
 use Rattle.record_spec.specs.Reads.{ReadPage}
 use Rattle.history_spec.specs.History.{History}
-use Rattle.memo_spec.specs.Spelling.{has_page, with_page, index_in, pages_read, pool_of}
+use Rattle.memo_spec.specs.Encoding.{has_page, with_page, index_in, pages_read, pool_of}
 
 -- The pages that are lent.
 abbrev pub pages_lent : List (Bor (List ℕ)) → List (List ℕ)

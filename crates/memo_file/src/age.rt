@@ -1,8 +1,8 @@
 //! Whether a memo is from before the standard extension M, or from before reader-writer locks.
 
-ghost use Rattle.std.specs.Prelude.{◌≡◌, ◌<◌, ◌+◌, ◌^◌, true, false, length, take, slice_get, slice_index_or, None, Some, All, IfOk, IfErr, if◌then◌else◌};
+ghost use Rattle.std.specs.Prelude.{◌≡◌, ◌<◌, ◌+◌, true, false, length, take, slice_get, slice_index_or, None, Some, IfOk, IfErr, if◌then◌else◌};
 ghost use Rattle.std.specs.List.{count_by};
-ghost use Rattle.memory_spec.specs.Pages.{slot_of};
+ghost use Rattle.memory_spec.specs.Pages.{slot_of, AreAddressable};
 ghost use Rattle.machine_spec.specs.Setup.{IsSetup, map_of};
 ghost use Rattle.memo_spec.specs.Old.{is_of_m, stored_byte, read_byte, told_byte, whole_word, told_word, ends_at_m, is_before_m, ends_at_lock, is_before_locks, last_number};
 ghost use Rattle.memo_spec.specs.Reading.{is_old_in};
@@ -30,7 +30,8 @@ fn is_of_m(word: u32) -> bool
 fn stored_in(page: &PageDelta, offset: usize) -> Option<u8>
     requires { offset < PAGE_SIZE }
     ensures { result ≡ (if slice_index_or page.now.mask offset false
-        then slice_get page.now.bytes (count_by (λ mark. mark) (take offset page.now.mask)) else None) }
+        then slice_get page.now.bytes (count_by (λ mark. mark) (take offset page.now.mask))
+        else None) }
 {
     let stored = page.stored();
     let bytes = stored.page.bytes();
@@ -79,7 +80,7 @@ fn read_byte(pages: &[ReadPage], slot: usize, offset: usize) -> Option<u8>
 
 /// The slot of an address, or how many pages there are where none has it, as behind the last address.
 fn slot_or_end(slots: &PageMap, address: u64) -> usize
-    requires { All (λ m. m.number < 2 ^ 20) slots.now }
+    requires { AreAddressable slots.now }
     ensures { result ≡ slot_of slots.now address }
 {
     match u32::try_from(address) {
@@ -93,7 +94,7 @@ fn slot_or_end(slots: &PageMap, address: u64) -> usize
 
 /// The byte that a record tells of an address, as its thunk left it: one that was stored, or else one that was read.
 fn told_byte(slots: &PageMap, rec: &Record, address: u64) -> Option<u8>
-    requires { All (λ m. m.number < 2 ^ 20) slots.now }
+    requires { AreAddressable slots.now }
     ensures { result ≡ told_byte slots.now rec.now.kept address }
 {
     let slot = slot_or_end(slots, address);
@@ -121,7 +122,7 @@ fn whole_word(a: Option<u8>, b: Option<u8>, c: Option<u8>, d: Option<u8>) -> Opt
 
 /// The word that a record tells of an address, where it tells each of its bytes.
 fn told_word(slots: &PageMap, rec: &Record, address: u32) -> Option<u32>
-    requires { All (λ m. m.number < 2 ^ 20) slots.now }
+    requires { AreAddressable slots.now }
     ensures { result ≡ told_word slots.now rec.now.kept address }
 {
     let first = u64::from(address);
@@ -135,7 +136,7 @@ fn told_word(slots: &PageMap, rec: &Record, address: u32) -> Option<u32>
 
 /// Whether a record ended by an illegal instruction where it tells one of M.
 fn ends_at_m(slots: &PageMap, rec: &Record) -> bool
-    requires { All (λ m. m.number < 2 ^ 20) slots.now }
+    requires { AreAddressable slots.now }
     ensures { result ≡ ends_at_m slots.now rec.now }
 {
     match rec.end() {
@@ -185,7 +186,8 @@ fn ends_at_lock(rec: &Record) -> bool
 fn refuse_before_locks(history: &History) -> Result<(), ReadError>
     ensures today { IfOk result (λ _. is_before_locks history.now ≡ false) }
     ensures before { IfErr result
-        (λ e. (is_before_locks history.now ≡ true) × (e ≡ Refused (Old (last_number history.now)))) }
+        (λ e. (is_before_locks history.now ≡ true)
+        × (e ≡ Refused (Old (last_number history.now)))) }
 {
     let records = history.records();
     let count = records.len();
@@ -205,7 +207,8 @@ pub fn refuse_old(format: Format, slots: &PageMap, history: &History) -> Result<
     requires sound { IsSetup history.now.setup }
     ensures today { IfOk result (λ _. is_old_in format history.now ≡ false) }
     ensures before { IfErr result
-        (λ e. (is_old_in format history.now ≡ true) × (e ≡ Refused (Old (last_number history.now)))) }
+        (λ e. (is_old_in format history.now ≡ true)
+        × (e ≡ Refused (Old (last_number history.now)))) }
 {
     match format {
         Format::Version1 => {

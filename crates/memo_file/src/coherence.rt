@@ -8,7 +8,7 @@ use crate::error::ReadError;
 use memo_spec::Refusal;
 use release_core::{ApplyError, Core, History};
 
-/// Lays the records of a history one after the other, from a machine on: each has to fit what those before it leave,
+/// Applies the records of a history one after the other, from a machine on: each has to fit what those before it leave,
 /// and the last one alone has to bring the end.
 pub fn hold_together(mut core: Core, history: &History) -> Result<(), ReadError>
     ensures { Gives (λ _. history.now) result
@@ -16,7 +16,7 @@ pub fn hold_together(mut core: Core, history: &History) -> Result<(), ReadError>
 {
     let records = history.records();
     for i in 0..records.len() {
-        match core.apply(records.at(i)) {
+        match core.try_apply(records.at(i)) {
             Ok(()) => {}
             Err(ApplyError::Stale) => {
                 return Err(ReadError::Refused(Refusal::Incoherent(i as u32)));

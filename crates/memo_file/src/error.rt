@@ -7,7 +7,7 @@ use memo_spec::Refusal;
 use std::alloc::{AllocError, AllocFailed};
 
 /// Why a memo wasn't read.
-#[derive(Clone, Copy, Debug, PartialEq, Eq)]
+#[derive(Clone, Copy)]
 pub enum ReadError {
     /// The bytes aren't taken, for this reason.
     Refused(Refusal),

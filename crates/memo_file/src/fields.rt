@@ -69,7 +69,8 @@ pub fn byte(cursor: &mut Cursor) -> Result<u8, ReadError>
 /// A byte below a bound. Another one is against its rule.
 pub fn byte_below(cursor: &mut Cursor, bound: u8) -> Result<u8, ReadError>
     ensures below { IfOk result (λ v. v < bound) }
-    ensures given { Gives (λ v. (v, cursor.new)) result (ruled (number_at w8) (λ n. nat_lt n bound) cursor.old) }
+    ensures given { Gives (λ v. (v, cursor.new)) result
+        (ruled (number_at w8) (λ n. nat_lt n bound) cursor.old) }
     ensures no_memory { IfErr result (λ e. e ≢ errors.NoMemory) }
 {
     let at = cursor.position();
@@ -83,7 +84,8 @@ pub fn byte_below(cursor: &mut Cursor, bound: u8) -> Result<u8, ReadError>
 
 /// A number within a range. Another one is against its rule.
 pub fn word_within(cursor: &mut Cursor, low: u32, high: u32) -> Result<u32, ReadError>
-    ensures given { Gives (λ v. (v, cursor.new)) result (ruled (number_at w32) (is_within low high) cursor.old) }
+    ensures given { Gives (λ v. (v, cursor.new)) result
+        (ruled (number_at w32) (is_within low high) cursor.old) }
     ensures no_memory { IfErr result (λ e. e ≢ errors.NoMemory) }
 {
     let at = cursor.position();
@@ -97,7 +99,8 @@ pub fn word_within(cursor: &mut Cursor, low: u32, high: u32) -> Result<u32, Read
 
 /// This number. Another one is against its rule.
 pub fn word_that_is(cursor: &mut Cursor, number: u32) -> Result<(), ReadError>
-    ensures given { Gives (λ _. (number, cursor.new)) result (ruled (number_at w32) (λ n. n == number) cursor.old) }
+    ensures given { Gives (λ _. (number, cursor.new)) result
+        (ruled (number_at w32) (λ n. n == number) cursor.old) }
     ensures no_memory { IfErr result (λ e. e ≢ errors.NoMemory) }
 {
     let at = cursor.position();

@@ -1,4 +1,4 @@
-//! Memo files: a history that bytes spell is read from them, and its bytes are written.
+//! Memo files: a history that bytes encode is read from them, and its bytes are written.
 #![tactic(auto)]
 
 mod age;

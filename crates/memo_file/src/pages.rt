@@ -1,7 +1,8 @@
 //! The read pages of a record.
 
-ghost use Rattle.std.specs.Prelude.{◌≡◌, ◌≢◌, ◌<◌, ◌^◌, true, suc, length, map, All, IfSome, IfNone, IfOk, IfErr};
+ghost use Rattle.std.specs.Prelude.{◌≡◌, ◌≢◌, ◌<◌, true, suc, length, map, IfSome, IfNone, IfOk, IfErr};
 ghost use Rattle.std.specs.Arc.{arc_value};
+ghost use Rattle.memory_spec.specs.Pages.{AreAddressable};
 ghost use Rattle.record_spec.specs.Ascending.{reads_ascend};
 ghost use Rattle.memo_spec.specs.Reader.{chain};
 ghost use Rattle.memo_spec.specs.Reading.{slot_of_number, slot_at, read_page_at};
@@ -13,6 +14,7 @@ use crate::fields::word;
 use crate::growth::Sources;
 use ith_fields::Cursor;
 use memo_spec::Refusal;
+use memory_spec::PAGE_NUMBERS;
 use page_map::{PageMap, Slot};
 use std::alloc::Global;
 use std::sync::Arc;
@@ -21,12 +23,12 @@ use store_mask::ReadPage;
 /// The slot of the page of a number.
 #[tactic(auto, using(crate::proofs::Slots::slot_of_is, crate::proofs::Slots::far))]
 fn slot_of_page(slots: &PageMap, number: u32) -> Option<Slot>
-    requires small { All (λ m. m.number < 2 ^ 20) slots.now }
+    requires small { AreAddressable slots.now }
     ensures found { IfSome result (λ slot. (slot ≡ slot_of_number slots.now number)
         × (slot < length slots.now)) }
     ensures missing { IfNone result (slot_of_number slots.now number ≡ length slots.now) }
 {
-    if number < 1 << 20 {
+    if number < PAGE_NUMBERS {
         slots.slot_of(number * 4096)
     } else {
         None
@@ -36,7 +38,7 @@ fn slot_of_page(slots: &PageMap, number: u32) -> Option<Slot>
 /// A page number, from a slot on.
 #[tactic(auto, unfolding(memo_spec::specs::Reading::slot_at))]
 pub fn slot(cursor: &mut Cursor, slots: &PageMap, low: usize) -> Result<Slot, ReadError>
-    requires small { All (λ m. m.number < 2 ^ 20) slots.now }
+    requires small { AreAddressable slots.now }
     ensures mapped { IfOk result (λ s. s < length slots.now) }
     ensures given { Gives (λ s. (s, cursor.new)) result (slot_at slots.now low cursor.old) }
     ensures no_memory { IfErr result (λ e. e ≢ errors.NoMemory) }
@@ -57,9 +59,10 @@ fn read_page(
     low: usize,
     used: usize,
 ) -> Result<(ReadPage, usize), ReadError>
-    requires small { All (λ m. m.number < 2 ^ 20) sources.now.slots.now }
+    requires small { AreAddressable sources.now.slots.now }
     ensures mapped { IfOk result (λ x. x.0.slot < length sources.now.slots.now) }
-    ensures given { Gives (λ x. ((x.0, record { low = suc x.0.slot; used = x.1 }), cursor.new)) result
+    ensures given { Gives
+        (λ x. ((x.0, record { low = suc x.0.slot; used = x.1 }), cursor.new)) result
         (read_page_at sources.now.slots.now (map arc_value sources.now.pool.now)
         (record { low = low; used = used }) cursor.old) }
 {
@@ -82,7 +85,7 @@ pub fn read_pages(
     count: u16,
     used: usize,
 ) -> Result<(Vec<ReadPage>, usize, usize), ReadError>
-    requires small { All (λ m. m.number < 2 ^ 20) sources.now.slots.now }
+    requires small { AreAddressable sources.now.slots.now }
     ensures ascend { IfOk result (λ x. reads_ascend 0 x.0.items ≡ true) }
     ensures given { Gives (λ x. ((x.0.items, record { low = x.1; used = x.2 }), cursor.new)) result
         (chain (read_page_at sources.now.slots.now (map arc_value sources.now.pool.now)) count

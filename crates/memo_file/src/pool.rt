@@ -36,7 +36,8 @@ fn pool_page<'a>(
 ) -> Result<Page, ReadError>
     requires knows { Knows seen.old (map arc_value pages.now) }
     ensures knows { IfOk result (λ page. Knows seen.new (map arc_value pages.now ++ page ∷ [])) }
-    ensures given { Gives (λ page. ((page, map arc_value pages.now ++ page ∷ []), cursor.new)) result
+    ensures given { Gives
+        (λ page. ((page, map arc_value pages.now ++ page ∷ []), cursor.new)) result
         (pool_page_at (map arc_value pages.now) cursor.old) }
 {
     let _count = pages.len();

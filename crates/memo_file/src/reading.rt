@@ -1,9 +1,10 @@
 //! A memo is read.
 
-ghost use Rattle.std.specs.Prelude.{◌≡◌, ◌<◌, ◌≤◌, ◌^◌, ℕ, true, false, length, drop, slice_index, All, IfOk, IfErr};
-ghost use Rattle.history_spec.specs.History.{History as Kept, is_coherent};
+ghost use Rattle.std.specs.Prelude.{◌≡◌, ◌<◌, ◌≤◌, ℕ, true, false, length, drop, slice_index, IfOk, IfErr};
+ghost use Rattle.memory_spec.specs.Pages.{AreAddressable};
+ghost use Rattle.history_spec.specs.History.{History as RecordedHistory, is_coherent};
 ghost use Rattle.machine_spec.specs.Setup.{IsSetup, first, map_of};
-ghost use Rattle.memo_spec.specs.Spelling.{IsSpellable, memo};
+ghost use Rattle.memo_spec.specs.Encoding.{IsEncodable, memo};
 ghost use Rattle.memo_spec.specs.Reader.{onward, done, ruled};
 ghost use Rattle.memo_spec.specs.Reading.{history_at, behind_version, pool_and_records_at, taken_as, todays, format_of, reading, IsTaken};
 ghost use Rattle.memo_spec.specs.declared.Format.TheVariants.{Version2};
@@ -38,10 +39,11 @@ fn pool_and_records(
     entries: u32,
 ) -> Result<Records, ReadError>
     requires slots { slots.now ≡ map_of setup.now }
-    requires small { All (λ m. m.number < 2 ^ 20) slots.now }
+    requires small { AreAddressable slots.now }
     requires few { entries ≤ MOST_STEPS }
     ensures { Gives (λ rs. (rs, cursor.new)) result
-        (onward (ruled (pool_and_records_at setup.now entries) uses_all cursor.old) (λ x. done x.1)) }
+        (onward (ruled (pool_and_records_at setup.now entries) uses_all cursor.old)
+        (λ x. done x.1)) }
 {
     let at = cursor.position();
     let count = word(cursor)?;
@@ -179,14 +181,14 @@ fn open(bytes: &[u8]) -> Result<(Format, &[u8]), ReadError>
 }
 
 /// What bytes are taken as.
-fn all(alloc: Global, bytes: &[u8]) -> Result<History, ReadError>
+fn read_bytes(alloc: Global, bytes: &[u8]) -> Result<History, ReadError>
     ensures { Gives (λ h. h) result (reading bytes.now) }
 {
     let (format, text) = open(bytes)?;
     read_text(alloc, format, text)
 }
 
-/// The history that the bytes of a memo spell, in version 1 or 2. It holds together, and in version 1 it isn't old.
+/// The history that the bytes of a memo encode, in version 1 or 2. It holds together, and in version 1 it isn't old.
 /// What `write` writes of a history that holds together is read as it.
 ///
 /// # Errors
@@ -194,14 +196,15 @@ fn all(alloc: Global, bytes: &[u8]) -> Result<History, ReadError>
 /// `Refused` with the first reason not to take the bytes, exactly where there is one, or `NoMemory` where the
 /// host's memory ran out.
 pub fn read(alloc: Global, bytes: &[u8]) -> Result<History, ReadError>
-    ensures spelled { IfOk result (λ h. IsTaken bytes.now h) }
+    ensures encoded { IfOk result (λ h. IsTaken bytes.now h) }
     ensures refused { IfErr result (λ e. Fails e (reading bytes.now)) }
-    ensures accepts { (h : Kept) → IsTaken bytes.now h → IsReadAs h result }
-    ensures written { (h : Kept) → IsSpellable h → is_coherent h ≡ true → bytes.now ≡ memo h
+    ensures accepts { (h : RecordedHistory) → IsTaken bytes.now h → IsReadAs h result }
+    ensures written { (h : RecordedHistory) → IsEncodable h → is_coherent h ≡ true
+        → bytes.now ≡ memo h
         → IsReadAs h result }
 {
-    memo_spec::taken_is_spelled(bytes);
-    memo_spec::spelled_is_taken();
-    let history = all(alloc, bytes)?;
+    memo_spec::taken_is_encoded(bytes);
+    memo_spec::encoded_is_taken();
+    let history = read_bytes(alloc, bytes)?;
     Ok(history.known_coherent())
 }

@@ -1,8 +1,9 @@
 //! The records of a memo.
 
-ghost use Rattle.std.specs.Prelude.{◌≡◌, ◌<◌, ◌≤◌, ◌^◌, ◌==◌, ◌++◌, ◌∷◌, [], map, All, IfOk};
+ghost use Rattle.std.specs.Prelude.{◌≡◌, ◌<◌, ◌≤◌, ◌==◌, ◌++◌, ◌∷◌, [], map, IfOk};
 ghost use Rattle.std.specs.List.{count_by};
 ghost use Rattle.std.specs.Arc.{arc_value};
+ghost use Rattle.memory_spec.specs.Pages.{AreAddressable};
 ghost use Rattle.history_spec.specs.History.{threads_of_records};
 ghost use Rattle.memo_spec.specs.Reader.{chain};
 ghost use Rattle.memo_spec.specs.Reading.{end_of, record_at};
@@ -49,7 +50,7 @@ fn record(
     sources: &Sources,
     before: &Growing,
 ) -> Result<(Record, usize), ReadError>
-    requires small { All (λ m. m.number < 2 ^ 20) sources.now.slots.now }
+    requires small { AreAddressable sources.now.slots.now }
     ensures thread { IfOk result (λ x. x.0.thread < THREADS) }
     ensures number { IfOk result (λ x. x.0.number
         ≡ count_by (λ t. t == x.0.thread) (threads_of_records before.now.records)) }
@@ -57,7 +58,10 @@ fn record(
         (λ x. (
           (
             x.0,
-            record { earlier = threads_of_records before.now.records ++ x.0.thread ∷ []; used = x.1 },
+            record {
+              earlier = threads_of_records before.now.records ++ x.0.thread ∷ [];
+              used = x.1;
+            },
           ),
           cursor.new,
         ))
@@ -92,10 +96,12 @@ pub fn read_records(
     sources: &Sources,
     entries: u32,
 ) -> Result<Growing, ReadError>
-    requires small { All (λ m. m.number < 2 ^ 20) sources.now.slots.now }
+    requires small { AreAddressable sources.now.slots.now }
     requires few { entries ≤ MOST_STEPS }
     ensures { Gives (λ g. ((g.records, state_of g), cursor.new)) result
-        (chain (record_at sources.now.slots.now sources.now.fuel (map arc_value sources.now.pool.now)) entries
+        (chain
+        (record_at sources.now.slots.now sources.now.fuel
+        (map arc_value sources.now.pool.now)) entries
         (record { earlier = []; used = 0 }) cursor.old) }
 {
     let mut growing = Growing::new(alloc);

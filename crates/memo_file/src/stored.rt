@@ -1,7 +1,8 @@
 //! The stored pages of a record.
 
-ghost use Rattle.std.specs.Prelude.{◌≡◌, ◌==◌, ◌+◌, ◌*◌, ◌<◌, ◌≤◌, ◌^◌, true, not, suc, length, All, IfOk};
+ghost use Rattle.std.specs.Prelude.{◌≡◌, ◌==◌, ◌+◌, ◌*◌, ◌<◌, ◌≤◌, true, not, suc, length, IfOk};
 ghost use Rattle.std.specs.List.{count_by, list_any};
+ghost use Rattle.memory_spec.specs.Pages.{zero_page, AreAddressable};
 ghost use Rattle.memory_spec.specs.Workspace.{no_marks};
 ghost use Rattle.record_spec.specs.Delta.{chosen, is_stored};
 ghost use Rattle.record_spec.specs.Ascending.{deltas_ascend};
@@ -48,8 +49,10 @@ fn fill_eight(
     requires size { length marks.now ≡ MARK_BYTES }
     requires group { group < MARK_BYTES }
     requires count { length bytes.now ≡ count_by (λ mark. mark) (marks_of marks.now) }
-    requires filled { Filled (marks_of marks.now) bytes.now (8 * group) stored.old.mask stored.old.page first }
-    ensures { Filled (marks_of marks.now) bytes.now (8 * group + 8) stored.new.mask stored.new.page result }
+    requires filled { Filled (marks_of marks.now) bytes.now
+        (8 * group) stored.old.mask stored.old.page first }
+    ensures { Filled (marks_of marks.now) bytes.now
+        (8 * group + 8) stored.new.mask stored.new.page result }
 {
     let byte = marks[group];
     let mut next = first;
@@ -64,10 +67,10 @@ fn fill_eight(
     next
 }
 
-/// Writes bytes, in order, at the places that are marked, and marks these. Eight places without a mark, as most are,
+/// Writes bytes, in order, at the places of a blank page that are marked, and marks these. Eight places without a mark, as most are,
 /// are passed over at once.
 fn fill(stored: &mut StoredPage, marks: &[u8], bytes: &[u8])
-    requires blank { stored.old.mask ≡ no_marks }
+    requires blank { stored.old ≡ record { page = zero_page; mask = no_marks } }
     requires size { length marks.now ≡ MARK_BYTES }
     requires some { list_any (λ byte. not (byte == 0)) marks.now ≡ true }
     requires count { length bytes.now ≡ count_by (λ mark. mark) (marks_of marks.now) }
@@ -75,7 +78,6 @@ fn fill(stored: &mut StoredPage, marks: &[u8], bytes: &[u8])
     ensures mask { stored.new.mask ≡ marks_of marks.now }
     ensures bytes { chosen (marks_of marks.now) stored.new.page ≡ bytes.now }
 {
-    let _page = stored.page.bytes();
     let mut next = 0;
     for group in 0..MARK_BYTES {
         if marks[group] != 0 {
@@ -115,9 +117,10 @@ fn stored_page(
     slots: &PageMap,
     low: usize,
 ) -> Result<PageDelta, ReadError>
-    requires small { All (λ m. m.number < 2 ^ 20) slots.now }
+    requires small { AreAddressable slots.now }
     ensures mapped { IfOk result (λ d. d.slot < length slots.now) }
-    ensures given { Gives (λ d. ((d, suc d.slot), cursor.new)) result (stored_page_at slots.now low cursor.old) }
+    ensures given { Gives (λ d. ((d, suc d.slot), cursor.new)) result
+        (stored_page_at slots.now low cursor.old) }
 {
     let slot = slot(cursor, slots, low)?;
     let marks = marks(cursor)?;
@@ -138,7 +141,7 @@ pub fn stored_pages(
     slots: &PageMap,
     count: u16,
 ) -> Result<(Vec<PageDelta>, usize), ReadError>
-    requires small { All (λ m. m.number < 2 ^ 20) slots.now }
+    requires small { AreAddressable slots.now }
     ensures ascend { IfOk result (λ x. deltas_ascend 0 x.0.items ≡ true) }
     ensures given { Gives (λ x. ((x.0.items, x.1), cursor.new)) result
         (chain (stored_page_at slots.now) count 0 cursor.old) }

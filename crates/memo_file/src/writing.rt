@@ -2,7 +2,7 @@
 
 ghost use Rattle.std.specs.Prelude.{◌≡◌, ◌≤◌, ℕ, List, length, IfOk, IfErr};
 ghost use Rattle.machine_spec.specs.Setup.{map_of};
-ghost use Rattle.memo_spec.specs.Spelling.{IsSpellable, memo, SpellsIn};
+ghost use Rattle.memo_spec.specs.Encoding.{IsEncodable, memo, EncodesIn};
 ghost use Rattle.memo_spec.specs.declared.Format.TheVariants.{Version2};
 ghost use Rattle.memo_file.specs.declared.writing.WriteError.TheVariants.{NoMemory};
 ghost use Rattle.memo_file.specs.WritingErrors.{IsTooLongFor};
@@ -25,7 +25,7 @@ use sizes::size_of_memo;
 use std::alloc::{AllocError, AllocFailed, Global};
 
 /// Why a memo was not written.
-#[derive(Clone, Copy, Debug, PartialEq, Eq)]
+#[derive(Clone, Copy)]
 pub enum WriteError {
     /// The memo would have this many bytes, more than a memo may have.
     TooLong(u64),
@@ -57,7 +57,7 @@ fn write_all(
     history: &History,
     size: usize,
 ) -> Result<Vec<u8>, AllocError>
-    requires spellable { IsSpellable history.now }
+    requires encodable { IsEncodable history.now }
     requires slots { slots.now ≡ map_of history.now.setup }
     requires pool { IsPoolOf history.now (pages_lent pool.now.pages.items) pool.now.places.items }
     ensures { IfOk result (λ bytes. bytes.items ≡ memo history.now) }
@@ -77,12 +77,13 @@ fn write_all(
 /// `TooLong` with the memo's length exactly where that is more than a memo may have and memory is ample, else
 /// `NoMemory` where the host's memory ran out.
 pub fn write(alloc: Global, history: &History) -> Result<Vec<u8>, WriteError>
-    requires { IsSpellable history.now }
+    requires { IsEncodable history.now }
     ensures written { IfOk result (λ bytes. bytes.items ≡ memo history.now) }
     ensures within { IfOk result (λ bytes. length bytes.items ≤ MOST_MEMO_BYTES) }
     ensures too_long { IfErr result (λ e. IsTooLongFor (length (memo history.now)) e) }
     ensures fits { length (memo history.now) ≤ MOST_MEMO_BYTES → IfErr result (λ e. e ≡ NoMemory) }
-    ensures again { (bytes : List ℕ) → SpellsIn Version2 bytes history.now → length bytes ≤ MOST_MEMO_BYTES
+    ensures again { (bytes : List ℕ) → EncodesIn Version2 bytes history.now
+        → length bytes ≤ MOST_MEMO_BYTES
         → IfOk result (λ written. written.items ≡ bytes) × IfErr result (λ e. e ≡ NoMemory) }
 {
     let slots = history.setup().page_map(alloc)?;

@@ -1,4 +1,4 @@
--- Pages and records that were read one after the other are those of a history that has a spelling, and the other way.
+-- Pages and records that were read one after the other are those of a history that has an encoding, and the other way.
 use Rattle.std.proofs.Common.{◌≡◌, ℕ, zero, suc, ◌+◌, ◌^◌, ◌<◌, ◌≤◌, true, leb, eq-eqb, List, [], ◌∷◌, ◌++◌, length, map, refl, sym, ap, subst, ◌∙◌, append_assoc, arith}
 use Rattle.std.specs.Prelude.{slice_index_or}
 use Rattle.std.specs.List.{AllByRecursion, fold}
@@ -10,7 +10,7 @@ use Rattle.record_spec.specs.Reads.{ReadPage}
 use Rattle.record_spec.specs.Record.{Record}
 use Rattle.record_spec.specs.Ascending.{reads_ascend, deltas_ascend}
 use Rattle.history_spec.specs.History.{is_numbered_after}
-use Rattle.memo_spec.specs.Spelling.{with_page, has_page, index_in, IsReadPage, IsStoredPage, IsRecord, pages_read}
+use Rattle.memo_spec.specs.Encoding.{with_page, has_page, index_in, IsReadPage, IsStoredPage, IsRecord, pages_read}
 use Rattle.memo_spec.specs.Reading.{ReadState, RecordState, used_after}
 use Rattle.memo_spec.proofs.Formats.{Chained}
 use Rattle.memo_spec.proofs.Pool.{IsPool, index_back}

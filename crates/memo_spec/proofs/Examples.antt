@@ -10,12 +10,12 @@ use Rattle.record_spec.specs.Delta.{PageDelta}
 use Rattle.record_spec.specs.Reads.{ReadPage}
 use Rattle.record_spec.specs.Record.{Record}
 use Rattle.machine_spec.specs.Setup.{first}
-use Rattle.machine_spec.specs.Step.{lay}
+use Rattle.machine_spec.specs.Step.{apply}
 use Rattle.history_spec.specs.History.{History}
 use Rattle.history_spec.proofs.Examples.{longer, early, early-fits}
 use Rattle.memo_spec.specs.declared.Format.TheVariants.{Version1, Version2}
 use Rattle.memo_spec.specs.declared.Refusal.TheVariants as refusal
-use Rattle.memo_spec.specs.Spelling.{distinct, end_number, mask, record_bytes, body, magic}
+use Rattle.memo_spec.specs.Encoding.{distinct, end_number, mask, record_bytes, body, magic}
 use Rattle.memo_spec.specs.Reading.{behind_version, incoherent_from, taken_as, reading}
 use Rattle.memo_spec.specs.Old.{is_of_m, told_word, last_ends_at_m}
 
@@ -79,7 +79,7 @@ pub record-one :
     ++ (1 ∷ 0 ∷ []) ++ (0x10 ∷ 0x00 ∷ 0x00 ∷ 0x00 ∷ 0b10001001 ∷ 0xaa ∷ 0xbb ∷ 0xcc ∷ [])
 record-one = refl
 
--- A history of no record: what stands before the records. It can't be spelled, for it has no end; its fields can.
+-- A history of no record: what stands before the records. It can't be encoded, for it has no end; its fields can.
 abbrev pub bare : History
 bare = record {
   setup = record { elf = 0x7f ∷ 0x45 ∷ []; input = 1 ∷ 2 ∷ 3 ∷ []; fuel = 0x0302; limit = 6 };
@@ -130,7 +130,7 @@ other-profile = refl
 pub fuel-incoherent : incoherent_from 0 (first longer) (early ∷ []) ≡ Some 0
 fuel-incoherent = rw early-fits (never (is_none (first longer).ending))
   where
-    never : (b : Bool) → cond (b && false) (incoherent_from 1 (lay (first longer) early) []) (Some 0) ≡ Some 0
+    never : (b : Bool) → cond (b && false) (incoherent_from 1 (apply (first longer) early) []) (Some 0) ≡ Some 0
     never true = refl
     never false = refl
 

@@ -1,4 +1,4 @@
--- The readers of a record's fields agree with their spellings.
+-- The readers of a record's fields agree with their encodings.
 use Rattle.std.proofs.Common.{◌≡◌, ℕ, suc, ◌^◌, ◌<◌, ◌≤◌, Bool, true, not, ◌&&◌, List, [], ◌∷◌, ◌++◌, length, get_or, drop, refl, sym, ap, subst, ◌∙◌, arith}
 use Rattle.std.specs.Prelude.{◌==◌, nat_le, nat_lt}
 use Rattle.std.specs.List.{AllByRecursion, flat_map, list_any}
@@ -9,7 +9,7 @@ use Rattle.std.specs.Cmp.Derive.{both_true}
 use Rattle.isa_spec.specs.Registers.{Registers}
 use Rattle.memory_spec.specs.Pages.{Mapped}
 use Rattle.record_spec.specs.Delta.{is_stored}
-use Rattle.memo_spec.specs.Spelling.{AreBytes, AreRegisters, word, registers, page_number, mask}
+use Rattle.memo_spec.specs.Encoding.{AreBytes, AreRegisters, word, registers, page_number, mask}
 use Rattle.memo_spec.specs.Reader.{◌>>=◌, done, bytes_at, number_at, ruled, each}
 use Rattle.memo_spec.specs.Reading.{registers_at, slot_of_number, slot_at, marks_of, mask_at}
 use Rattle.memo_spec.proofs.Formats.{Agrees, agrees_then, agrees_done, agrees_said, agrees_part, agrees_tested, agrees_number, agrees_bytes, agrees_each, wide32}

@@ -1,4 +1,4 @@
--- A reader agrees with a spelling: what it reads is spelled so, and what is spelled so it reads again.
+-- A reader agrees with an encoding: what it reads is encoded so, and what is encoded so it reads again.
 use Rattle.std.proofs.Common.{◌≡◌, ℕ, zero, suc, ◌+◌, ◌^◌, ◌<◌, ◌≤◌, Bool, true, false, cond, ltb, List, [], ◌∷◌, ◌++◌, length, get_or, take, drop, Result, Ok, Err, refl, sym, ap, subst, ◌∙◌, append_assoc, arith, inl, inr}
 use Rattle.std.specs.List.{AllByRecursion, flat_map}
 use Rattle.std.specs.Int.{Width, w8, w16, w32, byte_len, from_le_bytes, to_le_bytes}
@@ -8,7 +8,7 @@ use Rattle.std.proofs.lemmas.Nat.{le_bytes_2, le_bytes_4, from_le_bytes-to_le_by
 use Rattle.ith_fields.specs.Place.{Place, Takes}
 use Rattle.memo_spec.specs.declared.Refusal.{Refusal}
 use Rattle.memo_spec.specs.declared.Refusal.TheVariants.{Field}
-use Rattle.memo_spec.specs.Spelling.{AreBytes}
+use Rattle.memo_spec.specs.Encoding.{AreBytes}
 use Rattle.memo_spec.specs.Reader.{Reader, onward, ◌>>=◌, done, past, bytes_at, number_at, tested, each, chain}
 
 abbrev pub IsBytes : List ℕ → Type 0
@@ -37,10 +37,10 @@ pub record Took (p : Place) (text : List ℕ) (q : Place) : Type 0 where
 abbrev pub behind : Place → List ℕ → List ℕ → Place
 behind p text rest = record { taken = p.taken + length text; left = rest }
 
-pub record Agrees {A : Type 0} (read : Reader A) (spell : A → List ℕ) (Fit : A → Type 0) : Type 0 where
-  pub takes : (p : Place) (a : A) (q : Place) → IsBytes p.left → read p ≡ Ok (a, q) → Took p (spell a) q × Fit a
-  pub again : (p : Place) (a : A) (rest : List ℕ) → Fit a → p.left ≡ spell a ++ rest
-      → read p ≡ Ok (a, behind p (spell a) rest)
+pub record Agrees {A : Type 0} (read : Reader A) (encode : A → List ℕ) (Fit : A → Type 0) : Type 0 where
+  pub takes : (p : Place) (a : A) (q : Place) → IsBytes p.left → read p ≡ Ok (a, q) → Took p (encode a) q × Fit a
+  pub again : (p : Place) (a : A) (rest : List ℕ) → Fit a → p.left ≡ encode a ++ rest
+      → read p ≡ Ok (a, behind p (encode a) rest)
 
 abbrev fine : {A : Type 0} → A → Result A Refusal
 fine x = Ok x
@@ -67,32 +67,32 @@ took-then p m q x y s t = record {
   rest = t.rest;
 }
 
--- One reader and then another, whose spellings follow each other.
-pub agrees_then : {A B : Type 0} (read : Reader A) (spell : A → List ℕ) (FitA : A → Type 0)
-    (next : A → Reader B) (spell_next : A → B → List ℕ) (FitB : A → B → Type 0) (whole : B → List ℕ) (Fit : B → Type 0)
-    → Agrees read spell FitA → ((a : A) → FitA a → Agrees (next a) (spell_next a) (FitB a))
-    → ((a : A) (b : B) → FitA a → FitB a b → Fit b × (spell a ++ spell_next a b ≡ whole b))
+-- One reader and then another, whose encodings follow each other.
+pub agrees_then : {A B : Type 0} (read : Reader A) (encode : A → List ℕ) (FitA : A → Type 0)
+    (next : A → Reader B) (encode_next : A → B → List ℕ) (FitB : A → B → Type 0) (whole : B → List ℕ) (Fit : B → Type 0)
+    → Agrees read encode FitA → ((a : A) → FitA a → Agrees (next a) (encode_next a) (FitB a))
+    → ((a : A) (b : B) → FitA a → FitB a b → Fit b × (encode a ++ encode_next a b ≡ whole b))
     → ((b : B) → Fit b → (a : A) × FitA a × FitB a b)
     → Agrees (read >>= next) whole Fit
-agrees_then {A = A} {B = B} read spell FitA next spell_next FitB whole Fit one two join split = record {
+agrees_then {A = A} {B = B} read encode FitA next encode_next FitB whole Fit one two join split = record {
   takes = λ p b q bytes e.
       let x = onward_ok (read p) next (b, q) e in
       let s = one.takes p x.0.0 x.0.1 bytes x.1 in
       let t = (two x.0.0 s.1).takes x.0.1 b q s.0.rest x.2 in
       let j = join x.0.0 b s.1 t.1 in (
-        subst (λ (text : List ℕ). Took p text q) j.1 (took-then p x.0.1 q (spell x.0.0) (spell_next x.0.0 b) s.0 t.0),
+        subst (λ (text : List ℕ). Took p text q) j.1 (took-then p x.0.1 q (encode x.0.0) (encode_next x.0.0 b) s.0 t.0),
         j.0,
       );
   again = λ p b rest fit e.
       let x = split b fit in
       let j = join x.0 b x.1 x.2 in
-      let m = behind p (spell x.0) (spell_next x.0 b ++ rest) in
-      let left : p.left ≡ spell x.0 ++ (spell_next x.0 b ++ rest) = e ∙ ap (λ (l : List ℕ). l ++ rest) (sym j.1)
-      ∙ append_assoc (spell x.0) (spell_next x.0 b) rest in
-      let r1 = one.again p x.0 (spell_next x.0 b ++ rest) x.1 left in
+      let m = behind p (encode x.0) (encode_next x.0 b ++ rest) in
+      let left : p.left ≡ encode x.0 ++ (encode_next x.0 b ++ rest) = e ∙ ap (λ (l : List ℕ). l ++ rest) (sym j.1)
+      ∙ append_assoc (encode x.0) (encode_next x.0 b) rest in
+      let r1 = one.again p x.0 (encode_next x.0 b ++ rest) x.1 left in
       let r2 = (two x.0 x.1).again m b rest x.2 refl in
-      let len : m.taken + length (spell_next x.0 b) ≡ p.taken + length (whole b) =
-      rw (← j.1) (omega (arith, length-append (spell x.0) (spell_next x.0 b))) in
+      let len : m.taken + length (encode_next x.0 b) ≡ p.taken + length (whole b) =
+      rw (← j.1) (omega (arith, length-append (encode x.0) (encode_next x.0 b))) in
       ap (λ (r : Result (A × Place) Refusal). onward r next) r1 ∙ r2
       ∙ ap (λ (n : ℕ). fine (b, record { taken = n; left = rest })) len;
 }
@@ -114,10 +114,10 @@ agrees_done {B = B} b = record {
 }
 
 -- The same format, said otherwise.
-pub agrees_said : {A : Type 0} (read : Reader A) (spell said : A → List ℕ) (Fit Fits : A → Type 0)
-    → Agrees read spell Fit
-    → ((a : A) → Fit a → Fits a × (spell a ≡ said a)) → ((a : A) → Fits a → Fit a) → Agrees read said Fits
-agrees_said read spell said Fit Fits one there back = record {
+pub agrees_said : {A : Type 0} (read : Reader A) (encode said : A → List ℕ) (Fit Fits : A → Type 0)
+    → Agrees read encode Fit
+    → ((a : A) → Fit a → Fits a × (encode a ≡ said a)) → ((a : A) → Fits a → Fit a) → Agrees read said Fits
+agrees_said read encode said Fit Fits one there back = record {
   takes = λ p a q bytes e.
       let t = one.takes p a q bytes e in
       let s = there a t.1 in
@@ -128,27 +128,27 @@ agrees_said read spell said Fit Fits one there back = record {
 }
 
 -- A part of what is read, and then the rest of it.
-pub agrees_part : {A B : Type 0} (read : Reader A) (spell : A → List ℕ) (FitA : A → Type 0)
-    (next : A → Reader B) (spell_next : A → B → List ℕ) (FitB : A → B → Type 0)
-    → Agrees read spell FitA → ((a : A) → FitA a → Agrees (next a) (spell_next a) (FitB a))
+pub agrees_part : {A B : Type 0} (read : Reader A) (encode : A → List ℕ) (FitA : A → Type 0)
+    (next : A → Reader B) (encode_next : A → B → List ℕ) (FitB : A → B → Type 0)
+    → Agrees read encode FitA → ((a : A) → FitA a → Agrees (next a) (encode_next a) (FitB a))
     → (part : B → A) → ((a : A) (b : B) → FitA a → FitB a b → part b ≡ a)
-    → Agrees (read >>= next) (λ b. spell (part b) ++ spell_next (part b) b) (λ b. FitA (part b) × FitB (part b) b)
-agrees_part {A = A} read spell FitA next spell_next FitB one two part tie =
-    agrees_then read spell FitA next spell_next FitB (λ b. spell (part b) ++ spell_next (part b) b)
+    → Agrees (read >>= next) (λ b. encode (part b) ++ encode_next (part b) b) (λ b. FitA (part b) × FitB (part b) b)
+agrees_part {A = A} read encode FitA next encode_next FitB one two part tie =
+    agrees_then read encode FitA next encode_next FitB (λ b. encode (part b) ++ encode_next (part b) b)
     (λ b. FitA (part b) × FitB (part b) b) one two
     (λ a b f g. let e = tie a b f g in (subst (λ (x : A). FitA x × FitB x b) (sym e) (f, g), rw e refl))
     (λ b f. (part b, f.0, f.1))
 
 -- A reader with a test: a rule or a limit.
-pub agrees_tested : {A : Type 0} (read : Reader A) (spell : A → List ℕ) (Fit : A → Type 0) (test : A → Bool)
-    (refusal : Place → Refusal) → Agrees read spell Fit
-    → Agrees (λ p. onward (read p) (λ a. tested (test a) (refusal p) a)) spell (λ a. Fit a × (test a ≡ true))
-agrees_tested {A = A} read spell Fit test refusal one = record {
+pub agrees_tested : {A : Type 0} (read : Reader A) (encode : A → List ℕ) (Fit : A → Type 0) (test : A → Bool)
+    (refusal : Place → Refusal) → Agrees read encode Fit
+    → Agrees (λ p. onward (read p) (λ a. tested (test a) (refusal p) a)) encode (λ a. Fit a × (test a ≡ true))
+agrees_tested {A = A} read encode Fit test refusal one = record {
   takes = λ p a q bytes e.
       let x = onward_ok (read p) (λ a. tested (test a) (refusal p) a) (a, q) e in
       let y = tested_ok (test x.0.0) (refusal p) x.0.0 x.0.1 (a, q) x.2 in
       let t = one.takes p x.0.0 x.0.1 bytes x.1 in
-      subst (λ (z : A × Place). Took p (spell z.0) z.1 × (Fit z.0 × (test z.0 ≡ true))) y.1 (t.0, (t.1, y.0));
+      subst (λ (z : A × Place). Took p (encode z.0) z.1 × (Fit z.0 × (test z.0 ≡ true))) y.1 (t.0, (t.1, y.0));
   again = λ p a rest fit e. rw (one.again p a rest fit.0 e, fit.1) refl;
 }
 
@@ -270,32 +270,32 @@ agrees_number w limit wide = record {
 
 -- ---- so many of a kind
 
-pub agrees_each : {A : Type 0} (read : Reader A) (spell : A → List ℕ) (Fit : A → Type 0) → Agrees read spell Fit
+pub agrees_each : {A : Type 0} (read : Reader A) (encode : A → List ℕ) (Fit : A → Type 0) → Agrees read encode Fit
     → (n : ℕ)
-    → Agrees (each n read) (flat_map spell) (λ xs. (length xs ≡ n) × AllByRecursion Fit xs)
-agrees_each {A = A} read spell Fit one zero =
-    agrees_said (done []) (λ _. []) (flat_map spell) (λ xs. xs ≡ []) (λ xs. (length xs ≡ 0) × AllByRecursion Fit xs)
+    → Agrees (each n read) (flat_map encode) (λ xs. (length xs ≡ n) × AllByRecursion Fit xs)
+agrees_each {A = A} read encode Fit one zero =
+    agrees_said (done []) (λ _. []) (flat_map encode) (λ xs. xs ≡ []) (λ xs. (length xs ≡ 0) × AllByRecursion Fit xs)
     (agrees_done [])
-    (λ xs e. subst (λ (ys : List A). ((length ys ≡ 0) × AllByRecursion Fit ys) × ([] ≡ flat_map spell ys)) (sym e)
+    (λ xs e. subst (λ (ys : List A). ((length ys ≡ 0) × AllByRecursion Fit ys) × ([] ≡ flat_map encode ys)) (sym e)
     ((refl, tt), refl))
     none_left
   where
     none_left : (xs : List A) → (length xs ≡ 0) × AllByRecursion Fit xs → xs ≡ []
     none_left [] h = refl
     none_left (x ∷ xs) h = absurd (omega (arith, h.0))
-agrees_each {A = A} read spell Fit one (suc n) =
-    agrees_then read spell Fit (λ first. each n read >>= λ others. done (first ∷ others))
-    (λ first xs. flat_map spell (drop 1 xs) ++ [])
+agrees_each {A = A} read encode Fit one (suc n) =
+    agrees_then read encode Fit (λ first. each n read >>= λ others. done (first ∷ others))
+    (λ first xs. flat_map encode (drop 1 xs) ++ [])
     (λ first xs. ((length (drop 1 xs) ≡ n) × AllByRecursion Fit (drop 1 xs)) × (xs ≡ first ∷ drop 1 xs))
-    (flat_map spell) (λ xs. (length xs ≡ suc n) × AllByRecursion Fit xs) one
-    (λ first fit. agrees_part (each n read) (flat_map spell) (λ xs. (length xs ≡ n) × AllByRecursion Fit xs)
+    (flat_map encode) (λ xs. (length xs ≡ suc n) × AllByRecursion Fit xs) one
+    (λ first fit. agrees_part (each n read) (flat_map encode) (λ xs. (length xs ≡ n) × AllByRecursion Fit xs)
     (λ others. done (first ∷ others)) (λ others xs. []) (λ others xs. xs ≡ first ∷ others)
-    (agrees_each read spell Fit one n) (λ others _. agrees_done (first ∷ others)) (drop 1)
+    (agrees_each read encode Fit one n) (λ others _. agrees_done (first ∷ others)) (drop 1)
     (λ others xs _ e. ap (drop 1) e))
     (λ first xs fit g. subst
     (λ (ys : List A). ((length ys ≡ suc n) × AllByRecursion Fit ys)
-    × (spell first ++ (flat_map spell (drop 1 xs) ++ []) ≡ flat_map spell ys)) (sym g.1)
-    ((ap suc g.0.0, (fit, g.0.1)), ap (λ (l : List ℕ). spell first ++ l) (append-nil (flat_map spell (drop 1 xs)))))
+    × (encode first ++ (flat_map encode (drop 1 xs) ++ []) ≡ flat_map encode ys)) (sym g.1)
+    ((ap suc g.0.0, (fit, g.0.1)), ap (λ (l : List ℕ). encode first ++ l) (append-nil (flat_map encode (drop 1 xs)))))
     first_left
   where
     first_left : (xs : List A) → (length xs ≡ suc n) × AllByRecursion Fit xs → (x : A) × Fit x
@@ -312,33 +312,33 @@ Chained {S = S} Fit s (a ∷ rest) t = (m : S) × Fit s (a, m) × Chained Fit m 
 abbrev pair : {A S : Type 0} → List A → S → List A × S
 pair xs t = (xs, t)
 
-pub agrees_chain : {S A : Type 0} (step : S → Reader (A × S)) (spell : A → List ℕ) (Fit : S → A × S → Type 0)
-    → ((s : S) → Agrees (step s) (λ x. spell x.0) (Fit s)) → (n : ℕ) (s : S)
-    → Agrees (chain step n s) (λ x. flat_map spell x.0) (λ x. (length x.0 ≡ n) × Chained Fit s x.0 x.1)
-agrees_chain {S = S} {A = A} step spell Fit one zero s =
-    agrees_said (done ([], s)) (λ _. []) (λ x. flat_map spell x.0) (λ x. x ≡ ([], s))
+pub agrees_chain : {S A : Type 0} (step : S → Reader (A × S)) (encode : A → List ℕ) (Fit : S → A × S → Type 0)
+    → ((s : S) → Agrees (step s) (λ x. encode x.0) (Fit s)) → (n : ℕ) (s : S)
+    → Agrees (chain step n s) (λ x. flat_map encode x.0) (λ x. (length x.0 ≡ n) × Chained Fit s x.0 x.1)
+agrees_chain {S = S} {A = A} step encode Fit one zero s =
+    agrees_said (done ([], s)) (λ _. []) (λ x. flat_map encode x.0) (λ x. x ≡ ([], s))
     (λ x. (length x.0 ≡ 0) × Chained Fit s x.0 x.1) (agrees_done ([], s))
-    (λ x e. subst (λ (y : List A × S). ((length y.0 ≡ 0) × Chained Fit s y.0 y.1) × ([] ≡ flat_map spell y.0)) (sym e)
+    (λ x e. subst (λ (y : List A × S). ((length y.0 ≡ 0) × Chained Fit s y.0 y.1) × ([] ≡ flat_map encode y.0)) (sym e)
     ((refl, refl), refl))
     (λ x. none_left x.0 x.1)
   where
     none_left : (xs : List A) (t : S) → (length xs ≡ 0) × Chained Fit s xs t → pair xs t ≡ pair [] s
     none_left [] t h = ap (pair []) h.1
     none_left (x ∷ xs) t h = absurd (omega (arith, h.0))
-agrees_chain {S = S} {A = A} step spell Fit one (suc n) s =
-    agrees_then (step s) (λ x. spell x.0) (Fit s) (λ x. chain step n x.1 >>= λ others. done (x.0 ∷ others.0, others.1))
-    (λ x y. flat_map spell (drop 1 y.0) ++ [])
+agrees_chain {S = S} {A = A} step encode Fit one (suc n) s =
+    agrees_then (step s) (λ x. encode x.0) (Fit s) (λ x. chain step n x.1 >>= λ others. done (x.0 ∷ others.0, others.1))
+    (λ x y. flat_map encode (drop 1 y.0) ++ [])
     (λ x y. ((length (drop 1 y.0) ≡ n) × Chained Fit x.1 (drop 1 y.0) y.1) × (y ≡ (x.0 ∷ drop 1 y.0, y.1)))
-    (λ y. flat_map spell y.0) (λ y. (length y.0 ≡ suc n) × Chained Fit s y.0 y.1) (one s)
-    (λ x fit. agrees_part (chain step n x.1) (λ y. flat_map spell y.0) (λ y. (length y.0 ≡ n) × Chained Fit x.1 y.0 y.1)
+    (λ y. flat_map encode y.0) (λ y. (length y.0 ≡ suc n) × Chained Fit s y.0 y.1) (one s)
+    (λ x fit. agrees_part (chain step n x.1) (λ y. flat_map encode y.0) (λ y. (length y.0 ≡ n) × Chained Fit x.1 y.0 y.1)
     (λ others. done (x.0 ∷ others.0, others.1)) (λ others y. []) (λ others y. y ≡ (x.0 ∷ others.0, others.1))
-    (agrees_chain step spell Fit one n x.1) (λ others _. agrees_done (x.0 ∷ others.0, others.1))
+    (agrees_chain step encode Fit one n x.1) (λ others _. agrees_done (x.0 ∷ others.0, others.1))
     (λ y. (drop 1 y.0, y.1)) (λ others y _ e. ap (λ (z : List A × S). (drop 1 z.0, z.1)) e))
     (λ x y fit g. subst (λ (z : List A × S). ((length z.0 ≡ suc n) × Chained Fit s z.0 z.1)
-    × (spell x.0 ++ (flat_map spell (drop 1 y.0) ++ []) ≡ flat_map spell z.0)) (sym g.1) (
+    × (encode x.0 ++ (flat_map encode (drop 1 y.0) ++ []) ≡ flat_map encode z.0)) (sym g.1) (
       (ap suc g.0.0, (x.1, fit, g.0.1)),
-      ap (λ (l : List ℕ). spell x.0 ++ l)
-          (append-nil (flat_map spell (drop 1 y.0))),
+      ap (λ (l : List ℕ). encode x.0 ++ l)
+          (append-nil (flat_map encode (drop 1 y.0))),
     ))
     (λ y. first_left y.0 y.1)
   where

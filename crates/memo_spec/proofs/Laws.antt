@@ -1,4 +1,4 @@
--- What bytes are taken as is the coherent history that they spell.
+-- What bytes are taken as is the coherent history that they encode.
 use Rattle.std.proofs.Common.{◌≡◌, ℕ, ◌+◌, ◌-◌, ◌≤◌, Bool, true, false, not, cond, ltb, List, [], ◌∷◌, ◌++◌, length, take, drop, Option, Some, None, Result, Ok, Err, refl, sym, ap, subst, ◌∙◌, arith, inl, inr}
 use Rattle.std.specs.Prelude.{◌==◌, ◌&&◌, bytes_eq, is_none, is_some}
 use Rattle.std.proofs.lemmas.Bool.{ltb-false, le-ltb, eqb-true}
@@ -7,15 +7,15 @@ use Rattle.sha2.specs.Sha256.{sha256}
 use Rattle.sha2.proofs.Facts256.{length-sha256}
 use Rattle.record_spec.specs.Record.{Record}
 use Rattle.machine_spec.specs.Machine.{Machine}
-use Rattle.machine_spec.specs.Step.{lay, fits}
+use Rattle.machine_spec.specs.Step.{apply, fits}
 use Rattle.machine_spec.specs.Setup.{first}
-use Rattle.history_spec.specs.History.{History, can_lay_from, laid_from, is_coherent}
+use Rattle.history_spec.specs.History.{History, can_apply_from, applied_from, is_coherent}
 use Rattle.ith_fields.specs.Place.{Place}
 use Rattle.memo_spec.specs.declared.Format.{Format}
 use Rattle.memo_spec.specs.declared.Format.TheVariants.{Version1, Version2}
 use Rattle.memo_spec.specs.declared.Refusal.{Refusal}
 use Rattle.memo_spec.specs.declared.Refusal.TheVariants.{Short, Magic, Digest, Field, Old}
-use Rattle.memo_spec.specs.Spelling.{magic, word, body, memo_in, memo, IsSpellable, SpellsIn, Spells}
+use Rattle.memo_spec.specs.Encoding.{magic, word, body, memo_in, memo, IsEncodable, EncodesIn, Encodes}
 use Rattle.memo_spec.specs.Old.{last_number}
 use Rattle.memo_spec.specs.Reading.{behind_version, incoherent_from, coherent_or, is_old_in, todays, ended, taken_as, version_of, format_of, reading_in, reading, IsTaken}
 use Rattle.memo_spec.proofs.Formats.{IsBytes, IsBytes-drop, IsBytes-take, wide32, behind, ok_is}
@@ -25,7 +25,7 @@ use Rattle.memo_spec.proofs.Top.{number, first_eight, rest_bytes, body_is, agree
 abbrev opens : List ℕ → Place
 opens left = record { taken = 8; left = left }
 
-read_again : (format : Format) (h : History) → IsSpellable h
+read_again : (format : Format) (h : History) → IsEncodable h
     → behind_version format (opens (rest_bytes format h))
     ≡ Ok (h, behind (opens (rest_bytes format h)) (rest_bytes format h) [])
 read_again format h fit = (agrees_behind format).again (opens (rest_bytes format h)) h [] fit
@@ -34,7 +34,7 @@ read_again format h fit = (agrees_behind format).again (opens (rest_bytes format
 rest_is : (format : Format) (h : History) → drop 8 (body format h) ≡ rest_bytes format h
 rest_is format h = ap (drop 8) (body_is format h) ∙ drop_at (first_eight format) (rest_bytes format h) 8 refl
 
-body_taken : (format : Format) (h : History) → IsSpellable h → taken_as format (body format h) ≡ todays format h
+body_taken : (format : Format) (h : History) → IsEncodable h → taken_as format (body format h) ≡ todays format h
 unfolding taken_as
 body_taken format h fit =
     ap (λ (l : List ℕ). ended format (behind_version format (opens l))) (rest_is format h)
@@ -65,7 +65,7 @@ unfolding memo_in
 opens_so Version1 h = (refl, refl)
 opens_so Version2 h = (refl, refl)
 
-memo_read : (format : Format) (h : History) → IsSpellable h → reading (memo_in format h) ≡ todays format h
+memo_read : (format : Format) (h : History) → IsEncodable h → reading (memo_in format h) ≡ todays format h
 unfolding memo_in
 memo_read format h fit =
     let text = body format h in
@@ -77,8 +77,8 @@ memo_read format h fit =
     let o = opens_so format h in
     pass format (text ++ sha256 text) text long o.0 o.1 k.0 k.1 ∙ body_taken format h fit
 
--- The history that bytes spell can be had from them.
-text_of : (format : Format) (h : History) → IsSpellable h
+-- The history that bytes encode can be had from them.
+text_of : (format : Format) (h : History) → IsEncodable h
     → behind_version format (opens (drop 8 (take (length (memo_in format h) - 32) (memo_in format h))))
     ≡ Ok (h, behind (opens (rest_bytes format h)) (rest_bytes format h) [])
 unfolding memo_in
@@ -89,7 +89,7 @@ text_of format h fit =
 abbrev found : History × Place → Result (History × Place) Refusal
 found x = Ok x
 
-one_in : (format : Format) (bytes : List ℕ) (a b : History) → SpellsIn format bytes a → SpellsIn format bytes b → a ≡ b
+one_in : (format : Format) (bytes : List ℕ) (a b : History) → EncodesIn format bytes a → EncodesIn format bytes b → a ≡ b
 one_in format bytes a b p q =
     let e : memo_in format a ≡ memo_in format b = sym p.is ∙ q.is in
     let both : found (a, behind (opens (rest_bytes format a)) (rest_bytes format a) [])
@@ -100,16 +100,16 @@ one_in format bytes a b p q =
     ap (λ (x : History × Place). x.0) (ok_is _ _ both)
 
 -- The bytes tell the format.
-one_format : (f g : Format) (bytes : List ℕ) (a b : History) → SpellsIn f bytes a → SpellsIn g bytes b → f ≡ g
+one_format : (f g : Format) (bytes : List ℕ) (a b : History) → EncodesIn f bytes a → EncodesIn g bytes b → f ≡ g
 one_format f g bytes a b p q =
     let e : Some f ≡ Some g = sym (opens_so f a).1 ∙ ap (λ (l : List ℕ). format_of (version_of l)) (sym p.is ∙ q.is)
     ∙ (opens_so g b).1 in
     cc
 
-pub one_history : (bytes : List ℕ) (a b : History) → Spells bytes a → Spells bytes b → a ≡ b
+pub one_history : (bytes : List ℕ) (a b : History) → Encodes bytes a → Encodes bytes b → a ≡ b
 one_history bytes a b p q =
     let same = one_format p.0 q.0 bytes a b p.1 q.1 in
-    one_in q.0 bytes a b (subst (λ (f : Format). SpellsIn f bytes a) same p.1) q.1
+    one_in q.0 bytes a b (subst (λ (f : Format). EncodesIn f bytes a) same p.1) q.1
 
 -- ---- coherence
 
@@ -123,11 +123,11 @@ none_of_step true c d i o e = e
 none_of_step false c d i o e = refl
 
 coherent_is : (rs : List Record) (m : Machine) (i : ℕ)
-    → is_none (incoherent_from i m rs) ≡ (can_lay_from m rs && is_some (laid_from m rs).ending)
+    → is_none (incoherent_from i m rs) ≡ (can_apply_from m rs && is_some (applied_from m rs).ending)
 coherent_is [] m i = none_of_cond (is_some m.ending) i
-coherent_is (r ∷ rs) m i = none_of_step (is_none m.ending && fits m r) (can_lay_from (lay m r) rs)
-    (is_some (laid_from (lay m r) rs).ending) i (incoherent_from (i + 1) (lay m r) rs)
-    (coherent_is rs (lay m r) (i + 1))
+coherent_is (r ∷ rs) m i = none_of_step (is_none m.ending && fits m r) (can_apply_from (apply m r) rs)
+    (is_some (applied_from (apply m r) rs).ending) i (incoherent_from (i + 1) (apply m r) rs)
+    (coherent_is rs (apply m r) (i + 1))
 
 taken_whole : (o : Option ℕ) (h : History) → is_none o ≡ true → coherent_or o h ≡ Ok h
 taken_whole None h e = refl
@@ -145,22 +145,22 @@ todays_taken format h new whole =
     ap (λ b. cond b (Err (Old (last_number h))) (coherent_or (incoherent_from 0 (first h.setup) h.records) h)) new
     ∙ taken_whole (incoherent_from 0 (first h.setup) h.records) h whole
 
-pub spelled_is_read : (bytes : List ℕ) (h : History) → IsTaken bytes h → reading bytes ≡ Ok h
-spelled_is_read bytes h t =
-    ap reading t.spells.is ∙ memo_read t.format h t.spells.fits
+pub encoded_is_read : (bytes : List ℕ) (h : History) → IsTaken bytes h → reading bytes ≡ Ok h
+encoded_is_read bytes h t =
+    ap reading t.encodes.is ∙ memo_read t.format h t.encodes.fits
     ∙ todays_taken t.format h t.of_today (coherent_is h.records (first h.setup) 0 ∙ t.coherent)
 
 -- What is written of a history that holds together is taken as it.
-pub memo_taken : (h : History) → IsSpellable h → is_coherent h ≡ true → IsTaken (memo h) h
+pub memo_taken : (h : History) → IsEncodable h → is_coherent h ≡ true → IsTaken (memo h) h
 unfolding memo
 memo_taken h fit coherent = record {
   format = Version2;
-  spells = record { fits = fit; is = refl };
+  encodes = record { fits = fit; is = refl };
   of_today = refl;
   coherent = coherent;
 }
 
--- ---- what is read is spelled so
+-- ---- what is read is encoded so
 
 test_ok : (b : Bool) (e : Refusal) (x : Result History Refusal) (h : History) → cond b (Err e) x ≡ Ok h → (b ≡ false)
     × (x ≡ Ok h)
@@ -230,7 +230,7 @@ eight v bytes text tail fits e le m is =
 
 taken_ok : (format : Format) (text : List ℕ) (h : History) → IsBytes (drop 8 text)
     → text ≡ first_eight format ++ drop 8 text → taken_as format text ≡ Ok h
-    → IsSpellable h × (text ≡ body format h) × (is_old_in format h ≡ false) × (is_coherent h ≡ true)
+    → IsEncodable h × (text ≡ body format h) × (is_old_in format h ≡ false) × (is_coherent h ≡ true)
 unfolding taken_as
 taken_ok format text h fits opening p =
     let x = ended_ok format (behind_version format (opens (drop 8 text))) h p in
@@ -241,7 +241,7 @@ taken_ok format text h fits opening p =
     let whole : text ≡ body format x.0.0 =
     opening ∙ ap (λ (l : List ℕ). first_eight format ++ l) left ∙ sym (body_is format x.0.0) in
     let coherent : is_coherent x.0.0 ≡ true = sym (coherent_is x.0.0.records (first x.0.0.setup) 0) ∙ x.4 in
-    subst (λ (k : History). IsSpellable k × (text ≡ body format k) × (is_old_in format k ≡ false)
+    subst (λ (k : History). IsEncodable k × (text ≡ body format k) × (is_old_in format k ≡ false)
     × (is_coherent k ≡ true)) x.2 (t.1, whole, x.5, coherent)
 
 format_ok : (o : Option Format) (bytes : List ℕ) (h : History) → reading_in o bytes ≡ Ok h
@@ -249,9 +249,9 @@ format_ok : (o : Option Format) (bytes : List ℕ) (h : History) → reading_in 
 format_ok None bytes h p = absurd cc
 format_ok (Some format) bytes h p = (format, refl, p)
 
-pub read_is_spelled : (bytes : List ℕ) (h : History) → IsBytes bytes → reading bytes ≡ Ok h → IsTaken bytes h
+pub read_is_encoded : (bytes : List ℕ) (h : History) → IsBytes bytes → reading bytes ≡ Ok h → IsTaken bytes h
 unfolding reading memo_in
-read_is_spelled bytes h fits p =
+read_is_encoded bytes h fits p =
     let n = length bytes - 32 in
     let text = take n bytes in
     let tail = drop n bytes in
@@ -267,7 +267,7 @@ read_is_spelled bytes h fits p =
     let t = taken_ok c.0 text h (IsBytes-drop 8 text (IsBytes-take n bytes fits)) opening d.1 in
     record {
       format = c.0;
-      spells = record {
+      encodes = record {
         fits = t.0;
         is = e ∙ ap (λ (l : List ℕ). text ++ l) (equal_bytes _ _ d.0) ∙ ap (λ (l : List ℕ). l ++ sha256 l) t.1;
       };

@@ -5,7 +5,7 @@ use Rattle.std.proofs.lemmas.Bool.Decides.{eqb_tells}
 use Rattle.std.specs.Prelude.{◌==◌}
 use Rattle.std.specs.List.{AllByRecursion}
 use Rattle.memory_spec.specs.Pages.{Mapped, ascends_above}
-use Rattle.memo_spec.specs.Spelling.{page_number}
+use Rattle.memo_spec.specs.Encoding.{page_number}
 use Rattle.memo_spec.specs.Reading.{slot_of_number}
 
 -- A page map: the numbers ascend, and are words.

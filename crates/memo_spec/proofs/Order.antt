@@ -4,7 +4,7 @@ use Rattle.std.specs.Prelude.{bytes_eq, slice_index_or}
 use Rattle.std.specs.List.{fold}
 use Rattle.std.proofs.lemmas.Bool.{ltb-true, lt-ltb, le-ltb, ne_eqb, cases_lt}
 use Rattle.std.proofs.lemmas.List.{append-nil, length-append}
-use Rattle.memo_spec.specs.Spelling.{AreBytes, has_page, with_page, index_in}
+use Rattle.memo_spec.specs.Encoding.{AreBytes, has_page, with_page, index_in}
 use Rattle.memo_spec.specs.Reading.{used_after}
 use Rattle.memo_spec.proofs.Pool.{bytes_tell, index_back}
 

@@ -1,4 +1,4 @@
--- The readers of read pages and of stored pages agree with their spellings.
+-- The readers of read pages and of stored pages agree with their encodings.
 use Rattle.std.proofs.Common.{◌≡◌, ℕ, suc, ◌^◌, ◌<◌, ◌≤◌, Bool, true, ◌&&◌, List, [], ◌++◌, length, sym, ap, ◌∙◌, append_assoc, arith}
 use Rattle.std.specs.Prelude.{slice_index_or, nat_le, nat_lt}
 use Rattle.std.specs.List.{count_by}
@@ -9,7 +9,7 @@ use Rattle.std.proofs.lemmas.List.{append-nil}
 use Rattle.memory_spec.specs.Pages.{Mapped}
 use Rattle.record_spec.specs.Delta.{PageDelta, is_stored}
 use Rattle.record_spec.specs.Reads.{ReadPage}
-use Rattle.memo_spec.specs.Spelling.{AreBytes, word, page_number, index_in, mask, read_page, stored_page, IsStoredPage}
+use Rattle.memo_spec.specs.Encoding.{AreBytes, word, page_number, index_in, mask, read_page, stored_page, IsStoredPage}
 use Rattle.memo_spec.specs.Reader.{◌>>=◌, done, bytes_at, number_at, ruled}
 use Rattle.memo_spec.specs.Reading.{ReadState, slot_at, used_after, read_page_at, mask_at, stored_page_at}
 use Rattle.memo_spec.proofs.Formats.{Agrees, agrees_done, agrees_said, agrees_part, agrees_tested, agrees_number, agrees_bytes, wide32}

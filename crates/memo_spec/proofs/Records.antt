@@ -1,4 +1,4 @@
--- The reader of a record agrees with its spelling.
+-- The reader of a record agrees with its encoding.
 use Rattle.std.proofs.Common.{◌≡◌, ℕ, ◌^◌, ◌<◌, ◌≤◌, Bool, true, List, [], ◌∷◌, ◌++◌, length, refl, sym, ap, subst, ◌∙◌, append_assoc, arith}
 use Rattle.std.specs.Prelude.{◌==◌, nat_lt}
 use Rattle.std.specs.List.{flat_map, count_by}
@@ -11,7 +11,7 @@ use Rattle.memory_spec.specs.Pages.{Mapped}
 use Rattle.record_spec.specs.Delta.{PageDelta}
 use Rattle.record_spec.specs.Reads.{ReadPage}
 use Rattle.record_spec.specs.Record.{Record}
-use Rattle.memo_spec.specs.Spelling.{AreRegisters, IsEnd, byte, half, word, registers, end_number, read_page, stored_page, record_bytes}
+use Rattle.memo_spec.specs.Encoding.{AreRegisters, IsEnd, byte, half, word, registers, end_number, read_page, stored_page, record_bytes}
 use Rattle.memo_spec.specs.Reader.{Reader, ◌>>=◌, done, number_at, ruled, chain}
 use Rattle.memo_spec.specs.Reading.{ReadState, RecordState, is_within, end_of, registers_at, read_page_at, stored_page_at, record_at}
 use Rattle.memo_spec.proofs.Formats.{Agrees, Chained, agrees_then, agrees_done, agrees_said, agrees_part, agrees_tested, agrees_number, agrees_chain, wide8, wide16, wide32}

@@ -1,4 +1,4 @@
--- The reader of a setup agrees with its spelling.
+-- The reader of a setup agrees with its encoding.
 use Rattle.std.proofs.Common.{◌≡◌, ℕ, ◌^◌, ◌<◌, true, leb, List, [], ◌++◌, length, Option, Some, None, Result, Ok, refl, sym, ap, subst, ◌∙◌, append_assoc, arith}
 use Rattle.std.specs.Prelude.{is_none}
 use Rattle.std.specs.Int.{w32}
@@ -13,7 +13,7 @@ use Rattle.ith_fields.specs.Place.{Place}
 use Rattle.memo_spec.specs.declared.Refusal.{Refusal}
 use Rattle.memo_spec.specs.declared.Refusal.TheVariants.{Limit}
 use Rattle.memo_spec.specs.declared.Limit.TheVariants as limit
-use Rattle.memo_spec.specs.Spelling.{AreBytes, word}
+use Rattle.memo_spec.specs.Encoding.{AreBytes, word}
 use Rattle.memo_spec.specs.Reader.{Reader, ◌>>=◌, done, bytes_at, number_at, limited}
 use Rattle.memo_spec.specs.Reading.{is_within, accepted, setup_at}
 use Rattle.memo_spec.proofs.Formats.{Agrees, agrees_then, agrees_done, agrees_said, agrees_part, agrees_tested, agrees_number, agrees_bytes, wide32}

@@ -1,4 +1,4 @@
--- The reader of a pool with its records agrees with its spelling, and the reader of a whole history with its own.
+-- The reader of a pool with its records agrees with its encoding, and the reader of a whole history with its own.
 use Rattle.std.proofs.Common.{◌≡◌, ℕ, ◌^◌, ◌<◌, Bool, true, false, not, List, [], ◌∷◌, ◌++◌, length, refl, sym, ap, subst, ◌∙◌, append_assoc, arith}
 use Rattle.std.specs.List.{AllByRecursion, flat_map}
 use Rattle.std.specs.Int.{w32}
@@ -6,7 +6,7 @@ use Rattle.std.proofs.lemmas.Bool.{le-ltb}
 use Rattle.std.proofs.lemmas.List.{append-nil, length-append}
 use Rattle.record_spec.specs.Record.{Record}
 use Rattle.machine_spec.specs.Setup.{Setup, map_of}
-use Rattle.memo_spec.specs.Spelling.{word, has_page, index_in, record_bytes}
+use Rattle.memo_spec.specs.Encoding.{word, has_page, index_in, record_bytes}
 use Rattle.memo_spec.specs.Reader.{◌>>=◌, done, bytes_at, number_at, ruled, chain}
 use Rattle.memo_spec.specs.Reading.{RecordState, pool_page_at, record_at, pool_and_records_at}
 use Rattle.memo_spec.proofs.Formats.{Agrees, Chained, agrees_then, agrees_done, agrees_said, agrees_part, agrees_tested, agrees_number, agrees_bytes, agrees_chain, wide32}

@@ -1,4 +1,4 @@
--- The reader of a history agrees with its spelling, and what bytes are taken as is the history that they spell.
+-- The reader of a history agrees with its encoding, and what bytes are taken as is the history that they encode.
 use Rattle.std.proofs.Common.{◌≡◌, ℕ, ◌^◌, ◌<◌, Bool, true, leb, eq-eqb, List, [], ◌∷◌, ◌++◌, length, refl, sym, ap, subst, ◌∙◌, append_assoc, arith}
 use Rattle.std.specs.Prelude.{◌==◌}
 use Rattle.std.specs.List.{flat_map, concat}
@@ -13,7 +13,7 @@ use Rattle.memo_spec.specs.declared.Format.{Format}
 use Rattle.memo_spec.specs.declared.Format.TheVariants.{Version1, Version2}
 use Rattle.memo_spec.specs.declared.Refusal.TheVariants.{Limit}
 use Rattle.memo_spec.specs.declared.Limit.TheVariants as limit
-use Rattle.memo_spec.specs.Spelling.{word, distinct, pages_read, pool_of, record_bytes, magic, profile, head, body, IsSpellable}
+use Rattle.memo_spec.specs.Encoding.{word, distinct, pages_read, pool_of, record_bytes, magic, profile, head, body, IsEncodable}
 use Rattle.memo_spec.specs.Reader.{Reader, ◌>>=◌, done, number_at, ruled, limited}
 use Rattle.memo_spec.specs.Reading.{RecordState, is_within, pool_and_records_at, setup_at, history_at, behind_version}
 use Rattle.memo_spec.proofs.Records.{FitsRecord}
@@ -114,8 +114,8 @@ agrees_raw =
 
 -- ---- a history, as it is said
 
-spellable : (h : History) → Raw h → IsSpellable h
-spellable h raw =
+encodable : (h : History) → Raw h → IsEncodable h
+encodable h raw =
     let k = and_parts (leb 1 (length h.records)) (leb (length h.records) h.setup.limit) raw.1.0.1 in
     let x = raw.1.1.0 in
     let f = raw.1.1.1 in
@@ -134,7 +134,7 @@ spellable h raw =
       records = rw same are.each;
     }
 
-raw_again : (h : History) → IsSpellable h → Raw h
+raw_again : (h : History) → IsEncodable h → Raw h
 raw_again h fit =
     let few = few_pages h.setup fit.setup in
     let again = records_again (map_of h.setup) h.setup.fuel few
@@ -194,9 +194,9 @@ body_parts format h =
     (word (length (pool_of h))) (pages_bytes (pool_of h))
     (flat_map (record_bytes (map_of h.setup) (pool_of h)) h.records))
 
-pub agrees_history : Agrees history_at raw_bytes IsSpellable
-agrees_history = agrees_said history_at raw_bytes raw_bytes Raw IsSpellable agrees_raw
-    (λ h raw. (spellable h raw, refl)) raw_again
+pub agrees_history : Agrees history_at raw_bytes IsEncodable
+agrees_history = agrees_said history_at raw_bytes raw_bytes Raw IsEncodable agrees_raw
+    (λ h raw. (encodable h raw, refl)) raw_again
 
 -- ---- all behind the version
 
@@ -221,12 +221,12 @@ body_is format h = body_parts format h ∙ head_is format h
 abbrev IsProfile : ℕ → Type 0
 IsProfile n = (n < 2 ^ 32) × ((n == profile) ≡ true)
 
-pub agrees_behind : (format : Format) → Agrees (behind_version format) (rest_bytes format) IsSpellable
+pub agrees_behind : (format : Format) → Agrees (behind_version format) (rest_bytes format) IsEncodable
 unfolding behind_version
 agrees_behind Version1 = agrees_history
 agrees_behind Version2 =
     agrees_then (ruled (number_at w32) (λ n. n == profile)) word IsProfile (λ _. history_at) (λ _ h. raw_bytes h)
-    (λ _ h. IsSpellable h) (rest_bytes Version2) IsSpellable
+    (λ _ h. IsEncodable h) (rest_bytes Version2) IsEncodable
     (agrees_tested (number_at w32) word (λ n. n < 2 ^ 32) (λ n. n == profile) _ (agrees_number w32 (2 ^ 32) wide32))
     (λ _ _. agrees_history)
     (λ n h is fit. (fit, ap (λ (m : ℕ). word m ++ raw_bytes h) (eqb-true n profile is.1)))

@@ -12,7 +12,7 @@ use Rattle.record_spec.specs.Record.{Record}
 use Rattle.record_spec.specs.Reads.{ReadPage}
 use Rattle.machine_spec.specs.Setup.{Setup, IsSetup, map_of, data_pages}
 use Rattle.machine_spec.proofs.Beginning.{ascends-map_of}
-use Rattle.memo_spec.specs.Spelling.{has_page, with_page, pages_read, IsReadPage, IsRecord}
+use Rattle.memo_spec.specs.Encoding.{has_page, with_page, pages_read, IsReadPage, IsRecord}
 use Rattle.memo_spec.proofs.Maps.{IsPageMap}
 use Rattle.memo_spec.proofs.Order.{Pages, IsPage}
 use Rattle.memo_spec.proofs.Chains.{bytes_of, few_reads}

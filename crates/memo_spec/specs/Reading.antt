@@ -18,7 +18,7 @@ use Rattle.elf_spec.specs.declared.TheConstants.{MOST_ELF_BYTES}
 use Rattle.guest_call.specs.declared.thread_number.TheConstants.{THREADS}
 use Rattle.machine_spec.specs.declared.TheConstants.{MOST_FUEL, MOST_INPUT_BYTES, MOST_STEPS}
 use Rattle.machine_spec.specs.Machine.{Machine}
-use Rattle.machine_spec.specs.Step.{lay, fits}
+use Rattle.machine_spec.specs.Step.{apply, fits}
 use Rattle.machine_spec.specs.Setup.{Setup, map_of, first}
 use Rattle.history_spec.specs.History.{History, is_coherent}
 use Rattle.ith_fields.specs.Place.{Place}
@@ -27,7 +27,7 @@ use Rattle.memo_spec.specs.declared.Format.TheVariants.{Version1, Version2}
 use Rattle.memo_spec.specs.declared.Limit.TheVariants as limit
 use Rattle.memo_spec.specs.declared.Refusal.{Refusal}
 use Rattle.memo_spec.specs.declared.Refusal.TheVariants.{Short, Magic, Version, Digest, Limit, Image, Field, Old, Incoherent}
-use Rattle.memo_spec.specs.Spelling.{magic, profile, has_page, SpellsIn}
+use Rattle.memo_spec.specs.Encoding.{magic, profile, has_page, EncodesIn}
 use Rattle.memo_spec.specs.Old.{is_old, last_number}
 use Rattle.memo_spec.specs.Reader.{Reader, ◌>>=◌, done, bytes_at, number_at, ruled, limited, each, chain}
 
@@ -176,7 +176,7 @@ behind_version Version2 = do
 -- The first record, counted from a number on, that doesn't fit, or the number past the last where no end comes.
 abbrev pub incoherent_from : ℕ → Machine → List Record → Option ℕ
 incoherent_from i m [] = if is_some m.ending then None else Some i
-incoherent_from i m (r ∷ rs) = if is_none m.ending && fits m r then incoherent_from (i + 1) (lay m r) rs else Some i
+incoherent_from i m (r ∷ rs) = if is_none m.ending && fits m r then incoherent_from (i + 1) (apply m r) rs else Some i
 
 -- A history that holds together, or the refusal.
 abbrev pub coherent_or : Option ℕ → History → Result History Refusal
@@ -225,9 +225,9 @@ reading bytes =
     else if not (bytes_eq (take 4 bytes) magic) then Err Magic
     else reading_in (format_of (version_of bytes)) bytes
 
--- Bytes that are to be taken as a history: they spell it, it isn't old in their format, and it holds together.
+-- Bytes that are to be taken as a history: they encode it, it isn't old in their format, and it holds together.
 pub record IsTaken (bytes : List ℕ) (h : History) : Type 0 where
   pub format : Format
-  pub spells : SpellsIn format bytes h
+  pub encodes : EncodesIn format bytes h
   pub of_today : is_old_in format h ≡ false
   pub coherent : is_coherent h ≡ true

@@ -1,9 +1,9 @@
-//! The memo file: what its bytes spell, and which refusal bytes get that are taken for none.
+//! The memo file: what its bytes encode, and which refusal bytes get that are taken for none.
 #![tactic(auto)]
 
 ghost use Rattle.std.specs.Prelude.{◌≡◌, ℕ, List, Ok};
 ghost use Rattle.history_spec.specs.History.{History};
-ghost use Rattle.memo_spec.specs.Spelling.{IsSpellable, memo_in, SpellsIn, Spells};
+ghost use Rattle.memo_spec.specs.Encoding.{IsEncodable, memo_in, EncodesIn, Encodes};
 ghost use Rattle.memo_spec.specs.Reading.{reading, IsTaken};
 
 /// The most bytes of a memo.
@@ -57,25 +57,25 @@ pub enum Refusal {
     Incoherent(u32),
 }
 
-/// Bytes spell at most one history, whatever the version.
-pub fn bytes_spell_one_history()
-    ensures { (bytes : List ℕ) (a b : History) → Spells bytes a → Spells bytes b → a ≡ b }
+/// Bytes encode at most one history, whatever the version.
+pub fn bytes_encode_one_history()
+    ensures { (bytes : List ℕ) (a b : History) → Encodes bytes a → Encodes bytes b → a ≡ b }
 {}
 
-/// In each version a history has one spelling, if it can be spelled, and else none.
-pub fn history_has_one_spelling()
-    ensures one { (format : Format) (a b : List ℕ) (h : History) → SpellsIn format a h
-        → SpellsIn format b h → a ≡ b }
-    ensures some { (format : Format) (h : History) → IsSpellable h
-        → SpellsIn format (memo_in format h) h }
+/// In each version a history has one encoding, if it can be encoded, and else none.
+pub fn history_has_one_encoding()
+    ensures one { (format : Format) (a b : List ℕ) (h : History) → EncodesIn format a h
+        → EncodesIn format b h → a ≡ b }
+    ensures some { (format : Format) (h : History) → IsEncodable h
+        → EncodesIn format (memo_in format h) h }
 {}
 
-/// Bytes are taken as a history that they spell and that holds together, and in version 1 isn't old.
-pub fn spelled_is_taken()
+/// Bytes are taken as a history that they encode and that holds together, and in version 1 isn't old.
+pub fn encoded_is_taken()
     ensures { (bytes : List ℕ) (h : History) → IsTaken bytes h → reading bytes ≡ Ok h }
 {}
 
-/// What bytes are taken as they spell, and it holds together, and in version 1 isn't old.
-pub fn taken_is_spelled(bytes: &[u8])
+/// What bytes are taken as they encode, and it holds together, and in version 1 isn't old.
+pub fn taken_is_encoded(bytes: &[u8])
     ensures { (h : History) → reading bytes.now ≡ Ok h → IsTaken bytes.now h }
 {}

@@ -1,6 +1,7 @@
 -- Pages of 4,096 bytes, what each permits, and a memory as the list of its pages.
-use Rattle.std.specs.Prelude.{◌≡◌, ℕ, ◌/◌, ◌==◌, Bool, true, nat_lt, ◌&&◌, if◌then◌else◌, List, [], ◌∷◌, length, All, replicate, slice_index_or, suc}
+use Rattle.std.specs.Prelude.{◌≡◌, ◌<◌, ℕ, ◌/◌, ◌==◌, Bool, true, nat_lt, ◌&&◌, if◌then◌else◌, List, [], ◌∷◌, length, All, replicate, slice_index_or, suc}
 use Rattle.std.specs.Int.RustNames.{bit_and}
+use Rattle.memory_spec.specs.declared.TheConstants.{PAGE_NUMBERS}
 
 -- A mapped page: its number, which is its address divided by 4,096, and its permission.
 pub record Mapped : Type 0 where
@@ -20,6 +21,10 @@ read_right = 4
 -- Whether a permission has a right. (System V gABI, ch. 5, Program Header, Segment Permissions)
 abbrev pub allows : ℕ → ℕ → Bool
 allows right permission = bit_and permission right == right
+
+-- The pages of a map are addressable: addresses of 32 bits reach each.
+abbrev pub AreAddressable : List Mapped → Type 0
+AreAddressable map = All (λ page. page.number < PAGE_NUMBERS) map
 
 -- A memory: the bytes of each mapped page, in the order of the map.
 abbrev pub Memory : Type 0

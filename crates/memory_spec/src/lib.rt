@@ -1,6 +1,6 @@
 //! Memory of the guest machine, as definitions: pages, the page map and its permissions, stores in
 //! order, and what the memory that a thread works on means to the layers above. No code but two
-//! plain types and the size of a page.
+//! plain types, the size of a page and how many pages there can be.
 #![tactic(auto)]
 
 ghost use Rattle.std.specs.Prelude.{List};
@@ -9,6 +9,9 @@ ghost use Rattle.memory_spec.specs.Stores.{StoredByte, laid};
 
 /// How many bytes a page has.
 pub const PAGE_SIZE: usize = 4096;
+
+/// How many pages addresses of 32 bits reach.
+pub const PAGE_NUMBERS: u32 = 1 << 20;
 
 /// How many bytes a load or a store moves. (RISC-V unprivileged ISA 20191213, 2.6)
 #[derive(Clone, Copy, Debug, PartialEq, Eq)]

@@ -15,7 +15,7 @@ fn snapshot_keeps_the_old_page(rt: HostRuntime) -> Result<(), AllocError> {
     assert_eq!(rt; table.page(1).get(4095), 9);
     assert!(rt; table.page(0) == before.page(0));
     assert!(rt; table != before);
-    let shared = table.share(1)?;
+    let shared = table.page_arc(1)?;
     assert_eq!(rt; shared.get(0), 9);
     Ok(())
 }

@@ -1,4 +1,4 @@
--- What a laid record leaves of one hart, as a function of that hart.
+-- What an applied record leaves of one hart, as a function of that hart.
 use Rattle.std.proofs.Common.{◌≡◌, ◌≢◌, ◌<◌, ◌≤◌, ◌+◌, ℕ, zero, suc, Bool, true, false, eqb, cond, List, [], ◌∷◌, ◌++◌, length, set, Option, Some, None, refl, ap, sym, ◌∙◌, ap₂, inl, inr, arith}
 use Rattle.std.proofs.lemmas.Bool.{cases_eq, cases_lt, eq-eqb}
 use Rattle.std.proofs.lemmas.Bool.Decides.{nat_tests}
@@ -17,7 +17,7 @@ use Rattle.machine_spec.specs.declared.states.Asked.TheVariants.{Asks, Stops}
 use Rattle.machine_spec.specs.declared.states.End.{End}
 use Rattle.machine_spec.specs.Machine.{Hart, Machine, hart_of, hart_in, nobody, is_ready}
 use Rattle.machine_spec.specs.Performing.{returned, fated, woken, first_hart, with_created, settled}
-use Rattle.machine_spec.specs.Step.{written, done_as_asked, finished, lay, fate_end, end_after}
+use Rattle.machine_spec.specs.Step.{written, done_as_asked, finished, apply, fate_end, end_after}
 use Rattle.machine_spec.specs.Whole.{IsTied}
 use Rattle.machine_spec.proofs.Harts.{ready-below, length-woken, length-created, created-stays, blocked_count-ready}
 use Rattle.order_spec.specs.Facts.{ask_of, acted, effect_of}
@@ -190,13 +190,13 @@ woken_at-none memory told (v ∷ us) u h none =
     let first : eqb v u ≡ false = or-left (eqb v u) (is_in u us) none in
     rw first (woken_at-none memory told us u h (or-right (eqb v u) (is_in u us) none))
 
--- what a laid record leaves of each hart
-pub lay-at :
+-- what an applied record leaves of each hart
+pub apply-at :
     (m : Machine) (r : Record) (u : ℕ)
     → IsTied m.objects m.harts → is_ready (hart_of m r.thread).status ≡ true
-    → hart_of (lay m r) u ≡ after_at (effect_of m r) (masked m.memory r.kept.delta) r (length m.harts) u (hart_of m u)
-unfolding lay finished
-lay-at m r u tied ready =
+    → hart_of (apply m r) u ≡ after_at (effect_of m r) (masked m.memory r.kept.delta) r (length m.harts) u (hart_of m u)
+unfolding apply finished
+apply-at m r u tied ready =
     let memory : Memory = masked m.memory r.kept.delta in
     let put : List ℕ = put_of m.frame.map (hart_of m r.thread).view r.kept in
     let h : Hart =
@@ -251,10 +251,10 @@ done-length m t (Asks call) =
     e = (act (is_readable m.frame.map) m.objects t call).0
 done-length m t (Stops e) = omega arith
 
-pub lay-length :
-    (m : Machine) (r : Record) → length (lay m r).harts ≡ length m.harts + created_count (effect_of m r).created
-unfolding lay finished
-lay-length m r =
+pub apply-length :
+    (m : Machine) (r : Record) → length (apply m r).harts ≡ length m.harts + created_count (effect_of m r).created
+unfolding apply finished
+apply-length m r =
     let h : Hart =
     record {
       view = (hart_of m r.thread).view;
@@ -272,9 +272,9 @@ done-objects : (m : Machine) (t : ℕ) (a : Asked) → (done_as_asked m t a).obj
 done-objects m t (Asks call) = refl
 done-objects m t (Stops e) = refl
 
-pub lay-objects : (m : Machine) (r : Record) → (lay m r).objects ≡ (acted m r.thread (ask_of r)).1
-unfolding lay finished
-lay-objects m r =
+pub apply-objects : (m : Machine) (r : Record) → (apply m r).objects ≡ (acted m r.thread (ask_of r)).1
+unfolding apply finished
+apply-objects m r =
     let put : List ℕ = put_of m.frame.map (hart_of m r.thread).view r.kept in
     done-objects (written m r.thread (masked m.memory r.kept.delta) r.kept.finish put) r.thread (ask_of r)
     ∙ ap (λ (x : Effect × Objects). x.1)
@@ -284,9 +284,9 @@ done-memory : (m : Machine) (t : ℕ) (a : Asked) → (done_as_asked m t a).memo
 done-memory m t (Asks call) = refl
 done-memory m t (Stops e) = refl
 
-pub lay-memory : (m : Machine) (r : Record) → (lay m r).memory ≡ masked m.memory r.kept.delta
-unfolding lay finished
-lay-memory m r =
+pub apply-memory : (m : Machine) (r : Record) → (apply m r).memory ≡ masked m.memory r.kept.delta
+unfolding apply finished
+apply-memory m r =
     done-memory
     (written m r.thread (masked m.memory r.kept.delta) r.kept.finish
     (put_of m.frame.map (hart_of m r.thread).view r.kept)) r.thread (ask_of r)
@@ -295,10 +295,10 @@ done-output : (m : Machine) (t : ℕ) (a : Asked) → (done_as_asked m t a).outp
 done-output m t (Asks call) = refl
 done-output m t (Stops e) = refl
 
-pub lay-output :
-    (m : Machine) (r : Record) → (lay m r).output ≡ m.output ++ put_of m.frame.map (hart_of m r.thread).view r.kept
-unfolding lay finished
-lay-output m r =
+pub apply-output :
+    (m : Machine) (r : Record) → (apply m r).output ≡ m.output ++ put_of m.frame.map (hart_of m r.thread).view r.kept
+unfolding apply finished
+apply-output m r =
     done-output
     (written m r.thread (masked m.memory r.kept.delta) r.kept.finish
     (put_of m.frame.map (hart_of m r.thread).view r.kept)) r.thread (ask_of r)
@@ -307,9 +307,9 @@ done-steps : (m : Machine) (t : ℕ) (a : Asked) → (done_as_asked m t a).steps
 done-steps m t (Asks call) = refl
 done-steps m t (Stops e) = refl
 
-pub lay-steps : (m : Machine) (r : Record) → (lay m r).steps ≡ suc m.steps
-unfolding lay finished
-lay-steps m r =
+pub apply-steps : (m : Machine) (r : Record) → (apply m r).steps ≡ suc m.steps
+unfolding apply finished
+apply-steps m r =
     done-steps
     (written m r.thread (masked m.memory r.kept.delta) r.kept.finish
     (put_of m.frame.map (hart_of m r.thread).view r.kept)) r.thread (ask_of r)
@@ -318,9 +318,9 @@ done-limit : (m : Machine) (t : ℕ) (a : Asked) → (done_as_asked m t a).limit
 done-limit m t (Asks call) = refl
 done-limit m t (Stops e) = refl
 
-pub lay-limit : (m : Machine) (r : Record) → (lay m r).limit ≡ m.limit
-unfolding lay finished
-lay-limit m r =
+pub apply-limit : (m : Machine) (r : Record) → (apply m r).limit ≡ m.limit
+unfolding apply finished
+apply-limit m r =
     done-limit
     (written m r.thread (masked m.memory r.kept.delta) r.kept.finish
     (put_of m.frame.map (hart_of m r.thread).view r.kept)) r.thread (ask_of r)
@@ -346,10 +346,10 @@ done-ending :
 done-ending m t (Asks call) = refl
 done-ending m t (Stops e) = refl
 
-pub lay-ending :
-    (m : Machine) (r : Record) → (lay m r).ending ≡ end_after (own_end_of m r) (lay m r).harts m.limit (suc m.steps)
-unfolding lay finished
-lay-ending m r =
+pub apply-ending :
+    (m : Machine) (r : Record) → (apply m r).ending ≡ end_after (own_end_of m r) (apply m r).harts m.limit (suc m.steps)
+unfolding apply finished
+apply-ending m r =
     let put : List ℕ = put_of m.frame.map (hart_of m r.thread).view r.kept in
     let memory : Memory = masked m.memory r.kept.delta in
     done-ending (written m r.thread memory r.kept.finish put) r.thread (ask_of r)

@@ -17,7 +17,7 @@ use Rattle.record_spec.specs.Reads.{reads_of}
 use Rattle.record_spec.specs.Record.{Record, put_of, may_end, fits_at}
 use Rattle.machine_spec.specs.Machine.{Machine, hart_of}
 use Rattle.machine_spec.specs.Performing.{first_registers}
-use Rattle.machine_spec.specs.Step.{step, finished, lay, fits}
+use Rattle.machine_spec.specs.Step.{step, finished, apply, fits}
 use Rattle.machine_spec.proofs.Guests.{begins, late}
 use Rattle.order_spec.specs.Facts.{Fact, reads_in, facts_from}
 use Rattle.order_spec.specs.Ancestors.{edges_at}
@@ -76,14 +76,14 @@ pub facts-late :
     ∷ record { thread = 0; objects = []; given = 0 ∷ []; written = []; opened = 0 ∷ 1 ∷ []; last = false }
     ∷ record { thread = 0; objects = []; given = []; written = []; opened = []; last = true }
     ∷ []
-unfolding step finished lay fits fits_at may_end put_of reads_of thunk turn fetched number_at number_in permission_at
+unfolding step finished apply fits fits_at may_end put_of reads_of thunk turn fetched number_at number_in permission_at
     decoded reading_of u_immediate i_immediate s_immediate immediate_result shift_result register_result with_register
     is_readable put_addresses loaded may_store bytes_stored with_byte first_registers all_unlocked
 facts-late = refl
 
 -- The create comes before all. Main's first yield opens the page that the thread writes, so the two stay in order.
 pub edges-late : map (edges_at done) (0 ∷ 1 ∷ 2 ∷ 3 ∷ []) ≡ [] ∷ (0 ∷ []) ∷ (0 ∷ 1 ∷ []) ∷ (0 ∷ 1 ∷ 2 ∷ []) ∷ []
-unfolding step finished lay fits fits_at may_end put_of reads_of thunk turn fetched number_at number_in permission_at
+unfolding step finished apply fits fits_at may_end put_of reads_of thunk turn fetched number_at number_in permission_at
     decoded reading_of u_immediate i_immediate s_immediate immediate_result shift_result register_result with_register
     is_readable put_addresses loaded may_store bytes_stored with_byte first_registers all_unlocked
 edges-late = refl
@@ -96,7 +96,7 @@ pub facts-bare :
     ≡ record { thread = 1; objects = []; given = 1 ∷ []; written = 1 ∷ []; opened = []; last = false }
     ∷ record { thread = 0; objects = []; given = []; written = []; opened = []; last = false }
     ∷ []
-unfolding step finished lay fits fits_at may_end put_of reads_of thunk turn fetched number_at number_in permission_at
+unfolding step finished apply fits fits_at may_end put_of reads_of thunk turn fetched number_at number_in permission_at
     decoded reading_of u_immediate i_immediate s_immediate immediate_result shift_result register_result with_register
     is_readable put_addresses loaded may_store bytes_stored with_byte first_registers all_unlocked
 facts-bare = refl

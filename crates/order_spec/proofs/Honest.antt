@@ -7,16 +7,16 @@ use Rattle.record_spec.specs.Record.{Record}
 use Rattle.machine_spec.specs.Machine.{Machine}
 use Rattle.machine_spec.specs.Setup.{first, scratch}
 use Rattle.machine_spec.proofs.Beginning.{IsWhole-first}
-use Rattle.history_spec.specs.History.{History, IsHonest, schedule_of, threads_of_records, is_of, is_numbered_after, laid_from, can_lay_from}
+use Rattle.history_spec.specs.History.{History, IsHonest, schedule_of, threads_of_records, is_of, is_numbered_after, applied_from, can_apply_from}
 use Rattle.history_spec.proofs.Numbers.{one_for, count-more, honest-numbered}
-use Rattle.history_spec.proofs.Truth.{honest-true, records-laid, records-can_lay}
+use Rattle.history_spec.proofs.Truth.{honest-true, records-applied, records-can_apply}
 use Rattle.order_spec.specs.Facts.{Fact, reads_of_found, reads_in, facts, facts_from, fact_of, bare_fact}
 use Rattle.order_spec.specs.Keeping.{set_second, moved, rest_of, fact_thread, record_thread, is_free_of, may_come, may_begin, keeps, set_front, arranged}
 use Rattle.order_spec.specs.Orders.{LeadToTheSame}
 use Rattle.order_spec.proofs.Lists.{and-left, and-right}
 use Rattle.order_spec.proofs.Alike.{IsReading}
 use Rattle.order_spec.proofs.Simulate.{IsFollowing}
-use Rattle.machine_spec.specs.Step.{lay, fits}
+use Rattle.machine_spec.specs.Step.{apply, fits}
 use Rattle.order_spec.proofs.Every.{every, keeps-begin, moved-full}
 
 -- a record whose number is at least how many of its thread come earlier
@@ -192,11 +192,11 @@ pub facts-threads :
     (reads : ℕ → ℕ → List ℕ) (m : Machine) (rs : List Record)
     → map fact_thread (facts_from reads m rs) ≡ map record_thread rs
 facts-threads reads m [] = refl
-facts-threads reads m (r ∷ rs) = here (is_none m.ending && fits m r) (facts-threads reads (lay m r) rs)
+facts-threads reads m (r ∷ rs) = here (is_none m.ending && fits m r) (facts-threads reads (apply m r) rs)
   where
     here :
-        (b : Bool) → map fact_thread (facts_from reads (lay m r) rs) ≡ map record_thread rs
-        → map fact_thread (cond b (fact_of reads m r ∷ facts_from reads (lay m r) rs) (map bare_fact (r ∷ rs)))
+        (b : Bool) → map fact_thread (facts_from reads (apply m r) rs) ≡ map record_thread rs
+        → map fact_thread (cond b (fact_of reads m r ∷ facts_from reads (apply m r) rs) (map bare_fact (r ∷ rs)))
         ≡ map record_thread (r ∷ rs)
     here true later = ap (λ (ts : List ℕ). r.thread ∷ ts) later
     here false later = bare-threads (r ∷ rs)
@@ -243,15 +243,15 @@ pub honest-begin :
 honest-begin h s honest keep =
     every (reads_in h.records) s (first h.setup) h.records (IsWhole-first h.setup honest.valid)
     (honest-reading h honest)
-    (ap (λ (rs : List Record). can_lay_from (first h.setup) rs) honest.recorded
-    ∙ records-can_lay (first h.setup) (schedule_of h) (IsWhole-first h.setup honest.valid) honest.permitted)
+    (ap (λ (rs : List Record). can_apply_from (first h.setup) rs) honest.recorded
+    ∙ records-can_apply (first h.setup) (schedule_of h) (IsWhole-first h.setup honest.valid) honest.permitted)
     keep
 
--- its records laid are the machine from scratch
-pub honest-laid : (h : History) → IsHonest h → laid_from (first h.setup) h.records ≡ scratch h.setup (schedule_of h)
-honest-laid h honest =
-    ap (λ (rs : List Record). laid_from (first h.setup) rs) honest.recorded
-    ∙ records-laid (first h.setup) (schedule_of h) (IsWhole-first h.setup honest.valid) honest.permitted
+-- its records applied are the machine from scratch
+pub honest-applied : (h : History) → IsHonest h → applied_from (first h.setup) h.records ≡ scratch h.setup (schedule_of h)
+honest-applied h honest =
+    ap (λ (rs : List Record). applied_from (first h.setup) rs) honest.recorded
+    ∙ records-applied (first h.setup) (schedule_of h) (IsWhole-first h.setup honest.valid) honest.permitted
 
 pub honest-every :
     (h : History) (s : List ℕ) → IsHonest h → keeps (facts h) s ≡ true
@@ -265,7 +265,7 @@ begin-leads h s honest begin =
     let along = honest-begin h s honest begin in
     record {
       fits = along.can;
-      ending = along.alike.ending ∙ ap (λ (m : Machine). m.ending) (honest-laid h honest);
-      output = along.alike.output ∙ ap (λ (m : Machine). m.output) (honest-laid h honest);
-      memory = along.alike.memory ∙ ap (λ (m : Machine). m.memory) (honest-laid h honest);
+      ending = along.alike.ending ∙ ap (λ (m : Machine). m.ending) (honest-applied h honest);
+      output = along.alike.output ∙ ap (λ (m : Machine). m.output) (honest-applied h honest);
+      memory = along.alike.memory ∙ ap (λ (m : Machine). m.memory) (honest-applied h honest);
     }

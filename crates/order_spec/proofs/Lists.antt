@@ -7,7 +7,7 @@ use Rattle.guest_call.specs.Locality.{is_among, same_object}
 use Rattle.guest_call.specs.Queues.{places}
 use Rattle.guest_call.proofs.Counting.{tally, places-cons}
 use Rattle.guest_call.proofs.Locality.{same_is}
-use Rattle.order_spec.specs.Before.{is_in, meets, share}
+use Rattle.order_spec.specs.Before.{is_in, meets, overlap}
 
 pub and-left : (a b : Bool) → (a && b) ≡ true → a ≡ true
 and-left true b h = refl
@@ -51,24 +51,24 @@ meets-not_back k ks ls apart there =
       | inr none ↦ none
     ]
 
-pub share-not : (p : Object) (os qs : List Object) → share os qs ≡ false → is_among p os ≡ true → is_among p qs ≡ false
-share-not p [] qs apart there = cc
-share-not p (o ∷ os) qs apart there =
-    here (share-not p os qs (or-right (is_among o qs) (share os qs) apart)) (same_object p o) refl there
+pub overlap-not : (p : Object) (os qs : List Object) → overlap os qs ≡ false → is_among p os ≡ true → is_among p qs ≡ false
+overlap-not p [] qs apart there = cc
+overlap-not p (o ∷ os) qs apart there =
+    here (overlap-not p os qs (or-right (is_among o qs) (overlap os qs) apart)) (same_object p o) refl there
   where
     here :
         (is_among p os ≡ true → is_among p qs ≡ false) → (b : Bool) → same_object p o ≡ b → (b || is_among p os) ≡ true
         → is_among p qs ≡ false
     here later true is h =
         subst (λ (i : Object). is_among i qs ≡ false) (sym (same_is p o is))
-        (or-left (is_among o qs) (share os qs) apart)
+        (or-left (is_among o qs) (overlap os qs) apart)
     here later false is h = later h
 
-pub share-not_back :
-    (p : Object) (os qs : List Object) → share os qs ≡ false → is_among p qs ≡ true → is_among p os ≡ false
-share-not_back p os qs apart there =
+pub overlap-not_back :
+    (p : Object) (os qs : List Object) → overlap os qs ≡ false → is_among p qs ≡ true → is_among p os ≡ false
+overlap-not_back p os qs apart there =
     elim (is_or_not (is_among p os)) [
-      | inl is ↦ absurd (let none : is_among p qs ≡ false = share-not p os qs apart is in cc)
+      | inl is ↦ absurd (let none : is_among p qs ≡ false = overlap-not p os qs apart is in cc)
       | inr none ↦ none
     ]
 

@@ -27,9 +27,9 @@ use Rattle.machine_spec.specs.declared.states.Asked.{Asked}
 use Rattle.machine_spec.specs.declared.states.Asked.TheVariants.{Asks, Stops}
 use Rattle.machine_spec.specs.declared.states.End.{End}
 use Rattle.machine_spec.specs.Machine.{Machine}
-use Rattle.machine_spec.specs.Step.{asked, asked_call, lay, fate_end}
+use Rattle.machine_spec.specs.Step.{asked, asked_call, apply, fate_end}
 use Rattle.order_spec.specs.Facts.{ask_of, acted, effect_of, acting_on, objects_of}
-use Rattle.order_spec.proofs.After.{lay-objects, own_end, own_end_of}
+use Rattle.order_spec.proofs.After.{apply-objects, own_end, own_end_of}
 
 -- effect, objects acted on and end of what was asked, without the machine
 abbrev acted_on : List Mapped → ℕ → Asked → Objects → Effect × Objects
@@ -110,24 +110,24 @@ own_end-met m n r met =
 
 pub parts-stay :
     (m : Machine) (r : Record) (p : Object)
-    → IsKept m.objects → is_among p (objects_of m r) ≡ false → part_of (lay m r).objects p ≡ part_of m.objects p
+    → IsKept m.objects → is_among p (objects_of m r) ≡ false → part_of (apply m r).objects p ≡ part_of m.objects p
 parts-stay m r p kept apart =
     ap (λ (o : Objects). part_of o p)
-    (lay-objects m r ∙ ap (λ (x : Effect × Objects). x.1) (acted-on m r.thread (ask_of r)))
+    (apply-objects m r ∙ ap (λ (x : Effect × Objects). x.1) (acted-on m r.thread (ask_of r)))
     ∙ (local-on m.frame.map r.thread (ask_of r) m.objects kept).stays p
     (subst (λ (os : List Object). is_among p os ≡ false) (objects-on m (ask_of r)) apart)
 
 pub parts-met :
     (m n : Machine) (r : Record) (p : Object)
     → IsMet m r n → IsKept n.objects → is_among p (objects_of m r) ≡ true
-    → part_of (lay n r).objects p ≡ part_of (lay m r).objects p
+    → part_of (apply n r).objects p ≡ part_of (apply m r).objects p
 parts-met m n r p met kept among =
     ap (λ (o : Objects). part_of o p)
-    (lay-objects n r ∙ ap (λ (x : Effect × Objects). x.1) (acted-there m n r.thread (ask_of r) met.frame))
+    (apply-objects n r ∙ ap (λ (x : Effect × Objects). x.1) (acted-there m n r.thread (ask_of r) met.frame))
     ∙ (local-on m.frame.map r.thread (ask_of r) m.objects met.kept).same_parts n.objects kept (alike-there m n r met) p
     (subst (λ (os : List Object). is_among p os ≡ true) (objects-on m (ask_of r)) among)
     ∙ sym (ap (λ (o : Objects). part_of o p)
-    (lay-objects m r ∙ ap (λ (x : Effect × Objects). x.1) (acted-on m r.thread (ask_of r))))
+    (apply-objects m r ∙ ap (λ (x : Effect × Objects). x.1) (acted-on m r.thread (ask_of r))))
 
 -- objects that stand alike one by one are the same
 same-objects :
@@ -170,16 +170,16 @@ pub uncreated :
     (m : Machine) (r : Record) → IsKept m.objects → is_among ThreadTable (objects_of m r) ≡ false
     → (effect_of m r).created ≡ None
 uncreated m r kept apart =
-    let same : (lay m r).objects.threads ≡ m.objects.threads =
-    threads-part m.objects (lay m r).objects (parts-stay m r ThreadTable kept apart) in
+    let same : (apply m r).objects.threads ≡ m.objects.threads =
+    threads-part m.objects (apply m r).objects (parts-stay m r ThreadTable kept apart) in
     let on : acted m r.thread (ask_of r) ≡ acted_on m.frame.map r.thread (ask_of r) m.objects =
     acted-on m r.thread (ask_of r) in
-    let more : length (lay m r).objects.threads ≡ length m.objects.threads + created_count (effect_of m r).created =
-    ap (λ (o : Objects). length o.threads) (lay-objects m r)
+    let more : length (apply m r).objects.threads ≡ length m.objects.threads + created_count (effect_of m r).created =
+    ap (λ (o : Objects). length o.threads) (apply-objects m r)
     ∙ subst (λ (x : Effect × Objects). length x.1.threads ≡ length m.objects.threads + created_count x.0.created)
     (sym on)
     (creates-on m.frame.map r.thread (ask_of r) m.objects) in
-    let count : length (lay m r).objects.threads ≡ length m.objects.threads =
+    let count : length (apply m r).objects.threads ≡ length m.objects.threads =
     ap (λ (ts : List Member). length ts) same in
     none-created (effect_of m r).created (omega arith)
 

@@ -14,15 +14,15 @@ use Rattle.record_spec.specs.Delta.{masked}
 use Rattle.record_spec.specs.Record.{Record, Kept, may_end}
 use Rattle.machine_spec.specs.Machine.{Hart, Machine, hart_of, is_ready}
 use Rattle.machine_spec.specs.Performing.{returned, fated, first_hart}
-use Rattle.machine_spec.specs.Step.{lay, fits, fate_end}
+use Rattle.machine_spec.specs.Step.{apply, fits, fate_end}
 use Rattle.machine_spec.specs.Whole.{IsWhole}
-use Rattle.history_spec.proofs.Laying.{lay-frame}
-use Rattle.history_spec.proofs.Numbers.{one_for, lay-number}
+use Rattle.history_spec.proofs.Applying.{apply-frame}
+use Rattle.history_spec.proofs.Numbers.{one_for, apply-number}
 use Rattle.order_spec.specs.Facts.{ask_of, acted, effect_of, served_by, read_slots, written_slots}
 use Rattle.order_spec.specs.Before.{is_in}
 use Rattle.order_spec.proofs.Lists.{or-left, or-right, is_or_not}
 use Rattle.order_spec.proofs.Pages.{length-masked, masked-other, masked-same}
-use Rattle.order_spec.proofs.After.{woken_at, settled_at, created_at, ran_at, after_at, lay-at, lay-length, lay-memory, lay-objects, lay-steps, lay-ending, own_end_of}
+use Rattle.order_spec.proofs.After.{woken_at, settled_at, created_at, ran_at, after_at, apply-at, apply-length, apply-memory, apply-objects, apply-steps, apply-ending, own_end_of}
 use Rattle.order_spec.proofs.Local.{acted-like}
 use Rattle.order_spec.proofs.Alike.{touched, untouched-after, touched-served, has-like, fits-parts, fits-from}
 use Rattle.order_spec.proofs.Simulate.{none-is, end_after-none, fate-none}
@@ -115,7 +115,7 @@ plain-ran r start kept u g h same =
     (record { view = h.view; regs = r.kept.finish; number = suc h.number; status = h.status }) g h
     (ap (λ (x : Hart). plain (record { view = []; regs = x.regs; number = suc x.number; status = x.status })) same) same
 
-plain-after :
+pub plain-after :
     (e : Effect) (mem other : Memory) (r : Record) (start : Registers) (kept : Kept) (n u : ℕ) (g h : Hart)
     → plain g ≡ plain h → plain (after_at e mem (other_record r start kept) n u g) ≡ plain (after_at e other r n u h)
 plain-after e mem other r start kept n u g h same =
@@ -202,15 +202,15 @@ pub record IsClosedAt (reads : ℕ → ℕ → List ℕ) (among : ℕ → ℕ �
     (r : Record) : Type 0 where
   pub next : among r.thread r.number ≡ true → among r.thread (suc r.number) ≡ true
   pub spread :
-      (u p : ℕ) → is_in u (served_by m r) ≡ true → is_in p (reads u (hart_of (lay m r) u).number) ≡ true
-      → taint_after among taint r p ≡ true → among u (hart_of (lay m r) u).number ≡ true
+      (u p : ℕ) → is_in u (served_by m r) ≡ true → is_in p (reads u (hart_of (apply m r) u).number) ≡ true
+      → taint_after among taint r p ≡ true → among u (hart_of (apply m r) u).number ≡ true
 
 module _
     (reads : ℕ → ℕ → List ℕ) (among : ℕ → ℕ → Bool) (taint : ℕ → Bool) (m n : Machine) (r : Record) (start : Registers)
     (kept : Kept)
     (near : IsNear reads among taint m n) (whole_m : IsWhole m) (whole_n : IsWhole n)
     (fit_m : fits m r ≡ true) (fit_n : fits n (other_record r start kept) ≡ true)
-    (going : is_none (lay m r).ending ≡ true) (like : IsStepLike among r start kept)
+    (going : is_none (apply m r).ending ≡ true) (like : IsStepLike among r start kept)
     (closed : IsClosedAt reads among taint m r) where
   ready_m : is_ready (hart_of m r.thread).status ≡ true
   ready_m = (fits-parts m r fit_m).ready
@@ -222,26 +222,26 @@ module _
   same_act = ap (acted n r.thread) like.ask ∙ acted-like m n r.thread (ask_of r) near.frame near.objects
 
   at_m :
-      (u : ℕ) → hart_of (lay m r) u
+      (u : ℕ) → hart_of (apply m r) u
       ≡ after_at (effect_of m r) (masked m.memory r.kept.delta) r (length m.harts) u (hart_of m u)
-  at_m u = lay-at m r u whole_m.tied ready_m
+  at_m u = apply-at m r u whole_m.tied ready_m
 
   at_n :
-      (u : ℕ) → hart_of (lay n (other_record r start kept)) u
+      (u : ℕ) → hart_of (apply n (other_record r start kept)) u
       ≡ after_at (effect_of m r) (masked n.memory kept.delta) (other_record r start kept) (length m.harts) u
       (hart_of n u)
   at_n u =
-      lay-at n (other_record r start kept) u whole_n.tied (fits-parts n (other_record r start kept) fit_n).ready
+      apply-at n (other_record r start kept) u whole_n.tied (fits-parts n (other_record r start kept) fit_n).ready
       ∙ ap₂ (λ (x : Effect × Objects) (k : ℕ).
       after_at x.0 (masked n.memory kept.delta) (other_record r start kept) k u (hart_of n u)) same_act near.count
 
   fate : fate_end (effect_of m r).fate ≡ None
   fate =
       fate-none m r.thread (ask_of r)
-      (end_after-none (own_end_of m r) (lay m r).harts m.limit (suc m.steps)
-      (sym (lay-ending m r) ∙ none-is (lay m r).ending going)).0
+      (end_after-none (own_end_of m r) (apply m r).harts m.limit (suc m.steps)
+      (sym (apply-ending m r) ∙ none-is (apply m r).ending going)).0
 
-  harts : (u : ℕ) → plain (hart_of (lay n (other_record r start kept)) u) ≡ plain (hart_of (lay m r) u)
+  harts : (u : ℕ) → plain (hart_of (apply n (other_record r start kept)) u) ≡ plain (hart_of (apply m r) u)
   harts u =
       ap plain (at_n u)
       ∙ plain-after (effect_of m r) (masked n.memory kept.delta) (masked m.memory r.kept.delta) r start kept
@@ -274,12 +274,12 @@ module _
       here true b is h = h
       here false b is h = cc
 
-  number_of : (u : ℕ) → (hart_of (lay m r) u).number ≡ (hart_of m u).number + one_for u r.thread
-  number_of u = lay-number m r u ready_m
+  number_of : (u : ℕ) → (hart_of (apply m r) u).number ≡ (hart_of m u).number + one_for u r.thread
+  number_of u = apply-number m r u ready_m
 
   regs :
-      (u : ℕ) → among u (hart_of (lay m r) u).number ≡ false
-      → (hart_of (lay n (other_record r start kept)) u).regs ≡ (hart_of (lay m r) u).regs
+      (u : ℕ) → among u (hart_of (apply m r) u).number ≡ false
+      → (hart_of (apply n (other_record r start kept)) u).regs ≡ (hart_of (apply m r) u).regs
   regs u out =
       ap (λ (h : Hart). h.regs) (at_n u)
       ∙ regs-after (effect_of m r) (masked n.memory kept.delta) (masked m.memory r.kept.delta) r
@@ -291,7 +291,7 @@ module _
           → (ran_at (other_record r start kept) u (hart_of n u)).regs ≡ (ran_at r u (hart_of m u)).regs
       ran (inl own) =
           let is : eqb r.thread u ≡ true = eq-eqb r.thread u own in
-          let number : (hart_of (lay m r) u).number ≡ suc r.number =
+          let number : (hart_of (apply m r) u).number ≡ suc r.number =
           number_of u
           ∙ (let one : one_for u r.thread ≡ 1 = (rw is refl) in let k : r.number ≡ (hart_of m u).number = number_m
           ∙ ap (λ (t : ℕ). (hart_of m t).number) own in omega arith) in
@@ -304,14 +304,14 @@ module _
           rw is (ap (λ (k : Kept). k.finish) (like.same isnt))
       ran (inr other) =
           let is : eqb r.thread u ≡ false = grind (arith, nat_tests) in
-          let number : (hart_of (lay m r) u).number ≡ (hart_of m u).number =
+          let number : (hart_of (apply m r) u).number ≡ (hart_of m u).number =
           number_of u ∙ (let none : one_for u r.thread ≡ 0 = (rw is refl) in omega arith) in
           rw is (near.regs u (ap (among u) (sym number) ∙ out))
 
   views :
-      (u p : ℕ) → is_ready (hart_of (lay m r) u).status ≡ true → among u (hart_of (lay m r) u).number ≡ false
-      → is_in p (reads u (hart_of (lay m r) u).number) ≡ true
-      → page_of (hart_of (lay n (other_record r start kept)) u).view p ≡ page_of (hart_of (lay m r) u).view p
+      (u p : ℕ) → is_ready (hart_of (apply m r) u).status ≡ true → among u (hart_of (apply m r) u).number ≡ false
+      → is_in p (reads u (hart_of (apply m r) u).number) ≡ true
+      → page_of (hart_of (apply n (other_record r start kept)) u).view p ≡ page_of (hart_of (apply m r) u).view p
   views u p ready out read =
       let ready_at : is_ready
       (after_at (effect_of m r) (masked m.memory r.kept.delta) r (length m.harts) u (hart_of m u)).status ≡ true =
@@ -338,10 +338,10 @@ module _
             ∙ pages p clean
             ∙ sym (ap (λ (h : Hart). page_of h.view p) (at_m u) ∙ ap (λ (v : Memory). page_of v p) served_m.view)
         | inr isnt ↦
-            let stays_m : hart_of (lay m r) u ≡ hart_of m u =
+            let stays_m : hart_of (apply m r) u ≡ hart_of m u =
             at_m u ∙ untouched-after (effect_of m r) (masked m.memory r.kept.delta) r (length m.harts) u
             (hart_of m u) isnt in
-            let stays_n : hart_of (lay n (other_record r start kept)) u ≡ hart_of n u =
+            let stays_n : hart_of (apply n (other_record r start kept)) u ≡ hart_of n u =
             at_n u ∙ untouched-after (effect_of m r) (masked n.memory kept.delta) (other_record r start kept)
             (length m.harts) u (hart_of n u) isnt in
             ap (λ (h : Hart). page_of h.view p) stays_n
@@ -352,25 +352,25 @@ module _
       ]
 
   -- the machines stay near each other
-  pub near-lay : IsNear reads among (taint_after among taint r) (lay m r) (lay n (other_record r start kept))
-  near-lay =
+  pub near-apply : IsNear reads among (taint_after among taint r) (apply m r) (apply n (other_record r start kept))
+  near-apply =
       record {
-        frame = lay-frame n (other_record r start kept) ∙ near.frame ∙ sym (lay-frame m r);
-        steps = lay-steps n (other_record r start kept) ∙ ap suc near.steps ∙ sym (lay-steps m r);
+        frame = apply-frame n (other_record r start kept) ∙ near.frame ∙ sym (apply-frame m r);
+        steps = apply-steps n (other_record r start kept) ∙ ap suc near.steps ∙ sym (apply-steps m r);
         objects =
-            lay-objects n (other_record r start kept) ∙ ap (λ (x : Effect × Objects). x.1) same_act
-            ∙ sym (lay-objects m r);
+            apply-objects n (other_record r start kept) ∙ ap (λ (x : Effect × Objects). x.1) same_act
+            ∙ sym (apply-objects m r);
         size =
-            ap (λ (x : Memory). length x) (lay-memory n (other_record r start kept)) ∙ length-masked kept.delta n.memory
+            ap (λ (x : Memory). length x) (apply-memory n (other_record r start kept)) ∙ length-masked kept.delta n.memory
             ∙ near.size
-            ∙ sym (ap (λ (x : Memory). length x) (lay-memory m r) ∙ length-masked r.kept.delta m.memory);
+            ∙ sym (ap (λ (x : Memory). length x) (apply-memory m r) ∙ length-masked r.kept.delta m.memory);
         memory = λ p clean.
-            ap (λ (x : Memory). page_of x p) (lay-memory n (other_record r start kept)) ∙ pages p clean
-            ∙ sym (ap (λ (x : Memory). page_of x p) (lay-memory m r));
+            ap (λ (x : Memory). page_of x p) (apply-memory n (other_record r start kept)) ∙ pages p clean
+            ∙ sym (ap (λ (x : Memory). page_of x p) (apply-memory m r));
         count =
-            lay-length n (other_record r start kept)
+            apply-length n (other_record r start kept)
             ∙ ap₂ (λ (k : ℕ) (x : Effect × Objects). k + created_count x.0.created) near.count same_act
-            ∙ sym (lay-length m r);
+            ∙ sym (apply-length m r);
         harts = harts;
         regs = regs;
         views = views;

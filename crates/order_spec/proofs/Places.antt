@@ -3,7 +3,7 @@ use Rattle.std.proofs.Common.{◌≡◌, ◌≢◌, ◌<◌, ◌≤◌, ◌+◌,
 use Rattle.std.proofs.lemmas.Bool.{cases_eq, cases_lt, eq-eqb, eqb-true}
 use Rattle.std.proofs.lemmas.Bool.Decides.{nat_tests}
 use Rattle.order_spec.specs.Facts.{Fact}
-use Rattle.order_spec.specs.Before.{is_in, meets, share, before, no_fact, fact_at, all_below, is_next_at, before_at}
+use Rattle.order_spec.specs.Before.{is_in, meets, overlap, before, no_fact, fact_at, all_below, is_next_at, before_at}
 use Rattle.order_spec.specs.Keeping.{moved, rest_of, fact_thread, may_come, keeps}
 use Rattle.order_spec.specs.Orders.{is_order_after, is_order, threads_at}
 use Rattle.order_spec.proofs.Lists.{and-left, and-right, or-left, or-right, or-in_left, or-in_right, is_or_not, not-true}
@@ -85,7 +85,7 @@ record IsApartAt (fs : List Fact) (i j : ℕ) : Type 0 where
   pub thread : eqb (fact_at fs i).thread (fact_at fs j).thread ≡ false
   pub given : (is_in (fact_at fs j).thread (fact_at fs i).given && is_next_at fs i j) ≡ false
   pub rest :
-      (share (fact_at fs i).objects (fact_at fs j).objects
+      (overlap (fact_at fs i).objects (fact_at fs j).objects
       || (meets (fact_at fs i).written (fact_at fs j).written || (meets (fact_at fs i).written (fact_at fs j).opened
       || (meets (fact_at fs i).opened (fact_at fs j).written || (fact_at fs j).last)))) ≡ false
 

@@ -1,4 +1,4 @@
--- Records are laid alike on machines that are alike.
+-- Records are applied alike on machines that are alike.
 use Rattle.std.proofs.Common.{◌≡◌, ◌+◌, ℕ, suc, Bool, true, ◌&&◌, List, [], ◌∷◌, ◌++◌, length, Option, Some, None, is_none, is_some, refl, ap, ap₂, sym, ◌∙◌, subst, inl, inr}
 use Rattle.std.specs.List.{AllByRecursion}
 use Rattle.memory_spec.specs.Pages.{Memory, page_of}
@@ -13,14 +13,14 @@ use Rattle.machine_spec.specs.declared.states.Asked.{Asked}
 use Rattle.machine_spec.specs.declared.states.Asked.TheVariants.{Asks, Stops}
 use Rattle.machine_spec.specs.declared.states.End.{End}
 use Rattle.machine_spec.specs.Machine.{Hart, Machine, hart_of, is_ready}
-use Rattle.machine_spec.specs.Step.{lay, fits, fate_end, end_after, state_end}
+use Rattle.machine_spec.specs.Step.{apply, fits, fate_end, end_after, state_end}
 use Rattle.machine_spec.specs.Whole.{IsWhole}
-use Rattle.history_spec.specs.History.{laid_from, can_lay_from}
-use Rattle.history_spec.proofs.Laying.{fits-can_step, lay-frame, lay-whole}
+use Rattle.history_spec.specs.History.{applied_from, can_apply_from}
+use Rattle.history_spec.proofs.Applying.{fits-can_step, apply-frame, apply-whole}
 use Rattle.order_spec.specs.Facts.{Fact, ask_of, acted, effect_of, objects_of, served, served_by, read_by, written_slots, fact_of, facts_from}
 use Rattle.order_spec.specs.Before.{is_in}
 use Rattle.order_spec.proofs.Lists.{and-left, and-right, is_or_not}
-use Rattle.order_spec.proofs.After.{after_at, lay-at, lay-length, lay-memory, lay-objects, lay-output, lay-steps, lay-limit, lay-ending, own_end, own_end_of}
+use Rattle.order_spec.proofs.After.{after_at, apply-at, apply-length, apply-memory, apply-objects, apply-output, apply-steps, apply-limit, apply-ending, own_end, own_end_of}
 use Rattle.order_spec.proofs.Local.{acted-like, objects-like, own_end-like}
 use Rattle.order_spec.proofs.Alike.{bare, IsAlike, IsReading, bare-after, touched, untouched-after, touched-served, read_by-on, end_after-like, has-like, put-like, view-of, fits-parts, fits-from}
 
@@ -60,50 +60,50 @@ fits-like reads m n r alike none reading fit =
       ends = ap (λ (f : Frame). may_end f.fuel r.kept.end r.kept.count) alike.frame ∙ parts.ends;
     })
 
-pub lay-at_like :
+pub apply-at_like :
     (reads : ℕ → ℕ → List ℕ) (m n : Machine) (r : Record) (u : ℕ)
     → IsAlike reads m n → IsWhole n → is_ready (hart_of n r.thread).status ≡ true
-    → hart_of (lay n r) u ≡ after_at (effect_of m r) (masked m.memory r.kept.delta) r (length m.harts) u (hart_of n u)
-lay-at_like reads m n r u alike whole ready =
-    lay-at n r u whole.tied ready
+    → hart_of (apply n r) u ≡ after_at (effect_of m r) (masked m.memory r.kept.delta) r (length m.harts) u (hart_of n u)
+apply-at_like reads m n r u alike whole ready =
+    apply-at n r u whole.tied ready
     ∙ ap (λ (x : Effect × Objects). after_at x.0 (masked n.memory r.kept.delta) r (length n.harts) u (hart_of n u))
     (acted-like m n r.thread (ask_of r) alike.frame alike.objects)
     ∙ ap₂ (λ (mem : Memory) (k : ℕ). after_at (effect_of m r) (masked mem r.kept.delta) r k u (hart_of n u))
     alike.memory alike.count
 
-pub lay-like :
+pub apply-like :
     (reads : ℕ → ℕ → List ℕ) (m n : Machine) (r : Record)
     → IsAlike reads m n → IsWhole m → IsWhole n → is_none m.ending ≡ true → IsReading reads m.frame r → fits m r ≡ true
-    → IsAlike reads (lay m r) (lay n r)
-lay-like reads m n r alike whole_m whole_n none reading fit =
+    → IsAlike reads (apply m r) (apply n r)
+apply-like reads m n r alike whole_m whole_n none reading fit =
     let fit_n : fits n r ≡ true = fits-like reads m n r alike none reading fit in
     let parts = fits-parts m r fit in
     let parts_n = fits-parts n r fit_n in
     let e : Effect = effect_of m r in
     let mem : Memory = masked m.memory r.kept.delta in
     let at_m : (u : ℕ)
-    → hart_of (lay m r) u ≡ after_at (effect_of m r) (masked m.memory r.kept.delta) r (length m.harts) u (hart_of m u) =
-    λ u. lay-at m r u whole_m.tied parts.ready in
+    → hart_of (apply m r) u ≡ after_at (effect_of m r) (masked m.memory r.kept.delta) r (length m.harts) u (hart_of m u) =
+    λ u. apply-at m r u whole_m.tied parts.ready in
     let at_n : (u : ℕ)
-    → hart_of (lay n r) u ≡ after_at (effect_of m r) (masked m.memory r.kept.delta) r (length m.harts) u (hart_of n u) =
-    λ u. lay-at_like reads m n r u alike whole_n parts_n.ready in
+    → hart_of (apply n r) u ≡ after_at (effect_of m r) (masked m.memory r.kept.delta) r (length m.harts) u (hart_of n u) =
+    λ u. apply-at_like reads m n r u alike whole_n parts_n.ready in
     let same_act : acted n r.thread (ask_of r) ≡ acted m r.thread (ask_of r) =
     acted-like m n r.thread (ask_of r) alike.frame alike.objects in
-    let count : length (lay n r).harts ≡ length (lay m r).harts =
-    lay-length n r
+    let count : length (apply n r).harts ≡ length (apply m r).harts =
+    apply-length n r
     ∙ ap₂ (λ (k : ℕ) (x : Effect × Objects). k + Rattle.guest_call.specs.Objects.created_count x.0.created) alike.count
-    same_act ∙ sym (lay-length m r) in
-    let harts : (u : ℕ) → bare (hart_of (lay n r) u) ≡ bare (hart_of (lay m r) u) =
+    same_act ∙ sym (apply-length m r) in
+    let harts : (u : ℕ) → bare (hart_of (apply n r) u) ≡ bare (hart_of (apply m r) u) =
     λ u. ap bare (at_n u)
     ∙ bare-after (effect_of m r) (masked m.memory r.kept.delta) (masked m.memory r.kept.delta) r (length m.harts) u
     (hart_of n u) (hart_of m u) (alike.harts u) ∙ sym (ap bare (at_m u)) in
     record {
-      frame = lay-frame n r ∙ alike.frame ∙ sym (lay-frame m r);
-      limit = lay-limit n r ∙ alike.limit ∙ sym (lay-limit m r);
-      memory = lay-memory n r ∙ ap (λ (x : Memory). masked x r.kept.delta) alike.memory ∙ sym (lay-memory m r);
-      objects = lay-objects n r ∙ ap (λ (x : Effect × Objects). x.1) same_act ∙ sym (lay-objects m r);
+      frame = apply-frame n r ∙ alike.frame ∙ sym (apply-frame m r);
+      limit = apply-limit n r ∙ alike.limit ∙ sym (apply-limit m r);
+      memory = apply-memory n r ∙ ap (λ (x : Memory). masked x r.kept.delta) alike.memory ∙ sym (apply-memory m r);
+      objects = apply-objects n r ∙ ap (λ (x : Effect × Objects). x.1) same_act ∙ sym (apply-objects m r);
       output =
-          lay-output n r
+          apply-output n r
           ∙ ap₂ (λ (o : List ℕ) (p : List ℕ). o ++ p) alike.output
           (ap (λ (f : Frame). put_of f.map (hart_of n r.thread).view r.kept) alike.frame
           ∙ put-like m.frame (hart_of m r.thread).view (hart_of n r.thread).view r.start r.kept reading.honest
@@ -111,21 +111,21 @@ lay-like reads m n r alike whole_m whole_n none reading fit =
           (subst (λ (f : Frame). Rattle.memory_spec.specs.Pages.IsMemory f.map (hart_of n r.thread).view) alike.frame
           (view-of n r.thread whole_n parts_n.ready))
           parts.reads parts_n.reads)
-          ∙ sym (lay-output m r);
-      steps = lay-steps n r ∙ ap suc alike.steps ∙ sym (lay-steps m r);
+          ∙ sym (apply-output m r);
+      steps = apply-steps n r ∙ ap suc alike.steps ∙ sym (apply-steps m r);
       ending =
-          lay-ending n r
-          ∙ end_after-like (own_end_of n r) (lay m r).harts (lay n r).harts n.limit (suc n.steps) count harts
-          ∙ ap (λ (x : Option End). end_after x (lay m r).harts n.limit (suc n.steps))
+          apply-ending n r
+          ∙ end_after-like (own_end_of n r) (apply m r).harts (apply n r).harts n.limit (suc n.steps) count harts
+          ∙ ap (λ (x : Option End). end_after x (apply m r).harts n.limit (suc n.steps))
           (own_end-like m n r.thread (ask_of r) alike.frame alike.objects)
-          ∙ ap₂ (λ (l s : ℕ). end_after (own_end_of m r) (lay m r).harts l (suc s)) alike.limit alike.steps
-          ∙ sym (lay-ending m r);
+          ∙ ap₂ (λ (l s : ℕ). end_after (own_end_of m r) (apply m r).harts l (suc s)) alike.limit alike.steps
+          ∙ sym (apply-ending m r);
       count = count;
       harts = harts;
       views = λ on u p ready read.
           let own : own_end_of m r ≡ None =
-          (end_after-none (own_end_of m r) (lay m r).harts m.limit (suc m.steps)
-          (sym (lay-ending m r) ∙ none-is (lay m r).ending on)).0 in
+          (end_after-none (own_end_of m r) (apply m r).harts m.limit (suc m.steps)
+          (sym (apply-ending m r) ∙ none-is (apply m r).ending on)).0 in
           let fate : fate_end (effect_of m r).fate ≡ None = fate-none m r.thread (ask_of r) own in
           let ready_m = ap (λ (h : Hart). is_ready h.status) (sym (at_m u)) ∙ ready in
           let ready_n =
@@ -143,10 +143,10 @@ lay-like reads m n r alike whole_m whole_n none reading fit =
                 ∙ ap (λ (v : Memory). page_of v p) (served_n.view ∙ sym served_m.view)
                 ∙ ap (λ (h : Hart). page_of h.view p) (sym (at_m u))
             | inr not_touched ↦
-                let stays_m : hart_of (lay m r) u ≡ hart_of m u =
+                let stays_m : hart_of (apply m r) u ≡ hart_of m u =
                 at_m u ∙ untouched-after (effect_of m r) (masked m.memory r.kept.delta) r (length m.harts) u
                 (hart_of m u) not_touched in
-                let stays_n : hart_of (lay n r) u ≡ hart_of n u =
+                let stays_n : hart_of (apply n r) u ≡ hart_of n u =
                 at_n u ∙ untouched-after (effect_of m r) (masked m.memory r.kept.delta) r (length m.harts) u
                 (hart_of n u) not_touched in
                 ap (λ (h : Hart). page_of h.view p) stays_n
@@ -170,47 +170,47 @@ served-like reads m n r alike =
 
 pub fact-like :
     (reads : ℕ → ℕ → List ℕ) (m n : Machine) (r : Record)
-    → IsAlike reads m n → IsAlike reads (lay m r) (lay n r)
+    → IsAlike reads m n → IsAlike reads (apply m r) (apply n r)
     → fact_of reads n r ≡ fact_of reads m r
 fact-like reads m n r alike after =
     same-fact r.thread (objects_of n r) (objects_of m r) _ _ (written_slots r) _ _ _ _
     (objects-like m n (ask_of r) alike.frame alike.objects)
     (served-like reads m n r alike)
-    (read_by-on reads (lay m r) (lay n r) (served_by n r) (λ u there. after.harts u)
-    ∙ ap (read_by reads (lay m r)) (served-like reads m n r alike))
+    (read_by-on reads (apply m r) (apply n r) (served_by n r) (λ u there. after.harts u)
+    ∙ ap (read_by reads (apply m r)) (served-like reads m n r alike))
     (ap (λ (e : Option End). is_some e) after.ending)
 
 -- what follows on one machine follows on the other
 pub record IsFollowing (reads : ℕ → ℕ → List ℕ) (m : Machine) (rs : List Record) (n : Machine)
     (qs : List Record) : Type 0 where
-  pub can : can_lay_from n qs ≡ true
-  pub alike : IsAlike reads (laid_from m rs) (laid_from n qs)
+  pub can : can_apply_from n qs ≡ true
+  pub alike : IsAlike reads (applied_from m rs) (applied_from n qs)
 
-pub reading-lay :
+pub reading-apply :
     (reads : ℕ → ℕ → List ℕ) (m : Machine) (r : Record) (rs : List Record)
-    → AllByRecursion (IsReading reads m.frame) rs → AllByRecursion (IsReading reads (lay m r).frame) rs
-reading-lay reads m r rs all = subst (λ (f : Frame). AllByRecursion (IsReading reads f) rs) (sym (lay-frame m r)) all
+    → AllByRecursion (IsReading reads m.frame) rs → AllByRecursion (IsReading reads (apply m r).frame) rs
+reading-apply reads m r rs all = subst (λ (f : Frame). AllByRecursion (IsReading reads f) rs) (sym (apply-frame m r)) all
 
 pub all-like :
     (reads : ℕ → ℕ → List ℕ) (rs : List Record) (m n : Machine)
-    → IsAlike reads m n → IsWhole m → IsWhole n → AllByRecursion (IsReading reads m.frame) rs → can_lay_from m rs ≡ true
+    → IsAlike reads m n → IsWhole m → IsWhole n → AllByRecursion (IsReading reads m.frame) rs → can_apply_from m rs ≡ true
     → IsFollowing reads m rs n rs × (facts_from reads n rs ≡ facts_from reads m rs)
 all-like reads [] m n alike whole_m whole_n reading can = (record { can = refl; alike = alike }, refl)
 all-like reads (r ∷ rs) m n alike whole_m whole_n reading can =
     let here : (is_none m.ending && fits m r) ≡ true =
-    and-left (is_none m.ending && fits m r) (can_lay_from (lay m r) rs) can in
-    let later : can_lay_from (lay m r) rs ≡ true =
-    and-right (is_none m.ending && fits m r) (can_lay_from (lay m r) rs) can in
+    and-left (is_none m.ending && fits m r) (can_apply_from (apply m r) rs) can in
+    let later : can_apply_from (apply m r) rs ≡ true =
+    and-right (is_none m.ending && fits m r) (can_apply_from (apply m r) rs) can in
     let none : is_none m.ending ≡ true = and-left (is_none m.ending) (fits m r) here in
     let fit : fits m r ≡ true = and-right (is_none m.ending) (fits m r) here in
     let none_n : is_none n.ending ≡ true = ap (λ (e : Option End). is_none e) alike.ending ∙ none in
     let fit_n : fits n r ≡ true = fits-like reads m n r alike none reading.0 fit in
     let here_n : (is_none n.ending && fits n r) ≡ true = rw (none_n, fit_n) refl in
-    let next : IsAlike reads (lay m r) (lay n r) = lay-like reads m n r alike whole_m whole_n none reading.0 fit in
+    let next : IsAlike reads (apply m r) (apply n r) = apply-like reads m n r alike whole_m whole_n none reading.0 fit in
     let rest =
-    all-like reads rs (lay m r) (lay n r) next (lay-whole m r whole_m (fits-can_step m r none fit))
-    (lay-whole n r whole_n (fits-can_step n r none_n fit_n))
-    (reading-lay reads m r rs reading.1) later in (
+    all-like reads rs (apply m r) (apply n r) next (apply-whole m r whole_m (fits-can_step m r none fit))
+    (apply-whole n r whole_n (fits-can_step n r none_n fit_n))
+    (reading-apply reads m r rs reading.1) later in (
       record { can = rw (none_n, fit_n, rest.0.can) refl; alike = rest.0.alike },
       rw (here, here_n) (ap₂ (λ (f : Fact) (fs : List Fact). f ∷ fs) (fact-like reads m n r alike next) rest.1),
     )

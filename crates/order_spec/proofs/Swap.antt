@@ -18,16 +18,16 @@ use Rattle.machine_spec.specs.declared.states.End.{End}
 use Rattle.machine_spec.specs.declared.states.Status.{Status}
 use Rattle.machine_spec.specs.declared.states.Status.TheVariants.{Ready, Blocked, Ended}
 use Rattle.machine_spec.specs.Machine.{Hart, Machine, hart_of, hart_in, is_ready, is_ended}
-use Rattle.machine_spec.specs.Step.{lay, fits, fate_end, end_after, state_end}
+use Rattle.machine_spec.specs.Step.{apply, fits, fate_end, end_after, state_end}
 use Rattle.machine_spec.specs.Whole.{IsWhole}
 use Rattle.machine_spec.proofs.Harts.{ready-below}
-use Rattle.history_spec.proofs.Laying.{fits-can_step, lay-frame, lay-whole, lay-stays}
+use Rattle.history_spec.proofs.Applying.{fits-can_step, apply-frame, apply-whole, apply-stays}
 use Rattle.history_spec.proofs.Truth.{fits-hart}
 use Rattle.order_spec.specs.Facts.{Fact, ask_of, acted, effect_of, objects_of, starting, served, served_by, read_by, written_slots, fact_of}
-use Rattle.order_spec.specs.Before.{is_in, meets, share}
-use Rattle.order_spec.proofs.Lists.{is_or_not, meets-not, meets-not_back, share-not, share-not_back, is_in-places}
+use Rattle.order_spec.specs.Before.{is_in, meets, overlap}
+use Rattle.order_spec.proofs.Lists.{is_or_not, meets-not, meets-not_back, overlap-not, overlap-not_back, is_in-places}
 use Rattle.order_spec.proofs.Pages.{masked-first, masked-swap}
-use Rattle.order_spec.proofs.After.{created_at, settled_at, ran_at, after_at, acted-keeps, unwoken, waits-past, waits-ready, lay-at, lay-length, lay-memory, lay-objects, lay-output, lay-steps, lay-limit, lay-ending, own_end_of}
+use Rattle.order_spec.proofs.After.{created_at, settled_at, ran_at, after_at, acted-keeps, unwoken, waits-past, waits-ready, apply-at, apply-length, apply-memory, apply-objects, apply-output, apply-steps, apply-limit, apply-ending, own_end_of}
 use Rattle.order_spec.proofs.Local.{IsMet, effect-met, objects-met, own_end-met, parts-stay, parts-met, objects-same, uncreated, unput}
 use Rattle.order_spec.proofs.Alike.{bare, IsAlike, bare-after, touched, untouched-after, touched-served, read_by-in, read_by-on, served-touched, end_after-like, fits-parts}
 use Rattle.order_spec.proofs.Simulate.{none-is, end_after-none, fate-none, same-fact}
@@ -37,15 +37,15 @@ pub record IsPair (reads : ℕ → ℕ → List ℕ) (m : Machine) (a b : Record
   pub whole : IsWhole m
   pub none : is_none m.ending ≡ true
   pub fit_a : fits m a ≡ true
-  pub none_a : is_none (lay m a).ending ≡ true
-  pub fit_b : fits (lay m a) b ≡ true
-  pub none_b : is_none (lay (lay m a) b).ending ≡ true
+  pub none_a : is_none (apply m a).ending ≡ true
+  pub fit_b : fits (apply m a) b ≡ true
+  pub none_b : is_none (apply (apply m a) b).ending ≡ true
   pub threads : b.thread ≢ a.thread
   pub given : is_in b.thread (served_by m a) ≡ false
-  pub objects : share (objects_of m a) (objects_of (lay m a) b) ≡ false
+  pub objects : overlap (objects_of m a) (objects_of (apply m a) b) ≡ false
   pub writes : meets (written_slots a) (written_slots b) ≡ false
-  pub opens : meets (written_slots a) (read_by reads (lay (lay m a) b) (served_by (lay m a) b)) ≡ false
-  pub opened : meets (read_by reads (lay m a) (served_by m a)) (written_slots b) ≡ false
+  pub opens : meets (written_slots a) (read_by reads (apply (apply m a) b) (served_by (apply m a) b)) ≡ false
+  pub opened : meets (read_by reads (apply m a) (served_by m a)) (written_slots b) ≡ false
 
 -- lemmas that know nothing of the pair
 
@@ -104,17 +104,17 @@ module _ (reads : ℕ → ℕ → List ℕ) (m : Machine) (a b : Record) (pair :
   ready_a : is_ready (hart_of m a.thread).status ≡ true
   ready_a = (fits-parts m a pair.fit_a).ready
 
-  whole_a : IsWhole (lay m a)
-  whole_a = lay-whole m a pair.whole (fits-can_step m a pair.none pair.fit_a)
+  whole_a : IsWhole (apply m a)
+  whole_a = apply-whole m a pair.whole (fits-can_step m a pair.none pair.fit_a)
 
-  ready_ab : is_ready (hart_of (lay m a) b.thread).status ≡ true
-  ready_ab = (fits-parts (lay m a) b pair.fit_b).ready
+  ready_ab : is_ready (hart_of (apply m a) b.thread).status ≡ true
+  ready_ab = (fits-parts (apply m a) b pair.fit_b).ready
 
   fate_a : fate_end (effect_of m a).fate ≡ None
   fate_a =
       fate-none m a.thread (ask_of a)
-      (end_after-none (own_end_of m a) (lay m a).harts m.limit (suc m.steps)
-      (sym (lay-ending m a) ∙ none-is (lay m a).ending pair.none_a)).0
+      (end_after-none (own_end_of m a) (apply m a).harts m.limit (suc m.steps)
+      (sym (apply-ending m a) ∙ none-is (apply m a).ending pair.none_a)).0
 
   -- the earlier step doesn't touch the later one's thread
   untouched_b : touched (effect_of m a) a.thread (length m.harts) b.thread ≡ false
@@ -122,110 +122,110 @@ module _ (reads : ℕ → ℕ → List ℕ) (m : Machine) (a b : Record) (pair :
       elim (is_or_not (touched (effect_of m a) a.thread (length m.harts) b.thread)) [
         | inr apart ↦ apart
         | inl is ↦
-            let at = lay-at m a b.thread pair.whole.tied ready_a in
+            let at = apply-at m a b.thread pair.whole.tied ready_a in
             let served =
             touched-served (effect_of m a) (masked m.memory a.kept.delta) a (length m.harts) b.thread
             (hart_of m b.thread) is fate_a (ap (λ (h : Hart). is_ready h.status) (sym at) ∙ ready_ab) in
             absurd (let is_it = served.there in let isnt = pair.given in cc)
       ]
 
-  stays_b : hart_of (lay m a) b.thread ≡ hart_of m b.thread
+  stays_b : hart_of (apply m a) b.thread ≡ hart_of m b.thread
   stays_b =
-      lay-at m a b.thread pair.whole.tied ready_a
+      apply-at m a b.thread pair.whole.tied ready_a
       ∙ untouched-after (effect_of m a) (masked m.memory a.kept.delta) a (length m.harts) b.thread
       (hart_of m b.thread) untouched_b
 
   pub fit_early : fits m b ≡ true
-  fit_early = sym (fits-hart m (lay m a) b (ap (λ (f : Frame). f.fuel) (lay-frame m a)) stays_b) ∙ pair.fit_b
+  fit_early = sym (fits-hart m (apply m a) b (ap (λ (f : Frame). f.fuel) (apply-frame m a)) stays_b) ∙ pair.fit_b
 
   ready_b : is_ready (hart_of m b.thread).status ≡ true
   ready_b = (fits-parts m b fit_early).ready
 
-  whole_b : IsWhole (lay m b)
-  whole_b = lay-whole m b pair.whole (fits-can_step m b pair.none fit_early)
+  whole_b : IsWhole (apply m b)
+  whole_b = apply-whole m b pair.whole (fits-can_step m b pair.none fit_early)
 
   -- and the later one's effect is the same before it
-  met_b : IsMet (lay m a) b m
+  met_b : IsMet (apply m a) b m
   met_b = record {
-    frame = sym (lay-frame m a);
+    frame = sym (apply-frame m a);
     kept = whole_a.tied.kept;
     alike = λ p among.
         sym (parts-stay m a p pair.whole.tied.kept
-        (share-not_back p (objects_of m a) (objects_of (lay m a) b) pair.objects among));
+        (overlap-not_back p (objects_of m a) (objects_of (apply m a) b) pair.objects among));
   }
 
-  objects_b : objects_of m b ≡ objects_of (lay m a) b
-  objects_b = objects-met (lay m a) m b met_b
+  objects_b : objects_of m b ≡ objects_of (apply m a) b
+  objects_b = objects-met (apply m a) m b met_b
 
-  effect_b : effect_of (lay m a) b ≡ effect_of m b
-  effect_b = sym (effect-met (lay m a) m b met_b)
+  effect_b : effect_of (apply m a) b ≡ effect_of m b
+  effect_b = sym (effect-met (apply m a) m b met_b)
 
   not_among_b : (p : Object) → is_among p (objects_of m a) ≡ true → is_among p (objects_of m b) ≡ false
   not_among_b p among =
       subst (λ (os : List Object). is_among p os ≡ false) (sym objects_b)
-      (share-not p (objects_of m a) (objects_of (lay m a) b) pair.objects among)
+      (overlap-not p (objects_of m a) (objects_of (apply m a) b) pair.objects among)
 
-  met_a : IsMet m a (lay m b)
+  met_a : IsMet m a (apply m b)
   met_a = record {
-    frame = lay-frame m b;
+    frame = apply-frame m b;
     kept = pair.whole.tied.kept;
     alike = λ p among. parts-stay m b p pair.whole.tied.kept (not_among_b p among);
   }
 
-  effect_a : effect_of (lay m b) a ≡ effect_of m a
-  effect_a = effect-met m (lay m b) a met_a
+  effect_a : effect_of (apply m b) a ≡ effect_of m a
+  effect_a = effect-met m (apply m b) a met_a
 
-  stays_a : hart_of (lay m b) a.thread ≡ hart_of m a.thread
+  stays_a : hart_of (apply m b) a.thread ≡ hart_of m a.thread
   stays_a =
-      lay-stays m b a.thread pair.whole (fits-can_step m b pair.none fit_early) (λ e. pair.threads (sym e)) ready_a
+      apply-stays m b a.thread pair.whole (fits-can_step m b pair.none fit_early) (λ e. pair.threads (sym e)) ready_a
 
-  pub fit_late : fits (lay m b) a ≡ true
-  fit_late = fits-hart m (lay m b) a (ap (λ (f : Frame). f.fuel) (lay-frame m b)) stays_a ∙ pair.fit_a
+  pub fit_late : fits (apply m b) a ≡ true
+  fit_late = fits-hart m (apply m b) a (ap (λ (f : Frame). f.fuel) (apply-frame m b)) stays_a ∙ pair.fit_a
 
-  ready_ba : is_ready (hart_of (lay m b) a.thread).status ≡ true
-  ready_ba = (fits-parts (lay m b) a fit_late).ready
+  ready_ba : is_ready (hart_of (apply m b) a.thread).status ≡ true
+  ready_ba = (fits-parts (apply m b) a fit_late).ready
 
   -- ends
 
-  whole_ab : IsWhole (lay (lay m a) b)
-  whole_ab = lay-whole (lay m a) b whole_a (fits-can_step (lay m a) b pair.none_a pair.fit_b)
+  whole_ab : IsWhole (apply (apply m a) b)
+  whole_ab = apply-whole (apply m a) b whole_a (fits-can_step (apply m a) b pair.none_a pair.fit_b)
 
   steps_left : suc (suc m.steps) < m.limit
   steps_left =
-      let left = whole_ab.steps_left (none-is (lay (lay m a) b).ending pair.none_b) in
-      let limit : (lay (lay m a) b).limit ≡ m.limit = lay-limit (lay m a) b ∙ lay-limit m a in
-      let steps : (lay (lay m a) b).steps ≡ suc (suc m.steps) = lay-steps (lay m a) b ∙ ap suc (lay-steps m a) in
+      let left = whole_ab.steps_left (none-is (apply (apply m a) b).ending pair.none_b) in
+      let limit : (apply (apply m a) b).limit ≡ m.limit = apply-limit (apply m a) b ∙ apply-limit m a in
+      let steps : (apply (apply m a) b).steps ≡ suc (suc m.steps) = apply-steps (apply m a) b ∙ ap suc (apply-steps m a) in
       omega arith
 
   ends_ab :
-      (own_end_of (lay m a) b ≡ None) × (state_end (lay (lay m a) b).harts (lay m a).limit (suc (lay m a).steps) ≡ None)
+      (own_end_of (apply m a) b ≡ None) × (state_end (apply (apply m a) b).harts (apply m a).limit (suc (apply m a).steps) ≡ None)
   ends_ab =
-      end_after-none (own_end_of (lay m a) b) (lay (lay m a) b).harts (lay m a).limit (suc (lay m a).steps)
-      (sym (lay-ending (lay m a) b) ∙ none-is (lay (lay m a) b).ending pair.none_b)
+      end_after-none (own_end_of (apply m a) b) (apply (apply m a) b).harts (apply m a).limit (suc (apply m a).steps)
+      (sym (apply-ending (apply m a) b) ∙ none-is (apply (apply m a) b).ending pair.none_b)
 
   own_b : own_end_of m b ≡ None
-  own_b = own_end-met (lay m a) m b met_b ∙ ends_ab.0
+  own_b = own_end-met (apply m a) m b met_b ∙ ends_ab.0
 
-  own_a : own_end_of (lay m b) a ≡ None
+  own_a : own_end_of (apply m b) a ≡ None
   own_a =
-      own_end-met m (lay m b) a met_a
-      ∙ (end_after-none (own_end_of m a) (lay m a).harts m.limit (suc m.steps)
-      (sym (lay-ending m a) ∙ none-is (lay m a).ending pair.none_a)).0
+      own_end-met m (apply m b) a met_a
+      ∙ (end_after-none (own_end_of m a) (apply m a).harts m.limit (suc m.steps)
+      (sym (apply-ending m a) ∙ none-is (apply m a).ending pair.none_a)).0
 
-  ending_b : (lay m b).ending ≡ None
+  ending_b : (apply m b).ending ≡ None
   ending_b =
-      lay-ending m b
+      apply-ending m b
       ∙ rw own_b
-      (state_end-none (lay m b).harts a.thread m.limit (suc m.steps) ready_ba (let left = steps_left in omega arith))
+      (state_end-none (apply m b).harts a.thread m.limit (suc m.steps) ready_ba (let left = steps_left in omega arith))
 
-  pub none_early : is_none (lay m b).ending ≡ true
+  pub none_early : is_none (apply m b).ending ≡ true
   none_early = rw ending_b refl
 
   fate_b : fate_end (effect_of m b).fate ≡ None
   fate_b = fate-none m b.thread (ask_of b) own_b
 
-  whole_ba : IsWhole (lay (lay m b) a)
-  whole_ba = lay-whole (lay m b) a whole_b (fits-can_step (lay m b) a none_early fit_late)
+  whole_ba : IsWhole (apply (apply m b) a)
+  whole_ba = apply-whole (apply m b) a whole_b (fits-can_step (apply m b) a none_early fit_late)
 
   -- who is touched by the earlier step isn't touched by the later one
 
@@ -236,14 +236,14 @@ module _ (reads : ℕ → ℕ → List ℕ) (m : Machine) (a b : Record) (pair :
         | inr apart ↦ inl (uncreated m a pair.whole.tied.kept apart)
       ]
 
-  length-uncreated : (r : Record) → (effect_of m r).created ≡ None → length (lay m r).harts ≡ length m.harts
+  length-uncreated : (r : Record) → (effect_of m r).created ≡ None → length (apply m r).harts ≡ length m.harts
   length-uncreated r none_new =
-      lay-length m r ∙ ap (λ (c : Option (ℕ × ℕ)). length m.harts + created_count c) none_new ∙ omega arith
+      apply-length m r ∙ ap (λ (c : Option (ℕ × ℕ)). length m.harts + created_count c) none_new ∙ omega arith
 
-  index_b : ((effect_of m b).created ≡ None) ⊎ (length (lay m a).harts ≡ length m.harts)
+  index_b : ((effect_of m b).created ≡ None) ⊎ (length (apply m a).harts ≡ length m.harts)
   index_b = elim one_creates [ inl none_new ↦ inr (length-uncreated a none_new) | inr none_new ↦ inl none_new ]
 
-  index_a : ((effect_of m a).created ≡ None) ⊎ (length (lay m b).harts ≡ length m.harts)
+  index_a : ((effect_of m a).created ≡ None) ⊎ (length (apply m b).harts ≡ length m.harts)
   index_a = elim one_creates [ inl none_new ↦ inl none_new | inr none_new ↦ inr (length-uncreated b none_new) ]
 
   -- who waits no more after the earlier step isn't woken by the later one
@@ -254,12 +254,12 @@ module _ (reads : ℕ → ℕ → List ℕ) (m : Machine) (a b : Record) (pair :
       let keeps = acted-keeps m a.thread (ask_of a) pair.whole.tied ready_a u in
       let enters = entering-other a.thread (effect_of m a).fate u other_a in
       let once = pair.whole.tied.kept.once u in
-      let after : waits_at (lay m a).objects u ≡ waits_at (acted m a.thread (ask_of a)).1 u =
-      ap (λ (o : Objects). waits_at o u) (lay-objects m a) in
+      let after : waits_at (apply m a).objects u ≡ waits_at (acted m a.thread (ask_of a)).1 u =
+      ap (λ (o : Objects). waits_at o u) (apply-objects m a) in
       let some : places u (effect_of m a).woken ≢ 0 =
       λ none_there. (let isnt = is_in-places u (effect_of m a).woken none_there in cc) in
       subst (λ (e : Effect). is_in u e.woken ≡ false) effect_b
-      (unwoken (lay m a) b.thread (ask_of b) u whole_a.tied ready_ab other_b (omega arith))
+      (unwoken (apply m a) b.thread (ask_of b) u whole_a.tied ready_ab other_b (omega arith))
 
   below-woken : (u : ℕ) → u ≢ a.thread → is_in u (effect_of m a).woken ≡ true → u < length m.harts
   below-woken u other_a woke =
@@ -340,48 +340,48 @@ module _ (reads : ℕ → ℕ → List ℕ) (m : Machine) (a b : Record) (pair :
   -- the harts of both orders
 
   at_a :
-      (u : ℕ) → hart_of (lay m a) u
+      (u : ℕ) → hart_of (apply m a) u
       ≡ after_at (effect_of m a) (masked m.memory a.kept.delta) a (length m.harts) u (hart_of m u)
-  at_a u = lay-at m a u pair.whole.tied ready_a
+  at_a u = apply-at m a u pair.whole.tied ready_a
 
   at_b :
-      (u : ℕ) → hart_of (lay m b) u
+      (u : ℕ) → hart_of (apply m b) u
       ≡ after_at (effect_of m b) (masked m.memory b.kept.delta) b (length m.harts) u (hart_of m u)
-  at_b u = lay-at m b u pair.whole.tied ready_b
+  at_b u = apply-at m b u pair.whole.tied ready_b
 
   at_ab :
-      (u : ℕ) → hart_of (lay (lay m a) b) u
+      (u : ℕ) → hart_of (apply (apply m a) b) u
       ≡ after_at (effect_of m b) (masked (masked m.memory a.kept.delta) b.kept.delta) b (length m.harts) u
-      (hart_of (lay m a) u)
+      (hart_of (apply m a) u)
   at_ab u =
-      lay-at (lay m a) b u whole_a.tied ready_ab
+      apply-at (apply m a) b u whole_a.tied ready_ab
       ∙ ap₂ (λ (e : Effect) (mem : Memory).
-      after_at e (masked mem b.kept.delta) b (length (lay m a).harts) u (hart_of (lay m a) u)) effect_b (lay-memory m a)
+      after_at e (masked mem b.kept.delta) b (length (apply m a).harts) u (hart_of (apply m a) u)) effect_b (apply-memory m a)
       ∙ at-index (effect_of m b) (masked (masked m.memory a.kept.delta) b.kept.delta) b (length m.harts)
-      (length (lay m a).harts) u (hart_of (lay m a) u) index_b
+      (length (apply m a).harts) u (hart_of (apply m a) u) index_b
 
   at_ba :
-      (u : ℕ) → hart_of (lay (lay m b) a) u
+      (u : ℕ) → hart_of (apply (apply m b) a) u
       ≡ after_at (effect_of m a) (masked (masked m.memory b.kept.delta) a.kept.delta) a (length m.harts) u
-      (hart_of (lay m b) u)
+      (hart_of (apply m b) u)
   at_ba u =
-      lay-at (lay m b) a u whole_b.tied ready_ba
+      apply-at (apply m b) a u whole_b.tied ready_ba
       ∙ ap₂ (λ (e : Effect) (mem : Memory).
-      after_at e (masked mem a.kept.delta) a (length (lay m b).harts) u (hart_of (lay m b) u)) effect_a (lay-memory m b)
+      after_at e (masked mem a.kept.delta) a (length (apply m b).harts) u (hart_of (apply m b) u)) effect_a (apply-memory m b)
       ∙ at-index (effect_of m a) (masked (masked m.memory b.kept.delta) a.kept.delta) a (length m.harts)
-      (length (lay m b).harts) u (hart_of (lay m b) u) index_a
+      (length (apply m b).harts) u (hart_of (apply m b) u) index_a
 
   -- of a hart that the earlier step touches
   first_ab :
       (u : ℕ) → touched (effect_of m a) a.thread (length m.harts) u ≡ true
-      → hart_of (lay (lay m a) b) u ≡ hart_of (lay m a) u
+      → hart_of (apply (apply m a) b) u ≡ hart_of (apply m a) u
   first_ab u is =
       at_ab u ∙ untouched-after (effect_of m b) (masked (masked m.memory a.kept.delta) b.kept.delta) b
-      (length m.harts) u (hart_of (lay m a) u) (apart u is)
+      (length m.harts) u (hart_of (apply m a) u) (apart u is)
 
   first_ba :
       (u : ℕ) → touched (effect_of m a) a.thread (length m.harts) u ≡ true
-      → hart_of (lay (lay m b) a) u
+      → hart_of (apply (apply m b) a) u
       ≡ after_at (effect_of m a) (masked (masked m.memory b.kept.delta) a.kept.delta) a (length m.harts) u (hart_of m u)
   first_ba u is =
       at_ba u
@@ -392,7 +392,7 @@ module _ (reads : ℕ → ℕ → List ℕ) (m : Machine) (a b : Record) (pair :
   -- of one that it doesn't touch
   then_ab :
       (u : ℕ) → touched (effect_of m a) a.thread (length m.harts) u ≡ false
-      → hart_of (lay (lay m a) b) u
+      → hart_of (apply (apply m a) b) u
       ≡ after_at (effect_of m b) (masked (masked m.memory a.kept.delta) b.kept.delta) b (length m.harts) u (hart_of m u)
   then_ab u isnt =
       at_ab u
@@ -401,14 +401,14 @@ module _ (reads : ℕ → ℕ → List ℕ) (m : Machine) (a b : Record) (pair :
 
   then_ba :
       (u : ℕ) → touched (effect_of m a) a.thread (length m.harts) u ≡ false
-      → hart_of (lay (lay m b) a) u ≡ hart_of (lay m b) u
+      → hart_of (apply (apply m b) a) u ≡ hart_of (apply m b) u
   then_ba u isnt =
       at_ba u ∙ untouched-after (effect_of m a) (masked (masked m.memory b.kept.delta) a.kept.delta) a
-      (length m.harts) u (hart_of (lay m b) u) isnt
+      (length m.harts) u (hart_of (apply m b) u) isnt
 
   first_bare :
       (u : ℕ) → touched (effect_of m a) a.thread (length m.harts) u ≡ true
-      → bare (hart_of (lay (lay m b) a) u) ≡ bare (hart_of (lay m a) u)
+      → bare (hart_of (apply (apply m b) a) u) ≡ bare (hart_of (apply m a) u)
   first_bare u is =
       ap bare (first_ba u is)
       ∙ bare-after (effect_of m a) (masked (masked m.memory b.kept.delta) a.kept.delta) (masked m.memory a.kept.delta) a
@@ -417,48 +417,48 @@ module _ (reads : ℕ → ℕ → List ℕ) (m : Machine) (a b : Record) (pair :
 
   then_bare :
       (u : ℕ) → touched (effect_of m a) a.thread (length m.harts) u ≡ false
-      → bare (hart_of (lay m b) u) ≡ bare (hart_of (lay (lay m a) b) u)
+      → bare (hart_of (apply m b) u) ≡ bare (hart_of (apply (apply m a) b) u)
   then_bare u isnt =
       ap bare (at_b u)
       ∙ bare-after (effect_of m b) (masked m.memory b.kept.delta) (masked (masked m.memory a.kept.delta) b.kept.delta) b
       (length m.harts) u (hart_of m u) (hart_of m u) refl
       ∙ sym (ap bare (then_ab u isnt))
 
-  harts : (u : ℕ) → bare (hart_of (lay (lay m b) a) u) ≡ bare (hart_of (lay (lay m a) b) u)
+  harts : (u : ℕ) → bare (hart_of (apply (apply m b) a) u) ≡ bare (hart_of (apply (apply m a) b) u)
   harts u =
       elim (is_or_not (touched (effect_of m a) a.thread (length m.harts) u)) [
         | inl is ↦ first_bare u is ∙ sym (ap bare (first_ab u is))
         | inr isnt ↦ ap bare (then_ba u isnt) ∙ then_bare u isnt
       ]
 
-  count : length (lay (lay m b) a).harts ≡ length (lay (lay m a) b).harts
+  count : length (apply (apply m b) a).harts ≡ length (apply (apply m a) b).harts
   count =
-      let x : length (lay (lay m b) a).harts ≡ length (lay m b).harts + created_count (effect_of m a).created =
-      lay-length (lay m b) a ∙ ap (λ (e : Effect). length (lay m b).harts + created_count e.created) effect_a in
-      let y : length (lay (lay m a) b).harts ≡ length (lay m a).harts + created_count (effect_of m b).created =
-      lay-length (lay m a) b ∙ ap (λ (e : Effect). length (lay m a).harts + created_count e.created) effect_b in
-      let p = lay-length m a in let q = lay-length m b in
+      let x : length (apply (apply m b) a).harts ≡ length (apply m b).harts + created_count (effect_of m a).created =
+      apply-length (apply m b) a ∙ ap (λ (e : Effect). length (apply m b).harts + created_count e.created) effect_a in
+      let y : length (apply (apply m a) b).harts ≡ length (apply m a).harts + created_count (effect_of m b).created =
+      apply-length (apply m a) b ∙ ap (λ (e : Effect). length (apply m a).harts + created_count e.created) effect_b in
+      let p = apply-length m a in let q = apply-length m b in
       omega arith
 
   -- the objects
 
-  parts : (p : Object) → part_of (lay (lay m b) a).objects p ≡ part_of (lay (lay m a) b).objects p
+  parts : (p : Object) → part_of (apply (apply m b) a).objects p ≡ part_of (apply (apply m a) b).objects p
   parts p =
       elim (is_or_not (is_among p (objects_of m a))) [
         | inl among ↦
-            parts-met m (lay m b) a p met_a whole_b.tied.kept among
-            ∙ sym (parts-stay (lay m a) b p whole_a.tied.kept
-            (share-not p (objects_of m a) (objects_of (lay m a) b) pair.objects among))
+            parts-met m (apply m b) a p met_a whole_b.tied.kept among
+            ∙ sym (parts-stay (apply m a) b p whole_a.tied.kept
+            (overlap-not p (objects_of m a) (objects_of (apply m a) b) pair.objects among))
         | inr isnt ↦
-            parts-stay (lay m b) a p whole_b.tied.kept
-            (subst (λ (os : List Object). is_among p os ≡ false) (sym (objects-met m (lay m b) a met_a)) isnt)
-            ∙ elim (is_or_not (is_among p (objects_of (lay m a) b))) [
-              | inl among ↦ parts-met (lay m a) m b p met_b pair.whole.tied.kept among
+            parts-stay (apply m b) a p whole_b.tied.kept
+            (subst (λ (os : List Object). is_among p os ≡ false) (sym (objects-met m (apply m b) a met_a)) isnt)
+            ∙ elim (is_or_not (is_among p (objects_of (apply m a) b))) [
+              | inl among ↦ parts-met (apply m a) m b p met_b pair.whole.tied.kept among
               | inr neither ↦
                   parts-stay m b p pair.whole.tied.kept
                   (subst (λ (os : List Object). is_among p os ≡ false) (sym objects_b) neither)
                   ∙ sym (parts-stay m a p pair.whole.tied.kept isnt)
-                  ∙ sym (parts-stay (lay m a) b p whole_a.tied.kept neither)
+                  ∙ sym (parts-stay (apply m a) b p whole_a.tied.kept neither)
             ]
       ]
 
@@ -473,43 +473,43 @@ module _ (reads : ℕ → ℕ → List ℕ) (m : Machine) (a b : Record) (pair :
         | inr isnt ↦ inl (unput m a (hart_of m a.thread).view isnt)
       ]
 
-  output : (lay (lay m b) a).output ≡ (lay (lay m a) b).output
+  output : (apply (apply m b) a).output ≡ (apply (apply m a) b).output
   output =
-      lay-output (lay m b) a
-      ∙ ap₂ (λ (o : List ℕ) (x : List ℕ). o ++ x) (lay-output m b)
-      (ap₂ (λ (f : Frame) (h : Hart). put_of f.map h.view a.kept) (lay-frame m b) stays_a)
+      apply-output (apply m b) a
+      ∙ ap₂ (λ (o : List ℕ) (x : List ℕ). o ++ x) (apply-output m b)
+      (ap₂ (λ (f : Frame) (h : Hart). put_of f.map h.view a.kept) (apply-frame m b) stays_a)
       ∙ put-swap m.output (put_of m.frame.map (hart_of m a.thread).view a.kept)
       (put_of m.frame.map (hart_of m b.thread).view b.kept) puts
       ∙ sym
-      (lay-output (lay m a) b
-      ∙ ap₂ (λ (o : List ℕ) (x : List ℕ). o ++ x) (lay-output m a)
-      (ap₂ (λ (f : Frame) (h : Hart). put_of f.map h.view b.kept) (lay-frame m a) stays_b))
+      (apply-output (apply m a) b
+      ∙ ap₂ (λ (o : List ℕ) (x : List ℕ). o ++ x) (apply-output m a)
+      (ap₂ (λ (f : Frame) (h : Hart). put_of f.map h.view b.kept) (apply-frame m a) stays_b))
 
-  memory : (lay (lay m b) a).memory ≡ (lay (lay m a) b).memory
+  memory : (apply (apply m b) a).memory ≡ (apply (apply m a) b).memory
   memory =
-      lay-memory (lay m b) a
-      ∙ ap (λ (x : Memory). masked x a.kept.delta) (lay-memory m b)
+      apply-memory (apply m b) a
+      ∙ ap (λ (x : Memory). masked x a.kept.delta) (apply-memory m b)
       ∙ masked-swap a.kept.delta b.kept.delta m.memory pair.writes
-      ∙ sym (lay-memory (lay m a) b ∙ ap (λ (x : Memory). masked x b.kept.delta) (lay-memory m a))
+      ∙ sym (apply-memory (apply m a) b ∙ ap (λ (x : Memory). masked x b.kept.delta) (apply-memory m a))
 
-  ending : (lay (lay m b) a).ending ≡ (lay (lay m a) b).ending
+  ending : (apply (apply m b) a).ending ≡ (apply (apply m a) b).ending
   ending =
-      let limits : (lay m b).limit ≡ (lay m a).limit = lay-limit m b ∙ sym (lay-limit m a) in
-      let steps : (lay m b).steps ≡ (lay m a).steps = lay-steps m b ∙ sym (lay-steps m a) in
-      lay-ending (lay m b) a
-      ∙ end_after-like (own_end_of (lay m b) a) (lay (lay m a) b).harts (lay (lay m b) a).harts (lay m b).limit
-      (suc (lay m b).steps) count harts
-      ∙ ap (λ (e : Option End). end_after e (lay (lay m a) b).harts (lay m b).limit (suc (lay m b).steps))
+      let limits : (apply m b).limit ≡ (apply m a).limit = apply-limit m b ∙ sym (apply-limit m a) in
+      let steps : (apply m b).steps ≡ (apply m a).steps = apply-steps m b ∙ sym (apply-steps m a) in
+      apply-ending (apply m b) a
+      ∙ end_after-like (own_end_of (apply m b) a) (apply (apply m a) b).harts (apply (apply m b) a).harts (apply m b).limit
+      (suc (apply m b).steps) count harts
+      ∙ ap (λ (e : Option End). end_after e (apply (apply m a) b).harts (apply m b).limit (suc (apply m b).steps))
       (own_a ∙ sym ends_ab.0)
-      ∙ ap₂ (λ (l s : ℕ). end_after (own_end_of (lay m a) b) (lay (lay m a) b).harts l (suc s)) limits steps
-      ∙ sym (lay-ending (lay m a) b)
+      ∙ ap₂ (λ (l s : ℕ). end_after (own_end_of (apply m a) b) (apply (apply m a) b).harts l (suc s)) limits steps
+      ∙ sym (apply-ending (apply m a) b)
 
   -- the views
 
   views :
-      (u p : ℕ) → is_ready (hart_of (lay (lay m a) b) u).status ≡ true
-      → is_in p (reads u (hart_of (lay (lay m a) b) u).number) ≡ true
-      → page_of (hart_of (lay (lay m b) a) u).view p ≡ page_of (hart_of (lay (lay m a) b) u).view p
+      (u p : ℕ) → is_ready (hart_of (apply (apply m a) b) u).status ≡ true
+      → is_in p (reads u (hart_of (apply (apply m a) b) u).number) ≡ true
+      → page_of (hart_of (apply (apply m b) a) u).view p ≡ page_of (hart_of (apply (apply m a) b) u).view p
   views u p ready read =
       elim (is_or_not (touched (effect_of m a) a.thread (length m.harts) u)) [
         | inl is ↦
@@ -525,12 +525,12 @@ module _ (reads : ℕ → ℕ → List ℕ) (m : Machine) (a b : Record) (pair :
             let served_ba =
             touched-served (effect_of m a) (masked (masked m.memory b.kept.delta) a.kept.delta) a (length m.harts) u
             (hart_of m u) is fate_a ready_second in
-            let read_a : is_in p (reads u (hart_of (lay m a) u).number) ≡ true =
+            let read_a : is_in p (reads u (hart_of (apply m a) u).number) ≡ true =
             subst (λ (h : Hart). is_in p (reads u h.number) ≡ true) (first_ab u is) read in
-            let open_a : is_in p (read_by reads (lay m a) (served_by m a)) ≡ true =
-            read_by-in reads (lay m a) (served_by m a) u p served_a.there read_a in
+            let open_a : is_in p (read_by reads (apply m a) (served_by m a)) ≡ true =
+            read_by-in reads (apply m a) (served_by m a) u p served_a.there read_a in
             let unwritten : is_in p (written_slots b) ≡ false =
-            meets-not p (read_by reads (lay m a) (served_by m a)) (written_slots b) pair.opened open_a in
+            meets-not p (read_by reads (apply m a) (served_by m a)) (written_slots b) pair.opened open_a in
             ap (λ (h : Hart). page_of h.view p) (first_ba u is)
             ∙ ap (λ (v : Memory). page_of v p) served_ba.view
             ∙ masked-first a.kept.delta b.kept.delta m.memory p unwritten
@@ -550,16 +550,16 @@ module _ (reads : ℕ → ℕ → List ℕ) (m : Machine) (a b : Record) (pair :
                   let served_b =
                   touched-served (effect_of m b) (masked m.memory b.kept.delta) b (length m.harts) u
                   (hart_of m u) is fate_b ready_second in
-                  let there : is_in u (served_by (lay m a) b) ≡ true =
+                  let there : is_in u (served_by (apply m a) b) ≡ true =
                   subst (λ (us : List ℕ). is_in u us ≡ true)
-                  (sym (ap (λ (e : Effect). served e b.thread (length (lay m a).harts)) effect_b
-                  ∙ served-index (effect_of m b) b.thread (length m.harts) (length (lay m a).harts) index_b))
+                  (sym (ap (λ (e : Effect). served e b.thread (length (apply m a).harts)) effect_b
+                  ∙ served-index (effect_of m b) b.thread (length m.harts) (length (apply m a).harts) index_b))
                   served_ab.there in
-                  let open_b : is_in p (read_by reads (lay (lay m a) b) (served_by (lay m a) b)) ≡ true =
-                  read_by-in reads (lay (lay m a) b) (served_by (lay m a) b) u p there read in
+                  let open_b : is_in p (read_by reads (apply (apply m a) b) (served_by (apply m a) b)) ≡ true =
+                  read_by-in reads (apply (apply m a) b) (served_by (apply m a) b) u p there read in
                   let unwritten : is_in p (written_slots a) ≡ false =
                   meets-not_back p (written_slots a)
-                  (read_by reads (lay (lay m a) b) (served_by (lay m a) b)) pair.opens open_b in
+                  (read_by reads (apply (apply m a) b) (served_by (apply m a) b)) pair.opens open_b in
                   ap (λ (h : Hart). page_of h.view p) (then_ba u isnt ∙ at_b u)
                   ∙ ap (λ (v : Memory). page_of v p) served_b.view
                   ∙ sym (masked-first b.kept.delta a.kept.delta m.memory p unwritten)
@@ -577,27 +577,27 @@ module _ (reads : ℕ → ℕ → List ℕ) (m : Machine) (a b : Record) (pair :
       ]
 
   -- the machines after both orders are alike
-  pub swapped : IsAlike reads (lay (lay m a) b) (lay (lay m b) a)
+  pub swapped : IsAlike reads (apply (apply m a) b) (apply (apply m b) a)
   swapped =
       record {
-        frame = lay-frame (lay m b) a ∙ lay-frame m b ∙ sym (lay-frame (lay m a) b ∙ lay-frame m a);
-        limit = lay-limit (lay m b) a ∙ lay-limit m b ∙ sym (lay-limit (lay m a) b ∙ lay-limit m a);
+        frame = apply-frame (apply m b) a ∙ apply-frame m b ∙ sym (apply-frame (apply m a) b ∙ apply-frame m a);
+        limit = apply-limit (apply m b) a ∙ apply-limit m b ∙ sym (apply-limit (apply m a) b ∙ apply-limit m a);
         memory = memory;
         objects =
-            objects-same (lay (lay m a) b).objects
-            (lay (lay m b) a).objects whole_ab.tied.kept whole_ba.tied.kept parts;
+            objects-same (apply (apply m a) b).objects
+            (apply (apply m b) a).objects whole_ab.tied.kept whole_ba.tied.kept parts;
         output = output;
-        steps = lay-steps (lay m b) a ∙ ap suc (lay-steps m b) ∙ sym (lay-steps (lay m a) b ∙ ap suc (lay-steps m a));
+        steps = apply-steps (apply m b) a ∙ ap suc (apply-steps m b) ∙ sym (apply-steps (apply m a) b ∙ ap suc (apply-steps m a));
         ending = ending;
         count = count;
         harts = harts;
         views = λ on u p ready read. views u p ready read;
       }
 
-  pub whole_first : IsWhole (lay (lay m a) b)
+  pub whole_first : IsWhole (apply (apply m a) b)
   whole_first = whole_ab
 
-  pub whole_second : IsWhole (lay (lay m b) a)
+  pub whole_second : IsWhole (apply (apply m b) a)
   whole_second = whole_ba
 
   -- and so are the facts
@@ -611,40 +611,40 @@ module _ (reads : ℕ → ℕ → List ℕ) (m : Machine) (a b : Record) (pair :
         | inr isnt ↦ isnt
       ]
 
-  served_b : served_by m b ≡ served_by (lay m a) b
+  served_b : served_by m b ≡ served_by (apply m a) b
   served_b =
-      sym (ap (λ (e : Effect). served e b.thread (length (lay m a).harts)) effect_b
-      ∙ served-index (effect_of m b) b.thread (length m.harts) (length (lay m a).harts) index_b)
+      sym (ap (λ (e : Effect). served e b.thread (length (apply m a).harts)) effect_b
+      ∙ served-index (effect_of m b) b.thread (length m.harts) (length (apply m a).harts) index_b)
 
-  served_a : served_by (lay m b) a ≡ served_by m a
+  served_a : served_by (apply m b) a ≡ served_by m a
   served_a =
-      ap (λ (e : Effect). served e a.thread (length (lay m b).harts)) effect_a
-      ∙ served-index (effect_of m a) a.thread (length m.harts) (length (lay m b).harts) index_a
+      ap (λ (e : Effect). served e a.thread (length (apply m b).harts)) effect_a
+      ∙ served-index (effect_of m a) a.thread (length m.harts) (length (apply m b).harts) index_a
 
-  on_b : (u : ℕ) → is_in u (served_by m b) ≡ true → bare (hart_of (lay m b) u) ≡ bare (hart_of (lay (lay m a) b) u)
+  on_b : (u : ℕ) → is_in u (served_by m b) ≡ true → bare (hart_of (apply m b) u) ≡ bare (hart_of (apply (apply m a) b) u)
   on_b u there = then_bare u (touched_not u (served-touched (effect_of m b) b.thread (length m.harts) u there))
 
   on_a :
-      (u : ℕ) → is_in u (served_by (lay m b) a) ≡ true → bare (hart_of (lay (lay m b) a) u) ≡ bare (hart_of (lay m a) u)
+      (u : ℕ) → is_in u (served_by (apply m b) a) ≡ true → bare (hart_of (apply (apply m b) a) u) ≡ bare (hart_of (apply m a) u)
   on_a u there =
       first_bare u
       (served-touched (effect_of m a) a.thread (length m.harts) u
       (subst (λ (us : List ℕ). is_in u us ≡ true) served_a there))
 
-  none_late : is_some (lay (lay m b) a).ending ≡ false
-  none_late = rw (ending, none-is (lay (lay m a) b).ending pair.none_b) refl
+  none_late : is_some (apply (apply m b) a).ending ≡ false
+  none_late = rw (ending, none-is (apply (apply m a) b).ending pair.none_b) refl
 
-  pub fact_early : fact_of reads m b ≡ fact_of reads (lay m a) b
+  pub fact_early : fact_of reads m b ≡ fact_of reads (apply m a) b
   fact_early =
-      same-fact b.thread (objects_of m b) (objects_of (lay m a) b) _ _ (written_slots b) _ _ _ _ objects_b served_b
-      (read_by-on reads (lay (lay m a) b) (lay m b) (served_by m b) on_b
-      ∙ ap (read_by reads (lay (lay m a) b)) served_b)
-      (ap (λ (e : Option End). is_some e) (ending_b ∙ sym (none-is (lay (lay m a) b).ending pair.none_b)))
+      same-fact b.thread (objects_of m b) (objects_of (apply m a) b) _ _ (written_slots b) _ _ _ _ objects_b served_b
+      (read_by-on reads (apply (apply m a) b) (apply m b) (served_by m b) on_b
+      ∙ ap (read_by reads (apply (apply m a) b)) served_b)
+      (ap (λ (e : Option End). is_some e) (ending_b ∙ sym (none-is (apply (apply m a) b).ending pair.none_b)))
 
-  pub fact_late : fact_of reads (lay m b) a ≡ fact_of reads m a
+  pub fact_late : fact_of reads (apply m b) a ≡ fact_of reads m a
   fact_late =
-      same-fact a.thread (objects_of (lay m b) a) (objects_of m a) _ _ (written_slots a) _ _ _ _
-      (objects-met m (lay m b) a met_a) served_a
-      (read_by-on reads (lay m a) (lay (lay m b) a) (served_by (lay m b) a) on_a
-      ∙ ap (read_by reads (lay m a)) served_a)
-      (none_late ∙ sym (ap (λ (e : Option End). is_some e) (none-is (lay m a).ending pair.none_a)))
+      same-fact a.thread (objects_of (apply m b) a) (objects_of m a) _ _ (written_slots a) _ _ _ _
+      (objects-met m (apply m b) a met_a) served_a
+      (read_by-on reads (apply m a) (apply (apply m b) a) (served_by (apply m b) a) on_a
+      ∙ ap (read_by reads (apply m a)) served_a)
+      (none_late ∙ sym (ap (λ (e : Option End). is_some e) (none-is (apply m a).ending pair.none_a)))

@@ -14,8 +14,8 @@ abbrev pub meets : List ℕ → List ℕ → Bool
 meets ks ls = list_any (λ k. is_in k ls) ks
 
 -- Whether two lists have an object in common.
-abbrev pub share : List Object → List Object → Bool
-share objects others = list_any (λ p. is_among p others) objects
+abbrev pub overlap : List Object → List Object → Bool
+overlap objects others = list_any (λ p. is_among p others) objects
 
 -- What stands for a fact of a place where there is none.
 abbrev pub no_fact : Fact
@@ -41,7 +41,7 @@ abbrev pub before_at : List Fact → ℕ → ℕ → Bool
 before_at fs i j =
     ((fact_at fs i).thread == (fact_at fs j).thread)
     || ((is_in (fact_at fs j).thread (fact_at fs i).given && is_next_at fs i j)
-    || (share (fact_at fs i).objects (fact_at fs j).objects
+    || (overlap (fact_at fs i).objects (fact_at fs j).objects
     || (meets (fact_at fs i).written (fact_at fs j).written
     || (meets (fact_at fs i).written (fact_at fs j).opened
     || (meets (fact_at fs i).opened (fact_at fs j).written
@@ -52,5 +52,5 @@ abbrev pub before : Fact → Fact → Bool
 before i j =
     (i.thread == j.thread)
     || (is_in j.thread i.given
-    || (share i.objects j.objects
+    || (overlap i.objects j.objects
     || (meets i.written j.written || (meets i.written j.opened || (meets i.opened j.written || j.last)))))

@@ -12,7 +12,7 @@ use Rattle.record_spec.specs.Record.{Record}
 use Rattle.machine_spec.specs.declared.states.Asked.{Asked}
 use Rattle.machine_spec.specs.declared.states.Asked.TheVariants.{Asks, Stops}
 use Rattle.machine_spec.specs.Machine.{Machine, hart_of}
-use Rattle.machine_spec.specs.Step.{asked, lay, fits}
+use Rattle.machine_spec.specs.Step.{asked, apply, fits}
 use Rattle.machine_spec.specs.Setup.{first}
 use Rattle.history_spec.specs.History.{History, is_of}
 
@@ -90,8 +90,8 @@ fact_of reads m r =
       objects = objects_of m r;
       given = served_by m r;
       written = written_slots r;
-      opened = read_by reads (lay m r) (served_by m r);
-      last = is_some (lay m r).ending;
+      opened = read_by reads (apply m r) (served_by m r);
+      last = is_some (apply m r).ending;
     }
 
 -- The fact of a record that doesn't fit, or that follows an end: its thread and the pages that it writes, and no more.
@@ -99,11 +99,11 @@ abbrev pub bare_fact : Record → Fact
 bare_fact r =
     record { thread = r.thread; objects = []; given = []; written = written_slots r; opened = []; last = false }
 
--- The facts of records laid one after the other, as far as each fits and no end came before it.
+-- The facts of records applied one after the other, as far as each fits and no end came before it.
 abbrev pub facts_from : (ℕ → ℕ → List ℕ) → Machine → List Record → List Fact
 facts_from reads m [] = []
 facts_from reads m (r ∷ rs) =
-    if is_none m.ending && fits m r then fact_of reads m r ∷ facts_from reads (lay m r) rs else map bare_fact (r ∷ rs)
+    if is_none m.ending && fits m r then fact_of reads m r ∷ facts_from reads (apply m r) rs else map bare_fact (r ∷ rs)
 
 -- What the thunk of a thread at a number reads, if it is in the history.
 abbrev pub reads_of_found : Option Record → List ℕ

@@ -2,7 +2,7 @@
 use Rattle.std.specs.Prelude.{◌≡◌, ℕ, ◌&&◌, ◌||◌, not, nat_lt, Bool, true, List, [], ◌∷◌, length, map, filter_map, slice_get}
 use Rattle.record_spec.specs.Record.{Record}
 use Rattle.machine_spec.specs.Setup.{first, scratch}
-use Rattle.history_spec.specs.History.{History, schedule_of, laid_from, can_lay_from}
+use Rattle.history_spec.specs.History.{History, schedule_of, applied_from, can_apply_from}
 use Rattle.order_spec.specs.Facts.{Fact}
 use Rattle.order_spec.specs.Before.{is_in, fact_at, all_below, before_at}
 
@@ -26,10 +26,10 @@ threads_at fs places = map (λ j. (fact_at fs j).thread) places
 abbrev pub records_at : List Record → List ℕ → List Record
 records_at records places = filter_map (λ j. slice_get records j) places
 
--- Records lead to the same as a history does: laid one after the other from its start on, each fits in its turn, and
+-- Records lead to the same as a history does: applied one after the other from its start on, each fits in its turn, and
 -- end, output and memory are those that the history came to.
 pub record LeadToTheSame (h : History) (records : List Record) : Type 0 where
-  pub fits : can_lay_from (first h.setup) records ≡ true
-  pub ending : (laid_from (first h.setup) records).ending ≡ (scratch h.setup (schedule_of h)).ending
-  pub output : (laid_from (first h.setup) records).output ≡ (scratch h.setup (schedule_of h)).output
-  pub memory : (laid_from (first h.setup) records).memory ≡ (scratch h.setup (schedule_of h)).memory
+  pub fits : can_apply_from (first h.setup) records ≡ true
+  pub ending : (applied_from (first h.setup) records).ending ≡ (scratch h.setup (schedule_of h)).ending
+  pub output : (applied_from (first h.setup) records).output ≡ (scratch h.setup (schedule_of h)).output
+  pub memory : (applied_from (first h.setup) records).memory ≡ (scratch h.setup (schedule_of h)).memory

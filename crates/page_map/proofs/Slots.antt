@@ -8,6 +8,11 @@ use Rattle.memory_spec.specs.Pages.{Mapped, slot_of, ascends_above, unmapped}
 abbrev pub number_in_slot : List Mapped → ℕ → ℕ
 number_in_slot pages k = (get_or pages k unmapped).number
 
+-- the slot turns on the page's number alone
+pub slot_of-page : (pages : List Mapped) (a b : ℕ) → a / 4096 ≡ b / 4096 → slot_of pages a ≡ slot_of pages b
+slot_of-page [] a b same = refl
+slot_of-page (p ∷ ps) a b same = rw (same, slot_of-page ps a b same) refl
+
 pub slot_of-length : (pages : List Mapped) (address : ℕ) → slot_of pages address ≤ length pages
 slot_of-length [] address = omega arith
 slot_of-length (p ∷ ps) address =

@@ -26,7 +26,8 @@ pub trait Mem {
     fn fetch(&mut self, address: u32) -> Result<u32, MemoryError>
         requires { address % 4 ≡ 0 }
         ensures { Takes (workspace self.old) address
-            (fetched (workspace self.old).map (workspace self.old).memory address) result (workspace self.new) };
+            (fetched (workspace self.old).map (workspace self.old).memory address) result
+            (workspace self.new) };
 
     /// The number of 1, 2 or 4 bytes at an address that is a multiple of their count, from a page
     /// that may be read, without sign (RISC-V unprivileged ISA 20191213, 2.6).
@@ -38,7 +39,8 @@ pub trait Mem {
     fn load(&mut self, address: u32, size: Size) -> Result<u32, MemoryError>
         requires { address % byte_count size ≡ 0 }
         ensures found { Takes (workspace self.old) address
-            (loaded (workspace self.old).map (workspace self.old).memory address size) result (workspace self.new) }
+            (loaded (workspace self.old).map (workspace self.old).memory address size) result
+            (workspace self.new) }
         ensures fits { IfOk result (λ value. value < 2 ^ (8 * byte_count size)) };
 
     /// Stores the lowest 1, 2 or 4 bytes of a value at an address that is a multiple of their

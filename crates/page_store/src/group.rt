@@ -57,7 +57,7 @@ impl Group {
     ///
     /// An error where the page has as many holders as can be counted.
     #[inline(always)]
-    pub fn share(&self, place: usize) -> Result<Arc<Page>, AllocError>
+    pub fn page_arc(&self, place: usize) -> Result<Arc<Page>, AllocError>
         requires { place < length self.now }
         ensures { IfOk result (λ page. arc_value page ≡ page_of self.now place) }
     {

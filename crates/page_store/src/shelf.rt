@@ -62,11 +62,11 @@ impl Shelf {
     ///
     /// An error where the page has as many holders as can be counted.
     #[inline(always)]
-    pub fn share(&self, place: usize) -> Result<Arc<Page>, AllocError>
+    pub fn page_arc(&self, place: usize) -> Result<Arc<Page>, AllocError>
         requires { place < length self.now }
         ensures { IfOk result (λ page. arc_value page ≡ page_of self.now place) }
     {
-        self.groups[place / GROUP_SIZE].share(place % GROUP_SIZE)
+        self.groups[place / GROUP_SIZE].page_arc(place % GROUP_SIZE)
     }
 
     /// A shelf of the same pages with another one in a place. No byte is copied.

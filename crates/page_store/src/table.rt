@@ -92,11 +92,11 @@ impl PageTable {
     ///
     /// An error where the page has as many holders as can be counted.
     #[inline(always)]
-    pub fn share(&self, slot: usize) -> Result<Arc<Page>, AllocError>
+    pub fn page_arc(&self, slot: usize) -> Result<Arc<Page>, AllocError>
         requires { slot < length self.now }
         ensures { IfOk result (λ page. arc_value page ≡ page_of self.now slot) }
     {
-        self.shelves[slot / SHELF_SIZE].share(slot % SHELF_SIZE)
+        self.shelves[slot / SHELF_SIZE].page_arc(slot % SHELF_SIZE)
     }
 
     /// Puts a page into the next slot.

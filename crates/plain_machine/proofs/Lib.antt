@@ -2,6 +2,7 @@
 mod Fetching
 mod Laying
 mod Merging
+mod Offsets
 mod Placing
 mod Putting
 mod Schedules

@@ -7,8 +7,8 @@ use Rattle.machine_spec.specs.declared.states.End.{End}
 use Rattle.machine_spec.specs.Machine.{Machine, Hart, hart_of}
 use Rattle.machine_spec.specs.declared.states.Asked.{Asked}
 use Rattle.machine_spec.specs.Step.{advanced, asked, end_after, step}
-use Rattle.plain_machine.specs.declared.machine.Made.{Made}
-use Rattle.plain_machine.specs.declared.thunk.Done.{Done}
+use Rattle.plain_machine.specs.declared.machine.StepResult.{StepResult}
+use Rattle.plain_machine.specs.declared.thunk.ThunkResult.{ThunkResult}
 use Rattle.plain_machine.specs.Stored.{bytes_of}
 use Rattle.plain_machine.specs.Turning.{IsDone}
 use Rattle.machine_calls.specs.Doing.{harts_after, objects_after, own_end, effect_made}
@@ -18,7 +18,7 @@ use Rattle.plain_machine.specs.Making.{thunk_of, IsMade}
 -- the machine's parts, where a thunk in code was run on the thread's view, each as the code makes it, are the machine
 -- after a step
 pub stepped :
-    (m : Machine) (t : ℕ) (d : Done) (memory : Memory) (before done : List Hart) (objects : Objects) (output : List ℕ)
+    (m : Machine) (t : ℕ) (d : ThunkResult) (memory : Memory) (before done : List Hart) (objects : Objects) (output : List ℕ)
     (ending : Option End) (a : Asked)
     → IsMemory m.frame.map m.memory
     → IsDone m.frame (hart_of m t).view (hart_of m t).regs d
@@ -48,7 +48,7 @@ stepped m t d memory before done objects output ending a whole is is_memory is_b
 
 -- and what is told of it
 pub told :
-    (m : Machine) (t : ℕ) (d : Done) (made : Made)
+    (m : Machine) (t : ℕ) (d : ThunkResult) (made : StepResult)
     → IsDone m.frame (hart_of m t).view (hart_of m t).regs d
     → made.count ≡ d.count
     → made.asked ≡ asked t d.end d.regs

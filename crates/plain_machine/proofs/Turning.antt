@@ -13,10 +13,10 @@ use Rattle.thunk_spec.specs.Turn.{Turn, turn}
 use Rattle.thunk_spec.specs.Put.{put_addresses, bytes_at}
 use Rattle.thunk_spec.specs.Thunk.{Frame, Thunk, thunk, turns, followed, after_turn, last_turn}
 use Rattle.rv_step.specs.Step.{Makes}
-use Rattle.plain_machine.specs.declared.thunk.Done.{Done}
+use Rattle.plain_machine.specs.declared.thunk.ThunkResult.{ThunkResult}
 use Rattle.plain_machine.specs.Stored.{bytes_of}
 use Rattle.plain_machine.specs.Merging.{merged}
-use Rattle.plain_machine.specs.Turning.{Left, left_by, left_after, counted, IsDone}
+use Rattle.plain_machine.specs.Turning.{TurnsOutcome, left_by, left_after, counted, IsDone}
 use Rattle.plain_machine.proofs.Laying.{laid-append, marked-append}
 use Rattle.plain_machine.proofs.Merging.{laid-merged}
 
@@ -50,7 +50,7 @@ followed-trap :
     → o ≡ outcome.Trap cause → followed o map memory t rest ≡ last_turn (thunk_end.Trap cause) t
 followed-trap o cause map memory t rest e = rw e refl
 
-counted-twice : (a b : ℕ) (l : Left) → counted a (counted b l) ≡ counted (a + b) l
+counted-twice : (a b : ℕ) (l : TurnsOutcome) → counted a (counted b l) ≡ counted (a + b) l
 counted-twice a b l = ap (λ (n : ℕ). record l { count = n }) (sym (add_assoc a b l.count))
 
 -- one turn more was made, and its thunk goes on
@@ -117,7 +117,7 @@ turns-trap fuel count w after r registers o cause lt made trap =
 
 -- turns on a copy of a view, with the bytes of the put, are the thunk on this view
 pub is-done :
-    (f : Frame) (view : Memory) (start : Registers) (work after : Workspace) (d : Done)
+    (f : Frame) (view : Memory) (start : Registers) (work after : Workspace) (d : ThunkResult)
     → IsMemory f.map view
     → work ≡ record { map = f.map; view = []; memory = view; stored = on_each no_marks f.map; taken = [] }
     → after.map ≡ work.map
@@ -139,13 +139,13 @@ is-done f view start work after d whole is same left put lays =
     } ≡ left_after f.map f.fuel view (on_each no_marks f.map) start =
     left ∙ ap (λ (w : Workspace). left_after w.map f.fuel w.memory w.stored start) is in
     record {
-      regs = ap (λ (l : Left). l.regs) all;
-      end = ap (λ (l : Left). l.end) all;
-      count = ap (λ (l : Left). l.count) all;
-      put = put ∙ ap (λ (l : Left). bytes_at f.map l.memory (put_addresses f.map l.end l.regs)) all;
+      regs = ap (λ (l : TurnsOutcome). l.regs) all;
+      end = ap (λ (l : TurnsOutcome). l.end) all;
+      count = ap (λ (l : TurnsOutcome). l.count) all;
+      put = put ∙ ap (λ (l : TurnsOutcome). bytes_at f.map l.memory (put_addresses f.map l.end l.regs)) all;
       lays = λ shared also.
           subst (λ (map : List Mapped). laid map shared (bytes_of d.stores.items) ≡ merged after.stored after.memory shared)
           map_is (lays shared (subst (λ (map : List Mapped). IsMemory map shared) (sym map_is) also))
-          ∙ ap (λ (l : Left). merged l.stored l.memory shared) all
+          ∙ ap (λ (l : TurnsOutcome). merged l.stored l.memory shared) all
           ∙ laid-merged f.map (turns f.map f.fuel view start).stores view shared whole also;
     }

@@ -6,11 +6,11 @@ use Rattle.memory_spec.specs.Stores.{laid}
 use Rattle.memory_spec.specs.Workspace.{Masks, marked}
 use Rattle.thunk_spec.specs.declared.ends.ThunkEnd.{ThunkEnd}
 use Rattle.thunk_spec.specs.Thunk.{Frame, Thunk, thunk, turns}
-use Rattle.plain_machine.specs.declared.thunk.Done.{Done}
+use Rattle.plain_machine.specs.declared.thunk.ThunkResult.{ThunkResult}
 use Rattle.plain_machine.specs.Stored.{bytes_of}
 
 -- What turns leave: registers, how they ended, how many they were, memory, and where it was stored to.
-pub record Left : Type 0 where
+pub record TurnsOutcome : Type 0 where
   pub regs : Registers
   pub end : ThunkEnd
   pub count : ℕ
@@ -18,7 +18,7 @@ pub record Left : Type 0 where
   pub stored : Masks
 
 -- What the turns of a thunk leave of a memory.
-abbrev pub left_by : List Mapped → Memory → Masks → Thunk → Left
+abbrev pub left_by : List Mapped → Memory → Masks → Thunk → TurnsOutcome
 left_by map memory stored t =
     record {
       regs = t.regs;
@@ -29,16 +29,16 @@ left_by map memory stored t =
     }
 
 -- What so many turns of a memory and registers leave at most.
-abbrev pub left_after : List Mapped → ℕ → Memory → Masks → Registers → Left
+abbrev pub left_after : List Mapped → ℕ → Memory → Masks → Registers → TurnsOutcome
 left_after map fuel memory stored r = left_by map memory stored (turns map fuel memory r)
 
 -- The same after so many turns before.
-abbrev pub counted : ℕ → Left → Left
+abbrev pub counted : ℕ → TurnsOutcome → TurnsOutcome
 counted before l = record l { count = before + l.count }
 
 -- What was done is the thunk of these registers on this view: and its stores leave on every memory of the map what the
 -- thunk's do.
-pub record IsDone (f : Frame) (view : Memory) (start : Registers) (d : Done) : Type 0 where
+pub record IsDone (f : Frame) (view : Memory) (start : Registers) (d : ThunkResult) : Type 0 where
   pub regs : d.regs ≡ (thunk f view start).regs
   pub end : d.end ≡ (thunk f view start).end
   pub count : d.count ≡ (thunk f view start).count

@@ -17,5 +17,5 @@ mod stores;
 mod thunk;
 mod work;
 
-pub use machine::{Made, PlainMachine};
+pub use machine::{PlainMachine, StepResult};
 pub use replaying::{Outcome, ReplayError, replay};

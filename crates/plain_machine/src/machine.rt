@@ -11,7 +11,7 @@ ghost use Rattle.plain_machine.specs.Making.{IsMade, asked_by};
 
 use super::memory::Memory;
 use super::stores::lay_all;
-use super::thunk::{Done, run};
+use super::thunk::{ThunkResult, run};
 use call_effect::Effect;
 use machine_calls::{Hart, Written, asked, do_as_asked, first_harts, write_back};
 use machine_spec::{Asked, End, Status};
@@ -26,7 +26,7 @@ use turn_count::Turns;
 
 /// What a step did.
 #[derive(Drop)]
-pub struct Made {
+pub struct StepResult {
     /// How many turns its thunk made.
     pub count: u32,
     /// What the thunk asked for at its end: a call, or to end the run.
@@ -203,16 +203,18 @@ fn finish(
     objects: &mut Objects,
     written: &Written<'_, Memory>,
     t: u8,
-    done: &Done,
-) -> Result<(Made, Option<End>), AllocError>
+    done: &ThunkResult,
+) -> Result<(StepResult, Option<End>), AllocError>
     requires tied { IsTied objects.old harts.old.items }
     requires ready { is_ready (hart_in harts.old.items t).status ≡ true }
     ensures harts { OnOk result (harts.new.items
-        ≡ harts_after written.now.map.now objects.old written.now.memory.now t harts.old.items (asked_by t done.now)) }
+        ≡ harts_after written.now.map.now objects.old written.now.memory.now t harts.old.items
+        (asked_by t done.now)) }
     ensures objects { OnOk result (objects.new
         ≡ objects_after written.now.map.now objects.old t (asked_by t done.now)) }
     ensures ending { IfOk result (λ r. r.1
-        ≡ step.end_after (own_end written.now.map.now objects.old t (asked_by t done.now)) harts.new.items
+        ≡ step.end_after
+        (own_end written.now.map.now objects.old t (asked_by t done.now)) harts.new.items
         written.now.limit written.now.steps) }
     ensures count { IfOk result (λ r. r.0.count ≡ done.now.count) }
     ensures asks { IfOk result (λ r. r.0.asked ≡ asked_by t done.now) }
@@ -222,7 +224,7 @@ fn finish(
     let asked = asked(t, done.end, &done.regs);
     let mut views = Vec::new(alloc);
     let acted = do_as_asked(harts, objects, &mut views, written, t, asked)?;
-    let made = Made {
+    let made = StepResult {
         count: done.count,
         asked,
         effect: acted.effect,
@@ -238,7 +240,7 @@ impl PlainMachine {
     ///
     /// An error where the host's memory ran out; the machine is gone then.
     #[tactic(auto, using(machine_calls::proofs::Asking::below))]
-    pub fn step(self, t: u8, turns: &mut Turns) -> Result<(PlainMachine, Made), AllocError>
+    pub fn step(self, t: u8, turns: &mut Turns) -> Result<(PlainMachine, StepResult), AllocError>
         requires { step.can_step self t ≡ true }
         ensures machine { IfOk result (λ r. r.0 ≡ step.step self t) }
         ensures made { IfOk result (λ r. IsMade self t r.1) }

@@ -1,11 +1,10 @@
 //! The pages of addresses: their slots, what they permit, and the one that instructions are fetched from.
 
-ghost use Rattle.std.specs.Prelude.{◌≡◌, ◌<◌, ◌≤◌, ◌+◌, ◌%◌, List, true, false, length, IfSome, IfNone};
-ghost use Rattle.memory_spec.specs.Access.{byte_count};
+ghost use Rattle.std.specs.Prelude.{◌≡◌, ◌<◌, ◌%◌, List, true, false, length, IfSome, IfNone};
 ghost use Rattle.memory_spec.specs.Pages.{Mapped, allows, execute_right, permission_at, slot_of};
 ghost use Rattle.plain_machine.specs.Fetching.{IsLast};
 
-use memory_spec::{PAGE_SIZE, Size};
+use memory_spec::PAGE_SIZE;
 use page_map::{PageMap, Perm};
 
 /// The slot of an address, and what its page permits. None exactly where no page has it.
@@ -22,14 +21,11 @@ pub(super) fn permitted(map: &PageMap, address: u32) -> Option<(usize, Perm)>
     }
 }
 
-/// Where an address lies in its page, for an access that begins there.
+/// Where an address lies in its page.
 #[inline(always)]
-pub(super) fn offset_of(address: u32, size: Size) -> usize
-    requires { address % byte_count size ≡ 0 }
-    ensures value { result ≡ address % PAGE_SIZE }
-    ensures inside { result + byte_count size ≤ PAGE_SIZE }
+pub(super) fn offset_of(address: u32) -> usize
+    ensures { result ≡ address % PAGE_SIZE }
 {
-    let _size = size;
     (address % PAGE_SIZE as u32) as usize
 }
 

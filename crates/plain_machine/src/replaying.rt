@@ -26,7 +26,7 @@ pub struct Outcome {
 }
 
 /// Why a schedule came to no end.
-#[derive(Debug, PartialEq, Eq, Clone, Copy, Drop)]
+#[derive(PartialEq, Eq, Clone, Copy, Drop)]
 pub enum ReplayError {
     /// This entry is the first that isn't permitted: its thread isn't ready, or an end came before it.
     Forbidden(usize),

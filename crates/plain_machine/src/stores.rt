@@ -56,6 +56,7 @@ impl Stored {
 ///
 /// An error where the host's memory ran out; nothing is laid then.
 #[inline(always)]
+#[tactic(auto, using(crate::proofs::Offsets::inside))]
 pub(super) fn lay(map: &PageMap, memory: &mut Memory, stored: Stored) -> Result<(), AllocError>
     requires { length memory.old ≡ length map.now }
     ensures ok { OnOk result (memory.new
@@ -63,7 +64,7 @@ pub(super) fn lay(map: &PageMap, memory: &mut Memory, stored: Stored) -> Result<
     ensures err { OnErr result (memory.new ≡ memory.old) }
 {
     if let Some(slot) = map.slot_of(stored.address) {
-        let offset = offset_of(stored.address, stored.size);
+        let offset = offset_of(stored.address);
         memory.write(slot, offset, stored.size, stored.value)?;
     }
     Ok(())

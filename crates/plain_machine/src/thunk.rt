@@ -79,7 +79,7 @@ fn make_turns(
 /// What a thunk leaves: its last registers, how it ended, how many turns it made, its stores in order, and the bytes of
 /// the put that ends it.
 #[derive(Drop)]
-pub(super) struct Done {
+pub(super) struct ThunkResult {
     pub(super) regs: Regs,
     pub(super) end: ThunkEnd,
     pub(super) count: u32,
@@ -99,7 +99,7 @@ pub(super) fn run(
     view: &Memory,
     start: Regs,
     turns: &mut Turns,
-) -> Result<Done, AllocError>
+) -> Result<ThunkResult, AllocError>
     requires { IsMemory (arc_value map.now) view.now }
     ensures done { IfOk result
         (λ d. IsDone (record { map = arc_value map.now; fuel = fuel }) view.now start d) }
@@ -111,7 +111,7 @@ pub(super) fn run(
     let mut regs = start;
     let ended = make_turns(fuel, &mut regs, &mut work, turns)?;
     let put = put_bytes(alloc, map, work.memory(), ended.end, &regs)?;
-    Ok(Done {
+    Ok(ThunkResult {
         regs,
         end: ended.end,
         count: ended.count,

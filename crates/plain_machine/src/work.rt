@@ -82,14 +82,14 @@ impl Mem for Work {
         match code_slot(&self.map, &mut self.last, address) {
             None => Err(MemoryError::Access),
             Some(slot) => {
-                let offset = offset_of(address, Size::Four);
+                let offset = offset_of(address);
                 Ok(word_at(self.memory.page(slot), offset))
             }
         }
     }
 
     #[inline(always)]
-    #[tactic(auto, unfolding(memory_spec::specs::Access::loaded, memory_spec::specs::Access::number_at))]
+    #[tactic(auto, unfolding(memory_spec::specs::Access::loaded, memory_spec::specs::Access::number_at), using(crate::proofs::Offsets::inside))]
     fn load(&mut self, address: u32, size: Size) -> Result<u32, MemoryError> {
         match permitted(&self.map, address) {
             None => Err(MemoryError::Access),
@@ -97,7 +97,7 @@ impl Mem for Work {
                 if !perm.reads() {
                     return Err(MemoryError::Access);
                 }
-                let offset = offset_of(address, size);
+                let offset = offset_of(address);
                 Ok(number_at(self.memory.page(slot), offset, size))
             }
         }
@@ -129,10 +129,8 @@ impl Mem for Work {
         None
     }
 
-    fn shows(&self, _slot: usize, _bytes: &[u8; PAGE_SIZE]) -> bool {
-        // No page is entered, so none is asked for.
-        let _memory = &self.memory;
-        unreachable!()
+    fn shows(&self, slot: usize, bytes: &[u8; PAGE_SIZE]) -> bool {
+        self.memory.page(slot).bytes() == bytes
     }
 }
 

@@ -1,5 +1,5 @@
 -- An aligned access stays inside one page.
-use Rattle.std.proofs.Common.{◌≡◌, ℕ, ◌+◌, ◌/◌, ◌%◌, ◌<◌, true, List, [], ◌∷◌, ◌==◌, cond, zero, suc, length, get_or, set, refl, ap, sym, ◌∙◌, arith}
+use Rattle.std.proofs.Common.{◌≡◌, ℕ, ◌+◌, ◌%◌, ◌<◌, true, List, [], zero, suc, length, get_or, set, ap, sym, ◌∙◌, arith}
 use Rattle.std.proofs.lemmas.List.{get_or-set_same, set-set, set-get_or}
 use Rattle.memory_spec.specs.declared.Size.{Size}
 use Rattle.memory_spec.specs.declared.Size.TheVariants.{One, Two, Four}
@@ -7,14 +7,8 @@ use Rattle.memory_spec.specs.Pages.{Mapped, Memory, slot_of, page_of}
 use Rattle.memory_spec.specs.Stores.{with_byte, laid}
 use Rattle.memory_spec.specs.Access.{byte_count, bytes_stored}
 use Rattle.memory_spec.specs.Workspace.{Masks, mask_of, with_mark, marked}
+use Rattle.page_map.proofs.Slots.{slot_of-page}
 use Rattle.priv_space.specs.Written.{byte_of, with_number, with_marks}
-
--- the slot turns on the page's number alone
-slot_of-same : (map : List Mapped) (a b : ℕ) → a / 4096 ≡ b / 4096 → slot_of map a ≡ slot_of map b
-slot_of-same [] a b h = refl
-slot_of-same (p ∷ ps) a b h =
-    ap (λ number. cond (p.number == number) 0 (suc (slot_of ps a))) h
-    ∙ ap (λ rest. cond (p.number == b / 4096) 0 (suc rest)) (slot_of-same ps a b h)
 
 -- One is put at an address, into the page that has it.
 abbrev put : {A : Type 0} → List Mapped → List (List A) → ℕ → A → List (List A)
@@ -56,7 +50,7 @@ puts-page map m address f (suc n) inside lt =
     let p = fills (get_or m (slot_of map address) []) (address % 4096) f n in
     ap (λ start. put map start (address + suc n) (f (suc n))) (puts-page map m address f n (omega arith) lt)
     ∙ put_more map m p (slot_of map address) (address % 4096 + suc n) (address + suc n) (f (suc n))
-    (slot_of-same map (address + suc n) address (omega arith)) (omega arith) lt
+    (slot_of-page map (address + suc n) address (omega arith)) (omega arith) lt
 
 -- an aligned store writes into its page alone
 pub laid-access :

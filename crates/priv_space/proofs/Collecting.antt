@@ -1,8 +1,8 @@
 -- Read pages and stored bytes, collected slot by slot.
-use Rattle.std.proofs.Common.{◌≡◌, ℕ, ◌+◌, ◌-◌, ◌<◌, ◌≤◌, zero, suc, Bool, true, false, cond, nat_le, List, [], ◌∷◌, ◌++◌, length, get_or, drop, map, replicate, refl, ap, sym, ◌∙◌, arith, append_assoc}
+use Rattle.std.proofs.Common.{◌≡◌, ℕ, ◌+◌, ◌-◌, ◌<◌, ◌≤◌, zero, suc, Bool, true, false, cond, nat_le, List, [], ◌∷◌, ◌++◌, length, get_or, set, drop, map, replicate, refl, ap, sym, ◌∙◌, arith, append_assoc}
 use Rattle.std.proofs.lemmas.Bool.{and_from}
 use Rattle.std.proofs.lemmas.Bool.Decides.{nat_tests}
-use Rattle.std.proofs.lemmas.List.{drop_all, append-nil, length-map}
+use Rattle.std.proofs.lemmas.List.{drop_all, append-nil, length-map, map-set, drop-set-lt}
 use Rattle.memory_spec.specs.Pages.{Mapped, Memory, page_of, on_each, zero_page, IsMemory}
 use Rattle.memory_spec.specs.Stores.{StoredByte, laid}
 use Rattle.memory_spec.specs.Workspace.{Masks, no_marks, marked}
@@ -14,15 +14,18 @@ use Rattle.priv_space.specs.declared.slot.Slot.{Slot}
 use Rattle.priv_space.specs.Slots.{on_view, untouched, slot_bytes, slot_marks, slot_taken}
 use Rattle.priv_space.specs.Parts.{read_part, delta_part}
 use Rattle.priv_space.specs.Held.{IsNext}
+use Rattle.priv_space.proofs.Views.{on_view-set}
 
--- What is left from each place on is its part and what is left from the next one on; the free places have none.
-pub record Collects {A : Type 0} (IsFree : ℕ → Type 0) (part rest : ℕ → List A) : Type 0 where
+-- What is left from each place on is its part and what is left from the next one on; the free places have none, and
+-- past the last place nothing is left.
+pub record Collects {A : Type 0} (IsFree : ℕ → Type 0) (count : ℕ) (part rest : ℕ → List A) : Type 0 where
   pub next : (i : ℕ) → rest i ≡ part i ++ rest (suc i)
   pub none : (i : ℕ) → IsFree i → part i ≡ []
+  pub last : (i : ℕ) → count ≤ i → rest i ≡ []
 
 skipped :
-    {A : Type 0} {IsFree : ℕ → Type 0} {part rest : ℕ → List A} → Collects IsFree part rest → (i n : ℕ)
-    → ((k : ℕ) → i ≤ k → k < i + n → IsFree k) → rest i ≡ rest (i + n)
+    {A : Type 0} {IsFree : ℕ → Type 0} {count : ℕ} {part rest : ℕ → List A} → Collects IsFree count part rest
+    → (i n : ℕ) → ((k : ℕ) → i ≤ k → k < i + n → IsFree k) → rest i ≡ rest (i + n)
 skipped {rest = rest} c i zero free = ap rest (let same : i ≡ i + 0 = omega arith in same)
 skipped {rest = rest} c i (suc n) free =
     c.next i
@@ -33,8 +36,8 @@ skipped {rest = rest} c i (suc n) free =
 -- what was collected and what is left stay all of it, one place that isn't free further
 pub collected_next :
     {A : Type 0} {IsFree : ℕ → Type 0} {part rest : ℕ → List A} {from count slot : ℕ} (items : List A)
-    {items' all : List A} → Collects IsFree part rest → items ++ rest from ≡ all → IsNext IsFree from count slot
-    → items' ≡ items ++ part slot → items' ++ rest (slot + 1) ≡ all
+    {items' all : List A} → Collects IsFree count part rest → items ++ rest from ≡ all
+    → IsNext IsFree from count slot → items' ≡ items ++ part slot → items' ++ rest (slot + 1) ≡ all
 collected_next {part = part} {rest = rest} {from} {slot = slot} items c before found is =
     let there : from + (slot - from) ≡ slot = omega (arith, found.above) in
     let next : suc slot ≡ slot + 1 = omega arith in
@@ -49,12 +52,12 @@ collected_next {part = part} {rest = rest} {from} {slot = slot} items c before f
 
 -- where the places that are left are free, all was collected
 pub collected_all :
-    {A : Type 0} {IsFree : ℕ → Type 0} {part rest : ℕ → List A} {from : ℕ} (items : List A) {all : List A}
-    (count : ℕ) → Collects IsFree part rest → rest (from + count) ≡ [] → items ++ rest from ≡ all
-    → ((k : ℕ) → from ≤ k → IsFree k) → items ≡ all
-collected_all {from = from} items count c end before free =
+    {A : Type 0} {IsFree : ℕ → Type 0} {part rest : ℕ → List A} {from count : ℕ} (items : List A) {all : List A}
+    → Collects IsFree count part rest → items ++ rest from ≡ all → ((k : ℕ) → from ≤ k → IsFree k) → items ≡ all
+collected_all {from = from} {count} items c before free =
     sym (append-nil items)
-    ∙ ap (λ more. items ++ more) (sym (skipped c from count (λ k above below. free k above) ∙ end))
+    ∙ ap (λ more. items ++ more)
+    (sym (skipped c from count (λ k above below. free k above) ∙ c.last (from + count) (omega arith)))
     ∙ before
 
 -- no place of an unmarked page is stored to
@@ -62,15 +65,12 @@ unstored : (n : ℕ) → is_stored (replicate n false) ≡ false
 unstored zero = refl
 unstored (suc n) = unstored n
 
-is_stored-no_marks : is_stored no_marks ≡ false
-unfolding no_marks
-is_stored-no_marks = unstored 4096
-
 -- a slot to which nothing was stored gives nothing
 pub part_none : (slot : ℕ) (mask : List Bool) (page : List ℕ) → mask ≡ no_marks → delta_part slot mask page ≡ []
+unfolding no_marks
 part_none slot mask page h =
     ap (λ b. cond b ((let d : PageDelta = record { slot = slot; mask = mask; bytes = chosen mask page } in d) ∷ []) [])
-    (ap is_stored h ∙ is_stored-no_marks)
+    (ap is_stored h ∙ unstored 4096)
 
 get_or-map_all :
     {A B : Type 0} (f : A → B) (xs : List A) (i : ℕ) (d : A) → get_or (map f xs) i (f d) ≡ f (get_or xs i d)
@@ -97,7 +97,7 @@ reads_next (flag ∷ flags) view k (suc i) = reads_next flags view k i
 
 pub collects-reads :
     (view : Memory) (slots : List Slot)
-    → Collects (λ k. get_or slots k untouched ≡ untouched) (read_at view slots) (reads_left view slots)
+    → Collects (λ k. get_or slots k untouched ≡ untouched) (length slots) (read_at view slots) (reads_left view slots)
 unfolding slot_taken untouched
 collects-reads view slots = record {
   next = λ i.
@@ -105,28 +105,16 @@ collects-reads view slots = record {
       ∙ ap (λ flag. read_part i flag (page_of view i) ++ reads_left view slots (suc i))
       (get_or-map_all slot_taken slots i untouched);
   none = λ i free. ap (λ s. read_part i (slot_taken s) (page_of view i)) free;
+  last = λ i past.
+      ap (λ r. reads_from i r view) (drop_all i (map slot_taken slots) (omega (arith, length-map slots slot_taken)));
 }
-
--- where no slot that is left was touched, all read pages were collected
-pub reads_all :
-    (view : Memory) (slots : List Slot) (from : ℕ) (items : List ReadPage)
-    → items ++ reads_left view slots from ≡ reads_left view slots 0
-    → ((k : ℕ) → from ≤ k → get_or slots k untouched ≡ untouched) → items ≡ reads_left view slots 0
-reads_all view slots from items before free =
-    let past : length (map slot_taken slots) ≤ from + length slots = omega (arith, length-map slots slot_taken) in
-    collected_all items (length slots) (collects-reads view slots)
-    (ap (λ r. reads_from (from + length slots) r view) (drop_all (from + length slots) (map slot_taken slots) past))
-    before free
-
-le_from : (a b : ℕ) → a ≤ b → nat_le a b ≡ true
-le_from a b le = grind (arith, nat_tests)
 
 pub reads_from-ascend :
     (low k : ℕ) (flags : List Bool) (view : Memory) → low ≤ k
     → reads_ascend low (reads_from k flags view) ≡ true
 reads_from-ascend low k [] view le = refl
 reads_from-ascend low k (true ∷ flags) view le =
-    and_from (nat_le low k) (reads_ascend (suc k) (reads_from (suc k) flags view)) (le_from low k le)
+    and_from (nat_le low k) (reads_ascend (suc k) (reads_from (suc k) flags view)) (grind (arith, nat_tests))
     (reads_from-ascend (suc k) (suc k) flags view (omega arith))
 reads_from-ascend low k (false ∷ flags) view le = reads_from-ascend low (suc k) flags view (omega arith)
 
@@ -158,24 +146,27 @@ deltas_next (page ∷ view) (s ∷ slots) k (suc i) same = deltas_next view slot
 
 pub collects-deltas :
     (view : Memory) (slots : List Slot) → length slots ≡ length view
-    → Collects (λ k. get_or slots k untouched ≡ untouched) (delta_at view slots) (deltas_left view slots)
+    → Collects (λ k. get_or slots k untouched ≡ untouched) (length slots) (delta_at view slots) (deltas_left view slots)
 unfolding slot_marks untouched
 collects-deltas view slots same = record {
   next = λ i. deltas_next view slots i i same;
   none = λ i free. part_none i _ _ (ap slot_marks free);
+  last = λ i past.
+      ap (λ r. delta_from i r (drop i (on_view slot_bytes view slots)))
+      (drop_all i (map slot_marks slots) (omega (arith, length-map slots slot_marks)));
 }
 
--- and all stored bytes were
-pub deltas_all :
-    (view : Memory) (slots : List Slot) (from : ℕ) (items : List PageDelta) → length slots ≡ length view
-    → items ++ deltas_left view slots from ≡ deltas_left view slots 0
-    → ((k : ℕ) → from ≤ k → get_or slots k untouched ≡ untouched) → items ≡ deltas_left view slots 0
-deltas_all view slots from items same before free =
-    let end = from + length slots in
-    let past : length (map slot_marks slots) ≤ end = omega (arith, length-map slots slot_marks) in
-    collected_all items (length slots) (collects-deltas view slots same)
-    (ap (λ r. delta_from end r (drop end (on_view slot_bytes view slots))) (drop_all end (map slot_marks slots) past))
-    before free
+-- what is left behind a slot turns on none up to it
+pub deltas_left-set :
+    (view : Memory) (slots : List Slot) (i n : ℕ) (s : Slot) → i < n
+    → deltas_left view (set slots i s) n ≡ deltas_left view slots n
+deltas_left-set view slots i n s lt =
+    rw (
+      map-set slot_marks slots i s,
+      on_view-set slot_bytes view slots i s,
+      drop-set-lt n (map slot_marks slots) i (slot_marks s) lt,
+      drop-set-lt n (on_view slot_bytes view slots) i (slot_bytes (page_of view i) s) lt,
+    ) refl
 
 pub delta_from-ascend :
     (low k : ℕ) (masks : Masks) (pages : Memory) → low ≤ k
@@ -187,7 +178,7 @@ delta_from-ascend low k (m ∷ ms) (p ∷ ps) le =
     elim (is_stored m)
     as (λ b. deltas_ascend low (cond b (d ∷ delta_from (suc k) ms ps) (delta_from (suc k) ms ps)) ≡ true) [
       | true ↦
-          and_from (nat_le low k) (deltas_ascend (suc k) (delta_from (suc k) ms ps)) (le_from low k le)
+          and_from (nat_le low k) (deltas_ascend (suc k) (delta_from (suc k) ms ps)) (grind (arith, nat_tests))
           (delta_from-ascend (suc k) (suc k) ms ps (omega arith))
       | false ↦ delta_from-ascend low (suc k) ms ps (omega arith)
     ]
@@ -213,19 +204,7 @@ delta_from-merged k [] (n ∷ ns) ms h = absurd h
 delta_from-merged k (o ∷ os) [] ms h = absurd h
 delta_from-merged k (o ∷ os) (n ∷ ns) [] h = absurd h
 delta_from-merged k (o ∷ os) (n ∷ ns) (m ∷ ms) h =
-    let d : List ℕ → PageDelta = λ bytes. record { slot = k; mask = m; bytes = bytes } in
-    let rest : delta_from (suc k) ms (merged_all os ns ms) ≡ delta_from (suc k) ms ns =
-    delta_from-merged (suc k) os ns ms h.2 in
-    elim (is_stored m)
-    as (λ b.
-    cond b (d (chosen m (merged o n m)) ∷ delta_from (suc k) ms (merged_all os ns ms))
-    (delta_from (suc k) ms (merged_all os ns ms))
-    ≡ cond b (d (chosen m n) ∷ delta_from (suc k) ms ns) (delta_from (suc k) ms ns)) [
-      | true ↦
-          ap (λ bytes. d bytes ∷ delta_from (suc k) ms (merged_all os ns ms)) (chosen-merged o n m h.0 h.1)
-          ∙ ap (λ more. d (chosen m n) ∷ more) rest
-      | false ↦ rest
-    ]
+    rw (chosen-merged o n m h.0 h.1, delta_from-merged (suc k) os ns ms h.2) refl
 
 -- what stores leave on a view, at the places that they wrote, is what they leave on any other
 pub delta_from-laid :

@@ -1,8 +1,9 @@
 -- The touched slots, after one of them changed or one more was touched.
-use Rattle.std.proofs.Common.{◌≡◌, ℕ, ◌<◌, ◌⊎◌, Bool, true, false, IsTrue, IsFalse, List, [], ◌∷◌, ◌++◌, length, get_or, set, replicate, inl, inr, Option, Some, None, Result, Ok, Err, MatchResult, refl, ap, sym, subst, ◌∙◌, arith}
+use Rattle.std.proofs.Common.{◌≡◌, ℕ, ◌<◌, ◌⊎◌, Bool, true, false, IsTrue, IsFalse, List, [], ◌∷◌, ◌++◌, length, get_or, set, replicate, inl, inr, Option, Some, None, Result, Ok, Err, MatchResult, Vec, refl, ap, sym, subst, ◌∙◌, arith}
 use Rattle.std.proofs.lemmas.Bool.{cases_eq, cases_lt}
-use Rattle.std.proofs.lemmas.List.{get_or-map, get_or-set_same, get_or-set_other, get_or_append_left, get_or_past, get_or_default, set-get_or, ext_get_or, length-map, length-set}
+use Rattle.std.proofs.lemmas.List.{get_or-map, get_or-set_same, get_or-set_other, get_or_append_left, get_or_past, get_or_default, set-get_or, ext_get_or, length-map, length-set, with_items_is}
 use Rattle.std.proofs.Math.Seq.{get_or-append_seam}
+use Rattle.std.specs.Vec.{with_items}
 use Rattle.memory_spec.specs.Pages.{Memory, page_of}
 use Rattle.priv_space.specs.declared.slot.Slot.{Slot}
 use Rattle.priv_space.specs.declared.slot.Access.{Access}
@@ -161,12 +162,13 @@ put-slot {slots} {held} {places} {places'} {i} {k} {x} s all each within place x
 
 -- and in the place that a slot got to be touched
 pub put-touched :
-    {slots old held : List Slot} {before before' places places' : List ℕ} {i k : ℕ} {x : Slot} (s : Slot)
-    → all_held before old ≡ slots → before' ≡ before → PlacesSlot i before' places old held (Ok k)
-    → i < length slots → x ≡ get_or held k x → places' ≡ places → IsPut slots places' (set held k s) i x s
-put-touched {old = old} s was seen placed within x_is same =
-    put-slot s (placed.same ∙ ap (λ p. all_held p old) seen ∙ was) placed.each within placed.place.0 x_is same
-    (λ free. absurd (omega (arith, placed.place.1)))
+    {X : Type 0} {slots old held : List Slot} {before places : List ℕ} {i k : ℕ} {x : Slot} (s : Slot) (v : Vec ℕ X)
+    → all_held v.items old ≡ slots → before ≡ v.items → PlacesSlot i before places old held (Ok k)
+    → i < length slots → x ≡ get_or held k x → length places ≡ v.len
+    → IsPut slots (with_items v places).items (set held k s) i x s
+put-touched {old = old} {places = places} s v was seen placed within x_is fits =
+    put-slot s (placed.same ∙ ap (λ p. all_held p old) seen ∙ was) placed.each within placed.place.0 x_is
+    (with_items_is v places fits) (λ free. absurd (omega (arith, placed.place.1)))
 
 -- what was put has its share of the view's page
 pub shared-put :

@@ -10,7 +10,6 @@ use Rattle.memory_spec.specs.Workspace.{mask_of, marked, fresh, after_taking, af
 use Rattle.priv_space.specs.Written.{with_number, with_marks}
 use Rattle.page_map.specs.Entering.{Enters}
 use Rattle.priv_space.specs.declared.slot.Slot.{Slot}
-use Rattle.priv_space.specs.declared.slot.Access.{Access}
 use Rattle.priv_space.specs.Slots.{on_view, untouched, slot_shared, slot_bytes, slot_marks, slot_taken, SharesPage, IsPermitted, Fits}
 use Rattle.priv_space.specs.Changes.{Keeps, HasNumber, TakesByte, EntersPage, StoresNumber, StoresAgain, OnSlot}
 use Rattle.priv_space.specs.Spaces.{workspace}
@@ -27,20 +26,20 @@ each-fresh f (page ∷ view) [] same = absurd (omega arith)
 each-fresh f (page ∷ view) (p ∷ pages) same = ap (λ rest. f untouched ∷ rest) (each-fresh f view pages (omega arith))
 
 pub fresh_space :
-    (pages : List Mapped) (view : Memory) → length view ≡ length pages
-    → workspace pages view (replicate (length view) untouched) ≡ fresh pages view
+    (pages : List Mapped) (view : Memory) {slots : List Slot} {n : ℕ} → slots ≡ replicate n untouched → n ≡ length view
+    → length view ≡ length pages → workspace pages view slots ≡ fresh pages view
 unfolding slot_marks slot_taken untouched
-fresh_space pages view same =
+fresh_space pages view are count same =
     let memory = bytes-untouched view in
     let marks = each-fresh slot_marks view pages same in
     let flags = each-fresh slot_taken view pages same in
-    cc
+    rw (are, count) (cc)
 
 pub fresh_fits :
-    (pages : List Mapped) (view : Memory) → length view ≡ length pages
-    → Fits pages view (replicate (length view) untouched)
+    (pages : List Mapped) (view : Memory) {slots : List Slot} {n : ℕ} → slots ≡ replicate n untouched → n ≡ length view
+    → length view ≡ length pages → Fits pages view slots
 unfolding slot_shared untouched
-fresh_fits pages view same = record {
+fresh_fits pages view are count same = rw (are, count) record {
   pages = same;
   over = record {
     count = length-replicate (length view) untouched;
@@ -194,17 +193,19 @@ stored_again pages {view} {slots} address size value {i} fits at aligned done = 
   stored_space pages address size value fits at aligned done.others (done.change.stores (page_of view i)),
 )
 
--- so the slots fit after a call that stores to an own copy, if there is one
-pub fits-again :
-    {pages : List Mapped} {view : Memory} {slots after : List Slot} {access : Access} {value : ℕ} (stored : Bool)
-    → Fits pages view slots → access.slot < length pages
-    → (IsTrue stored → OnSlot access.slot (StoresAgain access value) slots after) → (IsFalse stored → after ≡ slots)
+-- so the slots fit after a call that says whether it changed one
+pub fits-if :
+    (may : ℕ → Bool) {Change : Slot → Slot → Type 0} {pages : List Mapped} {view : Memory} {slots after : List Slot}
+    {i : ℕ} (done : Bool) → Fits pages view slots → i < length pages
+    → (IsTrue done → OnSlot i Change slots after) → (IsFalse done → after ≡ slots)
+    → ((page : List ℕ) (old new : Slot) → IsPermitted (get_or pages i unmapped).permission old → Change old new
+    → Keeps may page old new × (may (get_or pages i unmapped).permission ≡ true))
     → Fits pages view after
-fits-again {pages} {view} {slots} {after} {access} true fits lt stores stays =
-    let done = stores refl in
-    fits-after (allows write_right) fits lt done.others (done.change.stores (page_of view access.slot)).keeps
-    (done.change.writes _ (fits.permitted access.slot))
-fits-again false fits lt stores stays = rw (stays refl) fits
+fits-if may {view = view} {i = i} true fits lt changes stays keeps =
+    let done = changes refl in
+    let kept = keeps (page_of view i) _ _ (fits.permitted i) done.change in
+    fits-after may fits lt done.others kept.0 kept.1
+fits-if may false fits lt changes stays keeps = rw (stays refl) fits
 
 -- a slot's page that was entered is the page of an address in it, and has the view's bytes
 pub entered_space :

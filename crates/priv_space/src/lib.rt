@@ -18,5 +18,6 @@ pub use space::Space;
 pub fn delta_is_of_the_stores()
     ensures { (map : List Mapped) (view : Memory) (stores : List StoredByte)
         → IsMemory map view
-        → delta_from 0 (marked map (on_each no_marks map) stores) (laid map view stores) ≡ delta_of map stores }
+        → delta_from 0 (marked map (on_each no_marks map) stores) (laid map view stores)
+        ≡ delta_of map stores }
 {}

@@ -169,7 +169,7 @@ fn push_read(view: &PageTable, slot: usize, pages: &mut Vec<ReadPage>) -> Result
     ensures { OnOk result
         (pages.new.items ≡ pages.old.items ++ read_part slot true (page_of view.now slot)) }
 {
-    pages.push(ReadPage::new(slot, view.share(slot)?))?;
+    pages.push(ReadPage::new(slot, view.page_arc(slot)?))?;
     Ok(())
 }
 
@@ -277,7 +277,7 @@ impl Slot {
             (λ error. self.new ≡ self.old) }
     {
         if let Slot::View { .. } = self {
-            *self = Slot::Shared(view.share(slot)?);
+            *self = Slot::Shared(view.page_arc(slot)?);
             return Ok(());
         }
         *self = match mem::replace(self, Slot::new()) {

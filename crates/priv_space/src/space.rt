@@ -80,10 +80,10 @@ impl Mem for Space {
                     return Err(MemoryError::Access);
                 }
                 let access = access_to(slot, address, Size::Four);
-                match slots::fetch(&self.view, &mut self.slots, access) {
-                    Ok(word) => Ok(word),
-                    Err(_) => Err(MemoryError::NoMemory),
-                }
+                let Ok(word) = slots::fetch(&self.view, &mut self.slots, access) else {
+                    return Err(MemoryError::NoMemory);
+                };
+                Ok(word)
             }
         }
     }
@@ -154,10 +154,10 @@ impl Space {
                     return Err(MemoryError::Access);
                 }
                 let access = access_to(slot, address, size);
-                match slots::take(&self.view, &mut self.slots, access) {
-                    Ok(number) => Ok(number),
-                    Err(_) => Err(MemoryError::NoMemory),
-                }
+                let Ok(number) = slots::take(&self.view, &mut self.slots, access) else {
+                    return Err(MemoryError::NoMemory);
+                };
+                Ok(number)
             }
         }
     }

@@ -4,7 +4,7 @@ use Rattle.atomic_table.specs.Seated.{TableId}
 
 -- What the writer of a word knows: which word it is, how many steps it added, what it last saw the word to be or was
 -- told that it is, and how often it loaded it.
-pub record Counted : Type 0 where
+pub record WriterView : Type 0 where
   pub table : TableId
   pub added : ℕ
   pub seen : ℕ
@@ -12,7 +12,7 @@ pub record Counted : Type 0 where
 
 -- What a reader of a word knows: which word it is, what it last saw the word to be or was told that it is, and how often
 -- it loaded it.
-pub record Told : Type 0 where
+pub record ReaderView : Type 0 where
   pub table : TableId
   pub seen : ℕ
   pub loads : ℕ

@@ -13,9 +13,9 @@ pub struct Reader {
 
 impl Model for Reader {
     ghost use Rattle.std.specs.Prelude.{◌≡◌, false, []};
-    ghost use Rattle.progress_word.specs.Views.{Told};
+    ghost use Rattle.progress_word.specs.Views.{ReaderView};
 
-    ghost Value = { Told };
+    ghost Value = { ReaderView };
 
     ghost view = { λ r. record {
       table = r.seat.table_id;

@@ -13,9 +13,9 @@ pub struct Writer {
 
 impl Model for Writer {
     ghost use Rattle.std.specs.Prelude.{◌≡◌, true};
-    ghost use Rattle.progress_word.specs.Views.{Counted};
+    ghost use Rattle.progress_word.specs.Views.{WriterView};
 
-    ghost Value = { Counted };
+    ghost Value = { WriterView };
 
     ghost view = { λ w. record {
       table = w.seat.table_id;

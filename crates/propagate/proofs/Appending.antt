@@ -12,7 +12,7 @@ use Rattle.history_spec.specs.History.{threads_of_records}
 use Rattle.history_spec.proofs.Truth.{past-of}
 use Rattle.release_core.specs.Applying.{can_apply}
 use Rattle.round_spec.specs.Marks.{record_for, is_fitting, fits_next}
-use Rattle.round_spec.specs.Rounds.{RoundState, is_over, is_out_of, can_begin, can_take, can_reuse}
+use Rattle.round_spec.specs.Rounds.{RoundState, is_finished, is_in_flight_of, can_begin, can_take, can_reuse}
 use Rattle.round_spec.specs.Keeping.{IsInOrder, IsCounted}
 use Rattle.round_spec.proofs.Happening.{CanBegin, can_begin-parts}
 use Rattle.propagate.proofs.Keeping.{record_count}
@@ -23,10 +23,10 @@ few-harts m whole = omega (arith, whole.tied.threads, whole.tied.kept.few_thread
 pub below-32 : (m : Machine) (t : ℕ) → IsWhole m → is_ready (hart_of m t).status ≡ true → t < 32
 below-32 m t whole ready = omega (arith, few-harts m whole, ready-below m.harts t ready)
 
-pub out-below : (out : List Bool) (t : ℕ) → is_out_of out t ≡ true → t < length out
-out-below [] t is = cc
-out-below (b ∷ out) zero is = omega arith
-out-below (b ∷ out) (suc t) is = let below = out-below out t is in omega arith
+pub in_flight-below : (in_flight : List Bool) (t : ℕ) → is_in_flight_of in_flight t ≡ true → t < length in_flight
+in_flight-below [] t is = cc
+in_flight-below (b ∷ in_flight) zero is = omega arith
+in_flight-below (b ∷ in_flight) (suc t) is = let below = in_flight-below in_flight t is in omega arith
 
 none-is : (e : Option End) → is_none e ≡ true → e ≡ None
 none-is (Some e) h = cc
@@ -71,9 +71,9 @@ fits-parts :
 unfolding fits fits_at
 fits-parts m r fit = (grind (arith, nat_tests), grind (arith, nat_tests))
 
--- one that fits, in a round that isn't over
+-- one that fits, in a round that isn't finished
 pub fitting-append :
-    (w : RoundState) (r : Record) → IsInOrder w → IsCounted w → is_over w ≡ false → fits w.machine r ≡ true
+    (w : RoundState) (r : Record) → IsInOrder w → IsCounted w → is_finished w ≡ false → fits w.machine r ≡ true
     → CanAppend w r
 fitting-append w r kept counted going fit =
     let parts = fits-parts w.machine r fit in
@@ -100,7 +100,7 @@ reusable w t r kept counted can there =
       thread = thread;
     }
 
--- it may be laid
+-- it may be applied
 
 pub can-apply : (w : RoundState) (r : Record) → is_none w.machine.ending ≡ true → fits w.machine r ≡ true
     → can_apply w.machine r ≡ true

@@ -8,9 +8,9 @@ use Rattle.history_spec.specs.History.{History}
 use Rattle.round_spec.specs.declared.events.Pick.{Pick}
 use Rattle.round_spec.specs.declared.events.Pick.TheVariants as pick
 use Rattle.round_spec.specs.Marks.{fits_next}
-use Rattle.round_spec.specs.Rounds.{RoundState, is_over, is_free_in, can_take, can_reuse}
+use Rattle.round_spec.specs.Rounds.{RoundState, is_finished, is_free_in, can_take, can_reuse}
 use Rattle.round_spec.specs.Due.{place_in, is_due}
-use Rattle.round_spec.specs.Choice.{free_threads, is_any_out, eligible, choice_by, best, with_choice, pick_of}
+use Rattle.round_spec.specs.Choice.{free_threads, is_any_in_flight, eligible, choice_by, best, with_choice, pick_of}
 use Rattle.worker_spec.proofs.Lists.{all-filter, all-pass}
 use Rattle.propagate.specs.declared.picking.Candidate.{Candidate}
 use Rattle.propagate.specs.declared.picking.Leaders.{Leaders}
@@ -64,23 +64,23 @@ leader-more past m threads (Some leader) next leads same =
 
 below-more :
     (w : RoundState) (t : ℕ)
-    → free_below w (t + 1) ≡ free_below w t ++ cond (is_free_in w.machine w.out t) (t ∷ []) []
+    → free_below w (t + 1) ≡ free_below w t ++ cond (is_free_in w.machine w.in_flight t) (t ∷ []) []
 below-more w t =
-    ap (λ n. filter (is_free_in w.machine w.out) (range_with_len 0 n)) (add-one t)
-    ∙ ap (filter (is_free_in w.machine w.out)) (range-more 0 t t (omega arith))
-    ∙ filter-more (is_free_in w.machine w.out) (range_with_len 0 t) t
+    ap (λ n. filter (is_free_in w.machine w.in_flight) (range_with_len 0 n)) (add-one t)
+    ∙ ap (filter (is_free_in w.machine w.in_flight)) (range-more 0 t t (omega arith))
+    ∙ filter-more (is_free_in w.machine w.in_flight) (range_with_len 0 t) t
 
-free-skip : (w : RoundState) (t : ℕ) → is_free_in w.machine w.out t ≡ false → free_below w (t + 1) ≡ free_below w t
+free-skip : (w : RoundState) (t : ℕ) → is_free_in w.machine w.in_flight t ≡ false → free_below w (t + 1) ≡ free_below w t
 free-skip w t is = below-more w t ∙ ap (λ b. free_below w t ++ cond b (t ∷ []) []) is ∙ append-nil (free_below w t)
 
 free-more :
-    (w : RoundState) (t : ℕ) → is_free_in w.machine w.out t ≡ true
+    (w : RoundState) (t : ℕ) → is_free_in w.machine w.in_flight t ≡ true
     → free_below w (t + 1) ≡ free_below w t ++ t ∷ []
 free-more w t is = below-more w t ∙ ap (λ b. free_below w t ++ cond b (t ∷ []) []) is
 
 due-both :
     (w : RoundState) (t : ℕ)
-    → is_free_in w.machine w.out t ≡ true → due_below w (t + 1)
+    → is_free_in w.machine w.in_flight t ≡ true → due_below w (t + 1)
     ≡ due_below w t ++ cond (is_due w.past w.machine t) (t ∷ []) []
 due-both w t is =
     ap (filter (is_due w.past w.machine)) (free-more w t is) ∙ filter-more (is_due w.past w.machine) (free_below w t) t
@@ -93,7 +93,7 @@ leaders-none w = record {
 
 pub leaders-skip :
     (w : RoundState) (t : ℕ) (found : Leaders)
-    → AreLeadersBelow w t found → is_free_in w.machine w.out t ≡ false → AreLeadersBelow w (t + 1) found
+    → AreLeadersBelow w t found → is_free_in w.machine w.in_flight t ≡ false → AreLeadersBelow w (t + 1) found
 leaders-skip w t found leads is = record {
   due = leads.due ∙ ap (λ (ts : List ℕ). leader_of w (filter (is_due w.past w.machine) ts)) (sym (free-skip w t is));
   free = leads.free ∙ ap (leader_of w) (sym (free-skip w t is));
@@ -110,7 +110,7 @@ leads-below w threads leader t place number leads is_place is_number =
 pub leaders-free :
     (w : RoundState) (t place number : ℕ) (found : Leaders)
     → AreLeadersBelow w t found
-    → is_free_in w.machine w.out t ≡ true → is_due w.past w.machine t ≡ false
+    → is_free_in w.machine w.in_flight t ≡ true → is_due w.past w.machine t ≡ false
     → place ≡ place_in w.past w.machine t → number ≡ (hart_of w.machine t).number
     → AreLeadersBelow w (t + 1)
     (record {
@@ -131,7 +131,7 @@ leaders-free w t place number found leads free due is_place is_number = record {
 due-more :
     (w : RoundState) (t place number : ℕ) (found : Leaders)
     → AreLeadersBelow w t found
-    → is_free_in w.machine w.out t ≡ true → is_due w.past w.machine t ≡ true
+    → is_free_in w.machine w.in_flight t ≡ true → is_due w.past w.machine t ≡ true
     → place ≡ place_in w.past w.machine t → number ≡ (hart_of w.machine t).number
     → Some (better found.due (record { thread = t; place = place; number = number })) ≡ leader_of w (due_below w (t + 1))
 due-more w t place number found leads free due is_place is_number =
@@ -143,13 +143,13 @@ due-more w t place number found leads free due is_place is_number =
 
 pub first-skip :
     (w : RoundState) (t : ℕ) (leader : Option Candidate)
-    → leader ≡ leader_of w (free_below w t) → is_free_in w.machine w.out t ≡ false
+    → leader ≡ leader_of w (free_below w t) → is_free_in w.machine w.in_flight t ≡ false
     → leader ≡ leader_of w (free_below w (t + 1))
 first-skip w t leader leads is = leads ∙ ap (leader_of w) (sym (free-skip w t is))
 
 pub first-more :
     (w : RoundState) (t : ℕ) (leader : Option Candidate) (next : Candidate)
-    → leader ≡ leader_of w (free_below w t) → is_free_in w.machine w.out t ≡ true
+    → leader ≡ leader_of w (free_below w t) → is_free_in w.machine w.in_flight t ≡ true
     → next ≡ candidate_of w.past w.machine t
     → Some (better leader next) ≡ leader_of w (free_below w (t + 1))
 first-more w t leader next leads free is =
@@ -167,7 +167,7 @@ IsDueAhead w free due = IsAhead w.past w.machine (is_due w.past w.machine) free 
 
 ahead-next :
     (w : RoundState) (t : ℕ) (b : Bool)
-    → is_free_in w.machine w.out t ≡ b → IsDueAhead w (free_below w t) (due_below w t)
+    → is_free_in w.machine w.in_flight t ≡ b → IsDueAhead w (free_below w t) (due_below w t)
     → IsDueAhead w (free_below w (t + 1)) (due_below w (t + 1))
 ahead-next w t true free ahead =
     subst (λ (xs : List ℕ). IsDueAhead w xs (due_below w (t + 1))) (sym (free-more w t free))
@@ -180,7 +180,7 @@ due-ahead : (w : RoundState) (t : ℕ) → IsDueAhead w (free_below w t) (due_be
 due-ahead w zero = ahead-none w.past w.machine (is_due w.past w.machine)
 due-ahead w (suc t) =
     subst (λ (n : ℕ). IsDueAhead w (free_below w n) (due_below w n)) (add-one t)
-    (ahead-next w t (is_free_in w.machine w.out t) refl (due-ahead w t))
+    (ahead-next w t (is_free_in w.machine w.in_flight t) refl (due-ahead w t))
 
 pub leaders-first :
     (w : RoundState) (t : ℕ) (first : Candidate)
@@ -214,7 +214,7 @@ better-stays (Some leader) next is = rw is refl
 pub leaders-due :
     (w : RoundState) (t place number : ℕ) (found : Leaders)
     → AreLeadersBelow w t found
-    → is_free_in w.machine w.out t ≡ true
+    → is_free_in w.machine w.in_flight t ≡ true
     → leads found.due (record { thread = t; place = place; number = number }) ≡ true
     → is_due w.past w.machine t ≡ true
     → place ≡ place_in w.past w.machine t → number ≡ (hart_of w.machine t).number
@@ -237,7 +237,7 @@ leaders-due w t place number found below free first due is_place is_number = rec
 pub leaders-behind :
     (w : RoundState) (t place number : ℕ) (found : Leaders)
     → AreLeadersBelow w t found
-    → is_free_in w.machine w.out t ≡ true
+    → is_free_in w.machine w.in_flight t ≡ true
     → leads found.due (record { thread = t; place = place; number = number }) ≡ false
     → place ≡ place_in w.past w.machine t → number ≡ (hart_of w.machine t).number
     → AreLeadersBelow w (t + 1)
@@ -268,9 +268,9 @@ leaders-behind w t place number found below free behind is_place is_number = by 
 
 choice-below :
     (w : RoundState)
-    → choice_by w.past w.machine w.out
+    → choice_by w.past w.machine w.in_flight
     ≡ best w.past w.machine (eligible (due_below w (length w.machine.harts)) (free_below w (length w.machine.harts))
-    (is_any_out w.out))
+    (is_any_in_flight w.in_flight))
 unfolding choice_by free_threads
 choice-below w = refl
 
@@ -303,22 +303,22 @@ eligible-none w due free any is = rw (best-none w.past w.machine due is) (by any
 pub choice-due :
     (w : RoundState) (found : Leaders) (leader : Candidate)
     → AreLeadersBelow w (length w.machine.harts) found → found.due ≡ Some leader
-    → choice_by w.past w.machine w.out ≡ Some leader.thread
+    → choice_by w.past w.machine w.in_flight ≡ Some leader.thread
 choice-due w found leader leads is =
     choice-below w
-    ∙ eligible-due w (due_below w (length w.machine.harts)) (free_below w (length w.machine.harts)) (is_any_out w.out)
+    ∙ eligible-due w (due_below w (length w.machine.harts)) (free_below w (length w.machine.harts)) (is_any_in_flight w.in_flight)
     leader.thread
     (sym (thread-of w (due_below w (length w.machine.harts)))
     ∙ ap (option_map (λ (c : Candidate). c.thread)) (sym leads.due ∙ is))
 
 pub choice-free :
     (w : RoundState) (found : Leaders) (any : Bool)
-    → AreLeadersBelow w (length w.machine.harts) found → found.due ≡ None → is_any_out w.out ≡ any
-    → choice_by w.past w.machine w.out ≡ cond any None (option_map (λ (c : Candidate). c.thread) found.free)
-choice-free w found any leads is out =
+    → AreLeadersBelow w (length w.machine.harts) found → found.due ≡ None → is_any_in_flight w.in_flight ≡ any
+    → choice_by w.past w.machine w.in_flight ≡ cond any None (option_map (λ (c : Candidate). c.thread) found.free)
+choice-free w found any leads is in_flight =
     choice-below w
     ∙ ap (λ b. best w.past w.machine
-    (eligible (due_below w (length w.machine.harts)) (free_below w (length w.machine.harts)) b)) out
+    (eligible (due_below w (length w.machine.harts)) (free_below w (length w.machine.harts)) b)) in_flight
     ∙ eligible-none w (due_below w (length w.machine.harts)) (free_below w (length w.machine.harts)) any
     (sym (thread-of w (due_below w (length w.machine.harts)))
     ∙ ap (option_map (λ (c : Candidate). c.thread)) (sym leads.due ∙ is))
@@ -326,27 +326,28 @@ choice-free w found any leads is out =
     (sym (thread-of w (free_below w (length w.machine.harts)))
     ∙ ap (option_map (λ (c : Candidate). c.thread)) (sym leads.free))
 
--- the choice is the leader of those that are due, where there is one or anybody is out, and else the leader of all
+-- the choice is the leader of those that are due, where there is one or anybody is in flight, and else the leader of
+-- all
 pub choice-of :
     (w : RoundState) (found : Leaders) (b : Bool)
-    → AreLeadersBelow w (length w.machine.harts) found → (is_some found.due || is_any_out w.out) ≡ b
-    → choice_by w.past w.machine w.out ≡ option_map (λ (c : Candidate). c.thread) (cond b found.due found.free)
-choice-of w found b leads is = by found.due (is_any_out w.out) refl refl is
+    → AreLeadersBelow w (length w.machine.harts) found → (is_some found.due || is_any_in_flight w.in_flight) ≡ b
+    → choice_by w.past w.machine w.in_flight ≡ option_map (λ (c : Candidate). c.thread) (cond b found.due found.free)
+choice-of w found b leads is = by found.due (is_any_in_flight w.in_flight) refl refl is
   where
     by :
         (due : Option Candidate) (any : Bool)
-        → found.due ≡ due → is_any_out w.out ≡ any → (is_some due || any) ≡ b
-        → choice_by w.past w.machine w.out ≡ option_map (λ (c : Candidate). c.thread) (cond b found.due found.free)
-    by (Some leader) any some out both =
+        → found.due ≡ due → is_any_in_flight w.in_flight ≡ any → (is_some due || any) ≡ b
+        → choice_by w.past w.machine w.in_flight ≡ option_map (λ (c : Candidate). c.thread) (cond b found.due found.free)
+    by (Some leader) any some in_flight both =
         choice-due w found leader leads some
         ∙ ap (option_map (λ (c : Candidate). c.thread)) (sym some)
         ∙ ap (λ x. option_map (λ (c : Candidate). c.thread) (cond x found.due found.free)) both
-    by None true none out both =
-        choice-free w found true leads none out
+    by None true none in_flight both =
+        choice-free w found true leads none in_flight
         ∙ ap (option_map (λ (c : Candidate). c.thread)) (sym none)
         ∙ ap (λ x. option_map (λ (c : Candidate). c.thread) (cond x found.due found.free)) both
-    by None false none out both =
-        choice-free w found false leads none out
+    by None false none in_flight both =
+        choice-free w found false leads none in_flight
         ∙ ap (λ x. option_map (λ (c : Candidate). c.thread) (cond x found.due found.free)) both
 
 -- who is chosen is free
@@ -359,22 +360,22 @@ eligible-all P [] free true all_due all_free = tt
 eligible-all P [] free false all_due all_free = all_free
 
 choice-is_free :
-    (w : RoundState) (t : ℕ) → choice_by w.past w.machine w.out ≡ Some t
-    → is_free_in w.machine w.out t ≡ true
+    (w : RoundState) (t : ℕ) → choice_by w.past w.machine w.in_flight ≡ Some t
+    → is_free_in w.machine w.in_flight t ≡ true
 choice-is_free w t is =
-    let all = all-pass (is_free_in w.machine w.out) (range_with_len 0 (length w.machine.harts)) in
-    best-all (λ u. is_free_in w.machine w.out u ≡ true) w.past w.machine
-    (eligible (due_below w (length w.machine.harts)) (free_below w (length w.machine.harts)) (is_any_out w.out)) t
-    (eligible-all (λ u. is_free_in w.machine w.out u ≡ true) (due_below w (length w.machine.harts))
-    (free_below w (length w.machine.harts)) (is_any_out w.out)
-    (all-filter (λ u. is_free_in w.machine w.out u ≡ true) (is_due w.past w.machine)
+    let all = all-pass (is_free_in w.machine w.in_flight) (range_with_len 0 (length w.machine.harts)) in
+    best-all (λ u. is_free_in w.machine w.in_flight u ≡ true) w.past w.machine
+    (eligible (due_below w (length w.machine.harts)) (free_below w (length w.machine.harts)) (is_any_in_flight w.in_flight)) t
+    (eligible-all (λ u. is_free_in w.machine w.in_flight u ≡ true) (due_below w (length w.machine.harts))
+    (free_below w (length w.machine.harts)) (is_any_in_flight w.in_flight)
+    (all-filter (λ u. is_free_in w.machine w.in_flight u ≡ true) (is_due w.past w.machine)
     (free_below w (length w.machine.harts)) all)
     all)
     (sym (choice-below w) ∙ is)
 
 -- what is picked
 
-pub pick-over : (w : RoundState) → is_over w ≡ true → pick_of w ≡ pick.Over
+pub pick-over : (w : RoundState) → is_finished w ≡ true → pick_of w ≡ pick.Over
 unfolding pick_of
 pick-over w over = rw over refl
 
@@ -382,22 +383,22 @@ pub pick-stopped : (w : RoundState) → w.stopped ≡ true → pick_of w ≡ pic
 pick-stopped w stopped = pick-over w (or_right (is_some w.machine.ending) w.stopped stopped)
 
 pick-going :
-    (w : RoundState) → is_over w ≡ false
-    → pick_of w ≡ with_choice w.past w.machine (choice_by w.past w.machine w.out)
+    (w : RoundState) → is_finished w ≡ false
+    → pick_of w ≡ with_choice w.past w.machine (choice_by w.past w.machine w.in_flight)
 unfolding pick_of
 pick-going w going = rw going refl
 
-pub pick-hold : (w : RoundState) → is_over w ≡ false → choice_by w.past w.machine w.out ≡ None → pick_of w ≡ pick.Hold
+pub pick-hold : (w : RoundState) → is_finished w ≡ false → choice_by w.past w.machine w.in_flight ≡ None → pick_of w ≡ pick.Hold
 pick-hold w going none = pick-going w going ∙ ap (with_choice w.past w.machine) none
 
 chosen-fits :
     (w : RoundState) (t : ℕ)
-    → is_over w ≡ false → choice_by w.past w.machine w.out ≡ Some t → can_reuse w t ≡ fits_next w.past w.machine t
+    → is_finished w ≡ false → choice_by w.past w.machine w.in_flight ≡ Some t → can_reuse w t ≡ fits_next w.past w.machine t
 chosen-fits w t going chosen = rw (going, choice-is_free w t chosen) refl
 
 pub pick-chosen :
     (w : RoundState) (t : ℕ) (fit : Bool)
-    → is_over w ≡ false → choice_by w.past w.machine w.out ≡ Some t → can_reuse w t ≡ fit
+    → is_finished w ≡ false → choice_by w.past w.machine w.in_flight ≡ Some t → can_reuse w t ≡ fit
     → pick_of w ≡ cond fit (pick.Reuse t) (pick.Run t)
 pick-chosen w t fit going chosen can =
     pick-going w going ∙ ap (with_choice w.past w.machine) chosen
@@ -407,7 +408,7 @@ pick-chosen w t fit going chosen can =
 
 picked-by :
     (w : RoundState) (over : Bool) (o : Option ℕ) (p : Pick)
-    → is_over w ≡ over → choice_by w.past w.machine w.out ≡ o → pick_of w ≡ p
+    → is_finished w ≡ over → choice_by w.past w.machine w.in_flight ≡ o → pick_of w ≡ p
     → ((t : ℕ) → p ≡ pick.Reuse t → can_reuse w t ≡ true) × ((t : ℕ) → p ≡ pick.Run t → can_take w t ≡ true)
 picked-by w true o p over chosen is = let none = pick-over w over in (λ t same. cc, λ t same. cc)
 picked-by w false None p over chosen is = let none = pick-hold w over chosen in (λ t same. cc, λ t same. cc)
@@ -428,4 +429,4 @@ picked-by w false (Some u) p over chosen is = by (fits_next w.past w.machine u) 
         (λ t same. cc, λ t same. let is_t : u ≡ t = cc in ap (can_take w) (sym is_t) ∙ can)
 
 pub picked-run : (w : RoundState) (t : ℕ) → pick_of w ≡ pick.Run t → can_take w t ≡ true
-picked-run w t is = (picked-by w (is_over w) (choice_by w.past w.machine w.out) (pick_of w) refl refl refl).1 t is
+picked-run w t is = (picked-by w (is_finished w) (choice_by w.past w.machine w.in_flight) (pick_of w) refl refl refl).1 t is

@@ -13,7 +13,7 @@ use Rattle.order_spec.specs.Before.{fact_at}
 use Rattle.order_spec.specs.Keeping.{fact_thread, record_thread}
 use Rattle.order_spec.specs.Ancestors.{is_up_to, clock_at}
 use Rattle.order_spec.proofs.Clocks.{count-stay}
-use Rattle.round_spec.specs.Due.{place_in, past_facts, is_gone, is_step_at, are_passed_before, is_due}
+use Rattle.round_spec.specs.Due.{place_in, past_facts, has_exited, is_step_at, are_passed_before, is_due}
 use Rattle.round_spec.proofs.Placed.{facts-of, facts-length, thread-is, absent-due, placed-step, placed-due, step-thread, step-number}
 use Rattle.round_spec.proofs.Clocked.{passed-clock}
 use Rattle.propagate.specs.Choosing.{has_made, HaveMade}
@@ -97,16 +97,16 @@ absent-is_due (Some h) m t run far =
 
 -- who is there is due where each thread has made what the clock counts of it
 
-made-or : (m : Machine) (u steps : ℕ) → has_made m u steps ≡ true → (steps ≤ (hart_of m u).number) ⊎ (is_gone m u ≡ true)
+made-or : (m : Machine) (u steps : ℕ) → has_made m u steps ≡ true → (steps ≤ (hart_of m u).number) ⊎ (has_exited m u ≡ true)
 made-or m u steps is =
-    elim (or_cases (leb steps (hart_of m u).number) (is_gone m u) is) [
+    elim (or_cases (leb steps (hart_of m u).number) (has_exited m u) is) [
       | inl enough ↦ inl (leb-true steps (hart_of m u).number enough)
       | inr gone ↦ inr gone
     ]
 
-or-made : (m : Machine) (u steps : ℕ) → (steps ≤ (hart_of m u).number) ⊎ (is_gone m u ≡ true) → has_made m u steps ≡ true
-or-made m u steps (inl enough) = or_left (leb steps (hart_of m u).number) (is_gone m u) (le-leb steps (hart_of m u).number enough)
-or-made m u steps (inr gone) = or_right (leb steps (hart_of m u).number) (is_gone m u) gone
+or-made : (m : Machine) (u steps : ℕ) → (steps ≤ (hart_of m u).number) ⊎ (has_exited m u ≡ true) → has_made m u steps ≡ true
+or-made m u steps (inl enough) = or_left (leb steps (hart_of m u).number) (has_exited m u) (le-leb steps (hart_of m u).number enough)
+or-made m u steps (inr gone) = or_right (leb steps (hart_of m u).number) (has_exited m u) gone
 
 abbrev IsClock : List Fact → ℕ → List ℕ → Type 0
 IsClock fs j clock = (u : ℕ) → u < 32 → get_or clock u 0 ≡ clock_at fs j u
@@ -121,7 +121,7 @@ abbrev Tells : History → Machine → ℕ → Type 0
 Tells h m j =
     are_passed_before (facts h) m j ≡ true
     ↔ ((u : ℕ) → u ≢ (fact_at (facts h) j).thread
-    → (clock_at (facts h) j u ≤ (hart_of m u).number) ⊎ (is_gone m u ≡ true))
+    → (clock_at (facts h) j u ≤ (hart_of m u).number) ⊎ (has_exited m u ≡ true))
 
 placed-made :
     (h : History) (m : Machine) (t j : ℕ) (clock : List ℕ) (b : Bool)
@@ -135,7 +135,7 @@ placed-made h m t j clock b run is thread tells decides =
     (record {
       each = λ u below other.
           or-made m u (get_or clock u 0)
-          (subst (λ (n : ℕ). (n ≤ (hart_of m u).number) ⊎ (is_gone m u ≡ true)) (sym (is u below))
+          (subst (λ (n : ℕ). (n ≤ (hart_of m u).number) ⊎ (has_exited m u ≡ true)) (sym (is u below))
           (tells.0 passed u (λ same. other (same ∙ thread))));
     }))
     (λ yes.
@@ -143,7 +143,7 @@ placed-made h m t j clock b run is thread tells decides =
     (λ u other.
     elim (cases_lt u 32) [
       | inl below ↦
-          subst (λ (n : ℕ). (n ≤ (hart_of m u).number) ⊎ (is_gone m u ≡ true)) (is u below)
+          subst (λ (n : ℕ). (n ≤ (hart_of m u).number) ⊎ (has_exited m u ≡ true)) (is u below)
           (made-or m u (get_or clock u 0) ((decides.0 yes).each u below (λ same. other (same ∙ sym thread))))
       | inr past ↦ inl (omega (arith, counts-nothing h j u run.threads past))
     ]))

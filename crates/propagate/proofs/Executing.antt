@@ -1,5 +1,5 @@
 -- The picks of one worker, and what a round executes.
-use Rattle.std.proofs.Common.{◌≡◌, ◌+◌, ℕ, zero, suc, Bool, true, false, not, ◌&&◌, cond, length, Option, Some, None, is_some, Result, Ok, Err, OnOk, refl, ap, sym, ◌∙◌, subst, arith}
+use Rattle.std.proofs.Common.{◌≡◌, ◌≤◌, ◌+◌, ℕ, zero, suc, Bool, true, false, not, ◌&&◌, cond, length, Option, Some, None, is_some, Result, Ok, Err, OnOk, refl, ap, sym, ◌∙◌, subst, arith}
 use Rattle.std.proofs.lemmas.Bool.{and_parts, not-true}
 use Rattle.std.proofs.lemmas.List.{get_or-set_same}
 use Rattle.std.specs.Arc.{arc_value}
@@ -16,7 +16,7 @@ use Rattle.report_spec.specs.Report.{threads_of}
 use Rattle.round_spec.specs.declared.events.Event.{Event}
 use Rattle.round_spec.specs.declared.events.Event.TheVariants.{Take, Reuse, Commit, GiveBack, Stop}
 use Rattle.round_spec.specs.Marks.{record_for, fits_next}
-use Rattle.round_spec.specs.Rounds.{RoundState, is_over, is_out, can_begin, can_take, can_reuse, taken, reused_by, committed, given_back, happens}
+use Rattle.round_spec.specs.Rounds.{RoundState, is_finished, is_in_flight, can_begin, can_take, can_reuse, taken, reused_by, committed, given_back, happens}
 use Rattle.round_spec.specs.Choice.{pick_of}
 use Rattle.round_spec.specs.Alone.{one_worker, after_pick, after_picks, lone_round}
 use Rattle.round_spec.specs.Keeping.{IsInOrder, IsCounted, IsHeld, IsFromScratch}
@@ -63,23 +63,23 @@ over-false : (b c : Bool) → (not b && c) ≡ true → b ≡ false
 over-false true c h = cc
 over-false false c h = refl
 
-take-going : (w : RoundState) (t : ℕ) → can_take w t ≡ true → is_over w ≡ false
+take-going : (w : RoundState) (t : ℕ) → can_take w t ≡ true → is_finished w ≡ false
 take-going w t can =
     let parts = and_parts (can_begin w t) (not (fits_next w.past w.machine t)) can in
-    not-true (is_over w) (and_parts (not (is_over w)) (is_ready (hart_of w.machine t).status && not (is_out w t))
+    not-true (is_finished w) (and_parts (not (is_finished w)) (is_ready (hart_of w.machine t).status && not (is_in_flight w t))
     parts.0).0
 
--- the step of a thread that is out can be committed, while the round isn't over
-pub out-commits :
+-- the step of a thread that is in flight can be committed, while the round isn't finished
+pub in_flight-commits :
     (w : RoundState) (t : ℕ) (r : Record)
-    → IsInOrder w → is_out w t ≡ true → is_over w ≡ false → r ≡ record_of w.machine t
+    → IsInOrder w → is_in_flight w t ≡ true → is_finished w ≡ false → r ≡ record_of w.machine t
     → CanCommit w w.machine.frame r
-out-commits w t r kept out going is =
-    let held : IsHeld w t = kept.held t out in
+in_flight-commits w t r kept in_flight going is =
+    let held : IsHeld w t = kept.held t in_flight in
     record {
       going = going;
       same_frame = refl;
-      taken = ap (λ (x : Record). is_out w x.thread) is ∙ out;
+      taken = ap (λ (x : Record). is_in_flight w x.thread) is ∙ in_flight;
       fit = ap (fits w.machine) is ∙ record-fits w.machine t held.ready;
     }
 
@@ -93,8 +93,8 @@ taken-commits w t r kept can is =
       going = take-going w t can;
       same_frame = refl;
       taken =
-          ap (λ (x : Record). is_out (taken w t) x.thread) is
-          ∙ get_or-set_same w.out t true false
+          ap (λ (x : Record). is_in_flight (taken w t) x.thread) is
+          ∙ get_or-set_same w.in_flight t true false
           (let few = below-32 w.machine t kept.whole ready in let flags = kept.flags in omega arith);
       fit = ap (fits w.machine) is ∙ record-fits w.machine t ready;
     }
@@ -118,7 +118,7 @@ commit-counts w v t r same commits is own =
     let made : v ≡ committed w t =
     is
     ∙ ap (λ (x : Record). happens w (Commit x.thread)) own
-    ∙ happens-commit w t (ap (λ (x : Record). is_out w x.thread) (sym own) ∙ commits.taken) commits.going in
+    ∙ happens-commit w t (ap (λ (x : Record). is_in_flight w x.thread) (sym own) ∙ commits.taken) commits.going in
     ap executed_by made
     ∙ executed-more w.schedule w.records (record { thread = t; reused = false }) (record_of w.machine t) same
     ∙ ap (λ (x : Record). executed_by w + x.kept.count) (sym own)
@@ -163,7 +163,7 @@ aside-executed w (Reuse t) same nothing =
     either-executed (can_reuse w t) w (reused_by w t (record_for w.past w.machine t)) w
     (reused-executed w t (record_for w.past w.machine t) same) refl
 aside-executed w (Commit t) same nothing = absurd nothing
-aside-executed w (GiveBack t) same nothing = either-executed (is_out w t) w (given_back w t) w refl refl
+aside-executed w (GiveBack t) same nothing = either-executed (is_in_flight w t) w (given_back w t) w refl refl
 aside-executed w Stop same nothing = refl
 
 -- so the counter stays as it is
@@ -184,15 +184,16 @@ picks-more : (n k : ℕ) (w : RoundState) → n ≡ suc k → after_picks k (aft
 picks-more n k w is = rw is refl
 
 pub partway-pick :
-    (setup : Setup) (past : Option History) (n k : ℕ) (w v : RoundState) (start before now : ℕ)
-    → IsPartWay setup past n w start before → n ≡ suc k
+    (n k : ℕ) (after begun w v : RoundState) (start before now : ℕ)
+    → IsPartWay n after begun w start before → n ≡ suc k
     → v ≡ after_pick w (pick_of w)
-    → now + executed_by w ≡ before + executed_by v
-    → IsPartWay setup past k v start now
-partway-pick setup past n k w v start before now way more is cost =
+    → Costs before w now v → before ≤ now
+    → IsPartWay k after begun v start now
+partway-pick n k after begun w v start before now way more is cost rises =
     record {
       rest = ap (after_picks k) is ∙ picks-more n k w more ∙ way.rest;
       cost = let so_far = way.cost in omega arith;
+      rises = let so_far = way.rises in omega arith;
     }
 
 -- where nothing is picked, nothing is done any more
@@ -201,18 +202,17 @@ picks-stay zero w stays = refl
 picks-stay (suc n) w stays = ap (after_picks n) stays ∙ picks-stay n w stays
 
 pub partway-over :
-    (setup : Setup) (past : Option History) (n : ℕ) (w v : RoundState) (start before now : ℕ)
-    → IsPartWay setup past n w start before
+    (n : ℕ) (after begun w v : RoundState) (start before now : ℕ)
+    → IsPartWay n after begun w start before
     → v ≡ after_pick w (pick_of w) → v ≡ w
-    → now + executed_by w ≡ before + executed_by v
-    → (v ≡ lone_round setup past) × (now ≡ start + executed_by v)
-partway-over setup past n w v start before now way is same cost = (
-  same ∙ sym (picks-stay n w (sym is ∙ same)) ∙ way.rest,
-  (let so_far = way.cost in
-      let equal : executed_by v ≡ executed_by w =
-      ap (λ (x : RoundState). executed_by x) same in
-      omega arith),
-)
+    → Costs before w now v → before ≤ now
+    → IsPartWay 0 after begun v start now
+partway-over n after begun w v start before now way is same cost rises =
+    record {
+      rest = same ∙ sym (picks-stay n w (sym is ∙ same)) ∙ way.rest;
+      cost = let so_far = way.cost in omega arith;
+      rises = let so_far = way.rises in omega arith;
+    }
 
 -- the round of one worker
 

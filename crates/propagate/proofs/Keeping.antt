@@ -1,11 +1,12 @@
 -- What a round keeps beside what is seen of it, after each event.
-use Rattle.std.proofs.Common.{◌≡◌, ◌≤◌, ◌+◌, ◌*◌, ℕ, suc, true, cond, ◌&&◌, List, [], ◌∷◌, ◌++◌, length, length-append, Option, is_some, is_none, refl, ap, sym, ◌∙◌, subst, arith}
+use Rattle.std.proofs.Common.{◌≡◌, ◌≤◌, ◌+◌, ◌*◌, ℕ, suc, Bool, true, cond, ◌&&◌, List, [], ◌∷◌, ◌++◌, length, length-append, Option, Vec, is_some, is_none, refl, ap, sym, ◌∙◌, subst, arith}
 use Rattle.std.proofs.lemmas.Bool.{and_parts}
+use Rattle.std.specs.Global.{Global}
 use Rattle.record_spec.specs.Record.{Record}
 use Rattle.machine_spec.specs.Machine.{Machine}
 use Rattle.machine_spec.specs.Setup.{Setup, IsSetup, first}
-use Rattle.machine_spec.specs.Step.{lay, fits}
-use Rattle.history_spec.specs.History.{History, IsHonest, IsSound, threads_of_records, past_records, laid_from, can_lay_from, is_coherent}
+use Rattle.machine_spec.specs.Step.{apply, fits}
+use Rattle.history_spec.specs.History.{History, IsHonest, IsSound, threads_of_records, past_records, applied_from, can_apply_from, is_coherent}
 use Rattle.release_core.specs.Records.{AreOfRun}
 use Rattle.report_spec.specs.declared.Entry.{Entry}
 use Rattle.report_spec.specs.Report.{threads_of, instructions_from}
@@ -23,7 +24,8 @@ use Rattle.round_spec.proofs.Executed.{executed-records}
 use Rattle.order_spec.specs.Facts.{Fact}
 use Rattle.round_spec.specs.Due.{past_facts}
 use Rattle.release_core.specs.Applying.{can_apply}
-use Rattle.propagate.specs.Kept.{IsLaid, IsOnMap, IsValid, IsKept}
+use Rattle.propagate.specs.Consistency.{IsApplied, IsOnMap, IsValid, IsConsistent}
+use Rattle.propagate.specs.Alike.{IsAsBefore}
 use Rattle.propagate.proofs.Mapped.{opening-on_map, happens-on_map}
 
 -- as many records as entries
@@ -68,10 +70,11 @@ reported w instructions kept is sound =
 -- at the start
 
 -- what holds of every round
-pub valid_kept :
+pub valid_consistent :
     (w v : RoundState) (instructions : ℕ) (facts : List Fact)
-    → v ≡ w → IsKept v instructions facts → IsValid w
-valid_kept w v instructions facts is kept =
+    (marks : Option (Vec Bool Global))
+    → v ≡ w → IsConsistent v instructions facts marks → IsValid w
+valid_consistent w v instructions facts marks is kept =
     subst IsValid is record {
       setup = kept.valid;
       framed = kept.framed;
@@ -81,15 +84,17 @@ valid_kept w v instructions facts is kept =
     }
 
 pub kept_opening :
-    (setup : Setup) (past : Option History)
-    → IsSetup setup → AreOfRun (past_records past) → IsKept (opening setup past) 0 (past_facts past)
-kept_opening setup past valid run =
+    (setup : Setup) (past : Option History) (marks : Option (Vec Bool Global))
+    → IsSetup setup → AreOfRun (past_records past)
+    → IsAsBefore (opening setup past) marks
+    → IsConsistent (opening setup past) 0 (past_facts past) marks
+kept_opening setup past marks valid run as_before =
     record {
       valid = valid;
       in_order = opening-kept setup past valid;
       counted = round-counted setup past [] valid;
       by_schedule = by_schedule-opening setup past;
-      laid = record { machine = refl; can = refl };
+      applied = record { machine = refl; can = refl };
       on_map = opening-on_map setup past;
       framed = refl;
       points = refl;
@@ -97,59 +102,62 @@ kept_opening setup past valid run =
       few = omega arith;
       of_run = run;
       facts_are = refl;
+      as_before = as_before;
     }
 
--- records laid one after the other, and one more
+-- records applied one after the other, and one more
 
-laid-more :
+applied-more :
     (m : Machine) (rs : List Record) (r : Record)
-    → can_lay_from m rs ≡ true → can_apply (laid_from m rs) r ≡ true
-    → (laid_from m (rs ++ r ∷ []) ≡ lay (laid_from m rs) r) × (can_lay_from m (rs ++ r ∷ []) ≡ true)
-laid-more m [] r can fit = (refl, rw fit refl)
-laid-more m (x ∷ rs) r can fit =
-    let parts = and_parts (is_none m.ending && fits m x) (can_lay_from (lay m x) rs) can in
-    let rest = laid-more (lay m x) rs r parts.1 fit in
+    → can_apply_from m rs ≡ true → can_apply (applied_from m rs) r ≡ true
+    → (applied_from m (rs ++ r ∷ []) ≡ apply (applied_from m rs) r) × (can_apply_from m (rs ++ r ∷ []) ≡ true)
+applied-more m [] r can fit = (refl, rw fit refl)
+applied-more m (x ∷ rs) r can fit =
+    let parts = and_parts (is_none m.ending && fits m x) (can_apply_from (apply m x) rs) can in
+    let rest = applied-more (apply m x) rs r parts.1 fit in
     (rest.0, rw (parts.0, rest.1) refl)
 
-pub laid-round :
+pub applied-round :
     (w v : RoundState) (r : Record)
-    → IsLaid w → can_apply w.machine r ≡ true → v.setup ≡ w.setup
-    → v.machine ≡ lay w.machine r → v.records ≡ w.records ++ r ∷ []
-    → IsLaid v
-laid-round w v r laid fit setup machine records =
+    → IsApplied w → can_apply w.machine r ≡ true → v.setup ≡ w.setup
+    → v.machine ≡ apply w.machine r → v.records ≡ w.records ++ r ∷ []
+    → IsApplied v
+applied-round w v r applied fit setup machine records =
     let more =
-    laid-more (first w.setup) w.records r laid.can
-    (subst (λ (m : Machine). can_apply m r ≡ true) laid.machine fit) in
+    applied-more (first w.setup) w.records r applied.can
+    (subst (λ (m : Machine). can_apply m r ≡ true) applied.machine fit) in
     record {
-      machine = machine ∙ ap (λ (m : Machine). lay m r) laid.machine ∙ sym more.0
-          ∙ ap (λ (rs : List Record). laid_from (first w.setup) rs) (sym records)
-          ∙ ap (λ (s : Setup). laid_from (first s) v.records) (sym setup);
-      can = ap (λ (s : Setup). can_lay_from (first s) v.records) setup
-          ∙ ap (λ (rs : List Record). can_lay_from (first w.setup) rs) records ∙ more.1;
+      machine = machine ∙ ap (λ (m : Machine). apply m r) applied.machine ∙ sym more.0
+          ∙ ap (λ (rs : List Record). applied_from (first w.setup) rs) (sym records)
+          ∙ ap (λ (s : Setup). applied_from (first s) v.records) (sym setup);
+      can = ap (λ (s : Setup). can_apply_from (first s) v.records) setup
+          ∙ ap (λ (rs : List Record). can_apply_from (first w.setup) rs) records ∙ more.1;
     }
 
 -- what a round with an end leaves holds together
-pub laid-coherent : (w : RoundState) → IsLaid w → is_some w.machine.ending ≡ true → is_coherent (history_of w) ≡ true
-laid-coherent w laid ended =
-    let ends : is_some (laid_from (first w.setup) w.records).ending ≡ true =
-    subst (λ (m : Machine). is_some m.ending ≡ true) laid.machine ended in
-    rw (laid.can, ends) refl
+pub applied-coherent : (w : RoundState) → IsApplied w → is_some w.machine.ending ≡ true → is_coherent (history_of w) ≡ true
+applied-coherent w applied ended =
+    let ends : is_some (applied_from (first w.setup) w.records).ending ≡ true =
+    subst (λ (m : Machine). is_some m.ending ≡ true) applied.machine ended in
+    rw (applied.can, ends) refl
 
 -- after an event
 
 pub kept-happens :
     (w v : RoundState) (e : Event) (i j : ℕ) (fs : List Fact)
-    → IsKept w i fs → happens w e ≡ v → v.setup ≡ w.setup → v.past ≡ w.past
-    → IsLaid v → length v.picked ≡ length v.schedule
+    (b c : Option (Vec Bool Global))
+    → IsConsistent w i fs b → happens w e ≡ v → v.setup ≡ w.setup → v.past ≡ w.past
+    → IsApplied v → length v.picked ≡ length v.schedule
     → j ≡ executed_instructions v.schedule v.records → j ≤ 4294967295 * length v.schedule
-    → IsKept v j fs
-kept-happens w v e i j fs kept is setup past laid points executed few =
+    → IsAsBefore v c
+    → IsConsistent v j fs c
+kept-happens w v e i j fs b c kept is setup past applied points executed few as_before =
     record {
       valid = subst IsSetup (sym setup) kept.valid;
       in_order = subst IsInOrder is (happens-kept w e kept.in_order);
       counted = subst IsCounted is (happens-counted w e kept.in_order kept.counted);
       by_schedule = subst IsBySchedule is (by_schedule-happens w e kept.in_order kept.by_schedule);
-      laid = laid;
+      applied = applied;
       on_map = subst IsOnMap is (happens-on_map w e kept.on_map);
       framed =
           ap (λ (x : RoundState). x.machine.frame) (sym is) ∙ happens-frame w e ∙ kept.framed
@@ -159,26 +167,30 @@ kept-happens w v e i j fs kept is setup past laid points executed few =
       few = few;
       of_run = subst (λ (p : Option History). AreOfRun (past_records p)) (sym past) kept.of_run;
       facts_are = kept.facts_are ∙ ap past_facts (sym past);
+      as_before = as_before;
     }
 
 -- where one is
 pub kept-more :
-    (w v : RoundState) (e : Event) (i j : ℕ) (fs : List Fact) (entry : Entry) (r : Record) (point : ℕ)
-    → IsKept w i fs → happens w e ≡ v → v.setup ≡ w.setup → v.past ≡ w.past
+    (w v : RoundState) (e : Event) (i j : ℕ) (fs : List Fact)
+    (b c : Option (Vec Bool Global)) (entry : Entry) (r : Record) (point : ℕ)
+    → IsConsistent w i fs b → happens w e ≡ v → v.setup ≡ w.setup → v.past ≡ w.past
     → v.schedule ≡ w.schedule ++ entry ∷ [] → v.records ≡ w.records ++ r ∷ [] → v.picked ≡ w.picked ++ point ∷ []
-    → IsLaid v → j ≡ i + cond entry.reused 0 r.kept.count → cond entry.reused 0 r.kept.count ≤ 4294967295
-    → IsKept v j fs
-kept-more w v e i j fs entry r point kept is setup past schedule records picked laid sum few =
+    → IsApplied v → j ≡ i + cond entry.reused 0 r.kept.count → cond entry.reused 0 r.kept.count ≤ 4294967295
+    → IsAsBefore v c
+    → IsConsistent v j fs c
+kept-more w v e i j fs b c entry r point kept is setup past schedule records picked applied sum few as_before =
     let more = executed-more w.schedule w.records entry r (record_count w kept.counted) in
     let executed = kept.executed in
     let before = kept.few in
     let points = kept.points in
     let longer = length-append w.schedule (entry ∷ []) in
     let one_more = length-append w.picked (point ∷ []) in
-    kept-happens w v e i j fs kept is setup past laid
+    kept-happens w v e i j fs b c kept is setup past applied
     (rw (schedule, picked) (omega arith))
     (rw (schedule, records) (omega arith))
     (rw schedule (omega arith))
+    as_before
 
 -- what is left
 

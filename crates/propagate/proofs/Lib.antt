@@ -6,4 +6,5 @@ pub mod Keeping
 pub mod Choosing
 pub mod Appending
 pub mod Executing
+pub mod Alike
 pub mod Making

@@ -1,87 +1,91 @@
 -- A round after an entry was appended.
-use Rattle.std.proofs.Common.{◌≡◌, ◌≤◌, ◌+◌, ℕ, Bool, true, false, List, [], ◌∷◌, ◌++◌, length, set, Some, refl, ap, sym, ◌∙◌, subst, arith}
+use Rattle.std.proofs.Common.{◌≡◌, ◌≤◌, ◌+◌, ℕ, Bool, true, false, List, [], ◌∷◌, ◌++◌, length, set, Option, Vec, Some, refl, ap, sym, ◌∙◌, subst, arith}
 use Rattle.std.proofs.lemmas.List.{length-append}
+use Rattle.std.specs.Global.{Global}
 use Rattle.report_spec.specs.declared.Entry.{Entry}
 use Rattle.thunk_spec.specs.Thunk.{Frame}
 use Rattle.record_spec.specs.Record.{Record, IsTrue}
-use Rattle.machine_spec.specs.Step.{lay}
+use Rattle.machine_spec.specs.Step.{apply}
 use Rattle.order_spec.specs.Facts.{Fact}
 use Rattle.round_spec.specs.declared.events.Event.TheVariants.{Reuse, Commit, GiveBack}
 use Rattle.round_spec.specs.Marks.{record_for}
-use Rattle.round_spec.specs.Rounds.{RoundState, can_reuse, happens, is_out, taken_when, given_back}
-use Rattle.round_spec.proofs.Conditions.{happens-reuse, happens-give_back, commit-lays}
-use Rattle.propagate.specs.Kept.{IsKept}
+use Rattle.round_spec.specs.Rounds.{RoundState, can_reuse, happens, is_in_flight, taken_when, given_back}
+use Rattle.round_spec.proofs.Conditions.{happens-reuse, happens-give_back, commit-applies}
+use Rattle.propagate.specs.Consistency.{IsConsistent}
+use Rattle.propagate.specs.Alike.{IsAsBefore}
 use Rattle.propagate.specs.Committing.{CanCommit, GoesOn}
-use Rattle.propagate.proofs.Keeping.{kept-happens, kept-more, laid-round}
+use Rattle.propagate.proofs.Keeping.{kept-happens, kept-more, applied-round}
+use Rattle.propagate.proofs.Alike.{as-before-same}
 use Rattle.propagate.proofs.Appending.{CanAppend, fitting-append, Reusable, reusable, going-none, can-apply, reuse-can}
 
 -- a round with an entry, its record and when it was picked
 abbrev pub appended : RoundState → Record → Bool → ℕ → RoundState
 appended w r reused point =
     record w {
-      machine = lay w.machine r;
+      machine = apply w.machine r;
       schedule = w.schedule ++ record { thread = r.thread; reused = reused } ∷ [];
       records = w.records ++ r ∷ [];
       picked = w.picked ++ point ∷ [];
     }
 
--- the same where its thread was out
+-- the same where its thread was in flight
 abbrev pub handed_in : RoundState → Record → RoundState
 handed_in w r =
     record (appended w r false (taken_when w r.thread)) {
-      out = set w.out r.thread false;
+      in_flight = set w.in_flight r.thread false;
       taken_at = set w.taken_at r.thread 0;
     }
 
 -- an executed step that can be committed
 
 pub commit-append :
-    (w : RoundState) (i : ℕ) (fs : List Fact) (frame : Frame) (r : Record) → IsKept w i fs → CanCommit w frame r
+    (w : RoundState) (i : ℕ) (fs : List Fact) (b : Option (Vec Bool Global)) (frame : Frame) (r : Record) → IsConsistent w i fs b → CanCommit w frame r
     → CanAppend w r
-commit-append w i fs frame r kept can = fitting-append w r kept.in_order kept.counted can.going can.fit
+commit-append w i fs b frame r kept can = fitting-append w r kept.in_order kept.counted can.going can.fit
 
 pub commit-happens :
-    (w : RoundState) (i : ℕ) (fs : List Fact) (frame : Frame) (r : Record)
-    → IsKept w i fs → CanCommit w frame r → IsTrue frame r.start r.kept
+    (w : RoundState) (i : ℕ) (fs : List Fact) (b : Option (Vec Bool Global)) (frame : Frame) (r : Record)
+    → IsConsistent w i fs b → CanCommit w frame r → IsTrue frame r.start r.kept
     → happens w (Commit r.thread) ≡ handed_in w r
-commit-happens w i fs frame r kept can honest =
-    commit-lays w r kept.in_order.whole (subst (λ (x : Frame). IsTrue x r.start r.kept) can.same_frame honest)
+commit-happens w i fs b frame r kept can honest =
+    commit-applies w r kept.in_order.whole (subst (λ (x : Frame). IsTrue x r.start r.kept) can.same_frame honest)
     can.taken can.going can.fit
 
 pub commit-kept :
-    (w v : RoundState) (i j : ℕ) (fs : List Fact) (frame : Frame) (r : Record)
-    → IsKept w i fs → CanCommit w frame r → IsTrue frame r.start r.kept
+    (w v : RoundState) (i j : ℕ) (fs : List Fact) (b c : Option (Vec Bool Global)) (frame : Frame) (r : Record)
+    → IsConsistent w i fs b → CanCommit w frame r → IsTrue frame r.start r.kept
     → v ≡ handed_in w r
     → j ≡ i + r.kept.count → r.kept.count ≤ 4294967295
-    → IsKept v j fs
-commit-kept w v i j fs frame r kept can honest is sum few =
-    kept-more w v (Commit r.thread) i j fs (record { thread = r.thread; reused = false }) r (taken_when w r.thread) kept
-    (commit-happens w i fs frame r kept can honest ∙ sym is)
+    → IsAsBefore v c
+    → IsConsistent v j fs c
+commit-kept w v i j fs b c frame r kept can honest is sum few as_before =
+    kept-more w v (Commit r.thread) i j fs b c (record { thread = r.thread; reused = false }) r (taken_when w r.thread) kept
+    (commit-happens w i fs b frame r kept can honest ∙ sym is)
     (ap (λ (x : RoundState). x.setup) is) (ap (λ (x : RoundState). x.past) is)
     (ap (λ (x : RoundState). x.schedule) is) (ap (λ (x : RoundState). x.records) is)
     (ap (λ (x : RoundState). x.picked) is)
-    (laid-round w v r kept.laid (can-apply w r (going-none w.machine.ending w.stopped can.going) can.fit)
+    (applied-round w v r kept.applied (can-apply w r (going-none w.machine.ending w.stopped can.going) can.fit)
     (ap (λ (x : RoundState). x.setup) is) (ap (λ (x : RoundState). x.machine) is)
     (ap (λ (x : RoundState). x.records) is))
-    sum few
+    sum few as_before
 
 -- a record that is reused
 
 pub reuse-append :
-    (w : RoundState) (i t : ℕ) (fs : List Fact) (r : Record)
-    → IsKept w i fs → can_reuse w t ≡ true → record_for w.past w.machine t ≡ Some r → Reusable w t r
-reuse-append w i t fs r kept can there = reusable w t r kept.in_order kept.counted can there
+    (w : RoundState) (i t : ℕ) (fs : List Fact) (b : Option (Vec Bool Global)) (r : Record)
+    → IsConsistent w i fs b → can_reuse w t ≡ true → record_for w.past w.machine t ≡ Some r → Reusable w t r
+reuse-append w i t fs b r kept can there = reusable w t r kept.in_order kept.counted can there
 
 pub reuse-happens :
-    (w v : RoundState) (i t : ℕ) (fs : List Fact) (r : Record)
-    → IsKept w i fs → can_reuse w t ≡ true → record_for w.past w.machine t ≡ Some r
+    (w v : RoundState) (i t : ℕ) (fs : List Fact) (b : Option (Vec Bool Global)) (r : Record)
+    → IsConsistent w i fs b → can_reuse w t ≡ true → record_for w.past w.machine t ≡ Some r
     → v ≡ appended w r true (length w.schedule)
     → v ≡ happens w (Reuse t)
-reuse-happens w v i t fs r kept can there is =
-    let append : Reusable w t r = reuse-append w i t fs r kept can there in
+reuse-happens w v i t fs b r kept can there is =
+    let append : Reusable w t r = reuse-append w i t fs b r kept can there in
     is
     ∙ ap (λ u. record w {
-      machine = lay w.machine r;
+      machine = apply w.machine r;
       schedule = w.schedule
           ++ record { thread = u; reused = true } ∷ [];
       records = w.records ++ r ∷ [];
@@ -90,30 +94,33 @@ reuse-happens w v i t fs r kept can there is =
     ∙ sym (happens-reuse w t r can there)
 
 pub reuse-kept :
-    (w v : RoundState) (i t : ℕ) (fs : List Fact) (r : Record)
-    → IsKept w i fs → can_reuse w t ≡ true → record_for w.past w.machine t ≡ Some r
+    (w v : RoundState) (i t : ℕ) (fs : List Fact) (b c : Option (Vec Bool Global)) (r : Record)
+    → IsConsistent w i fs b → can_reuse w t ≡ true → record_for w.past w.machine t ≡ Some r
     → v ≡ appended w r true (length w.schedule)
-    → IsKept v i fs
-reuse-kept w v i t fs r kept can there is =
-    kept-more w v (Reuse t) i i fs (record { thread = r.thread; reused = true }) r (length w.schedule) kept
-    (sym (reuse-happens w v i t fs r kept can there is))
+    → IsAsBefore v c
+    → IsConsistent v i fs c
+reuse-kept w v i t fs b c r kept can there is as_before =
+    kept-more w v (Reuse t) i i fs b c (record { thread = r.thread; reused = true }) r (length w.schedule) kept
+    (sym (reuse-happens w v i t fs b r kept can there is))
     (ap (λ (x : RoundState). x.setup) is) (ap (λ (x : RoundState). x.past) is)
     (ap (λ (x : RoundState). x.schedule) is) (ap (λ (x : RoundState). x.records) is)
     (ap (λ (x : RoundState). x.picked) is)
-    (laid-round w v r kept.laid (reuse-can w t r can there)
+    (applied-round w v r kept.applied (reuse-can w t r can there)
     (ap (λ (x : RoundState). x.setup) is) (ap (λ (x : RoundState). x.machine) is)
     (ap (λ (x : RoundState). x.records) is))
     (omega arith) (omega arith)
+    as_before
 
 -- a step that is discarded
 
 pub discarded-kept :
-    (w v : RoundState) (i t : ℕ) (fs : List Fact)
-    → IsKept w i fs → is_out w t ≡ true → v ≡ given_back w t → IsKept v i fs
-discarded-kept w v i t fs kept out is =
-    subst (λ (x : RoundState). IsKept x i fs) (sym is)
-    (kept-happens w (given_back w t) (GiveBack t) i i fs kept (happens-give_back w t out) refl refl
-    (record { machine = kept.laid.machine; can = kept.laid.can }) kept.points kept.executed kept.few)
+    (w v : RoundState) (i t : ℕ) (fs : List Fact) (b : Option (Vec Bool Global))
+    → IsConsistent w i fs b → is_in_flight w t ≡ true → v ≡ given_back w t → IsConsistent v i fs b
+discarded-kept w v i t fs b kept in_flight is =
+    subst (λ (x : RoundState). IsConsistent x i fs b) (sym is)
+    (kept-happens w (given_back w t) (GiveBack t) i i fs b b kept (happens-give_back w t in_flight) refl refl
+    (record { machine = kept.applied.machine; can = kept.applied.can }) kept.points kept.executed kept.few
+    (as-before-same w (given_back w t) b kept.as_before refl refl refl))
 
 -- ---- the entries of a round after it
 

@@ -13,7 +13,7 @@ use Rattle.round_spec.specs.declared.events.Event.{Event}
 use Rattle.round_spec.specs.Rounds.{RoundState, opening, happens, history_of}
 use Rattle.round_spec.proofs.Leaving.{same-happens}
 use Rattle.round_spec.proofs.Mapping.{happens-frame, event-mapped}
-use Rattle.propagate.specs.Kept.{IsOfMap, IsOnMap}
+use Rattle.propagate.specs.Consistency.{IsOfMap, IsOnMap}
 
 pub opening-on_map : (setup : Setup) (past : Option History) → IsOnMap (opening setup past)
 opening-on_map setup past =

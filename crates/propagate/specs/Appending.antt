@@ -1,8 +1,8 @@
--- What it is for a record to be laid, and its entry appended with it.
+-- What it is for a record to be applied, and its entry appended with it.
 use Rattle.std.specs.Prelude.{◌≡◌, Bool, List, [], ◌∷◌, ◌++◌}
 use Rattle.record_spec.specs.Record.{Record}
 use Rattle.machine_spec.specs.Machine.{Machine}
-use Rattle.machine_spec.specs.Step.{lay}
+use Rattle.machine_spec.specs.Step.{apply}
 use Rattle.report_spec.specs.declared.Entry.{Entry}
 
 -- What grows with each step of a round: its machine, its schedule, and the records of its entries.
@@ -14,8 +14,8 @@ pub record Trail : Type 0 where
 abbrev pub trail : Machine → List Entry → List Record → Trail
 trail machine schedule records = record { machine = machine; schedule = schedule; records = records }
 
--- A record was laid, and is behind the others with its entry.
+-- A record was applied, and is behind the others with its entry.
 pub record Appends (r : Record) (reused : Bool) (old new : Trail) : Type 0 where
-  pub machine : new.machine ≡ lay old.machine r
+  pub machine : new.machine ≡ apply old.machine r
   pub schedule : new.schedule ≡ old.schedule ++ record { thread = r.thread; reused = reused } ∷ []
   pub records : new.records ≡ old.records ++ r ∷ []

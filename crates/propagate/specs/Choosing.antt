@@ -5,7 +5,7 @@ use Rattle.guest_call.specs.declared.thread_number.TheConstants.{THREADS}
 use Rattle.machine_spec.specs.Machine.{Machine, hart_of}
 use Rattle.history_spec.specs.History.{History}
 use Rattle.round_spec.specs.Rounds.{RoundState, is_free_in}
-use Rattle.round_spec.specs.Due.{place_in, is_due, is_gone}
+use Rattle.round_spec.specs.Due.{place_in, is_due, has_exited}
 use Rattle.round_spec.specs.Choice.{best}
 use Rattle.propagate.specs.declared.picking.Candidate.{Candidate}
 use Rattle.propagate.specs.declared.picking.Leaders.{Leaders}
@@ -16,7 +16,7 @@ candidate_of past m t = record { thread = t; place = place_in past m t; number =
 
 -- The free threads of a round that are below a number, and those of them that are due.
 abbrev pub free_below : RoundState → ℕ → List ℕ
-free_below w t = filter (is_free_in w.machine w.out) (range_with_len 0 t)
+free_below w t = filter (is_free_in w.machine w.in_flight) (range_with_len 0 t)
 
 abbrev pub due_below : RoundState → ℕ → List ℕ
 due_below w t = filter (is_due w.past w.machine) (free_below w t)
@@ -47,7 +47,7 @@ better (Some leader) next = if comes_before next leader then next else leader
 
 -- Whether a thread has made so many steps, or has ended.
 abbrev pub has_made : Machine → ℕ → ℕ → Bool
-has_made m t steps = nat_le steps (hart_of m t).number || is_gone m t
+has_made m t steps = nat_le steps (hart_of m t).number || has_exited m t
 
 -- Each thread but one has made the steps that a clock counts of it, or has ended.
 pub record HaveMade (m : Machine) (t : ℕ) (clock : List ℕ) : Type 0 where

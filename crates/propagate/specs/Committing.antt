@@ -6,16 +6,16 @@ use Rattle.record_spec.specs.Record.{Record}
 use Rattle.machine_spec.specs.Step.{fits}
 use Rattle.thunk_run.specs.declared.job.Run.{Run}
 use Rattle.round_spec.specs.declared.events.Event.TheVariants.{Commit, GiveBack}
-use Rattle.round_spec.specs.Rounds.{RoundState, is_over, is_out, happens}
+use Rattle.round_spec.specs.Rounds.{RoundState, is_finished, is_in_flight, happens}
 use Rattle.propagate.specs.declared.events.Committed.{Committed}
 use Rattle.propagate.specs.declared.events.Committed.TheVariants.{Done, Stale, Memory}
 
--- An executed step can be committed: the round isn't over, the step ran on the round's page map with its fuel, its
--- thread is out, and its record fits.
+-- An executed step can be committed: the round isn't finished, the step ran on the round's page map with its fuel, its
+-- thread is in flight, and its record fits.
 pub record CanCommit (w : RoundState) (frame : Frame) (r : Record) : Type 0 where
-  pub going : is_over w ≡ false
+  pub going : is_finished w ≡ false
   pub same_frame : frame ≡ w.machine.frame
-  pub taken : is_out w r.thread ≡ true
+  pub taken : is_in_flight w r.thread ≡ true
   pub fit : fits w.machine r ≡ true
 
 -- What comes of committing a run: where it can be, it is done; where it can't, the run is handed back and its thread is

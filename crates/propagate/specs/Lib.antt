@@ -1,5 +1,6 @@
 -- The files of definitions of this crate.
-pub mod Kept
+pub mod Alike
+pub mod Consistency
 pub mod Appending
 pub mod Committing
 pub mod Choosing

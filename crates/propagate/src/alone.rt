@@ -3,12 +3,12 @@
 ghost use Rattle.std.specs.Prelude.{◌≡◌, ◌+◌, ◌≤◌, true, false, option_map, is_some, Some, IfOk, OnOk};
 ghost use Rattle.std.specs.Arc.{arc_value};
 ghost use Rattle.machine_spec.specs.Setup.{IsSetup, is_permitted, is_complete};
-ghost use Rattle.history_spec.specs.History.{History as Kept, IsSound};
+ghost use Rattle.history_spec.specs.History.{History as OldHistory, IsSound};
 ghost use Rattle.report_spec.specs.Report.{threads_of};
 ghost use Rattle.round_spec.specs.declared.events.Pick.TheVariants as pick;
 ghost use Rattle.round_spec.specs.Rounds.{can_take};
 ghost use Rattle.round_spec.specs.Choice.{pick_of};
-ghost use Rattle.round_spec.specs.Alone.{one_worker, after_pick, lone_round};
+ghost use Rattle.round_spec.specs.Alone.{one_worker, after_pick, after_picks, lone_round};
 ghost use Rattle.round_spec.specs.Keeping.{IsFromScratch};
 ghost use Rattle.round_spec.specs.Picking.{ArePicked};
 ghost use Rattle.round_spec.specs.Unedited.{IsUnedited, OnlyReuses};
@@ -35,7 +35,7 @@ fn run_step(alloc: Global, round: &mut Round, t: u8, turns: &mut Turns) -> Resul
     let job = round.take(t)?;
     let run = execute(alloc, &job, turns)?;
     // It ran by the round's own job, which stands as it was: nothing is compared.
-    round.make(&run)
+    round.commit_executed(&run)
 }
 
 /// Follows one pick: what is picked is reused, or executed and committed, and shown. The answer is whether
@@ -66,6 +66,27 @@ fn follow_pick<G: Gate>(
     }
 }
 
+/// Follows so many picks, one after the other, or fewer where nothing is picked any more. The counter rises by the
+/// instructions that were executed.
+fn follow_picks<G: Gate>(
+    alloc: Global,
+    round: &mut Round,
+    most: u32,
+    turns: &mut Turns,
+    gate: &G,
+) -> Result<(), AllocError>
+    ensures followed { OnOk result (round.new ≡ after_picks most round.old) }
+    ensures cost { OnOk result (Costs turns.old round.old turns.new round.new) }
+    ensures never_lower { turns.old ≤ turns.new }
+{
+    for followed in 0..most {
+        if !follow_pick(alloc, round, turns, gate)? {
+            return Ok(());
+        }
+    }
+    Ok(())
+}
+
 /// The round of one worker, pick after pick until nothing is picked, of which each step is shown. It passes no gate before
 /// it executes a thunk. What `run_alone` promises of the round follows from its one clause on it.
 ///
@@ -86,16 +107,12 @@ pub fn run_alone_shown<G: Gate>(
 {
     let limit = setup.limits().steps();
     let mut round = Round::new(alloc, setup, past)?;
-    for followed in 0..limit {
-        if !follow_pick(alloc, &mut round, turns, gate)? {
-            return Ok(round);
-        }
-    }
+    follow_picks(alloc, &mut round, limit, turns, gate)?;
     Ok(round)
 }
 
 /// The round of one worker: step after step is picked, and reused, or executed and committed, until
-/// the round is over. It has an end then, and nothing was discarded, by whatever history it goes. The
+/// the round is finished. It has an end then, and nothing was discarded, by whatever history it goes. The
 /// counter rises by the instructions of the executed steps.
 ///
 /// Where the round goes by a sound history, its schedule is the one of one worker, which is permitted
@@ -129,9 +146,11 @@ pub fn run_alone(
     ensures ends { IfOk result (λ round. is_some round.machine.ending ≡ true) }
     ensures discarded { IfOk result (λ round. round.discarded ≡ 0) }
     ensures unedited { IfOk result (λ round.
-        (h : Kept) → option_map arc_value past ≡ Some h → IsUnedited h setup → OnlyReuses h round) }
+        (h : OldHistory) → option_map arc_value past ≡ Some h → IsUnedited h setup
+        → OnlyReuses h round) }
     ensures executes_nothing { IfOk result (λ _.
-        (h : Kept) → option_map arc_value past ≡ Some h → IsUnedited h setup → turns.new ≡ turns.old) }
+        (h : OldHistory) → option_map arc_value past ≡ Some h → IsUnedited h setup
+        → turns.new ≡ turns.old) }
 {
     let round = run_alone_shown(alloc, setup, past, turns, &OpenGate)?;
     Ok(round)

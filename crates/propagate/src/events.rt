@@ -1,6 +1,6 @@
 //! What happens to a round.
 
-ghost use Rattle.std.specs.Prelude.{◌≡◌, ◌<◌, true, length, count_by, ◌==◌, is_ok, if◌then◌else◌, Decides, IfOk, OnOk, OnErr};
+ghost use Rattle.std.specs.Prelude.{◌≡◌, ◌<◌, true, length, count_by, ◌==◌, is_ok, if◌then◌else◌, IfOk, OnOk, OnErr};
 ghost use Rattle.std.specs.Bool.{OnTrue, OnFalse};
 ghost use Rattle.std.specs.Arc.{arc_value};
 ghost use Rattle.history_spec.specs.History.{threads_of_records};
@@ -8,11 +8,12 @@ ghost use Rattle.machine_spec.specs.Setup.{first};
 ghost use Rattle.machine_spec.specs.Step.{can_step};
 ghost use Rattle.release_core.specs.Jobs.{IsJobOf};
 ghost use Rattle.round_spec.specs.declared.events.Event.TheVariants as event;
-ghost use Rattle.round_spec.specs.Rounds.{is_out, can_take, can_reuse, happens};
+ghost use Rattle.round_spec.specs.Rounds.{is_in_flight, can_take, can_reuse, happens};
 ghost use Rattle.propagate.specs.Appending.{trail, Appends};
 ghost use Rattle.propagate.specs.Committing.{CanCommit, Commits, GoesOn, entries_of};
-ghost use Rattle.propagate.specs.Kept.{IsValid};
+ghost use Rattle.propagate.specs.Consistency.{IsValid};
 
+use super::marks::{marks_after, marks_if};
 use super::round::Round;
 use guest_call::THREADS;
 use machine_spec::MOST_STEPS;
@@ -28,15 +29,15 @@ use thunk_run::{Job, Run};
 pub enum Committed {
     /// It is an entry of the schedule, and its thread is no longer out.
     Done,
-    /// It can't be committed, and is handed back: the round is over, the step ran on another page map
-    /// or with another fuel than the round's, its thread isn't out, or its record doesn't fit. Its
+    /// It can't be committed, and is handed back: the round is finished, the step ran on another page map
+    /// or with another fuel than the round's, its thread isn't in flight, or its record doesn't fit. Its
     /// thread is no longer out; if it was, one step more was discarded.
     Stale(Run),
     /// The host's memory ran out. The round is as before, and the step is handed back.
     Memory(Run),
 }
 
-/// Lays a record, and appends its entry with it.
+/// Applies a record, and appends its entry with it.
 fn append(
     core: &mut Core,
     schedule: &mut Vec<Entry>,
@@ -50,7 +51,8 @@ fn append(
     requires number { (arc_value rec.now).number
         ≡ count_by (λ t. t == (arc_value rec.now).thread) (threads_of_records records.old) }
     ensures ok { OnOk result (Appends (arc_value rec.now) reused
-        (trail core.old schedule.old.items records.old) (trail core.new schedule.new.items records.new)) }
+        (trail core.old schedule.old.items records.old)
+        (trail core.new schedule.new.items records.new)) }
     ensures err { OnErr result (trail core.new schedule.new.items records.new
         ≡ trail core.old schedule.old.items records.old) }
 {
@@ -61,7 +63,7 @@ fn append(
     };
     schedule.reserve(1)?;
     records.push(shared)?;
-    if core.lay(rec).is_err() {
+    if core.apply(rec).is_err() {
         records.pop();
         return Err(AllocError);
     }
@@ -85,7 +87,7 @@ impl Round {
     /// # Errors
     ///
     /// An error where the host's memory ran out; the round is then as before.
-    #[tactic(auto, using(crate::proofs::Keeping::valid_kept))]
+    #[tactic(auto, using(crate::proofs::Keeping::valid_consistent))]
     pub fn reuse(&mut self, t: u8) -> Result<(), AllocError>
         requires { can_reuse self.old t ≡ true }
         ensures ok { OnOk result (self.new ≡ happens self.old (event.Reuse t)) }
@@ -97,6 +99,7 @@ impl Round {
             Some(rec) => Arc::try_clone(rec)?,
             None => unreachable!(),
         };
+        let next = self.comes_next(t);
         self.picked.reserve(1)?;
         let now = self.entries();
         append(
@@ -107,6 +110,7 @@ impl Round {
             true,
         )?;
         self.picked.push_reserved(now);
+        self.marks = marks_if(self.marks.take(), next);
         Ok(())
     }
 
@@ -115,7 +119,7 @@ impl Round {
     /// # Errors
     ///
     /// An error where the host's memory ran out; the round is then as before.
-    #[tactic(auto, using(crate::proofs::Keeping::valid_kept))]
+    #[tactic(auto, using(crate::proofs::Keeping::valid_consistent))]
     pub fn take(&mut self, t: u8) -> Result<Job, AllocError>
         requires { can_take self.old t ≡ true }
         ensures ok { OnOk result (self.new ≡ happens self.old (event.Take t)) }
@@ -126,19 +130,20 @@ impl Round {
     {
         let job = self.core.start_of(t)?;
         let now = self.entries();
-        self.out[usize::from(t)] = true;
+        self.in_flight[usize::from(t)] = true;
         self.taken_at[usize::from(t)] = now;
         Ok(job)
     }
 
-    /// Whether an executed step can be committed, of which it is known whether it ran with the round's page map and
-    /// fuel.
-    fn can_commit(&self, run: &Run, same_frame: bool) -> bool
-        requires { Decides same_frame (arc_value run.now.frame ≡ (first self.now.setup).frame) }
-        ensures yes { OnTrue result (CanCommit self.now (arc_value run.now.frame) (arc_value run.now.rec)) }
-        ensures no { OnFalse result (CanCommit self.now (arc_value run.now.frame) (arc_value run.now.rec) → ⊥) }
+    /// Whether an executed step can be committed, which ran with the round's page map and fuel.
+    fn can_commit(&self, run: &Run) -> bool
+        requires { arc_value run.now.frame ≡ (first self.now.setup).frame }
+        ensures yes { OnTrue result
+            (CanCommit self.now (arc_value run.now.frame) (arc_value run.now.rec)) }
+        ensures no { OnFalse result
+            (CanCommit self.now (arc_value run.now.frame) (arc_value run.now.rec) → ⊥) }
     {
-        same_frame && !self.is_over() && self.is_out(run.rec.thread()) && self.core.fits(&run.rec)
+        !self.is_finished() && self.is_in_flight(run.rec.thread()) && self.core.fits(&run.rec)
     }
 
     /// Makes an executed step that can be committed an entry of the schedule.
@@ -146,8 +151,8 @@ impl Round {
     /// # Errors
     ///
     /// An error where the host's memory ran out; the round is then as before.
-    #[tactic(auto, using(crate::proofs::Keeping::valid_kept))]
-    pub(super) fn make(&mut self, run: &Run) -> Result<(), AllocError>
+    #[tactic(auto, using(crate::proofs::Keeping::valid_consistent))]
+    pub(super) fn commit_executed(&mut self, run: &Run) -> Result<(), AllocError>
         requires { CanCommit self.old (arc_value run.now.frame) (arc_value run.now.rec) }
         ensures ok { OnOk result (self.new
             ≡ happens self.old (event.Commit (arc_value run.now.rec).thread)) }
@@ -156,6 +161,7 @@ impl Round {
         ensures valid { IsValid self.old }
     {
         self.picked.reserve(1)?;
+        let place = self.schedule.len();
         append(
             &mut self.core,
             &mut self.schedule,
@@ -165,34 +171,38 @@ impl Round {
         )?;
         let t = usize::from(run.rec.thread());
         self.picked.push_reserved(self.taken_at[t]);
-        self.out[t] = false;
+        self.in_flight[t] = false;
         self.taken_at[t] = 0;
         self.instructions += u64::from(run.rec.count());
+        self.marks = marks_after(self.marks.take(), &self.past, place, &run.rec);
         Ok(())
     }
 
-    /// Commits an executed step, or says why it can't.
+    /// Commits an executed step, or says why it can't. To look whether it ran with the round's page map and fuel takes
+    /// longest of all.
     pub fn commit(&mut self, run: Run) -> Committed
         ensures does { Commits self.old run result self.new }
         ensures same { GoesOn (entries_of result) self.old self.new }
     {
-        let same_frame = *run.frame == *self.core.frame();
-        self.commit_known(run, same_frame)
+        if *run.frame == *self.core.frame() {
+            return self.commit_own(run);
+        }
+        self.discard(run.rec.thread());
+        Committed::Stale(run)
     }
 
-    /// Commits an executed step, or says why it can't, where it is known whether it ran with the round's page map and
-    /// fuel. To look at these takes longest of all.
-    pub fn commit_known(&mut self, run: Run, same_frame: bool) -> Committed
-        requires { Decides same_frame (arc_value run.frame ≡ (first self.old.setup).frame) }
+    /// Commits an executed step that ran with the round's page map and fuel, or says why it can't.
+    pub fn commit_own(&mut self, run: Run) -> Committed
+        requires own { arc_value run.frame ≡ (first self.old.setup).frame }
         ensures does { Commits self.old run result self.new }
         ensures same { GoesOn (entries_of result) self.old self.new }
         ensures valid { IsValid self.old }
     {
-        if !self.can_commit(&run, same_frame) {
+        if !self.can_commit(&run) {
             self.discard(run.rec.thread());
             return Committed::Stale(run);
         }
-        match self.make(&run) {
+        match self.commit_executed(&run) {
             Ok(()) => Committed::Done,
             Err(_) => Committed::Memory(run),
         }
@@ -204,24 +214,24 @@ impl Round {
         ensures same { GoesOn 0 self.old self.new }
         ensures valid { IsValid self.old }
     {
-        if self.is_out(t) {
-            self.out[usize::from(t)] = false;
+        if self.is_in_flight(t) {
+            self.in_flight[usize::from(t)] = false;
             self.taken_at[usize::from(t)] = 0;
             self.discarded = self.discarded.saturating_add(1);
         }
     }
 
-    /// Discards the step of thread `t`, which is out.
+    /// Discards the step of thread `t`, which is in flight.
     pub fn give_back(&mut self, t: u8)
-        requires { is_out self.old t ≡ true }
+        requires { is_in_flight self.old t ≡ true }
         ensures event { self.new ≡ happens self.old (event.GiveBack t) }
         ensures same { GoesOn 0 self.old self.new }
     {
         self.discard(t);
     }
 
-    /// Stops the round: from then on it is over.
-    #[tactic(auto, using(crate::proofs::Keeping::valid_kept))]
+    /// Stops the round: from then on it is finished.
+    #[tactic(auto, using(crate::proofs::Keeping::valid_consistent))]
     pub fn stop(&mut self)
         ensures event { self.new ≡ happens self.old event.Stop }
         ensures same { GoesOn 0 self.old self.new }

@@ -6,6 +6,7 @@
 
 mod alone;
 mod events;
+mod marks;
 mod picking;
 mod reaching;
 mod round;

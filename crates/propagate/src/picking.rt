@@ -1,17 +1,19 @@
 //! What a worker may do next.
 
-ghost use Rattle.std.specs.Prelude.{◌≡◌, ◌<◌, ◌+◌, ℕ, true, length, slice_index, nat_le, option_map, Decides};
+ghost use Rattle.std.specs.Prelude.{◌≡◌, ◌<◌, ◌+◌, ℕ, true, length, slice_index, nat_le, option_map, Some, Decides};
 ghost use Rattle.std.specs.Arc.{arc_value};
 ghost use Rattle.round_spec.specs.declared.events.Pick.TheVariants as pick;
 ghost use Rattle.round_spec.specs.Marks.{record_for, fits_next};
 ghost use Rattle.round_spec.specs.Rounds.{is_free_in, can_begin, can_take, can_reuse};
 ghost use Rattle.round_spec.specs.Due.{is_due, place_in};
-ghost use Rattle.round_spec.specs.Choice.{is_any_out, choice_by, pick_of};
+ghost use Rattle.round_spec.specs.Choice.{is_any_in_flight, choice_by, pick_of};
+ghost use Rattle.propagate.specs.Alike.{IsNext};
 ghost use Rattle.propagate.specs.Choosing as choosing;
-ghost use Rattle.propagate.specs.Kept.{IsValid};
+ghost use Rattle.propagate.specs.Consistency.{IsValid};
 ghost use Rattle.propagate.specs.declared.picking.Candidate.{Candidate};
 ghost use Rattle.propagate.specs.Choosing.{comes_before, has_made, HaveMade, candidate_of, leader_of, free_below, AreLeadersBelow};
 
+use super::marks::all_unmarked;
 use super::round::Round;
 use guest_call::THREADS;
 use release_core::Core;
@@ -76,7 +78,7 @@ fn made_by(core: &Core, t: u8, counted: u32) -> u32
     requires { t < length core.now.harts }
     ensures { nat_le counted result ≡ has_made core.now t counted }
 {
-    if core.gone(t) {
+    if core.has_exited(t) {
         return counted;
     }
     core.number(t)
@@ -118,12 +120,35 @@ impl Round {
         self.old_record(t, self.core.number(t))
     }
 
-    /// Whether the record of the next step of thread `t`, which exists, fits.
+    /// Whether the round goes on as its history did, and the next step of thread `t`, which exists, comes next there.
+    pub(super) fn comes_next(&self, t: u8) -> bool
+        requires { t < length self.now.machine.harts }
+        ensures { result ≡ true
+            → place_in self.now.past self.now.machine t ≡ length self.now.schedule }
+    {
+        self.marks.is_some() && self.place(t) == self.schedule.len()
+    }
+
+    /// Whether the record of the next step of thread `t`, which exists, fits where its registers are the thread's: it comes
+    /// next, and no page is marked that it read.
+    fn has_same_pages(&self, t: u8, rec: &Record) -> bool
+        requires exists { t < length self.now.machine.harts }
+        requires record { record_for self.now.past self.now.machine t ≡ Some rec.now }
+        ensures next { result ≡ true → IsNext self.now t rec.now }
+    {
+        match &self.marks {
+            Some(marks) => self.comes_next(t) && all_unmarked(marks, rec.reads().pages()),
+            None => false,
+        }
+    }
+
+    /// Whether the record of the next step of thread `t`, which exists, fits. Pages are compared only if they may differ.
     fn has_fitting(&self, t: u8) -> bool
         requires { t < length self.now.machine.harts }
         ensures { result ≡ fits_next self.now.past self.now.machine t }
     {
         match self.next_record(t) {
+            Some(rec) if self.has_same_pages(t, rec) => rec.start() == self.core.regs(t),
             Some(rec) => self.core.fits(rec),
             None => false,
         }
@@ -152,27 +177,27 @@ impl Round {
         have_made(&self.core, self.graph.clock(place), t)
     }
 
-    /// Whether thread `t` is ready and not out.
+    /// Whether thread `t` is ready and not in flight.
     fn is_free(&self, t: u8) -> bool
-        ensures { result ≡ is_free_in self.now.machine self.now.out t }
+        ensures { result ≡ is_free_in self.now.machine self.now.in_flight t }
     {
-        self.core.ready(t) && !self.is_out(t)
+        self.core.ready(t) && !self.is_in_flight(t)
     }
 
-    /// Whether any thread is out.
-    fn is_any_out(&self) -> bool
-        ensures { result ≡ is_any_out self.now.out }
+    /// Whether any thread is in flight.
+    fn is_any_in_flight(&self) -> bool
+        ensures { result ≡ is_any_in_flight self.now.in_flight }
     {
-        self.out.iter().any(|flag| *flag)
+        self.in_flight.iter().any(|flag| *flag)
     }
 
-    /// Whether the next step of thread `t` can be begun: the round isn't over, and the thread is ready
-    /// and not out.
+    /// Whether the next step of thread `t` can be begun: the round isn't finished, and the thread is ready
+    /// and not in flight.
     fn can_begin(&self, t: u8) -> bool
         ensures can { result ≡ can_begin self.now t }
         ensures valid { IsValid self.now }
     {
-        !self.is_over() && self.is_free(t)
+        !self.is_finished() && self.is_free(t)
     }
 
     /// Whether the next step of thread `t` can be taken, to be executed.
@@ -280,10 +305,10 @@ impl Round {
 
     /// The thread that is chosen, if one is.
     fn choice(&self) -> Option<u8>
-        ensures { result ≡ choice_by self.now.past self.now.machine self.now.out }
+        ensures { result ≡ choice_by self.now.past self.now.machine self.now.in_flight }
     {
         let Leaders { due, free } = self.leaders();
-        if due.is_some() || self.is_any_out() {
+        if due.is_some() || self.is_any_in_flight() {
             return thread_of(due);
         }
         thread_of(free)
@@ -297,7 +322,7 @@ impl Round {
         ensures run { (t : ℕ) → result ≡ pick.Run t → can_take self.now t ≡ true }
         ensures valid { IsValid self.now }
     {
-        if self.is_over() {
+        if self.is_finished() {
             return Pick::Over;
         }
         match self.choice() {

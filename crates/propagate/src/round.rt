@@ -1,17 +1,18 @@
 //! A round, and what it tells.
 
-ghost use Rattle.std.specs.Prelude.{◌≡◌, ◌<◌, true, false, length, is_some, option_map, slice_get, slice_index_or, Some, None, Decides, IfOk};
+ghost use Rattle.std.specs.Prelude.{◌≡◌, ◌<◌, true, false, length, is_some, option_map, slice_get, Some, None, Decides, IfOk};
 ghost use Rattle.std.specs.Bool.{OnTrue};
 ghost use Rattle.std.specs.Arc.{arc_value};
 ghost use Rattle.machine_spec.specs.Setup.{IsSetup, first};
-ghost use Rattle.history_spec.specs.History.{History as Kept, IsHonest, IsSound, IsMapped, found, past_records};
+ghost use Rattle.history_spec.specs.History.{History as OldHistory, IsHonest, IsSound, IsMapped, found, past_records};
 ghost use Rattle.report_spec.specs.Report.{instructions_from};
-ghost use Rattle.round_spec.specs.Rounds.{nobody_out, nothing_taken, opening, is_over, is_out, history_of};
+ghost use Rattle.round_spec.specs.Rounds.{none_in_flight, nothing_taken, opening, is_finished, is_in_flight, history_of};
 ghost use Rattle.round_spec.specs.Due.{past_facts};
 ghost use Rattle.round_spec.specs.Instructions.{executed_instructions};
 ghost use Rattle.release_core.specs.Records.{AreOfRun};
-ghost use Rattle.propagate.specs.Kept.{IsOfMap, IsValid};
+ghost use Rattle.propagate.specs.Consistency.{IsOfMap, IsValid};
 
+use super::marks::marks_at_start;
 use depend_graph::Graph;
 use guest_call::THREADS;
 use history_facts::facts;
@@ -22,11 +23,13 @@ use report_spec::Entry;
 use std::alloc::{AllocError, Global};
 use std::marker::Model;
 use std::sync::Arc;
-use thunk_record::{Frame, Record};
+use thunk_record::Record;
 
 /// A round as it stands: what it started from and goes by, the machine, the steps so far with their
-/// records and with when each was picked, who is out and since when, and what was discarded. A clause
-/// sees a `RoundState` of `round_spec`. Beside it stands which steps of the history depend on which.
+/// records and with when each was picked, who is in flight and since when, and what was discarded. A clause
+/// sees a `RoundState` of `round_spec`. Beside it stands which steps of the history depend on which, and while
+/// the round goes on as the history did, by slot, marks on the pages that may differ: records of other pages fit without a
+/// comparison.
 #[derive(Drop)]
 pub struct Round {
     pub(super) setup: Setup,
@@ -36,18 +39,19 @@ pub struct Round {
     pub(super) schedule: Vec<Entry>,
     pub(super) records: Records,
     pub(super) picked: Vec<u32>,
-    pub(super) out: [bool; THREADS],
+    pub(super) in_flight: [bool; THREADS],
     pub(super) taken_at: [u32; THREADS],
     pub(super) discarded: u64,
     pub(super) stopped: bool,
     pub(super) instructions: u64,
+    pub(super) marks: Option<Vec<bool>>,
 }
 
 impl Model for Round {
     ghost use Rattle.std.specs.Prelude.{option_map};
     ghost use Rattle.std.specs.Arc.{arc_value};
     ghost use Rattle.round_spec.specs.Rounds.{RoundState};
-    ghost use Rattle.propagate.specs.Kept.{IsKept};
+    ghost use Rattle.propagate.specs.Consistency.{IsConsistent};
 
     ghost Value = { RoundState };
 
@@ -58,19 +62,19 @@ impl Model for Round {
       schedule = r.schedule.items;
       records = r.records;
       picked = r.picked.items;
-      out = r.out;
+      in_flight = r.in_flight;
       taken_at = r.taken_at;
       discarded = r.discarded;
       stopped = r.stopped;
     } };
 
-    ghost invariant = { λ r. IsKept (view r) r.instructions r.graph };
+    ghost invariant = { λ r. IsConsistent (view r) r.instructions r.graph r.marks };
 }
 
-/// None of the threads is out.
-#[tactic(auto, unfolding(round_spec::specs::Rounds::nobody_out))]
-fn nobody_out() -> [bool; THREADS]
-    ensures { result ≡ nobody_out }
+/// None of the threads is in flight.
+#[tactic(auto, unfolding(round_spec::specs::Rounds::none_in_flight))]
+fn none_in_flight() -> [bool; THREADS]
+    ensures { result ≡ none_in_flight }
 {
     [false; THREADS]
 }
@@ -108,6 +112,7 @@ impl Round {
     {
         let core = Core::new(alloc, &setup)?;
         let graph = graph_of(alloc, &past)?;
+        let marks = marks_at_start(alloc, &past, &setup, core.memory())?;
         Ok(Round {
             setup,
             past,
@@ -116,11 +121,12 @@ impl Round {
             schedule: Vec::new(alloc),
             records: Records::new(alloc),
             picked: Vec::new(alloc),
-            out: nobody_out(),
+            in_flight: none_in_flight(),
             taken_at: nothing_taken(),
             discarded: 0,
             stopped: false,
             instructions: 0,
+            marks,
         })
     }
 
@@ -129,20 +135,6 @@ impl Round {
         ensures { result.now ≡ self.now.setup }
     {
         &self.setup
-    }
-
-    /// The page map and the fuel of its steps.
-    ///
-    /// # Errors
-    ///
-    /// An error where the host's memory ran out.
-    pub fn frame(&self) -> Result<Frame, AllocError>
-        ensures { IfOk result (λ frame. frame ≡ self.now.machine.frame) }
-    {
-        let frame = self.core.frame();
-        let map = Arc::try_clone(frame.shared_map())?;
-        let code = Arc::try_clone(self.setup.code())?;
-        Ok(Frame::new(map, frame.fuel(), code))
     }
 
     /// The history that it goes by, if there is one.
@@ -156,7 +148,7 @@ impl Round {
     /// of this history have their pages in its own map.
     pub fn old_record(&self, t: u8, number: u32) -> Option<&Arc<Record>>
         ensures record { option_map (λ r. arc_value r.now) result ≡ found self.now.past t number }
-        ensures mapped { (h : Kept) → self.now.past ≡ Some h → IsMapped h }
+        ensures mapped { (h : OldHistory) → self.now.past ≡ Some h → IsMapped h }
     {
         match &self.past {
             Some(history) => history.find(t, number),
@@ -165,7 +157,7 @@ impl Round {
     }
 
     /// The steps so far, with their marks.
-    #[tactic(auto, using(crate::proofs::Keeping::valid_kept))]
+    #[tactic(auto, using(crate::proofs::Keeping::valid_consistent))]
     pub fn schedule(&self) -> &[Entry]
         ensures schedule { result.now ≡ self.now.schedule }
         ensures valid { IsValid self.now }
@@ -174,7 +166,7 @@ impl Round {
     }
 
     /// How it ended, if it has.
-    #[tactic(auto, using(crate::proofs::Keeping::valid_kept))]
+    #[tactic(auto, using(crate::proofs::Keeping::valid_consistent))]
     pub fn end(&self) -> Option<End>
         ensures ending { result ≡ self.now.machine.ending }
         ensures valid { IsValid self.now }
@@ -230,30 +222,22 @@ impl Round {
         self.records.at(i)
     }
 
-    /// How many entries the schedule had when the thread of an entry was picked.
-    pub fn picked(&self, i: usize) -> u32
-        requires { i < length self.now.schedule }
-        ensures { slice_get self.now.picked i ≡ Some result }
-    {
-        self.picked.as_slice()[i]
-    }
-
-    /// Whether it is over: the machine has an end, or the round was stopped.
-    #[tactic(auto, using(crate::proofs::Keeping::valid_kept))]
-    pub fn is_over(&self) -> bool
-        ensures over { result ≡ is_over self.now }
+    /// Whether it is finished: the machine has an end, or the round was stopped.
+    #[tactic(auto, using(crate::proofs::Keeping::valid_consistent))]
+    pub fn is_finished(&self) -> bool
+        ensures over { result ≡ is_finished self.now }
         ensures valid { IsValid self.now }
     {
         self.core.ended().is_some() || self.stopped
     }
 
-    /// Whether thread `t` is out: its next step was taken.
-    #[tactic(auto, using(crate::proofs::Keeping::valid_kept))]
-    pub fn is_out(&self, t: u8) -> bool
-        ensures out { result ≡ is_out self.now t }
+    /// Whether thread `t` is in flight: its next step was taken.
+    #[tactic(auto, using(crate::proofs::Keeping::valid_consistent))]
+    pub fn is_in_flight(&self, t: u8) -> bool
+        ensures in_flight { result ≡ is_in_flight self.now t }
         ensures valid { IsValid self.now }
     {
-        match self.out.get(usize::from(t)) {
+        match self.in_flight.get(usize::from(t)) {
             Some(flag) => *flag,
             None => false,
         }
@@ -272,6 +256,14 @@ impl Round {
         }
     }
 
+    /// What it started from, and the records of its steps.
+    fn into_steps(self) -> (Setup, Records)
+        ensures { history_of self ≡ record { setup = result.0; records = result.1 } }
+    {
+        let Round { setup, records, .. } = self;
+        (setup, records)
+    }
+
     /// What it leaves to the next round: its setup, and the records of its steps; or none where what
     /// it goes by has another page map than its setup, which no sound history has. Takes no memory.
     /// Where the round went by a sound history and has an end, this is an honest history.
@@ -287,7 +279,7 @@ impl Round {
             return None;
         }
         let has_end = self.core.ended().is_some();
-        let Round { setup, records, .. } = self;
+        let (setup, records) = self.into_steps();
         let history = History::new(setup, records);
         if has_end {
             Some(history.known_coherent())

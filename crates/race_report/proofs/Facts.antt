@@ -8,7 +8,7 @@ use Rattle.memory_spec.specs.Pages.{Mapped, ascends_above}
 use Rattle.record_spec.specs.Record.{Record}
 use Rattle.machine_spec.specs.Machine.{Machine}
 use Rattle.machine_spec.specs.Setup.{first}
-use Rattle.machine_spec.specs.Step.{lay, fits}
+use Rattle.machine_spec.specs.Step.{apply, fits}
 use Rattle.history_spec.specs.History.{History}
 use Rattle.order_spec.specs.Facts.{Fact, fact_of, bare_fact, facts_from, facts, reads_in, read_slots, written_slots}
 use Rattle.order_spec.specs.Before.{fact_at, no_fact}
@@ -25,11 +25,11 @@ module _ {X : Type 0} (g : Fact → X) (k : Record → X) (reads : ℕ → ℕ �
 
   pub facts-keep : (m : Machine) (rs : List Record) → map g (facts_from reads m rs) ≡ map k rs
   facts-keep m [] = refl
-  facts-keep m (r ∷ rs) = here (facts-keep (lay m r) rs) (is_none m.ending && fits m r)
+  facts-keep m (r ∷ rs) = here (facts-keep (apply m r) rs) (is_none m.ending && fits m r)
     where
       here :
-          map g (facts_from reads (lay m r) rs) ≡ map k rs → (b : Bool)
-          → map g (cond b (fact_of reads m r ∷ facts_from reads (lay m r) rs) (map bare_fact (r ∷ rs)))
+          map g (facts_from reads (apply m r) rs) ≡ map k rs → (b : Bool)
+          → map g (cond b (fact_of reads m r ∷ facts_from reads (apply m r) rs) (map bare_fact (r ∷ rs)))
           ≡ k r ∷ map k rs
       here rest true = ap₂ (λ (x : X) (xs : List X). x ∷ xs) (full m r) rest
       here rest false = bare-keep (r ∷ rs)

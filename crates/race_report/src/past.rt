@@ -11,7 +11,7 @@ use super::steps::Step;
 use std::alloc::{AllocError, Global};
 
 /// A step's use of a page.
-#[derive(Clone, Copy, Debug, PartialEq, Eq)]
+#[derive(Clone, Copy)]
 pub struct Access {
     /// The place of the step.
     pub place: usize,
@@ -26,7 +26,13 @@ pub struct Access {
 impl Access {
     /// The access of the step at a place, by whether it writes the page.
     pub fn of(step: &Step, place: usize, writes: bool) -> Access
-        ensures { result ≡ record { place = place; thread = step.now.thread; number = step.now.number; writes = writes } }
+        ensures { result
+            ≡ record {
+              place = place;
+              thread = step.now.thread;
+              number = step.now.number;
+              writes = writes;
+            } }
     {
         Access {
             place,
@@ -132,7 +138,8 @@ impl PagePast {
     /// Where the accesses of a thread stand, if it has any.
     fn place(&self, thread: u8) -> Option<usize>
         ensures within { IfSome result (λ place. place < length self.now.threads.items) }
-        ensures thread { IfSome result (HoldsAt (λ (p : Past). p.thread ≡ thread) self.now.threads.items) }
+        ensures thread { IfSome result
+            (HoldsAt (λ (p : Past). p.thread ≡ thread) self.now.threads.items) }
     {
         self.threads.iter().position(|past| past.thread == thread)
     }

@@ -99,7 +99,8 @@ impl FirstRaces {
         requires row { race.earlier < length self.old.rows.items }
         requires room { self.old.many + 1 < 2 ^ 64 }
         ensures rows { OnOk result (self.new.rows.items
-            ≡ slice_set self.old.rows.items race.earlier (slice_index_or self.old.rows.items race.earlier [] ++ race ∷ [])) }
+            ≡ slice_set self.old.rows.items race.earlier
+            (slice_index_or self.old.rows.items race.earlier [] ++ race ∷ [])) }
         ensures many { OnOk result (self.new.many ≡ self.old.many + 1) }
         ensures most { self.new.most ≡ self.old.most }
     {
@@ -152,7 +153,8 @@ impl FirstRaces {
         ensures rows { (i : ℕ) → OnOk result (i < length self.old.rows.items
             → slice_index_or self.new.rows.items i []
             ≡ slice_index_or self.old.rows.items i []
-            ++ races_in i later touch (filter (races_with step.now touch.writes) (accesses_of page.now))) }
+            ++ races_in i later touch
+            (filter (races_with step.now touch.writes) (accesses_of page.now))) }
         ensures count { IfOk result (λ count. count
             ≡ count_by (races_with step.now touch.writes) (accesses_of page.now)) }
         ensures long { OnOk result (length self.new.rows.items ≡ length self.old.rows.items) }
@@ -192,7 +194,8 @@ impl FirstRaces {
     pub fn open(&mut self, alloc: Global, place: usize) -> Result<(), AllocError>
         requires { IsCounted self.old }
         ensures rows { OnOk result (self.new.rows.items
-            ≡ (if length self.old.rows.items == place then self.old.rows.items ++ [] ∷ [] else self.old.rows.items)) }
+            ≡ (if length self.old.rows.items == place then self.old.rows.items ++ [] ∷ []
+            else self.old.rows.items)) }
         ensures counted { OnOk result (IsCounted self.new) }
         ensures many { self.new.many ≡ self.old.many }
         ensures most { self.new.most ≡ self.old.most }

@@ -12,7 +12,7 @@ use store_mask::{PageDelta, ReadPage};
 use thunk_record::Record;
 
 /// A page that a step touches.
-#[derive(Clone, Copy, Debug, PartialEq, Eq)]
+#[derive(Clone, Copy)]
 pub struct Touch {
     /// The slot of the page.
     pub slot: usize,

@@ -3,7 +3,7 @@ use Rattle.std.proofs.Common.{◌≡◌, ◌<◌, ◌≤◌, ◌+◌, ℕ, zero,
 use Rattle.std.proofs.lemmas.Bool.{cases_lt}
 use Rattle.std.proofs.lemmas.Bool.Decides.{nat_tests}
 use Rattle.order_spec.specs.Facts.{Fact}
-use Rattle.order_spec.specs.Before.{is_in, meets, share, fact_at, all_below, is_next_at, before_at}
+use Rattle.order_spec.specs.Before.{is_in, meets, overlap, fact_at, all_below, is_next_at, before_at}
 use Rattle.order_spec.specs.Ancestors.{count_below, reaches, is_ancestor, is_up_to, clock_at, number_at}
 use Rattle.order_spec.proofs.Lists.{is_or_not}
 use Rattle.order_spec.proofs.Clocks.{lt-bit, bit-lt, count-le, clock-tells}
@@ -37,7 +37,7 @@ abbrev before-by : Fact → Fact → Bool → Bool
 before-by f g next =
     eqb f.thread g.thread
     || ((is_in g.thread f.given && next)
-    || (share f.objects g.objects
+    || (overlap f.objects g.objects
     || (meets f.written g.written || (meets f.written g.opened || (meets f.opened g.written || g.last)))))
 
 -- the first cases alone
@@ -45,12 +45,12 @@ pub before-sync :
     (fs : List Fact) (i j : ℕ)
     → before_at (sync_facts fs) i j
     ≡ (eqb (fact_at fs i).thread (fact_at fs j).thread
-    || (gave_at fs i j || share (fact_at fs i).objects (fact_at fs j).objects))
+    || (gave_at fs i j || overlap (fact_at fs i).objects (fact_at fs j).objects))
 before-sync fs i j =
     ap₂ (λ (f g : Fact). before-by f g (is_next_at (sync_facts fs) i j)) (at-sync fs i) (at-sync fs j)
     ∙ ap (before-by (sync_fact (fact_at fs i)) (sync_fact (fact_at fs j))) (next-sync fs i j)
     ∙ ap (λ (b : Bool). eqb (fact_at fs i).thread (fact_at fs j).thread || b)
-    (or-none (gave_at fs i j) (share (fact_at fs i).objects (fact_at fs j).objects))
+    (or-none (gave_at fs i j) (overlap (fact_at fs i).objects (fact_at fs j).objects))
 
 count-like :
     (p q : ℕ → Bool) (n : ℕ) → ((k : ℕ) → p k ≡ q k) → count_below p n ≡ count_below q n

@@ -5,7 +5,7 @@
 
 ghost use Rattle.std.specs.Prelude.{◌≡◌, ◌<◌, ◌==◌, ◌||◌, ℕ, List, nat_lt};
 ghost use Rattle.order_spec.specs.Facts.{Fact};
-ghost use Rattle.order_spec.specs.Before.{fact_at, share, before_at};
+ghost use Rattle.order_spec.specs.Before.{fact_at, overlap, before_at};
 ghost use Rattle.order_spec.specs.Ancestors.{number_at};
 ghost use Rattle.reach_spec.specs.Reach.{gave_at};
 ghost use Rattle.race_spec.specs.Sync.{sync_facts, seen_at, is_ordered};
@@ -31,7 +31,7 @@ pub fn threads_and_objects_alone_order()
     ensures { (fs : List Fact) (i j : ℕ)
         → before_at (sync_facts fs) i j
         ≡ (((fact_at fs i).thread == (fact_at fs j).thread)
-        || (gave_at fs i j || share (fact_at fs i).objects (fact_at fs j).objects)) }
+        || (gave_at fs i j || overlap (fact_at fs i).objects (fact_at fs j).objects)) }
 {}
 
 /// Of each thread's steps the first ones come before a later thunk, as many as the clock of the step that gave

@@ -14,23 +14,23 @@ use Rattle.machine_spec.specs.declared.states.End.{End}
 use Rattle.machine_spec.specs.declared.states.End.TheVariants as end
 use Rattle.machine_spec.specs.Machine.{Hart, Machine, hart_of}
 use Rattle.machine_spec.specs.Schedule.{record_of}
-use Rattle.machine_spec.specs.Step.{lay, fits, asked, asked_call, end_after}
+use Rattle.machine_spec.specs.Step.{apply, fits, asked, asked_call, end_after}
 use Rattle.machine_spec.specs.Setup.{Setup, first}
 use Rattle.history_spec.specs.History.{History, IsHonest}
-use Rattle.history_spec.proofs.Laying.{fits-can_step, lay-whole}
-use Rattle.history_spec.proofs.Numbers.{one_for, lay-number}
-use Rattle.history_spec.proofs.Truth.{record-fits, record-lay, reuse-record}
+use Rattle.history_spec.proofs.Applying.{fits-can_step, apply-whole}
+use Rattle.history_spec.proofs.Numbers.{one_for, apply-number}
+use Rattle.history_spec.proofs.Truth.{record-fits, record-apply, reuse-record}
 use Rattle.round_spec.specs.Marks.{is_fitting, fits_next}
 use Rattle.order_spec.specs.Facts.{Fact, facts, ask_of, reads_in, read_slots, served_by, written_slots}
 use Rattle.order_spec.specs.Before.{is_in, fact_at, before_at}
 use Rattle.order_spec.specs.Ancestors.{number_at}
 use Rattle.order_spec.proofs.Lists.{and-left, and-right, or-in_left, or-in_right, is_or_not}
-use Rattle.order_spec.proofs.After.{lay-ending, own_end}
+use Rattle.order_spec.proofs.After.{apply-ending, own_end}
 use Rattle.order_spec.proofs.Alike.{IsReading, fits-parts, read_by-in}
-use Rattle.order_spec.proofs.Simulate.{reading-lay}
+use Rattle.order_spec.proofs.Simulate.{reading-apply}
 use Rattle.order_spec.proofs.Honest.{honest-reading}
 use Rattle.order_spec.proofs.Places.{left_from, IsClosed}
-use Rattle.order_spec.proofs.Near.{IsNear, IsStepLike, IsClosedAt, other_record, taint_after, near-fits, near-lay}
+use Rattle.order_spec.proofs.Near.{IsNear, IsStepLike, IsClosedAt, other_record, taint_after, near-fits, near-apply}
 use Rattle.reach_spec.specs.Reach.{read_at, reads_of, changed, IsClosedSet}
 use Rattle.reach_spec.proofs.Like.{machine_at}
 use Rattle.reach_spec.specs.Working.{IsWithinWork}
@@ -55,10 +55,10 @@ ask-same t thunk_end.Call f g call going = here (call_at f) (call_at g) (call re
 ask-same t (thunk_end.Trap cause) f g call going = absurd (going (end.Trap t f.pc cause) refl)
 ask-same t thunk_end.Fuel f g call going = refl
 
-stops-not : (m : Machine) (r : Record) → is_none (lay m r).ending ≡ true → (x : End) → ask_of r ≡ Stops x → ⊥
+stops-not : (m : Machine) (r : Record) → is_none (apply m r).ending ≡ true → (x : End) → ask_of r ≡ Stops x → ⊥
 stops-not m r going x stops =
-    let ends : (lay m r).ending ≡ Some x =
-    lay-ending m r ∙ ap (λ (a : Asked). end_after (own_end m r.thread a) (lay m r).harts m.limit (suc m.steps)) stops in
+    let ends : (apply m r).ending ≡ Some x =
+    apply-ending m r ∙ ap (λ (a : Asked). end_after (own_end m r.thread a) (apply m r).harts m.limit (suc m.steps)) stops in
     (let on : is_none (Some x) ≡ true = ap (λ (e : Option End). is_none e) (sym ends) ∙ going in cc)
 
 near-weaken :
@@ -143,15 +143,15 @@ module _
         thread_is number_is
 
     laid_is :
-        lay (machine_at setup schedule i) (record_of (machine_at setup schedule i) (get_or schedule i 0))
+        apply (machine_at setup schedule i) (record_of (machine_at setup schedule i) (get_or schedule i 0))
         ≡ machine_at setup schedule (suc i)
     laid_is =
-        record-lay (machine_at setup schedule i) (get_or schedule i 0)
+        record-apply (machine_at setup schedule i) (get_or schedule i 0)
         (whole-at setup schedule like.valid like.permitted i) (can-at setup schedule like.valid like.permitted i below)
         ∙ sym (next-at setup schedule like.valid like.permitted i below)
 
     going_n :
-        is_none (lay (machine_at setup schedule i)
+        is_none (apply (machine_at setup schedule i)
         (record_of (machine_at setup schedule i) (get_or schedule i 0))).ending ≡ true
     going_n =
         ap (λ (m : Machine). is_none m.ending) laid_is
@@ -246,9 +246,9 @@ module _
               omega arith)
         ]
 
-    going : is_none (lay at.old (record_at h.records next.at)).ending ≡ true
+    going : is_none (apply at.old (record_at h.records next.at)).ending ≡ true
     going =
-        full-going (lay at.old (record_at h.records next.at)) (left_from 0 (next.at ∷ at.come) h.records)
+        full-going (apply at.old (record_at h.records next.at)) (left_from 0 (next.at ∷ at.come) h.records)
         (left-full (next.at ∷ at.come) then.at h.records 0 then_left (omega arith)
         (let low = then.below in omega arith)) turn.later
 
@@ -279,10 +279,10 @@ module _
         ]
 
     number_there :
-        (u : ℕ) → (hart_of (lay at.old (record_at h.records next.at)) u).number
+        (u : ℕ) → (hart_of (apply at.old (record_at h.records next.at)) u).number
         ≡ (hart_of (machine_at setup schedule (suc i)) u).number
     number_there u =
-        lay-number at.old (record_at h.records next.at) u
+        apply-number at.old (record_at h.records next.at) u
         (fits-parts at.old (record_at h.records next.at) turn.fit).ready
         ∙ ap₂ (λ (g : Hart) (t : ℕ). g.number + one_for u t) (sym (at.near.harts u)) thread_is
         ∙ sym (number-next setup schedule like.valid like.permitted i u below)
@@ -303,7 +303,7 @@ module _
               (thread-is h like.honest next.at ∙ sym thread)
               (number ∙ ap suc (number-is h like.honest next.at next.below)));
           spread = λ u p served read dirty.
-              among-of (facts h) among u (hart_of (lay at.old (record_at h.records next.at)) u).number
+              among-of (facts h) among u (hart_of (apply at.old (record_at h.records next.at)) u).number
               (λ to low thread number.
               spread (facts h) (reads_of h) (changed h.setup setup) among closed at.come
               (λ v. (hart_of (machine_at setup schedule (suc i)) v).number) next.at to p
@@ -313,7 +313,7 @@ module _
               (ap₂ is_in thread (sym (ap (λ (f : Fact). f.given) turn.fact)) ∙ served)
               turn.ahead
               (ap (λ (f : Fact). is_in p f.opened) (sym turn.fact)
-              ∙ read_by-in (reads_in h.records) (lay at.old (record_at h.records next.at))
+              ∙ read_by-in (reads_in h.records) (apply at.old (record_at h.records next.at))
               (served_by at.old (record_at h.records next.at)) u p served read)
               (ap (is_in p) (sym (slots-at h like.honest to (let same = facts-length h in omega arith)))
               ∙ ap₂ (λ (t k : ℕ). is_in p (reads_in h.records t k)) thread number ∙ read)
@@ -323,13 +323,13 @@ module _
     near_next :
         IsNear (reads_in h.records) (among_steps (facts h) among)
         (tainted (facts h) (changed h.setup setup) among (next.at ∷ at.come))
-        (lay at.old (record_at h.records next.at)) (machine_at setup schedule (suc i))
+        (apply at.old (record_at h.records next.at)) (machine_at setup schedule (suc i))
     near_next =
         near-weaken (reads_in h.records) (among_steps (facts h) among)
         (taint_after (among_steps (facts h) among) (tainted (facts h) (changed h.setup setup) among at.come)
         (record_at h.records next.at))
         (tainted (facts h) (changed h.setup setup) among (next.at ∷ at.come))
-        (lay at.old (record_at h.records next.at)) (machine_at setup schedule (suc i))
+        (apply at.old (record_at h.records next.at)) (machine_at setup schedule (suc i))
         (λ p clean.
         elim (is_or_not
         (taint_after (among_steps (facts h) among) (tainted (facts h) (changed h.setup setup) among at.come)
@@ -342,9 +342,9 @@ module _
         IsNear (reads_in h.records) (among_steps (facts h) among)
         (taint_after (among_steps (facts h) among) (tainted (facts h) (changed h.setup setup) among at.come)
         (record_at h.records next.at))
-        (lay at.old (record_at h.records next.at)) n)
-        (ap (lay (machine_at setup schedule i)) other_is ∙ laid_is)
-        (near-lay (reads_in h.records) (among_steps (facts h) among)
+        (apply at.old (record_at h.records next.at)) n)
+        (ap (apply (machine_at setup schedule i)) other_is ∙ laid_is)
+        (near-apply (reads_in h.records) (among_steps (facts h) among)
         (tainted (facts h) (changed h.setup setup) among at.come) at.old (machine_at setup schedule i)
         (record_at h.records next.at) (record_of (machine_at setup schedule i) (get_or schedule i 0)).start
         (record_of (machine_at setup schedule i) (get_or schedule i 0)).kept
@@ -370,13 +370,13 @@ module _
           come = next.at ∷ at.come;
           shut = shut_next;
           made = made_next;
-          old = lay at.old (record_at h.records next.at);
+          old = apply at.old (record_at h.records next.at);
           whole =
-              lay-whole at.old (record_at h.records next.at) at.whole
+              apply-whole at.old (record_at h.records next.at) at.whole
               (fits-can_step at.old (record_at h.records next.at) turn.none turn.fit);
           can = turn.later;
           reading =
-              reading-lay (reads_in h.records) at.old (record_at h.records next.at)
+              reading-apply (reads_in h.records) at.old (record_at h.records next.at)
               (left_from 0 (next.at ∷ at.come) h.records) turn.reading_next;
           told = turn.told_next;
           near = near_next;

@@ -40,9 +40,9 @@ reexecutes-picked w points valid along picked =
     (picked (subst (λ (p : Option History). IsSound p w.setup) (sym goes) works.sound)) h goes works
 
 pub reexecutes-made :
-    (workers : ℕ) (setup : Setup) (past : Option History) (entries : List Entry) (shares : List ℕ)
-    → IsSetup setup → IsMadeBy workers setup past entries shares → ReexecutesLeast (round_by setup past entries)
-reexecutes-made workers setup past entries shares valid made =
+    (workers : ℕ) (setup : Setup) (past : Option History) (entries : List Entry) (worker_steps : List ℕ)
+    → IsSetup setup → IsMadeBy workers setup past entries worker_steps → ReexecutesLeast (round_by setup past entries)
+reexecutes-made workers setup past entries worker_steps valid made =
     reexecutes-schedule setup past entries valid made.stands made.picked
 
 pub reexecutes-alone :

@@ -7,18 +7,18 @@ use Rattle.guest_call.specs.declared.Fate.{Fate}
 use Rattle.guest_call.specs.declared.Fate.TheVariants.{Returns, Blocks, Ends, Exits}
 use Rattle.record_spec.specs.Record.{Record}
 use Rattle.machine_spec.specs.Machine.{Machine, hart_of, is_ready}
-use Rattle.machine_spec.specs.Step.{lay, fits}
+use Rattle.machine_spec.specs.Step.{apply, fits}
 use Rattle.machine_spec.specs.Whole.{IsWhole}
 use Rattle.machine_spec.proofs.Harts.{ready-below}
-use Rattle.history_spec.specs.History.{can_lay_from}
-use Rattle.history_spec.proofs.Laying.{fits-can_step, lay-whole}
+use Rattle.history_spec.specs.History.{can_apply_from}
+use Rattle.history_spec.proofs.Applying.{fits-can_step, apply-whole}
 use Rattle.order_spec.specs.Facts.{Fact, ask_of, effect_of, returning, starting, served_by, fact_of, facts_from}
 use Rattle.order_spec.specs.Before.{is_in, no_fact}
 use Rattle.order_spec.specs.Keeping.{set_second, moved, fact_thread, record_thread, is_free_of, may_come}
 use Rattle.order_spec.proofs.Lists.{and-left, and-right, not-true, is_in-append}
 use Rattle.order_spec.proofs.After.{unwoken, waits-ready}
 use Rattle.order_spec.proofs.Alike.{IsReading, fits-parts}
-use Rattle.order_spec.proofs.Simulate.{reading-lay}
+use Rattle.order_spec.proofs.Simulate.{reading-apply}
 use Rattle.order_spec.proofs.Every.{IsFront, fit-facts, front, moved-full}
 use Rattle.order_spec.proofs.Honest.{head-thread}
 use Rattle.order_spec.proofs.Places.{left_from}
@@ -71,9 +71,9 @@ front-given reads m t a rs [] fs front whole fit other head =
     ap (λ (gs : List Fact). is_in a.thread (given_of gs)) (sym front.facts)
 front-given reads m t a rs (b ∷ rest) fs front whole fit other head =
     let here : (is_none m.ending && fits m b) ≡ true = and-left (is_none m.ending && fits m b) _ front.following.can in
-    let told : fs ≡ fact_of reads m b ∷ facts_from reads (lay m b) rest =
+    let told : fs ≡ fact_of reads m b ∷ facts_from reads (apply m b) rest =
     sym front.facts ∙ fit-facts reads m b rest here in
-    let own : b.thread ≡ t = head (fact_of reads m b) (facts_from reads (lay m b) rest) told in
+    let own : b.thread ≡ t = head (fact_of reads m b) (facts_from reads (apply m b) rest) told in
     ap (λ (gs : List Fact). is_in a.thread (given_of gs)) told
     ∙ unserved m b a.thread whole (and-right (is_none m.ending) (fits m b) here) (fits-parts m a fit).ready
     (λ e. other (e ∙ own))
@@ -84,18 +84,18 @@ given-second f (g ∷ gs) full = refl
 
 pub given-free :
     (reads : ℕ → ℕ → List ℕ) (t : ℕ) (rs : List Record) (m : Machine)
-    → IsWhole m → AllByRecursion (IsReading reads m.frame) rs → can_lay_from m rs ≡ true
+    → IsWhole m → AllByRecursion (IsReading reads m.frame) rs → can_apply_from m rs ≡ true
     → may_come t (facts_from reads m rs) ≡ true
     → ahead_free t (given_of (moved fact_thread t (facts_from reads m rs))) (facts_from reads m rs) ≡ true
 given-free reads t [] m whole reading can may = refl
 given-free reads t (a ∷ rs) m whole reading can may =
     let here : (is_none m.ending && fits m a) ≡ true =
-    and-left (is_none m.ending && fits m a) (can_lay_from (lay m a) rs) can in
-    let later : can_lay_from (lay m a) rs ≡ true =
-    and-right (is_none m.ending && fits m a) (can_lay_from (lay m a) rs) can in
+    and-left (is_none m.ending && fits m a) (can_apply_from (apply m a) rs) can in
+    let later : can_apply_from (apply m a) rs ≡ true =
+    and-right (is_none m.ending && fits m a) (can_apply_from (apply m a) rs) can in
     let none : is_none m.ending ≡ true = and-left (is_none m.ending) (fits m a) here in
     let fit : fits m a ≡ true = and-right (is_none m.ending) (fits m a) here in
-    let told : facts_from reads m (a ∷ rs) ≡ fact_of reads m a ∷ facts_from reads (lay m a) rs =
+    let told : facts_from reads m (a ∷ rs) ≡ fact_of reads m a ∷ facts_from reads (apply m a) rs =
     fit-facts reads m a rs here in
     let all : IsFront reads m (a ∷ rs) (moved record_thread t (a ∷ rs))
     (moved fact_thread t (facts_from reads m (a ∷ rs))) = front reads t (a ∷ rs) m whole reading can may in
@@ -105,33 +105,33 @@ given-free reads t (a ∷ rs) m whole reading can may =
           let not_own : eqb a.thread t ≡ false = grind (arith, nat_tests) in
           let may_told :
           (eqb a.thread t
-          || (may_come t (facts_from reads (lay m a) rs)
-          && is_free_of (fact_of reads m a) (moved fact_thread t (facts_from reads (lay m a) rs)))) ≡ true =
+          || (may_come t (facts_from reads (apply m a) rs)
+          && is_free_of (fact_of reads m a) (moved fact_thread t (facts_from reads (apply m a) rs)))) ≡ true =
           rw told at may in
-          let may_next : may_come t (facts_from reads (lay m a) rs) ≡ true =
-          and-left (may_come t (facts_from reads (lay m a) rs))
-          (is_free_of (fact_of reads m a) (moved fact_thread t (facts_from reads (lay m a) rs)))
+          let may_next : may_come t (facts_from reads (apply m a) rs) ≡ true =
+          and-left (may_come t (facts_from reads (apply m a) rs))
+          (is_free_of (fact_of reads m a) (moved fact_thread t (facts_from reads (apply m a) rs)))
           (rw not_own at may_told) in
-          let rest : ahead_free t (given_of (moved fact_thread t (facts_from reads (lay m a) rs)))
-          (facts_from reads (lay m a) rs) ≡ true =
-          given-free reads t rs (lay m a) (lay-whole m a whole (fits-can_step m a none fit))
-          (reading-lay reads m a rs reading.1) later may_next in
+          let rest : ahead_free t (given_of (moved fact_thread t (facts_from reads (apply m a) rs)))
+          (facts_from reads (apply m a) rs) ≡ true =
+          given-free reads t rs (apply m a) (apply-whole m a whole (fits-can_step m a none fit))
+          (reading-apply reads m a rs reading.1) later may_next in
           let apart : is_in a.thread (given_of (moved fact_thread t (facts_from reads m (a ∷ rs)))) ≡ false =
           front-given reads m t a (a ∷ rs) (moved record_thread t (a ∷ rs))
           (moved fact_thread t (facts_from reads m (a ∷ rs))) all whole fit other
           (λ g gs is. head-thread t (facts_from reads m (a ∷ rs)) g gs may is) in
           let second : given_of (moved fact_thread t (facts_from reads m (a ∷ rs)))
-          ≡ given_of (moved fact_thread t (facts_from reads (lay m a) rs)) =
+          ≡ given_of (moved fact_thread t (facts_from reads (apply m a) rs)) =
           ap (λ (gs : List Fact). given_of (moved fact_thread t gs)) told
-          ∙ (let is : moved fact_thread t (fact_of reads m a ∷ facts_from reads (lay m a) rs)
-          ≡ set_second (fact_of reads m a) (moved fact_thread t (facts_from reads (lay m a) rs)) = (rw not_own refl) in
+          ∙ (let is : moved fact_thread t (fact_of reads m a ∷ facts_from reads (apply m a) rs)
+          ≡ set_second (fact_of reads m a) (moved fact_thread t (facts_from reads (apply m a) rs)) = (rw not_own refl) in
           ap given_of is)
-          ∙ given-second (fact_of reads m a) (moved fact_thread t (facts_from reads (lay m a) rs))
-          (moved-full t (facts_from reads (lay m a) rs) may_next) in
-          let apart_next : is_in a.thread (given_of (moved fact_thread t (facts_from reads (lay m a) rs))) ≡ false =
+          ∙ given-second (fact_of reads m a) (moved fact_thread t (facts_from reads (apply m a) rs))
+          (moved-full t (facts_from reads (apply m a) rs) may_next) in
+          let apart_next : is_in a.thread (given_of (moved fact_thread t (facts_from reads (apply m a) rs))) ≡ false =
           ap (is_in a.thread) (sym second) ∙ apart in
           ap (λ (ks : List ℕ). ahead_free t ks (facts_from reads m (a ∷ rs))) second
-          ∙ ap (ahead_free t (given_of (moved fact_thread t (facts_from reads (lay m a) rs)))) told
+          ∙ ap (ahead_free t (given_of (moved fact_thread t (facts_from reads (apply m a) rs)))) told
           ∙ (rw (not_own, apart_next) rest)
     ]
 

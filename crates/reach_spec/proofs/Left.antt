@@ -6,14 +6,14 @@ use Rattle.record_spec.specs.Record.{Record}
 use Rattle.machine_spec.specs.declared.states.Status.{Status}
 use Rattle.machine_spec.specs.declared.states.Status.TheVariants.{Ready, Blocked, Ended}
 use Rattle.machine_spec.specs.Machine.{Machine, hart_of, is_ready, is_ended}
-use Rattle.machine_spec.specs.Step.{lay, fits}
+use Rattle.machine_spec.specs.Step.{apply, fits}
 use Rattle.machine_spec.specs.Whole.{IsWhole, blocked_count}
-use Rattle.history_spec.specs.History.{can_lay_from}
-use Rattle.history_spec.proofs.Laying.{fits-can_step, lay-whole}
+use Rattle.history_spec.specs.History.{can_apply_from}
+use Rattle.history_spec.proofs.Applying.{fits-can_step, apply-whole}
 use Rattle.order_spec.specs.Facts.{ask_of, effect_of, starting}
 use Rattle.order_spec.specs.Before.{is_in}
 use Rattle.order_spec.proofs.Lists.{and-left, and-right, is_or_not}
-use Rattle.order_spec.proofs.After.{unwoken, lay-at, lay-length}
+use Rattle.order_spec.proofs.After.{unwoken, apply-at, apply-length}
 use Rattle.order_spec.proofs.Alike.{untouched-after, fits-parts}
 use Rattle.order_spec.proofs.Places.{left_from}
 use Rattle.reach_spec.proofs.Like.{record_at}
@@ -101,16 +101,16 @@ some-left come n j below isnt =
     ]
 
 pub head-fits :
-    (m : Machine) (r : Record) (rs : List Record) → HasHead r rs → can_lay_from m rs ≡ true → fits m r ≡ true
+    (m : Machine) (r : Record) (rs : List Record) → HasHead r rs → can_apply_from m rs ≡ true → fits m r ≡ true
 head-fits m r rs head can =
-    let both : can_lay_from m (r ∷ head.rest) ≡ true = ap (can_lay_from m) (sym head.is) ∙ can in
+    let both : can_apply_from m (r ∷ head.rest) ≡ true = ap (can_apply_from m) (sym head.is) ∙ can in
     and-right (is_none m.ending) (fits m r)
-    (and-left (is_none m.ending && fits m r) (can_lay_from (lay m r) head.rest) both)
+    (and-left (is_none m.ending && fits m r) (can_apply_from (apply m r) head.rest) both)
 
-pub full-going : (m : Machine) (rs : List Record) → (rs ≡ [] → ⊥) → can_lay_from m rs ≡ true → is_none m.ending ≡ true
+pub full-going : (m : Machine) (rs : List Record) → (rs ≡ [] → ⊥) → can_apply_from m rs ≡ true → is_none m.ending ≡ true
 full-going m [] full can = absurd (full refl)
 full-going m (r ∷ rs) full can =
-    and-left (is_none m.ending) (fits m r) (and-left (is_none m.ending && fits m r) (can_lay_from (lay m r) rs) can)
+    and-left (is_none m.ending) (fits m r) (and-left (is_none m.ending && fits m r) (can_apply_from (apply m r) rs) can)
 
 -- who has ended makes no step that is left
 
@@ -127,7 +127,7 @@ ready-ended (Ended v) one two = cc
 ended-stays :
     (m : Machine) (r : Record) (u : ℕ)
     → IsWhole m → fits m r ≡ true → u < length m.harts → is_ended (hart_of m u).status ≡ true
-    → hart_of (lay m r) u ≡ hart_of m u
+    → hart_of (apply m r) u ≡ hart_of m u
 ended-stays m r u whole fit below ended =
     let ready : is_ready (hart_of m r.thread).status ≡ true = (fits-parts m r fit).ready in
     let other : u ≢ r.thread =
@@ -138,7 +138,7 @@ ended-stays m r u whole fit below ended =
     (whole.tied.blocked u ∙ ended-count (hart_of m u).status ended) in
     let old : is_in u (starting (length m.harts) (effect_of m r).created) ≡ false =
     starting-below (effect_of m r).created (length m.harts) u below in
-    lay-at m r u whole.tied ready
+    apply-at m r u whole.tied ready
     ∙ untouched-after (effect_of m r) (Rattle.record_spec.specs.Delta.masked m.memory r.kept.delta) r (length m.harts) u
     (hart_of m u) (rw (own, quiet, old) refl)
 
@@ -146,7 +146,7 @@ pub left-unended :
     (come : List ℕ) (look : ℕ → Record) (j : ℕ) (xs : List Record) (k : ℕ) (m : Machine)
     → is_in j come ≡ false → k ≤ j → j < k + length xs
     → ((i : ℕ) → record_at xs i ≡ look (k + i))
-    → IsWhole m → can_lay_from m (left_from k come xs) ≡ true
+    → IsWhole m → can_apply_from m (left_from k come xs) ≡ true
     → (look j).thread < length m.harts → is_ended (hart_of m (look j).thread).status ≡ true → ⊥
 left-unended come look j [] k m isnt low high at whole can known ended = absurd (omega arith)
 left-unended come look j (x ∷ xs) k m isnt low high at whole can known ended =
@@ -155,10 +155,10 @@ left-unended come look j (x ∷ xs) k m isnt low high at whole can known ended =
     (is_in k come) refl can
   where
     here :
-        ((n : Machine) → suc k ≤ j → IsWhole n → can_lay_from n (left_from (suc k) come xs) ≡ true
+        ((n : Machine) → suc k ≤ j → IsWhole n → can_apply_from n (left_from (suc k) come xs) ≡ true
         → (look j).thread < length n.harts → is_ended (hart_of n (look j).thread).status ≡ true → ⊥)
         → (b : Bool) → is_in k come ≡ b
-        → can_lay_from m (cond b (left_from (suc k) come xs) (x ∷ left_from (suc k) come xs)) ≡ true → ⊥
+        → can_apply_from m (cond b (left_from (suc k) come xs) (x ∷ left_from (suc k) come xs)) ≡ true → ⊥
     here next true is h =
         elim (cases_eq k j) [
           | inl same ↦ (let there : is_in j come ≡ true = rw (← same) is in cc)
@@ -166,7 +166,7 @@ left-unended come look j (x ∷ xs) k m isnt low high at whole can known ended =
         ]
     here next false is h =
         let first : (is_none m.ending && fits m x) ≡ true =
-        and-left (is_none m.ending && fits m x) (can_lay_from (lay m x) (left_from (suc k) come xs)) h in
+        and-left (is_none m.ending && fits m x) (can_apply_from (apply m x) (left_from (suc k) come xs)) h in
         let fit : fits m x ≡ true = and-right (is_none m.ending) (fits m x) first in
         elim (cases_eq k j) [
           | inl same ↦
@@ -175,9 +175,9 @@ left-unended come look j (x ∷ xs) k m isnt low high at whole can known ended =
               (ap (λ (r : Record). is_ready (hart_of m r.thread).status) (sym x_is) ∙ (fits-parts m x fit).ready) ended
           | inr other ↦
               let stays = ended-stays m x (look j).thread whole fit known ended in
-              next (lay m x) (omega arith)
-              (lay-whole m x whole (fits-can_step m x (and-left (is_none m.ending) (fits m x) first) fit))
-              (and-right (is_none m.ending && fits m x) (can_lay_from (lay m x) (left_from (suc k) come xs)) h)
-              (let more = lay-length m x in omega arith)
+              next (apply m x) (omega arith)
+              (apply-whole m x whole (fits-can_step m x (and-left (is_none m.ending) (fits m x) first) fit))
+              (and-right (is_none m.ending && fits m x) (can_apply_from (apply m x) (left_from (suc k) come xs)) h)
+              (let more = apply-length m x in omega arith)
               (ap (λ (g : Rattle.machine_spec.specs.Machine.Hart). is_ended g.status) stays ∙ ended)
         ]

@@ -1,16 +1,16 @@
--- A round beside the old history laid along the round's schedule.
+-- A round beside the old history applied along the round's schedule.
 use Rattle.std.proofs.Common.{◌≡◌, ◌<◌, ◌≤◌, ◌+◌, ℕ, Bool, true, false, ◌&&◌, ◌||◌, not, eqb, ltb, List, ◌∷◌, length, get_or, Option, Some, None, is_none, refl, ap, ap₂, sym, ◌∙◌, subst, inl, inr, arith}
 use Rattle.std.proofs.lemmas.Bool.{cases_eq}
 use Rattle.std.proofs.lemmas.Bool.Decides.{nat_tests}
 use Rattle.std.specs.List.{AllByRecursion}
 use Rattle.record_spec.specs.Record.{Record}
 use Rattle.machine_spec.specs.Machine.{Hart, Machine, hart_of, is_ready, is_ended}
-use Rattle.machine_spec.specs.Step.{lay, fits}
+use Rattle.machine_spec.specs.Step.{apply, fits}
 use Rattle.machine_spec.specs.Setup.{Setup}
 use Rattle.machine_spec.specs.Whole.{IsWhole}
-use Rattle.history_spec.specs.History.{History, can_lay_from}
+use Rattle.history_spec.specs.History.{History, can_apply_from}
 use Rattle.round_spec.specs.Marks.{record_for, is_fitting, fits_next}
-use Rattle.round_spec.specs.Due.{is_gone}
+use Rattle.round_spec.specs.Due.{has_exited}
 use Rattle.order_spec.specs.Facts.{Fact, facts, facts_from, fact_of, reads_in}
 use Rattle.order_spec.specs.Before.{is_in, no_fact, fact_at, all_below, before_at}
 use Rattle.order_spec.specs.Keeping.{moved, fact_thread, record_thread, may_come}
@@ -44,7 +44,7 @@ pub record IsAt (h : History) (setup : Setup) (schedule : List ℕ) (among : ℕ
   pub made : IsMade (facts h) come (λ u. (hart_of (machine_at setup schedule i) u).number)
   pub old : Machine
   pub whole : IsWhole old
-  pub can : can_lay_from old (left_from 0 come h.records) ≡ true
+  pub can : can_apply_from old (left_from 0 come h.records) ≡ true
   pub reading : AllByRecursion (IsReading (reads_in h.records) old.frame) (left_from 0 come h.records)
   pub told : facts_from (reads_in h.records) old (left_from 0 come h.records) ≡ left_from 0 come (facts h)
   pub near :
@@ -231,7 +231,7 @@ module _
               bit-lt (number_at (facts h) k)
               (hart_of (machine_at setup schedule p) (fact_at (facts h) k).thread).number made in omega arith)
           | inr unmade ↦
-              let gone : is_gone (machine_at setup schedule p) (fact_at (facts h) k).thread ≡ true =
+              let gone : has_exited (machine_at setup schedule p) (fact_at (facts h) k).thread ≡ true =
               (let pass = passed k less is in rw unmade at pass) in
               let known : (fact_at (facts h) k).thread < length (machine_at setup schedule p).harts =
               bit-lt (fact_at (facts h) k).thread (length (machine_at setup schedule p).harts)
@@ -259,10 +259,10 @@ module _
         → is_in (fact_at (facts h) k).thread (fact_at (facts h) j).given ≡ false
     pub none : is_none at.old.ending ≡ true
     pub fit : fits at.old (record_at h.records j) ≡ true
-    pub later : can_lay_from (lay at.old (record_at h.records j)) (left_from 0 (j ∷ at.come) h.records) ≡ true
+    pub later : can_apply_from (apply at.old (record_at h.records j)) (left_from 0 (j ∷ at.come) h.records) ≡ true
     pub fact : fact_of (reads_in h.records) at.old (record_at h.records j) ≡ fact_at (facts h) j
     pub told_next :
-        facts_from (reads_in h.records) (lay at.old (record_at h.records j)) (left_from 0 (j ∷ at.come) h.records)
+        facts_from (reads_in h.records) (apply at.old (record_at h.records j)) (left_from 0 (j ∷ at.come) h.records)
         ≡ left_from 0 (j ∷ at.come) (facts h)
     pub reading_next :
         AllByRecursion (IsReading (reads_in h.records) at.old.frame) (left_from 0 (j ∷ at.come) h.records)
@@ -332,7 +332,7 @@ module _
 
     both :
         fact_of (reads_in h.records) at.old (record_at h.records j)
-        ∷ facts_from (reads_in h.records) (lay at.old (record_at h.records j)) (left_from 0 (j ∷ at.come) h.records)
+        ∷ facts_from (reads_in h.records) (apply at.old (record_at h.records j)) (left_from 0 (j ∷ at.come) h.records)
         ≡ fact_at (facts h) j ∷ left_from 0 (j ∷ at.come) (facts h)
     both =
         sym (fit-facts (reads_in h.records) at.old (record_at h.records j) (left_from 0 (j ∷ at.come) h.records) here)
@@ -366,7 +366,7 @@ module _
               cc in head);
           told_next =
               (let is = both in
-              let rest : facts_from (reads_in h.records) (lay at.old (record_at h.records j))
+              let rest : facts_from (reads_in h.records) (apply at.old (record_at h.records j))
               (left_from 0 (j ∷ at.come) h.records) ≡ left_from 0 (j ∷ at.come) (facts h) = cc in
               rest);
           reading_next = fronted.reading.1;

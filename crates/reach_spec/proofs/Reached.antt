@@ -6,9 +6,9 @@ use Rattle.record_spec.specs.Record.{Record}
 use Rattle.machine_spec.specs.Machine.{hart_of}
 use Rattle.machine_spec.specs.Setup.{Setup, first}
 use Rattle.machine_spec.proofs.Beginning.{IsWhole-first}
-use Rattle.history_spec.specs.History.{History, schedule_of, can_lay_from}
+use Rattle.history_spec.specs.History.{History, schedule_of, can_apply_from}
 use Rattle.history_spec.proofs.Numbers.{first-number}
-use Rattle.history_spec.proofs.Truth.{records-can_lay}
+use Rattle.history_spec.proofs.Truth.{records-can_apply}
 use Rattle.round_spec.specs.Marks.{fits_next}
 use Rattle.order_spec.specs.Facts.{facts, facts_from, reads_in}
 use Rattle.order_spec.specs.Before.{is_in, fact_at}
@@ -63,9 +63,9 @@ module _
         old = first h.setup;
         whole = IsWhole-first h.setup like.honest.valid;
         can =
-            ap (can_lay_from (first h.setup)) (none-came 0 h.records)
-            ∙ ap (can_lay_from (first h.setup)) like.honest.recorded
-            ∙ records-can_lay (first h.setup) (schedule_of h)
+            ap (can_apply_from (first h.setup)) (none-came 0 h.records)
+            ∙ ap (can_apply_from (first h.setup)) like.honest.recorded
+            ∙ records-can_apply (first h.setup) (schedule_of h)
             (IsWhole-first h.setup like.honest.valid) like.honest.permitted;
         reading =
             subst (λ (rs : List Record). AllByRecursion (IsReading (reads_in h.records) (first h.setup).frame) rs)

@@ -3,7 +3,7 @@ use Rattle.std.proofs.Common.{◌≡◌, ◌<◌, ◌≤◌, ℕ, zero, suc, Boo
 use Rattle.std.proofs.lemmas.Bool.{cases_eq, cases_lt, eq-eqb, eqb-true}
 use Rattle.std.proofs.lemmas.Bool.Decides.{nat_tests}
 use Rattle.order_spec.specs.Facts.{Fact}
-use Rattle.order_spec.specs.Before.{is_in, meets, share, fact_at, all_below, is_next_at, before_at}
+use Rattle.order_spec.specs.Before.{is_in, meets, overlap, fact_at, all_below, is_next_at, before_at}
 use Rattle.order_spec.specs.Ancestors.{number_at}
 use Rattle.order_spec.proofs.Lists.{and-left, and-right, or-left, or-right, or-in_left, or-in_right, is_or_not}
 use Rattle.order_spec.proofs.Places.{IsClosed, below-all, given-next}
@@ -30,7 +30,7 @@ pub opens-before :
 opens-before fs i j p opens writes =
     or-in_right (eqb (fact_at fs i).thread (fact_at fs j).thread) _
     (or-in_right (is_in (fact_at fs j).thread (fact_at fs i).given && is_next_at fs i j) _
-    (or-in_right (share (fact_at fs i).objects (fact_at fs j).objects) _
+    (or-in_right (overlap (fact_at fs i).objects (fact_at fs j).objects) _
     (or-in_right (meets (fact_at fs i).written (fact_at fs j).written) _
     (or-in_right (meets (fact_at fs i).written (fact_at fs j).opened) _
     (or-in_left (meets (fact_at fs i).opened (fact_at fs j).written) (fact_at fs j).last

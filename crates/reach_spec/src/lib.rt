@@ -26,7 +26,8 @@ ghost use Rattle.reach_spec.specs.Working.{IsSameWork, ReexecutesLeast, IsWithin
 pub fn reached_is_the_least_closed_set()
     ensures closed { (fs : List Fact) (reads : List (List ℕ)) (pages : List ℕ)
         → IsClosedSet fs reads pages (is_reached fs reads pages) }
-    ensures least { (fs : List Fact) (reads : List (List ℕ)) (pages : List ℕ) (among : ℕ → Bool) (j : ℕ)
+    ensures least { (fs : List Fact) (reads : List (List ℕ)) (pages : List ℕ) (among : ℕ → Bool)
+        (j : ℕ)
         → IsClosedSet fs reads pages among
         → j < length fs
         → is_reached fs reads pages j ≡ true
@@ -58,9 +59,10 @@ pub fn executed_entries_are_reached()
 /// So many workers, and one alone, execute no more of a round than its setup reaches, if it works as the
 /// history that it goes by did.
 pub fn workers_reexecute_the_least()
-    ensures workers { (workers : ℕ) (setup : Setup) (past : Option History) (entries : List Entry) (shares : List ℕ)
+    ensures workers { (workers : ℕ) (setup : Setup) (past : Option History) (entries : List Entry)
+        (worker_steps : List ℕ)
         → IsSetup setup
-        → IsMadeBy workers setup past entries shares
+        → IsMadeBy workers setup past entries worker_steps
         → ReexecutesLeast (round_by setup past entries) }
     ensures alone { (setup : Setup) (past : Option History)
         → IsSetup setup

@@ -45,7 +45,8 @@ pub fn true_stands_for_thunk()
 /// What is kept of a thunk ended within the fuel that the thunk had.
 pub fn kept_is_within_its_fuel()
     ensures { (frame : Frame) (view : Memory) (start : Registers)
-        → may_end frame.fuel (kept_thunk frame view start).end (kept_thunk frame view start).count ≡ true }
+        → may_end frame.fuel (kept_thunk frame view start).end (kept_thunk frame view start).count
+        ≡ true }
 {}
 
 /// What is true under one fuel, and ended within another, is true under the other: by a call or a trap

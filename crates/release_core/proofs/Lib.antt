@@ -1,6 +1,6 @@
 -- The files of lemmas of this crate.
 pub mod DataPages
-pub mod Laying
+pub mod Applying
 pub mod Placing
 mod Putting
 pub mod Zeros

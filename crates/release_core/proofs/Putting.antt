@@ -7,7 +7,7 @@ use Rattle.std.proofs.lemmas.List.FromFn.{length-map-range_with_len, get_or-map-
 use Rattle.std.proofs.lemmas.Simd.{length-chunk, get_or-chunk}
 use Rattle.memory_spec.specs.Pages.{Mapped, Memory, page_of, slot_of, zero_page}
 use Rattle.thunk_spec.specs.Put.{byte_at, bytes_at}
-use Rattle.release_core.proofs.Laying.{no_byte}
+use Rattle.release_core.proofs.Applying.{no_byte}
 
 same_slot : (map : List Mapped) (a b : ℕ) → a / 4096 ≡ b / 4096 → slot_of map a ≡ slot_of map b
 same_slot [] a b same = refl

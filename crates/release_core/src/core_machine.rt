@@ -29,7 +29,7 @@ use sync_objects::Objects;
 use thunk_record::{Frame, Record, fits};
 use thunk_run::Job;
 
-/// Why a record wasn't laid.
+/// Why a record wasn't applied.
 #[derive(Debug, PartialEq, Eq, Clone, Copy, Drop)]
 pub enum ApplyError {
     /// The machine has ended, or the record doesn't fit: its thread isn't ready at its number of
@@ -126,7 +126,7 @@ impl Core {
     }
 
     /// Whether thread `t` exists and has ended.
-    pub fn gone(&self, t: u8) -> bool
+    pub fn has_exited(&self, t: u8) -> bool
         ensures { result
             ≡ nat_lt t (length self.now.harts) && is_ended (hart_of self.now t).status }
     {
@@ -229,7 +229,7 @@ impl Core {
     }
 }
 
-/// What laying a record needs that takes memory, made before anything is changed.
+/// What applying a record needs that takes memory, made before anything is changed.
 #[derive(Drop)]
 struct Prepared {
     memory: Arc<PageTable>,
@@ -267,7 +267,8 @@ fn prepare(
     ensures put { IfOk result (λ p. p.put.items ≡ put_of map.now view.now rec.now.kept) }
     ensures views { IfOk result (λ p. AreViewsOf arc_value (arc_value p.memory) p.views.items) }
     ensures enough { IfOk result (λ p.
-        views.most_views (step.asked rec.now.thread rec.now.kept.end rec.now.kept.finish) ≤ vec_len p.views) }
+        views.most_views (step.asked rec.now.thread rec.now.kept.end rec.now.kept.finish)
+        ≤ vec_len p.views) }
 {
     let memory = written(alloc, memory, rec)?;
     let put = put_bytes(alloc, map, view, rec)?;
@@ -293,16 +294,16 @@ impl Core {
         Ok(Job::new(frame, t, hart.number(), *hart.regs(), view))
     }
 
-    /// Lays a record in place of a step of its thread, which may make one: its stored bytes are
+    /// Applies a record in place of a step of its thread, which may make one: its stored bytes are
     /// written, and all that follows a thunk is done.
     ///
     /// # Errors
     ///
     /// An error where the host's memory ran out; the machine is then as before.
     #[tactic(auto, using(machine_calls::proofs::Asking::below, machine_calls::proofs::Asking::view_count, machine_calls::proofs::Asking::few_numbers))]
-    pub fn lay(&mut self, rec: &Record) -> Result<(), AllocError>
+    pub fn apply(&mut self, rec: &Record) -> Result<(), AllocError>
         requires { step.can_step self.old rec.now.thread ≡ true }
-        ensures ok { OnOk result (self.new ≡ step.lay self.old rec.now) }
+        ensures ok { OnOk result (self.new ≡ step.apply self.old rec.now) }
         ensures err { OnErr result (self.new ≡ self.old) }
         ensures whole { IsWhole self.old }
     {
@@ -334,26 +335,26 @@ impl Core {
         Ok(())
     }
 
-    /// Lays a record that fits in place of a step of its thread.
+    /// Applies a record that fits in place of a step of its thread.
     ///
     /// # Errors
     ///
     /// `Stale` exactly where the machine has ended or the record doesn't fit, and `NoMemory` where
     /// the host's memory ran out; the machine is then as before.
-    #[tactic(auto, using(crate::proofs::Laying::fitting_can))]
-    pub fn apply(&mut self, rec: &Record) -> Result<(), ApplyError>
-        ensures ok { OnOk result (self.new ≡ step.lay self.old rec.now) }
+    #[tactic(auto, using(crate::proofs::Applying::fitting_can))]
+    pub fn try_apply(&mut self, rec: &Record) -> Result<(), ApplyError>
+        ensures ok { OnOk result (self.new ≡ step.apply self.old rec.now) }
         ensures fitting { OnOk result (can_apply self.old rec.now ≡ true) }
         ensures simulates { OnOk result (IsTrue self.old.frame rec.now.start rec.now.kept
             → self.new ≡ step.step self.old rec.now.thread) }
         ensures cause { IfErr result (λ e. IsCauseOf self.old rec.now e) }
         ensures err { OnErr result (self.new ≡ self.old) }
     {
-        machine_spec::lay_is_step();
+        machine_spec::apply_is_step();
         if self.ended().is_some() || !self.fits(rec) {
             return Err(ApplyError::Stale);
         }
-        match self.lay(rec) {
+        match self.apply(rec) {
             Ok(()) => Ok(()),
             Err(_) => Err(ApplyError::NoMemory),
         }

@@ -12,7 +12,7 @@ use thunk_record::Record;
 
 /// What a run started from, and the records of its steps in order, whose slots are in the page map of
 /// what it started from. A clause sees a `History` of `history_spec`. Beside it stands whether it is known to hold
-/// together, so that nobody has to lay its records again to find out.
+/// together, so that nobody has to apply its records again to find out.
 #[derive(Drop)]
 pub struct History {
     setup: Setup,
@@ -21,10 +21,10 @@ pub struct History {
 }
 
 impl Model for History {
-    ghost use Rattle.history_spec.specs.History.{History as Kept};
+    ghost use Rattle.history_spec.specs.History.{History as RecordedHistory};
     ghost use Rattle.release_core.specs.Histories.{IsAsKnown};
 
-    ghost Value = { Kept };
+    ghost Value = { RecordedHistory };
 
     ghost view = { λ h. record { setup = h.setup; records = h.records } };
 

@@ -1,4 +1,4 @@
-//! The guest machine in code: a setup, the machine that it starts as, a record laid in
+//! The guest machine in code: a setup, the machine that it starts as, a record applied in
 //! place of a step, and the history that a run leaves.
 #![tactic(auto)]
 

@@ -40,7 +40,8 @@ fn push_part(
     requires within { part.start % 4096 + part.len ≤ 4096 }
     requires pages { length view.now ≡ length map.now }
     ensures { OnOk result (bytes.new.items ≡ bytes.old.items
-        ++ bytes_at map.now (masked view.now rec.now.kept.delta) (range_with_len part.start part.len)) }
+        ++ bytes_at map.now (masked view.now rec.now.kept.delta)
+        (range_with_len part.start part.len)) }
 {
     let offset = (part.start % 4096) as usize;
     let page = page_at(map, view, rec, part.start);
@@ -60,7 +61,8 @@ fn bytes_of(
     requires in_range { range.start + range.len ≤ 2 ^ 32 }
     requires pages { length view.now ≡ length map.now }
     ensures { IfOk result (λ bytes. bytes.items
-        ≡ bytes_at map.now (masked view.now rec.now.kept.delta) (range_with_len range.start range.len)) }
+        ≡ bytes_at map.now (masked view.now rec.now.kept.delta)
+        (range_with_len range.start range.len)) }
 {
     let Range { start, len } = range;
     let first = len.min(4096 - start % 4096);

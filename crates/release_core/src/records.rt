@@ -81,7 +81,8 @@ fn add_place(rows: &mut [Row; THREADS], t: usize, place: u32) -> Result<(), Allo
 fn drop_place(rows: &mut [Row; THREADS], t: usize)
     requires { t < THREADS }
     ensures rest { rows.new
-        ≡ slice_set rows.old t (take (length (slice_index_or rows.old t []) - 1) (slice_index_or rows.old t [])) }
+        ≡ slice_set rows.old t
+        (take (length (slice_index_or rows.old t []) - 1) (slice_index_or rows.old t [])) }
     ensures count { length rows.old ≡ THREADS }
 {
     rows[t].pop();

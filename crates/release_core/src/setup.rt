@@ -92,7 +92,12 @@ impl Setup {
         requires elf_size { length elf.items ≤ MOST_ELF_BYTES }
         requires input_size { length input.items ≤ MOST_INPUT_BYTES }
         ensures setup { IfOk result (λ s. s
-            ≡ record { elf = elf.items; input = input.items; fuel = limits.fuel; limit = limits.steps }) }
+            ≡ record {
+              elf = elf.items;
+              input = input.items;
+              fuel = limits.fuel;
+              limit = limits.steps;
+            }) }
         ensures sound { IfOk result (λ s. setup.IsSetup s) }
         ensures refused { IfErr result (λ e. Refuses elf.items e) }
     {
@@ -113,7 +118,12 @@ impl Setup {
     pub fn with(&self, input: Vec<u8>, limits: Limits) -> Result<Setup, AllocError>
         requires { length input.items ≤ MOST_INPUT_BYTES }
         ensures { IfOk result (λ s. s
-            ≡ record { elf = self.now.elf; input = input.items; fuel = limits.fuel; limit = limits.steps }) }
+            ≡ record {
+              elf = self.now.elf;
+              input = input.items;
+              fuel = limits.fuel;
+              limit = limits.steps;
+            }) }
     {
         limits.sound();
         let program = Arc::try_clone(&self.program)?;

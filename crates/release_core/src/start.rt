@@ -79,7 +79,8 @@ fn zeros(alloc: Global) -> Result<Arc<Page>, AllocError>
 pub fn memory_of(alloc: Global, image: &PageTable, input: &[u8]) -> Result<PageTable, AllocError>
     requires { length input.now ≤ MOST_INPUT_BYTES }
     ensures { IfOk result (λ table. table
-        ≡ image.now ++ setup.header_page input.now ∷ [] ++ setup.input_memory input.now ++ setup.stack_memory) }
+        ≡ image.now ++ setup.header_page input.now ∷ [] ++ setup.input_memory input.now
+        ++ setup.stack_memory) }
 {
     let zero = zeros(alloc)?;
     let mut table = image.snapshot()?;

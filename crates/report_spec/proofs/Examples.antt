@@ -51,7 +51,7 @@ pub report_lines-hi :
       schedule = executed 0 ∷ executed 0 ∷ [];
       extras = no_extras;
       instructions = 8;
-      shares = 2 ∷ [];
+      worker_steps = 2 ∷ [];
       memory = memory;
       output = 0x68 ∷ 0x69 ∷ 0x0A ∷ [];
     })
@@ -69,8 +69,8 @@ pub report_lines-hi :
 unfolding digits
 report_lines-hi memory = refl
 
--- A reused entry has the mark =, four workers have four shares, what is reached stands behind what was executed, and
--- what a watcher read behind the shares.
+-- A reused entry has the mark =, four workers have four numbers of steps, what is reached stands behind what was
+-- executed, and what a watcher read behind these.
 pub report_lines-reused :
     (memory : Memory)
     → report_lines 12
@@ -79,7 +79,7 @@ pub report_lines-reused :
       schedule = reused 0 ∷ executed 31 ∷ [];
       extras = record { reached = Some 2; progress = Some (1 ∷ 2 ∷ []) };
       instructions = 7;
-      shares = 1 ∷ 0 ∷ 0 ∷ 1 ∷ [];
+      worker_steps = 1 ∷ 0 ∷ 0 ∷ 1 ∷ [];
       memory = memory;
       output = [];
     })

@@ -6,10 +6,10 @@ use Rattle.std.specs.List.{concat}
 use Rattle.hex.specs.Hex.{encode_lower, encode_with}
 use Rattle.sha2.specs.Sha256.{sha256}
 use Rattle.report_spec.specs.Text.{hex8}
-use Rattle.report_spec.specs.Report.{Told, memory_digest, report_lines, report_text}
+use Rattle.report_spec.specs.Report.{ReportData, memory_digest, report_lines, report_text}
 
 -- After the lines come the output's bytes as they are, and a newline.
-pub report_text-output : (n : ℕ) (t : Told) → report_text n t ≡ concat (report_lines n t) ++ t.output ++ 10 ∷ []
+pub report_text-output : (n : ℕ) (t : ReportData) → report_text n t ≡ concat (report_lines n t) ++ t.output ++ 10 ∷ []
 unfolding report_text
 report_text-output n t = refl
 

@@ -1,5 +1,5 @@
 -- The report of a round, as a function of the round's number, its setup, its schedule with marks, the lines that are
--- there only if they are asked for, and the workers' shares.
+-- there only if they are asked for, and the workers' steps.
 use Rattle.std.specs.Prelude.{ℕ, ◌+◌, Bool, true, false, not, if◌then◌else◌, List, [], ◌∷◌, ◌++◌, length, map, codes, count_by, Option, Some, None}
 use Rattle.std.specs.List.{concat}
 use Rattle.std.specs.Fmt.{decimal}
@@ -55,24 +55,24 @@ abbrev pub no_extras : Extras
 no_extras = record { reached = None; progress = None }
 
 -- What a report tells of a round.
-pub record Told : Type 0 where
+pub record ReportData : Type 0 where
   pub ending : Option End
   pub schedule : List Entry
   pub extras : Extras
   pub instructions : ℕ
-  pub shares : List ℕ
+  pub worker_steps : List ℕ
   pub memory : Memory
   pub output : List ℕ
 
 -- What there is to tell of the machine from scratch under a schedule.
-abbrev pub told_of : Setup → List Entry → Extras → List ℕ → Told
-told_of setup schedule extras shares =
+abbrev pub data_of : Setup → List Entry → Extras → List ℕ → ReportData
+data_of setup schedule extras worker_steps =
     record {
       ending = (scratch setup (threads_of schedule)).ending;
       schedule = schedule;
       extras = extras;
       instructions = instructions_from (first setup) schedule;
-      shares = shares;
+      worker_steps = worker_steps;
       memory = (scratch setup (threads_of schedule)).memory;
       output = (scratch setup (threads_of schedule)).output;
     }
@@ -99,7 +99,7 @@ progress_lines None = []
 progress_lines (Some numbers) = list_line (codes "progress") decimal numbers ∷ []
 
 -- The lines of the report of round n.
-abbrev pub report_lines : ℕ → Told → List (List ℕ)
+abbrev pub report_lines : ℕ → ReportData → List (List ℕ)
 report_lines n t =
     line (codes "round") (decimal n)
     ∷ line (codes "end") (ending_text t.ending)
@@ -108,7 +108,7 @@ report_lines n t =
     ∷ line (codes "executed") (decimal (executed_count t.schedule))
     ∷ reached_lines t.extras.reached
     ++ line (codes "instructions") (decimal t.instructions)
-    ∷ list_line (codes "by") decimal t.shares
+    ∷ list_line (codes "by") decimal t.worker_steps
     ∷ progress_lines t.extras.progress
     ++ list_line (codes "schedule") entry_text t.schedule
     ∷ line (codes "memory") (memory_digest t.memory)
@@ -116,10 +116,10 @@ report_lines n t =
     ∷ []
 
 -- The report of round n: its lines, the output's bytes, and a line's end.
-unfoldable pub report_text : ℕ → Told → List ℕ
+unfoldable pub report_text : ℕ → ReportData → List ℕ
 report_text n t = concat (report_lines n t) ++ t.output ++ newline
 
 -- The report of round n of a setup, whose schedule has these entries, with what is told only if it is asked for, and
--- whose workers had these shares.
+-- whose workers made so many steps each.
 unfoldable pub report : ℕ → Setup → List Entry → Extras → List ℕ → List ℕ
-report n setup schedule extras shares = report_text n (told_of setup schedule extras shares)
+report n setup schedule extras worker_steps = report_text n (data_of setup schedule extras worker_steps)

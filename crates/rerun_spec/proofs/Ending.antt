@@ -11,7 +11,7 @@ use Rattle.round_spec.specs.declared.events.Event.{Event}
 use Rattle.round_spec.specs.declared.events.Event.TheVariants.{Take, Reuse, Commit, GiveBack, Stop}
 use Rattle.round_spec.specs.Marks.{record_for}
 use Rattle.round_spec.specs.Schedules.{events_in}
-use Rattle.round_spec.specs.Rounds.{RoundState, opening, is_out, is_over, can_take, can_reuse, taken, reused_by, committed, given_back, happens, all_happen}
+use Rattle.round_spec.specs.Rounds.{RoundState, opening, is_in_flight, is_finished, can_take, can_reuse, taken, reused_by, committed, given_back, happens, all_happen}
 use Rattle.round_spec.specs.Keeping.{IsCounted}
 use Rattle.round_spec.proofs.Counting.{round-counted}
 use Rattle.round_spec.proofs.Leaving.{round-setup}
@@ -42,7 +42,7 @@ left-found workers r valid is = (round-counts r valid).threads ∙ ap threads_of
 -- it executes again no more than it must
 pub round-least : (workers : ℕ) (r : Round) → IsSetup r.setup → IsMade workers r → ReexecutesLeast (made r)
 round-least workers r valid is =
-    reexecutes-made workers r.setup r.past r.found.entries r.found.shares valid is
+    reexecutes-made workers r.setup r.past r.found.entries r.found.worker_steps valid is
 
 -- a round that has made no step has no end
 abbrev IsYoung : RoundState → Type 0
@@ -67,10 +67,10 @@ young-happens w (Reuse t) young =
     young-by (can_reuse w t) (reused_by w t (record_for w.past w.machine t)) w
     (young-reused w t (record_for w.past w.machine t) young) young
 young-happens w (Commit t) young =
-    young-by (is_out w t) (cond (is_over w) (given_back w t) (committed w t)) w
-    (young-by (is_over w) (given_back w t) (committed w t) young
+    young-by (is_in_flight w t) (cond (is_finished w) (given_back w t) (committed w t)) w
+    (young-by (is_finished w) (given_back w t) (committed w t) young
     (λ none. absurd (more-some w.schedule (record { thread = t; reused = false }) none))) young
-young-happens w (GiveBack t) young = young-by (is_out w t) (given_back w t) w young young
+young-happens w (GiveBack t) young = young-by (is_in_flight w t) (given_back w t) w young young
 young-happens w Stop young = young
 
 young-all : (w : RoundState) (es : List Event) → IsYoung w → IsYoung (all_happen w es)

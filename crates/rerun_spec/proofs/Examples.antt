@@ -8,9 +8,9 @@ use Rattle.machine_spec.specs.Limits.{Limits}
 use Rattle.machine_spec.specs.Setup.{Setup}
 use Rattle.history_spec.specs.History.{History}
 use Rattle.edit_spec.specs.Edit.{Edit, Set, Size}
-use Rattle.edit_spec.specs.Grammar.{Spells, IsEdit, Says, SpellBytes, lines}
-use Rattle.edit_spec.proofs.Spelling.{digits-decimal, same_around_space, other_word}
-use Rattle.edit_spec.proofs.Examples.{five, zero_is_spelled}
+use Rattle.edit_spec.specs.Grammar.{Encodes, IsEdit, Says, EncodeBytes, lines}
+use Rattle.edit_spec.proofs.Encoding.{digits-decimal, same_around_space, other_word}
+use Rattle.edit_spec.proofs.Examples.{five, zero_is_encoded}
 use Rattle.rerun_spec.specs.declared.Asked.{Asked}
 use Rattle.rerun_spec.specs.Inputs.{Makes, AreInputs, AreRerunInputs, BadLine, OutOfRange, IsFirstRefused}
 use Rattle.rerun_spec.specs.Rounds.{Found, Round, limits_of, with_input, with_limits, left_by, from_scratch, after_memo, round_on, after_round, rounds_after, after_rounds, last_left, IsRepeated, IsUneditedRerun}
@@ -18,13 +18,13 @@ use Rattle.rerun_spec.specs.Reports.{is_exit}
 use Rattle.edit_spec.proofs.Deciding.{no-byte-odd}
 
 -- the byte at offset 1 is 2 already
-same_byte_is_spelled : Spells (codes "set 1 02") (Set 1 (2 ∷ []))
+same_byte_is_encoded : Encodes (codes "set 1 02") (Set 1 (2 ∷ []))
 unfolding digits
-same_byte_is_spelled = (lit< tt, lit< tt, codes "02", (refl, refl, tt), refl)
+same_byte_is_encoded = (lit< tt, lit< tt, codes "02", (refl, refl, tt), refl)
 
 same_byte_is_said : Says (codes "set 1 02\n") (Ok (record { line = 1; edit = Set 1 (2 ∷ []) } ∷ []))
 unfolding lines
-same_byte_is_said = ((refl, same_byte_is_spelled), tt)
+same_byte_is_said = ((refl, same_byte_is_encoded), tt)
 
 same_byte : Makes (codes "set 1 02\n") five five
 same_byte = record { edits = record { line = 1; edit = Set 1 (2 ∷ []) } ∷ []; said = same_byte_is_said; done = refl }
@@ -44,7 +44,7 @@ inputs-unchanged = (refl, (same_byte, (nothing, tt)))
 -- the length 0
 empty_is_said : Says (codes "size 0") (Ok (record { line = 1; edit = Size 0 } ∷ []))
 unfolding lines
-empty_is_said = ((refl, zero_is_spelled), tt)
+empty_is_said = ((refl, zero_is_encoded), tt)
 
 -- The input of the second round is empty.
 pub inputs-emptied : AreInputs five (codes "size 0" ∷ []) (five ∷ [] ∷ [])
@@ -52,13 +52,13 @@ inputs-emptied =
     (refl, (record { edits = record { line = 1; edit = Size 0 } ∷ []; said = empty_is_said; done = refl }, tt))
 
 -- offset 4, of an input that the list before has emptied
-last_byte_is_spelled : Spells (codes "set 4 00") (Set 4 (0 ∷ []))
+last_byte_is_encoded : Encodes (codes "set 4 00") (Set 4 (0 ∷ []))
 unfolding digits
-last_byte_is_spelled = (lit< tt, lit< tt, codes "00", (refl, refl, tt), refl)
+last_byte_is_encoded = (lit< tt, lit< tt, codes "00", (refl, refl, tt), refl)
 
 last_byte_is_said : Says (codes "\nset 4 00") (Ok (record { line = 2; edit = Set 4 (0 ∷ []) } ∷ []))
 unfolding lines
-last_byte_is_said = ((refl, last_byte_is_spelled), tt)
+last_byte_is_said = ((refl, last_byte_is_encoded), tt)
 
 -- The second list is refused by its second line, whatever comes after it.
 pub refused-second :
@@ -70,14 +70,14 @@ refused-second rest = (
   (record { line = 2; edit = Set 4 (0 ∷ []) } ∷ [], last_byte_is_said, refl),
 )
 
--- one digit spells no byte
-half_byte : (edit : Edit) → Spells (codes "set 4 0") edit → ⊥
-half_byte (Set offset bytes) spelled =
+-- one digit encodes no byte
+half_byte : (edit : Edit) → Encodes (codes "set 4 0") edit → ⊥
+half_byte (Set offset bytes) encoded =
     let same =
-    same_around_space (codes "4") (decimal offset) (codes "0") spelled.2 refl (digits-decimal offset spelled.0)
-    (let all : codes "set 4 0" ≡ codes "set " ++ (decimal offset ++ 32 ∷ spelled.2) = spelled.4 in cc) in
-    no-byte-odd 48 bytes (subst (λ (ds : List ℕ). SpellBytes ds bytes) (sym same.1) spelled.3)
-half_byte (Size size) spelled = other_word (codes "set 4 0") refl (sym spelled.1)
+    same_around_space (codes "4") (decimal offset) (codes "0") encoded.2 refl (digits-decimal offset encoded.0)
+    (let all : codes "set 4 0" ≡ codes "set " ++ (decimal offset ++ 32 ∷ encoded.2) = encoded.4 in cc) in
+    no-byte-odd 48 bytes (subst (λ (ds : List ℕ). EncodeBytes ds bytes) (sym same.1) encoded.3)
+half_byte (Size size) encoded = other_word (codes "set 4 0") refl (sym encoded.1)
 
 half_byte_is_bad : (edit : IsEdit (codes "set 4 0")) → ⊥
 half_byte_is_bad edit = half_byte edit.0 edit.1

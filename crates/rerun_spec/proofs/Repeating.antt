@@ -98,22 +98,22 @@ again-unedited h r again = record { honest = again.honest; same = again.setup }
 
 again-made :
     (workers : ℕ) (h : History) (r : Round)
-    → IsAgain h r → IsMade workers r → IsMadeBy workers r.setup (Some h) r.found.entries r.found.shares
+    → IsAgain h r → IsMade workers r → IsMadeBy workers r.setup (Some h) r.found.entries r.found.worker_steps
 again-made workers h r again is =
-    subst (λ (p : Option History). IsMadeBy workers r.setup p r.found.entries r.found.shares) again.past is
+    subst (λ (p : Option History). IsMadeBy workers r.setup p r.found.entries r.found.worker_steps) again.past is
 
 -- its schedule is the history's
 pub again-schedule :
     (workers : ℕ) (h : History) (r : Round) → IsAgain h r → IsMade workers r → schedule_in r ≡ schedule_of h
 again-schedule workers h r again is =
-    workers-threads workers h r.setup r.found.entries r.found.shares (again-unedited h r again)
+    workers-threads workers h r.setup r.found.entries r.found.worker_steps (again-unedited h r again)
     (again-made workers h r again is)
 
 -- its round is all reuse of the history
 pub again-reuses : (workers : ℕ) (h : History) (r : Round) → IsAgain h r → IsMade workers r → OnlyReuses h (made r)
 again-reuses workers h r again is =
     subst (λ (p : Option History). OnlyReuses h (round_by r.setup p r.found.entries)) (sym again.past)
-    (workers-reuse workers h r.setup r.found.entries r.found.shares (again-unedited h r again)
+    (workers-reuse workers h r.setup r.found.entries r.found.worker_steps (again-unedited h r again)
     (again-made workers h r again is))
 
 pub again-instructions :

@@ -1,5 +1,5 @@
--- Without lists of edits there is one report, that of a run from scratch; reports and shares count right; and what is
--- told of a round as it was made is its report.
+-- Without lists of edits there is one report, that of a run from scratch; reports and workers' steps count right; and
+-- what is told of a round as it was made is its report.
 use Rattle.std.proofs.Common.{◌≡◌, ℕ, min, Bool, true, false, ◌&&◌, List, [], ◌∷◌, ◌++◌, length, map, drop, slice_get, sum, All, Option, Some, None, refl, ap, sym, ◌∙◌, arith}
 use Rattle.std.specs.List.{AllByRecursion, list_all}
 use Rattle.std.proofs.lemmas.List.{length-map, map-append}
@@ -11,7 +11,7 @@ use Rattle.machine_spec.specs.Setup.{Setup, IsSetup, first, scratch}
 use Rattle.machine_spec.specs.Choice.{alone}
 use Rattle.report_spec.specs.declared.Entry.{Entry}
 use Rattle.history_spec.specs.History.{History}
-use Rattle.report_spec.specs.Report.{Extras, threads_of, instructions_from, told_of, report_text, report}
+use Rattle.report_spec.specs.Report.{Extras, threads_of, instructions_from, data_of, report_text, report}
 use Rattle.round_spec.specs.Marks.{marked_from}
 use Rattle.round_spec.specs.Schedules.{events_in}
 use Rattle.round_spec.specs.Instructions.{executed_instructions}
@@ -21,7 +21,7 @@ use Rattle.round_spec.proofs.Leaving.{round-setup, round-past}
 use Rattle.rerun_spec.specs.declared.Asked.{Asked}
 use Rattle.rerun_spec.specs.Inputs.{AreInputs, AreRerunInputs, AreShort}
 use Rattle.rerun_spec.specs.Rounds.{limits_of, with_limits, Found, Round, made, IsMade, Beginning, from_scratch, after_memo, CanBegin, round_on, rounds_after, after_rounds, entries_of, IsUneditedRerun}
-use Rattle.rerun_spec.specs.Reports.{all_executed, extras_of, extras_in, made_extras, report_of, reports_of, is_exit, exits, all_exit, told_as_made, made_report, made_reports, made_exits, all_made_exit}
+use Rattle.rerun_spec.specs.Reports.{all_executed, extras_of, extras_in, made_extras, report_of, reports_of, is_exit, exits, all_exit, data_as_made, made_report, made_reports, made_exits, all_made_exit}
 use Rattle.rerun_spec.proofs.Inputs.{only-input}
 use Rattle.rerun_spec.proofs.Rounds.{IsSoundlyMade, each-made, each-round, count-after, scratch-begins, round-threads, round-entries, round-machine, round-alone}
 use Rattle.rerun_spec.proofs.Going.{rounds-later, rounds-one}
@@ -42,16 +42,16 @@ only-round b inputs f are =
 first-report :
     (setup : Setup) (asked : Asked) (f : Found)
     → reports_of (round_on (from_scratch setup asked) setup.input f ∷ [])
-    ≡ report 0 setup (all_executed (threads_of f.entries)) (extras_of asked None setup f.progress) f.shares ∷ []
+    ≡ report 0 setup (all_executed (threads_of f.entries)) (extras_of asked None setup f.progress) f.worker_steps ∷ []
 unfolding reports_of
 first-report setup asked f =
-    ap (λ (es : List Entry). report 0 setup es (extras_of asked None setup f.progress) f.shares ∷ []) (marks-nothing (first setup) (threads_of f.entries))
+    ap (λ (es : List Entry). report 0 setup es (extras_of asked None setup f.progress) f.worker_steps ∷ []) (marks-nothing (first setup) (threads_of f.entries))
 
 pub only-report :
     (setup : Setup) (asked : Asked) (inputs : List (List ℕ)) (f : Found)
     → AreInputs setup.input [] inputs
     → reports_of (rounds_after (from_scratch setup asked) inputs (f ∷ []))
-    ≡ report 0 setup (all_executed (threads_of f.entries)) (extras_of asked None setup f.progress) f.shares ∷ []
+    ≡ report 0 setup (all_executed (threads_of f.entries)) (extras_of asked None setup f.progress) f.worker_steps ∷ []
 only-report setup asked inputs f are =
     ap (λ (rs : List Round). reports_of rs) (only-round (from_scratch setup asked) inputs f are) ∙ first-report setup asked f
 
@@ -74,15 +74,15 @@ pub only-exits :
 only-exits setup asked inputs f are =
     ap (λ (rs : List Round). all_exit rs) (only-round (from_scratch setup asked) inputs f are) ∙ first-exits setup asked f
 
--- one worker makes it as the choice says, and has all shares
+-- one worker makes it as the choice says, and all steps are its own
 pub record IsAlone (setup : Setup) (f : Found) : Type 0 where
   pub threads : threads_of f.entries ≡ alone setup
-  pub shares : f.shares ≡ length (alone setup) ∷ []
+  pub worker_steps : f.worker_steps ≡ length (alone setup) ∷ []
 
-only-share : (shares : List ℕ) (steps : ℕ) → length shares ≡ 1 → sum shares ≡ steps → shares ≡ steps ∷ []
+only-share : (worker_steps : List ℕ) (steps : ℕ) → length worker_steps ≡ 1 → sum worker_steps ≡ steps → worker_steps ≡ steps ∷ []
 only-share [] steps one all = absurd (omega arith)
 only-share (share ∷ []) steps one all = let same : share ≡ steps = omega arith in ap (λ (n : ℕ). n ∷ []) same
-only-share (share ∷ other ∷ shares) steps one all = absurd (omega arith)
+only-share (share ∷ other ∷ worker_steps) steps one all = absurd (omega arith)
 
 alone-first :
     (setup : Setup) (asked : Asked) (f : Found) → IsSetup setup → IsMade 1 (round_on (from_scratch setup asked) setup.input f)
@@ -93,8 +93,8 @@ alone-first setup asked f valid made =
     round-alone r (record { can = scratch-begins setup asked valid; made = made }) ∙ one_worker-nothing setup in
     record {
       threads = threads;
-      shares =
-          only-share f.shares (length (alone setup)) made.each
+      worker_steps =
+          only-share f.worker_steps (length (alone setup)) made.each
           (made.steps ∙ sym (length-map f.entries (λ (e : Entry). e.thread))
           ∙ ap (λ (ts : List ℕ). length ts) threads);
     }
@@ -119,8 +119,8 @@ pub alone-report :
 alone-report setup asked inputs f valid are made =
     let is = only-alone setup asked inputs f valid are made in
     only-report setup asked inputs f are
-    ∙ ap (λ (ts : List ℕ). report 0 setup (all_executed ts) (extras_of asked None setup f.progress) f.shares ∷ []) is.threads
-    ∙ ap (λ (shares : List ℕ). report 0 setup (all_executed (alone setup)) (extras_of asked None setup f.progress) shares ∷ []) is.shares
+    ∙ ap (λ (ts : List ℕ). report 0 setup (all_executed ts) (extras_of asked None setup f.progress) f.worker_steps ∷ []) is.threads
+    ∙ ap (λ (worker_steps : List ℕ). report 0 setup (all_executed (alone setup)) (extras_of asked None setup f.progress) worker_steps ∷ []) is.worker_steps
 
 pub alone-exits :
     (setup : Setup) (asked : Asked) (inputs : List (List ℕ)) (f : Found)
@@ -162,15 +162,15 @@ pub made-count :
 unfolding made_reports
 made-count b inputs found = length-map (rounds_after b inputs found) made_report ∙ count-after b inputs found
 
-pub shares-steps : (workers : ℕ) (r : Round) → IsMade workers r → sum r.found.shares ≡ length (entries_of r)
-shares-steps workers r is =
+pub worker_steps-steps : (workers : ℕ) (r : Round) → IsMade workers r → sum r.found.worker_steps ≡ length (entries_of r)
+worker_steps-steps workers r is =
     is.steps
     ∙ sym (length-map r.found.entries (λ (e : Entry). e.thread))
     ∙ sym (ap (λ (ts : List ℕ). length ts) (round-threads r))
     ∙ length-map (entries_of r) (λ (e : Entry). e.thread)
 
-pub shares-made : (workers : ℕ) (r : Round) → IsMade workers r → sum r.found.shares ≡ length (made r).schedule
-shares-made workers r is = is.steps ∙ sym (ap (λ (es : List Entry). length es) is.stands)
+pub worker_steps-made : (workers : ℕ) (r : Round) → IsMade workers r → sum r.found.worker_steps ≡ length (made r).schedule
+worker_steps-made workers r is = is.steps ∙ sym (ap (λ (es : List Entry). length es) is.stands)
 
 -- a round's instructions, report and exit are those of the round as it was made
 instructions-made :
@@ -193,10 +193,10 @@ extras-made r =
 -- what was made is told as the machine from scratch is, under the same schedule
 told-made :
     (workers : ℕ) (r : Round) → IsSoundlyMade workers r
-    → told_as_made (made r) (made_extras r) r.found.shares ≡ told_of r.setup (made r).schedule (extras_in r) r.found.shares
+    → data_as_made (made r) (made_extras r) r.found.worker_steps ≡ data_of r.setup (made r).schedule (extras_in r) r.found.worker_steps
 told-made workers r is =
     let es = (made r).schedule in
-    let shares = r.found.shares in
+    let worker_steps = r.found.worker_steps in
     let machine : (made r).machine ≡ scratch r.setup (threads_of es) =
     round-machine workers r is
     ∙ ap (λ (l : List Entry). scratch r.setup (threads_of l)) (sym (round-entries workers r is)) in
@@ -205,7 +205,7 @@ told-made workers r is =
       schedule = es;
       extras = made_extras r;
       instructions = n;
-      shares = shares;
+      worker_steps = worker_steps;
       memory = (made r).machine.memory;
       output = (made r).machine.output;
     }) (instructions-made workers r is)
@@ -214,28 +214,28 @@ told-made workers r is =
       schedule = es;
       extras = made_extras r;
       instructions = instructions_from (first r.setup) es;
-      shares = shares;
+      worker_steps = worker_steps;
       memory = m.memory;
       output = m.output;
     }) machine
-    ∙ ap (λ (extras : Extras). told_of r.setup es extras shares) (extras-made r)
+    ∙ ap (λ (extras : Extras). data_of r.setup es extras worker_steps) (extras-made r)
 
 report-told :
-    (number : ℕ) (s : Setup) (es : List Entry) (extras : Extras) (shares : List ℕ)
-    → report_text number (told_of s es extras shares) ≡ report number s es extras shares
+    (number : ℕ) (s : Setup) (es : List Entry) (extras : Extras) (worker_steps : List ℕ)
+    → report_text number (data_of s es extras worker_steps) ≡ report number s es extras worker_steps
 unfolding report
-report-told number s es extras shares = refl
+report-told number s es extras worker_steps = refl
 
 pub report-entries :
     (workers : ℕ) (r : Round)
-    → IsSoundlyMade workers r → report_of r ≡ report r.number r.setup (made r).schedule (extras_in r) r.found.shares
+    → IsSoundlyMade workers r → report_of r ≡ report r.number r.setup (made r).schedule (extras_in r) r.found.worker_steps
 report-entries workers r is =
-    ap (λ (es : List Entry). report r.number r.setup es (extras_in r) r.found.shares) (sym (round-entries workers r is))
+    ap (λ (es : List Entry). report r.number r.setup es (extras_in r) r.found.worker_steps) (sym (round-entries workers r is))
 
 pub report-made : (workers : ℕ) (r : Round) → IsSoundlyMade workers r → made_report r ≡ report_of r
 report-made workers r is =
     ap (report_text r.number) (told-made workers r is)
-    ∙ report-told r.number r.setup (made r).schedule (extras_in r) r.found.shares
+    ∙ report-told r.number r.setup (made r).schedule (extras_in r) r.found.worker_steps
     ∙ sym (report-entries workers r is)
 
 pub exit-made : (workers : ℕ) (r : Round) → IsSoundlyMade workers r → made_exits r ≡ exits r

@@ -45,10 +45,10 @@ sound-any (Some h) s input sound = sound
 -- a round as its workers make it is the one that their schedule makes
 pub round-made :
     (workers : ℕ) (r : Round) → IsSoundlyMade workers r → made r ≡ made_by r.setup r.past (schedule_in r)
-round-made workers r is = workers-round workers r.setup r.past r.found.entries r.found.shares is.can is.made
+round-made workers r is = workers-round workers r.setup r.past r.found.entries r.found.worker_steps is.can is.made
 
 pub round-honest : (workers : ℕ) (r : Round) → IsSoundlyMade workers r → IsHonest (left_by r)
-round-honest workers r is = workers-honest workers r.setup r.past r.found.entries r.found.shares is.can is.made
+round-honest workers r is = workers-honest workers r.setup r.past r.found.entries r.found.worker_steps is.can is.made
 
 pub left-setup : (workers : ℕ) (r : Round) → IsSoundlyMade workers r → (left_by r).setup ≡ r.setup
 left-setup workers r is = ap (λ (w : RoundState). w.setup) (round-made workers r is)
@@ -197,19 +197,19 @@ pub round-permitted :
     (workers : ℕ) (r : Round) → IsSoundlyMade workers r → is_permitted r.setup (threads_of (entries_of r)) ≡ true
 round-permitted workers r is =
     ap (is_permitted r.setup) (round-threads r)
-    ∙ workers-permitted workers r.setup r.past r.found.entries r.found.shares is.can is.made
+    ∙ workers-permitted workers r.setup r.past r.found.entries r.found.worker_steps is.can is.made
 
 pub round-complete :
     (workers : ℕ) (r : Round) → IsSoundlyMade workers r → is_complete r.setup (threads_of (entries_of r)) ≡ true
 round-complete workers r is =
     ap (is_complete r.setup) (round-threads r)
-    ∙ workers-complete workers r.setup r.past r.found.entries r.found.shares is.can is.made
+    ∙ workers-complete workers r.setup r.past r.found.entries r.found.worker_steps is.can is.made
 
 pub round-entries : (workers : ℕ) (r : Round) → IsSoundlyMade workers r → (made r).schedule ≡ entries_of r
 round-entries workers r is = ap (λ (w : RoundState). w.schedule) (round-made workers r is)
 
 pub round-found : (workers : ℕ) (r : Round) → IsSoundlyMade workers r → r.found.entries ≡ entries_of r
-round-found workers r is = workers-marks workers r.setup r.past r.found.entries r.found.shares is.can is.made
+round-found workers r is = workers-marks workers r.setup r.past r.found.entries r.found.worker_steps is.can is.made
 
 pub round-picked : (workers : ℕ) (r : Round) → IsSoundlyMade workers r → IsPickedRightly r
 round-picked workers r is = is.made.picked is.can.sound
@@ -232,11 +232,11 @@ left-schedule workers r is =
     ∙ records-threads (first r.setup) (schedule_in r)
 
 pub round-ends : (workers : ℕ) (r : Round) → IsSoundlyMade workers r → is_some (machine_of r).ending ≡ true
-round-ends workers r is = workers-complete workers r.setup r.past r.found.entries r.found.shares is.can is.made
+round-ends workers r is = workers-complete workers r.setup r.past r.found.entries r.found.worker_steps is.can is.made
 
 -- what one worker makes
 pub round-lone : (r : Round) → IsMade 1 r → made r ≡ lone_round r.setup r.past
-round-lone r is = workers-alone r.setup r.past r.found.entries r.found.shares is
+round-lone r is = workers-alone r.setup r.past r.found.entries r.found.worker_steps is
 
 pub round-alone : (r : Round) → IsSoundlyMade 1 r → schedule_in r ≡ one_worker r.setup r.past
 round-alone r is =
@@ -267,23 +267,23 @@ zeros-sum : (n a : ℕ) → fold (λ (s : ℕ) (x : ℕ). s + x) a (replicate n 
 zeros-sum zero a = refl
 zeros-sum (suc n) a = let rest = zeros-sum n (a + 0) in omega arith
 
--- the shares where the first of the workers makes all steps
-abbrev shares_of_first : ℕ → ℕ → List ℕ
-shares_of_first workers steps = steps ∷ replicate (workers - 1) 0
+-- the steps of each worker where the first of the workers makes all steps
+abbrev worker_steps_of_first : ℕ → ℕ → List ℕ
+worker_steps_of_first workers steps = steps ∷ replicate (workers - 1) 0
 
-shares-count : (workers steps : ℕ) → 1 ≤ workers → length (shares_of_first workers steps) ≡ workers
-shares-count workers steps some =
+worker_steps-count : (workers steps : ℕ) → 1 ≤ workers → length (worker_steps_of_first workers steps) ≡ workers
+worker_steps-count workers steps some =
     let rest : length (replicate {A = ℕ} (workers - 1) 0) ≡ workers - 1 = length-replicate (workers - 1) 0 in
     omega arith
 
-shares-sum : (workers steps : ℕ) → sum (shares_of_first workers steps) ≡ steps
-shares-sum workers steps = let rest = zeros-sum (workers - 1) (0 + steps) in omega arith
+worker_steps-sum : (workers steps : ℕ) → sum (worker_steps_of_first workers steps) ≡ steps
+worker_steps-sum workers steps = let rest = zeros-sum (workers - 1) (0 + steps) in omega arith
 
 abbrev found_alone : ℕ → Setup → Option History → Found
 found_alone workers s past =
     record {
       entries = (lone_round s past).schedule;
-      shares = shares_of_first workers (length (lone_round s past).schedule);
+      worker_steps = worker_steps_of_first workers (length (lone_round s past).schedule);
       progress = length (lone_round s past).schedule ∷ [];
       turns = executed_instructions (lone_round s past).schedule (lone_round s past).records;
     }
@@ -294,8 +294,8 @@ alone-made :
 alone-made workers b input valid short some =
     let s = with_input b.setup input in
     let steps = length (lone_round s b.past).schedule in
-    lone-made workers s b.past (shares_of_first workers steps) (with-short b.setup input valid short)
-    (shares-count workers steps some) (shares-sum workers steps)
+    lone-made workers s b.past (worker_steps_of_first workers steps) (with-short b.setup input valid short)
+    (worker_steps-count workers steps some) (worker_steps-sum workers steps)
 
 some-after :
     (b : Beginning) (inputs : List (List ℕ)) (workers : ℕ) → IsSetup b.setup → EachShort inputs → 1 ≤ workers

@@ -32,7 +32,7 @@ AreRerunInputs first (list ∷ lists) inputs = AreMade first (list ∷ lists) in
 abbrev pub AreShort : List (List ℕ) → Type 0
 AreShort inputs = All (λ i. length i ≤ longest_input) inputs
 
--- Why a list of edits is refused, with the line's number: it spells no edit, or its edit passes its bound.
+-- Why a list of edits is refused, with the line's number: it encodes no edit, or its edit passes its bound.
 pub data Refusal : Type 0 where
   BadLine : ℕ → Refusal
   OutOfRange : ℕ → Refusal

@@ -6,7 +6,7 @@ use Rattle.machine_spec.specs.declared.states.End.TheVariants.{Exit}
 use Rattle.machine_spec.specs.Setup.{Setup}
 use Rattle.history_spec.specs.History.{History}
 use Rattle.report_spec.specs.declared.Entry.{Entry}
-use Rattle.report_spec.specs.Report.{Told, Extras, report, report_text}
+use Rattle.report_spec.specs.Report.{ReportData, Extras, report, report_text}
 use Rattle.round_spec.specs.Rounds.{RoundState}
 use Rattle.round_spec.specs.Instructions.{executed_instructions}
 use Rattle.reach_spec.specs.Reach.{reached_count}
@@ -30,9 +30,10 @@ extras_of asked past setup progress =
 abbrev pub extras_in : Round → Extras
 extras_in r = extras_of r.asked r.past r.setup r.found.progress
 
--- The report of a round: that of the machine from scratch under the schedule that its workers found, with their shares.
+-- The report of a round: that of the machine from scratch under the schedule that its workers found, with how many
+-- steps each of them made.
 abbrev pub report_of : Round → List ℕ
-report_of r = report r.number r.setup (entries_of r) (extras_in r) r.found.shares
+report_of r = report r.number r.setup (entries_of r) (extras_in r) r.found.worker_steps
 
 -- The reports of some rounds, in order.
 unfoldable pub reports_of : List Round → List (List ℕ)
@@ -51,16 +52,16 @@ exits r = is_exit (machine_of r).ending
 unfoldable pub all_exit : List Round → Bool
 all_exit rounds = list_all exits rounds
 
--- What there is to tell of a round as it stands, with what is told only if it is asked for, and the shares of its
--- workers; its instructions are those that the records of the executed entries count.
-abbrev pub told_as_made : RoundState → Extras → List ℕ → Told
-told_as_made w extras shares =
+-- What there is to tell of a round as it stands, with what is told only if it is asked for, and how many steps each of
+-- its workers made; its instructions are those that the records of the executed entries count.
+abbrev pub data_as_made : RoundState → Extras → List ℕ → ReportData
+data_as_made w extras worker_steps =
     record {
       ending = w.machine.ending;
       schedule = w.schedule;
       extras = extras;
       instructions = executed_instructions w.schedule w.records;
-      shares = shares;
+      worker_steps = worker_steps;
       memory = w.machine.memory;
       output = w.machine.output;
     }
@@ -71,7 +72,7 @@ made_extras r = extras_of r.asked (made r).past (made r).setup r.found.progress
 
 -- The text that is told of a round as it was made, by whatever history it went.
 abbrev pub made_report : Round → List ℕ
-made_report r = report_text r.number (told_as_made (made r) (made_extras r) r.found.shares)
+made_report r = report_text r.number (data_as_made (made r) (made_extras r) r.found.worker_steps)
 
 -- The texts that are told of some rounds as they were made, in order.
 unfoldable pub made_reports : List Round → List (List ℕ)

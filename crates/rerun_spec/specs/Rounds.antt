@@ -31,7 +31,7 @@ with_limits setup limits = record setup { fuel = limits.fuel; limit = limits.ste
 -- steps that a watcher read meanwhile, which are none where it wasn't asked for, and how many turns they were counted.
 pub record Found : Type 0 where
   pub entries : List Entry
-  pub shares : List ℕ
+  pub worker_steps : List ℕ
   pub progress : List ℕ
   pub turns : ℕ
 
@@ -57,7 +57,7 @@ made r = round_by r.setup r.past r.found.entries
 
 -- So many workers made a round.
 abbrev pub IsMade : ℕ → Round → Type 0
-IsMade workers r = IsMadeBy workers r.setup r.past r.found.entries r.found.shares
+IsMade workers r = IsMadeBy workers r.setup r.past r.found.entries r.found.worker_steps
 
 -- If its progress is asked for, what was read of it meanwhile is its progress.
 abbrev pub IsWatched : ℕ → Round → Type 0

@@ -53,7 +53,8 @@ pub fn inputs_or_a_refusal()
         → AreInputs input lists inputs
         → AreInputs input lists others
         → inputs ≡ others }
-    ensures one_refusal { (input : List ℕ) (lists : List (List ℕ)) (place elsewhere : ℕ) (why other : Refusal)
+    ensures one_refusal { (input : List ℕ) (lists : List (List ℕ)) (place elsewhere : ℕ)
+        (why other : Refusal)
         → IsFirstRefused input lists place why
         → IsFirstRefused input lists elsewhere other
         → (place ≡ elsewhere) × (why ≡ other) }
@@ -83,7 +84,8 @@ pub fn inputs_go_on()
         → slice_get inputs (length lists) ≡ Some current
         → Makes list current next
         → AreInputs input (lists ++ list ∷ []) (inputs ++ next ∷ []) }
-    ensures refused { (input : List ℕ) (lists inputs : List (List ℕ)) (current list : List ℕ) (why : Refusal)
+    ensures refused { (input : List ℕ) (lists inputs : List (List ℕ)) (current list : List ℕ)
+        (why : Refusal)
         (later : List (List ℕ))
         → AreInputs input lists inputs
         → slice_get inputs (length lists) ≡ Some current
@@ -142,10 +144,12 @@ pub fn rounds_follow_each_other()
         → map (λ (r : Round). r.found) (rounds_after b inputs found) ≡ take (length inputs) found }
     ensures asked { (b : Beginning) (inputs : List (List ℕ)) (found : List Found)
         → All (λ (r : Round). r.asked ≡ b.asked) (rounds_after b inputs found) }
-    ensures at { (b : Beginning) (inputs : List (List ℕ)) (found : List Found) (place : ℕ) (input : List ℕ) (f : Found)
+    ensures at { (b : Beginning) (inputs : List (List ℕ)) (found : List Found) (place : ℕ)
+        (input : List ℕ) (f : Found)
         → slice_get inputs place ≡ Some input
         → slice_get found place ≡ Some f
-        → (r : Round) × (slice_get (rounds_after b inputs found) place ≡ Some r) × (r.number ≡ b.number + place)
+        → (r : Round) × (slice_get (rounds_after b inputs found) place ≡ Some r)
+        × (r.number ≡ b.number + place)
         × (r.setup ≡ with_input b.setup input) × (r.found ≡ f) }
     ensures start { (b : Beginning) (lists inputs : List (List ℕ)) (found : List Found) (r : Round)
         → AreInputs b.setup.input lists inputs
@@ -154,10 +158,12 @@ pub fn rounds_follow_each_other()
     ensures past { (b : Beginning) (inputs : List (List ℕ)) (found : List Found) (r : Round)
         → slice_get (rounds_after b inputs found) 0 ≡ Some r
         → r.past ≡ b.past }
-    ensures none { (setup : Setup) (asked : AskedFor) (inputs : List (List ℕ)) (found : List Found) (r : Round)
+    ensures none { (setup : Setup) (asked : AskedFor) (inputs : List (List ℕ)) (found : List Found)
+        (r : Round)
         → slice_get (rounds_after (from_scratch setup asked) inputs found) 0 ≡ Some r
         → r.past ≡ None }
-    ensures left { (b : Beginning) (inputs : List (List ℕ)) (found : List Found) (place : ℕ) (before after : Round)
+    ensures left { (b : Beginning) (inputs : List (List ℕ)) (found : List Found) (place : ℕ)
+        (before after : Round)
         → slice_get (rounds_after b inputs found) place ≡ Some before
         → slice_get (rounds_after b inputs found) (suc place) ≡ Some after
         → after.past ≡ Some (left_by before) }
@@ -169,20 +175,26 @@ pub fn rounds_follow_each_other()
 pub fn rounds_go_on()
     ensures later { (b : Beginning) (inputs : List (List ℕ)) (found more : List Found)
         → rounds_after b inputs (found ++ more)
-        ≡ rounds_after b inputs found ++ rounds_after (after_rounds b inputs found) (drop (length found) inputs) more }
+        ≡ rounds_after b inputs found
+        ++ rounds_after (after_rounds b inputs found) (drop (length found) inputs) more }
     ensures after { (b : Beginning) (inputs : List (List ℕ)) (found more : List Found)
         → after_rounds b inputs (found ++ more)
         ≡ after_rounds (after_rounds b inputs found) (drop (length found) inputs) more }
-    ensures one { (b : Beginning) (inputs : List (List ℕ)) (found : List Found) (input : List ℕ) (f : Found)
+    ensures one { (b : Beginning) (inputs : List (List ℕ)) (found : List Found) (input : List ℕ)
+        (f : Found)
         → slice_get inputs (length found) ≡ Some input
         → rounds_after b inputs (found ++ f ∷ [])
         ≡ rounds_after b inputs found ++ round_on (after_rounds b inputs found) input f ∷ [] }
-    ensures next { (b : Beginning) (inputs : List (List ℕ)) (found : List Found) (input : List ℕ) (f : Found)
+    ensures next { (b : Beginning) (inputs : List (List ℕ)) (found : List Found) (input : List ℕ)
+        (f : Found)
         → slice_get inputs (length found) ≡ Some input
-        → after_rounds b inputs (found ++ f ∷ []) ≡ after_round (after_rounds b inputs found) input f }
-    ensures last { (b : Beginning) (inputs : List (List ℕ)) (found : List Found) (input : List ℕ) (f : Found)
+        → after_rounds b inputs (found ++ f ∷ [])
+        ≡ after_round (after_rounds b inputs found) input f }
+    ensures last { (b : Beginning) (inputs : List (List ℕ)) (found : List Found) (input : List ℕ)
+        (f : Found)
         → slice_get inputs (length found) ≡ Some input
-        → last_left b inputs (found ++ f ∷ []) ≡ left_by (round_on (after_rounds b inputs found) input f) }
+        → last_left b inputs (found ++ f ∷ [])
+        ≡ left_by (round_on (after_rounds b inputs found) input f) }
     ensures few { (b : Beginning) (inputs rest : List (List ℕ)) (found : List Found)
         → length found ≤ length inputs
         → rounds_after b (inputs ++ rest) found ≡ rounds_after b inputs found }
@@ -207,16 +219,20 @@ pub fn made_reports_go_on()
     ensures later { (b : Beginning) (inputs : List (List ℕ)) (found more : List Found)
         → made_reports (rounds_after b inputs (found ++ more))
         ≡ made_reports (rounds_after b inputs found)
-        ++ made_reports (rounds_after (after_rounds b inputs found) (drop (length found) inputs) more) }
-    ensures one { (b : Beginning) (inputs : List (List ℕ)) (found : List Found) (input : List ℕ) (f : Found)
+        ++ made_reports
+        (rounds_after (after_rounds b inputs found) (drop (length found) inputs) more) }
+    ensures one { (b : Beginning) (inputs : List (List ℕ)) (found : List Found) (input : List ℕ)
+        (f : Found)
         → slice_get inputs (length found) ≡ Some input
         → made_reports (rounds_after b inputs (found ++ f ∷ []))
         ≡ made_reports (rounds_after b inputs found)
         ++ made_report (round_on (after_rounds b inputs found) input f) ∷ [] }
-    ensures exits { (b : Beginning) (inputs : List (List ℕ)) (found : List Found) (input : List ℕ) (f : Found)
+    ensures exits { (b : Beginning) (inputs : List (List ℕ)) (found : List Found) (input : List ℕ)
+        (f : Found)
         → slice_get inputs (length found) ≡ Some input
         → all_made_exit (rounds_after b inputs (found ++ f ∷ []))
-        ≡ (all_made_exit (rounds_after b inputs found) && made_exits (round_on (after_rounds b inputs found) input f)) }
+        ≡ (all_made_exit (rounds_after b inputs found)
+        && made_exits (round_on (after_rounds b inputs found) input f)) }
 {}
 
 /// Whatever the first round goes by: each round may be run, and leaves the records of its own entries; where
@@ -294,7 +310,8 @@ pub fn each_round_may_be_made()
         → IsSetup b.setup
         → AreShort inputs
         → 1 ≤ workers
-        → (found : List Found) × (length found ≡ length inputs) × All (IsMade workers) (rounds_after b inputs found) }
+        → (found : List Found) × (length found ≡ length inputs)
+        × All (IsMade workers) (rounds_after b inputs found) }
 {}
 
 /// Each round, as its workers make it, is what its report tells: its entries, which they found, have exact marks and
@@ -308,12 +325,14 @@ pub fn each_round_is_from_scratch()
         → CanBegin b
         → AreShort inputs
         → All (IsMade workers) (rounds_after b inputs found)
-        → All (λ (r : Round). is_permitted r.setup (threads_of (entries_of r)) ≡ true) (rounds_after b inputs found) }
+        → All (λ (r : Round). is_permitted r.setup (threads_of (entries_of r)) ≡ true)
+        (rounds_after b inputs found) }
     ensures complete { (b : Beginning) (inputs : List (List ℕ)) (found : List Found) (workers : ℕ)
         → CanBegin b
         → AreShort inputs
         → All (IsMade workers) (rounds_after b inputs found)
-        → All (λ (r : Round). is_complete r.setup (threads_of (entries_of r)) ≡ true) (rounds_after b inputs found) }
+        → All (λ (r : Round). is_complete r.setup (threads_of (entries_of r)) ≡ true)
+        (rounds_after b inputs found) }
     ensures entries { (b : Beginning) (inputs : List (List ℕ)) (found : List Found) (workers : ℕ)
         → CanBegin b
         → AreShort inputs
@@ -352,18 +371,22 @@ pub fn each_round_is_from_scratch()
         → AreShort inputs
         → All (IsMade workers) (rounds_after b inputs found)
         → All (λ r. is_some (machine_of r).ending ≡ true) (rounds_after b inputs found) }
-    ensures instructions { (b : Beginning) (inputs : List (List ℕ)) (found : List Found) (workers : ℕ)
+    ensures instructions { (b : Beginning) (inputs : List (List ℕ)) (found : List Found)
+        (workers : ℕ)
         → CanBegin b
         → AreShort inputs
         → All (IsMade workers) (rounds_after b inputs found)
         → All (λ (r : Round).
-        executed_instructions (made r).schedule (made r).records ≡ instructions_from (first r.setup) (entries_of r))
+        executed_instructions (made r).schedule (made r).records
+        ≡ instructions_from (first r.setup) (entries_of r))
         (rounds_after b inputs found) }
     ensures report { (b : Beginning) (inputs : List (List ℕ)) (found : List Found) (workers : ℕ)
         → CanBegin b
         → AreShort inputs
         → All (IsMade workers) (rounds_after b inputs found)
-        → All (λ r. report_of r ≡ report r.number r.setup (made r).schedule (extras_in r) r.found.shares)
+        → All
+        (λ r. report_of r
+        ≡ report r.number r.setup (made r).schedule (extras_in r) r.found.worker_steps)
         (rounds_after b inputs found) }
     ensures exit { (b : Beginning) (inputs : List (List ℕ)) (found : List Found) (workers : ℕ)
         → CanBegin b
@@ -377,13 +400,15 @@ pub fn each_round_is_from_scratch()
         → CanBegin b
         → AreShort inputs
         → All (IsMade 1) (rounds_after b inputs found)
-        → All (λ (r : Round). schedule_in r ≡ one_worker r.setup r.past) (rounds_after b inputs found) }
+        → All (λ (r : Round). schedule_in r ≡ one_worker r.setup r.past)
+        (rounds_after b inputs found) }
     ensures executed { (b : Beginning) (inputs : List (List ℕ)) (found : List Found)
         → CanBegin b
         → AreShort inputs
         → All (IsMade 1) (rounds_after b inputs found)
         → All (λ (r : Round).
-        executed_in r.setup.limit (opening r.setup r.past) ≡ instructions_from (first r.setup) (entries_of r))
+        executed_in r.setup.limit (opening r.setup r.past)
+        ≡ instructions_from (first r.setup) (entries_of r))
         (rounds_after b inputs found) }
 {}
 
@@ -423,7 +448,8 @@ pub fn made_rounds_are_told_right()
 /// workers there are: no instruction is executed and nothing is discarded; and schedule and machine (so its end,
 /// output and final memory) are those of the round before. One worker would pick no step to be executed.
 pub fn repeated_round_executes_nothing()
-    ensures reuses { (b : Beginning) (inputs : List (List ℕ)) (found : List Found) (workers : ℕ) (before after : Round)
+    ensures reuses { (b : Beginning) (inputs : List (List ℕ)) (found : List Found) (workers : ℕ)
+        (before after : Round)
         → CanBegin b
         → AreShort inputs
         → All (IsMade workers) (rounds_after b inputs found)
@@ -450,7 +476,8 @@ pub fn repeated_round_executes_nothing()
         → All (IsMade workers) (rounds_after b inputs found)
         → IsRepeated (rounds_after b inputs found) before after
         → executed_in after.setup.limit (opening after.setup after.past) ≡ 0 }
-    ensures instructions { (b : Beginning) (inputs : List (List ℕ)) (found : List Found) (workers : ℕ)
+    ensures instructions { (b : Beginning) (inputs : List (List ℕ)) (found : List Found)
+        (workers : ℕ)
         (before after : Round)
         → CanBegin b
         → AreShort inputs
@@ -471,34 +498,40 @@ pub fn repeated_round_executes_nothing()
 /// is discarded; and schedule and machine (so its end, output and final memory) are those of the memo's round. One
 /// worker would pick no step to be executed.
 pub fn unedited_rerun_executes_nothing()
-    ensures reuses { (h : History) (limits : Limits) (asked : AskedFor) (inputs : List (List ℕ)) (found : List Found)
+    ensures reuses { (h : History) (limits : Limits) (asked : AskedFor) (inputs : List (List ℕ))
+        (found : List Found)
         (workers : ℕ) (r : Round)
         → IsHonest h
         → IsUneditedRerun h limits asked inputs found r
         → IsMade workers r
         → OnlyReuses h (made r) }
-    ensures schedule { (h : History) (limits : Limits) (asked : AskedFor) (inputs : List (List ℕ)) (found : List Found)
+    ensures schedule { (h : History) (limits : Limits) (asked : AskedFor) (inputs : List (List ℕ))
+        (found : List Found)
         (workers : ℕ) (r : Round)
         → IsHonest h
         → IsUneditedRerun h limits asked inputs found r
         → IsMade workers r
         → schedule_in r ≡ schedule_of h }
-    ensures never_runs { (h : History) (limits : Limits) (asked : AskedFor) (inputs : List (List ℕ)) (found : List Found)
+    ensures never_runs { (h : History) (limits : Limits) (asked : AskedFor)
+        (inputs : List (List ℕ)) (found : List Found)
         (r : Round) (n t : ℕ)
         → IsHonest h
         → IsUneditedRerun h limits asked inputs found r
         → pick_of (after_picks n (opening r.setup r.past)) ≢ pick.Run t }
-    ensures executed { (h : History) (limits : Limits) (asked : AskedFor) (inputs : List (List ℕ)) (found : List Found) (r : Round)
+    ensures executed { (h : History) (limits : Limits) (asked : AskedFor) (inputs : List (List ℕ))
+        (found : List Found) (r : Round)
         → IsHonest h
         → IsUneditedRerun h limits asked inputs found r
         → executed_in r.setup.limit (opening r.setup r.past) ≡ 0 }
-    ensures instructions { (h : History) (limits : Limits) (asked : AskedFor) (inputs : List (List ℕ)) (found : List Found)
+    ensures instructions { (h : History) (limits : Limits) (asked : AskedFor)
+        (inputs : List (List ℕ)) (found : List Found)
         (workers : ℕ) (r : Round)
         → IsHonest h
         → IsUneditedRerun h limits asked inputs found r
         → IsMade workers r
         → instructions_from (first r.setup) (entries_of r) ≡ 0 }
-    ensures machine { (h : History) (limits : Limits) (asked : AskedFor) (inputs : List (List ℕ)) (found : List Found)
+    ensures machine { (h : History) (limits : Limits) (asked : AskedFor) (inputs : List (List ℕ))
+        (found : List Found)
         (workers : ℕ) (r : Round)
         → IsHonest h
         → IsUneditedRerun h limits asked inputs found r
@@ -516,7 +549,8 @@ pub fn no_edit_list_is_one_round()
     ensures reports { (setup : Setup) (asked : AskedFor) (inputs : List (List ℕ)) (f : Found)
         → AreInputs setup.input [] inputs
         → reports_of (rounds_after (from_scratch setup asked) inputs (f ∷ []))
-        ≡ report 0 setup (all_executed (threads_of f.entries)) (extras_of asked None setup f.progress) f.shares ∷ [] }
+        ≡ report 0 setup (all_executed (threads_of f.entries))
+        (extras_of asked None setup f.progress) f.worker_steps ∷ [] }
     ensures exits { (setup : Setup) (asked : AskedFor) (inputs : List (List ℕ)) (f : Found)
         → AreInputs setup.input [] inputs
         → all_exit (rounds_after (from_scratch setup asked) inputs (f ∷ []))
@@ -526,35 +560,43 @@ pub fn no_edit_list_is_one_round()
         → AreInputs setup.input [] inputs
         → All (IsMade 1) (rounds_after (from_scratch setup asked) inputs (f ∷ []))
         → reports_of (rounds_after (from_scratch setup asked) inputs (f ∷ []))
-        ≡ report 0 setup (all_executed (alone setup)) (extras_of asked None setup f.progress) (length (alone setup) ∷ []) ∷ [] }
+        ≡ report 0 setup (all_executed (alone setup)) (extras_of asked None setup f.progress)
+        (length (alone setup) ∷ []) ∷ [] }
     ensures alone_exits { (setup : Setup) (asked : AskedFor) (inputs : List (List ℕ)) (f : Found)
         → IsSetup setup
         → AreInputs setup.input [] inputs
         → All (IsMade 1) (rounds_after (from_scratch setup asked) inputs (f ∷ []))
         → all_exit (rounds_after (from_scratch setup asked) inputs (f ∷ []))
         ≡ is_exit (scratch setup (alone setup)).ending }
-    ensures rerun { (h : History) (limits : Limits) (asked : AskedFor) (inputs : List (List ℕ)) (f : Found)
+    ensures rerun { (h : History) (limits : Limits) (asked : AskedFor) (inputs : List (List ℕ))
+        (f : Found)
         → AreRerunInputs h.setup.input [] inputs
         → rounds_after (after_memo h limits asked) inputs (f ∷ [])
-        ≡ record { number = 1; setup = with_limits h.setup limits; past = Some h; asked = asked; found = f } ∷ [] }
+        ≡ record {
+          number = 1;
+          setup = with_limits h.setup limits;
+          past = Some h;
+          asked = asked;
+          found = f;
+        } ∷ [] }
     ensures unedited { (h : History) (asked : AskedFor) (inputs : List (List ℕ)) (f : Found)
         → AreRerunInputs h.setup.input [] inputs
         → IsUneditedRerun h (limits_of h.setup) asked inputs (f ∷ [])
         (record { number = 1; setup = h.setup; past = Some h; asked = asked; found = f }) }
 {}
 
-/// There is a report for each round, and so for each input of which something was found; and the shares in the report
-/// of a round that workers made are as many as they are, and add up to the number of steps.
+/// There is a report for each round, and so for each input of which something was found; and the workers' steps in the
+/// report of a round that workers made are as many as they are, and add up to the number of steps.
 pub fn reports_count_right()
     ensures reports { (b : Beginning) (inputs : List (List ℕ)) (found : List Found)
         → length (reports_of (rounds_after b inputs found)) ≡ min (length inputs) (length found) }
     ensures made { (b : Beginning) (inputs : List (List ℕ)) (found : List Found)
         → length (made_reports (rounds_after b inputs found)) ≡ min (length inputs) (length found) }
-    ensures shares { (r : Round) (workers : ℕ) → IsMade workers r
-        → length r.found.shares ≡ workers }
+    ensures worker_steps { (r : Round) (workers : ℕ) → IsMade workers r
+        → length r.found.worker_steps ≡ workers }
     ensures steps { (r : Round) (workers : ℕ) → IsMade workers r
-        → sum r.found.shares ≡ length (entries_of r) }
+        → sum r.found.worker_steps ≡ length (entries_of r) }
     ensures steps_made { (r : Round) (workers : ℕ)
         → IsMade workers r
-        → sum r.found.shares ≡ length (made r).schedule }
+        → sum r.found.worker_steps ≡ length (made r).schedule }
 {}

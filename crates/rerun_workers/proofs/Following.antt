@@ -7,7 +7,7 @@ use Rattle.round_spec.specs.declared.events.Event.{Event}
 use Rattle.round_spec.specs.declared.events.Event.TheVariants.{Take, Reuse, Commit, GiveBack, Stop}
 use Rattle.round_spec.specs.declared.events.Pick.{Pick}
 use Rattle.round_spec.specs.declared.events.Pick.TheVariants as pick
-use Rattle.round_spec.specs.Rounds.{RoundState, opening, is_over, happens}
+use Rattle.round_spec.specs.Rounds.{RoundState, opening, is_finished, happens}
 use Rattle.round_spec.specs.Choice.{pick_of}
 use Rattle.round_spec.specs.Keeping.{IsInOrder}
 use Rattle.round_spec.specs.Unedited.{IsUnedited}
@@ -133,9 +133,9 @@ follows-given_up setup past w v t under is =
 pub never-begins :
     (setup : Setup) (past : Option History) (w : RoundState) (t : ℕ) (h : History)
     → FollowsPicks setup past w → pick_of w ≡ pick.Run t → past ≡ Some h → IsUnedited h setup → ⊥
-never-begins setup past w t h follows picked past_is unedited = by (is_over w) refl
+never-begins setup past w t h follows picked past_is unedited = by (is_finished w) refl
   where
-    by : (over : Bool) → is_over w ≡ over → ⊥
+    by : (over : Bool) → is_finished w ≡ over → ⊥
     by true is = let over = pick-over w is in let both : pick.Over ≡ pick.Run t = sym over ∙ picked in cc
     by false is =
         let next = replays-next h w unedited.honest (follows.replays h past_is unedited) is in

@@ -1,5 +1,5 @@
 -- What workers made of a round.
-use Rattle.std.proofs.Common.{◌≡◌, ◌+◌, ◌-◌, ◌<◌, ◌≤◌, ℕ, zero, suc, true, List, [], ◌∷◌, ◌++◌, length, sum, replicate, fold, Option, Some, is_some, refl, ap, sym, ◌∙◌, subst, arith}
+use Rattle.std.proofs.Common.{◌≡◌, ◌+◌, ◌-◌, ◌<◌, ◌≤◌, ℕ, zero, suc, true, List, [], ◌∷◌, length, sum, replicate, set, fold, Option, Some, is_some, refl, ap, sym, ◌∙◌, subst, arith}
 use Rattle.std.proofs.lemmas.List.{length-replicate}
 use Rattle.machine_spec.specs.Setup.{Setup, IsSetup}
 use Rattle.history_spec.specs.History.{History, IsSound}
@@ -35,24 +35,24 @@ alone-past setup past w is =
     ap (λ (x : RoundState). x.past) (is ∙ events.1) ∙ round-past setup past events.0
 
 pub alone-made :
-    (workers : ℕ) (setup : Setup) (past : Option History) (w : RoundState) (shares : List ℕ)
-    → w ≡ lone_round setup past → IsSetup setup → length shares ≡ workers → sum shares ≡ length w.schedule
-    → IsMadeBy workers setup past w.schedule shares
-alone-made workers setup past w shares is valid each steps =
-    subst (λ (x : RoundState). IsMadeBy workers setup past x.schedule shares) (sym is)
-    (lone-made workers setup past shares valid each (steps ∙ ap (λ (x : RoundState). length x.schedule) is))
+    (workers : ℕ) (setup : Setup) (past : Option History) (w : RoundState) (worker_steps : List ℕ)
+    → w ≡ lone_round setup past → IsSetup setup → length worker_steps ≡ workers → sum worker_steps ≡ length w.schedule
+    → IsMadeBy workers setup past w.schedule worker_steps
+alone-made workers setup past w worker_steps is valid each steps =
+    subst (λ (x : RoundState). IsMadeBy workers setup past x.schedule worker_steps) (sym is)
+    (lone-made workers setup past worker_steps valid each (steps ∙ ap (λ (x : RoundState). length x.schedule) is))
 
 -- and that of several, where it has an end
 pub together-made :
-    (workers : ℕ) (setup : Setup) (past : Option History) (w : RoundState) (shares : List ℕ)
+    (workers : ℕ) (setup : Setup) (past : Option History) (w : RoundState) (worker_steps : List ℕ)
     → 1 < workers → w.setup ≡ setup → w.past ≡ past → IsBySchedule w → is_some w.machine.ending ≡ true
-    → length shares ≡ workers → sum shares ≡ length w.schedule
+    → length worker_steps ≡ workers → sum worker_steps ≡ length w.schedule
     → FollowsPicks w.setup w.past w
-    → IsMadeBy workers setup past w.schedule shares
-together-made workers setup past w shares many is_setup is_past stands ended each steps follows =
-    subst (λ (s : Setup). IsMadeBy workers s past w.schedule shares) is_setup
-    (subst (λ (p : Option History). IsMadeBy workers w.setup p w.schedule shares) is_past
-    (ended-made workers w shares many stands ended each steps follows.replays follows.picked))
+    → IsMadeBy workers setup past w.schedule worker_steps
+together-made workers setup past w worker_steps many is_setup is_past stands ended each steps follows =
+    subst (λ (s : Setup). IsMadeBy workers s past w.schedule worker_steps) is_setup
+    (subst (λ (p : Option History). IsMadeBy workers w.setup p w.schedule worker_steps) is_past
+    (ended-made workers w worker_steps many stands ended each steps follows.replays follows.picked))
 
 -- what is picked so far was picked rightly, entry by entry
 pub entries-picked :
@@ -67,15 +67,15 @@ entries-picked setup past w setup_is past_is follows sound =
 -- so the round of one worker is what workers make, and that of several, if it has an end
 
 pub by-one :
-    (workers : ℕ) (setup : Setup) (past : Option History) (w : RoundState) (shares : List ℕ)
-    → w ≡ lone_round setup past → IsSetup setup → IsBySchedule w → length shares ≡ workers → sum shares ≡ length w.schedule
-    → IsRoundBy workers setup past w shares
-by-one workers setup past w shares is valid stands each steps =
+    (workers : ℕ) (setup : Setup) (past : Option History) (w : RoundState) (worker_steps : List ℕ)
+    → w ≡ lone_round setup past → IsSetup setup → IsBySchedule w → length worker_steps ≡ workers → sum worker_steps ≡ length w.schedule
+    → IsRoundBy workers setup past w worker_steps
+by-one workers setup past w worker_steps is valid stands each steps =
     record {
       setup = alone-setup setup past w is;
       past = alone-past setup past w is;
       stands = stands;
-      made = alone-made workers setup past w shares is valid each steps;
+      made = alone-made workers setup past w worker_steps is valid each steps;
       alone = λ one. is;
       picked = alone-picked setup past w valid is;
       least = alone-least setup past w valid is;
@@ -84,11 +84,11 @@ by-one workers setup past w shares is valid stands each steps =
     }
 
 pub by-several :
-    (workers : ℕ) (setup : Setup) (past : Option History) (w : RoundState) (shares : List ℕ)
+    (workers : ℕ) (setup : Setup) (past : Option History) (w : RoundState) (worker_steps : List ℕ)
     (turns : ℕ)
-    → 1 < workers → IsSetup w.setup → IsClosed setup past w shares turns → IsBySchedule w
-    → is_some w.machine.ending ≡ true → length shares ≡ workers → IsRoundBy workers setup past w shares
-by-several workers setup past w shares turns many valid closed stands ended each =
+    → 1 < workers → IsSetup w.setup → IsClosed setup past w worker_steps turns → IsBySchedule w
+    → is_some w.machine.ending ≡ true → length worker_steps ≡ workers → IsRoundBy workers setup past w worker_steps
+by-several workers setup past w worker_steps turns many valid closed stands ended each =
     let is_setup = closed.setup in
     let is_past = closed.past in
     let follows = closed.follows in
@@ -99,7 +99,7 @@ by-several workers setup past w shares turns many valid closed stands ended each
       setup = is_setup;
       past = is_past;
       stands = stands;
-      made = together-made workers setup past w shares many is_setup is_past stands ended each closed.steps own;
+      made = together-made workers setup past w worker_steps many is_setup is_past stands ended each closed.steps own;
       alone = λ one. absurd (let no : 1 < workers = many in omega (arith, one, no));
       picked = entries-picked setup past w is_setup is_past follows;
       least = reexecutes-picked w w.picked valid stands (entries-picked w.setup w.past w refl refl own);
@@ -109,42 +109,40 @@ by-several workers setup past w shares turns many valid closed stands ended each
           (own.replays h (is_past ∙ is) (subst (IsUnedited h) (sym is_setup) unedited)) ended;
     }
 
--- the shares where the first made all
-
-replicate-more : (n : ℕ) → replicate {A = ℕ} (suc n) 0 ≡ replicate {A = ℕ} n 0 ++ 0 ∷ []
-replicate-more zero = refl
-replicate-more (suc n) = ap (λ (l : List ℕ). 0 ∷ l) (replicate-more n)
+-- the steps of each worker where the first made all
 
 pub first-each :
-    (workers steps : ℕ) (shares : List ℕ) → 1 ≤ workers → shares ≡ steps ∷ replicate (workers - 1) 0 → length shares ≡ workers
-first-each workers steps shares some is =
+    (workers steps : ℕ) (worker_steps : List ℕ) → 1 ≤ workers → worker_steps ≡ steps ∷ replicate (workers - 1) 0 → length worker_steps ≡ workers
+first-each workers steps worker_steps some is =
     let rest : length (replicate {A = ℕ} (workers - 1) 0) ≡ workers - 1 = length-replicate (workers - 1) 0 in
     ap (length {A = ℕ}) is ∙ omega arith
 
-pub first-more :
-    (made steps : ℕ) (shares next : List ℕ)
-    → 1 ≤ made → shares ≡ steps ∷ replicate (made - 1) 0 → next ≡ shares ++ 0 ∷ []
-    → next ≡ steps ∷ replicate (made + 1 - 1) 0
-first-more made steps shares next some is more =
-    let count : suc (made - 1) ≡ made + 1 - 1 = omega arith in
-    more ∙ ap (λ (l : List ℕ). l ++ 0 ∷ []) is
-    ∙ ap (λ (l : List ℕ). steps ∷ l) (sym (replicate-more (made - 1)) ∙ ap (λ (n : ℕ). replicate {A = ℕ} n 0) count)
+pub first_set :
+    (workers steps : ℕ) (zeros worker_steps : List ℕ)
+    → 1 ≤ workers → zeros ≡ replicate {A = ℕ} workers 0 → worker_steps ≡ set zeros 0 steps
+    → worker_steps ≡ steps ∷ replicate (workers - 1) 0
+first_set zero steps zeros worker_steps some none is = absurd (omega (arith, some))
+first_set (suc n) steps zeros worker_steps some none is =
+    let count : n ≡ suc n - 1 = omega arith in
+    is
+    ∙ ap (λ (l : List ℕ). set l 0 steps) none
+    ∙ ap (λ (k : ℕ). steps ∷ replicate {A = ℕ} k 0) count
 
 zeros-sum : (n a : ℕ) → fold (λ (s : ℕ) (x : ℕ). s + x) a (replicate n 0) ≡ a
 zeros-sum zero a = refl
 zeros-sum (suc n) a = let rest = zeros-sum n (a + 0) in omega arith
 
-pub first-sum : (workers steps : ℕ) (shares : List ℕ) → shares ≡ steps ∷ replicate (workers - 1) 0 → sum shares ≡ steps
-first-sum workers steps shares is =
+pub first-sum : (workers steps : ℕ) (worker_steps : List ℕ) → worker_steps ≡ steps ∷ replicate (workers - 1) 0 → sum worker_steps ≡ steps
+first-sum workers steps worker_steps is =
     let rest = zeros-sum (workers - 1) (0 + steps) in ap sum is ∙ omega arith
 
 -- what a round cost that one worker made, beside turns that were made before
 pub cost-first :
-    (workers spent turns : ℕ) (s : Setup) (before : Option History) (w : RoundState) (shares : List ℕ)
-    → IsRoundBy workers s before w shares → turns ≡ spent + executed_by w
+    (workers spent turns : ℕ) (s : Setup) (before : Option History) (w : RoundState) (worker_steps : List ℕ)
+    → IsRoundBy workers s before w worker_steps → turns ≡ spent + executed_by w
     → (workers ≡ 1 → spent ≡ 0) → ((h : History) → before ≡ Some h → IsUnedited h s → spent ≡ 0)
     → IsCostOf workers s before w turns
-cost-first workers spent turns s before w shares by rise one none =
+cost-first workers spent turns s before w worker_steps by rise one none =
     record {
       alone = λ single. let zero = one single in omega (arith, rise, zero);
       idle = λ h there unedited.
@@ -156,9 +154,9 @@ cost-first workers spent turns s before w shares by rise one none =
 
 -- and one that several made together
 pub cost-several :
-    (workers turns : ℕ) (s : Setup) (before : Option History) (w : RoundState) (shares : List ℕ)
-    → 1 < workers → IsClosed s before w shares turns → IsCostOf workers s before w turns
-cost-several workers turns s before w shares many closed =
+    (workers turns : ℕ) (s : Setup) (before : Option History) (w : RoundState) (worker_steps : List ℕ)
+    → 1 < workers → IsClosed s before w worker_steps turns → IsCostOf workers s before w turns
+cost-several workers turns s before w worker_steps many closed =
     record {
       alone = λ one. absurd (let no : 1 < workers = many in omega (arith, one, no));
       idle = closed.idle;

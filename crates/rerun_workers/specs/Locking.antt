@@ -12,8 +12,8 @@ use Rattle.round_spec.specs.Choice.{pick_of}
 use Rattle.propagate.specs.Committing.{CanCommit}
 use Rattle.rerun_workers.specs.declared.locked.Task.{Task}
 use Rattle.rerun_workers.specs.declared.locked.Task.TheVariants as task
-use Rattle.rerun_workers.specs.declared.locked.Landed.{Landed}
-use Rattle.rerun_workers.specs.declared.locked.Landed.TheVariants as landed
+use Rattle.rerun_workers.specs.declared.locked.CommitOutcome.{CommitOutcome}
+use Rattle.rerun_workers.specs.declared.locked.CommitOutcome.TheVariants as outcome
 
 -- Whether a pick is to reuse a record or to execute a step.
 abbrev pub is_something : Pick → Bool
@@ -35,7 +35,7 @@ settled zero w = w
 settled (suc n) w = with_reuse (settled n w) (pick_of (settled n w))
 
 -- What a worker is told to do on a round that was settled, and the round then: a step to begin is the one that is
--- picked, and was taken; to hold and that it is over it is told where that is picked; and where memory ran out the
+-- picked, and was taken; to hold and that it is finished it is told where that is picked; and where memory ran out the
 -- round was stopped.
 abbrev pub TellsAfter : RoundState → Task → RoundState → Type 0
 TellsAfter w (task.Begin job) new =
@@ -82,27 +82,27 @@ given_up w t = happens (happens w (GiveBack t)) Stop
 
 -- What comes of a run that a worker hands in: where it can be committed, it is an entry; where it can't, it is handed
 -- back and its thread is no longer out; and where it can be but memory ran out, so it is, and the round was stopped.
-abbrev pub Lands : RoundState → Run → Landed → RoundState → Type 0
-Lands old run landed.Done new =
+abbrev pub Lands : RoundState → Run → CommitOutcome → RoundState → Type 0
+Lands old run outcome.Done new =
     CanCommit old (arc_value run.frame) (arc_value run.rec) × (new ≡ happens old (Commit (arc_value run.rec).thread))
-Lands old run (landed.Stale back) new =
+Lands old run (outcome.Stale back) new =
     (CanCommit old (arc_value run.frame) (arc_value run.rec) → ⊥) × (back ≡ run)
     × (new ≡ happens old (GiveBack (arc_value run.rec).thread))
-Lands old run (landed.Memory back) new =
+Lands old run (outcome.Memory back) new =
     CanCommit old (arc_value run.frame) (arc_value run.rec) × (back ≡ run)
     × (new ≡ given_up old (arc_value run.rec).thread)
 
 -- How many steps a worker has made by a run that it handed in.
-abbrev pub steps_by : Landed → ℕ
-steps_by landed.Done = 1
-steps_by (landed.Stale back) = 0
-steps_by (landed.Memory back) = 0
+abbrev pub steps_by : CommitOutcome → ℕ
+steps_by outcome.Done = 1
+steps_by (outcome.Stale back) = 0
+steps_by (outcome.Memory back) = 0
 
 -- A run that isn't an entry is handed back as it was.
-abbrev pub HandsBack : Run → Landed → Type 0
-HandsBack run landed.Done = ⊤
-HandsBack run (landed.Stale back) = back ≡ run
-HandsBack run (landed.Memory back) = back ≡ run
+abbrev pub HandsBack : Run → CommitOutcome → Type 0
+HandsBack run outcome.Done = ⊤
+HandsBack run (outcome.Stale back) = back ≡ run
+HandsBack run (outcome.Memory back) = back ≡ run
 
 -- A worker's steps rose by the entries that came to the round.
 abbrev pub Counts : ℕ → RoundState → ℕ → RoundState → Type 0

@@ -15,24 +15,24 @@ use Rattle.rerun_workers.specs.Following.{FollowsPicks}
 -- A round of a setup, by a history if there is one, that so many workers made, and how many of its steps each of them
 -- made: it stands by its schedule; one worker makes the round of the choice; by a sound history each entry was picked
 -- rightly; it executes no more than it must; it has an end; and without an edit it is all reuse of the history.
-pub record IsRoundBy (workers : ℕ) (s : Setup) (before : Option History) (w : RoundState) (shares : List ℕ) : Type 0
+pub record IsRoundBy (workers : ℕ) (s : Setup) (before : Option History) (w : RoundState) (worker_steps : List ℕ) : Type 0
   where
     pub setup : w.setup ≡ s
     pub past : w.past ≡ before
     pub stands : IsBySchedule w
-    pub made : IsMadeBy workers s before w.schedule shares
+    pub made : IsMadeBy workers s before w.schedule worker_steps
     pub alone : workers ≡ 1 → w ≡ lone_round s before
     pub picked : IsSound before s → ArePicked s before w.schedule w.picked
     pub least : ReexecutesLeast w
     pub ends : is_some w.machine.ending ≡ true
     pub unedited : (h : History) → before ≡ Some h → IsUnedited h s → OnlyReuses h w
 
--- A round after its board was closed, over or not, the shares of its workers and their counters of turns as one: only
--- what was picked was begun; the shares add up to the steps; and without an edit the counter is 0.
-pub record IsClosed (s : Setup) (before : Option History) (w : RoundState) (shares : List ℕ) (turns : ℕ) : Type 0 where
+-- A round after its board was closed, finished or not, how many steps each worker made and their counters of turns as
+-- one: only what was picked was begun; these numbers add up to the steps; and without an edit the counter is 0.
+pub record IsClosed (s : Setup) (before : Option History) (w : RoundState) (worker_steps : List ℕ) (turns : ℕ) : Type 0 where
   pub setup : w.setup ≡ s
   pub past : w.past ≡ before
-  pub steps : sum shares ≡ length w.schedule
+  pub steps : sum worker_steps ≡ length w.schedule
   pub follows : FollowsPicks s before w
   pub idle : (h : History) → before ≡ Some h → IsUnedited h s → turns ≡ 0
 

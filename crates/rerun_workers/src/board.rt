@@ -2,13 +2,13 @@
 //!
 //! Nothing that can be done is left while a worker sleeps, but for as long as a short step takes. Only a call under
 //! the lock changes what there is to do. Whoever made the last such call was told to hold, and then there is nothing to
-//! do; or that the round is over, and then all are woken; or else it is awake: it is on its way to ask again, or it
+//! do; or that the round is finished, and then all are woken; or else it is awake: it is on its way to ask again, or it
 //! executes a step. If that is a short one, it asks when it is done; if it runs long, it looks then whether there is
 //! something for another worker, and wakes one of those who wait, who asks in its turn, and made the last call then. To
 //! hold, a worker lets go of the lock and waits in one: so it misses nobody who wakes it for what came after it asked.
 //! A worker that is held at its gate asks and looks only when it is past it.
 
-ghost use Rattle.std.specs.Prelude.{◌≡◌, ◌≢◌, ◌+◌, ◌<◌, ◌≤◌, All, length, map, replicate, sum, sum_by, vec_len, vec_capacity, Some, [], IfOk, Decides};
+ghost use Rattle.std.specs.Prelude.{◌≡◌, ◌≢◌, ◌+◌, ◌<◌, ◌≤◌, All, length, map, replicate, sum, sum_by, vec_len, vec_capacity, Some, [], IfOk};
 ghost use Rattle.std.specs.Arc.{arc_value};
 ghost use Rattle.machine_spec.specs.Setup.{first};
 ghost use Rattle.history_spec.specs.History.{History};
@@ -16,43 +16,39 @@ ghost use Rattle.round_spec.specs.Rounds.{opening};
 ghost use Rattle.round_spec.specs.Unedited.{IsUnedited};
 ghost use Rattle.rerun_workers.specs.declared.locked.Task.TheVariants as task;
 ghost use Rattle.rerun_workers.specs.Making.{IsClosed};
-ghost use Rattle.rerun_workers.specs.Watching.{IsCounting};
 ghost use Rattle.rerun_workers.specs.Passes.{held};
 ghost use Rattle.rerun_workers.specs.Locking.{BeginsIn, BeginsNothing, begun_by, IsReady, HandsBack, steps_by};
 
-use super::locked::{Landed, Locked, Task};
+use super::locked::{CommitOutcome, Locked, Task};
 use super::naming::{Naming, Pass};
-use super::watching::{Counter, Watch, Watched};
+use super::watching::{Counter, Watch, WatchedRound};
 use propagate::Round;
 use std::alloc::{AllocError, Global};
 use std::sync::ledger::{Blank, Share};
 use std::sync::{Condvar, Mutex, Wait};
 use std::thread::Threads;
-use thunk_record::Frame;
 use thunk_run::{Job, Run};
 use turn_count::Turns;
 
-/// What workers share: the round under a lock, the condition that there is work or none any more, and the page map and the
-/// fuel of the round's steps. A worker executes outside the lock, and who watches the round takes none.
+/// What workers share: the round under a lock, and the condition that there is work or none any more. A worker executes
+/// outside the lock, and who watches the round takes none.
 #[derive(Drop)]
 pub struct Board<J: Naming> {
     lock: Mutex<Locked<J>>,
     changed: Condvar,
-    frame: Frame,
-    shares: Vec<u64>,
+    worker_steps: Vec<u64>,
     numbers: Vec<u64>,
-    ghost framed: { frame ≡ (first J.setup).frame },
-    ghost none: { (shares.items ≡ []) × (numbers.items ≡ []) },
-    ghost room: { (J.workers ≤ vec_capacity shares) × (J.watches ≤ vec_capacity numbers) },
+    ghost none: { (worker_steps.items ≡ []) × (numbers.items ≡ []) },
+    ghost room: { (J.workers ≤ vec_capacity worker_steps) × (J.watches ≤ vec_capacity numbers) },
 }
 
 /// A round that workers made.
 #[derive(Drop)]
-pub struct Worked {
+pub struct ClosedRound {
     /// The round.
     pub round: Round,
     /// How many of its steps each worker made.
-    pub shares: Vec<u64>,
+    pub worker_steps: Vec<u64>,
     /// The counters of its workers as one.
     pub turns: Turns,
 }
@@ -77,15 +73,57 @@ fn passes_of<J: Naming, R: Threads>(
     Ok(passes)
 }
 
+/// What there is of a board beside its round, before the first step.
+#[derive(Drop)]
+struct Places<J: Naming> {
+    /// A pass for each worker.
+    passes: Vec<Pass<J>>,
+    /// Room for a number of steps for each worker.
+    worker_steps: Vec<u64>,
+    /// Room for a number for each watch.
+    numbers: Vec<u64>,
+}
+
+/// Passes for so many workers, none of whom has made a step, and room to list what they made and what so many watches
+/// are given.
+fn places_of<J: Naming, R: Threads>(
+    rt: &R,
+    alloc: Global,
+    all: Share<J>,
+    workers: u32,
+    watches: u32,
+) -> Result<Places<J>, AllocError>
+    requires parts { all.parts ≡ workers }
+    requires amount { all.amount ≡ 0 }
+    ensures count { IfOk result (λ places. vec_len places.passes ≡ workers) }
+    ensures nothing { IfOk result (λ places. All (λ pass. pass.steps ≡ 0) places.passes.items) }
+    ensures none { IfOk result (λ places. (places.worker_steps.items ≡ [])
+        × (places.numbers.items ≡ [])) }
+    ensures room { IfOk result (λ places. (workers ≤ vec_capacity places.worker_steps)
+        × (watches ≤ vec_capacity places.numbers)) }
+{
+    let worker_steps = Vec::with_capacity(alloc, workers as usize)?;
+    let numbers = Vec::with_capacity(alloc, watches as usize)?;
+    let passes = passes_of(rt, alloc, all, workers)?;
+    Ok(Places {
+        passes,
+        worker_steps,
+        numbers,
+    })
+}
+
 /// All shares as one, the steps of each pass in their order, and all counters of turns as one, which is 0 without an
 /// edit.
-fn gather<J: Naming>(mut passes: Vec<Pass<J>>, mut shares: Vec<u64>) -> (Share<J>, Vec<u64>, Turns)
+fn gather<J: Naming>(
+    mut passes: Vec<Pass<J>>,
+    mut worker_steps: Vec<u64>,
+) -> (Share<J>, Vec<u64>, Turns)
     requires some { 0 < vec_len passes }
-    requires none { shares.items ≡ [] }
-    requires room { vec_len passes ≤ vec_capacity shares }
+    requires none { worker_steps.items ≡ [] }
+    requires room { vec_len passes ≤ vec_capacity worker_steps }
     ensures parts { result.0.parts ≡ vec_len passes }
     ensures amount { result.0.amount ≡ sum result.1.items }
-    ensures shares { result.1.items ≡ map (λ pass. pass.steps) passes.items }
+    ensures worker_steps { result.1.items ≡ map (λ pass. pass.steps) passes.items }
     ensures turns { result.2 ≡ sum_by (λ pass. pass.turns) passes.items }
     ensures idle { (h : History) → J.past ≡ Some h → IsUnedited h J.setup → result.2 ≡ 0 }
 {
@@ -95,7 +133,7 @@ fn gather<J: Naming>(mut passes: Vec<Pass<J>>, mut shares: Vec<u64>) -> (Share<J
         steps,
         ..
     } = passes.remove(0);
-    shares.push_reserved(steps);
+    worker_steps.push_reserved(steps);
     while !passes.is_empty() {
         let Pass {
             share,
@@ -105,9 +143,9 @@ fn gather<J: Naming>(mut passes: Vec<Pass<J>>, mut shares: Vec<u64>) -> (Share<J
         } = passes.remove(0);
         all.merge(share);
         turns.merge(more);
-        shares.push_reserved(steps);
+        worker_steps.push_reserved(steps);
     }
-    (all, shares, turns)
+    (all, worker_steps, turns)
 }
 
 /// So many watches of the word that counts the steps of a round.
@@ -126,6 +164,33 @@ fn watches_of<J: Naming>(
         seats.push(counter.split::<J>()?)?;
     }
     Ok(seats)
+}
+
+/// Places for so many workers, and so many watches of the word that counts the steps.
+fn watched_places<J: Naming, R: Threads>(
+    rt: &R,
+    alloc: Global,
+    all: Share<J>,
+    counter: &mut Counter,
+    workers: u32,
+    watches: u32,
+) -> Result<(Places<J>, Vec<Watch<J>>), AllocError>
+    requires parts { all.parts ≡ workers }
+    requires amount { all.amount ≡ 0 }
+    requires table { counter.old.writer.table ≡ J.table }
+    ensures count { IfOk result (λ made. (vec_len made.0.passes ≡ workers)
+        × (vec_len made.1 ≡ watches)) }
+    ensures nothing { IfOk result (λ made. All (λ pass. pass.steps ≡ 0) made.0.passes.items) }
+    ensures none { IfOk result (λ made. (made.0.worker_steps.items ≡ [])
+        × (made.0.numbers.items ≡ [])) }
+    ensures room { IfOk result (λ made. (workers ≤ vec_capacity made.0.worker_steps)
+        × (watches ≤ vec_capacity made.0.numbers)) }
+    ensures added { counter.new.writer.added ≡ counter.old.writer.added }
+    ensures table { counter.new.writer.table ≡ counter.old.writer.table }
+{
+    let places = places_of(rt, alloc, all, workers, watches)?;
+    let seats = watches_of(alloc, counter, watches)?;
+    Ok((places, seats))
 }
 
 /// Takes all watches back. What each of them has seen, the last look at the word sees too, and it stands in the list once
@@ -174,9 +239,13 @@ impl<J: Naming> Board<J> {
         ensures nothing { IfOk result (λ made. All (λ pass. pass.steps ≡ 0) made.1.items) }
     {
         let (book, all) = blank.open::<J>();
-        let board = Board::opened(alloc, Locked::new(round, book, None), workers, 0)?;
-        let passes = passes_of(rt, alloc, all, workers)?;
-        Ok((board, passes))
+        let Places {
+            passes,
+            worker_steps,
+            numbers,
+        } = places_of(rt, alloc, all, workers, 0)?;
+        let locked = Locked::new(round, book, None);
+        Ok((Board::opened(locked, worker_steps, numbers), passes))
     }
 
     /// The board of a round before its first step, a pass for each of its workers, none of whom has made a step, and
@@ -188,7 +257,7 @@ impl<J: Naming> Board<J> {
     pub fn with_watches<R: Threads>(
         rt: &R,
         alloc: Global,
-        watched: Watched,
+        watched: WatchedRound,
         workers: u32,
         watches: u32,
         blank: Blank,
@@ -203,34 +272,30 @@ impl<J: Naming> Board<J> {
             × (vec_len made.2 ≡ watches)) }
         ensures nothing { IfOk result (λ made. All (λ pass. pass.steps ≡ 0) made.1.items) }
     {
-        let Watched { round, mut counter } = watched;
+        let WatchedRound { round, mut counter } = watched;
         let (book, all) = blank.open::<J>();
-        let seats = watches_of(alloc, &mut counter, watches)?;
+        let (places, seats) = watched_places(rt, alloc, all, &mut counter, workers, watches)?;
+        let Places {
+            passes,
+            worker_steps,
+            numbers,
+        } = places;
         let locked = Locked::new(round, book, Some(counter));
-        let board = Board::opened(alloc, locked, workers, watches)?;
-        let passes = passes_of(rt, alloc, all, workers)?;
-        Ok((board, passes, seats))
+        Ok((Board::opened(locked, worker_steps, numbers), passes, seats))
     }
 
-    /// The board of a round under its lock.
-    fn opened(
-        alloc: Global,
-        locked: Locked<J>,
-        workers: u32,
-        watches: u32,
-    ) -> Result<Board<J>, AllocError>
-        requires { (workers ≡ J.workers) × (watches ≡ J.watches) }
+    /// The board of a round under its lock, with room for what is listed when it is closed.
+    fn opened(locked: Locked<J>, worker_steps: Vec<u64>, numbers: Vec<u64>) -> Board<J>
+        requires none { (worker_steps.items ≡ []) × (numbers.items ≡ []) }
+        requires room { (J.workers ≤ vec_capacity worker_steps)
+            × (J.watches ≤ vec_capacity numbers) }
     {
-        let shares = Vec::with_capacity(alloc, workers as usize)?;
-        let numbers = Vec::with_capacity(alloc, watches as usize)?;
-        let frame = locked.round.frame()?;
-        Ok(Board {
+        Board {
             lock: Mutex::new(locked),
             changed: Condvar::new(),
-            frame,
-            shares,
+            worker_steps,
             numbers,
-        })
+        }
     }
 
     /// How many steps of the round were made, by one look at the word that counts them. It takes no lock and no memory,
@@ -259,7 +324,8 @@ impl<J: Naming> Board<J> {
             → BeginsNothing result }
         ensures asked { pass.old.asked.number < pass.new.asked.number }
         ensures taken { pass.new.taken.number ≡ pass.old.taken.number + begun_by result }
-        ensures ready { IsReady result (pass.new.ran.number + held pass.new.begun) pass.new.taken.number }
+        ensures ready { IsReady result
+            (pass.new.ran.number + held pass.new.begun) pass.new.taken.number }
     {
         let mut locked = self.lock.lock(rt);
         for _ in rt.forever() {
@@ -282,7 +348,7 @@ impl<J: Naming> Board<J> {
     }
 
     /// Wakes one of those who wait, if there is something for it to do. Whose step runs long does it once.
-    pub(super) fn share<R: Wait>(&self, rt: &R) {
+    pub(super) fn wake_another<R: Wait>(&self, rt: &R) {
         if self.has_more(rt) {
             self.changed.notify_one();
         }
@@ -291,48 +357,18 @@ impl<J: Naming> Board<J> {
     /// Commits a run of one of the round's own steps to the round under the lock, or says why it can't. It ran with the
     /// round's page map and fuel, so that isn't asked. Who commits asks for the next step then; where memory ran out
     /// nobody has to ask, and all are woken.
-    pub(super) fn commit_own<R: Wait>(&self, rt: &R, pass: &mut Pass<J>, run: Run) -> Landed
+    pub fn commit<R: Wait>(&self, rt: &R, pass: &mut Pass<J>, run: Run) -> CommitOutcome
         requires own { arc_value run.frame ≡ (first J.setup).frame }
         ensures back { HandsBack run result }
         ensures counts { pass.new.steps ≡ pass.old.steps + steps_by result }
         ensures handed { pass.new.handed.number ≡ pass.old.handed.number + 1 }
         ensures taken { pass.new.taken.number ≡ pass.old.taken.number }
     {
-        self.commit_known(rt, pass, run, true)
-    }
-
-    /// Commits any run to the round under the lock, or says why it can't. What takes longest, to look whether it ran
-    /// with the round's page map, is done before. Where memory ran out nobody has to ask any more, and all are woken.
-    pub fn commit<R: Wait>(&self, rt: &R, pass: &mut Pass<J>, run: Run) -> Landed
-        ensures back { HandsBack run result }
-        ensures counts { pass.new.steps ≡ pass.old.steps + steps_by result }
-        ensures handed { pass.new.handed.number ≡ pass.old.handed.number + 1 }
-        ensures taken { pass.new.taken.number ≡ pass.old.taken.number }
-    {
-        let same_frame = *run.frame == self.frame;
-        self.commit_known(rt, pass, run, same_frame)
-    }
-
-    /// Commits a run to the round under the lock, or says why it can't, where it is known whether it ran with the
-    /// round's page map and fuel.
-    fn commit_known<R: Wait>(
-        &self,
-        rt: &R,
-        pass: &mut Pass<J>,
-        run: Run,
-        same_frame: bool,
-    ) -> Landed
-        requires { Decides same_frame (arc_value run.frame ≡ (first J.setup).frame) }
-        ensures back { HandsBack run result }
-        ensures counts { pass.new.steps ≡ pass.old.steps + steps_by result }
-        ensures handed { pass.new.handed.number ≡ pass.old.handed.number + 1 }
-        ensures taken { pass.new.taken.number ≡ pass.old.taken.number }
-    {
-        let landed = self.lock.lock(rt).commit(pass, run, same_frame);
-        if matches!(landed, Landed::Memory(_)) {
+        let outcome = self.lock.lock(rt).commit(pass, run);
+        if matches!(outcome, CommitOutcome::Memory(_)) {
             self.changed.notify_all();
         }
-        landed
+        outcome
     }
 
     /// Discards the step of a job that couldn't be executed, and stops the round under the lock.
@@ -347,44 +383,55 @@ impl<J: Naming> Board<J> {
 
     /// When all passes are back: the round, how many steps each worker made, in the order of the passes, and their
     /// counters of turns as one, which is 0 without an edit. Takes no memory.
-    pub fn close(self, passes: Vec<Pass<J>>) -> Worked
+    pub fn close(self, passes: Vec<Pass<J>>) -> ClosedRound
         requires all { vec_len passes ≡ J.parts }
         requires workers { (vec_len passes ≡ J.workers) × (0 < vec_len passes) }
-        ensures closed { IsClosed J.setup J.past result.round result.shares.items result.turns }
-        ensures shares { result.shares.items ≡ map (λ pass. pass.steps) passes.items }
+        ensures closed { IsClosed J.setup J.past result.round result.worker_steps.items
+            result.turns }
+        ensures worker_steps { result.worker_steps.items ≡ map (λ pass. pass.steps) passes.items }
         ensures turns { result.turns ≡ sum_by (λ pass. pass.turns) passes.items }
     {
-        let Board { lock, shares, .. } = self;
+        let Board {
+            lock,
+            worker_steps,
+            ..
+        } = self;
         let Locked {
             round,
             mut book,
             ..
         } = lock.into_inner();
-        let (mut all, shares, turns) = gather(passes, shares);
+        let (mut all, worker_steps, turns) = gather(passes, worker_steps);
         book.audit(&mut all);
-        Worked {
+        ClosedRound {
             round,
-            shares,
+            worker_steps,
             turns,
         }
     }
 
     /// As `close`, and for each watch, when all are back, how many steps the round has, by one last look at the word,
     /// after all that the watches saw. Takes no memory.
-    pub fn close_watched(self, passes: Vec<Pass<J>>, watches: Vec<Watch<J>>) -> (Worked, Vec<u64>)
+    pub fn close_watched(
+        self,
+        passes: Vec<Pass<J>>,
+        watches: Vec<Watch<J>>,
+    ) -> (ClosedRound, Vec<u64>)
         requires all { vec_len passes ≡ J.parts }
         requires workers { (vec_len passes ≡ J.workers) × (0 < vec_len passes) }
         requires watches { (vec_len watches ≡ J.watches) × (0 < vec_len watches) }
-        ensures closed { IsClosed J.setup J.past result.0.round result.0.shares.items result.0.turns }
-        ensures shares { result.0.shares.items ≡ map (λ pass. pass.steps) passes.items }
+        ensures closed { IsClosed J.setup J.past result.0.round result.0.worker_steps.items
+            result.0.turns }
+        ensures worker_steps { result.0.worker_steps.items ≡ map (λ pass. pass.steps) passes.items }
         ensures turns { result.0.turns ≡ sum_by (λ pass. pass.turns) passes.items }
         ensures numbers { result.1.items
             ≡ replicate (vec_len watches) (length result.0.round.schedule) }
-        ensures seen { All (λ watch. watch.reader.seen ≤ length result.0.round.schedule) watches.items }
+        ensures seen { All
+            (λ watch. watch.reader.seen ≤ length result.0.round.schedule) watches.items }
     {
         let Board {
             lock,
-            shares,
+            worker_steps,
             numbers,
             ..
         } = self;
@@ -393,15 +440,15 @@ impl<J: Naming> Board<J> {
             mut book,
             counter,
         } = lock.into_inner();
-        let (mut all, shares, turns) = gather(passes, shares);
+        let (mut all, worker_steps, turns) = gather(passes, worker_steps);
         book.audit(&mut all);
         let Some(counter) = counter else {
             unreachable!()
         };
         let numbers = last_numbers(counter, watches, numbers);
-        let worked = Worked {
+        let worked = ClosedRound {
             round,
-            shares,
+            worker_steps,
             turns,
         };
         (worked, numbers)

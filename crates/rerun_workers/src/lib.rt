@@ -13,9 +13,9 @@ mod watched;
 mod watching;
 mod working;
 
-pub use board::{Board, Worked};
-pub use locked::{Landed, Locked, Task};
+pub use board::{Board, ClosedRound};
+pub use locked::{CommitOutcome, Locked, Task};
 pub use naming::{Naming, Pass};
 pub use running::{run_round, run_round_watched};
-pub use watching::{Counter, Watch, Watched};
+pub use watching::{Counter, Watch, WatchedRound};
 pub use working::work;

@@ -1,6 +1,6 @@
 //! The round under the lock: each call does some of its events, and names them.
 
-ghost use Rattle.std.specs.Prelude.{◌≡◌, ◌+◌, ◌<◌, ◌≤◌, ℕ, true, length, Some, is_ok, is_some, if◌then◌else◌, IfSome, Decides, OnOk, OnErr};
+ghost use Rattle.std.specs.Prelude.{◌≡◌, ◌+◌, ◌<◌, ◌≤◌, ℕ, true, length, Some, is_ok, is_some, if◌then◌else◌, IfSome, OnOk, OnErr};
 ghost use Rattle.std.specs.Arc.{arc_value};
 ghost use Rattle.atomic_table.specs.Seated.{TableId};
 ghost use Rattle.machine_spec.specs.declared.TheConstants.{MOST_STEPS};
@@ -12,7 +12,7 @@ ghost use Rattle.round_spec.specs.Rounds.{opening, can_take, can_reuse, happens}
 ghost use Rattle.round_spec.specs.Choice.{pick_of};
 ghost use Rattle.round_spec.specs.Unedited.{IsUnedited};
 ghost use Rattle.propagate.specs.Committing.{GoesOn};
-ghost use Rattle.propagate.specs.Kept.{IsValid};
+ghost use Rattle.propagate.specs.Consistency.{IsValid};
 ghost use Rattle.rerun_workers.specs.Following.{FollowsPicks};
 ghost use Rattle.std.proofs.Props.{props};
 ghost use Rattle.rerun_workers.specs.Watching.{IsCounting};
@@ -34,7 +34,7 @@ pub enum Task {
     Begin(Job),
     /// To wait until another worker is done.
     Hold,
-    /// Nothing any more: the round is over.
+    /// Nothing any more: the round is finished.
     Over,
     /// Nothing any more: the host's memory ran out, and the round was stopped.
     Memory,
@@ -42,11 +42,11 @@ pub enum Task {
 
 /// What came of a run that a worker handed in.
 #[derive(Drop)]
-pub enum Landed {
+pub enum CommitOutcome {
     /// It is an entry of the schedule, and its thread is no longer out.
     Done,
-    /// It can't be committed, and is handed back: the round is over, the step ran on another page map
-    /// or with another fuel than the round's, its thread isn't out, or its record doesn't fit. Its
+    /// It can't be committed, and is handed back: the round is finished, the step ran on another page map
+    /// or with another fuel than the round's, its thread isn't in flight, or its record doesn't fit. Its
     /// thread is no longer out; if it was, one step more was discarded.
     Stale(Run),
     /// The host's memory ran out, and the run is handed back. Its thread is no longer out; if it was,
@@ -71,18 +71,18 @@ pub struct Locked<J: Naming> {
     ghost follows: { FollowsPicks J.setup J.past round },
 }
 
-/// Discards the step of thread `t`, if one is out.
+/// Discards the step of thread `t`, if one is in flight.
 fn discard(round: &mut Round, t: u8)
     ensures event { round.new ≡ happens round.old (event.GiveBack t) }
     ensures same { GoesOn 0 round.old round.new }
     ensures valid { IsValid round.old }
 {
-    if round.is_out(t) {
+    if round.is_in_flight(t) {
         round.give_back(t);
     }
 }
 
-/// Discards the step of thread `t`, if one is out, and stops the round.
+/// Discards the step of thread `t`, if one is in flight, and stops the round.
 fn give_up(round: &mut Round, t: u8)
     ensures events { round.new ≡ given_up round.old t }
     ensures same { GoesOn 0 round.old round.new }
@@ -190,7 +190,8 @@ impl<J: Naming> Locked<J> {
             → BeginsNothing result }
         ensures asked { pass.new.asked.number ≡ pass.old.asked.number + 1 }
         ensures taken { pass.new.taken.number ≡ pass.old.taken.number + begun_by result }
-        ensures ready { IsReady result (pass.new.ran.number + held pass.new.begun) pass.new.taken.number }
+        ensures ready { IsReady result
+            (pass.new.ran.number + held pass.new.begun) pass.new.taken.number }
     {
         pass.asked.raise(1);
         loop {
@@ -224,10 +225,10 @@ impl<J: Naming> Locked<J> {
         }
     }
 
-    /// Commits a run, and counts it as a step of this worker; or says why it can't. Whether it ran with the page map and
-    /// the fuel of the round's setup is known.
-    pub fn commit(&mut self, pass: &mut Pass<J>, run: Run, same_frame: bool) -> Landed
-        requires { Decides same_frame (arc_value run.frame ≡ (first J.setup).frame) }
+    /// Commits a run, which had the page map and the fuel of the round's setup, and counts it as a step of this worker;
+    /// or says why it can't.
+    pub fn commit(&mut self, pass: &mut Pass<J>, run: Run) -> CommitOutcome
+        requires own { arc_value run.frame ≡ (first J.setup).frame }
         ensures does { Lands self.old.round run result self.new.round }
         ensures back { HandsBack run result }
         ensures made { pass.new.steps ≡ pass.old.steps + steps_by result }
@@ -248,22 +249,22 @@ impl<J: Naming> Locked<J> {
         } = pass;
         handed.raise(1);
         book.audit(share);
-        match round.commit_known(run, same_frame) {
+        match round.commit_own(run) {
             Committed::Done => {
                 book.add(share, 1);
                 *steps += 1;
                 count(counter);
-                Landed::Done
+                CommitOutcome::Done
             }
-            Committed::Stale(run) => Landed::Stale(run),
+            Committed::Stale(run) => CommitOutcome::Stale(run),
             Committed::Memory(run) => {
                 give_up(round, run.rec.thread());
-                Landed::Memory(run)
+                CommitOutcome::Memory(run)
             }
         }
     }
 
-    /// Discards the step of a job that couldn't be executed, if its thread is out, and stops the round.
+    /// Discards the step of a job that couldn't be executed, if its thread is in flight, and stops the round.
     pub fn fail(&mut self, pass: &mut Pass<J>, job: &Job)
         ensures does { self.new.round ≡ given_up self.old.round job.now.thread }
         ensures counts { pass.new.steps ≡ pass.old.steps }

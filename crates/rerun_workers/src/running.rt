@@ -2,16 +2,16 @@
 
 ghost use Rattle.std.specs.Prelude.{◌≡◌, ◌-◌, ◌<◌, ◌≤◌, ◌∷◌, Some, length, replicate, option_map, IfOk};
 ghost use Rattle.std.specs.Arc.{arc_value};
-ghost use Rattle.history_spec.specs.History.{History as Kept};
+ghost use Rattle.history_spec.specs.History.{History as OldHistory};
 ghost use Rattle.round_spec.specs.Rounds.{opening};
 ghost use Rattle.round_spec.specs.Unedited.{IsUnedited};
 ghost use Rattle.worker_spec.specs.Watching.{IsProgress};
 ghost use Rattle.rerun_workers.specs.Making.{IsRoundBy, IsClosed, IsCostOf};
 
-use super::board::{Board, Worked};
+use super::board::{Board, ClosedRound};
 use super::naming::Naming;
 use super::watched::run_watched;
-use super::watching::{Counter, Watched};
+use super::watching::{Counter, WatchedRound};
 use super::working::work_together;
 use ith_host::Gate;
 use propagate::{Round, run_alone_shown};
@@ -23,17 +23,15 @@ use std::sync::{Arc, Wait};
 use std::thread::Threads;
 use turn_count::Turns;
 
-/// The shares where the first worker made all steps.
+/// The steps of each worker where the first worker made all steps.
+#[tactic(auto, using(crate::proofs::Made::first_set))]
 fn first_makes(alloc: Global, steps: u64, workers: u32) -> Result<Vec<u64>, AllocError>
     requires { 1 ≤ workers }
-    ensures { IfOk result (λ shares. shares.items ≡ steps ∷ replicate (workers - 1) 0) }
+    ensures { IfOk result (λ worker_steps. worker_steps.items ≡ steps ∷ replicate (workers - 1) 0) }
 {
-    let mut shares = Vec::new(alloc);
-    shares.push(steps)?;
-    for made in 1..workers {
-        shares.push(0)?;
-    }
-    Ok(shares)
+    let mut worker_steps = vec![in alloc; 0; workers as usize]?;
+    worker_steps[0] = steps;
+    Ok(worker_steps)
 }
 
 /// A round of which the first of so many workers makes all steps. The counter rises by the round's turns; it is 0 before,
@@ -45,28 +43,28 @@ fn run_by_first<G: Gate>(
     workers: u32,
     gate: &G,
     mut turns: Turns,
-) -> Result<Worked, AllocError>
+) -> Result<ClosedRound, AllocError>
     requires some { 1 ≤ workers }
     requires unused { workers ≡ 1 → turns ≡ 0 }
-    requires idle { (h : Kept) → option_map arc_value past ≡ Some h → IsUnedited h setup
+    requires idle { (h : OldHistory) → option_map arc_value past ≡ Some h → IsUnedited h setup
         → turns ≡ 0 }
     ensures round { IfOk result (λ r.
-        IsRoundBy workers setup (option_map arc_value past) r.round r.shares.items) }
-    ensures shares { IfOk result (λ r. r.shares.items
+        IsRoundBy workers setup (option_map arc_value past) r.round r.worker_steps.items) }
+    ensures worker_steps { IfOk result (λ r. r.worker_steps.items
         ≡ length r.round.schedule ∷ replicate (workers - 1) 0) }
     ensures cost { IfOk result
         (λ r. IsCostOf workers setup (option_map arc_value past) r.round r.turns) }
 {
     let round = run_alone_shown(alloc, setup, past, &mut turns, gate)?;
-    let shares = first_makes(alloc, round.schedule().len() as u64, workers)?;
-    Ok(Worked {
+    let worker_steps = first_makes(alloc, round.schedule().len() as u64, workers)?;
+    Ok(ClosedRound {
         round,
-        shares,
+        worker_steps,
         turns,
     })
 }
 
-/// The same, of which the number of its steps alone is read, when it is over.
+/// The same, of which the number of its steps alone is read, when it is finished.
 fn run_by_first_watched<G: Gate>(
     alloc: Global,
     setup: Setup,
@@ -74,14 +72,14 @@ fn run_by_first_watched<G: Gate>(
     workers: u32,
     gate: &G,
     turns: Turns,
-) -> Result<(Worked, Vec<u64>), AllocError>
+) -> Result<(ClosedRound, Vec<u64>), AllocError>
     requires some { 1 ≤ workers }
     requires unused { workers ≡ 1 → turns ≡ 0 }
-    requires idle { (h : Kept) → option_map arc_value past ≡ Some h → IsUnedited h setup
+    requires idle { (h : OldHistory) → option_map arc_value past ≡ Some h → IsUnedited h setup
         → turns ≡ 0 }
     ensures round { IfOk result (λ r.
-        IsRoundBy workers setup (option_map arc_value past) r.0.round r.0.shares.items) }
-    ensures shares { IfOk result (λ r. r.0.shares.items
+        IsRoundBy workers setup (option_map arc_value past) r.0.round r.0.worker_steps.items) }
+    ensures worker_steps { IfOk result (λ r. r.0.worker_steps.items
         ≡ length r.0.round.schedule ∷ replicate (workers - 1) 0) }
     ensures cost { IfOk result
         (λ r. IsCostOf workers setup (option_map arc_value past) r.0.round r.0.turns) }
@@ -93,7 +91,7 @@ fn run_by_first_watched<G: Gate>(
     Ok((worked, numbers))
 }
 
-/// A round that so many workers made together until it was over, or until the host's memory ran out.
+/// A round that so many workers made together until it was finished, or until the host's memory ran out.
 // Its frame holds rounds by value, and stands by itself, so that it isn't added to its caller's.
 #[inline(never)]
 fn run_together<J: Naming + Send + Sync, R: Threads + Wait + Sync, G: Gate + Sync>(
@@ -103,14 +101,15 @@ fn run_together<J: Naming + Send + Sync, R: Threads + Wait + Sync, G: Gate + Syn
     workers: u32,
     gate: &G,
     blank: Blank,
-) -> Result<Worked, AllocError>
+) -> Result<ClosedRound, AllocError>
     requires name { blank.name ≡ J.name }
     requires parts { (blank.parts ≡ J.parts) × (J.parts ≡ workers) }
     requires workers { (workers ≡ J.workers) × (1 ≤ workers) }
     requires unwatched { J.watches ≡ 0 }
     requires opening { round ≡ opening J.setup J.past }
-    ensures closed { IfOk result (λ r. IsClosed J.setup J.past r.round r.shares.items r.turns) }
-    ensures each { IfOk result (λ r. length r.shares.items ≡ workers) }
+    ensures closed { IfOk result
+        (λ r. IsClosed J.setup J.past r.round r.worker_steps.items r.turns) }
+    ensures each { IfOk result (λ r. length r.worker_steps.items ≡ workers) }
 {
     let (board, mut passes) = Board::<J>::new(rt, alloc, round, workers, blank)?;
     work_together(rt, alloc, &board, passes.as_mut_slice(), gate);
@@ -135,10 +134,10 @@ pub fn run_round<R: Threads + Wait + Sync, G: Gate + Sync>(
     past: Option<Arc<History>>,
     workers: u32,
     gate: &G,
-) -> Result<Worked, AllocError>
+) -> Result<ClosedRound, AllocError>
     requires { 1 ≤ workers }
     ensures round { IfOk result (λ r.
-        IsRoundBy workers setup (option_map arc_value past) r.round r.shares.items) }
+        IsRoundBy workers setup (option_map arc_value past) r.round r.worker_steps.items) }
     ensures cost { IfOk result
         (λ r. IsCostOf workers setup (option_map arc_value past) r.round r.turns) }
 {
@@ -157,7 +156,7 @@ pub fn run_round<R: Threads + Wait + Sync, G: Gate + Sync>(
     if worked.round.end().is_some() {
         return Ok(worked);
     }
-    let Worked { round, turns, .. } = worked;
+    let ClosedRound { round, turns, .. } = worked;
     if round.stopped() {
         return Err(AllocError);
     }
@@ -180,10 +179,10 @@ pub fn run_round_watched<R: Threads + Wait + Sync, G: Gate + Sync>(
     past: Option<Arc<History>>,
     workers: u32,
     gate: &G,
-) -> Result<(Worked, Vec<u64>), AllocError>
+) -> Result<(ClosedRound, Vec<u64>), AllocError>
     requires { 1 ≤ workers }
     ensures round { IfOk result (λ r.
-        IsRoundBy workers setup (option_map arc_value past) r.0.round r.0.shares.items) }
+        IsRoundBy workers setup (option_map arc_value past) r.0.round r.0.worker_steps.items) }
     ensures cost { IfOk result
         (λ r. IsCostOf workers setup (option_map arc_value past) r.0.round r.0.turns) }
     ensures progress { IfOk result (λ r. IsProgress workers (length r.0.round.schedule) r.1.items) }
@@ -196,7 +195,7 @@ pub fn run_round_watched<R: Threads + Wait + Sync, G: Gate + Sync>(
     let (worked, numbers) = run_watched::<Brand, R, G>(
         rt,
         alloc,
-        Watched {
+        WatchedRound {
             round: begun,
             counter,
         },
@@ -207,7 +206,7 @@ pub fn run_round_watched<R: Threads + Wait + Sync, G: Gate + Sync>(
     if worked.round.end().is_some() {
         return Ok((worked, numbers));
     }
-    let Worked { round, turns, .. } = worked;
+    let ClosedRound { round, turns, .. } = worked;
     if round.stopped() {
         return Err(AllocError);
     }

@@ -1,6 +1,6 @@
 //! A round that workers make while somebody watches how many steps there are.
 
-ghost use Rattle.std.specs.Prelude.{◌≡◌, ◌<◌, ◌≤◌, ◌+◌, All, length, sum, vec_len, vec_capacity, Some, None, IfOk};
+ghost use Rattle.std.specs.Prelude.{◌≡◌, ◌<◌, ◌≤◌, ◌+◌, All, [], length, vec_len, vec_capacity, Some, None, IfOk};
 ghost use Rattle.std.specs.Thread.{IsSync};
 ghost use Rattle.std.specs.List.{last_or};
 ghost use Rattle.std.specs.List.Sorted.{IsStrictlyIncreasing};
@@ -8,9 +8,9 @@ ghost use Rattle.worker_spec.specs.declared.TheConstants.{MOST_LOOKS};
 ghost use Rattle.round_spec.specs.Rounds.{opening};
 ghost use Rattle.rerun_workers.specs.Making.{IsClosed};
 
-use super::board::{Board, Worked};
+use super::board::{Board, ClosedRound};
 use super::naming::{Naming, Pass};
-use super::watching::{Watch, Watched, note, watch_round};
+use super::watching::{Watch, WatchedRound, note, watch_round};
 use super::working::work_together;
 use ith_host::Gate;
 use std::alloc::{AllocError, Global};
@@ -20,18 +20,71 @@ use std::sync::ledger::Blank;
 use std::thread::{Threads, join};
 use worker_spec::MOST_LOOKS;
 
-/// A round that so many workers made together until it was over, or until the host's memory ran out, and the numbers of
-/// its steps that a watcher read meanwhile, of which the last is all of them.
+/// Room for the numbers that a watcher reads, and for his watch when it is given back.
+fn room_to_watch<J: Naming>(alloc: Global) -> Result<(Vec<u64>, Vec<Watch<J>>), AllocError>
+    ensures numbers { IfOk result (λ room. (room.0.items ≡ [])
+        × (MOST_LOOKS + 1 ≤ vec_capacity room.0)) }
+    ensures watches { IfOk result (λ room. (room.1.items ≡ []) × (1 ≤ vec_capacity room.1)) }
+{
+    let numbers = Vec::with_capacity(alloc, MOST_LOOKS + 1)?;
+    let watches = Vec::with_capacity(alloc, 1)?;
+    Ok((numbers, watches))
+}
+
+/// Workers make the round on the board, of which each has one of the passes, and a watcher looks meanwhile how many steps
+/// it has. His watch comes back with the numbers that he read, and so do the passes.
+fn work_watched<J: Naming + Send + Sync, R: Threads + Wait + Sync, G: Gate + Sync>(
+    rt: &R,
+    board: &Board<J>,
+    mut passes: Vec<Pass<J>>,
+    gate: &G,
+    seat: Watch<J>,
+    numbers: Vec<u64>,
+) -> (Watch<J>, Vec<u64>, Vec<Pass<J>>)
+    requires some { 0 < vec_len passes }
+    requires none { numbers.items ≡ [] }
+    requires room { MOST_LOOKS < vec_capacity numbers }
+    ensures ascends { IsStrictlyIncreasing result.1.items }
+    ensures few { vec_len result.1 ≤ MOST_LOOKS }
+    ensures room { vec_capacity result.1 ≡ vec_capacity numbers }
+    ensures seen { All (λ n. n ≤ result.0.reader.seen) result.1.items }
+    ensures count { vec_len result.2 ≡ vec_len passes }
+{
+    let alloc = *numbers.allocator();
+    let over = AtomicBool::new(false);
+    let ((seat, numbers), passes) = join(
+        rt,
+        || -> (Watch<J>, Vec<u64>)
+            requires { numbers.items ≡ [] × (MOST_LOOKS < vec_capacity numbers) }
+            ensures ascends { IsStrictlyIncreasing result.1.items }
+            ensures few { vec_len result.1 ≤ MOST_LOOKS }
+            ensures room { vec_capacity result.1 ≡ vec_capacity numbers }
+            ensures seen { All (λ n. n ≤ result.0.reader.seen) result.1.items }
+        { watch_round(board, seat, numbers, &over) },
+        || -> Vec<Pass<J>>
+            requires { IsSync R.row × (0 < vec_len passes) }
+            ensures { vec_len result ≡ vec_len passes }
+        {
+            work_together(rt, alloc, board, passes.as_mut_slice(), gate);
+            over.store(true, Ordering::Relaxed);
+            passes
+        },
+    );
+    (seat, numbers, passes)
+}
+
+/// A round that so many workers made together until it was finished, or until the host's memory ran out, and the
+/// numbers of its steps that a watcher read meanwhile, of which the last is all of them.
 // Its frame holds rounds by value, and stands by itself, so that it isn't added to its caller's.
 #[inline(never)]
 pub(super) fn run_watched<J: Naming + Send + Sync, R: Threads + Wait + Sync, G: Gate + Sync>(
     rt: &R,
     alloc: Global,
-    watched: Watched,
+    watched: WatchedRound,
     workers: u32,
     gate: &G,
     blank: Blank,
-) -> Result<(Worked, Vec<u64>), AllocError>
+) -> Result<(ClosedRound, Vec<u64>), AllocError>
     requires name { blank.name ≡ J.name }
     requires parts { (blank.parts ≡ J.parts) × (J.parts ≡ workers) }
     requires workers { (workers ≡ J.workers) × (1 ≤ workers) }
@@ -39,38 +92,18 @@ pub(super) fn run_watched<J: Naming + Send + Sync, R: Threads + Wait + Sync, G: 
     requires table { (watched.counter.writer.table ≡ J.table) × (watched.counter.writer.added ≡ 0) }
     requires opening { watched.round ≡ opening J.setup J.past }
     ensures closed { IfOk result
-        (λ r. IsClosed J.setup J.past r.0.round r.0.shares.items r.0.turns) }
-    ensures each { IfOk result (λ r. length r.0.shares.items ≡ workers) }
+        (λ r. IsClosed J.setup J.past r.0.round r.0.worker_steps.items r.0.turns) }
+    ensures each { IfOk result (λ r. length r.0.worker_steps.items ≡ workers) }
     ensures ascends { IfOk result (λ r. IsStrictlyIncreasing r.1.items) }
     ensures few { IfOk result (λ r. length r.1.items ≤ MOST_LOOKS + 1) }
     ensures last { IfOk result (λ r. last_or None r.1.items ≡ Some (length r.0.round.schedule)) }
 {
-    let numbers = Vec::with_capacity(alloc, MOST_LOOKS + 1)?;
-    let mut watches = Vec::with_capacity(alloc, 1)?;
-    let (board, mut passes, mut seats) = Board::<J>::with_watches(
+    let (numbers, mut watches) = room_to_watch(alloc)?;
+    let (board, passes, mut seats) = Board::<J>::with_watches(
         rt, alloc, watched, workers, 1, blank,
     )?;
     let seat = seats.remove(0);
-    let shared = &board;
-    let over = AtomicBool::new(false);
-    let ((seat, mut numbers), mut passes) = join(
-        rt,
-        || -> (Watch<J>, Vec<u64>)
-            requires { vec_len numbers ≡ 0 × (MOST_LOOKS < vec_capacity numbers) }
-            ensures ascends { IsStrictlyIncreasing result.1.items }
-            ensures few { vec_len result.1 ≤ MOST_LOOKS }
-            ensures room { vec_capacity result.1 ≡ vec_capacity numbers }
-            ensures seen { All (λ n. n ≤ result.0.reader.seen) result.1.items }
-        { watch_round(shared, seat, numbers, &over) },
-        || -> Vec<Pass<J>>
-            requires { IsSync R.row × (0 < vec_len passes) }
-            ensures { vec_len result ≡ vec_len passes }
-        {
-            work_together(rt, alloc, shared, passes.as_mut_slice(), gate);
-            over.store(true, Ordering::Relaxed);
-            passes
-        },
-    );
+    let (seat, mut numbers, passes) = work_watched(rt, &board, passes, gate, seat, numbers);
     watches.push_reserved(seat);
     let (worked, last) = board.close_watched(passes, watches);
     note(&mut numbers, last[0]);

@@ -28,7 +28,7 @@ pub struct Counter {
 
 /// A round before its first step, and what is to count its steps.
 #[derive(Drop)]
-pub struct Watched {
+pub struct WatchedRound {
     /// The round.
     pub round: Round,
     /// What is to count its steps, and has counted none.
@@ -143,7 +143,7 @@ pub(super) fn note(numbers: &mut Vec<u64>, number: u64)
     }
 }
 
-/// Lets other threads run for a while, which is longer after each look, or until the round is over.
+/// Lets other threads run for a while, which is longer after each look, or until the round is finished.
 fn pause(looks: usize, over: &AtomicBool) {
     for _ in 0..looks {
         if over.load(Ordering::Relaxed) {
@@ -153,8 +153,8 @@ fn pause(looks: usize, over: &AtomicBool) {
     }
 }
 
-/// Looks how many steps of the round on the board were made, at most so often and until the round is over, and keeps the
-/// numbers that differ.
+/// Looks how many steps of the round on the board were made, at most so often and until the round is finished, and
+/// keeps the numbers that differ.
 pub(super) fn watch_round<J: Naming>(
     board: &Board<J>,
     mut watch: Watch<J>,

@@ -11,7 +11,7 @@ ghost use Rattle.rerun_workers.specs.Passes.{held};
 ghost use Rattle.rerun_workers.specs.Locking.{BeginsIn, BeginsNothing, IsReady};
 
 use super::board::Board;
-use super::locked::{Landed, Task};
+use super::locked::{CommitOutcome, Task};
 use super::naming::{Naming, Pass};
 use ith_host::Gate;
 use std::alloc::{AllocError, Global};
@@ -29,7 +29,7 @@ struct Sharing<'a, J: Naming, R: Wait> {
 
 impl<'a, J: Naming, R: Wait> Watch for Sharing<'a, J, R> {
     fn runs_long(&self) {
-        self.board.share(self.rt);
+        self.board.wake_another(self.rt);
     }
 }
 
@@ -70,13 +70,13 @@ fn make_step<J: Naming, R: Wait, G: Gate>(
     gate.enter(job.thread, job.number);
     match run_job(alloc, &job, pass, &Sharing { rt, board }) {
         Ok(run) => {
-            match board.commit_own(rt, pass, run) {
-                Landed::Done => {
+            match board.commit(rt, pass, run) {
+                CommitOutcome::Done => {
                     gate.made(1, false);
                     true
                 }
-                Landed::Stale(_) => true,
-                Landed::Memory(_) => false,
+                CommitOutcome::Stale(_) => true,
+                CommitOutcome::Memory(_) => false,
             }
         }
         Err(_) => {
@@ -98,7 +98,8 @@ fn next_task<J: Naming, R: Wait, G: Gate>(
     ensures never_lower { pass.old.steps ≤ pass.new.steps }
     ensures unedited { (h : History) → J.past ≡ Some h → IsUnedited h J.setup
         → BeginsNothing result }
-    ensures ready { IsReady result (pass.new.ran.number + held pass.new.begun) pass.new.taken.number }
+    ensures ready { IsReady result
+        (pass.new.ran.number + held pass.new.begun) pass.new.taken.number }
 {
     let before = pass.steps();
     let task = board.next(rt, pass);
@@ -111,7 +112,7 @@ fn next_task<J: Naming, R: Wait, G: Gate>(
 
 /// Makes steps of the round on the board as long as there is nothing to share. The answer is whether there is: the pass
 /// holds then the step that it is to execute first, and another worker has something to do meanwhile. There never is
-/// where the round is over or the host's memory ran out.
+/// where the round is finished or the host's memory ran out.
 pub(super) fn make_unshared<J: Naming, R: Wait, G: Gate>(
     rt: &R,
     alloc: Global,
@@ -136,9 +137,10 @@ pub(super) fn make_unshared<J: Naming, R: Wait, G: Gate>(
     false
 }
 
-/// Makes steps of the round on the board until it is over or the host's memory runs out: takes what it is told to, passes
-/// the gate, executes it with no lock held, and hands it in. A step that was begun for it comes first. Its pass counts the
-/// steps that it makes, never fewer than before, and the turns that it executes; it can't make another counter.
+/// Makes steps of the round on the board until it is finished or the host's memory runs out: takes what it is told to,
+/// passes the gate, executes it with no lock held, and hands it in. A step that was begun for it comes first. Its pass
+/// counts the steps that it makes, never fewer than before, and the turns that it executes; it can't make another
+/// counter.
 pub fn work<J: Naming, R: Wait, G: Gate>(
     rt: &R,
     alloc: Global,

@@ -1,4 +1,4 @@
--- Who is out keeps the hart that it had, and so the step that was taken stays its next one.
+-- Who is in flight keeps the hart that it had, and so the step that was taken stays its next one.
 use Rattle.std.proofs.Common.{◌≡◌, ◌≢◌, ◌<◌, ◌+◌, ℕ, zero, suc, Bool, true, false, ◌||◌, cond, List, [], ◌∷◌, drop, get_or, set, length, Option, Some, None, is_some, is_none, Result, Ok, Err, OnOk, OnErr, refl, ap, sym, ◌∙◌, subst, inl, inr, arith}
 use Rattle.std.proofs.lemmas.Bool.{cases_eq, and_parts}
 use Rattle.std.proofs.lemmas.List.{get_or-set_same, get_or-set_other, length-set}
@@ -10,7 +10,7 @@ use Rattle.machine_spec.specs.Machine.{Hart, Machine, hart_of, is_ready}
 use Rattle.machine_spec.specs.Schedule.{record_of}
 use Rattle.machine_spec.specs.Step.{can_step}
 use Rattle.machine_spec.proofs.Steps.{step-stays}
-use Rattle.history_spec.proofs.Laying.{lay-stays, lay-frame}
+use Rattle.history_spec.proofs.Applying.{apply-stays, apply-frame}
 use Rattle.history_spec.proofs.Scratch.{step-frame}
 use Rattle.history_spec.proofs.Truth.{past-of}
 use Rattle.thunk_run.specs.declared.job.Job.{Job}
@@ -18,10 +18,10 @@ use Rattle.thunk_run.specs.declared.job.Run.{Run}
 use Rattle.round_spec.specs.declared.events.Event.{Event}
 use Rattle.round_spec.specs.declared.events.Event.TheVariants.{Take, Reuse, Commit, GiveBack, Stop}
 use Rattle.round_spec.specs.Marks.{record_for, fits_next}
-use Rattle.round_spec.specs.Rounds.{RoundState, nobody_out, is_over, is_out, is_out_of, can_begin, can_take, can_reuse, reused_by, committed, given_back, happens, all_happen}
+use Rattle.round_spec.specs.Rounds.{RoundState, none_in_flight, is_finished, is_in_flight, is_in_flight_of, can_begin, can_take, can_reuse, reused_by, committed, given_back, happens, all_happen}
 use Rattle.round_spec.specs.Keeping.{IsHeld, IsInOrder, IsCounted}
 use Rattle.round_spec.proofs.Conditions.{happens-take, happens-commit_over, happens-give_back}
-use Rattle.round_spec.proofs.Happening.{CanBegin, can_begin-parts, nobody_out-none, still_out}
+use Rattle.round_spec.proofs.Happening.{CanBegin, can_begin-parts, none_in_flight-none, still_in_flight}
 use Rattle.std.specs.declared.alloc.AllocError.{AllocError}
 use Rattle.propagate.specs.declared.events.Committed.{Committed}
 use Rattle.propagate.specs.declared.events.Committed.TheVariants.{Done, Stale, Memory}
@@ -29,74 +29,74 @@ use Rattle.propagate.specs.Committing.{CanCommit, Commits}
 use Rattle.thunk_run.specs.Running.{IsRunOf}
 use Rattle.release_core.specs.Jobs.{IsJobOf}
 use Rattle.round_driver.specs.Jobs.{IsHeldFor, HaveJobs}
-use Rattle.propagate.proofs.Appending.{out-below, take-ready, below-32}
+use Rattle.propagate.proofs.Appending.{in_flight-below, take-ready, below-32}
 use Rattle.propagate.specs.Executing.{executed_by}
 use Rattle.propagate.proofs.Keeping.{record_count}
-use Rattle.propagate.proofs.Executing.{run-record, out-commits, commit-counts}
+use Rattle.propagate.proofs.Executing.{run-record, in_flight-commits, commit-counts}
 
--- who is out after an event that takes nobody was out before, with the same hart, in the same frame
+-- who is in flight after an event that takes nobody was in flight before, with the same hart, in the same frame
 record Stays (w v : RoundState) (u : ℕ) : Type 0 where
-  pub out : is_out w u ≡ true
+  pub in_flight : is_in_flight w u ≡ true
   pub hart : hart_of v.machine u ≡ hart_of w.machine u
   pub frame : v.machine.frame ≡ w.machine.frame
 
 abbrev AllStay : RoundState → RoundState → Type 0
-AllStay w v = (u : ℕ) → is_out v u ≡ true → Stays w v u
+AllStay w v = (u : ℕ) → is_in_flight v u ≡ true → Stays w v u
 
 all-same : (w : RoundState) → AllStay w w
-all-same w = λ u out. record { out = out; hart = refl; frame = refl }
+all-same w = λ u in_flight. record { in_flight = in_flight; hart = refl; frame = refl }
 
 all-cond : (w a b : RoundState) (c : Bool) → AllStay w a → AllStay w b → AllStay w (cond c a b)
 all-cond w a b true first second = first
 all-cond w a b false first second = second
 
 given_back-stay : (w : RoundState) (t : ℕ) → AllStay w (given_back w t)
-given_back-stay w t = λ u out. record { out = (still_out w.out t u out).1; hart = refl; frame = refl }
+given_back-stay w t = λ u in_flight. record { in_flight = (still_in_flight w.in_flight t u in_flight).1; hart = refl; frame = refl }
 
 none-of : (e : Option End) (stopped : Bool) → (is_some e || stopped) ≡ false → is_none e ≡ true
 none-of (Some e) stopped h = cc
 none-of None stopped h = refl
 
 committed-stay :
-    (w : RoundState) (t : ℕ) → IsInOrder w → is_out w t ≡ true → is_over w ≡ false
+    (w : RoundState) (t : ℕ) → IsInOrder w → is_in_flight w t ≡ true → is_finished w ≡ false
     → AllStay w (committed w t)
-committed-stay w t kept out going = λ u out_u.
-    let still = still_out w.out t u out_u in
-    let held : IsHeld w t = kept.held t out in
+committed-stay w t kept in_flight going = λ u out_u.
+    let still = still_in_flight w.in_flight t u out_u in
+    let held : IsHeld w t = kept.held t in_flight in
     let before : IsHeld w u = kept.held u still.1 in
     let can : can_step w.machine t ≡ true = rw (none-of w.machine.ending w.stopped going, held.ready) refl in
     record {
-      out = still.1;
+      in_flight = still.1;
       hart = step-stays w.machine t u kept.whole can still.0 before.ready;
       frame = step-frame
           w.machine t;
     }
 
 commit-stay :
-    (w : RoundState) (t : ℕ) (out over : Bool) → IsInOrder w → is_out w t ≡ out → is_over w ≡ over
-    → AllStay w (cond out (cond over (given_back w t) (committed w t)) w)
-commit-stay w t false over kept is_out is_over = all-same w
-commit-stay w t true true kept is_out is_over = given_back-stay w t
-commit-stay w t true false kept is_out is_over = committed-stay w t kept is_out is_over
+    (w : RoundState) (t : ℕ) (in_flight over : Bool) → IsInOrder w → is_in_flight w t ≡ in_flight → is_finished w ≡ over
+    → AllStay w (cond in_flight (cond over (given_back w t) (committed w t)) w)
+commit-stay w t false over kept is_in_flight is_finished = all-same w
+commit-stay w t true true kept is_in_flight is_finished = given_back-stay w t
+commit-stay w t true false kept is_in_flight is_finished = committed-stay w t kept is_in_flight is_finished
 
 reused-stay :
     (w : RoundState) (t : ℕ) (o : Option Record)
     → IsInOrder w → record_for w.past w.machine t ≡ o → CanBegin w t → AllStay w (reused_by w t o)
 reused-stay w t None kept there begins = all-same w
-reused-stay w t (Some r) kept there begins = λ u out.
+reused-stay w t (Some r) kept there begins = λ u in_flight.
     let of = past-of w.past t (hart_of w.machine t).number r there in
     let thread : r.thread ≡ t = of.0 in
     let ready : is_ready (hart_of w.machine r.thread).status ≡ true =
     ap (λ v. is_ready (hart_of w.machine v).status) thread ∙ begins.ready in
     let can : can_step w.machine r.thread ≡ true = rw (begins.none, ready) refl in
-    let before : IsHeld w u = kept.held u out in
+    let before : IsHeld w u = kept.held u in_flight in
     let other : u ≢ r.thread =
-    λ same. let inside : is_out w u ≡ false = ap (is_out w) (same ∙ thread) ∙ begins.inside in
+    λ same. let inside : is_in_flight w u ≡ false = ap (is_in_flight w) (same ∙ thread) ∙ begins.inside in
     cc in
     record {
-      out = out;
-      hart = lay-stays w.machine r u kept.whole can other before.ready;
-      frame = lay-frame w.machine r;
+      in_flight = in_flight;
+      hart = apply-stays w.machine r u kept.whole can other before.ready;
+      frame = apply-frame w.machine r;
     }
 
 reuse-stay :
@@ -119,9 +119,9 @@ happens-stay : (w : RoundState) (e : Event) → TakesNobody e → IsInOrder w �
 unfolding happens
 happens-stay w (Take t) nobody kept = absurd nobody
 happens-stay w (Reuse t) nobody kept = reuse-stay w t (can_reuse w t) kept refl
-happens-stay w (Commit t) nobody kept = commit-stay w t (is_out w t) (is_over w) kept refl refl
-happens-stay w (GiveBack t) nobody kept = all-cond w (given_back w t) w (is_out w t) (given_back-stay w t) (all-same w)
-happens-stay w Stop nobody kept = λ u out. record { out = out; hart = refl; frame = refl }
+happens-stay w (Commit t) nobody kept = commit-stay w t (is_in_flight w t) (is_finished w) kept refl refl
+happens-stay w (GiveBack t) nobody kept = all-cond w (given_back w t) w (is_in_flight w t) (given_back-stay w t) (all-same w)
+happens-stay w Stop nobody kept = λ u in_flight. record { in_flight = in_flight; hart = refl; frame = refl }
 
 job-stays :
     (m n : Machine) (t : ℕ) (job : Job) → hart_of n t ≡ hart_of m t → n.frame ≡ m.frame → IsJobOf m t job
@@ -144,12 +144,12 @@ held-stays m n t held hart frame is =
 stays-held : (w v : RoundState) (jobs : List (Option Job)) → AllStay w v → HaveJobs w jobs → HaveJobs v jobs
 stays-held w v jobs stay have = record {
   count = have.count;
-  held = λ u out.
-      let s : Stays w v u = stay u out in
-      held-stays w.machine v.machine u (get_or jobs u None) s.hart s.frame (have.held u s.out);
+  held = λ u in_flight.
+      let s : Stays w v u = stay u in_flight in
+      held-stays w.machine v.machine u (get_or jobs u None) s.hart s.frame (have.held u s.in_flight);
 }
 
--- the jobs stay those of who is out
+-- the jobs stay those of who is in flight
 pub jobs-stay :
     (w v : RoundState) (e : Event) (jobs : List (Option Job)) → TakesNobody e → IsInOrder w → v ≡ happens w e
     → HaveJobs w jobs
@@ -168,7 +168,7 @@ jobs-take w v t jobs job can kept is own have =
     subst (λ (x : RoundState). HaveJobs x (set jobs t (Some job))) (sym (is ∙ happens-take w t can))
     (record {
       count = length-set jobs t (Some job) ∙ have.count;
-      held = λ u out. elim (cases_eq u t) [
+      held = λ u in_flight. elim (cases_eq u t) [
         | inl same ↦
             let here : get_or (set jobs t (Some job)) u None ≡ Some job =
             ap (λ k. get_or (set jobs t (Some job)) k None) same ∙ get_or-set_same jobs t (Some job) None below in
@@ -180,7 +180,7 @@ jobs-take w v t jobs job can kept is own have =
             })
         | inr other ↦
             subst (IsHeldFor w.machine u) (sym (get_or-set_other jobs t u (Some job) None other))
-            (have.held u (sym (get_or-set_other w.out t u true false other) ∙ out))
+            (have.held u (sym (get_or-set_other w.in_flight t u true false other) ∙ in_flight))
       ];
     })
 
@@ -200,13 +200,13 @@ jobs-commit w v run jobs (Stale back) kept does have =
     jobs-stay w v (GiveBack (arc_value run.rec).thread) jobs tt kept does.2 have
 jobs-commit w v run jobs (Memory back) kept does have = subst (λ (x : RoundState). HaveJobs x jobs) (sym does.2) have
 
--- at the start nobody is out
-pub jobs-none : (w : RoundState) (jobs : List (Option Job)) → length jobs ≡ 32 → w.out ≡ nobody_out → HaveJobs w jobs
+-- at the start nobody is in flight
+pub jobs-none : (w : RoundState) (jobs : List (Option Job)) → length jobs ≡ 32 → w.in_flight ≡ none_in_flight → HaveJobs w jobs
 jobs-none w jobs count nobody = record {
   count = count;
-  held = λ t out.
-      absurd (let none : is_out w t ≡ false = ap (λ (flags : List Bool). is_out_of flags t) nobody
-      ∙ nobody_out-none t in cc);
+  held = λ t in_flight.
+      absurd (let none : is_in_flight w t ≡ false = ap (λ (flags : List Bool). is_in_flight_of flags t) nobody
+      ∙ none_in_flight-none t in cc);
 }
 
 -- a job that was looked up
@@ -219,38 +219,38 @@ held-at (x ∷ jobs) (suc k) o below is = held-at jobs k o (omega arith) is
 
 pub job-held :
     (w : RoundState) (jobs : List (Option Job)) (t k : ℕ) (o : Option Job) (job : Job)
-    → IsInOrder w → HaveJobs w jobs → is_out w t ≡ true → k ≡ t → o ≡ get_or jobs k o → o ≡ Some job
+    → IsInOrder w → HaveJobs w jobs → is_in_flight w t ≡ true → k ≡ t → o ≡ get_or jobs k o → o ≡ Some job
     → IsJobOf w.machine t job
-job-held w jobs t k o job kept have out same at is =
-    let below : k < length jobs = let b = out-below w.out t out in
+job-held w jobs t k o job kept have in_flight same at is =
+    let below : k < length jobs = let b = in_flight-below w.in_flight t in_flight in
     let flags = kept.flags in let count = have.count in omega arith in
-    (have.held t out).own job (ap (λ i. get_or jobs i None) (sym same) ∙ held-at jobs k o below at ∙ is)
+    (have.held t in_flight).own job (ap (λ i. get_or jobs i None) (sym same) ∙ held-at jobs k o below at ∙ is)
 
--- what running the job gave can be committed, while the round isn't over
+-- what running the job gave can be committed, while the round isn't finished
 pub run-commits :
     (w : RoundState) (t : ℕ) (job : Job) (run : Run)
-    → IsInOrder w → is_out w t ≡ true → is_over w ≡ false → IsJobOf w.machine t job → IsRunOf job run
+    → IsInOrder w → is_in_flight w t ≡ true → is_finished w ≡ false → IsJobOf w.machine t job → IsRunOf job run
     → CanCommit w (arc_value run.frame) (arc_value run.rec)
-run-commits w t job run kept out going own ran =
+run-commits w t job run kept in_flight going own ran =
     subst (λ (f : Frame). CanCommit w f (arc_value run.rec)) (sym (ran.frame ∙ own.frame))
-    (out-commits w t (arc_value run.rec) kept out going (run-record w.machine t job run own ran))
+    (in_flight-commits w t (arc_value run.rec) kept in_flight going (run-record w.machine t job run own ran))
 
 -- and then its instructions are counted
 pub run-counts :
     (w v : RoundState) (t : ℕ) (job : Job) (run : Run)
-    → IsInOrder w → IsCounted w → is_out w t ≡ true → is_over w ≡ false → IsJobOf w.machine t job → IsRunOf job run
+    → IsInOrder w → IsCounted w → is_in_flight w t ≡ true → is_finished w ≡ false → IsJobOf w.machine t job → IsRunOf job run
     → v ≡ happens w (Commit (arc_value run.rec).thread)
     → executed_by v ≡ executed_by w + (arc_value run.rec).kept.count
-run-counts w v t job run kept counted out going own ran is =
+run-counts w v t job run kept counted in_flight going own ran is =
     let same : arc_value run.rec ≡ record_of w.machine t = run-record w.machine t job run own ran in
     commit-counts w v t (arc_value run.rec) (record_count w counted)
-    (out-commits w t (arc_value run.rec) kept out going same) is same
+    (in_flight-commits w t (arc_value run.rec) kept in_flight going same) is same
 
--- after the round is over, to commit is to discard
+-- after the round is finished, to commit is to discard
 pub over-discards :
-    (w : RoundState) (t : ℕ) → is_out w t ≡ true → is_over w ≡ true
+    (w : RoundState) (t : ℕ) → is_in_flight w t ≡ true → is_finished w ≡ true
     → happens w (GiveBack t) ≡ happens w (Commit t)
-over-discards w t out over = happens-give_back w t out ∙ sym (happens-commit_over w t out over)
+over-discards w t in_flight over = happens-give_back w t in_flight ∙ sym (happens-commit_over w t in_flight over)
 
 -- one event after the other
 pub events-more :

@@ -5,17 +5,17 @@
 ghost use Rattle.std.specs.Prelude.{◌≡◌, ℕ, ◌+◌, ◌≤◌, true, List, Some, option_map, IfOk, OnOk};
 ghost use Rattle.std.specs.Arc.{arc_value};
 ghost use Rattle.machine_spec.specs.Setup.{IsSetup};
-ghost use Rattle.history_spec.specs.History.{History as Kept, IsSound};
+ghost use Rattle.history_spec.specs.History.{History as OldHistory, IsSound};
 ghost use Rattle.order_spec.specs.Facts.{facts};
 ghost use Rattle.order_spec.specs.Orders.{is_order};
 ghost use Rattle.round_spec.specs.declared.events.Event.TheVariants as event;
-ghost use Rattle.round_spec.specs.Rounds.{nobody_out, opening, is_out, happens, round_after};
+ghost use Rattle.round_spec.specs.Rounds.{none_in_flight, opening, is_in_flight, happens, round_after};
 ghost use Rattle.round_spec.specs.Keeping.{IsFromScratch};
 ghost use Rattle.round_spec.specs.Unedited.{IsUnedited};
 ghost use Rattle.round_spec.specs.Reordering.{reuses_of, ReusesInOrder};
 ghost use Rattle.round_driver.specs.Jobs.{HaveJobs};
 ghost use Rattle.propagate.specs.Executing.{executed_by, Costs};
-ghost use Rattle.propagate.specs.Kept.{IsValid};
+ghost use Rattle.propagate.specs.Consistency.{IsValid};
 
 use guest_call::THREADS;
 use propagate::{Committed, Round};
@@ -27,7 +27,7 @@ use std::sync::Arc;
 use thunk_run::{Job, execute};
 use turn_count::Turns;
 
-/// A round, and the job of each thread that is out.
+/// A round, and the job of each thread that is in flight.
 #[derive(Drop)]
 struct Driven {
     round: Round,
@@ -74,17 +74,17 @@ impl Driven {
         self.round.reuse(t)
     }
 
-    /// Executes and commits the job that is out for thread `t`, if one is. After the round is over it
+    /// Executes and commits the job that is in flight for thread `t`, if one is. After the round is finished it
     /// is discarded. The counter rises by the instructions that it made.
     fn on_commit(&mut self, alloc: Global, t: u8, turns: &mut Turns) -> Result<(), AllocError>
         ensures round { OnOk result (self.new.round ≡ happens self.old.round (event.Commit t)) }
         ensures cost { OnOk result (Costs turns.old self.old.round turns.new self.new.round) }
         ensures never_lower { turns.old ≤ turns.new }
     {
-        if !self.round.is_out(t) {
+        if !self.round.is_in_flight(t) {
             return Ok(());
         }
-        if self.round.is_over() {
+        if self.round.is_finished() {
             self.round.give_back(t);
             return Ok(());
         }
@@ -99,12 +99,12 @@ impl Driven {
         }
     }
 
-    /// Discards the job that is out for thread `t`, if one is.
+    /// Discards the job that is in flight for thread `t`, if one is.
     fn on_give_back(&mut self, t: u8)
         ensures round { self.new.round ≡ happens self.old.round (event.GiveBack t) }
         ensures valid { IsValid self.old.round }
     {
-        if self.round.is_out(t) {
+        if self.round.is_in_flight(t) {
             self.round.give_back(t);
         }
     }
@@ -162,7 +162,7 @@ pub fn drive(
     ensures never_lower { turns.old ≤ turns.new }
     ensures scratch { IfOk result (λ round. IsSound (option_map arc_value past) setup
         → IsFromScratch round) }
-    ensures every_order { IfOk result (λ round. (h : Kept) (places : List ℕ)
+    ensures every_order { IfOk result (λ round. (h : OldHistory) (places : List ℕ)
         → option_map arc_value past ≡ Some h
         → IsUnedited h setup
         → is_order (facts h) places ≡ true

@@ -8,7 +8,7 @@ use Rattle.edit_spec.specs.Editing.{edited}
 use Rattle.edit_spec.specs.Grammar.{Says}
 use Rattle.rerun_spec.specs.Inputs.{AreInputs, IsFirstRefused}
 use Rattle.rerun_spec.proofs.Inputs.{inputs-more, inputs-refused}
-use Rattle.round_inputs.specs.Coming.{inputs_from}
+use Rattle.round_inputs.specs.Pending.{inputs_from}
 use Rattle.round_inputs.specs.declared.refusal.InputsError.{InputsError}
 use Rattle.round_inputs.specs.declared.refusal.InputsError.TheVariants.{Refused, NoMemory}
 use Rattle.round_inputs.specs.Lists.{bytes_of_each}

@@ -3,7 +3,7 @@ use Rattle.std.proofs.Common.{◌≡◌, ℕ, suc, List, [], ◌∷◌, ◌++◌
 use Rattle.std.specs.Result.{result_unwrap_or}
 use Rattle.edit_spec.specs.Edit.{LineEdit}
 use Rattle.edit_spec.specs.Editing.{edited}
-use Rattle.round_inputs.specs.Coming.{inputs_from, CanBeDone}
+use Rattle.round_inputs.specs.Pending.{inputs_from, CanBeDone}
 
 -- lists of edits make the last input of the first, one after the other
 abbrev pub Leads : List (List LineEdit) → List ℕ → List ℕ → Type 0

@@ -1,4 +1,4 @@
 -- The files of definitions of this crate.
 pub mod Lists
-pub mod Coming
+pub mod Pending
 pub mod Refusals

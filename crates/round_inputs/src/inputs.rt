@@ -8,7 +8,7 @@ ghost use Rattle.rerun_spec.specs.Inputs.{AreInputs};
 ghost use Rattle.round_inputs.specs.Lists.{bytes_of_each};
 ghost use Rattle.round_inputs.specs.Refusals.{WhyNotMade, WhyNoInputs};
 
-use super::coming::Inputs;
+use super::pending::Inputs;
 use super::refusal::{InputsError, Why};
 use edit_list::{ApplyError, Edits, ParseError, parse};
 use machine_spec::MOST_INPUT_BYTES;
@@ -53,7 +53,7 @@ fn done_to(
 /// # Errors
 ///
 /// `Refused` exactly where a list is refused, with the place of the first such list: its line is `BadLine` where it is
-/// the first that spells no edit, and `OutOfRange` where all lines spell edits and it is the first that passes its
+/// the first that encodes no edit, and `OutOfRange` where all lines encode edits and it is the first that passes its
 /// bound on the input before. Or `NoMemory`.
 pub fn inputs_of(alloc: Global, first: Vec<u8>, lists: &[Vec<u8>]) -> Result<Inputs, InputsError>
     ensures inputs { IfOk result

@@ -7,7 +7,7 @@ use std::alloc::{AllocError, AllocFailed};
 /// Why a line of an edit list is refused.
 #[derive(Clone, Copy, Debug, PartialEq, Eq)]
 pub enum Why {
-    /// It spells no edit.
+    /// It encodes no edit.
     BadLine,
     /// Its edit passes its bound.
     OutOfRange,

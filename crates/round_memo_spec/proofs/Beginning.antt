@@ -9,7 +9,7 @@ use Rattle.elf_spec.specs.Header.{ProgramHeader, segments}
 use Rattle.elf_spec.specs.Segments.{has_address}
 use Rattle.elf_spec.specs.Image.{image_pages, image_memory, image_page, image_byte, segment_byte, entry_of}
 use Rattle.machine_spec.specs.Setup.{Setup, header_page, input_page, input_memory, stack_memory, start_memory, first}
-use Rattle.memo_spec.specs.Spelling.{AreBytes}
+use Rattle.memo_spec.specs.Encoding.{AreBytes}
 use Rattle.memo_spec.proofs.Formats.{IsBytes-drop, wide32}
 use Rattle.round_memo_spec.proofs.Lists.{every-at, every-append, every-replicate, every-map}
 use Rattle.round_memo_spec.proofs.Words.{IsWord}

@@ -19,7 +19,7 @@ use Rattle.guest_call.specs.Threads.{Member, fresh, member_at, creates, create_r
 use Rattle.guest_call.specs.Objects.{Objects, on_semaphore, on_barrier, on_pair, condition_at, mutex_at, can_read, put_answer, act}
 use Rattle.guest_call.specs.Numbers.{Numbered, call_table, call_of}
 use Rattle.thunk_spec.specs.Put.{call_at}
-use Rattle.memo_spec.specs.Spelling.{AreRegisters}
+use Rattle.memo_spec.specs.Encoding.{AreRegisters}
 use Rattle.round_memo_spec.proofs.Lists.{every-at, every-set, every-append}
 use Rattle.round_memo_spec.proofs.Words.{IsWord, register-word}
 use Rattle.round_memo_spec.proofs.Effects.{IsEffect, wakes-effect, answers-effect, blocks-effect, either-effect, lock-effect, trylock-effect, unlock-effect, sem_wait-effect, sem_trywait-effect, posted-effect, sem_init-effect, barrier_init-effect, comes-effect, at_cell-effect, checked-effect, cond_wait-effect, leave-effect, rdlock-effect, wrlock-effect, rwunlock-effect, trywrlock-effect}

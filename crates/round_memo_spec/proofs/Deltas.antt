@@ -15,7 +15,7 @@ use Rattle.record_spec.specs.Delta.{PageDelta, chosen, is_stored, delta_from, de
 use Rattle.record_spec.specs.Reads.{reads_from, reads_of}
 use Rattle.record_spec.specs.Record.{kept_thunk}
 use Rattle.record_spec.proofs.Truth.{length-on_each}
-use Rattle.memo_spec.specs.Spelling.{AreBytes, IsReadPage, IsStoredPage}
+use Rattle.memo_spec.specs.Encoding.{AreBytes, IsReadPage, IsStoredPage}
 use Rattle.round_memo_spec.proofs.Lists.{every-below, every-changed, every-replicate, every-on_each}
 use Rattle.round_memo_spec.proofs.Memory.{IsByte, HasBytes, AreStores, laid-bytes, page-bytes}
 

@@ -1,5 +1,5 @@
 -- The smallest rounds that can be had, by which the definitions are tried: their starts are of bytes, and what they
--- leave can be spelled.
+-- leave can be encoded.
 use Rattle.std.proofs.Common.{◌≡◌, ℕ, true, ltb, List, [], ◌∷◌, Some, None, refl, arith, ltb-true}
 use Rattle.std.proofs.lemmas.Bool.{and_parts}
 use Rattle.std.specs.List.{list_all}
@@ -12,9 +12,9 @@ use Rattle.round_spec.specs.Rounds.{history_of}
 use Rattle.round_spec.specs.Schedules.{events_in, round_by}
 use Rattle.round_spec.specs.Alone.{lone_round}
 use Rattle.worker_spec.proofs.Workers.{entries-end}
-use Rattle.memo_spec.specs.Spelling.{AreBytes, IsSpellable}
-use Rattle.round_memo_spec.specs.Spelled.{IsSpelledStart}
-use Rattle.round_memo_spec.proofs.Events.{round-spelled, round-next}
+use Rattle.memo_spec.specs.Encoding.{AreBytes, IsEncodable}
+use Rattle.round_memo_spec.specs.Encoded.{IsEncodedStart}
+use Rattle.round_memo_spec.proofs.Events.{round-encoded, round-next}
 
 tested-bytes : (bytes : List ℕ) → list_all (λ (b : ℕ). ltb b 256) bytes ≡ true → AreBytes bytes
 tested-bytes [] h = tt
@@ -26,7 +26,7 @@ hi-bytes : AreBytes hi_elf
 hi-bytes = tested-bytes hi_elf refl
 
 -- a round with no history to go by
-pub first-start : IsSpelledStart None shortest
+pub first-start : IsEncodedStart None shortest
 first-start =
     record {
       valid = shortest-setup;
@@ -43,15 +43,15 @@ first-entries = (lone_round shortest None).schedule
 abbrev pub first-left : History
 first-left = history_of (round_by shortest None first-entries)
 
-pub first-spelled : IsSpellable first-left
-first-spelled =
-    round-spelled shortest None (events_in first-entries) first-start (entries-end shortest None shortest-setup)
+pub first-encoded : IsEncodable first-left
+first-encoded =
+    round-encoded shortest None (events_in first-entries) first-start (entries-end shortest None shortest-setup)
 
 -- the same program on another input and with another fuel, by what the first round left
 abbrev pub longer : Setup
 longer = record { elf = hi_elf; input = 255 ∷ []; fuel = 2; limit = 1 }
 
-pub second-start : IsSpelledStart (Some first-left) longer
+pub second-start : IsEncodedStart (Some first-left) longer
 second-start =
     record {
       valid =
@@ -77,11 +77,11 @@ second-start =
 abbrev second-entries : List Entry
 second-entries = (lone_round longer (Some first-left)).schedule
 
-pub second-spelled : IsSpellable (history_of (round_by longer (Some first-left) second-entries))
-second-spelled =
-    round-spelled longer (Some first-left) (events_in second-entries) second-start
+pub second-encoded : IsEncodable (history_of (round_by longer (Some first-left) second-entries))
+second-encoded =
+    round-encoded longer (Some first-left) (events_in second-entries) second-start
     (entries-end longer (Some first-left) second-start.valid)
 
--- a byte of 256 is no byte, so this input has no spelling
+-- a byte of 256 is no byte, so this input has no encoding
 pub no-bytes : AreBytes (256 ∷ []) → ⊥
 no-bytes all = let small = all.0 in omega arith

@@ -1,4 +1,4 @@
--- Steps and laid records keep registers words and memories bytes, and the record of a step can be spelled.
+-- Steps and applied records keep registers words and memories bytes, and the record of a step can be encoded.
 use Rattle.std.proofs.Common.{◌≡◌, ◌<◌, ℕ, true, List, [], ◌∷◌, length, set, Option, Some, None, refl, sym, ◌∙◌, subst, arith}
 use Rattle.std.specs.Prelude.{IfSome, ⊤}
 use Rattle.std.proofs.lemmas.List.{length-set}
@@ -23,11 +23,11 @@ use Rattle.machine_spec.specs.Performing.{answered, returned, fated, woken, firs
 use Rattle.machine_spec.specs.Schedule.{record_of}
 use Rattle.machine_spec.specs.declared.states.Asked.{Asked}
 use Rattle.machine_spec.specs.declared.states.Asked.TheVariants.{Asks, Stops}
-use Rattle.machine_spec.specs.Step.{advanced, written, asked_call, asked, done_as_asked, finished, step, lay}
+use Rattle.machine_spec.specs.Step.{advanced, written, asked_call, asked, done_as_asked, finished, step, apply}
 use Rattle.machine_spec.specs.Whole.{IsHartOf, IsWhole}
 use Rattle.machine_spec.proofs.Harts.{ready-below, length-woken}
 use Rattle.machine_spec.proofs.Steps.{hart-at}
-use Rattle.memo_spec.specs.Spelling.{AreRegisters, IsRecord}
+use Rattle.memo_spec.specs.Encoding.{AreRegisters, IsRecord}
 use Rattle.round_memo_spec.proofs.Lists.{every-below, every-changed, every-append, every-replicate}
 use Rattle.round_memo_spec.proofs.Words.{IsWord, sum-word, moved-registers, written-registers}
 use Rattle.round_memo_spec.proofs.Memory.{HasBytes, laid-bytes, masked-bytes}
@@ -209,21 +209,21 @@ step-words m t whole words ready =
     done.stores)
     done.regs
 
-pub lay-words :
-    (m : Machine) (r : Record) → IsWhole m → IsOfWords m → IsRecord m.frame.map m.frame.fuel r → IsOfWords (lay m r)
-unfolding lay
-lay-words m r whole words is =
+pub apply-words :
+    (m : Machine) (r : Record) → IsWhole m → IsOfWords m → IsRecord m.frame.map m.frame.fuel r → IsOfWords (apply m r)
+unfolding apply
+apply-words m r whole words is =
     finished-words m r.thread (masked m.memory r.kept.delta) r.kept.finish r.kept.end
     (put_of m.frame.map (hart_of m r.thread).view r.kept) whole.tied.threads words
     (masked-bytes m.frame.map m.memory r.kept.delta is.delta words.memory) is.finish
 
 -- the record of a ready thread's step
-pub record-spelled :
+pub record-encoded :
     (m : Machine) (t : ℕ)
     → IsWhole m → IsOfWords m → is_ready (hart_of m t).status ≡ true
     → IsRecord m.frame.map m.frame.fuel (record_of m t)
 unfolding kept_thunk
-record-spelled m t whole words ready =
+record-encoded m t whole words ready =
     let below : t < length m.harts = ready-below m.harts t ready in
     let here : IsHart (hart_of m t) = ready-hart m t words ready in
     let hart : IsHartOf m.frame.map m.steps (hart_of m t) = hart-at m.frame.map m.steps m.harts t below whole.harts in

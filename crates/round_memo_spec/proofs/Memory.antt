@@ -7,7 +7,7 @@ use Rattle.memory_spec.specs.Pages.{Mapped, Memory, page_of, slot_of, allows, re
 use Rattle.memory_spec.specs.Stores.{StoredByte, with_byte, laid}
 use Rattle.memory_spec.specs.Access.{number_in, number_at, bytes_stored, loaded, fetched}
 use Rattle.record_spec.specs.Delta.{PageDelta, spread, masked}
-use Rattle.memo_spec.specs.Spelling.{AreBytes, IsStoredPage}
+use Rattle.memo_spec.specs.Encoding.{AreBytes, IsStoredPage}
 use Rattle.round_memo_spec.proofs.Lists.{every-at, every-set}
 
 -- a byte

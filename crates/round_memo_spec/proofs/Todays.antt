@@ -19,10 +19,10 @@ use Rattle.history_spec.specs.History.{History, IsHonest, schedule_of}
 use Rattle.history_spec.proofs.Scratch.{and-left, and-right, step-frame}
 use Rattle.history_spec.proofs.Mapped.{first-map}
 use Rattle.history_spec.proofs.Truth.{honest-coherent}
-use Rattle.memo_spec.specs.Spelling.{memo, IsSpellable}
+use Rattle.memo_spec.specs.Encoding.{memo, IsEncodable}
 use Rattle.memo_spec.specs.Reading.{reading}
 use Rattle.memo_spec.specs.Old.{is_of_m, told_byte, told_word, is_illegal, tells_m, ends_at_m, last_ends_at_m, is_before_m}
-use Rattle.memo_spec.proofs.Laws.{spelled_is_read, memo_taken}
+use Rattle.memo_spec.proofs.Laws.{encoded_is_read, memo_taken}
 use Rattle.round_memo_spec.proofs.Illegal.{StandsAtIllegal, thunk-stands, undecoded-m}
 use Rattle.round_memo_spec.proofs.Telling.{Tells, laid-tells, word-tells}
 
@@ -93,6 +93,6 @@ honest-todays h honest =
     ∙ records-todays (first h.setup) (schedule_of h) (IsWhole-first h.setup honest.valid) honest.permitted
 
 -- and its memo is read as it
-pub honest-read : (h : History) → IsHonest h → IsSpellable h → reading (memo h) ≡ Ok h
+pub honest-read : (h : History) → IsHonest h → IsEncodable h → reading (memo h) ≡ Ok h
 honest-read h honest fit =
-    spelled_is_read (memo h) h (memo_taken h fit (honest-coherent h honest))
+    encoded_is_read (memo h) h (memo_taken h fit (honest-coherent h honest))

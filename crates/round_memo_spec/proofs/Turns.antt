@@ -24,7 +24,7 @@ use Rattle.thunk_spec.specs.declared.ends.Outcome.{Outcome}
 use Rattle.thunk_spec.specs.declared.ends.Outcome.TheVariants as outcome
 use Rattle.thunk_spec.specs.Turn.{Turn, passed, stopped, advanced, computed, jumped, linked, branched, load_size, load_result, load_found, load_turn, store_size, store_turn, executed, word_turn, with_fetch, fetch_found, turn}
 use Rattle.thunk_spec.specs.Thunk.{Frame, Thunk, followed, turns, thunk}
-use Rattle.memo_spec.specs.Spelling.{AreRegisters, IsEnd}
+use Rattle.memo_spec.specs.Encoding.{AreRegisters, IsEnd}
 use Rattle.round_memo_spec.proofs.Lists.{every-append}
 use Rattle.round_memo_spec.proofs.Words.{IsWord, sum-word, extended-word, byte-word, half-word, immediate-word, shift-word, operation-word, register-word, moved-registers, written-registers}
 use Rattle.round_memo_spec.proofs.Memory.{HasBytes, IsStore, AreStores, laid-bytes, stored-bytes, number_limit, FindsSmall, loaded-small, fetched-small}

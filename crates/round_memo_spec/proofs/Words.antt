@@ -19,7 +19,7 @@ use Rattle.isa_spec.specs.Words.{signed, is_less, is_less_unsigned, sum_of, diff
 use Rattle.isa_spec.specs.Registers.{Registers, register, with_register, with_pc}
 use Rattle.isa_spec.specs.Operations.{immediate_result, shift_result, register_result}
 use Rattle.isa_spec.specs.Encoding.{IsSignExtended}
-use Rattle.memo_spec.specs.Spelling.{AreRegisters}
+use Rattle.memo_spec.specs.Encoding.{AreRegisters}
 use Rattle.round_memo_spec.proofs.Lists.{every-at, every-set}
 
 -- a word

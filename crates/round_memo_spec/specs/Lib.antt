@@ -1,2 +1,2 @@
 -- The files of definitions of this crate.
-pub mod Spelled
+pub mod Encoded

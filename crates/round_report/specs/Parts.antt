@@ -3,7 +3,7 @@ use Rattle.std.specs.Prelude.{ℕ, List, ◌++◌, length, codes, decimal}
 use Rattle.std.specs.List.{concat}
 use Rattle.report_spec.specs.declared.Entry.{Entry}
 use Rattle.report_spec.specs.Text.{newline, line, list_line}
-use Rattle.report_spec.specs.Report.{Told, ending_text, entry_text, reused_count, executed_count, memory_digest, reached_lines, progress_lines}
+use Rattle.report_spec.specs.Report.{ReportData, ending_text, entry_text, reused_count, executed_count, memory_digest, reached_lines, progress_lines}
 
 -- The lines that count a schedule's entries: all, the reused, the executed.
 abbrev pub counts_part : List Entry → List ℕ
@@ -13,29 +13,30 @@ counts_part schedule =
     ++ line (codes "executed") (decimal (executed_count schedule))
 
 -- How it ended, after how many steps, and how many old steps are reached, where that is told.
-abbrev pub steps_part : Told → List ℕ
+abbrev pub steps_part : ReportData → List ℕ
 steps_part t =
     line (codes "end") (ending_text t.ending)
     ++ counts_part t.schedule
     ++ concat (reached_lines t.extras.reached)
 
--- The work: instructions, each worker's share, what was read of the progress, where that is told, and the schedule.
-abbrev pub work_part : Told → List ℕ
+-- The work: instructions, how many steps each worker made, what was read of the progress, where that is told, and the
+-- schedule.
+abbrev pub work_part : ReportData → List ℕ
 work_part t =
     line (codes "instructions") (decimal t.instructions)
-    ++ list_line (codes "by") decimal t.shares
+    ++ list_line (codes "by") decimal t.worker_steps
     ++ concat (progress_lines t.extras.progress)
     ++ list_line (codes "schedule") entry_text t.schedule
 
 -- How a replay ended, after how many steps and instructions.
-abbrev pub run_part : Told → List ℕ
+abbrev pub run_part : ReportData → List ℕ
 run_part t =
     line (codes "end") (ending_text t.ending)
     ++ line (codes "steps") (decimal (length t.schedule))
     ++ line (codes "instructions") (decimal t.instructions)
 
 -- What came of it: the memory's digest, and the output.
-abbrev pub outcome_part : Told → List ℕ
+abbrev pub outcome_part : ReportData → List ℕ
 outcome_part t =
     line (codes "memory") (memory_digest t.memory)
     ++ line (codes "output") (decimal (length t.output))

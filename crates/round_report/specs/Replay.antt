@@ -3,11 +3,11 @@ use Rattle.std.specs.Prelude.{ℕ, List, [], ◌∷◌, ◌++◌, length, codes,
 use Rattle.std.specs.List.{concat}
 use Rattle.machine_spec.specs.Setup.{Setup}
 use Rattle.report_spec.specs.Text.{newline, line}
-use Rattle.report_spec.specs.Report.{Told, no_extras, ending_text, memory_digest, told_of}
+use Rattle.report_spec.specs.Report.{ReportData, no_extras, ending_text, memory_digest, data_of}
 use Rattle.rerun_spec.specs.Reports.{all_executed}
 
 -- The lines that tell of a replay: of a report those that no reuse and no worker can change.
-abbrev pub replay_lines : Told → List (List ℕ)
+abbrev pub replay_lines : ReportData → List (List ℕ)
 replay_lines t =
     (codes "replay" ++ newline)
     ∷ line (codes "end") (ending_text t.ending)
@@ -18,9 +18,9 @@ replay_lines t =
     ∷ []
 
 -- The text that tells of a replay: its lines, the output's bytes, and a line's end.
-unfoldable pub replay_text : Told → List ℕ
+unfoldable pub replay_text : ReportData → List ℕ
 replay_text t = concat (replay_lines t) ++ t.output ++ newline
 
 -- The text that tells of the machine from scratch under a schedule, of which each step is executed.
 abbrev pub replay_of : Setup → List ℕ → List ℕ
-replay_of setup threads = replay_text (told_of setup (all_executed threads) no_extras [])
+replay_of setup threads = replay_text (data_of setup (all_executed threads) no_extras [])

@@ -1,16 +1,16 @@
 //! The report of a round as text, a round in one line, and what a replay tells.
 #![tactic(auto)]
 
+mod data;
 mod digest;
 mod ending;
 mod lines;
 mod one_line;
 mod replay;
 mod report;
-mod told;
 
+pub use data::ReportData;
 pub use digest::Digested;
 pub use one_line::short;
 pub use replay::replayed;
 pub use report::text;
-pub use told::Told;

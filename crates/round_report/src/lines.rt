@@ -77,12 +77,16 @@ fn executed_entries(schedule: &[Entry]) -> usize
     schedule.iter().filter(|entry| !entry.reused).count()
 }
 
-/// Appends the line of the workers' shares: each of them after a space.
-pub fn shares_line(alloc: Global, shares: &[u64], into: &mut Vec<u8>) -> Result<(), AllocError>
+/// Appends the line of the workers' steps: each of them after a space.
+pub fn worker_steps_line(
+    alloc: Global,
+    worker_steps: &[u64],
+    into: &mut Vec<u8>,
+) -> Result<(), AllocError>
     ensures { OnOk result (into.new.items
-        ≡ into.old.items ++ list_line (codes "by") decimal shares.now) }
+        ≡ into.old.items ++ list_line (codes "by") decimal worker_steps.now) }
 {
-    ith_text::list(alloc, "by", shares, into)
+    ith_text::list(alloc, "by", worker_steps, into)
 }
 
 /// Appends the line of the numbers of steps that a watcher read, where that is told.

@@ -4,15 +4,15 @@ ghost use Rattle.std.specs.Prelude.{◌≡◌, ◌++◌, IfOk, OnOk};
 ghost use Rattle.round_report.specs.Parts.{run_part};
 ghost use Rattle.round_report.specs.Replay.{replay_text};
 
+use super::data::ReportData;
 use super::digest::Digested;
 use super::ending::end_line;
 use super::lines::number_line;
 use super::report::append_outcome;
-use super::told::Told;
 use std::alloc::{AllocError, Global};
 
 /// Appends how it ended, after how many steps, and how many instructions they made.
-fn append_run(alloc: Global, told: &Told<'_>, into: &mut Vec<u8>) -> Result<(), AllocError>
+fn append_run(alloc: Global, told: &ReportData<'_>, into: &mut Vec<u8>) -> Result<(), AllocError>
     ensures { OnOk result (into.new.items ≡ into.old.items ++ run_part told.now) }
 {
     end_line(alloc, told.ending, into)?;
@@ -26,13 +26,25 @@ fn append_run(alloc: Global, told: &Told<'_>, into: &mut Vec<u8>) -> Result<(), 
 /// # Errors
 ///
 /// An error where the host's memory ran out.
-pub fn replayed(alloc: Global, told: &Told<'_>) -> Result<Vec<u8>, AllocError>
+pub fn replayed(alloc: Global, told: &ReportData<'_>) -> Result<Vec<u8>, AllocError>
     ensures { IfOk result (λ text. text.items ≡ replay_text told.now) }
 {
     let digested = Digested::of(told.memory)?;
+    replayed_with(alloc, told, &digested)
+}
+
+/// The text, where the memory's digest is at hand.
+fn replayed_with(
+    alloc: Global,
+    told: &ReportData<'_>,
+    digested: &Digested,
+) -> Result<Vec<u8>, AllocError>
+    requires { digested.now ≡ told.now.memory }
+    ensures { IfOk result (λ text. text.items ≡ replay_text told.now) }
+{
     let mut text = Vec::new(alloc);
     text.extend_from_slice(b"replay\n")?;
     append_run(alloc, told, &mut text)?;
-    append_outcome(alloc, told, &digested, &mut text)?;
+    append_outcome(alloc, told, digested, &mut text)?;
     Ok(text)
 }

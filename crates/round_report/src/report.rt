@@ -4,12 +4,12 @@ ghost use Rattle.std.specs.Prelude.{◌≡◌, ◌++◌, Some, IfOk, OnOk, OnErr
 ghost use Rattle.report_spec.specs.Report.{report_text};
 ghost use Rattle.round_report.specs.Parts.{steps_part, work_part, outcome_part};
 
+use super::data::ReportData;
 use super::digest::{Digested, memory_line};
 use super::ending::end_line;
 use super::lines::{
-    count_lines, number_line, progress_line, reached_line, schedule_line, shares_line,
+    count_lines, number_line, progress_line, reached_line, schedule_line, worker_steps_line,
 };
-use super::told::Told;
 use std::alloc::{AllocError, Global};
 
 /// The report of a round of this number: its lines, the output's bytes, and a line's end. The digest
@@ -21,7 +21,7 @@ use std::alloc::{AllocError, Global};
 pub fn text(
     alloc: Global,
     number: u64,
-    told: &Told<'_>,
+    told: &ReportData<'_>,
     last: &mut Option<Digested>,
 ) -> Result<Vec<u8>, AllocError>
     ensures text { IfOk result (λ text. text.items ≡ report_text number told.now) }
@@ -43,7 +43,7 @@ pub fn text(
 fn text_with(
     alloc: Global,
     number: u64,
-    told: &Told<'_>,
+    told: &ReportData<'_>,
     digested: &Digested,
 ) -> Result<Vec<u8>, AllocError>
     requires { digested.now ≡ told.now.memory }
@@ -58,7 +58,7 @@ fn text_with(
 }
 
 /// Appends the end, how many steps there were, and how many old ones are reached.
-fn append_steps(alloc: Global, told: &Told<'_>, into: &mut Vec<u8>) -> Result<(), AllocError>
+fn append_steps(alloc: Global, told: &ReportData<'_>, into: &mut Vec<u8>) -> Result<(), AllocError>
     ensures { OnOk result (into.new.items ≡ into.old.items ++ steps_part told.now) }
 {
     end_line(alloc, told.ending, into)?;
@@ -66,12 +66,13 @@ fn append_steps(alloc: Global, told: &Told<'_>, into: &mut Vec<u8>) -> Result<()
     reached_line(alloc, told.reached, into)
 }
 
-/// Appends the instructions, the shares, what was read of the progress, where that is told, and the schedule.
-fn append_work(alloc: Global, told: &Told<'_>, into: &mut Vec<u8>) -> Result<(), AllocError>
+/// Appends the instructions, how many steps each worker made, what was read of the progress, where that is told, and
+/// the schedule.
+fn append_work(alloc: Global, told: &ReportData<'_>, into: &mut Vec<u8>) -> Result<(), AllocError>
     ensures { OnOk result (into.new.items ≡ into.old.items ++ work_part told.now) }
 {
     number_line(alloc, "instructions", told.instructions, into)?;
-    shares_line(alloc, told.shares, into)?;
+    worker_steps_line(alloc, told.worker_steps, into)?;
     progress_line(alloc, told.progress, into)?;
     schedule_line(alloc, told.schedule, into)
 }
@@ -79,7 +80,7 @@ fn append_work(alloc: Global, told: &Told<'_>, into: &mut Vec<u8>) -> Result<(),
 /// Appends the memory's digest, the output's length, its bytes, and a line's end.
 pub(super) fn append_outcome(
     alloc: Global,
-    told: &Told<'_>,
+    told: &ReportData<'_>,
     digested: &Digested,
     into: &mut Vec<u8>,
 ) -> Result<(), AllocError>

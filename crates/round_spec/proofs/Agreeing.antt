@@ -7,11 +7,11 @@ use Rattle.machine_spec.specs.Machine.{Hart, Machine, hart_in, hart_of, is_ready
 use Rattle.machine_spec.specs.Step.{step}
 use Rattle.machine_spec.specs.Setup.{Setup, first}
 use Rattle.machine_spec.specs.Choice.{least, ready_numbers, is_ready_at, choice, chosen_first, alone_from, alone}
-use Rattle.round_spec.specs.Rounds.{nobody_out, is_free_in}
+use Rattle.round_spec.specs.Rounds.{none_in_flight, is_free_in}
 use Rattle.round_spec.specs.Due.{is_due}
-use Rattle.round_spec.specs.Choice.{free_threads, least_by, first_of, best, is_any_out, eligible, choice_by}
+use Rattle.round_spec.specs.Choice.{free_threads, least_by, first_of, best, is_any_in_flight, eligible, choice_by}
 use Rattle.round_spec.specs.Alone.{guided_from, one_worker}
-use Rattle.round_spec.proofs.Happening.{nobody_out-none}
+use Rattle.round_spec.proofs.Happening.{none_in_flight-none}
 
 filter-all : {A : Type 0} (xs : List A) → filter (λ x. true) xs ≡ xs
 filter-all [] = refl
@@ -102,13 +102,13 @@ zero-add : (n : ℕ) → 0 + n ≡ n
 zero-add n = omega arith
 
 -- the threads that are ready, nobody being out
-free_threads-nobody_out :
+free_threads-none_in_flight :
     (m : Machine)
-    → free_threads m nobody_out ≡ filter (λ t. is_ready (hart_of m t).status) (range_with_len 0 (length m.harts))
+    → free_threads m none_in_flight ≡ filter (λ t. is_ready (hart_of m t).status) (range_with_len 0 (length m.harts))
 unfolding free_threads
-free_threads-nobody_out m =
-    filter-same (is_free_in m nobody_out) (λ t. is_ready (hart_of m t).status) (range_with_len 0 (length m.harts))
-    (λ t. ap (λ b. is_ready (hart_of m t).status && not b) (nobody_out-none t)
+free_threads-none_in_flight m =
+    filter-same (is_free_in m none_in_flight) (λ t. is_ready (hart_of m t).status) (range_with_len 0 (length m.harts))
+    (λ t. ap (λ b. is_ready (hart_of m t).status && not b) (none_in_flight-none t)
     ∙ and-true (is_ready (hart_of m t).status))
   where
     and-true : (b : Bool) → (b && true) ≡ b
@@ -136,16 +136,16 @@ fewest m =
     (zero-add (position_or_len (is_ready_at (least (ready_numbers m.harts))) m.harts))
 
 -- with nothing to go by all are due, and none has a place
-pub choice_by-nothing : (m : Machine) → choice_by None m nobody_out ≡ choice m
+pub choice_by-nothing : (m : Machine) → choice_by None m none_in_flight ≡ choice m
 unfolding choice_by best is_due
 choice_by-nothing m =
-    let free : List ℕ = free_threads m nobody_out in
+    let free : List ℕ = free_threads m none_in_flight in
     ap (λ due. first_of (least_by (λ t. (hart_of m t).number)
-    (least_by (λ t. 0) (eligible due free (is_any_out nobody_out))))) (filter-all free)
+    (least_by (λ t. 0) (eligible due free (is_any_in_flight none_in_flight))))) (filter-all free)
     ∙ ap (λ ts. first_of (least_by (λ t. (hart_of m t).number) (least_by (λ t. 0) ts)))
-    (eligible-self free (is_any_out nobody_out))
+    (eligible-self free (is_any_in_flight none_in_flight))
     ∙ ap (λ ts. first_of (least_by (λ t. (hart_of m t).number) ts)) (least_by-zeros free)
-    ∙ ap (λ ts. first_of (least_by (λ t. (hart_of m t).number) ts)) (free_threads-nobody_out m)
+    ∙ ap (λ ts. first_of (least_by (λ t. (hart_of m t).number) ts)) (free_threads-none_in_flight m)
     ∙ fewest m
 
 same-rest :

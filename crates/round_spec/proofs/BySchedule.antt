@@ -6,7 +6,7 @@ use Rattle.std.specs.List.{range_with_len}
 use Rattle.record_spec.specs.Record.{Record}
 use Rattle.machine_spec.specs.declared.states.End.{End}
 use Rattle.machine_spec.specs.Machine.{Machine, hart_of, is_ready}
-use Rattle.machine_spec.specs.Step.{step, lay, fits}
+use Rattle.machine_spec.specs.Step.{step, apply, fits}
 use Rattle.machine_spec.specs.Schedule.{record_of}
 use Rattle.machine_spec.specs.Setup.{Setup, IsSetup}
 use Rattle.history_spec.specs.History.{History}
@@ -15,11 +15,11 @@ use Rattle.report_spec.specs.declared.Entry.{Entry}
 use Rattle.round_spec.specs.declared.events.Event.{Event}
 use Rattle.round_spec.specs.declared.events.Event.TheVariants.{Take, Reuse, Commit, GiveBack, Stop}
 use Rattle.round_spec.specs.Marks.{record_for, is_fitting, fits_next}
-use Rattle.round_spec.specs.Rounds.{RoundState, nobody_out, nothing_taken, opening, is_over, is_out, is_out_of, can_begin, can_take, can_reuse, taken, taken_when, reused_by, committed, given_back, happens, all_happen, round_after}
+use Rattle.round_spec.specs.Rounds.{RoundState, none_in_flight, nothing_taken, opening, is_finished, is_in_flight, is_in_flight_of, can_begin, can_take, can_reuse, taken, taken_when, reused_by, committed, given_back, happens, all_happen, round_after}
 use Rattle.round_spec.specs.Schedules.{events_of, events_in, round_by, IsBySchedule}
 use Rattle.round_spec.specs.Keeping.{IsHeld, IsInOrder}
 use Rattle.round_spec.proofs.Conditions.{happens-take, happens-take_not, happens-reuse, happens-commit, happens-commit_not}
-use Rattle.round_spec.proofs.Happening.{CanBegin, can_begin-parts, nobody_out-none, nobody_out-length, nothing_taken-none, nothing_taken-length, open-none, opening-kept, happens-kept}
+use Rattle.round_spec.proofs.Happening.{CanBegin, can_begin-parts, none_in_flight-none, none_in_flight-length, nothing_taken-none, nothing_taken-length, open-none, opening-kept, happens-kept}
 use Rattle.round_spec.proofs.Leaving.{round-past}
 
 -- events one after the other
@@ -51,16 +51,16 @@ set-back [] t x none is = refl
 set-back (y ∷ xs) zero x none is = ap (λ z. z ∷ xs) (sym is)
 set-back (y ∷ xs) (suc t) x none is = ap (λ ys. y ∷ ys) (set-back xs t x none is)
 
-set-out : (out : List Bool) (t : ℕ) → t < length out → is_out_of (set out t true) t ≡ true
-set-out [] t below = absurd (omega arith)
-set-out (b ∷ out) zero below = refl
-set-out (b ∷ out) (suc t) below = set-out out t (omega arith)
+set-in_flight : (in_flight : List Bool) (t : ℕ) → t < length in_flight → is_in_flight_of (set in_flight t true) t ≡ true
+set-in_flight [] t below = absurd (omega arith)
+set-in_flight (b ∷ in_flight) zero below = refl
+set-in_flight (b ∷ in_flight) (suc t) below = set-in_flight in_flight t (omega arith)
 
 -- where there is no flag, nothing is set
-pub set-none : (out : List Bool) (t : ℕ) → is_out_of (set out t true) t ≡ false → set out t true ≡ out
+pub set-none : (in_flight : List Bool) (t : ℕ) → is_in_flight_of (set in_flight t true) t ≡ false → set in_flight t true ≡ in_flight
 set-none [] t none = refl
-set-none (b ∷ out) zero none = cc
-set-none (b ∷ out) (suc t) none = ap (λ (bs : List Bool). b ∷ bs) (set-none out t none)
+set-none (b ∷ in_flight) zero none = cc
+set-none (b ∷ in_flight) (suc t) none = ap (λ (bs : List Bool). b ∷ bs) (set-none in_flight t none)
 
 -- nor where there is no length
 set-past : (ns : List ℕ) (t n : ℕ) → length ns ≤ t → set ns t n ≡ ns
@@ -68,29 +68,29 @@ set-past [] t n past = refl
 set-past (m ∷ ns) zero n past = absurd (omega arith)
 set-past (m ∷ ns) (suc t) n past = ap (λ (ms : List ℕ). m ∷ ms) (set-past ns t n (omega arith))
 
-out-past : (out : List Bool) (t : ℕ) → is_out_of (set out t true) t ≡ false → length out ≤ t
-out-past out t none =
-    elim (cases_lt t (length out)) [
-      | inl below ↦ absurd (let is = set-out out t below in cc)
+in_flight-past : (in_flight : List Bool) (t : ℕ) → is_in_flight_of (set in_flight t true) t ≡ false → length in_flight ≤ t
+in_flight-past in_flight t none =
+    elim (cases_lt t (length in_flight)) [
+      | inl below ↦ absurd (let is = set-in_flight in_flight t below in cc)
       | inr past ↦ past
     ]
 
--- who is out has a flag
-pub out-below : (out : List Bool) (t : ℕ) → is_out_of out t ≡ true → t < length out
-out-below [] t is = cc
-out-below (b ∷ out) zero is = omega arith
-out-below (b ∷ out) (suc t) is = let rest = out-below out t is in omega arith
+-- who is in flight has a flag
+pub in_flight-below : (in_flight : List Bool) (t : ℕ) → is_in_flight_of in_flight t ≡ true → t < length in_flight
+in_flight-below [] t is = cc
+in_flight-below (b ∷ in_flight) zero is = omega arith
+in_flight-below (b ∷ in_flight) (suc t) is = let rest = in_flight-below in_flight t is in omega arith
 
 none-some : (e : Option End) → is_none e ≡ true → is_some e ≡ false
 none-some (Some e) none = cc
 none-some None none = refl
 
--- between its entries a round that is made entry by entry has nobody out, wasn't stopped, and has discarded nothing;
--- and
+-- between its entries a round that is made entry by entry has nobody in flight, wasn't stopped, and has discarded
+-- nothing; and
 -- each thread was picked when its turn came
 pub record IsInside (w : RoundState) : Type 0 where
   pub picked : w.picked ≡ range_with_len 0 (length w.schedule)
-  pub out : w.out ≡ nobody_out
+  pub in_flight : w.in_flight ≡ none_in_flight
   pub taken_at : w.taken_at ≡ nothing_taken
   pub stopped : w.stopped ≡ false
   pub discarded : w.discarded ≡ 0
@@ -115,11 +115,11 @@ picked-more picked xs x n picked_is is =
     ∙ range-more 0 (length xs)
     ∙ ap (range_with_len 0) (sym long)
 
-pub inside-none : (w : RoundState) (t : ℕ) → IsInside w → is_out w t ≡ false
-inside-none w t inside = ap (λ (out : List Bool). is_out_of out t) inside.out ∙ nobody_out-none t
+pub inside-none : (w : RoundState) (t : ℕ) → IsInside w → is_in_flight w t ≡ false
+inside-none w t inside = ap (λ (in_flight : List Bool). is_in_flight_of in_flight t) inside.in_flight ∙ none_in_flight-none t
 
--- where a step can be begun, it isn't over
-pub inside-over : (w : RoundState) (t : ℕ) → IsInside w → can_begin w t ≡ true → is_over w ≡ false
+-- where a step can be begun, it isn't finished
+pub inside-over : (w : RoundState) (t : ℕ) → IsInside w → can_begin w t ≡ true → is_finished w ≡ false
 inside-over w t inside can =
     let begins : CanBegin w t = can_begin-parts w t can in
     rw (none-some w.machine.ending begins.none, inside.stopped) refl
@@ -130,7 +130,7 @@ inside-reused w t (Some r) inside =
     record {
       picked =
           picked-more w.picked w.schedule (record { thread = t; reused = true }) (length w.schedule) inside.picked refl;
-      out = inside.out;
+      in_flight = inside.in_flight;
       taken_at = inside.taken_at;
       stopped = inside.stopped;
       discarded = inside.discarded;
@@ -145,28 +145,28 @@ inside-reuse w t inside = by (can_reuse w t)
     by false = inside
 
 -- a thread that has no flag is taken in vain
-pub taken-none : (w : RoundState) (t : ℕ) → IsInside w → is_out (taken w t) t ≡ false → taken w t ≡ w
+pub taken-none : (w : RoundState) (t : ℕ) → IsInside w → is_in_flight (taken w t) t ≡ false → taken w t ≡ w
 taken-none w t inside is =
-    let flags : length w.out ≡ 32 = ap (λ (out : List Bool). length out) inside.out ∙ nobody_out-length in
+    let flags : length w.in_flight ≡ 32 = ap (λ (in_flight : List Bool). length in_flight) inside.in_flight ∙ none_in_flight-length in
     let lengths : length w.taken_at ≡ 32 = ap (λ (ns : List ℕ). length ns) inside.taken_at ∙ nothing_taken-length in
-    let past = out-past w.out t is in
-    ap (λ (out : List Bool). record w { out = out; taken_at = set w.taken_at t (length w.schedule) })
-    (set-none w.out t is)
+    let past = in_flight-past w.in_flight t is in
+    ap (λ (in_flight : List Bool). record w { in_flight = in_flight; taken_at = set w.taken_at t (length w.schedule) })
+    (set-none w.in_flight t is)
     ∙ ap (λ (ns : List ℕ). record w { taken_at = ns }) (set-past w.taken_at t (length w.schedule) (omega arith))
 
 -- when a thread that has a flag was taken
 taken-now :
-    (w : RoundState) (t : ℕ) → IsInside w → is_out (taken w t) t ≡ true → taken_when (taken w t) t ≡ length w.schedule
+    (w : RoundState) (t : ℕ) → IsInside w → is_in_flight (taken w t) t ≡ true → taken_when (taken w t) t ≡ length w.schedule
 taken-now w t inside is =
-    let below : t < length (set w.out t true) = out-below (set w.out t true) t is in
-    let flags : length (set w.out t true) ≡ 32 =
-    length-set w.out t true ∙ ap (λ (out : List Bool). length out) inside.out ∙ nobody_out-length in
+    let below : t < length (set w.in_flight t true) = in_flight-below (set w.in_flight t true) t is in
+    let flags : length (set w.in_flight t true) ≡ 32 =
+    length-set w.in_flight t true ∙ ap (λ (in_flight : List Bool). length in_flight) inside.in_flight ∙ none_in_flight-length in
     let lengths : length w.taken_at ≡ 32 = ap (λ (ns : List ℕ). length ns) inside.taken_at ∙ nothing_taken-length in
     get_or-set_same w.taken_at t (length w.schedule) 0 (omega arith)
 
 -- a thread that was taken is committed, where there is a flag for it
 inside-commit :
-    (w : RoundState) (t : ℕ) (flag : Bool) → is_over w ≡ false → is_out (taken w t) t ≡ flag → IsInside w
+    (w : RoundState) (t : ℕ) (flag : Bool) → is_finished w ≡ false → is_in_flight (taken w t) t ≡ flag → IsInside w
     → IsInside (happens (taken w t) (Commit t))
 inside-commit w t true over is inside =
     subst IsInside (sym (happens-commit (taken w t) t is over))
@@ -175,7 +175,7 @@ inside-commit w t true over is inside =
           picked-more w.picked w.schedule (record { thread = t; reused = false })
           (taken_when (taken w t) t) inside.picked
           (taken-now w t inside is);
-      out = set-back w.out t true false (inside-none w t inside) ∙ inside.out;
+      in_flight = set-back w.in_flight t true false (inside-none w t inside) ∙ inside.in_flight;
       taken_at =
           set-back w.taken_at t (length w.schedule) 0
           (ap (λ (ns : List ℕ). get_or ns t 0) inside.taken_at ∙ nothing_taken-none t)
@@ -191,10 +191,10 @@ inside-run w t inside = by (can_take w t) refl
   where
     by : (b : Bool) → can_take w t ≡ b → IsInside (happens (happens w (Take t)) (Commit t))
     by true is =
-        let over : is_over w ≡ false =
+        let over : is_finished w ≡ false =
         inside-over w t inside (and-left (can_begin w t) (not (fits_next w.past w.machine t)) is) in
         subst (λ (v : RoundState). IsInside (happens v (Commit t))) (sym (happens-take w t is))
-        (inside-commit w t (is_out (taken w t) t) over refl inside)
+        (inside-commit w t (is_in_flight (taken w t) t) over refl inside)
     by false is =
         subst (λ (v : RoundState). IsInside (happens v (Commit t))) (sym (happens-take_not w t is))
         (subst IsInside (sym (happens-commit_not w t (inside-none w t inside))) inside)
@@ -217,9 +217,9 @@ entries-inside w (e ∷ es) inside =
 pub round_by-inside : (setup : Setup) (past : Option History) (es : List Entry) → IsInside (round_by setup past es)
 round_by-inside setup past es =
     entries-inside (opening setup past) es
-    (record { picked = refl; out = refl; taken_at = refl; stopped = refl; discarded = refl })
+    (record { picked = refl; in_flight = refl; taken_at = refl; stopped = refl; discarded = refl })
 
--- where a step can be made that goes by what there is, it can be made with nobody out
+-- where a step can be made that goes by what there is, it can be made with nobody in flight
 begins-inside :
     (v : RoundState) (t : ℕ)
     → IsInside v → is_none v.machine.ending ≡ true → is_ready (hart_of v.machine t).status ≡ true
@@ -244,8 +244,8 @@ run-inside v t inside none ready unfit below =
     ap (λ (w : RoundState). happens w (Commit t))
     (happens-take v t (rw (begins-inside v t inside none ready, unfit) refl))
     ∙ happens-commit (taken v t) t
-    (set-out v.out t
-    (subst (λ (n : ℕ). t < n) (sym (ap (λ (out : List Bool). length out) inside.out ∙ nobody_out-length)) below))
+    (set-in_flight v.in_flight t
+    (subst (λ (n : ℕ). t < n) (sym (ap (λ (in_flight : List Bool). length in_flight) inside.in_flight ∙ none_in_flight-length)) below))
     (rw (none-some v.machine.ending none, inside.stopped) refl)
 
 -- each event
@@ -269,7 +269,7 @@ reuse-some w t None there can fit is = is
 reuse-some w t (Some r) there can fit is =
     record {
       schedule = ap (λ (u : RoundState). u.schedule) made ∙ ap (λ (es : List Entry). es ++ e ∷ []) is.schedule;
-      machine = ap (λ (u : RoundState). u.machine) made ∙ ap (λ (m : Machine). lay m r) is.machine;
+      machine = ap (λ (u : RoundState). u.machine) made ∙ ap (λ (m : Machine). apply m r) is.machine;
       records = ap (λ (u : RoundState). u.records) made ∙ ap (λ (rs : List Record). rs ++ r ∷ []) is.records;
     }
   where
@@ -305,9 +305,9 @@ reuse-by w t true can is =
     is
 
 committed-by :
-    (w : RoundState) (t : ℕ) → is_out w t ≡ true → is_over w ≡ false → IsInOrder w → IsBySchedule w
+    (w : RoundState) (t : ℕ) → is_in_flight w t ≡ true → is_finished w ≡ false → IsInOrder w → IsBySchedule w
     → IsBySchedule (committed w t)
-committed-by w t out over kept is =
+committed-by w t in_flight over kept is =
     record {
       schedule = ap (λ (u : RoundState). u.schedule) made ∙ ap (λ (es : List Entry). es ++ e ∷ []) is.schedule;
       machine = ap (λ (u : RoundState). u.machine) made ∙ ap (λ (m : Machine). step m t) is.machine;
@@ -324,7 +324,7 @@ committed-by w t out over kept is =
     v = round_by w.setup w.past w.schedule
 
     held : IsHeld w t
-    held = kept.held t out
+    held = kept.held t in_flight
 
     made : round_by w.setup w.past (w.schedule ++ e ∷ []) ≡ committed (taken v t) t
     made =
@@ -335,23 +335,23 @@ committed-by w t out over kept is =
         (ap (λ (p : Option History). fits_next p v.machine t) (round-past w.setup w.past (events_in w.schedule))
         ∙ ap (λ (m : Machine). fits_next w.past m t) is.machine
         ∙ held.unfit)
-        (subst (λ (n : ℕ). t < n) kept.flags (out-below w.out t out))
+        (subst (λ (n : ℕ). t < n) kept.flags (in_flight-below w.in_flight t in_flight))
 
 commit-by :
-    (w : RoundState) (t : ℕ) (out over : Bool)
-    → is_out w t ≡ out → is_over w ≡ over → IsInOrder w → IsBySchedule w
-    → IsBySchedule (cond out (cond over (given_back w t) (committed w t)) w)
-commit-by w t false over is_out is_over kept is = is
-commit-by w t true true is_out is_over kept is = given_back-by w t is
-commit-by w t true false is_out is_over kept is = committed-by w t is_out is_over kept is
+    (w : RoundState) (t : ℕ) (in_flight over : Bool)
+    → is_in_flight w t ≡ in_flight → is_finished w ≡ over → IsInOrder w → IsBySchedule w
+    → IsBySchedule (cond in_flight (cond over (given_back w t) (committed w t)) w)
+commit-by w t false over is_in_flight is_finished kept is = is
+commit-by w t true true is_in_flight is_finished kept is = given_back-by w t is
+commit-by w t true false is_in_flight is_finished kept is = committed-by w t is_in_flight is_finished kept is
 
 -- a round that is where its schedule leads is so after an event
 pub by_schedule-happens : (w : RoundState) (e : Event) → IsInOrder w → IsBySchedule w → IsBySchedule (happens w e)
 unfolding happens
 by_schedule-happens w (Take t) kept is = take-by w t (can_take w t) is
 by_schedule-happens w (Reuse t) kept is = reuse-by w t (can_reuse w t) refl is
-by_schedule-happens w (Commit t) kept is = commit-by w t (is_out w t) (is_over w) refl refl kept is
-by_schedule-happens w (GiveBack t) kept is = give_back-by w t (is_out w t) is
+by_schedule-happens w (Commit t) kept is = commit-by w t (is_in_flight w t) (is_finished w) refl refl kept is
+by_schedule-happens w (GiveBack t) kept is = give_back-by w t (is_in_flight w t) is
 by_schedule-happens w Stop kept is =
     record { schedule = is.schedule; machine = is.machine; records = is.records }
 

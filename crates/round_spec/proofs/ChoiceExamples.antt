@@ -26,7 +26,7 @@ use Rattle.machine_spec.specs.Step.{step, finished, fits}
 use Rattle.machine_spec.proofs.Guests.{begins, late}
 use Rattle.history_spec.specs.History.{History}
 use Rattle.round_spec.specs.declared.events.Pick.TheVariants as pick
-use Rattle.round_spec.specs.Rounds.{nobody_out, happens}
+use Rattle.round_spec.specs.Rounds.{none_in_flight, happens}
 use Rattle.round_spec.specs.Due.{is_due}
 use Rattle.round_spec.specs.Choice.{free_threads, least_by, best, choice_by, pick_of}
 use Rattle.round_spec.specs.Alone.{guided_from, after_picks}
@@ -92,47 +92,47 @@ with_ended = of_harts (hart 1 Ready ∷ hart 0 Ready ∷ hart 0 Ready ∷ hart 0
 
 -- the flags of 32 threads with thread 0 out
 abbrev zero_out : List Bool
-zero_out = set nobody_out 0 true
+zero_out = set none_in_flight 0 true
 
 -- The earlier step of thread 0 has been made, so its next is due; the others wait for it.
 pub due-in_order : map (is_due in_order three) (0 ∷ 1 ∷ 2 ∷ []) ≡ true ∷ false ∷ false ∷ []
-unfolding nobody_out is_due free_threads least_by best choice_by pick_of is_picked_on first first_registers entry_of
+unfolding none_in_flight is_due free_threads least_by best choice_by pick_of is_picked_on first first_registers entry_of
     u32_at fits fits_at may_end
 due-in_order = refl
 
 -- The choice is the due one; with it out, nobody.
-pub choice-in_order : choice_by in_order three nobody_out ≡ Some 0
-unfolding nobody_out is_due free_threads least_by best choice_by pick_of is_picked_on first first_registers entry_of
+pub choice-in_order : choice_by in_order three none_in_flight ≡ Some 0
+unfolding none_in_flight is_due free_threads least_by best choice_by pick_of is_picked_on first first_registers entry_of
     u32_at fits fits_at may_end
 choice-in_order = refl
 
 -- Who is due and out isn't chosen again, and who isn't due waits for it.
 pub choice-waits : choice_by in_order three zero_out ≡ None
-unfolding nobody_out is_due free_threads least_by best choice_by pick_of is_picked_on first first_registers entry_of
+unfolding none_in_flight is_due free_threads least_by best choice_by pick_of is_picked_on first first_registers entry_of
     u32_at fits fits_at may_end
 choice-waits = refl
 
 -- A step that depends on none which is still to be made is due, though others come before it; and one that depends on
 -- the first through nothing but its page waits for it.
 pub due-apart : map (is_due apart three) (0 ∷ 1 ∷ 2 ∷ []) ≡ true ∷ false ∷ true ∷ []
-unfolding nobody_out is_due free_threads least_by best choice_by pick_of is_picked_on first first_registers entry_of
+unfolding none_in_flight is_due free_threads least_by best choice_by pick_of is_picked_on first first_registers entry_of
     u32_at fits fits_at may_end
 due-apart = refl
 
 -- Of those that are due the one of the least place is chosen; with it out, the other.
-pub choice-apart : choice_by apart three nobody_out ≡ Some 0
-unfolding nobody_out is_due free_threads least_by best choice_by pick_of is_picked_on first first_registers entry_of
+pub choice-apart : choice_by apart three none_in_flight ≡ Some 0
+unfolding none_in_flight is_due free_threads least_by best choice_by pick_of is_picked_on first first_registers entry_of
     u32_at fits fits_at may_end
 choice-apart = refl
 
 pub choice-apart_out : choice_by apart three zero_out ≡ Some 2
-unfolding nobody_out is_due free_threads least_by best choice_by pick_of is_picked_on first first_registers entry_of
+unfolding none_in_flight is_due free_threads least_by best choice_by pick_of is_picked_on first first_registers entry_of
     u32_at fits fits_at may_end
 choice-apart_out = refl
 
 -- Where it is not the least place, it is picked rightly all the same.
 pub picked-apart : is_picked_on apart three 2 0 ≡ true
-unfolding nobody_out is_due free_threads least_by best choice_by pick_of is_picked_on first first_registers entry_of
+unfolding none_in_flight is_due free_threads least_by best choice_by pick_of is_picked_on first first_registers entry_of
     u32_at fits fits_at may_end
 picked-apart = refl
 
@@ -142,112 +142,112 @@ pub due-through :
     map
     (is_due (past_of (writing 0 0 0 ∷ writing 0 0 1 ∷ writing_at 100 (0 ∷ 1 ∷ []) 2 0 ∷ writing 1 1 0 ∷ []))
     (of_harts (hart 1 Ready ∷ hart 0 Ready ∷ hart 0 (Ended 7) ∷ []))) (0 ∷ 1 ∷ []) ≡ true ∷ false ∷ []
-unfolding nobody_out is_due free_threads least_by best choice_by pick_of is_picked_on first first_registers entry_of
+unfolding none_in_flight is_due free_threads least_by best choice_by pick_of is_picked_on first first_registers entry_of
     u32_at fits fits_at may_end
 due-through = refl
 
 -- A thread that isn't there hasn't ended: all wait for its step.
 pub due-absent : map (is_due after_3 three) (0 ∷ 1 ∷ 2 ∷ []) ≡ false ∷ false ∷ false ∷ []
-unfolding nobody_out is_due free_threads least_by best choice_by pick_of is_picked_on first first_registers entry_of
+unfolding none_in_flight is_due free_threads least_by best choice_by pick_of is_picked_on first first_registers entry_of
     u32_at fits fits_at may_end
 due-absent = refl
 
--- Where nobody is due and nobody is out, the one of the least place is chosen all the same.
-pub choice-absent : choice_by after_3 three nobody_out ≡ Some 2
-unfolding nobody_out is_due free_threads least_by best choice_by pick_of is_picked_on first first_registers entry_of
+-- Where nobody is due and nobody is in flight, the one of the least place is chosen all the same.
+pub choice-absent : choice_by after_3 three none_in_flight ≡ Some 2
+unfolding none_in_flight is_due free_threads least_by best choice_by pick_of is_picked_on first first_registers entry_of
     u32_at fits fits_at may_end
 choice-absent = refl
 
 -- With a thread out there is then no choice.
 pub choice-absent_out : choice_by after_3 three zero_out ≡ None
-unfolding nobody_out is_due free_threads least_by best choice_by pick_of is_picked_on first first_registers entry_of
+unfolding none_in_flight is_due free_threads least_by best choice_by pick_of is_picked_on first first_registers entry_of
     u32_at fits fits_at may_end
 choice-absent_out = refl
 
 -- A thread that has ended isn't waited for.
 pub due-ended : map (is_due after_3 with_ended) (0 ∷ 1 ∷ 2 ∷ []) ≡ false ∷ false ∷ true ∷ []
-unfolding nobody_out is_due free_threads least_by best choice_by pick_of is_picked_on first first_registers entry_of
+unfolding none_in_flight is_due free_threads least_by best choice_by pick_of is_picked_on first first_registers entry_of
     u32_at fits fits_at may_end
 due-ended = refl
 
--- So thread 2 is chosen, also while thread 0 is out.
+-- So thread 2 is chosen, also while thread 0 is in flight.
 pub choice-ended : choice_by after_3 with_ended zero_out ≡ Some 2
-unfolding nobody_out is_due free_threads least_by best choice_by pick_of is_picked_on first first_registers entry_of
+unfolding none_in_flight is_due free_threads least_by best choice_by pick_of is_picked_on first first_registers entry_of
     u32_at fits fits_at may_end
 choice-ended = refl
 
 -- Who has a place comes before who has none, though it has made more steps.
-pub choice-placed : choice_by (past_of (bare 0 0 ∷ bare 0 1 ∷ [])) three nobody_out ≡ Some 0
-unfolding nobody_out is_due free_threads least_by best choice_by pick_of is_picked_on first first_registers entry_of
+pub choice-placed : choice_by (past_of (bare 0 0 ∷ bare 0 1 ∷ [])) three none_in_flight ≡ Some 0
+unfolding none_in_flight is_due free_threads least_by best choice_by pick_of is_picked_on first first_registers entry_of
     u32_at fits fits_at may_end
 choice-placed = refl
 
 -- Who has no record is due, and is chosen before who has to wait.
 pub choice-unplaced :
     choice_by (past_of (writing 0 0 0 ∷ writing 0 3 0 ∷ writing 0 0 1 ∷ []))
-    (of_harts (hart 1 Ready ∷ hart 5 Ready ∷ [])) nobody_out ≡ Some 1
-unfolding nobody_out is_due free_threads least_by best choice_by pick_of is_picked_on first first_registers entry_of
+    (of_harts (hart 1 Ready ∷ hart 5 Ready ∷ [])) none_in_flight ≡ Some 1
+unfolding none_in_flight is_due free_threads least_by best choice_by pick_of is_picked_on first first_registers entry_of
     u32_at fits fits_at may_end
 choice-unplaced = refl
 
 -- With no places the fewest steps decide, and then the lowest number.
-pub choice-fewest : choice_by None (of_harts (hart 2 Ready ∷ hart 1 Ready ∷ hart 1 Ready ∷ [])) nobody_out ≡ Some 1
-unfolding nobody_out is_due free_threads least_by best choice_by pick_of is_picked_on first first_registers entry_of
+pub choice-fewest : choice_by None (of_harts (hart 2 Ready ∷ hart 1 Ready ∷ hart 1 Ready ∷ [])) none_in_flight ≡ Some 1
+unfolding none_in_flight is_due free_threads least_by best choice_by pick_of is_picked_on first first_registers entry_of
     u32_at fits fits_at may_end
 choice-fewest = refl
 
 -- Who waits in a queue, or has ended, isn't chosen.
-pub choice-ready : choice_by None (of_harts (hart 0 Blocked ∷ hart 0 (Ended 0) ∷ hart 3 Ready ∷ [])) nobody_out ≡ Some 2
-unfolding nobody_out is_due free_threads least_by best choice_by pick_of is_picked_on first first_registers entry_of
+pub choice-ready : choice_by None (of_harts (hart 0 Blocked ∷ hart 0 (Ended 0) ∷ hart 3 Ready ∷ [])) none_in_flight ≡ Some 2
+unfolding none_in_flight is_due free_threads least_by best choice_by pick_of is_picked_on first first_registers entry_of
     u32_at fits fits_at may_end
 choice-ready = refl
 
 -- A record at another number of steps gives no place.
-pub choice-number : choice_by (past_of (bare 0 7 ∷ [])) three nobody_out ≡ Some 1
-unfolding nobody_out is_due free_threads least_by best choice_by pick_of is_picked_on first first_registers entry_of
+pub choice-number : choice_by (past_of (bare 0 7 ∷ [])) three none_in_flight ≡ Some 1
+unfolding none_in_flight is_due free_threads least_by best choice_by pick_of is_picked_on first first_registers entry_of
     u32_at fits fits_at may_end
 choice-number = refl
 
 -- Whose record fits is reused.
 pub pick-reuse : pick_of (starts three in_order) ≡ pick.Reuse 0
-unfolding nobody_out is_due free_threads least_by best choice_by pick_of is_picked_on first first_registers entry_of
+unfolding none_in_flight is_due free_threads least_by best choice_by pick_of is_picked_on first first_registers entry_of
     u32_at fits fits_at may_end
 pick-reuse = refl
 
 -- Whose record doesn't fit is run.
 pub pick-run : pick_of (starts three (past_of (bare 0 0 ∷ starting_at 104 0 1 ∷ []))) ≡ pick.Run 0
-unfolding nobody_out is_due free_threads least_by best choice_by pick_of is_picked_on first first_registers entry_of
+unfolding none_in_flight is_due free_threads least_by best choice_by pick_of is_picked_on first first_registers entry_of
     u32_at fits fits_at may_end
 pick-run = refl
 
 -- Who has no record is run.
 pub pick-run_new : pick_of (starts three None) ≡ pick.Run 1
-unfolding nobody_out is_due free_threads least_by best choice_by pick_of is_picked_on first first_registers entry_of
+unfolding none_in_flight is_due free_threads least_by best choice_by pick_of is_picked_on first first_registers entry_of
     u32_at fits fits_at may_end
 pick-run_new = refl
 
--- Where all wait for one that is out, so does the worker.
-pub pick-hold : pick_of (record (starts three in_order) { out = zero_out }) ≡ pick.Hold
-unfolding nobody_out is_due free_threads least_by best choice_by pick_of is_picked_on first first_registers entry_of
+-- Where all wait for one that is in flight, so does the worker.
+pub pick-hold : pick_of (record (starts three in_order) { in_flight = zero_out }) ≡ pick.Hold
+unfolding none_in_flight is_due free_threads least_by best choice_by pick_of is_picked_on first first_registers entry_of
     u32_at fits fits_at may_end
 pick-hold = refl
 
--- A stopped round is over, also where somebody is out.
-pub pick-stopped : pick_of (record (starts three in_order) { out = zero_out; stopped = true }) ≡ pick.Over
-unfolding nobody_out is_due free_threads least_by best choice_by pick_of is_picked_on first first_registers entry_of
+-- A stopped round is finished, also where somebody is in flight.
+pub pick-stopped : pick_of (record (starts three in_order) { in_flight = zero_out; stopped = true }) ≡ pick.Over
+unfolding none_in_flight is_due free_threads least_by best choice_by pick_of is_picked_on first first_registers entry_of
     u32_at fits fits_at may_end
 pick-stopped = refl
 
 -- So is one whose machine has an end.
 pub pick-ended : pick_of (starts (record three { ending = Some (Exit 0) }) in_order) ≡ pick.Over
-unfolding nobody_out is_due free_threads least_by best choice_by pick_of is_picked_on first first_registers entry_of
+unfolding none_in_flight is_due free_threads least_by best choice_by pick_of is_picked_on first first_registers entry_of
     u32_at fits fits_at may_end
 pick-ended = refl
 
 -- One worker that goes by the order 0, 0, 1, 0 makes these steps, though none waits for another thread's, and exits.
 pub guided-late :
     guided_from (past_of (bare 0 0 ∷ bare 0 1 ∷ bare 1 0 ∷ bare 0 2 ∷ [])) 9 (begins 9 9 late) ≡ 0 ∷ 0 ∷ 1 ∷ 0 ∷ []
-unfolding nobody_out is_due free_threads least_by best choice_by pick_of is_picked_on first first_registers entry_of
+unfolding none_in_flight is_due free_threads least_by best choice_by pick_of is_picked_on first first_registers entry_of
     u32_at fits fits_at may_end step finished thunk turn fetched number_at number_in permission_at decoded reading_of
     u_immediate i_immediate s_immediate immediate_result shift_result register_result with_register is_readable
     put_addresses loaded may_store bytes_stored with_byte all_unlocked
@@ -255,7 +255,7 @@ guided-late = refl
 
 -- With nothing to go by, main and the thread alternate.
 pub guided-alone : guided_from None 9 (begins 9 9 late) ≡ 0 ∷ 1 ∷ 0 ∷ 1 ∷ 0 ∷ []
-unfolding nobody_out is_due free_threads least_by best choice_by pick_of is_picked_on first first_registers entry_of
+unfolding none_in_flight is_due free_threads least_by best choice_by pick_of is_picked_on first first_registers entry_of
     u32_at fits fits_at may_end step finished thunk turn fetched number_at number_in permission_at decoded reading_of
     u_immediate i_immediate s_immediate immediate_result shift_result register_result with_register is_readable
     put_addresses loaded may_store bytes_stored with_byte all_unlocked
@@ -263,43 +263,43 @@ guided-alone = refl
 
 -- Rightly picked is who is ready, at that number, and due.
 pub picked-due : is_picked_on in_order three 0 1 ≡ true
-unfolding nobody_out is_due free_threads least_by best choice_by pick_of is_picked_on first first_registers entry_of
+unfolding none_in_flight is_due free_threads least_by best choice_by pick_of is_picked_on first first_registers entry_of
     u32_at fits fits_at may_end
 picked-due = refl
 
 -- Not at another number.
 pub picked-number : is_picked_on in_order three 0 0 ≡ false
-unfolding nobody_out is_due free_threads least_by best choice_by pick_of is_picked_on first first_registers entry_of
+unfolding none_in_flight is_due free_threads least_by best choice_by pick_of is_picked_on first first_registers entry_of
     u32_at fits fits_at may_end
 picked-number = refl
 
 -- Not while somebody else is due.
 pub picked-not_due : is_picked_on in_order three 2 0 ≡ false
-unfolding nobody_out is_due free_threads least_by best choice_by pick_of is_picked_on first first_registers entry_of
+unfolding none_in_flight is_due free_threads least_by best choice_by pick_of is_picked_on first first_registers entry_of
     u32_at fits fits_at may_end
 picked-not_due = refl
 
 -- Where nobody is due, anybody is.
 pub picked-nobody_due : is_picked_on after_3 three 1 0 ≡ true
-unfolding nobody_out is_due free_threads least_by best choice_by pick_of is_picked_on first first_registers entry_of
+unfolding none_in_flight is_due free_threads least_by best choice_by pick_of is_picked_on first first_registers entry_of
     u32_at fits fits_at may_end
 picked-nobody_due = refl
 
 -- Nobody who isn't ready is.
 pub picked-not_ready : is_picked_on None (of_harts (hart 0 Blocked ∷ hart 3 Ready ∷ [])) 0 0 ≡ false
-unfolding nobody_out is_due free_threads least_by best choice_by pick_of is_picked_on first first_registers entry_of
+unfolding none_in_flight is_due free_threads least_by best choice_by pick_of is_picked_on first first_registers entry_of
     u32_at fits fits_at may_end
 picked-not_ready = refl
 
 -- Not who has no record, while somebody who is due has one that fits.
 pub picked-unplaced : is_picked_on (past_of (bare 0 0 ∷ bare 0 1 ∷ [])) three 1 0 ≡ false
-unfolding nobody_out is_due free_threads least_by best choice_by pick_of is_picked_on first first_registers entry_of
+unfolding none_in_flight is_due free_threads least_by best choice_by pick_of is_picked_on first first_registers entry_of
     u32_at fits fits_at may_end
 picked-unplaced = refl
 
 -- Where that one doesn't fit, it may be.
 pub picked-unplaced_unfit : is_picked_on (past_of (bare 0 0 ∷ starting_at 104 0 1 ∷ [])) three 1 0 ≡ true
-unfolding nobody_out is_due free_threads least_by best choice_by pick_of is_picked_on first first_registers entry_of
+unfolding none_in_flight is_due free_threads least_by best choice_by pick_of is_picked_on first first_registers entry_of
     u32_at fits fits_at may_end
 picked-unplaced_unfit = refl
 
@@ -307,7 +307,7 @@ picked-unplaced_unfit = refl
 pub lone-late :
     seen (after_picks 9 (starts (begins 9 9 late) (past_of (bare 0 0 ∷ bare 0 1 ∷ bare 1 0 ∷ bare 0 2 ∷ []))))
     ≡ (executes 0 ∷ executes 0 ∷ executes 1 ∷ executes 0 ∷ [], [], 0, false)
-unfolding nobody_out is_due free_threads least_by best choice_by pick_of is_picked_on first first_registers entry_of
+unfolding none_in_flight is_due free_threads least_by best choice_by pick_of is_picked_on first first_registers entry_of
     u32_at fits fits_at may_end step finished thunk turn fetched number_at number_in permission_at decoded reading_of
     u_immediate i_immediate s_immediate immediate_result shift_result register_result with_register is_readable
     put_addresses loaded may_store bytes_stored with_byte all_unlocked happens

@@ -9,7 +9,7 @@ use Rattle.order_spec.specs.Ancestors.{count_below, is_ancestor, is_up_to, clock
 use Rattle.order_spec.proofs.Lists.{and-left, and-right, or-in_left, or-in_right, is_or_not}
 use Rattle.order_spec.proofs.Clocks.{count-le, lt-bit, clock-tells}
 use Rattle.order_spec.proofs.Places.{below-all}
-use Rattle.round_spec.specs.Due.{is_gone, is_passed_at, are_passed_before}
+use Rattle.round_spec.specs.Due.{has_exited, is_passed_at, are_passed_before}
 use Rattle.round_spec.proofs.Placed.{all-below-of, not-or, not-or_gives, number-less}
 
 record IsHit (p : ℕ → Bool) (m n : ℕ) : Type 0 where
@@ -42,12 +42,12 @@ pub passed-clock :
     (fs : List Fact) (m : Machine) (j : ℕ)
     → (hart_of m (fact_at fs j).thread).number ≡ number_at fs j
     → are_passed_before fs m j ≡ true
-    ↔ ((u : ℕ) → u ≢ (fact_at fs j).thread → (clock_at fs j u ≤ (hart_of m u).number) ⊎ (is_gone m u ≡ true))
+    ↔ ((u : ℕ) → u ≢ (fact_at fs j).thread → (clock_at fs j u ≤ (hart_of m u).number) ⊎ (has_exited m u ≡ true))
 passed-clock fs m j number = (to, from)
   where
     to :
         are_passed_before fs m j ≡ true → (u : ℕ) → u ≢ (fact_at fs j).thread
-        → (clock_at fs j u ≤ (hart_of m u).number) ⊎ (is_gone m u ≡ true)
+        → (clock_at fs j u ≤ (hart_of m u).number) ⊎ (has_exited m u ≡ true)
     to all u other =
         elim (cases_lt (hart_of m u).number (clock_at fs j u)) [
           | inr enough ↦ inl enough
@@ -78,11 +78,11 @@ passed-clock fs m j number = (to, from)
               let unmade : ltb (number_at fs hit.at) (hart_of m (fact_at fs hit.at).thread).number ≡ false =
               (let same : (hart_of m (fact_at fs hit.at).thread).number ≡ (hart_of m u).number =
               ap (λ (t : ℕ). (hart_of m t).number) thread in grind (arith, nat_tests)) in
-              inr (ap (is_gone m) (sym thread) ∙ (rw unmade at passed))
+              inr (ap (has_exited m) (sym thread) ∙ (rw unmade at passed))
         ]
 
     from :
-        ((u : ℕ) → u ≢ (fact_at fs j).thread → (clock_at fs j u ≤ (hart_of m u).number) ⊎ (is_gone m u ≡ true))
+        ((u : ℕ) → u ≢ (fact_at fs j).thread → (clock_at fs j u ≤ (hart_of m u).number) ⊎ (has_exited m u ≡ true))
         → are_passed_before fs m j ≡ true
     from each =
         all-below-of (λ a. not (is_ancestor fs a j) || is_passed_at fs m a) j

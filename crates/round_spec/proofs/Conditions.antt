@@ -1,15 +1,15 @@
--- An event where its condition holds, and where it doesn't; and that to commit is to lay a true record that fits.
+-- An event where its condition holds, and where it doesn't; and that to commit is to apply a true record that fits.
 use Rattle.std.proofs.Common.{◌≡◌, ℕ, true, false, cond, [], ◌∷◌, ◌++◌, set, Some, refl, ap, sym, ◌∙◌}
 use Rattle.record_spec.specs.Record.{Record, IsTrue}
 use Rattle.machine_spec.specs.Machine.{Machine}
-use Rattle.machine_spec.specs.Step.{step, lay, fits}
+use Rattle.machine_spec.specs.Step.{step, apply, fits}
 use Rattle.machine_spec.specs.Schedule.{record_of}
 use Rattle.machine_spec.specs.Whole.{IsWhole}
-use Rattle.machine_spec.proofs.Steps.{lay-step}
+use Rattle.machine_spec.proofs.Steps.{apply-step}
 use Rattle.history_spec.proofs.Truth.{fits-record}
 use Rattle.round_spec.specs.declared.events.Event.TheVariants.{Take, Reuse, Commit, GiveBack, Stop}
 use Rattle.round_spec.specs.Marks.{record_for}
-use Rattle.round_spec.specs.Rounds.{RoundState, is_over, is_out, can_take, can_reuse, taken, taken_when, reused_by, committed, given_back, with_stop, happens}
+use Rattle.round_spec.specs.Rounds.{RoundState, is_finished, is_in_flight, can_take, can_reuse, taken, taken_when, reused_by, committed, given_back, with_stop, happens}
 
 pub happens-take : (w : RoundState) (t : ℕ) → can_take w t ≡ true → happens w (Take t) ≡ taken w t
 unfolding happens
@@ -31,32 +31,32 @@ unfolding happens
 happens-reuse_not w t is = ap (λ b. cond b (reused_by w t (record_for w.past w.machine t)) w) is
 
 pub happens-commit :
-    (w : RoundState) (t : ℕ) → is_out w t ≡ true → is_over w ≡ false
+    (w : RoundState) (t : ℕ) → is_in_flight w t ≡ true → is_finished w ≡ false
     → happens w (Commit t) ≡ committed w t
 unfolding happens
-happens-commit w t out over =
-    ap (λ b. cond b (cond (is_over w) (given_back w t) (committed w t)) w) out
+happens-commit w t in_flight over =
+    ap (λ b. cond b (cond (is_finished w) (given_back w t) (committed w t)) w) in_flight
     ∙ ap (λ b. cond b (given_back w t) (committed w t)) over
 
 pub happens-commit_over :
-    (w : RoundState) (t : ℕ) → is_out w t ≡ true → is_over w ≡ true
+    (w : RoundState) (t : ℕ) → is_in_flight w t ≡ true → is_finished w ≡ true
     → happens w (Commit t) ≡ given_back w t
 unfolding happens
-happens-commit_over w t out over =
-    ap (λ b. cond b (cond (is_over w) (given_back w t) (committed w t)) w) out
+happens-commit_over w t in_flight over =
+    ap (λ b. cond b (cond (is_finished w) (given_back w t) (committed w t)) w) in_flight
     ∙ ap (λ b. cond b (given_back w t) (committed w t)) over
 
-pub happens-commit_not : (w : RoundState) (t : ℕ) → is_out w t ≡ false → happens w (Commit t) ≡ w
+pub happens-commit_not : (w : RoundState) (t : ℕ) → is_in_flight w t ≡ false → happens w (Commit t) ≡ w
 unfolding happens
-happens-commit_not w t out = ap (λ b. cond b (cond (is_over w) (given_back w t) (committed w t)) w) out
+happens-commit_not w t in_flight = ap (λ b. cond b (cond (is_finished w) (given_back w t) (committed w t)) w) in_flight
 
-pub happens-give_back : (w : RoundState) (t : ℕ) → is_out w t ≡ true → happens w (GiveBack t) ≡ given_back w t
+pub happens-give_back : (w : RoundState) (t : ℕ) → is_in_flight w t ≡ true → happens w (GiveBack t) ≡ given_back w t
 unfolding happens
-happens-give_back w t out = ap (λ b. cond b (given_back w t) w) out
+happens-give_back w t in_flight = ap (λ b. cond b (given_back w t) w) in_flight
 
-pub happens-give_back_not : (w : RoundState) (t : ℕ) → is_out w t ≡ false → happens w (GiveBack t) ≡ w
+pub happens-give_back_not : (w : RoundState) (t : ℕ) → is_in_flight w t ≡ false → happens w (GiveBack t) ≡ w
 unfolding happens
-happens-give_back_not w t out = ap (λ b. cond b (given_back w t) w) out
+happens-give_back_not w t in_flight = ap (λ b. cond b (given_back w t) w) in_flight
 
 pub happens-stop : (w : RoundState) → happens w Stop ≡ with_stop w
 unfolding happens
@@ -71,7 +71,7 @@ same-commit :
       records = w.records
           ++ r ∷ [];
       picked = w.picked ++ taken_when w t ∷ [];
-      out = set w.out t false;
+      in_flight = set w.in_flight t false;
       taken_at = set w.taken_at t 0;
     }
     ≡ record w {
@@ -80,26 +80,26 @@ same-commit :
       records = w.records
           ++ s ∷ [];
       picked = w.picked ++ taken_when w t ∷ [];
-      out = set w.out t false;
+      in_flight = set w.in_flight t false;
       taken_at = set w.taken_at t 0;
     }
 same-commit w t m n r s machine is = rw (machine, is) refl
 
--- to commit is to lay a true record that fits
-pub commit-lays :
+-- to commit is to apply a true record that fits
+pub commit-applies :
     (w : RoundState) (r : Record)
     → IsWhole w.machine → IsTrue w.machine.frame r.start r.kept
-    → is_out w r.thread ≡ true → is_over w ≡ false → fits w.machine r ≡ true
+    → is_in_flight w r.thread ≡ true → is_finished w ≡ false → fits w.machine r ≡ true
     → happens w (Commit r.thread)
     ≡ record w {
-      machine = lay w.machine r;
+      machine = apply w.machine r;
       schedule = w.schedule ++ record { thread = r.thread; reused = false } ∷ [];
       records = w.records ++ r ∷ [];
       picked = w.picked ++ taken_when w r.thread ∷ [];
-      out = set w.out r.thread false;
+      in_flight = set w.in_flight r.thread false;
       taken_at = set w.taken_at r.thread 0;
     }
-commit-lays w r whole honest out over fit =
-    happens-commit w r.thread out over
-    ∙ same-commit w r.thread (step w.machine r.thread) (lay w.machine r) (record_of w.machine r.thread) r
-    (sym (lay-step w.machine r whole honest fit)) (sym (fits-record w.machine r whole honest fit))
+commit-applies w r whole honest in_flight over fit =
+    happens-commit w r.thread in_flight over
+    ∙ same-commit w r.thread (step w.machine r.thread) (apply w.machine r) (record_of w.machine r.thread) r
+    (sym (apply-step w.machine r whole honest fit)) (sym (fits-record w.machine r whole honest fit))

@@ -2,20 +2,20 @@
 use Rattle.std.proofs.Common.{◌≡◌, ℕ, suc, ◌+◌, Bool, true, false, cond, eqb, List, [], ◌∷◌, ◌++◌, append_assoc, append-nil, length, length-append, set, count_by, Option, Some, None, refl, ap, sym, ◌∙◌, arith}
 use Rattle.record_spec.specs.Record.{Record}
 use Rattle.machine_spec.specs.Machine.{Machine, hart_of, is_ready}
-use Rattle.machine_spec.specs.Step.{step, lay}
+use Rattle.machine_spec.specs.Step.{step, apply}
 use Rattle.machine_spec.specs.Schedule.{record_of}
 use Rattle.machine_spec.specs.Setup.{Setup, IsSetup}
 use Rattle.machine_spec.proofs.Alone.{step-steps}
 use Rattle.history_spec.specs.History.{History, found, threads_of_records}
 use Rattle.history_spec.proofs.Scratch.{and-left}
 use Rattle.history_spec.proofs.Truth.{past-of}
-use Rattle.history_spec.proofs.Numbers.{one_for, step-number, lay-number, lay-steps, count-more, numbered-more, first-number, first-steps}
+use Rattle.history_spec.proofs.Numbers.{one_for, step-number, apply-number, apply-steps, count-more, numbered-more, first-number, first-steps}
 use Rattle.report_spec.specs.declared.Entry.{Entry}
 use Rattle.report_spec.specs.Report.{threads_of}
 use Rattle.round_spec.specs.declared.events.Event.{Event}
 use Rattle.round_spec.specs.declared.events.Event.TheVariants.{Take, Reuse, Commit, GiveBack, Stop}
 use Rattle.round_spec.specs.Marks.{record_for, fits_next}
-use Rattle.round_spec.specs.Rounds.{RoundState, opening, is_over, is_out, can_begin, can_take, can_reuse, taken, taken_when, reused_by, committed, given_back, happens, all_happen, round_after}
+use Rattle.round_spec.specs.Rounds.{RoundState, opening, is_finished, is_in_flight, can_begin, can_take, can_reuse, taken, taken_when, reused_by, committed, given_back, happens, all_happen, round_after}
 use Rattle.round_spec.specs.Keeping.{IsHeld, IsInOrder, IsReusing, IsCounted}
 use Rattle.round_spec.proofs.Fits.{threads-more}
 use Rattle.round_spec.proofs.Happening.{CanBegin, can_begin-parts, opening-kept, happens-kept}
@@ -49,7 +49,7 @@ reusing-more past earlier (x ∷ es) (y ∷ rs) e r all last = (
 
 -- one entry more, with its record
 counted-more :
-    (w : RoundState) (t : ℕ) (reused : Bool) (m : Machine) (r : Record) (picked : List ℕ) (out : List Bool)
+    (w : RoundState) (t : ℕ) (reused : Bool) (m : Machine) (r : Record) (picked : List ℕ) (in_flight : List Bool)
     (taken_at : List ℕ)
     → IsCounted w
     → m.steps ≡ suc w.machine.steps
@@ -64,10 +64,10 @@ counted-more :
       records = w.records
           ++ r ∷ [];
       picked = picked;
-      out = out;
+      in_flight = in_flight;
       taken_at = taken_at;
     })
-counted-more w t reused m r picked out taken_at counted steps numbers thread number there =
+counted-more w t reused m r picked in_flight taken_at counted steps numbers thread number there =
     let e : Entry = record { thread = t; reused = reused } in
     let threads : threads_of (w.schedule ++ e ∷ []) ≡ threads_of w.schedule ++ t ∷ [] = threads-more w.schedule e in
     record {
@@ -120,9 +120,9 @@ reuse-some w t (Some r) there ready counted =
     past-of w.past t (hart_of w.machine t).number r there in
     let ready_r : is_ready (hart_of w.machine r.thread).status ≡ true =
     ap (λ u. is_ready (hart_of w.machine u).status) of.0 ∙ ready in
-    counted-more w t true (lay w.machine r) r (w.picked ++ length w.schedule ∷ []) w.out w.taken_at counted
-    (lay-steps w.machine r)
-    (λ u. lay-number w.machine r u ready_r ∙ ap (λ v. (hart_of w.machine u).number + one_for u v) of.0)
+    counted-more w t true (apply w.machine r) r (w.picked ++ length w.schedule ∷ []) w.in_flight w.taken_at counted
+    (apply-steps w.machine r)
+    (λ u. apply-number w.machine r u ready_r ∙ ap (λ v. (hart_of w.machine u).number + one_for u v) of.0)
     of.0 of.1
     (λ is. there)
 
@@ -138,17 +138,17 @@ given_back-counted : (w : RoundState) (t : ℕ) → IsCounted w → IsCounted (g
 given_back-counted w t counted = same-counted w (given_back w t) refl refl refl refl counted
 
 commit-counted :
-    (w : RoundState) (t : ℕ) (out over : Bool)
-    → is_out w t ≡ out → IsInOrder w → IsCounted w → IsCounted (cond out (cond over (given_back w t) (committed w t)) w)
+    (w : RoundState) (t : ℕ) (in_flight over : Bool)
+    → is_in_flight w t ≡ in_flight → IsInOrder w → IsCounted w → IsCounted (cond in_flight (cond over (given_back w t) (committed w t)) w)
 commit-counted w t false over is kept counted = counted
 commit-counted w t true true is kept counted = given_back-counted w t counted
 commit-counted w t true false is kept counted =
     let held : IsHeld w t = kept.held t is in
     counted-more w t false (step w.machine t) (record_of w.machine t) (w.picked ++ taken_when w t ∷ [])
-    (set w.out t false) (set w.taken_at t 0) counted (step-steps w.machine t)
+    (set w.in_flight t false) (set w.taken_at t 0) counted (step-steps w.machine t)
     (λ u. step-number w.machine t u held.ready) refl refl (λ no. cc)
 
-give_back-counted : (w : RoundState) (t : ℕ) (out : Bool) → IsCounted w → IsCounted (cond out (given_back w t) w)
+give_back-counted : (w : RoundState) (t : ℕ) (in_flight : Bool) → IsCounted w → IsCounted (cond in_flight (given_back w t) w)
 give_back-counted w t true counted = given_back-counted w t counted
 give_back-counted w t false counted = counted
 
@@ -157,8 +157,8 @@ pub happens-counted : (w : RoundState) (e : Event) → IsInOrder w → IsCounted
 unfolding happens
 happens-counted w (Take t) kept counted = take-counted w t (can_take w t) counted
 happens-counted w (Reuse t) kept counted = reuse-counted w t (can_reuse w t) refl counted
-happens-counted w (Commit t) kept counted = commit-counted w t (is_out w t) (is_over w) refl kept counted
-happens-counted w (GiveBack t) kept counted = give_back-counted w t (is_out w t) counted
+happens-counted w (Commit t) kept counted = commit-counted w t (is_in_flight w t) (is_finished w) refl kept counted
+happens-counted w (GiveBack t) kept counted = give_back-counted w t (is_in_flight w t) counted
 happens-counted w Stop kept counted = same-counted w (happens w Stop) refl refl refl refl counted
 
 all_happen-counted : (w : RoundState) (es : List Event) → IsInOrder w → IsCounted w → IsCounted (all_happen w es)

@@ -16,12 +16,12 @@ use Rattle.record_spec.specs.Record.{put_of, may_end, fits_at}
 use Rattle.machine_spec.specs.declared.states.End.TheVariants.{Exit}
 use Rattle.machine_spec.specs.Machine.{Machine}
 use Rattle.machine_spec.specs.Performing.{first_registers}
-use Rattle.machine_spec.specs.Step.{step, finished, lay, fits}
+use Rattle.machine_spec.specs.Step.{step, finished, apply, fits}
 use Rattle.machine_spec.proofs.Guests.{begins, late}
-use Rattle.history_spec.specs.History.{laid_from, can_lay_from}
+use Rattle.history_spec.specs.History.{applied_from, can_apply_from}
 use Rattle.round_spec.specs.declared.events.Event.TheVariants.{Take, Reuse, Commit, GiveBack, Stop}
 use Rattle.round_spec.specs.Marks.{marked_from}
-use Rattle.round_spec.specs.Rounds.{RoundState, nobody_out, nothing_taken, happens, all_happen}
+use Rattle.round_spec.specs.Rounds.{RoundState, none_in_flight, nothing_taken, happens, all_happen}
 use Rattle.round_spec.proofs.Samples.{past_of, starts, recorded, reuses, executes, seen, forgets}
 
 -- main has created thread 1, and both are ready
@@ -37,35 +37,35 @@ goes_by =
 
 -- Nothing has happened: main's record fits, and is reused, and not taken.
 pub reuse-fits : seen (all_happen goes_by (Take 0 ∷ Reuse 0 ∷ [])) ≡ (reuses 0 ∷ [], [], 0, false)
-unfolding step finished lay fits fits_at may_end put_of reads_of happens nobody_out thunk turn fetched number_at
+unfolding step finished apply fits fits_at may_end put_of reads_of happens none_in_flight thunk turn fetched number_at
     number_in permission_at decoded reading_of u_immediate i_immediate s_immediate immediate_result shift_result
     register_result with_register is_readable put_addresses loaded may_store bytes_stored with_byte first_registers
     all_unlocked
 reuse-fits = refl
 
--- Each condition fails once: main's record fits; thread 1 isn't there; nobody is out.
+-- Each condition fails once: main's record fits; thread 1 isn't there; nobody is in flight.
 pub fail-start : seen (all_happen goes_by (Take 0 ∷ Reuse 1 ∷ Take 1 ∷ Commit 0 ∷ GiveBack 0 ∷ [])) ≡ ([], [], 0, false)
-unfolding step finished lay fits fits_at may_end put_of reads_of happens nobody_out thunk turn fetched number_at
+unfolding step finished apply fits fits_at may_end put_of reads_of happens none_in_flight thunk turn fetched number_at
     number_in permission_at decoded reading_of u_immediate i_immediate s_immediate immediate_result shift_result
     register_result with_register is_readable put_addresses loaded may_store bytes_stored with_byte first_registers
     all_unlocked
 fail-start = refl
 
--- Main has no second record, so it is taken and not reused; while it is out it is neither taken nor reused; and it is
--- committed once.
+-- Main has no second record, so it is taken and not reused; while it is in flight it is neither taken nor reused; and
+-- it is committed once.
 pub fail-later :
     seen (all_happen goes_by (Reuse 0 ∷ Reuse 0 ∷ Take 0 ∷ Take 0 ∷ Reuse 0 ∷ Commit 0 ∷ Commit 0 ∷ GiveBack 0 ∷ []))
     ≡ (reuses 0 ∷ executes 0 ∷ [], [], 0, false)
-unfolding step finished lay fits fits_at may_end put_of reads_of happens nobody_out thunk turn fetched number_at
+unfolding step finished apply fits fits_at may_end put_of reads_of happens none_in_flight thunk turn fetched number_at
     number_in permission_at decoded reading_of u_immediate i_immediate s_immediate immediate_result shift_result
     register_result with_register is_readable put_addresses loaded may_store bytes_stored with_byte first_registers
     all_unlocked
 fail-later = refl
 
--- The thread's record fits: it is reused while main is out.
+-- The thread's record fits: it is reused while main is in flight.
 pub reuse-beside :
     seen (all_happen goes_by (Reuse 0 ∷ Take 0 ∷ Take 1 ∷ Reuse 1 ∷ [])) ≡ (reuses 0 ∷ reuses 1 ∷ [], 0 ∷ [], 0, false)
-unfolding step finished lay fits fits_at may_end put_of reads_of happens nobody_out thunk turn fetched number_at
+unfolding step finished apply fits fits_at may_end put_of reads_of happens none_in_flight thunk turn fetched number_at
     number_in permission_at decoded reading_of u_immediate i_immediate s_immediate immediate_result shift_result
     register_result with_register is_readable put_addresses loaded may_store bytes_stored with_byte first_registers
     all_unlocked
@@ -75,7 +75,7 @@ reuse-beside = refl
 -- that was taken with where it was taken, though another came in between.
 pub points-beside :
     (all_happen goes_by (Reuse 0 ∷ Take 0 ∷ Reuse 1 ∷ Commit 0 ∷ [])).picked ≡ 0 ∷ 1 ∷ 1 ∷ []
-unfolding step finished lay fits fits_at may_end put_of reads_of happens nobody_out nothing_taken thunk turn fetched
+unfolding step finished apply fits fits_at may_end put_of reads_of happens none_in_flight nothing_taken thunk turn fetched
     number_at number_in permission_at decoded reading_of u_immediate i_immediate s_immediate immediate_result
     shift_result register_result with_register is_readable put_addresses loaded may_store bytes_stored with_byte
     first_registers all_unlocked
@@ -84,23 +84,23 @@ points-beside = refl
 -- What was given back, and is taken again, was picked when it was taken again; then nobody's length is kept.
 pub points-again :
     (all_happen goes_by (Reuse 0 ∷ Take 0 ∷ Reuse 1 ∷ GiveBack 0 ∷ Take 0 ∷ Commit 0 ∷ [])).picked ≡ 0 ∷ 1 ∷ 2 ∷ []
-unfolding step finished lay fits fits_at may_end put_of reads_of happens nobody_out nothing_taken thunk turn fetched
+unfolding step finished apply fits fits_at may_end put_of reads_of happens none_in_flight nothing_taken thunk turn fetched
     number_at number_in permission_at decoded reading_of u_immediate i_immediate s_immediate immediate_result
     shift_result register_result with_register is_readable put_addresses loaded may_store bytes_stored with_byte
     first_registers all_unlocked
 points-again = refl
 
-pub points-out :
+pub points-in_flight :
     (all_happen goes_by (Reuse 0 ∷ Take 0 ∷ Reuse 1 ∷ [])).taken_at ≡ 1 ∷ replicate 31 0
-unfolding step finished lay fits fits_at may_end put_of reads_of happens nobody_out nothing_taken thunk turn fetched
+unfolding step finished apply fits fits_at may_end put_of reads_of happens none_in_flight nothing_taken thunk turn fetched
     number_at number_in permission_at decoded reading_of u_immediate i_immediate s_immediate immediate_result
     shift_result register_result with_register is_readable put_addresses loaded may_store bytes_stored with_byte
     first_registers all_unlocked
-points-out = refl
+points-in_flight = refl
 
 pub points-none :
     (all_happen goes_by (Reuse 0 ∷ Take 0 ∷ Reuse 1 ∷ Commit 0 ∷ [])).taken_at ≡ nothing_taken
-unfolding step finished lay fits fits_at may_end put_of reads_of happens nobody_out nothing_taken thunk turn fetched
+unfolding step finished apply fits fits_at may_end put_of reads_of happens none_in_flight nothing_taken thunk turn fetched
     number_at number_in permission_at decoded reading_of u_immediate i_immediate s_immediate immediate_result
     shift_result register_result with_register is_readable put_addresses loaded may_store bytes_stored with_byte
     first_registers all_unlocked
@@ -108,17 +108,17 @@ points-none = refl
 
 -- A stopped round takes and reuses nothing.
 pub fail-stopped : seen (all_happen goes_by (Stop ∷ Take 0 ∷ Reuse 0 ∷ [])) ≡ ([], [], 0, true)
-unfolding step finished lay fits fits_at may_end put_of reads_of happens nobody_out thunk turn fetched number_at
+unfolding step finished apply fits fits_at may_end put_of reads_of happens none_in_flight thunk turn fetched number_at
     number_in permission_at decoded reading_of u_immediate i_immediate s_immediate immediate_result shift_result
     register_result with_register is_readable put_addresses loaded may_store bytes_stored with_byte first_registers
     all_unlocked
 fail-stopped = refl
 
--- With nothing to go by, the record of neither is reused, and both can be out at once.
+-- With nothing to go by, the record of neither is reused, and both can be in flight at once.
 pub no-history :
     seen (all_happen (starts (begins 9 9 late) None) (Reuse 0 ∷ Take 0 ∷ Commit 0 ∷ Take 0 ∷ Take 1 ∷ []))
     ≡ (executes 0 ∷ [], 0 ∷ 1 ∷ [], 0, false)
-unfolding step finished lay fits fits_at may_end put_of reads_of happens nobody_out thunk turn fetched number_at
+unfolding step finished apply fits fits_at may_end put_of reads_of happens none_in_flight thunk turn fetched number_at
     number_in permission_at decoded reading_of u_immediate i_immediate s_immediate immediate_result shift_result
     register_result with_register is_readable put_addresses loaded may_store bytes_stored with_byte first_registers
     all_unlocked
@@ -127,7 +127,7 @@ no-history = refl
 -- What is given back is discarded, and can be taken again.
 pub given-back :
     seen (all_happen goes_by (Reuse 0 ∷ Take 0 ∷ GiveBack 0 ∷ Take 0 ∷ [])) ≡ (reuses 0 ∷ [], 0 ∷ [], 1, false)
-unfolding step finished lay fits fits_at may_end put_of reads_of happens nobody_out thunk turn fetched number_at
+unfolding step finished apply fits fits_at may_end put_of reads_of happens none_in_flight thunk turn fetched number_at
     number_in permission_at decoded reading_of u_immediate i_immediate s_immediate immediate_result shift_result
     register_result with_register is_readable put_addresses loaded may_store bytes_stored with_byte first_registers
     all_unlocked
@@ -136,18 +136,18 @@ given-back = refl
 -- A commit after the round was stopped is discarded.
 pub discarded-stopped :
     seen (all_happen goes_by (Reuse 0 ∷ Take 0 ∷ Stop ∷ Commit 0 ∷ [])) ≡ (reuses 0 ∷ [], [], 1, true)
-unfolding step finished lay fits fits_at may_end put_of reads_of happens nobody_out thunk turn fetched number_at
+unfolding step finished apply fits fits_at may_end put_of reads_of happens none_in_flight thunk turn fetched number_at
     number_in permission_at decoded reading_of u_immediate i_immediate s_immediate immediate_result shift_result
     register_result with_register is_readable put_addresses loaded may_store bytes_stored with_byte first_registers
     all_unlocked
 discarded-stopped = refl
 
--- A commit after the machine's end is discarded: main has exited while thread 1 was out.
+-- A commit after the machine's end is discarded: main has exited while thread 1 was in flight.
 pub discarded-ended :
     seen (all_happen (starts (begins 9 9 late) None)
     (Take 0 ∷ Commit 0 ∷ Take 1 ∷ Take 0 ∷ Commit 0 ∷ Take 0 ∷ Commit 0 ∷ Commit 1 ∷ Take 1 ∷ Reuse 1 ∷ []))
     ≡ (executes 0 ∷ executes 0 ∷ executes 0 ∷ [], [], 1, false)
-unfolding step finished lay fits fits_at may_end put_of reads_of happens nobody_out thunk turn fetched number_at
+unfolding step finished apply fits fits_at may_end put_of reads_of happens none_in_flight thunk turn fetched number_at
     number_in permission_at decoded reading_of u_immediate i_immediate s_immediate immediate_result shift_result
     register_result with_register is_readable put_addresses loaded may_store bytes_stored with_byte first_registers
     all_unlocked
@@ -157,7 +157,7 @@ discarded-ended = refl
 pub discarded-most :
     (all_happen (record goes_by { discarded = 18446744073709551615 }) (Reuse 0 ∷ Take 0 ∷ GiveBack 0 ∷ [])).discarded
     ≡ 18446744073709551615
-unfolding step finished lay fits fits_at may_end put_of reads_of happens nobody_out thunk turn fetched number_at
+unfolding step finished apply fits fits_at may_end put_of reads_of happens none_in_flight thunk turn fetched number_at
     number_in permission_at decoded reading_of u_immediate i_immediate s_immediate immediate_result shift_result
     register_result with_register is_readable put_addresses loaded may_store bytes_stored with_byte first_registers
     all_unlocked
@@ -167,26 +167,26 @@ discarded-most = refl
 pub discarded-one_less :
     (all_happen (record goes_by { discarded = 18446744073709551614 })
     (Reuse 0 ∷ Take 0 ∷ Stop ∷ Commit 0 ∷ [])).discarded ≡ 18446744073709551615
-unfolding step finished lay fits fits_at may_end put_of reads_of happens nobody_out thunk turn fetched number_at
+unfolding step finished apply fits fits_at may_end put_of reads_of happens none_in_flight thunk turn fetched number_at
     number_in permission_at decoded reading_of u_immediate i_immediate s_immediate immediate_result shift_result
     register_result with_register is_readable put_addresses loaded may_store bytes_stored with_byte first_registers
     all_unlocked
 discarded-one_less = refl
 
--- The machine after a reused step is the one after the step, and the thread that was out kept its view from before the
--- other's store: it loads 0, and then 51.
+-- The machine after a reused step is the one after the step, and the thread that was in flight kept its view from
+-- before the other's store: it loads 0, and then 51.
 pub reuse-machine :
     (all_happen goes_by (Reuse 0 ∷ Take 0 ∷ Reuse 1 ∷ Commit 0 ∷ Take 0 ∷ Commit 0 ∷ [])).machine.ending
     ≡ Some (Exit 51)
-unfolding step finished lay fits fits_at may_end put_of reads_of happens nobody_out thunk turn fetched number_at
+unfolding step finished apply fits fits_at may_end put_of reads_of happens none_in_flight thunk turn fetched number_at
     number_in permission_at decoded reading_of u_immediate i_immediate s_immediate immediate_result shift_result
     register_result with_register is_readable put_addresses loaded may_store bytes_stored with_byte first_registers
     all_unlocked
 reuse-machine = refl
 
--- The store of a laid record is in shared memory.
+-- The store of an applied record is in shared memory.
 pub reuse-memory : page_of (all_happen goes_by (Reuse 0 ∷ Reuse 1 ∷ [])).machine.memory 1 ≡ 51 ∷ 0 ∷ []
-unfolding step finished lay fits fits_at may_end put_of reads_of happens nobody_out thunk turn fetched number_at
+unfolding step finished apply fits fits_at may_end put_of reads_of happens none_in_flight thunk turn fetched number_at
     number_in permission_at decoded reading_of u_immediate i_immediate s_immediate immediate_result shift_result
     register_result with_register is_readable put_addresses loaded may_store bytes_stored with_byte first_registers
     all_unlocked
@@ -197,7 +197,7 @@ reuse-memory = refl
 pub fuel-count :
     seen (all_happen (starts (begins 5 9 late) goes_by.past) (Reuse 0 ∷ Take 0 ∷ Commit 0 ∷ []))
     ≡ (reuses 0 ∷ executes 0 ∷ [], [], 0, false)
-unfolding step finished lay fits fits_at may_end put_of reads_of happens nobody_out thunk turn fetched number_at
+unfolding step finished apply fits fits_at may_end put_of reads_of happens none_in_flight thunk turn fetched number_at
     number_in permission_at decoded reading_of u_immediate i_immediate s_immediate immediate_result shift_result
     register_result with_register is_readable put_addresses loaded may_store bytes_stored with_byte first_registers
     all_unlocked
@@ -206,7 +206,7 @@ fuel-count = refl
 pub fuel-below_count :
     seen (all_happen (starts (begins 4 9 late) goes_by.past) (Reuse 0 ∷ Take 0 ∷ Commit 0 ∷ []))
     ≡ (executes 0 ∷ [], [], 0, false)
-unfolding step finished lay fits fits_at may_end put_of reads_of happens nobody_out thunk turn fetched number_at
+unfolding step finished apply fits fits_at may_end put_of reads_of happens none_in_flight thunk turn fetched number_at
     number_in permission_at decoded reading_of u_immediate i_immediate s_immediate immediate_result shift_result
     register_result with_register is_readable put_addresses loaded may_store bytes_stored with_byte first_registers
     all_unlocked
@@ -216,7 +216,7 @@ fuel-below_count = refl
 pub fuel-same :
     seen (all_happen (starts (begins 4 9 late) (past_of (recorded (begins 4 9 late) 0 [] ∷ [])))
     (Reuse 0 ∷ Take 0 ∷ Commit 0 ∷ [])) ≡ (reuses 0 ∷ [], [], 0, false)
-unfolding step finished lay fits fits_at may_end put_of reads_of happens nobody_out thunk turn fetched number_at
+unfolding step finished apply fits fits_at may_end put_of reads_of happens none_in_flight thunk turn fetched number_at
     number_in permission_at decoded reading_of u_immediate i_immediate s_immediate immediate_result shift_result
     register_result with_register is_readable put_addresses loaded may_store bytes_stored with_byte first_registers
     all_unlocked
@@ -225,7 +225,7 @@ fuel-same = refl
 pub fuel-larger :
     seen (all_happen (starts (begins 5 9 late) (past_of (recorded (begins 4 9 late) 0 [] ∷ [])))
     (Reuse 0 ∷ Take 0 ∷ Commit 0 ∷ [])) ≡ (executes 0 ∷ [], [], 0, false)
-unfolding step finished lay fits fits_at may_end put_of reads_of happens nobody_out thunk turn fetched number_at
+unfolding step finished apply fits fits_at may_end put_of reads_of happens none_in_flight thunk turn fetched number_at
     number_in permission_at decoded reading_of u_immediate i_immediate s_immediate immediate_result shift_result
     register_result with_register is_readable put_addresses loaded may_store bytes_stored with_byte first_registers
     all_unlocked
@@ -237,7 +237,7 @@ pub fits-again :
     seen (all_happen (starts (begins 9 9 (forgets 7))
     (past_of (recorded (begins 9 9 (forgets 4)) 0 [] ∷ recorded (step (begins 9 9 (forgets 4)) 0) 0 [] ∷ [])))
     (Reuse 0 ∷ Take 0 ∷ Commit 0 ∷ Take 0 ∷ Reuse 0 ∷ [])) ≡ (executes 0 ∷ reuses 0 ∷ [], [], 0, false)
-unfolding step finished lay fits fits_at may_end put_of reads_of happens nobody_out thunk turn fetched number_at
+unfolding step finished apply fits fits_at may_end put_of reads_of happens none_in_flight thunk turn fetched number_at
     number_in permission_at decoded reading_of u_immediate i_immediate s_immediate immediate_result shift_result
     register_result with_register is_readable put_addresses loaded may_store bytes_stored with_byte first_registers
     all_unlocked
@@ -247,17 +247,17 @@ fits-again = refl
 pub fits-again_marks :
     marked_from (past_of (recorded (begins 9 9 (forgets 4)) 0 [] ∷ recorded (step (begins 9 9 (forgets 4)) 0) 0
     [] ∷ [])) (begins 9 9 (forgets 7)) (0 ∷ 0 ∷ []) ≡ executes 0 ∷ reuses 0 ∷ []
-unfolding step finished lay fits fits_at may_end put_of reads_of happens nobody_out thunk turn fetched number_at
+unfolding step finished apply fits fits_at may_end put_of reads_of happens none_in_flight thunk turn fetched number_at
     number_in permission_at decoded reading_of u_immediate i_immediate s_immediate immediate_result shift_result
     register_result with_register is_readable put_addresses loaded may_store bytes_stored with_byte first_registers
     all_unlocked
 fits-again_marks = refl
 
--- The records that were gone by, laid in order, hold together and lead to the end; one left out, no more.
+-- The records that were gone by, applied in order, hold together and lead to the end; one left out, no more.
 pub coherent-records :
-    can_lay_from (begins 9 9 (forgets 4))
+    can_apply_from (begins 9 9 (forgets 4))
     (recorded (begins 9 9 (forgets 4)) 0 [] ∷ recorded (step (begins 9 9 (forgets 4)) 0) 0 [] ∷ []) ≡ true
-unfolding step finished lay fits fits_at may_end put_of reads_of happens nobody_out thunk turn fetched number_at
+unfolding step finished apply fits fits_at may_end put_of reads_of happens none_in_flight thunk turn fetched number_at
     number_in permission_at decoded reading_of u_immediate i_immediate s_immediate immediate_result shift_result
     register_result with_register is_readable put_addresses loaded may_store bytes_stored with_byte first_registers
     all_unlocked
@@ -265,30 +265,30 @@ coherent-records = refl
 
 -- So does the end.
 pub coherent-end :
-    (laid_from (begins 9 9 (forgets 4))
+    (applied_from (begins 9 9 (forgets 4))
     (recorded (begins 9 9 (forgets 4)) 0 [] ∷ recorded (step (begins 9 9 (forgets 4)) 0) 0 [] ∷ [])).ending
     ≡ Some (Exit 3)
-unfolding step finished lay fits fits_at may_end put_of reads_of happens nobody_out thunk turn fetched number_at
+unfolding step finished apply fits fits_at may_end put_of reads_of happens none_in_flight thunk turn fetched number_at
     number_in permission_at decoded reading_of u_immediate i_immediate s_immediate immediate_result shift_result
     register_result with_register is_readable put_addresses loaded may_store bytes_stored with_byte first_registers
     all_unlocked
 coherent-end = refl
 
--- A record isn't laid twice, nor in another's place.
+-- A record isn't applied twice, nor in another's place.
 pub coherent-twice :
-    can_lay_from (begins 9 9 (forgets 4))
+    can_apply_from (begins 9 9 (forgets 4))
     (recorded (begins 9 9 (forgets 4)) 0 [] ∷ recorded (begins 9 9 (forgets 4)) 0 [] ∷ []) ≡ false
-unfolding step finished lay fits fits_at may_end put_of reads_of happens nobody_out thunk turn fetched number_at
+unfolding step finished apply fits fits_at may_end put_of reads_of happens none_in_flight thunk turn fetched number_at
     number_in permission_at decoded reading_of u_immediate i_immediate s_immediate immediate_result shift_result
     register_result with_register is_readable put_addresses loaded may_store bytes_stored with_byte first_registers
     all_unlocked
 coherent-twice = refl
 
--- No record is laid after an end.
+-- No record is applied after an end.
 pub coherent-after_end :
-    can_lay_from (begins 9 1 (forgets 4))
+    can_apply_from (begins 9 1 (forgets 4))
     (recorded (begins 9 9 (forgets 4)) 0 [] ∷ recorded (step (begins 9 9 (forgets 4)) 0) 0 [] ∷ []) ≡ false
-unfolding step finished lay fits fits_at may_end put_of reads_of happens nobody_out thunk turn fetched number_at
+unfolding step finished apply fits fits_at may_end put_of reads_of happens none_in_flight thunk turn fetched number_at
     number_in permission_at decoded reading_of u_immediate i_immediate s_immediate immediate_result shift_result
     register_result with_register is_readable put_addresses loaded may_store bytes_stored with_byte first_registers
     all_unlocked

@@ -10,7 +10,7 @@ use Rattle.report_spec.specs.Report.{threads_of}
 use Rattle.round_spec.specs.declared.events.Event.{Event}
 use Rattle.round_spec.specs.declared.events.Event.TheVariants.{Take, Reuse, Commit, GiveBack, Stop}
 use Rattle.round_spec.specs.Marks.{record_for}
-use Rattle.round_spec.specs.Rounds.{RoundState, opening, is_over, is_out, can_take, can_reuse, taken, reused_by, committed, given_back, happens, all_happen, round_after, history_of}
+use Rattle.round_spec.specs.Rounds.{RoundState, opening, is_finished, is_in_flight, can_take, can_reuse, taken, reused_by, committed, given_back, happens, all_happen, round_after, history_of}
 use Rattle.round_spec.specs.Keeping.{IsFromScratch}
 use Rattle.round_spec.proofs.Happening.{round-kept}
 
@@ -37,12 +37,12 @@ same-happens w (Reuse t) =
     same-cond (can_reuse w t) (reused_by w t (record_for w.past w.machine t)) w w
     (same-reused w t (record_for w.past w.machine t)) (same-self w)
 same-happens w (Commit t) =
-    same-cond (is_out w t) (cond (is_over w) (given_back w t) (committed w t)) w w
-    (same-cond (is_over w) (given_back w t) (committed w t) w (record { setup = refl; past = refl })
+    same-cond (is_in_flight w t) (cond (is_finished w) (given_back w t) (committed w t)) w w
+    (same-cond (is_finished w) (given_back w t) (committed w t) w (record { setup = refl; past = refl })
     (record { setup = refl; past = refl }))
     (same-self w)
 same-happens w (GiveBack t) =
-    same-cond (is_out w t) (given_back w t) w w (record { setup = refl; past = refl }) (same-self w)
+    same-cond (is_in_flight w t) (given_back w t) w w (record { setup = refl; past = refl }) (same-self w)
 same-happens w Stop = record { setup = refl; past = refl }
 
 same-all_happen : (w : RoundState) (es : List Event) → IsOfSame (all_happen w es) w

@@ -10,13 +10,13 @@ use Rattle.machine_spec.specs.Schedule.{record_of}
 use Rattle.machine_spec.specs.Setup.{Setup, map_of}
 use Rattle.history_spec.specs.History.{History, IsMappedIn, IsMapped, past_records}
 use Rattle.history_spec.proofs.Scratch.{step-frame}
-use Rattle.history_spec.proofs.Laying.{lay-frame}
+use Rattle.history_spec.proofs.Applying.{apply-frame}
 use Rattle.history_spec.proofs.Truth.{found-all}
 use Rattle.history_spec.proofs.Mapped.{record-mapped, first-map}
 use Rattle.round_spec.specs.declared.events.Event.{Event}
 use Rattle.round_spec.specs.declared.events.Event.TheVariants.{Take, Reuse, Commit, GiveBack, Stop}
 use Rattle.round_spec.specs.Marks.{record_for}
-use Rattle.round_spec.specs.Rounds.{RoundState, opening, is_over, is_out, can_take, can_reuse, taken, reused_by, committed, given_back, happens, all_happen, round_after, history_of}
+use Rattle.round_spec.specs.Rounds.{RoundState, opening, is_finished, is_in_flight, can_take, can_reuse, taken, reused_by, committed, given_back, happens, all_happen, round_after, history_of}
 use Rattle.round_spec.proofs.Leaving.{same-happens, round-setup}
 
 -- what holds of both holds of either
@@ -28,7 +28,7 @@ either-round P false v w left right = right
 
 reused-frame : (w : RoundState) (t : ℕ) (o : Option Record) → (reused_by w t o).machine.frame ≡ w.machine.frame
 reused-frame w t None = refl
-reused-frame w t (Some r) = lay-frame w.machine r
+reused-frame w t (Some r) = apply-frame w.machine r
 
 pub happens-frame : (w : RoundState) (e : Event) → (happens w e).machine.frame ≡ w.machine.frame
 unfolding happens
@@ -38,12 +38,12 @@ happens-frame w (Reuse t) =
     (reused_by w t (record_for w.past w.machine t)) w
     (reused-frame w t (record_for w.past w.machine t)) refl
 happens-frame w (Commit t) =
-    either-round (λ v. v.machine.frame ≡ w.machine.frame) (is_out w t)
-    (cond (is_over w) (given_back w t) (committed w t)) w
-    (either-round (λ v. v.machine.frame ≡ w.machine.frame) (is_over w) (given_back w t) (committed w t) refl
+    either-round (λ v. v.machine.frame ≡ w.machine.frame) (is_in_flight w t)
+    (cond (is_finished w) (given_back w t) (committed w t)) w
+    (either-round (λ v. v.machine.frame ≡ w.machine.frame) (is_finished w) (given_back w t) (committed w t) refl
     (step-frame w.machine t)) refl
 happens-frame w (GiveBack t) =
-    either-round (λ v. v.machine.frame ≡ w.machine.frame) (is_out w t) (given_back w t) w refl refl
+    either-round (λ v. v.machine.frame ≡ w.machine.frame) (is_in_flight w t) (given_back w t) w refl refl
 happens-frame w Stop = refl
 
 -- each new record is one of the history, or that of a step
@@ -84,9 +84,9 @@ happens-mapped n w (Reuse t) past pages all =
     either-round (AreMapped n) (can_reuse w t) (reused_by w t (record_for w.past w.machine t)) w
     (reused-mapped n w t (record_for w.past w.machine t) past refl all) all
 happens-mapped n w (Commit t) past pages all =
-    either-round (AreMapped n) (is_out w t) (cond (is_over w) (given_back w t) (committed w t)) w
-    (either-round (AreMapped n) (is_over w) (given_back w t) (committed w t) all (committed-mapped n w t pages all)) all
-happens-mapped n w (GiveBack t) past pages all = either-round (AreMapped n) (is_out w t) (given_back w t) w all all
+    either-round (AreMapped n) (is_in_flight w t) (cond (is_finished w) (given_back w t) (committed w t)) w
+    (either-round (AreMapped n) (is_finished w) (given_back w t) (committed w t) all (committed-mapped n w t pages all)) all
+happens-mapped n w (GiveBack t) past pages all = either-round (AreMapped n) (is_in_flight w t) (given_back w t) w all all
 happens-mapped n w Stop past pages all = all
 
 all_happen-mapped :

@@ -3,23 +3,23 @@ use Rattle.std.proofs.Common.{◌≡◌, ℕ, Bool, true, false, ◌&&◌, List,
 use Rattle.std.specs.List.{AllByRecursion}
 use Rattle.record_spec.specs.Record.{Record}
 use Rattle.machine_spec.specs.Machine.{Machine, hart_of, is_ready}
-use Rattle.machine_spec.specs.Step.{lay, fits}
+use Rattle.machine_spec.specs.Step.{apply, fits}
 use Rattle.machine_spec.specs.declared.states.End.{End}
-use Rattle.history_spec.specs.History.{History, IsHonest, threads_of_records, is_of, laid_from, can_lay_from}
+use Rattle.history_spec.specs.History.{History, IsHonest, threads_of_records, is_of, applied_from, can_apply_from}
 use Rattle.report_spec.specs.declared.Entry.{Entry}
 use Rattle.round_spec.specs.declared.events.Event.{Event}
 use Rattle.round_spec.specs.declared.events.Event.TheVariants.{Reuse}
 use Rattle.round_spec.specs.Marks.{record_for}
-use Rattle.round_spec.specs.Rounds.{RoundState, opening, is_out_of, can_reuse, reused_by, happens, all_happen, round_after, nobody_out}
+use Rattle.round_spec.specs.Rounds.{RoundState, opening, is_in_flight_of, can_reuse, reused_by, happens, all_happen, round_after, none_in_flight}
 use Rattle.round_spec.specs.Reordering.{reuses_of, ReusesInOrder}
 use Rattle.round_spec.proofs.Conditions.{happens-reuse}
-use Rattle.round_spec.proofs.Happening.{nobody_out-none}
+use Rattle.round_spec.proofs.Happening.{none_in_flight-none}
 use Rattle.order_spec.specs.Facts.{facts}
 use Rattle.order_spec.specs.Keeping.{keeps, arranged}
 use Rattle.order_spec.specs.Orders.{threads_at}
 use Rattle.order_spec.proofs.Lists.{and-left, and-right}
 use Rattle.order_spec.proofs.Alike.{fits-parts}
-use Rattle.order_spec.proofs.Honest.{IsFound, honest-found, arranged-all, honest-every, honest-threads, honest-laid}
+use Rattle.order_spec.proofs.Honest.{IsFound, honest-found, arranged-all, honest-every, honest-threads, honest-applied}
 
 abbrev reused_entry : ℕ → Entry
 reused_entry t = record { thread = t; reused = true }
@@ -36,7 +36,7 @@ none-some None h = refl
 
 -- a round in which some records were reused one after the other
 record IsReused (w : RoundState) (rs : List Record) (after : RoundState) : Type 0 where
-  pub machine : after.machine ≡ laid_from w.machine rs
+  pub machine : after.machine ≡ applied_from w.machine rs
   pub schedule : after.schedule ≡ w.schedule ++ entries_of rs
 
 found-here :
@@ -47,29 +47,29 @@ found-here h m r there fit =
 
 reused-all :
     (h : History) (rs : List Record) (w : RoundState)
-    → w.past ≡ Some h → w.stopped ≡ false → w.out ≡ nobody_out
-    → AllByRecursion (IsFound h.records) rs → can_lay_from w.machine rs ≡ true
+    → w.past ≡ Some h → w.stopped ≡ false → w.in_flight ≡ none_in_flight
+    → AllByRecursion (IsFound h.records) rs → can_apply_from w.machine rs ≡ true
     → IsReused w rs (all_happen w (events_of rs))
-reused-all h [] w past going out there can = record { machine = refl; schedule = sym (append-nil w.schedule) }
-reused-all h (r ∷ rs) w past going out there can =
+reused-all h [] w past going in_flight there can = record { machine = refl; schedule = sym (append-nil w.schedule) }
+reused-all h (r ∷ rs) w past going in_flight there can =
     let here : (is_none w.machine.ending && fits w.machine r) ≡ true =
-    and-left (is_none w.machine.ending && fits w.machine r) (can_lay_from (lay w.machine r) rs) can in
-    let later : can_lay_from (lay w.machine r) rs ≡ true =
-    and-right (is_none w.machine.ending && fits w.machine r) (can_lay_from (lay w.machine r) rs) can in
+    and-left (is_none w.machine.ending && fits w.machine r) (can_apply_from (apply w.machine r) rs) can in
+    let later : can_apply_from (apply w.machine r) rs ≡ true =
+    and-right (is_none w.machine.ending && fits w.machine r) (can_apply_from (apply w.machine r) rs) can in
     let none : is_none w.machine.ending ≡ true = and-left (is_none w.machine.ending) (fits w.machine r) here in
     let fit : fits w.machine r ≡ true = and-right (is_none w.machine.ending) (fits w.machine r) here in
     let ready : is_ready (hart_of w.machine r.thread).status ≡ true = (fits-parts w.machine r fit).ready in
     let record_is : record_for w.past w.machine r.thread ≡ Some r =
     ap (λ (p : Option History). record_for p w.machine r.thread) past ∙ found-here h w.machine r there.0 fit in
-    let free : is_out_of w.out r.thread ≡ false =
-    ap (λ (o : List Bool). is_out_of o r.thread) out ∙ nobody_out-none r.thread in
+    let free : is_in_flight_of w.in_flight r.thread ≡ false =
+    ap (λ (o : List Bool). is_in_flight_of o r.thread) in_flight ∙ none_in_flight-none r.thread in
     let unended : is_some w.machine.ending ≡ false = none-some w.machine.ending none in
     let can_now : can_reuse w r.thread ≡ true = rw (unended, going, ready, free, record_is) fit in
     let next : happens w (Reuse r.thread) ≡ reused_by w r.thread (Some r) =
     happens-reuse w r.thread r can_now record_is in
     let rest :
     IsReused (reused_by w r.thread (Some r)) rs (all_happen (reused_by w r.thread (Some r)) (events_of rs)) =
-    reused-all h rs (reused_by w r.thread (Some r)) past going out there.1 later in
+    reused-all h rs (reused_by w r.thread (Some r)) past going in_flight there.1 later in
     record {
       machine = ap (λ (x : RoundState). (all_happen x (events_of rs)).machine) next ∙ rest.machine;
       schedule =
@@ -107,16 +107,16 @@ reused-whole h places honest keep =
     let s : List ℕ = threads_at (facts h) places in
     let reused = every-reused h s honest keep in
     let alike = (honest-every h s honest keep).alike in
-    let laid = honest-laid h honest in
+    let applied = honest-applied h honest in
     record {
       schedule =
           reused.schedule
           ∙ sym (entries-threads (arranged s h.records))
           ∙ ap (λ (ts : List ℕ). map (λ (t : ℕ). reused_entry t) ts) (honest-threads h s keep);
       ending =
-          ap (λ (m : Machine). m.ending) reused.machine ∙ alike.ending ∙ ap (λ (m : Machine). m.ending) laid;
+          ap (λ (m : Machine). m.ending) reused.machine ∙ alike.ending ∙ ap (λ (m : Machine). m.ending) applied;
       output =
-          ap (λ (m : Machine). m.output) reused.machine ∙ alike.output ∙ ap (λ (m : Machine). m.output) laid;
+          ap (λ (m : Machine). m.output) reused.machine ∙ alike.output ∙ ap (λ (m : Machine). m.output) applied;
       memory =
-          ap (λ (m : Machine). m.memory) reused.machine ∙ alike.memory ∙ ap (λ (m : Machine). m.memory) laid;
+          ap (λ (m : Machine). m.memory) reused.machine ∙ alike.memory ∙ ap (λ (m : Machine). m.memory) applied;
     }

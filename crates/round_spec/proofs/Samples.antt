@@ -9,7 +9,7 @@ use Rattle.machine_spec.specs.Machine.{Machine, hart_of}
 use Rattle.machine_spec.specs.Setup.{Setup}
 use Rattle.history_spec.specs.History.{History}
 use Rattle.report_spec.specs.declared.Entry.{Entry}
-use Rattle.round_spec.specs.Rounds.{RoundState, nobody_out, nothing_taken, is_out}
+use Rattle.round_spec.specs.Rounds.{RoundState, none_in_flight, nothing_taken, is_in_flight}
 
 -- a setup that nothing of the examples looks at
 abbrev pub some_setup : Setup
@@ -29,7 +29,7 @@ starts m past =
       schedule = [];
       records = [];
       picked = [];
-      out = nobody_out;
+      in_flight = none_in_flight;
       taken_at = nothing_taken;
       discarded = 0;
       stopped = false;
@@ -58,10 +58,10 @@ reuses t = record { thread = t; reused = true }
 abbrev pub executes : ℕ → Entry
 executes t = record { thread = t; reused = false }
 
--- a round's schedule, which of the first four threads are out, how many steps were discarded, and whether it was
+-- a round's schedule, which of the first four threads are in flight, how many steps were discarded, and whether it was
 -- stopped
 abbrev pub seen : RoundState → List Entry × List ℕ × ℕ × Bool
-seen w = (w.schedule, filter (is_out w) (0 ∷ 1 ∷ 2 ∷ 3 ∷ []), w.discarded, w.stopped)
+seen w = (w.schedule, filter (is_in_flight w) (0 ∷ 1 ∷ 2 ∷ 3 ∷ []), w.discarded, w.stopped)
 
 -- main: load the byte at 0x11000, forget it, yield, and exit with 3
 abbrev pub forgets : ℕ → Memory

@@ -16,12 +16,12 @@ use Rattle.record_spec.specs.Reads.{reads_of}
 use Rattle.record_spec.specs.Record.{Record, put_of, may_end, fits_at}
 use Rattle.machine_spec.specs.Machine.{Machine}
 use Rattle.machine_spec.specs.Performing.{first_registers}
-use Rattle.machine_spec.specs.Step.{step, finished, lay, fits}
+use Rattle.machine_spec.specs.Step.{step, finished, apply, fits}
 use Rattle.machine_spec.specs.Setup.{Setup, first}
 use Rattle.machine_spec.proofs.Guests.{begins, late}
 use Rattle.history_spec.specs.History.{History}
 use Rattle.round_spec.specs.declared.events.Event.TheVariants.{Take, Reuse, Commit}
-use Rattle.round_spec.specs.Rounds.{RoundState, nobody_out, opening, can_begin, happens, all_happen}
+use Rattle.round_spec.specs.Rounds.{RoundState, none_in_flight, opening, can_begin, happens, all_happen}
 use Rattle.round_spec.specs.Schedules.{events_in, round_by, IsBySchedule}
 use Rattle.round_spec.proofs.Conditions.{happens-reuse_not}
 use Rattle.round_spec.proofs.Examples.{goes_by}
@@ -36,7 +36,7 @@ events-three = refl
 -- Main's first record fits and its second step has none: so they can be made.
 pub made-right :
     seen (all_happen goes_by (events_in (reuses 0 ∷ executes 0 ∷ []))) ≡ (reuses 0 ∷ executes 0 ∷ [], [], 0, false)
-unfolding step finished lay fits fits_at may_end put_of reads_of happens nobody_out thunk turn fetched number_at
+unfolding step finished apply fits fits_at may_end put_of reads_of happens none_in_flight thunk turn fetched number_at
     number_in permission_at decoded reading_of u_immediate i_immediate s_immediate immediate_result shift_result
     register_result with_register is_readable put_addresses loaded may_store bytes_stored with_byte first_registers
     all_unlocked
@@ -45,7 +45,7 @@ made-right = refl
 -- A step whose record fits isn't executed: what is made has another schedule.
 pub made-executes :
     seen (all_happen goes_by (events_in (executes 0 ∷ executes 0 ∷ []))) ≡ ([], [], 0, false)
-unfolding step finished lay fits fits_at may_end put_of reads_of happens nobody_out thunk turn fetched number_at
+unfolding step finished apply fits fits_at may_end put_of reads_of happens none_in_flight thunk turn fetched number_at
     number_in permission_at decoded reading_of u_immediate i_immediate s_immediate immediate_result shift_result
     register_result with_register is_readable put_addresses loaded may_store bytes_stored with_byte first_registers
     all_unlocked
@@ -55,7 +55,7 @@ made-executes = refl
 pub made-reuses :
     seen (all_happen goes_by (events_in (reuses 1 ∷ reuses 0 ∷ reuses 0 ∷ reuses 1 ∷ [])))
     ≡ (reuses 0 ∷ reuses 1 ∷ [], [], 0, false)
-unfolding step finished lay fits fits_at may_end put_of reads_of happens nobody_out thunk turn fetched number_at
+unfolding step finished apply fits fits_at may_end put_of reads_of happens none_in_flight thunk turn fetched number_at
     number_in permission_at decoded reading_of u_immediate i_immediate s_immediate immediate_result shift_result
     register_result with_register is_readable put_addresses loaded may_store bytes_stored with_byte first_registers
     all_unlocked
@@ -66,7 +66,7 @@ pub made-ended :
     seen (all_happen (starts (begins 9 9 late) None)
     (events_in (executes 0 ∷ executes 0 ∷ executes 0 ∷ executes 1 ∷ [])))
     ≡ (executes 0 ∷ executes 0 ∷ executes 0 ∷ [], [], 0, false)
-unfolding step finished lay fits fits_at may_end put_of reads_of happens nobody_out thunk turn fetched number_at
+unfolding step finished apply fits fits_at may_end put_of reads_of happens none_in_flight thunk turn fetched number_at
     number_in permission_at decoded reading_of u_immediate i_immediate s_immediate immediate_result shift_result
     register_result with_register is_readable put_addresses loaded may_store bytes_stored with_byte first_registers
     all_unlocked

@@ -8,14 +8,14 @@ use Rattle.history_spec.specs.History.{History}
 use Rattle.round_spec.specs.declared.events.Event.TheVariants.{Take, Reuse, Commit}
 use Rattle.round_spec.specs.declared.events.Pick.{Pick}
 use Rattle.round_spec.specs.declared.events.Pick.TheVariants as pick
-use Rattle.round_spec.specs.Rounds.{RoundState, nobody_out, opening, happens}
+use Rattle.round_spec.specs.Rounds.{RoundState, none_in_flight, opening, happens}
 use Rattle.round_spec.specs.Choice.{choice_by, pick_of}
 
--- The schedule that follows the choice with nobody out until an end, for so many steps at most.
+-- The schedule that follows the choice with nobody in flight until an end, for so many steps at most.
 abbrev pub guided_from : Option History → ℕ → Machine → List ℕ
 guided_from past zero m = []
 guided_from past (suc steps) m =
-    chosen_first m.ending (choice_by past m nobody_out) (λ t. guided_from past steps (step m t))
+    chosen_first m.ending (choice_by past m none_in_flight) (λ t. guided_from past steps (step m t))
 
 -- The schedule of one worker.
 abbrev pub one_worker : Setup → Option History → List ℕ

@@ -7,12 +7,12 @@ use Rattle.history_spec.specs.History.{History}
 use Rattle.round_spec.specs.declared.events.Pick.{Pick}
 use Rattle.round_spec.specs.declared.events.Pick.TheVariants as pick
 use Rattle.round_spec.specs.Marks.{fits_next}
-use Rattle.round_spec.specs.Rounds.{RoundState, is_over, is_free_in}
+use Rattle.round_spec.specs.Rounds.{RoundState, is_finished, is_free_in}
 use Rattle.round_spec.specs.Due.{place_in, is_due}
 
--- The threads that are ready and not out, in ascending order.
+-- The threads that are ready and not in flight, in ascending order.
 unfoldable pub free_threads : Machine → List Bool → List ℕ
-free_threads m out = filter (is_free_in m out) (range_with_len 0 (length m.harts))
+free_threads m in_flight = filter (is_free_in m in_flight) (range_with_len 0 (length m.harts))
 
 -- Those of some threads at which a measure is least.
 unfoldable pub least_by : (ℕ → ℕ) → List ℕ → List ℕ
@@ -28,11 +28,11 @@ first_of (t ∷ threads) = Some t
 unfoldable pub best : Option History → Machine → List ℕ → Option ℕ
 best past m threads = first_of (least_by (λ t. (hart_of m t).number) (least_by (place_in past m) threads))
 
--- Whether any thread is out.
-abbrev pub is_any_out : List Bool → Bool
-is_any_out out = list_any (λ flag. flag) out
+-- Whether any thread is in flight.
+abbrev pub is_any_in_flight : List Bool → Bool
+is_any_in_flight in_flight = list_any (λ flag. flag) in_flight
 
--- Who may be chosen: the free threads that are due; where none is due and nobody is out, every free thread.
+-- Who may be chosen: the free threads that are due; where none is due and nobody is in flight, every free thread.
 abbrev pub eligible : List ℕ → List ℕ → Bool → List ℕ
 eligible (t ∷ due) free any_out = t ∷ due
 eligible [] free true = []
@@ -40,8 +40,8 @@ eligible [] free false = free
 
 -- The thread that is chosen by a history, if one is.
 unfoldable pub choice_by : Option History → Machine → List Bool → Option ℕ
-choice_by past m out =
-    best past m (eligible (filter (is_due past m) (free_threads m out)) (free_threads m out) (is_any_out out))
+choice_by past m in_flight =
+    best past m (eligible (filter (is_due past m) (free_threads m in_flight)) (free_threads m in_flight) (is_any_in_flight in_flight))
 
 -- What to do with a choice: its record is reused where it fits, and else its step is executed; with no choice, to wait.
 abbrev pub with_choice : Option History → Machine → Option ℕ → Pick
@@ -50,4 +50,4 @@ with_choice past m None = pick.Hold
 
 -- What a worker may do next.
 unfoldable pub pick_of : RoundState → Pick
-pick_of w = if is_over w then pick.Over else with_choice w.past w.machine (choice_by w.past w.machine w.out)
+pick_of w = if is_finished w then pick.Over else with_choice w.past w.machine (choice_by w.past w.machine w.in_flight)

@@ -12,8 +12,8 @@ abbrev pub place_in : Option History → Machine → ℕ → ℕ
 place_in past m t = position_or_len (is_of t (hart_of m t).number) (past_records past)
 
 -- Whether a thread exists and has ended.
-abbrev pub is_gone : Machine → ℕ → Bool
-is_gone m t = nat_lt t (length m.harts) && is_ended (hart_of m t).status
+abbrev pub has_exited : Machine → ℕ → Bool
+has_exited m t = nat_lt t (length m.harts) && is_ended (hart_of m t).status
 
 -- What the steps of the history do, if there is one.
 abbrev pub past_facts : Option History → List Fact
@@ -27,7 +27,7 @@ is_step_at fs t number j = ((fact_at fs j).thread == t) && (number_at fs j == nu
 -- Whether the step at a place needn't be waited for: it has been made, or its thread has ended.
 abbrev pub is_passed_at : List Fact → Machine → ℕ → Bool
 is_passed_at fs m a =
-    nat_lt (number_at fs a) (hart_of m (fact_at fs a).thread).number || is_gone m (fact_at fs a).thread
+    nat_lt (number_at fs a) (hart_of m (fact_at fs a).thread).number || has_exited m (fact_at fs a).thread
 
 -- Whether each step that must come before the one at a place, directly or through others, is passed.
 abbrev pub are_passed_before : List Fact → Machine → ℕ → Bool

@@ -8,7 +8,7 @@ use Rattle.history_spec.specs.History.{History, IsSound, found, is_numbered, thr
 use Rattle.report_spec.specs.declared.Entry.{Entry}
 use Rattle.report_spec.specs.Report.{threads_of}
 use Rattle.round_spec.specs.Marks.{fits_next, marked, sourced}
-use Rattle.round_spec.specs.Rounds.{RoundState, is_out}
+use Rattle.round_spec.specs.Rounds.{RoundState, is_in_flight}
 
 -- A round is at the machine from scratch: its machine is the one after its schedule, which is permitted; its records
 -- are those of the steps, that of a reused entry being the history's own; and its marks are exact.
@@ -19,18 +19,18 @@ pub record IsFromScratch (w : RoundState) : Type 0 where
   pub sources : w.records ≡ sourced w.past w.setup w.schedule
   pub marks : w.schedule ≡ marked w.past w.setup (threads_of w.schedule)
 
--- Who is out is ready still, and no record of its next step fits.
+-- Who is in flight is ready still, and no record of its next step fits.
 pub record IsHeld (w : RoundState) (t : ℕ) : Type 0 where
   pub ready : is_ready (hart_of w.machine t).status ≡ true
   pub unfit : fits_next w.past w.machine t ≡ false
 
--- A flag and a length for each of the 32 threads; the machine is one that holds together; who is out is held; and by a
--- sound history the round is at the machine from scratch.
+-- A flag and a length for each of the 32 threads; the machine is one that holds together; who is in flight is held; and
+-- by a sound history the round is at the machine from scratch.
 pub record IsInOrder (w : RoundState) : Type 0 where
-  pub flags : length w.out ≡ 32
+  pub flags : length w.in_flight ≡ 32
   pub lengths : length w.taken_at ≡ 32
   pub whole : IsWhole w.machine
-  pub held : (t : ℕ) → is_out w t ≡ true → IsHeld w t
+  pub held : (t : ℕ) → is_in_flight w t ≡ true → IsHeld w t
   pub scratch : IsSound w.past w.setup → IsFromScratch w
 
 -- Whether each reused entry of a schedule has as its record the history's own of its thread at the number of entries

@@ -7,7 +7,7 @@ use Rattle.history_spec.specs.History.{History, found}
 use Rattle.report_spec.specs.declared.Entry.{Entry}
 use Rattle.report_spec.specs.Report.{threads_of}
 use Rattle.round_spec.specs.Marks.{fits_next}
-use Rattle.round_spec.specs.Rounds.{RoundState, is_out, taken_when}
+use Rattle.round_spec.specs.Rounds.{RoundState, is_in_flight, taken_when}
 use Rattle.round_spec.specs.Due.{is_due}
 
 -- Whether a thread is ready and due.
@@ -48,13 +48,13 @@ pub record ArePicked (setup : Setup) (past : Option History) (schedule : List En
   pub rightly :
       (i : ℕ) (e : Entry) → slice_get schedule i ≡ Some e → IsPicked setup past schedule i e (slice_index_or picked i 0)
 
--- A thread that is out was picked rightly, when the schedule was as long as it was then.
-pub record IsOutRightly (w : RoundState) (t : ℕ) : Type 0 where
+-- A thread that is in flight was picked rightly, when the schedule was as long as it was then.
+pub record IsInFlightRightly (w : RoundState) (t : ℕ) : Type 0 where
   pub earlier : taken_when w t ≤ length w.schedule
   pub rightly :
       is_picked_on w.past (machine_after w.setup w.schedule (taken_when w t)) t (hart_of w.machine t).number ≡ true
 
--- All that a round has done so far was picked rightly: its entries, and the steps that are out.
+-- All that a round has done so far was picked rightly: its entries, and the steps that are in flight.
 pub record IsPickedSoFar (w : RoundState) : Type 0 where
   pub entries : ArePicked w.setup w.past w.schedule w.picked
-  pub held : (t : ℕ) → is_out w t ≡ true → IsOutRightly w t
+  pub held : (t : ℕ) → is_in_flight w t ≡ true → IsInFlightRightly w t

@@ -2,7 +2,7 @@
 use Rattle.std.specs.Prelude.{ℕ, suc, Bool, true, false, not, ◌&&◌, ◌||◌, if◌then◌else◌, min, List, [], ◌∷◌, ◌++◌, length, replicate, slice_index_or, slice_set, Option, Some, None, is_some}
 use Rattle.record_spec.specs.Record.{Record}
 use Rattle.machine_spec.specs.Machine.{Machine, hart_of, is_ready}
-use Rattle.machine_spec.specs.Step.{step, lay}
+use Rattle.machine_spec.specs.Step.{step, apply}
 use Rattle.machine_spec.specs.Schedule.{record_of}
 use Rattle.machine_spec.specs.Setup.{Setup, first}
 use Rattle.history_spec.specs.History.{History}
@@ -12,8 +12,8 @@ use Rattle.round_spec.specs.declared.events.Event.TheVariants.{Take, Reuse, Comm
 use Rattle.round_spec.specs.Marks.{record_for, fits_next}
 
 -- A round as it stands: what it started from and goes by, the machine, the schedule with marks, the records of its
--- entries, and for each entry how long the schedule was when its thread was picked; which threads are out, and for each
--- of them how long the schedule was when it was taken, which is 0 for the others; how many executed steps were
+-- entries, and for each entry how long the schedule was when its thread was picked; which threads are in flight, and
+-- for each of them how long the schedule was when it was taken, which is 0 for the others; how many executed steps were
 -- discarded, and whether the round was stopped.
 pub record RoundState : Type 0 where
   pub setup : Setup
@@ -22,14 +22,14 @@ pub record RoundState : Type 0 where
   pub schedule : List Entry
   pub records : List Record
   pub picked : List ℕ
-  pub out : List Bool
+  pub in_flight : List Bool
   pub taken_at : List ℕ
   pub discarded : ℕ
   pub stopped : Bool
 
--- None of the 32 threads is out.
-unfoldable pub nobody_out : List Bool
-nobody_out = replicate 32 false
+-- None of the 32 threads is in flight.
+unfoldable pub none_in_flight : List Bool
+none_in_flight = replicate 32 false
 
 -- For none of the 32 threads a length is kept.
 unfoldable pub nothing_taken : List ℕ
@@ -45,30 +45,30 @@ opening setup past =
       schedule = [];
       records = [];
       picked = [];
-      out = nobody_out;
+      in_flight = none_in_flight;
       taken_at = nothing_taken;
       discarded = 0;
       stopped = false;
     }
 
--- Whether a round is over: the machine has an end, or the round was stopped.
-abbrev pub is_over : RoundState → Bool
-is_over w = is_some w.machine.ending || w.stopped
+-- Whether a round is finished: the machine has an end, or the round was stopped.
+abbrev pub is_finished : RoundState → Bool
+is_finished w = is_some w.machine.ending || w.stopped
 
--- Whether a thread is out: a worker has taken its next step.
-abbrev pub is_out_of : List Bool → ℕ → Bool
-is_out_of out t = slice_index_or out t false
+-- Whether a thread is in flight: a worker has taken its next step.
+abbrev pub is_in_flight_of : List Bool → ℕ → Bool
+is_in_flight_of in_flight t = slice_index_or in_flight t false
 
-abbrev pub is_out : RoundState → ℕ → Bool
-is_out w t = is_out_of w.out t
+abbrev pub is_in_flight : RoundState → ℕ → Bool
+is_in_flight w t = is_in_flight_of w.in_flight t
 
--- Whether a thread is ready and not out.
+-- Whether a thread is ready and not in flight.
 abbrev pub is_free_in : Machine → List Bool → ℕ → Bool
-is_free_in m out t = is_ready (hart_of m t).status && not (is_out_of out t)
+is_free_in m in_flight t = is_ready (hart_of m t).status && not (is_in_flight_of in_flight t)
 
--- Whether a thread's next step can be begun: the round isn't over, and the thread is ready and not out.
+-- Whether a thread's next step can be begun: the round isn't finished, and the thread is ready and not in flight.
 abbrev pub can_begin : RoundState → ℕ → Bool
-can_begin w t = not (is_over w) && is_free_in w.machine w.out t
+can_begin w t = not (is_finished w) && is_free_in w.machine w.in_flight t
 
 -- Whether it can be taken, which is where no record of it fits, and whether a record can be reused.
 abbrev pub can_take : RoundState → ℕ → Bool
@@ -79,24 +79,24 @@ can_reuse w t = can_begin w t && fits_next w.past w.machine t
 
 -- A round after a thread was taken.
 abbrev pub taken : RoundState → ℕ → RoundState
-taken w t = record w { out = slice_set w.out t true; taken_at = slice_set w.taken_at t (length w.schedule) }
+taken w t = record w { in_flight = slice_set w.in_flight t true; taken_at = slice_set w.taken_at t (length w.schedule) }
 
--- How long the schedule was when a thread that is out was taken.
+-- How long the schedule was when a thread that is in flight was taken.
 abbrev pub taken_when : RoundState → ℕ → ℕ
 taken_when w t = slice_index_or w.taken_at t 0
 
--- A round after the record of a thread's step was laid in the step's place.
+-- A round after the record of a thread's step was applied in the step's place.
 abbrev pub reused_by : RoundState → ℕ → Option Record → RoundState
 reused_by w t None = w
 reused_by w t (Some r) =
     record w {
-      machine = lay w.machine r;
+      machine = apply w.machine r;
       schedule = w.schedule ++ record { thread = t; reused = true } ∷ [];
       records = w.records ++ r ∷ [];
       picked = w.picked ++ length w.schedule ∷ [];
     }
 
--- A round after the step of a thread that was out.
+-- A round after the step of a thread that was in flight.
 abbrev pub committed : RoundState → ℕ → RoundState
 committed w t =
     record w {
@@ -104,7 +104,7 @@ committed w t =
       schedule = w.schedule ++ record { thread = t; reused = false } ∷ [];
       records = w.records ++ record_of w.machine t ∷ [];
       picked = w.picked ++ taken_when w t ∷ [];
-      out = slice_set w.out t false;
+      in_flight = slice_set w.in_flight t false;
       taken_at = slice_set w.taken_at t 0;
     }
 
@@ -112,7 +112,7 @@ committed w t =
 abbrev pub given_back : RoundState → ℕ → RoundState
 given_back w t =
     record w {
-      out = slice_set w.out t false;
+      in_flight = slice_set w.in_flight t false;
       taken_at = slice_set w.taken_at t 0;
       discarded = min (suc w.discarded) 18446744073709551615;
     }
@@ -125,8 +125,8 @@ with_stop w = record w { stopped = true }
 unfoldable pub happens : RoundState → Event → RoundState
 happens w (Take t) = if can_take w t then taken w t else w
 happens w (Reuse t) = if can_reuse w t then reused_by w t (record_for w.past w.machine t) else w
-happens w (Commit t) = if is_out w t then (if is_over w then given_back w t else committed w t) else w
-happens w (GiveBack t) = if is_out w t then given_back w t else w
+happens w (Commit t) = if is_in_flight w t then (if is_finished w then given_back w t else committed w t) else w
+happens w (GiveBack t) = if is_in_flight w t then given_back w t else w
 happens w Stop = with_stop w
 
 -- A round after some events, one after the other.

@@ -21,7 +21,8 @@ abbrev pub round_by : Setup → Option History → List Entry → RoundState
 round_by setup past schedule = round_after setup past (events_in schedule)
 
 -- A round is where its schedule leads: that schedule, made entry by entry, comes to the same machine and the same
--- records. So whose steps were out in between, what was discarded, and whether the round was stopped doesn't show.
+-- records. So whose steps were in flight in between, what was discarded, and whether the round was stopped doesn't
+-- show.
 pub record IsBySchedule (w : RoundState) : Type 0 where
   pub schedule : (round_by w.setup w.past w.schedule).schedule ≡ w.schedule
   pub machine : (round_by w.setup w.past w.schedule).machine ≡ w.machine

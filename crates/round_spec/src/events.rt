@@ -3,16 +3,16 @@
 /// One event of a round. Where its condition doesn't hold, nothing changes.
 #[derive(Clone, Copy, Debug, PartialEq, Eq)]
 pub enum Event {
-    /// A worker takes this thread's next step to execute it. Condition: the round isn't over, the
-    /// thread is ready and not out, and no record of it fits.
+    /// A worker takes this thread's next step to execute it. Condition: the round isn't finished, the
+    /// thread is ready and not in flight, and no record of it fits.
     Take(u8),
-    /// The record of this thread's next step is laid in its place. Condition: the round isn't over,
-    /// the thread is ready and not out, and its record fits.
+    /// The record of this thread's next step is applied in its place. Condition: the round isn't finished,
+    /// the thread is ready and not in flight, and its record fits.
     Reuse(u8),
-    /// The step that was taken is made; after the round is over it is discarded. Condition: the
-    /// thread is out.
+    /// The step that was taken is made; after the round is finished it is discarded. Condition: the
+    /// thread is in flight.
     Commit(u8),
-    /// The step that was taken is discarded. Condition: the thread is out.
+    /// The step that was taken is discarded. Condition: the thread is in flight.
     GiveBack(u8),
     /// The round is stopped.
     Stop,
@@ -25,7 +25,7 @@ pub enum Pick {
     Reuse(u8),
     /// Take and execute this thread's next step.
     Run(u8),
-    /// Wait until a step that is out was committed or given back.
+    /// Wait until a step that is in flight was committed or given back.
     Hold,
     /// Nothing: the machine has an end, or the round was stopped.
     Over,

@@ -8,7 +8,7 @@
 
 ghost use Rattle.std.specs.Prelude.{◌≡◌, ◌≢◌, ◌<◌, ◌≤◌, ◌⊎◌, ◌↔◌, ℕ, List, [], ◌∷◌, ◌++◌, All, length, slice_set, Option, Some, None, true, false, is_some};
 ghost use Rattle.record_spec.specs.Record.{Record, IsTrue};
-ghost use Rattle.machine_spec.specs.Step.{lay, fits};
+ghost use Rattle.machine_spec.specs.Step.{apply, fits};
 ghost use Rattle.machine_spec.specs.Whole.{IsWhole};
 ghost use Rattle.report_spec.specs.declared.Entry.{Entry};
 ghost use Rattle.round_spec.specs.declared.events.Event.TheVariants.{Commit};
@@ -19,14 +19,14 @@ ghost use Rattle.history_spec.specs.History.{History, IsHonest, IsSameProgram, I
 ghost use Rattle.report_spec.specs.Report.{threads_of, instructions_from};
 ghost use Rattle.round_spec.specs.declared.events.Event.{Event};
 ghost use Rattle.round_spec.specs.Marks.{marked, sourced};
-ghost use Rattle.round_spec.specs.Rounds.{RoundState, nobody_out, happens, is_out, is_over, taken_when, round_after, history_of};
+ghost use Rattle.round_spec.specs.Rounds.{RoundState, none_in_flight, happens, is_in_flight, is_finished, taken_when, round_after, history_of};
 ghost use Rattle.round_spec.specs.Schedules.{IsBySchedule};
 ghost use Rattle.round_spec.specs.Choice.{choice_by};
 ghost use Rattle.round_spec.specs.Alone.{one_worker};
 ghost use Rattle.round_spec.specs.Instructions.{executed_instructions};
 ghost use Rattle.round_spec.specs.Keeping.{IsCounted, IsHeld, IsInOrder};
 ghost use Rattle.round_spec.specs.Reordering.{reuses_of, ReusesInOrder};
-ghost use Rattle.round_spec.specs.Due.{place_in, is_gone, are_passed_before, is_due};
+ghost use Rattle.round_spec.specs.Due.{place_in, has_exited, are_passed_before, is_due};
 ghost use Rattle.order_spec.specs.Facts.{Fact, facts};
 ghost use Rattle.order_spec.specs.Before.{fact_at};
 ghost use Rattle.order_spec.specs.Ancestors.{clock_at, number_at};
@@ -36,7 +36,7 @@ mod events;
 
 pub use events::{Event, Pick};
 
-/// What holds of every round holds at its start, and after each event: in particular, who is out is
+/// What holds of every round holds at its start, and after each event: in particular, who is in flight is
 /// ready still, and no record of its next step fits. By which history the round goes doesn't matter.
 pub fn rounds_stay_in_order()
     ensures event { (w : RoundState) (e : Event) → IsInOrder w → IsInOrder (happens w e) }
@@ -45,26 +45,26 @@ pub fn rounds_stay_in_order()
         → IsInOrder (round_after setup past events) }
     ensures held { (setup : Setup) (past : Option History) (events : List Event) (t : ℕ)
         → IsSetup setup
-        → is_out (round_after setup past events) t ≡ true
+        → is_in_flight (round_after setup past events) t ≡ true
         → IsHeld (round_after setup past events) t }
 {}
 
-/// To commit the step of a thread that is out, in a round that isn't over, is to lay a true record of it
+/// To commit the step of a thread that is in flight, in a round that isn't finished, is to apply a true record of it
 /// that fits.
-pub fn commit_lays_its_record()
+pub fn commit_applies_its_record()
     ensures { (w : RoundState) (r : Record)
         → IsWhole w.machine
         → IsTrue w.machine.frame r.start r.kept
-        → is_out w r.thread ≡ true
-        → is_over w ≡ false
+        → is_in_flight w r.thread ≡ true
+        → is_finished w ≡ false
         → fits w.machine r ≡ true
         → happens w (Commit r.thread)
         ≡ record w {
-          machine = lay w.machine r;
+          machine = apply w.machine r;
           schedule = w.schedule ++ record { thread = r.thread; reused = false } ∷ [];
           records = w.records ++ r ∷ [];
           picked = w.picked ++ taken_when w r.thread ∷ [];
-          out = slice_set w.out r.thread false;
+          in_flight = slice_set w.in_flight r.thread false;
           taken_at = slice_set w.taken_at r.thread 0;
         } }
 {}
@@ -129,7 +129,8 @@ pub fn rounds_are_from_scratch()
         ≡ records setup (threads_of (round_after setup past events).schedule) }
     ensures sources { (setup : Setup) (past : Option History) (events : List Event)
         → CanGoBy past setup
-        → (round_after setup past events).records ≡ sourced past setup (round_after setup past events).schedule }
+        → (round_after setup past events).records
+        ≡ sourced past setup (round_after setup past events).schedule }
     ensures marks { (setup : Setup) (past : Option History) (events : List Event)
         → CanGoBy past setup
         → (round_after setup past events).schedule
@@ -155,14 +156,15 @@ pub fn rounds_leave_honest_histories()
 pub fn rounds_count_instructions()
     ensures { (setup : Setup) (past : Option History) (events : List Event)
         → CanGoBy past setup
-        → executed_instructions (round_after setup past events).schedule (round_after setup past events).records
+        → executed_instructions (round_after setup past events).schedule
+        (round_after setup past events).records
         ≡ instructions_from (first setup) (round_after setup past events).schedule }
 {}
 
 /// With no history to go by, the choice is that of a run with no earlier run, and so is the schedule of
 /// one worker.
 pub fn no_history_changes_nothing()
-    ensures choice { (m : Machine) → choice_by None m nobody_out ≡ choice m }
+    ensures choice { (m : Machine) → choice_by None m none_in_flight ≡ choice m }
     ensures schedule { (setup : Setup) → one_worker setup None ≡ alone setup }
 {}
 
@@ -193,7 +195,8 @@ pub fn clocks_tell_who_is_due()
     ensures { (fs : List Fact) (m : Machine) (j : ℕ)
         → (hart_of m (fact_at fs j).thread).number ≡ number_at fs j
         → (are_passed_before fs m j ≡ true)
-        ↔ ((u : ℕ) → u ≢ (fact_at fs j).thread → (clock_at fs j u ≤ (hart_of m u).number) ⊎ (is_gone m u ≡ true)) }
+        ↔ ((u : ℕ) → u ≢ (fact_at fs j).thread
+        → (clock_at fs j u ≤ (hart_of m u).number) ⊎ (has_exited m u ≡ true)) }
 {}
 
 /// To reuse the steps of an honest history in any order in which each comes after all that must come

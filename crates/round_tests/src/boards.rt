@@ -1,12 +1,14 @@
 //! Boards of a guest of two steps, `hi`. What follows is by hand.
 
 ghost use Rattle.std.specs.Prelude.{◌≡◌, ◌<◌, IfOk};
+ghost use Rattle.std.specs.Arc.{arc_value};
+ghost use Rattle.machine_spec.specs.Setup.{first};
 ghost use Rattle.round_spec.specs.Rounds.{opening};
 
 use super::fixtures::{is_round, setup};
 use ith_host::{Gate, OpenGate};
 use propagate::Round;
-use rerun_workers::{Board, Landed, Naming, Pass, Task, Worked, run_round};
+use rerun_workers::{Board, ClosedRound, CommitOutcome, Naming, Pass, Task, run_round};
 use std::alloc::{AllocError, Global};
 use std::marker::Brand;
 use std::process::Abort;
@@ -26,7 +28,9 @@ fn opened(alloc: Global, fuel: u32) -> Result<Round, Fail>
 }
 
 /// The step that a worker is told to execute.
-fn begun<J: Naming, R: Wait>(rt: &R, board: &Board<J>, pass: &mut Pass<J>) -> Result<Job, Fail> {
+fn begun<J: Naming, R: Wait>(rt: &R, board: &Board<J>, pass: &mut Pass<J>) -> Result<Job, Fail>
+    ensures { IfOk result (λ job. arc_value job.frame ≡ (first J.setup).frame) }
+{
     match board.next(rt, pass) {
         Task::Begin(job) => Ok(job),
         _ => Err(Fail::new("there is no step to execute")),
@@ -34,37 +38,24 @@ fn begun<J: Naming, R: Wait>(rt: &R, board: &Board<J>, pass: &mut Pass<J>) -> Re
 }
 
 /// The run of a job, with nobody who looks at the counter.
-fn run_of<R: Threads>(rt: &R, alloc: Global, job: &Job) -> Result<Run, AllocError> {
+fn run_of<R: Threads>(rt: &R, alloc: Global, job: &Job) -> Result<Run, AllocError>
+    ensures { IfOk result (λ run. arc_value run.frame ≡ arc_value job.now.frame) }
+{
     execute(alloc, job, &mut Turns::new(rt))
 }
 
-/// The run of the first step of a round.
-fn first_run<J: Naming, R: Threads + Wait>(
-    rt: &R,
-    alloc: Global,
-    round: Round,
-    blank: Blank,
-) -> Result<Run, Fail>
-    requires name { blank.name ≡ J.name }
-    requires parts { (blank.parts ≡ J.parts) × (J.parts ≡ 1) }
-    requires workers { (J.workers ≡ 1) × (J.watches ≡ 0) }
-    requires opening { round ≡ opening J.setup J.past }
-{
-    let (board, mut passes) = Board::<J>::new(rt, alloc, round, 1, blank)?;
-    let job = begun(rt, &board, &mut passes[0])?;
-    Ok(run_of(rt, alloc, &job)?)
-}
-
-/// Hands in a run that can't be committed, and takes it back.
-fn handed_back<J: Naming, R: Wait>(
+/// Hands in a run of a step of the round, which can be committed.
+fn hand_in<J: Naming, R: Wait>(
     rt: &R,
     board: &Board<J>,
     pass: &mut Pass<J>,
     run: Run,
-) -> Result<Run, Fail> {
+) -> Result<(), Fail>
+    requires { arc_value run.frame ≡ (first J.setup).frame }
+{
     match board.commit(rt, pass, run) {
-        Landed::Stale(back) => Ok(back),
-        _ => Err(Fail::new("the run isn't stale")),
+        CommitOutcome::Done => Ok(()),
+        _ => Err(Fail::new("the run isn't committed")),
     }
 }
 
@@ -77,19 +68,14 @@ pub(super) fn make_next<J: Naming, R: Threads + Wait>(
 ) -> Result<(), Fail> {
     let job = begun(rt, board, pass)?;
     let run = run_of(rt, alloc, &job)?;
-    match board.commit(rt, pass, run) {
-        Landed::Done => Ok(()),
-        _ => Err(Fail::new("the run isn't committed")),
-    }
+    hand_in(rt, board, pass, run)
 }
 
-/// The round after a foreign run was handed in while its thread was out, and then the step of the job that comes next;
-/// with the run that came back.
-fn after_foreign_run<J: Naming, R: Threads + Wait>(
+/// The round of one worker that hands in its first step twice, and the run that came back.
+fn handed_in_twice<J: Naming, R: Threads + Wait>(
     rt: &R,
     alloc: Global,
     round: Round,
-    foreign: Run,
     blank: Blank,
 ) -> Result<(Round, Run), Fail>
     requires name { blank.name ≡ J.name }
@@ -98,28 +84,28 @@ fn after_foreign_run<J: Naming, R: Threads + Wait>(
     requires opening { round ≡ opening J.setup J.past }
 {
     let (board, mut passes) = Board::<J>::new(rt, alloc, round, 1, blank)?;
-    let _taken = begun(rt, &board, &mut passes[0])?;
-    let back = handed_back(rt, &board, &mut passes[0], foreign)?;
-    make_next(rt, alloc, &board, &mut passes[0])?;
-    let worked = board.close(passes);
-    Ok((worked.round, back))
+    let job = begun(rt, &board, &mut passes[0])?;
+    let run = run_of(rt, alloc, &job)?;
+    let again = run_of(rt, alloc, &job)?;
+    hand_in(rt, &board, &mut passes[0], run)?;
+    let CommitOutcome::Stale(back) = board.commit(rt, &mut passes[0], again) else {
+        return Err(Fail::new("the run isn't stale"));
+    };
+    Ok((board.close(passes).round, back))
 }
 
 #[test]
-fn a_run_of_another_setup_is_stale(rt: HostRuntime) -> Result<(), Fail> {
+fn a_run_that_is_handed_in_twice_is_stale(rt: HostRuntime) -> Result<(), Fail> {
     let alloc = rt.alloc();
-    let run = first_run::<Brand, _>(&rt, alloc, opened(alloc, 999_999)?, Blank::new(1))?;
-    let (round, back) = after_foreign_run::<Brand, _>(
+    let (round, back) = handed_in_twice::<Brand, _>(
         &rt,
         alloc,
         opened(alloc, 1_000_000)?,
-        run,
         Blank::new(1),
     )?;
     assert!(&rt; back.rec.count() == 5);
     assert!(&rt; round.schedule().len() == 1);
-    assert!(&rt; round.instructions() == 5);
-    assert!(&rt; round.discarded() == 1);
+    assert!(&rt; round.discarded() == 0);
     Ok(())
 }
 
@@ -129,7 +115,7 @@ fn failed<J: Naming, R: Threads + Wait>(
     alloc: Global,
     round: Round,
     blank: Blank,
-) -> Result<Worked, Fail>
+) -> Result<ClosedRound, Fail>
     requires name { blank.name ≡ J.name }
     requires parts { (blank.parts ≡ J.parts) × (J.parts ≡ 2) }
     requires workers { (J.workers ≡ 2) × (J.watches ≡ 0) }
@@ -151,48 +137,44 @@ fn failed<J: Naming, R: Threads + Wait>(
 #[test]
 fn a_job_that_fails_ends_the_round(rt: HostRuntime) -> Result<(), Fail> {
     let alloc = rt.alloc();
-    let Worked { round, shares, .. } = failed::<Brand, _>(
-        &rt,
-        alloc,
-        opened(alloc, 1_000_000)?,
-        Blank::new(2),
-    )?;
+    let ClosedRound {
+        round,
+        worker_steps,
+        ..
+    } = failed::<Brand, _>(&rt, alloc, opened(alloc, 1_000_000)?, Blank::new(2))?;
     assert!(&rt; round.schedule().len() == 1);
     assert!(&rt; round.discarded() == 1);
     assert!(&rt; round.stopped() && round.end() == None);
-    assert!(&rt; shares.as_slice() == [0, 1].as_slice());
+    assert!(&rt; worker_steps.as_slice() == [0, 1].as_slice());
     Ok(())
 }
 
 /// How many steps workers made.
-fn steps_of(shares: &[u64]) -> u64 {
+fn steps_of(worker_steps: &[u64]) -> u64 {
     let mut steps: u64 = 0;
-    for share in shares {
-        steps = steps.saturating_add(*share);
+    for steps_of_one in worker_steps {
+        steps = steps.saturating_add(*steps_of_one);
     }
     steps
 }
 
 /// Compares a round of two steps, which all are reused or none is, and what its workers made.
-fn compare<R: Abort>(rt: &R, round: &Round, shares: &[u64], workers: usize, reused: bool) {
+fn compare<R: Abort>(rt: &R, round: &Round, worker_steps: &[u64], workers: usize, reused: bool) {
     let instructions = if reused { 0 } else { 8 };
     assert!(rt; is_round(round, &[reused, reused], instructions, 0));
-    assert!(rt; shares.len() == workers);
-    assert!(rt; steps_of(shares) == 2);
+    assert!(rt; worker_steps.len() == workers);
+    assert!(rt; steps_of(worker_steps) == 2);
 }
 
 #[test]
 fn four_workers_make_a_round(rt: HostRuntime) -> Result<(), Fail> {
     let alloc = rt.alloc();
-    let Worked { round, shares, .. } = run_round(
-        &rt,
-        alloc,
-        setup(alloc, 1_000_000)?,
-        None,
-        4,
-        &OpenGate,
-    )?;
-    compare(&rt, &round, shares.as_slice(), 4, false);
+    let ClosedRound {
+        round,
+        worker_steps,
+        ..
+    } = run_round(&rt, alloc, setup(alloc, 1_000_000)?, None, 4, &OpenGate)?;
+    compare(&rt, &round, worker_steps.as_slice(), 4, false);
     Ok(())
 }
 
@@ -216,15 +198,12 @@ fn without_an_edit_nobody_passes_the_gate(rt: HostRuntime) -> Result<(), Fail> {
     };
     let mut past = None;
     for (passed, reused) in [(2, false), (2, true), (2, true)] {
-        let Worked { round, shares, .. } = run_round(
-            &rt,
-            alloc,
-            setup(alloc, 1_000_000)?,
-            past,
-            2,
-            &gate,
-        )?;
-        compare(&rt, &round, shares.as_slice(), 2, reused);
+        let ClosedRound {
+            round,
+            worker_steps,
+            ..
+        } = run_round(&rt, alloc, setup(alloc, 1_000_000)?, past, 2, &gate)?;
+        compare(&rt, &round, worker_steps.as_slice(), 2, reused);
         assert!(&rt; gate.passed.load(Ordering::SeqCst) == passed);
         past = match round.into_history() {
             Some(left) => Some(Arc::new(alloc, left)?),

@@ -3,7 +3,7 @@
 ghost use Rattle.std.specs.Prelude.{◌≡◌, ◌<◌};
 
 use super::fixtures::{is_round, setup};
-use propagate::{Round, run_alone};
+use propagate::{Committed, Round, run_alone};
 use release_core::History;
 use round_driver::drive;
 use round_spec::{Event, Pick};
@@ -11,6 +11,7 @@ use std::alloc::Global;
 use std::sync::Arc;
 use std::test::Fail;
 use std::thread::Threads;
+use thunk_run::{Run, execute};
 use turn_count::Turns;
 
 /// What makes a round: one worker, or given events.
@@ -69,5 +70,49 @@ fn events_make_a_round(rt: HostRuntime) -> Result<(), Fail> {
     assert!(rt; is_round(&round, &[false, false], 8, 1));
     assert!(rt; round.stopped());
     assert!(rt; round.pick() == Pick::Over);
+    Ok(())
+}
+
+/// The run of the step that is picked to be executed, and taken.
+fn taken<R: Threads>(rt: &R, alloc: Global, round: &mut Round) -> Result<Run, Fail> {
+    match round.pick() {
+        Pick::Run(t) => {
+            let job = round.take(t)?;
+            Ok(execute(alloc, &job, &mut Turns::new(rt))?)
+        }
+        _ => Err(Fail::new("there is no step to execute")),
+    }
+}
+
+/// The round after a foreign run was committed while its thread was in flight, and then the step that comes next; with
+/// the run that came back.
+fn after_foreign_run<R: Threads>(
+    rt: &R,
+    alloc: Global,
+    mut round: Round,
+    foreign: Run,
+) -> Result<(Round, Run), Fail> {
+    let _own = taken(rt, alloc, &mut round)?;
+    let Committed::Stale(back) = round.commit(foreign) else {
+        return Err(Fail::new("the run isn't stale"));
+    };
+    let own = taken(rt, alloc, &mut round)?;
+    let Committed::Done = round.commit(own) else {
+        return Err(Fail::new("the run isn't committed"));
+    };
+    Ok((round, back))
+}
+
+#[test]
+fn a_run_of_another_setup_is_stale(rt: HostRuntime) -> Result<(), Fail> {
+    let alloc = rt.alloc();
+    let mut other = Round::new(alloc, setup(alloc, 999_999)?, None)?;
+    let foreign = taken(&rt, alloc, &mut other)?;
+    let opened = Round::new(alloc, setup(alloc, 1_000_000)?, None)?;
+    let (round, back) = after_foreign_run(&rt, alloc, opened, foreign)?;
+    assert!(rt; back.rec.count() == 5);
+    assert!(rt; round.schedule().len() == 1);
+    assert!(rt; round.instructions() == 5);
+    assert!(rt; round.discarded() == 1);
     Ok(())
 }

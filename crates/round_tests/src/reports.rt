@@ -4,7 +4,7 @@ use super::fixtures::HI;
 use machine_spec::End;
 use page_store::{PAGE_SIZE, Page, PageTable};
 use report_spec::Entry;
-use round_report::{Told, text};
+use round_report::{ReportData, text};
 use std::alloc::{AllocError, Global};
 use std::test::Fail;
 
@@ -22,19 +22,19 @@ fn last_memory(alloc: Global) -> Result<PageTable, AllocError> {
 }
 
 /// What there is to tell of the guest's round.
-fn told_of_hi<'a>(
+fn data_of_hi<'a>(
     schedule: &'a [Entry],
-    shares: &'a [u64],
+    worker_steps: &'a [u64],
     memory: &'a PageTable,
     output: &'a [u8],
-) -> Told<'a> {
-    Told {
+) -> ReportData<'a> {
+    ReportData {
         ending: Some(End::Exit(0)),
         schedule,
         reached: None,
         progress: None,
         instructions: 8,
-        shares,
+        worker_steps,
         memory,
         output,
     }
@@ -51,8 +51,8 @@ fn report_of_hi(rt: HostRuntime) -> Result<(), Fail> {
         reused: false,
     };
     let schedule = [executed, executed];
-    let shares = [2];
-    let told = told_of_hi(&schedule, &shares, &memory, b"hi\n");
+    let worker_steps = [2];
+    let told = data_of_hi(&schedule, &worker_steps, &memory, b"hi\n");
     let mut digested = None;
     let report = text(alloc, 0, &told, &mut digested)?;
     let again = text(alloc, 0, &told, &mut digested)?;
@@ -71,7 +71,7 @@ hi
 ";
     assert_eq!(rt; report.as_slice(), expected.as_bytes());
     assert_eq!(rt; again.as_slice(), expected.as_bytes());
-    let told = Told {
+    let told = ReportData {
         reached: Some(5),
         progress: None,
         ..told

@@ -8,7 +8,7 @@ use super::boards::make_next;
 use machine_spec::Limits;
 use propagate::Round;
 use release_core::Setup;
-use rerun_workers::{Board, Counter, Naming, Watched};
+use rerun_workers::{Board, Counter, Naming, WatchedRound};
 use std::alloc::Global;
 use std::marker::Brand;
 use std::sync::Wait;
@@ -51,7 +51,7 @@ fn read<J: Naming, R: Threads + Wait>(
     requires table { (counter.writer.table ≡ J.table) × (counter.writer.added ≡ 0) }
     requires opening { round ≡ opening J.setup J.past }
 {
-    let watched = Watched { round, counter };
+    let watched = WatchedRound { round, counter };
     let (board, mut passes, mut watches) = Board::<J>::with_watches(
         rt, alloc, watched, 1, 1, blank,
     )?;

@@ -70,7 +70,8 @@ impl Regs {
     /// The address of the instruction that comes next.
     #[inline(always)]
     pub fn pc(&self) -> u32
-        ensures { result ≡ self.now.pc }
+        ensures value { result ≡ self.now.pc }
+        ensures zero { register self.now 0 ≡ 0 }
     {
         self.pc
     }

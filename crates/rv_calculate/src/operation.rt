@@ -6,7 +6,7 @@ ghost use Rattle.rv_calculate.specs.Results.{result_of};
 use rv_alu::{BranchTest, ImmediateOperation, RegisterOperation, ShiftOperation};
 
 /// What an instruction computes on two words.
-#[derive(Clone, Copy, Debug, PartialEq, Eq)]
+#[derive(Clone, Copy)]
 pub enum Operation {
     /// Whether a branch is taken.
     Branch(BranchTest),

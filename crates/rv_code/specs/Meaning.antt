@@ -1,5 +1,5 @@
 -- What an operation of a decoded page stands for.
-use Rattle.std.specs.Prelude.{◌≡◌, ◌≢◌, ℕ, ◌+◌, ◌*◌, ◌/◌, ◌<◌, ◌^◌, Bool, true, false, List, length, Option, Some, None, slice_index_or}
+use Rattle.std.specs.Prelude.{◌≡◌, ◌≢◌, ℕ, ◌+◌, ◌*◌, ◌/◌, ◌<◌, Bool, true, false, List, length, Option, Some, None, slice_index_or}
 use Rattle.isa_spec.specs.declared.Instr.{Instr}
 use Rattle.isa_spec.specs.declared.Instr.TheVariants as instr
 use Rattle.isa_spec.specs.declared.BranchTest.TheVariants as test
@@ -12,6 +12,7 @@ use Rattle.isa_spec.specs.Registers.{Registers, register}
 use Rattle.isa_spec.specs.Table.{decoded}
 use Rattle.isa_spec.specs.Words.{difference_of}
 use Rattle.memory_spec.specs.declared.Size.TheVariants.{Four}
+use Rattle.memory_spec.specs.declared.TheConstants.{PAGE_NUMBERS}
 use Rattle.memory_spec.specs.Access.{number_in}
 use Rattle.memory_spec.specs.Pages.{Mapped, Memory}
 use Rattle.thunk_spec.specs.Turn.{executed, word_turn}
@@ -144,7 +145,7 @@ pub record Decoded : Type 0 where
 -- A decoded page is that of its bytes: each word's operation stands for it at its address; and what stands behind the
 -- last is left to a turn of its own.
 pub record IsCodeOf (c : Decoded) : Type 0 where
-  pub number : c.number < 2 ^ 20
+  pub number : c.number < PAGE_NUMBERS
   pub bytes : length c.bytes ≡ 4096
   pub count : length c.operations ≡ 1025
   pub words : (i : ℕ) → i < 1024

@@ -5,13 +5,11 @@ ghost use Rattle.memory_spec.specs.Pages.{page_of, unmapped};
 ghost use Rattle.rv_code.specs.Pages.{IsDecodedAs, AreDecoded};
 
 use super::page::CodePage;
+use memory_spec::PAGE_NUMBERS;
 use page_map::PageMap;
 use page_store::PageTable;
 use std::alloc::{AllocError, Global};
 use std::marker::Model;
-
-/// How many pages addresses of 32 bits reach.
-const PAGE_NUMBERS: u32 = 1 << 20;
 
 /// The pages of a memory that may be executed, decoded, by slot. A clause sees the list of them.
 #[derive(Drop)]
@@ -38,13 +36,14 @@ fn decode_slot(
     requires mapped { slot < length map.now }
     requires stored { slot < length memory.now }
     ensures { IfOk result (λ page.
-        IsDecodedAs (slice_index_or map.now slot unmapped) (page_of memory.now slot) (option_map (λ p. p.value) page)) }
+        IsDecodedAs (slice_index_or map.now slot unmapped) (page_of memory.now slot)
+        (option_map (λ p. p.value) page)) }
 {
     let mapped = map.page(slot);
     if !mapped.permission().executes() || mapped.number() >= PAGE_NUMBERS {
         return Ok(None);
     }
-    let code = CodePage::new(alloc, mapped.number(), memory.share(slot)?)?;
+    let code = CodePage::new(alloc, mapped.number(), memory.page_arc(slot)?)?;
     Ok(Some(code))
 }
 

@@ -10,7 +10,8 @@ use isa_spec::{BranchTest, ImmediateOperation, Load, RegisterOperation, ShiftOpe
 /// The kind of a branch inside a page, by its test.
 pub(super) fn branch_kind(test: BranchTest) -> Kind
     ensures means { (address rd rs1 rs2 imm : ℕ)
-        → instr_by result address rd rs1 rs2 imm ≡ Some (Instr.Branch test rs1 rs2 (offset_to address imm)) }
+        → instr_by result address rd rs1 rs2 imm
+        ≡ Some (Instr.Branch test rs1 rs2 (offset_to address imm)) }
     ensures zero { may_have_zero result ≡ true }
 {
     match test {

@@ -1,6 +1,6 @@
 //! A decoded page.
 
-ghost use Rattle.std.specs.Prelude.{◌≡◌, ◌<◌, ◌≤◌, ◌*◌, ◌+◌, ◌^◌, IfOk, slice_index_or};
+ghost use Rattle.std.specs.Prelude.{◌≡◌, ◌<◌, ◌≤◌, ◌*◌, ◌+◌, IfOk, slice_index_or};
 ghost use Rattle.std.specs.Arc.{arc_value};
 ghost use Rattle.memory_spec.specs.Access.{number_in};
 ghost use Rattle.memory_spec.specs.declared.Size.TheVariants.{Four};
@@ -8,7 +8,7 @@ ghost use Rattle.rv_code.specs.Meaning.{StandsFor, IsCodeOf, other};
 
 use super::operation::{OTHER, Operation};
 use super::reading::operation_of;
-use memory_spec::PAGE_SIZE;
+use memory_spec::{PAGE_NUMBERS, PAGE_SIZE};
 use page_store::Page;
 use std::alloc::{AllocError, Global};
 use std::marker::Model;
@@ -54,7 +54,7 @@ fn word_at(bytes: &[u8; PAGE_SIZE], index: usize) -> u32
 /// The operations of the words of a page by its number, and the one behind them.
 #[inline(never)]
 fn operations_of(number: u32, bytes: &[u8; PAGE_SIZE]) -> [Operation; 1025]
-    requires { number < 2 ^ 20 }
+    requires { number < PAGE_NUMBERS }
     ensures { IsCodeOf (record { number = number; bytes = bytes.now; operations = result }) }
 {
     let start = number * PAGE_SIZE as u32;
@@ -68,7 +68,7 @@ fn operations_of(number: u32, bytes: &[u8; PAGE_SIZE]) -> [Operation; 1025]
 /// The page of a number, decoded.
 #[inline(never)]
 fn decoded(number: u32, page: Arc<Page>) -> CodePage
-    requires { number < 2 ^ 20 }
+    requires { number < PAGE_NUMBERS }
     ensures number { result.number ≡ number }
     ensures bytes { result.bytes ≡ arc_value page }
 {
@@ -86,7 +86,7 @@ impl CodePage {
     ///
     /// An error where the host's memory ran out.
     pub fn new(alloc: Global, number: u32, page: Arc<Page>) -> Result<Box<CodePage>, AllocError>
-        requires { number < 2 ^ 20 }
+        requires { number < PAGE_NUMBERS }
         ensures number { IfOk result (λ code. code.value.number ≡ number) }
         ensures bytes { IfOk result (λ code. code.value.bytes ≡ arc_value page) }
     {

@@ -1,5 +1,5 @@
 -- A page that runs goes on to run while nothing is stored to it.
-use Rattle.std.proofs.Common.{◌≡◌, ◌≢◌, ℕ, ◌+◌, ◌*◌, ◌/◌, ◌%◌, ◌^◌, ◌<◌, ◌≤◌, ◌==◌, Bool, true, false, cond, zero, suc, subst, slice_index_or, Option, None, List, [], ◌∷◌, length, set, get_or, Some, refl, ap, sym, ◌∙◌, eqb-true, arith}
+use Rattle.std.proofs.Common.{◌≡◌, ◌≢◌, ℕ, ◌+◌, ◌*◌, ◌/◌, ◌%◌, ◌<◌, ◌≤◌, ◌==◌, Bool, true, false, cond, zero, suc, subst, slice_index_or, Option, None, List, [], ◌∷◌, length, set, get_or, Some, refl, ap, sym, ◌∙◌, eqb-true, arith}
 use Rattle.std.proofs.lemmas.List.{get_or-set_other, set-set, set_comm}
 use Rattle.std.proofs.lemmas.Bool.Decides.{nat_tests}
 use Rattle.isa_spec.specs.declared.Instr.{Instr}
@@ -11,6 +11,7 @@ use Rattle.isa_spec.specs.Words.{sum_of}
 use Rattle.isa_spec.specs.Table.{decoded}
 use Rattle.memory_spec.specs.declared.Size.{Size}
 use Rattle.memory_spec.specs.declared.Size.TheVariants.{One, Two, Four}
+use Rattle.memory_spec.specs.declared.TheConstants.{PAGE_NUMBERS}
 use Rattle.memory_spec.specs.Pages.{Mapped, Memory, allows, execute_right, slot_of, permission_at, page_of, unmapped}
 use Rattle.memory_spec.specs.Stores.{with_byte, laid}
 use Rattle.memory_spec.specs.Access.{byte_count, byte_stored, bytes_stored, number_in, number_at, loaded, fetched, may_store}
@@ -18,7 +19,7 @@ use Rattle.memory_spec.specs.Workspace.{Workspace, taken_at, after_taking, after
 use Rattle.thunk_spec.specs.declared.ends.Outcome.TheVariants.{Next}
 use Rattle.thunk_spec.specs.Turn.{Turn, turn, word_turn, with_fetch, executed, passed, load_size, load_result, store_size}
 use Rattle.page_map.specs.Entering.{RunsFrom}
-use Rattle.page_map.proofs.Slots.{number-slot_of}
+use Rattle.page_map.proofs.Slots.{slot_of-page, number-slot_of}
 use Rattle.rv_code.specs.declared.operation.Operation.{Operation}
 use Rattle.rv_code.specs.Meaning.{Decoded, IsCodeOf, instr_of, other}
 use Rattle.rv_step.specs.declared.placed.Placed.{Placed}
@@ -166,13 +167,8 @@ store-executes w after number index r kind size rs1 rs2 imm address value sized 
       workspace_is = rw does stored;
     }
 
--- the slot turns on the page's number alone
-pub slot_of-page : (map : List Mapped) (a b : ℕ) → a / 4096 ≡ b / 4096 → slot_of map a ≡ slot_of map b
-slot_of-page [] a b same = refl
-slot_of-page (p ∷ ps) a b same = rw (same, slot_of-page ps a b same) refl
-
 -- the address of a word
-word_at-plain : (number index : ℕ) → number < 2 ^ 20 → index < 1024 → word_at number index ≡ number * 4096 + 4 * index
+word_at-plain : (number index : ℕ) → number < PAGE_NUMBERS → index < 1024 → word_at number index ≡ number * 4096 + 4 * index
 word_at-plain number index few within = omega arith
 
 -- the permission turns on the page's number alone
@@ -183,13 +179,13 @@ permission_at-page map a b same = ap (λ (k : ℕ). (get_or map k unmapped).perm
 
 -- an address of a page that runs has that page's slot
 page-slot :
-    (map : List Mapped) (number index : ℕ) → number < 2 ^ 20 → index < 1024
+    (map : List Mapped) (number index : ℕ) → number < PAGE_NUMBERS → index < 1024
     → slot_of map (word_at number index) ≡ slot_of map (number * 4096)
 page-slot map number index few within = slot_of-page map (word_at number index) (number * 4096) (omega arith)
 
 -- the word that a page that runs has at an index
 fetched-word :
-    (w : Workspace) (bytes : List ℕ) (number index : ℕ) → RunsFrom w number bytes → number < 2 ^ 20 → index < 1024
+    (w : Workspace) (bytes : List ℕ) (number index : ℕ) → RunsFrom w number bytes → number < PAGE_NUMBERS → index < 1024
     → fetched w.map w.memory (word_at number index) ≡ Some (number_in bytes (4 * index) Four)
 unfolding fetched number_at
 fetched-word w bytes number index runs few within =
@@ -201,7 +197,7 @@ fetched-word w bytes number index runs few within =
 -- a turn whose word is fetched from a page that runs
 fetched-turn :
     (w : Workspace) (bytes : List ℕ) (number index : ℕ) (r : Registers) (i : Instr)
-    → RunsFrom w number bytes → number < 2 ^ 20 → index < 1024
+    → RunsFrom w number bytes → number < PAGE_NUMBERS → index < 1024
     → executed w.map w.memory (at_word number index r) i
     ≡ word_turn w.map w.memory (at_word number index r) (decoded (number_in bytes (4 * index) Four))
     → turn w.map w.memory (at_word number index r)
@@ -213,7 +209,7 @@ fetched-turn w bytes number index r i runs few within same =
 -- an instruction that was executed in a page that runs is a turn
 executed-turn :
     (w after : Workspace) (bytes : List ℕ) (number index : ℕ) (r registers : Registers) (i : Instr)
-    → RunsFrom w number bytes → number < 2 ^ 20 → index < 1024
+    → RunsFrom w number bytes → number < PAGE_NUMBERS → index < 1024
     → executed w.map w.memory (at_word number index r) i
     ≡ word_turn w.map w.memory (at_word number index r) (decoded (number_in bytes (4 * index) Four))
     → Makes (executed w.map w.memory (at_word number index r) i) w Next registers after

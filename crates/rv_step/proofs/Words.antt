@@ -6,6 +6,7 @@ use Rattle.isa_spec.specs.declared.ShiftOperation.TheVariants as shift
 use Rattle.isa_spec.specs.Operations.{shift_result}
 use Rattle.isa_spec.specs.Registers.{Registers, with_register, with_pc}
 use Rattle.isa_spec.specs.Words.{sum_of}
+use Rattle.memory_spec.specs.declared.TheConstants.{PAGE_NUMBERS}
 use Rattle.memory_spec.specs.Workspace.{Workspace}
 use Rattle.thunk_spec.specs.Turn.{Turn, executed, computed, passed, advanced, linked}
 use Rattle.rv_code.specs.Meaning.{offset_to}
@@ -100,7 +101,7 @@ outside-leads p r registers target i stands does w =
 
 -- an offset inside a page leads to its word
 pub offset-leads :
-    (number index target : ℕ) → number < 2 ^ 20 → index < 1024 → target < 1024
+    (number index target : ℕ) → number < PAGE_NUMBERS → index < 1024 → target < 1024
     → sum_of (word_at number index) (offset_to (word_at number index) target) ≡ word_at number target
 offset-leads number index target few within inside = omega arith
 

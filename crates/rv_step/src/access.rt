@@ -75,7 +75,8 @@ fn load_kind<M: Mem>(
 ) -> Result<Outcome, AllocError>
     requires { rd < 32 }
     ensures ok { IfOk result (λ outcome.
-        Makes (load_turn (M.workspace mem.old).map (M.workspace mem.old).memory regs.old kind rd address)
+        Makes
+        (load_turn (M.workspace mem.old).map (M.workspace mem.old).memory regs.old kind rd address)
         (M.workspace mem.old) outcome regs.new (M.workspace mem.new)) }
     ensures err { OnErr result ((regs.new ≡ regs.old)
         × (M.workspace mem.new ≡ M.workspace mem.old)) }

@@ -68,7 +68,8 @@ pub(super) fn operate_immediate(
     requires rs1 { rs1 < 32 }
     ensures next { result ≡ Outcome.Next }
     ensures registers { regs.new
-        ≡ advanced (with_register regs.old rd (immediate_result operation (register regs.old rs1) imm)) }
+        ≡ advanced
+        (with_register regs.old rd (immediate_result operation (register regs.old rs1) imm)) }
 {
     let value = immediate(operation, regs.get(rs1), imm);
     compute(regs, rd, value)

@@ -59,7 +59,7 @@ pub(super) fn execute_operation<M: Mem>(
             BranchGreaterOrEqual(BranchTest::GreaterOrEqual) BranchLessUnsigned(BranchTest::LessUnsigned)
             BranchGreaterOrEqualUnsigned(BranchTest::GreaterOrEqualUnsigned)
         }
-        jump(placed, regs) { Jump() }
+        jump(placed) { Jump() }
         jump_and_link(placed, regs) { JumpAndLink() }
         jump_far(placed, regs) { JumpFar() }
         jump_to_register(placed, regs) { JumpToRegister() }

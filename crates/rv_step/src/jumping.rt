@@ -1,7 +1,7 @@
 //! Jumps and branches, executed in a page.
 
 ghost use Rattle.std.specs.Prelude.{◌≡◌, ◌+◌, ◌*◌, ◌/◌, ◌<◌, ◌^◌, false, true, Some};
-ghost use Rattle.isa_spec.specs.Registers.{register};
+ghost use Rattle.isa_spec.specs.Registers.{Registers, register};
 ghost use Rattle.isa_spec.specs.declared.Instr.TheVariants as instr;
 ghost use Rattle.isa_spec.specs.Words.{difference_of, sum_of};
 ghost use Rattle.memory_spec.specs.Workspace.{Workspace};
@@ -10,13 +10,14 @@ ghost use Rattle.rv_step.specs.Paging.{Leads, instr_placed, word_at};
 
 use super::placed::{Flow, Placed};
 use isa_spec::BranchTest;
+use memory_spec::PAGE_NUMBERS;
 use rv_alu::{Regs, is_taken};
 
 /// The address of a word, by the number of its page and its index there; the one behind the last page's last is 0.
 #[inline(always)]
 pub(super) fn address_of(number: u32, index: usize) -> u32
-    requires few_pages { number < 2 ^ 20 }
-    requires few_words { index < 2 ^ 20 }
+    requires few_pages { number < PAGE_NUMBERS }
+    requires few_words { index < 2 ^ 30 }
     ensures { result ≡ word_at number index }
 {
     let start = number * 4096;
@@ -51,13 +52,12 @@ pub(super) fn branch(placed: Placed, regs: &Regs, test: BranchTest) -> Flow
 
 /// A jump inside the page without a link.
 #[inline(always)]
-pub(super) fn jump(placed: Placed, regs: &Regs) -> Flow
+pub(super) fn jump(placed: Placed) -> Flow
     requires inside { is_inside placed.kind ≡ true }
     requires stands { instr_placed placed
         ≡ Some (instr.Jal 0 (offset_to (word_at placed.number placed.index) placed.imm)) }
-    ensures { (w : Workspace) → Leads result placed w regs.now w regs.now }
+    ensures { (w : Workspace) (r : Registers) → Leads result placed w r w r }
 {
-    let _regs = regs;
     Flow::Inside(placed.imm)
 }
 

@@ -13,7 +13,7 @@ mod placed;
 mod turn;
 
 pub use isa_spec::Cause;
-pub use page::{Left, Ran, run_page};
+pub use page::{PageEnd, Ran, run_page};
 pub use page_map::Mem;
 pub use rv_alu::Regs;
 pub use thunk_spec::Outcome;

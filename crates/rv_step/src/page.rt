@@ -6,7 +6,7 @@ ghost use Rattle.page_map.specs.Entering.{RunsFrom};
 ghost use Rattle.rv_code.specs.Meaning.{IsCodeOf, other};
 ghost use Rattle.rv_step.specs.Paging.{operation_of};
 ghost use Rattle.rv_step.specs.Step.{Follow};
-ghost use Rattle.rv_step.specs.declared.page.Left.TheVariants as left;
+ghost use Rattle.rv_step.specs.declared.page.PageEnd.TheVariants as end;
 
 use super::executing::execute_operation;
 use super::jumping::address_of;
@@ -19,7 +19,7 @@ use turn_count::Turns;
 
 /// Why turns in a page ended.
 #[derive(Clone, Copy, PartialEq, Eq)]
-pub enum Left {
+pub enum PageEnd {
     /// A jump led out of the page, or was made where the room had got short; or a store changed the page.
     Jumped,
     /// The next turn is one for `step`.
@@ -30,7 +30,7 @@ pub enum Left {
 #[derive(Clone, Copy)]
 pub struct Ran {
     /// Why they ended.
-    pub left: Left,
+    pub end: PageEnd,
     /// How many they were.
     pub count: u32,
 }
@@ -59,15 +59,15 @@ fn operation_at(page: &CodePage, number: u32, index: usize) -> Placed
 
 /// Ends turns in a page: so many were made, and the next is at this pc.
 #[inline(always)]
-fn leave(regs: &mut Regs, turns: &mut Turns, left: Left, count: u32, pc: u32) -> Ran
-    ensures left { result.left ≡ left }
+fn leave(regs: &mut Regs, turns: &mut Turns, end: PageEnd, count: u32, pc: u32) -> Ran
+    ensures end { result.end ≡ end }
     ensures count { result.count ≡ count }
     ensures registers { regs.new ≡ with_pc regs.old pc }
     ensures cost { turns.new ≡ turns.old + count }
 {
     regs.set_pc(pc);
     turns.count(count);
-    Ran { left, count }
+    Ran { end, count }
 }
 
 /// Ends turns in a page where memory ran out in the one at this pc: so many were made before it, and it counts too.
@@ -108,38 +108,37 @@ pub fn run_page<M: Mem>(
     ensures never_lower { turns.old ≤ turns.new }
     ensures err { OnErr result ((made : ℕ) × (made ≤ room) × (turns.new ≡ turns.old + (made + 1))
         × Follow made (M.workspace mem.old) regs.old (M.workspace mem.new) regs.new) }
-    ensures jumped { IfOk result (λ ran. ran.left ≡ left.Jumped → 1 ≤ ran.count) }
+    ensures jumped { IfOk result (λ ran. ran.end ≡ end.Jumped → 1 ≤ ran.count) }
 {
     let number = page.number();
     let mut index = (regs.pc() % 4096 / 4) as usize;
     let mut ahead = 1024 - index as u32;
     'turns: loop {
         let placed = operation_at(page, number, index);
-        let _zero = regs.as_array();
         match execute_operation(placed, regs, mem) {
             Ok(Flow::Next) => index += 1,
             Ok(Flow::Inside(target)) => {
                 let made = ahead - (1023 - index as u32);
                 if made > room - 1024 {
                     let pc = address_of(placed.number, target as usize);
-                    return Ok(leave(regs, turns, Left::Jumped, made, pc));
+                    return Ok(leave(regs, turns, PageEnd::Jumped, made, pc));
                 }
                 ahead = made + (1024 - target);
                 index = target as usize;
             }
             Ok(Flow::Outside(target)) => {
                 let made = ahead - (1023 - index as u32);
-                return Ok(leave(regs, turns, Left::Jumped, made, target));
+                return Ok(leave(regs, turns, PageEnd::Jumped, made, target));
             }
             Ok(Flow::Changed) => {
                 let made = ahead - (1023 - index as u32);
                 let pc = address_of(placed.number, index + 1);
-                return Ok(leave(regs, turns, Left::Jumped, made, pc));
+                return Ok(leave(regs, turns, PageEnd::Jumped, made, pc));
             }
             Ok(Flow::Other) => {
                 let made = ahead - (1024 - index as u32);
                 let pc = address_of(placed.number, index);
-                return Ok(leave(regs, turns, Left::Other, made, pc));
+                return Ok(leave(regs, turns, PageEnd::Other, made, pc));
             }
             Err(_) => {
                 let made = ahead - (1024 - index as u32);

@@ -1,6 +1,7 @@
 //! An operation of a decoded page, and where it leads.
 
-ghost use Rattle.std.specs.Prelude.{◌≡◌, ◌≢◌, ◌<◌, ◌≤◌, ◌^◌, true, false};
+ghost use Rattle.std.specs.Prelude.{◌≡◌, ◌≢◌, ◌<◌, ◌≤◌, true, false};
+ghost use Rattle.memory_spec.specs.declared.TheConstants.{PAGE_NUMBERS};
 ghost use Rattle.rv_code.specs.Meaning.{may_have_zero, is_inside};
 
 use rv_code::Kind;
@@ -36,6 +37,6 @@ pub(super) struct Placed {
     ghost writes: { may_have_zero kind ≡ false → rd ≢ 0 },
     ghost inside: { is_inside kind ≡ true → imm < 1024 },
     ghost within: { is_inside kind ≡ true → index < 1024 },
-    ghost few_pages: { number < 2 ^ 20 },
+    ghost few_pages: { number < PAGE_NUMBERS },
     ghost few_words: { index ≤ 1024 },
 }

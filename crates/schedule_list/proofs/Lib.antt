@@ -1,5 +1,5 @@
 -- The files of lemmas and examples of this crate.
-pub mod Spelling
+pub mod Encoding
 pub mod Saying
 pub mod Reading
 pub mod Lines

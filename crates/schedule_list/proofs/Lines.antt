@@ -11,8 +11,8 @@ use Rattle.guest_call.specs.declared.thread_number.TheConstants.{THREADS}
 use Rattle.report_spec.specs.declared.Entry.{Entry}
 use Rattle.report_spec.specs.Text.{space, newline}
 use Rattle.report_spec.specs.Report.{entry_text, threads_of}
-use Rattle.schedule_list.specs.Schedule.{is_gap, tokens, IsMark, Spells, Says}
-use Rattle.schedule_list.proofs.Spelling.{AreDigits, digits_of}
+use Rattle.schedule_list.specs.Schedule.{is_gap, tokens, IsMark, Encodes, Says}
+use Rattle.schedule_list.proofs.Encoding.{AreDigits, digits_of}
 use Rattle.schedule_list.proofs.Reading.{with_piece, tokens-gap}
 
 -- a byte that is no gap
@@ -73,19 +73,19 @@ tokens-line front (e ∷ schedule) none few =
     ∙ tokens-gap front 32 (entry_text e ++ line_of schedule) none refl
     ∙ ap (with_piece front) (rest ∙ filled-entry e (map entry_text schedule) first)
 
--- the entries' texts spell their threads
-entries-spell :
+-- the entries' texts encode their threads
+entries-encode :
     (schedule : List Entry) → All (λ t. t < THREADS) (threads_of schedule)
-    → AllZip Spells (map entry_text schedule) (threads_of schedule)
-entries-spell [] few = tt
-entries-spell (e ∷ schedule) few = (
+    → AllZip Encodes (map entry_text schedule) (threads_of schedule)
+entries-encode [] few = tt
+entries-encode (e ∷ schedule) few = (
   (All-head (λ t. t < THREADS) e.thread (threads_of schedule) few, mark_text e.reused, is_mark e.reused, refl),
-  entries-spell schedule (All-tail (λ t. t < THREADS) e.thread (threads_of schedule) few),
+  entries-encode schedule (All-tail (λ t. t < THREADS) e.thread (threads_of schedule) few),
 )
 
 pub line-says :
     (schedule : List Entry) → All (λ t. t < THREADS) (threads_of schedule)
     → Says (line_of schedule) (Ok (threads_of schedule))
 line-says schedule few =
-    subst (λ (l : List (List ℕ)). AllZip Spells l (threads_of schedule))
-    (sym (tokens-line [] schedule (λ k d under. absurd (omega arith)) few)) (entries-spell schedule few)
+    subst (λ (l : List (List ℕ)). AllZip Encodes l (threads_of schedule))
+    (sym (tokens-line [] schedule (λ k d under. absurd (omega arith)) few)) (entries-encode schedule few)

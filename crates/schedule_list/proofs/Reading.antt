@@ -5,7 +5,7 @@ use Rattle.std.proofs.lemmas.List.{append-nil}
 use Rattle.std.proofs.lemmas.List.Splits.{slice_split_at, slice_split_none}
 use Rattle.std.proofs.lemmas.Slice.Zip.{all_zipped_more}
 use Rattle.edit_spec.specs.Grammar.{is_filled}
-use Rattle.schedule_list.specs.Schedule.{is_gap, tokens, IsSpelling, Spells, IsFirstBad, Says}
+use Rattle.schedule_list.specs.Schedule.{is_gap, tokens, IsEncoding, Encodes, IsFirstBad, Says}
 use Rattle.schedule_list.specs.Adding.{AddsToken}
 use Rattle.schedule_list.specs.Refusals.{WhyNotAdded, WhyNotParsed}
 use Rattle.schedule_list.specs.declared.parser.ParseError.{ParseError}
@@ -39,15 +39,15 @@ unfolding tokens
 tokens-last piece none =
     ap (filter is_filled) (slice_split_none is_gap piece none) ∙ first_piece piece []
 
--- of a text the tokens before these were read, and they spell these threads
+-- of a text the tokens before these were read, and they encode these threads
 pub record HasRead (text : List ℕ) (more : List (List ℕ)) (threads : List ℕ) : Type 0 where
   pub before : List (List ℕ)
   pub cut : tokens text ≡ before ++ more
-  pub spelled : AllZip Spells before threads
+  pub encoded : AllZip Encodes before threads
 
 -- nothing was read yet
 pub nothing_read : (text : List ℕ) → HasRead text (tokens text) []
-nothing_read text = record { before = []; cut = refl; spelled = tt }
+nothing_read text = record { before = []; cut = refl; encoded = tt }
 
 -- one piece more was read
 pub piece_read :
@@ -59,26 +59,26 @@ piece_read text (byte ∷ piece) more before after has adds =
     record {
       before = has.before ++ (byte ∷ piece) ∷ [];
       cut = has.cut ∙ sym (append_assoc has.before ((byte ∷ piece) ∷ []) more);
-      spelled =
-          subst (λ (l : List ℕ). AllZip Spells (has.before ++ (byte ∷ piece) ∷ []) l) (sym adds.2)
-          (all_zipped_more Spells has.before before (byte ∷ piece) adds.0 has.spelled adds.1);
+      encoded =
+          subst (λ (l : List ℕ). AllZip Encodes (has.before ++ (byte ∷ piece) ∷ []) l) (sym adds.2)
+          (all_zipped_more Encodes has.before before (byte ∷ piece) adds.0 has.encoded adds.1);
     }
 
 -- all tokens were read
 pub all_read : (text threads : List ℕ) → HasRead text [] threads → Says text (Ok threads)
 all_read text threads has =
-    subst (λ (l : List (List ℕ)). AllZip Spells l threads) (sym (has.cut ∙ append-nil has.before)) has.spelled
+    subst (λ (l : List (List ℕ)). AllZip Encodes l threads) (sym (has.cut ∙ append-nil has.before)) has.encoded
 
--- a bad token behind tokens that spell threads
+-- a bad token behind tokens that encode threads
 bad_behind :
-    (before : List (List ℕ)) (token : List ℕ) (more : List (List ℕ)) (threads : List ℕ) → AllZip Spells before threads
-    → (IsSpelling token → ⊥)
+    (before : List (List ℕ)) (token : List ℕ) (more : List (List ℕ)) (threads : List ℕ) → AllZip Encodes before threads
+    → (IsEncoding token → ⊥)
     → IsFirstBad (before ++ token ∷ more) (length threads)
-bad_behind [] token more [] spelled bad = bad
-bad_behind [] token more (t ∷ threads) spelled bad = absurd spelled
-bad_behind (b ∷ before) token more [] spelled bad = absurd spelled
-bad_behind (b ∷ before) token more (t ∷ threads) spelled bad =
-    ((t, spelled.0), bad_behind before token more threads spelled.1 bad)
+bad_behind [] token more [] encoded bad = bad
+bad_behind [] token more (t ∷ threads) encoded bad = absurd encoded
+bad_behind (b ∷ before) token more [] encoded bad = absurd encoded
+bad_behind (b ∷ before) token more (t ∷ threads) encoded bad =
+    ((t, encoded.0), bad_behind before token more threads encoded.1 bad)
 
 -- why a text gave no threads, where a piece was not added
 pub refused_there :
@@ -89,7 +89,7 @@ refused_there text [] more threads (BadToken number) has why = absurd (let some 
 refused_there text (byte ∷ piece) more threads (BadToken number) has why =
     subst (λ (n : ℕ). IsFirstBad (tokens text) n) (sym why.0)
     (subst (λ (l : List (List ℕ)). IsFirstBad l (length threads)) (sym has.cut)
-    (bad_behind has.before (byte ∷ piece) more threads has.spelled why.2))
+    (bad_behind has.before (byte ∷ piece) more threads has.encoded why.2))
 refused_there text piece more threads NoMemory has why = tt
 
 -- what follows a gap is shorter

@@ -1,11 +1,11 @@
 -- A text says one thing.
 use Rattle.std.proofs.Common.{◌≡◌, ℕ, zero, suc, List, [], ◌∷◌, Result, Ok, Err, refl, ap}
 use Rattle.std.specs.List.{AllZip}
-use Rattle.schedule_list.specs.Schedule.{Spells, IsFirstBad, Say}
-use Rattle.schedule_list.proofs.Spelling.{one_thread}
+use Rattle.schedule_list.specs.Schedule.{Encodes, IsFirstBad, Say}
+use Rattle.schedule_list.proofs.Encoding.{one_thread}
 
--- tokens spell one list of threads
-same_threads : (tokens : List (List ℕ)) (a b : List ℕ) → AllZip Spells tokens a → AllZip Spells tokens b → a ≡ b
+-- tokens encode one list of threads
+same_threads : (tokens : List (List ℕ)) (a b : List ℕ) → AllZip Encodes tokens a → AllZip Encodes tokens b → a ≡ b
 same_threads [] [] [] p q = refl
 same_threads [] [] (y ∷ b) p q = absurd q
 same_threads [] (x ∷ a) b p q = absurd p
@@ -14,9 +14,9 @@ same_threads (token ∷ tokens) (x ∷ a) [] p q = absurd q
 same_threads (token ∷ tokens) (x ∷ a) (y ∷ b) p q =
     let first = one_thread token x y p.0 q.0 in let rest = same_threads tokens a b p.1 q.1 in cc
 
--- where all tokens spell threads, none is bad
+-- where all tokens encode threads, none is bad
 none_bad :
-    (tokens : List (List ℕ)) (threads : List ℕ) (number : ℕ) → AllZip Spells tokens threads → IsFirstBad tokens number
+    (tokens : List (List ℕ)) (threads : List ℕ) (number : ℕ) → AllZip Encodes tokens threads → IsFirstBad tokens number
     → ⊥
 none_bad [] threads number p q = q
 none_bad (token ∷ tokens) [] number p q = p

@@ -1,9 +1,9 @@
 -- The thread of a token, put behind others.
 use Rattle.std.specs.Prelude.{ℕ, ◌≡◌, List, [], ◌∷◌, ◌++◌}
-use Rattle.schedule_list.specs.Schedule.{Spells}
+use Rattle.schedule_list.specs.Schedule.{Encodes}
 
--- The thread that a piece spells was put behind others, if the piece isn't empty.
+-- The thread that a piece encodes was put behind others, if the piece isn't empty.
 abbrev pub AddsToken : List ℕ → List ℕ → List ℕ → Type 0
 AddsToken [] before after = after ≡ before
 AddsToken (byte ∷ piece) before after =
-    (thread : ℕ) × Spells (byte ∷ piece) thread × (after ≡ before ++ thread ∷ [])
+    (thread : ℕ) × Encodes (byte ∷ piece) thread × (after ≡ before ++ thread ∷ [])

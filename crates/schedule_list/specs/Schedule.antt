@@ -16,23 +16,23 @@ tokens text = filter is_filled (slice_split is_gap text)
 abbrev pub IsMark : List ℕ → Type 0
 IsMark mark = (mark ≡ []) ⊎ ((mark ≡ codes "=") ⊎ (mark ≡ codes "+"))
 
--- A token spells a thread: its number in decimal, without leading zeros, and then a mark, which says nothing.
-abbrev pub Spells : List ℕ → ℕ → Type 0
-Spells token thread = (thread < THREADS) × (mark : List ℕ) × IsMark mark × (token ≡ decimal thread ++ mark)
+-- A token encodes a thread: its number in decimal, without leading zeros, and then a mark, which says nothing.
+abbrev pub Encodes : List ℕ → ℕ → Type 0
+Encodes token thread = (thread < THREADS) × (mark : List ℕ) × IsMark mark × (token ≡ decimal thread ++ mark)
 
--- Some thread is spelled by a token.
-abbrev pub IsSpelling : List ℕ → Type 0
-IsSpelling token = (thread : ℕ) × Spells token thread
+-- Some thread is encoded by a token.
+abbrev pub IsEncoding : List ℕ → Type 0
+IsEncoding token = (thread : ℕ) × Encodes token thread
 
--- Of some tokens, numbered from 0, the first that spells no thread has this number.
+-- Of some tokens, numbered from 0, the first that encodes no thread has this number.
 abbrev pub IsFirstBad : List (List ℕ) → ℕ → Type 0
 IsFirstBad [] number = ⊥
-IsFirstBad (token ∷ tokens) zero = IsSpelling token → ⊥
-IsFirstBad (token ∷ tokens) (suc number) = IsSpelling token × IsFirstBad tokens number
+IsFirstBad (token ∷ tokens) zero = IsEncoding token → ⊥
+IsFirstBad (token ∷ tokens) (suc number) = IsEncoding token × IsFirstBad tokens number
 
--- What tokens say: the threads that they spell, in order, or the number of the first that spells none.
+-- What tokens say: the threads that they encode, in order, or the number of the first that encodes none.
 abbrev pub Say : List (List ℕ) → Result (List ℕ) ℕ → Type 0
-Say tokens (Ok threads) = AllZip Spells tokens threads
+Say tokens (Ok threads) = AllZip Encodes tokens threads
 Say tokens (Err number) = IsFirstBad tokens number
 
 -- What the bytes of a schedule say.

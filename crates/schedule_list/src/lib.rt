@@ -30,5 +30,6 @@ pub fn text_says_one_thing()
 pub fn schedule_line_says_its_threads()
     ensures { (schedule : List Entry)
         → All (λ t. t < THREADS) (threads_of schedule)
-        → Says (flat_map (λ (e : Entry). space ++ entry_text e) schedule ++ newline) (Ok (threads_of schedule)) }
+        → Says (flat_map (λ (e : Entry). space ++ entry_text e) schedule ++ newline)
+        (Ok (threads_of schedule)) }
 {}

@@ -10,7 +10,7 @@ use super::token::thread_of;
 use std::alloc::{AllocFailed, Global};
 
 /// Why a text gave no threads.
-#[derive(Clone, Copy, Debug, PartialEq, Eq)]
+#[derive(Clone, Copy, PartialEq, Eq)]
 pub enum ParseError {
     /// The token of this number, counted from 0, is the first that is no thread.
     BadToken(usize),
@@ -73,7 +73,7 @@ fn add_token(threads: &mut Vec<u8>, piece: &[u8]) -> Result<(), ParseError>
 ///
 /// `BadToken` with the number of the first token that is none of these, or `NoMemory`.
 pub fn parse(alloc: Global, text: &[u8]) -> Result<Vec<u8>, ParseError>
-    ensures spelled { IfOk result (λ threads. Says text.now (Ok threads.items)) }
+    ensures encoded { IfOk result (λ threads. Says text.now (Ok threads.items)) }
     ensures refused { IfErr result (WhyNotParsed text.now) }
 {
     let mut threads = Vec::new(alloc);

@@ -3,7 +3,7 @@
 ghost use Rattle.std.specs.Prelude.{ℕ, ◌≡◌, ◌<◌, true, List, ◌++◌, length, MatchOption};
 ghost use Rattle.std.specs.List.{list_all};
 ghost use Rattle.std.specs.Char.{is_ascii_digit};
-ghost use Rattle.schedule_list.specs.Schedule.{IsMark, IsSpelling, Spells};
+ghost use Rattle.schedule_list.specs.Schedule.{IsMark, IsEncoding, Encodes};
 
 use edit_list::number_of;
 use guest_call::THREADS;
@@ -11,7 +11,8 @@ use guest_call::THREADS;
 /// A token without its mark, where it has one.
 fn unmarked(token: &[u8]) -> &[u8]
     ensures marked { (mark : List ℕ) × IsMark mark × (token.now ≡ result.now ++ mark) }
-    ensures whole { (digits mark : List ℕ) → list_all is_ascii_digit digits ≡ true → 0 < length digits
+    ensures whole { (digits mark : List ℕ) → list_all is_ascii_digit digits ≡ true
+        → 0 < length digits
         → IsMark mark → token.now ≡ digits ++ mark → result.now ≡ digits }
 {
     match token {
@@ -20,9 +21,9 @@ fn unmarked(token: &[u8]) -> &[u8]
     }
 }
 
-/// The thread that a token spells, where it spells one.
+/// The thread that a token encodes, where it encodes one.
 pub fn thread_of(token: &[u8]) -> Option<u8>
-    ensures { MatchOption result (IsSpelling token.now → ⊥) (Spells token.now) }
+    ensures { MatchOption result (IsEncoding token.now → ⊥) (Encodes token.now) }
 {
     match number_of(unmarked(token)) {
         Some(number) if number < THREADS as u32 => Some(number as u8),

@@ -47,7 +47,8 @@ pub(super) fn merge_word(page: &mut [u8], written: &[u8], first: usize, word: u6
     requires page { first + 64 ≤ length page.old }
     requires written { first + 64 ≤ length written.now }
     ensures each { (k : ℕ) → k < 64 → slice_index page.new (first + k)
-        ≡ (if bit_at word k == 1 then slice_index written.now (first + k) else slice_index page.old (first + k)) }
+        ≡ (if bit_at word k == 1 then slice_index written.now (first + k)
+        else slice_index page.old (first + k)) }
     ensures before { (k : ℕ) → k < first → slice_index page.new k ≡ slice_index page.old k }
     ensures behind { (k : ℕ) → first + 64 ≤ k → slice_index page.new k ≡ slice_index page.old k }
 {
@@ -66,7 +67,8 @@ fn differing(page: &[u8], written: &[u8], first: usize) -> u64
     requires page { first + 64 ≤ length page.now }
     requires written { first + 64 ≤ length written.now }
     ensures { (k : ℕ) → k < 64 → bit_at result k
-        ≡ (if slice_index page.now (first + k) == slice_index written.now (first + k) then 0 else 1) }
+        ≡ (if slice_index page.now (first + k) == slice_index written.now (first + k) then 0
+        else 1) }
 {
     u8x64::from_slice(&page[first..])
         .simd_ne(u8x64::from_slice(&written[first..]))
@@ -79,7 +81,8 @@ pub(super) fn gives_word(page: &[u8], written: &[u8], first: usize, word: u64) -
     requires page { first + 64 ≤ length page.now }
     requires written { first + 64 ≤ length written.now }
     ensures { Decides result ((k : ℕ) → k < 64
-        → (if bit_at word k == 1 then slice_index written.now (first + k) else slice_index page.now (first + k))
+        → (if bit_at word k == 1 then slice_index written.now (first + k)
+        else slice_index page.now (first + k))
         ≡ slice_index written.now (first + k)) }
 {
     if word == u64::MAX {

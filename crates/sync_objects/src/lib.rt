@@ -69,7 +69,8 @@ fn come_back(mutexes: &mut Mutexes, leaving: &Leaving) -> Effect
     requires mutex { leaving.now.mutex < OBJECTS }
     requires once { (u : ℕ) → waits mutex_queue mutexes.old u + places u leaving.now.threads ≤ 1 }
     ensures effect { result
-        ≡ wakes (Fate.Returns 0 None) (admit_each_at mutexes.old leaving.now.mutex leaving.now.threads).0 }
+        ≡ wakes (Fate.Returns 0 None)
+        (admit_each_at mutexes.old leaving.now.mutex leaving.now.threads).0 }
     ensures mutexes { mutexes.new
         ≡ (admit_each_at mutexes.old leaving.now.mutex leaving.now.threads).1 }
 {

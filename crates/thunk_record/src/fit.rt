@@ -17,10 +17,9 @@ use thunk_spec::ThunkEnd;
 fn has_page(table: &PageTable, read: &ReadPage) -> bool
     ensures { result ≡ bytes_eq (page_of table.now read.now.slot) read.now.bytes }
 {
-    let page = read.page();
-    let _bytes = page.bytes();
+    let bytes = read.page().bytes();
     if read.slot() < table.len() {
-        table.page(read.slot()) == page
+        table.page(read.slot()).bytes() == bytes
     } else {
         false
     }

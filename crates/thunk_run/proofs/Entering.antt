@@ -13,9 +13,10 @@ use Rattle.thunk_spec.specs.declared.ends.Outcome.TheVariants as outcome
 use Rattle.thunk_spec.specs.Turn.{Turn, turn, word_turn, with_fetch}
 use Rattle.thunk_spec.specs.Thunk.{Thunk, turns, followed}
 use Rattle.page_map.specs.Entering.{Enters, RunsFrom}
+use Rattle.page_map.proofs.Slots.{slot_of-page}
 use Rattle.rv_step.specs.Step.{Makes, Follow}
-use Rattle.rv_step.proofs.Pages.{slot_of-page, permission_at-page}
-use Rattle.thunk_run.specs.Left.{Left, left_by, left_after, counted}
+use Rattle.rv_step.proofs.Pages.{permission_at-page}
+use Rattle.thunk_run.specs.TurnsOutcome.{TurnsOutcome, left_by, left_after, counted}
 use Rattle.thunk_run.proofs.Leaving.{counted-twice, turns-next}
 
 -- a turn at a page that may be executed begins with its fetch
@@ -119,7 +120,7 @@ turn-view w after o registers made = rw made.workspace_is refl
 
 -- turns that leave what the rest leaves, after others that do
 pub left-more :
-    (fuel count more : ℕ) (w after : Workspace) (r registers : Registers) (whole : Left)
+    (fuel count more : ℕ) (w after : Workspace) (r registers : Registers) (whole : TurnsOutcome)
     → counted more (left_after (fuel - count - more) after registers) ≡ left_after (fuel - count) w r
     → counted count (left_after (fuel - count) w r) ≡ whole
     → counted (count + more) (left_after (fuel - (count + more)) after registers) ≡ whole

@@ -9,7 +9,7 @@ use Rattle.record_spec.specs.Delta.{PageDelta, delta_from}
 use Rattle.record_spec.specs.Reads.{ReadPage, reads_from, reads_of}
 use Rattle.record_spec.specs.Record.{kept_thunk}
 use Rattle.priv_space.proofs.Collecting.{delta_from-laid}
-use Rattle.thunk_run.specs.Left.{Left, left_after, with_put_taken}
+use Rattle.thunk_run.specs.TurnsOutcome.{TurnsOutcome, left_after, with_put_taken}
 use Rattle.thunk_run.proofs.Leaving.{taken_at-append}
 
 -- what turns and their put left of a fresh memory is what is kept of the thunk
@@ -37,7 +37,7 @@ kept-left f view r whole =
 
 -- the parts that a finished memory gave are what is kept of its thunk
 pub kept-made :
-    (f : Frame) (view : Memory) (r : Registers) (l : Left) (reads : List ReadPage) (delta : List PageDelta)
+    (f : Frame) (view : Memory) (r : Registers) (l : TurnsOutcome) (reads : List ReadPage) (delta : List PageDelta)
     → IsMemory f.map view
     → l ≡ with_put_taken (left_after f.fuel (fresh f.map view) r)
     → reads ≡ reads_from 0 l.workspace.taken l.workspace.view
@@ -47,7 +47,7 @@ kept-made f view r l reads delta whole made are stored = rw (are, stored, made) 
 
 -- the same where the frame was reached through its holder
 pub kept-run :
-    (f g : Frame) (view : Memory) (map : List Mapped) (r : Registers) (w : Workspace) (l : Left)
+    (f g : Frame) (view : Memory) (map : List Mapped) (r : Registers) (w : Workspace) (l : TurnsOutcome)
     (reads : List ReadPage) (delta : List PageDelta)
     → IsMemory f.map view
     → g ≡ f → map ≡ f.map

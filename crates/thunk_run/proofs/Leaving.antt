@@ -12,7 +12,7 @@ use Rattle.thunk_spec.specs.declared.ends.ThunkEnd.TheVariants as thunk_end
 use Rattle.thunk_spec.specs.Turn.{Turn, turn}
 use Rattle.thunk_spec.specs.Thunk.{Thunk, turns, followed, after_turn, last_turn}
 use Rattle.rv_step.specs.Step.{Makes}
-use Rattle.thunk_run.specs.Left.{Left, left_by, left_after, counted}
+use Rattle.thunk_run.specs.TurnsOutcome.{TurnsOutcome, left_by, left_after, counted}
 
 pub laid-append :
     (map : List Mapped) (memory : Memory) (xs ys : List StoredByte)
@@ -72,7 +72,7 @@ followed-trap :
 followed-trap o cause map memory t rest e = rw e refl
 
 -- turns that were counted in two parts
-pub counted-twice : (a b : ℕ) (l : Left) → counted a (counted b l) ≡ counted (a + b) l
+pub counted-twice : (a b : ℕ) (l : TurnsOutcome) → counted a (counted b l) ≡ counted (a + b) l
 counted-twice a b l = ap (λ (n : ℕ). record l { count = n }) (sym (add_assoc a b l.count))
 
 -- one turn more was made, and its thunk goes on

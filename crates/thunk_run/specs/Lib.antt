@@ -1,4 +1,4 @@
 -- The files of definitions of this crate.
-pub mod Left
+pub mod TurnsOutcome
 pub mod Running
 pub mod Seeing

@@ -3,13 +3,13 @@
 ghost use Rattle.std.specs.Prelude.{◌≡◌, ℕ, true, if◌then◌else◌, slice_set, ◌+◌, ◌-◌, ◌/◌, ◌%◌, ◌<◌, ◌≤◌, length, IfOk, IfSome, slice_index_or, Some, None};
 ghost use Rattle.memory_spec.specs.Pages.{page_of};
 ghost use Rattle.page_map.specs.Entering.{RunsFrom};
-ghost use Rattle.thunk_run.specs.Left.{left_after, counted};
+ghost use Rattle.thunk_run.specs.TurnsOutcome.{left_after, counted};
 ghost use Rattle.thunk_run.specs.Seeing.{AreSeen};
 
 use page_map::Mem;
 use rv_alu::Regs;
 use rv_code::{Code, CodePage};
-use rv_step::{Left, run_page};
+use rv_step::{PageEnd, run_page};
 use std::alloc::AllocError;
 use turn_count::Turns;
 
@@ -83,7 +83,8 @@ fn enter_page<'a, M: Mem>(
         (λ page. RunsFrom (M.workspace mem.new) page.now.number page.now.bytes) }
     ensures seen { AreSeen code.now (M.workspace mem.new).view seen.new }
     ensures left { (n : ℕ) → 1 ≤ n
-        → left_after n (M.workspace mem.new) regs.now ≡ left_after n (M.workspace mem.old) regs.now }
+        → left_after n (M.workspace mem.new) regs.now
+        ≡ left_after n (M.workspace mem.old) regs.now }
 {
     let pc = regs.pc();
     if pc % 4 != 0 {
@@ -129,7 +130,7 @@ pub(super) fn run_pages<M: Mem>(
         };
         let ran = run_page(regs, mem, page, room - count, turns)?;
         count += ran.count;
-        if ran.left == Left::Other {
+        if ran.end == PageEnd::Other {
             return Ok(count);
         }
     }

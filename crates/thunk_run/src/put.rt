@@ -133,7 +133,8 @@ pub(super) fn take_range<M: Mem>(mem: &mut M, range: Range) -> Result<(), AllocE
     requires in_range { range.start + range.len ≤ 2 ^ 32 }
     requires readable { is_readable (M.workspace mem.old).map range.start range.len ≡ true }
     ensures { IfOk result (λ done.
-        M.workspace mem.new ≡ after_taking (M.workspace mem.old) (range_with_len range.start range.len)) }
+        M.workspace mem.new
+        ≡ after_taking (M.workspace mem.old) (range_with_len range.start range.len)) }
 {
     if range.len == 0 {
         return Ok(());

@@ -4,18 +4,18 @@ use Rattle.std.proofs.lemmas.List.{take-append-drop, length-map}
 use Rattle.std.proofs.lemmas.Bool.{and_parts}
 use Rattle.record_spec.specs.Record.{Record}
 use Rattle.machine_spec.specs.Machine.{hart_of}
-use Rattle.machine_spec.specs.Step.{lay, can_step}
+use Rattle.machine_spec.specs.Step.{apply, can_step}
 use Rattle.machine_spec.specs.Schedule.{record_of}
 use Rattle.machine_spec.specs.Setup.{Setup, IsSetup, first, map_of, scratch}
 use Rattle.machine_spec.specs.Whole.{IsWhole}
 use Rattle.history_spec.specs.History.{History, IsSound}
-use Rattle.history_spec.proofs.Truth.{record-lay}
+use Rattle.history_spec.proofs.Truth.{record-apply}
 use Rattle.report_spec.specs.declared.Entry.{Entry}
 use Rattle.report_spec.specs.Report.{threads_of}
 use Rattle.round_spec.specs.declared.events.Event.{Event}
 use Rattle.round_spec.specs.declared.events.Event.TheVariants.{Take, Reuse, Commit, GiveBack, Stop}
 use Rattle.round_spec.specs.Marks.{record_for, is_fitting, fits_next}
-use Rattle.round_spec.specs.Rounds.{RoundState, opening, is_over, is_out, can_begin, can_take, can_reuse, taken, reused_by, committed, given_back, with_stop, happens, all_happen, round_after}
+use Rattle.round_spec.specs.Rounds.{RoundState, opening, is_finished, is_in_flight, can_begin, can_take, can_reuse, taken, reused_by, committed, given_back, with_stop, happens, all_happen, round_after}
 use Rattle.round_spec.specs.Schedules.{events_of, events_in, round_by, IsBySchedule}
 use Rattle.round_spec.proofs.Conditions.{happens-take, happens-take_not, happens-reuse, happens-reuse_not, happens-commit, happens-commit_over, happens-commit_not}
 use Rattle.round_spec.proofs.Happening.{can_begin-parts, round-kept}
@@ -43,18 +43,18 @@ same-length : {A : Type 0} (xs ys : List A) → xs ≡ ys → length xs ≤ suc 
 same-length xs ys e = let count : length xs ≡ length ys = ap length e in omega arith
 
 length-commit : (w : RoundState) (t : ℕ) → length (happens w (Commit t)).schedule ≤ suc (length w.schedule)
-length-commit w t = by (is_out w t) (is_over w) refl refl
+length-commit w t = by (is_in_flight w t) (is_finished w) refl refl
   where
     by :
-        (out over : Bool) → is_out w t ≡ out → is_over w ≡ over
+        (in_flight over : Bool) → is_in_flight w t ≡ in_flight → is_finished w ≡ over
         → length (happens w (Commit t)).schedule ≤ suc (length w.schedule)
-    by false over is_out is_over =
-        same-length _ w.schedule (ap (λ (v : RoundState). v.schedule) (happens-commit_not w t is_out))
-    by true true is_out is_over =
-        same-length _ w.schedule (ap (λ (v : RoundState). v.schedule) (happens-commit_over w t is_out is_over))
-    by true false is_out is_over =
+    by false over is_in_flight is_finished =
+        same-length _ w.schedule (ap (λ (v : RoundState). v.schedule) (happens-commit_not w t is_in_flight))
+    by true true is_in_flight is_finished =
+        same-length _ w.schedule (ap (λ (v : RoundState). v.schedule) (happens-commit_over w t is_in_flight is_finished))
+    by true false is_in_flight is_finished =
         subst (λ (v : RoundState). length v.schedule ≤ suc (length w.schedule))
-        (sym (happens-commit w t is_out is_over)) (one-more w.schedule (record { thread = t; reused = false }))
+        (sym (happens-commit w t is_in_flight is_finished)) (one-more w.schedule (record { thread = t; reused = false }))
 
 length-reused :
     (w : RoundState) (t : ℕ) (o : Option Record) → length (reused_by w t o).schedule ≤ suc (length w.schedule)
@@ -103,7 +103,7 @@ pub record WasMade (v w : RoundState) (e : Entry) (es : List Entry) : Type 0 whe
   pub rec : Record
   pub records : w.records ≡ v.records ++ rec ∷ []
   pub thread : rec.thread ≡ e.thread
-  pub laid : lay v.machine rec ≡ w.machine
+  pub applied : apply v.machine rec ≡ w.machine
 
 -- a schedule that didn't grow isn't longer
 none-made : (es schedule : List Entry) (e : Entry) → length schedule ≤ length es → schedule ≡ es ++ e ∷ [] → ⊥
@@ -160,7 +160,7 @@ made-reuse v t e es is_t is_reused long made = by (can_reuse v t) (record_for v.
           rec = r;
           records = ap (λ (w : RoundState). w.records) whole;
           thread = (found-of v.past t (hart_of v.machine t).number r there).0 ∙ sym is_t;
-          laid = sym (ap (λ (w : RoundState). w.machine) whole);
+          applied = sym (ap (λ (w : RoundState). w.machine) whole);
         }
 
 made-run :
@@ -176,7 +176,7 @@ made-run v t e es inside whole_v is_t long made = by (can_take v t) refl
         (sym (ap (λ (w : RoundState). (happens w (Commit t)).schedule) (happens-take_not v t can)
         ∙ ap (λ (w : RoundState). w.schedule) (happens-commit_not v t (inside-none v t inside)))
         ∙ made))
-    by true can = then (is_out (taken v t) t) (is_over (taken v t)) refl refl
+    by true can = then (is_in_flight (taken v t) t) (is_finished (taken v t)) refl refl
       where
         begins : (can_begin v t ≡ true) × (not (fits_next v.past v.machine t) ≡ true)
         begins = and_parts (can_begin v t) (not (fits_next v.past v.machine t)) can
@@ -185,16 +185,16 @@ made-run v t e es inside whole_v is_t long made = by (can_take v t) refl
         took = ap (λ (w : RoundState). happens w (Commit t)) (happens-take v t can)
 
         then :
-            (out over : Bool) → is_out (taken v t) t ≡ out → is_over (taken v t) ≡ over
+            (in_flight over : Bool) → is_in_flight (taken v t) t ≡ in_flight → is_finished (taken v t) ≡ over
             → WasMade v (happens (happens v (Take t)) (Commit t)) e es
-        then false over is_out is_over =
+        then false over is_in_flight is_finished =
             absurd (none-made es v.schedule e long
-            (sym (ap (λ (w : RoundState). w.schedule) (took ∙ happens-commit_not (taken v t) t is_out)) ∙ made))
-        then true true is_out is_over =
+            (sym (ap (λ (w : RoundState). w.schedule) (took ∙ happens-commit_not (taken v t) t is_in_flight)) ∙ made))
+        then true true is_in_flight is_finished =
             absurd (none-made es v.schedule e long
-            (sym (ap (λ (w : RoundState). w.schedule) (took ∙ happens-commit_over (taken v t) t is_out is_over)) ∙ made))
-        then true false is_out is_over =
-            let whole = took ∙ happens-commit (taken v t) t is_out is_over in
+            (sym (ap (λ (w : RoundState). w.schedule) (took ∙ happens-commit_over (taken v t) t is_in_flight is_finished)) ∙ made))
+        then true false is_in_flight is_finished =
+            let whole = took ∙ happens-commit (taken v t) t is_in_flight is_finished in
             let can_t = begins-can v t begins.0 in
             record {
               before =
@@ -207,7 +207,7 @@ made-run v t e es inside whole_v is_t long made = by (can_take v t) refl
               rec = record_of v.machine t;
               records = ap (λ (w : RoundState). w.records) whole;
               thread = sym is_t;
-              laid = record-lay v.machine t whole_v can_t ∙ sym (ap (λ (w : RoundState). w.machine) whole);
+              applied = record-apply v.machine t whole_v can_t ∙ sym (ap (λ (w : RoundState). w.machine) whole);
             }
 
 made-entry :
@@ -284,12 +284,12 @@ records-event w (Reuse t) =
     grows-cond w (reused_by w t (record_for w.past w.machine t)) w (can_reuse w t)
     (grows-reused w t (record_for w.past w.machine t)) (grows-none w w refl)
 records-event w (Commit t) =
-    grows-cond w (cond (is_over w) (given_back w t) (committed w t)) w (is_out w t)
-    (grows-cond w (given_back w t) (committed w t) (is_over w) (grows-none w (given_back w t) refl)
+    grows-cond w (cond (is_finished w) (given_back w t) (committed w t)) w (is_in_flight w t)
+    (grows-cond w (given_back w t) (committed w t) (is_finished w) (grows-none w (given_back w t) refl)
     (record_of w.machine t ∷ [], refl))
     (grows-none w w refl)
 records-event w (GiveBack t) =
-    grows-cond w (given_back w t) w (is_out w t) (grows-none w (given_back w t) refl) (grows-none w w refl)
+    grows-cond w (given_back w t) w (is_in_flight w t) (grows-none w (given_back w t) refl) (grows-none w w refl)
 records-event w Stop = grows-none w (with_stop w) refl
 
 records-more : (w : RoundState) (es : List Event) → GrowsBy w (all_happen w es)
@@ -388,10 +388,10 @@ entry-unfit w i e valid by there executed =
     (sym (round-past w.setup w.past (events_in (take i w.schedule))))
     ∙ (was-made w i e valid by there).unfit executed
 
--- its record is of its thread, and laid it leads on
+-- its record is of its thread, and applied it leads on
 pub record IsRecordOf (w : RoundState) (i : ℕ) (e : Entry) (r : Record) : Type 0 where
   pub thread : r.thread ≡ e.thread
-  pub laid : lay (made_before w i) r ≡ made_before w (suc i)
+  pub applied : apply (made_before w i) r ≡ made_before w (suc i)
 
 pub entry-record :
     (w : RoundState) (i : ℕ) (e : Entry) (r : Record) → IsSetup w.setup → IsBySchedule w
@@ -400,9 +400,9 @@ pub entry-record :
 entry-record w i e r valid by there there_r =
     record {
       thread = ap (λ (x : Record). x.thread) r_is ∙ made.thread;
-      laid =
-          ap (lay (made_before w i)) r_is
-          ∙ made.laid
+      applied =
+          ap (apply (made_before w i)) r_is
+          ∙ made.applied
           ∙ ap (λ (es : List Entry). (round_by w.setup w.past es).machine) (sym (take-more w.schedule i e there));
     }
   where

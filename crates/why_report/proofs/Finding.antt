@@ -10,10 +10,10 @@ use Rattle.thunk_spec.specs.Thunk.{Frame}
 use Rattle.record_spec.specs.Reads.{ReadPage, has}
 use Rattle.record_spec.specs.Record.{Record, fits_at, may_end}
 use Rattle.machine_spec.specs.Machine.{Machine, hart_of, is_ready}
-use Rattle.machine_spec.specs.Step.{lay, fits}
+use Rattle.machine_spec.specs.Step.{apply, fits}
 use Rattle.machine_spec.specs.Setup.{Setup, first, map_of, data_pages}
-use Rattle.history_spec.specs.History.{History, IsMappedIn, IsMapped, can_lay_from, is_of, found, past_records}
-use Rattle.history_spec.proofs.Laying.{lay-frame}
+use Rattle.history_spec.specs.History.{History, IsMappedIn, IsMapped, can_apply_from, is_of, found, past_records}
+use Rattle.history_spec.proofs.Applying.{apply-frame}
 use Rattle.round_spec.specs.Marks.{record_for, is_fitting, fits_next}
 use Rattle.why_report.specs.Reasons.{IsOldRun, GoesByOldRun}
 
@@ -69,12 +69,12 @@ unfolding fits fits_at
 within-head m r fit = grind (arith, nat_tests)
 
 within :
-    (p : Record → Bool) (m : Machine) (rs : List Record) (r : Record) → can_lay_from m rs ≡ true → find p rs ≡ Some r
+    (p : Record → Bool) (m : Machine) (rs : List Record) (r : Record) → can_apply_from m rs ≡ true → find p rs ≡ Some r
     → may_end m.frame.fuel r.kept.end r.kept.count ≡ true
 within p m [] r can there = cc there
 within p m (s ∷ rs) r can there =
-    by (p s) refl (λ later. subst (λ (f : Frame). may_end f.fuel r.kept.end r.kept.count ≡ true) (lay-frame m s)
-    (within p (lay m s) rs r (and_parts (is_none m.ending && fits m s) (can_lay_from (lay m s) rs) can).1 later))
+    by (p s) refl (λ later. subst (λ (f : Frame). may_end f.fuel r.kept.end r.kept.count ≡ true) (apply-frame m s)
+    (within p (apply m s) rs r (and_parts (is_none m.ending && fits m s) (can_apply_from (apply m s) rs) can).1 later))
   where
     some-is : (x y : Record) → Some x ≡ Some y → x ≡ y
     some-is x y e = cc
@@ -86,7 +86,7 @@ within p m (s ∷ rs) r can there =
         let same : s ≡ r = some-is s r (sym (ap (λ (b : Bool). cond b (Some s) (find p rs)) is) ∙ there) in
         let fit =
         (and_parts (is_none m.ending) (fits m s)
-        (and_parts (is_none m.ending && fits m s) (can_lay_from (lay m s) rs) can).0).1 in
+        (and_parts (is_none m.ending && fits m s) (can_apply_from (apply m s) rs) can).0).1 in
         subst (λ (x : Record). may_end m.frame.fuel x.kept.end x.kept.count ≡ true) same (within-head m s fit)
     by false is more = more (sym (ap (λ (b : Bool). cond b (Some s) (find p rs)) is) ∙ there)
 
@@ -102,7 +102,7 @@ found-within None setup t number r old there = cc there
 found-within (Some h) setup t number r old there =
     subst (λ (fuel : ℕ). may_end fuel r.kept.end r.kept.count ≡ true) (first-fuel h.setup ∙ old.fuel)
     (within (is_of t number) (first h.setup) h.records r
-    (and_parts (can_lay_from (first h.setup) h.records) _ old.coherent).0 there)
+    (and_parts (can_apply_from (first h.setup) h.records) _ old.coherent).0 there)
 
 -- where registers and read pages are the record's, it fits
 fits-whole :

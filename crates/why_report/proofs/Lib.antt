@@ -3,5 +3,5 @@ pub mod Finding
 pub mod Entries
 pub mod Alike
 pub mod Steps
-pub mod Told
+pub mod ReasonsSoFar
 pub mod Searches

@@ -8,7 +8,7 @@ use Rattle.memory_spec.specs.declared.TheConstants.{PAGE_SIZE}
 use Rattle.thunk_spec.specs.Thunk.{Frame}
 use Rattle.record_spec.specs.Record.{Record}
 use Rattle.machine_spec.specs.Machine.{Machine, hart_of, is_ready}
-use Rattle.machine_spec.specs.Step.{lay, can_step}
+use Rattle.machine_spec.specs.Step.{apply, can_step}
 use Rattle.machine_spec.specs.Setup.{Setup, IsSetup, first, map_of}
 use Rattle.machine_spec.specs.Whole.{IsWhole}
 use Rattle.machine_spec.proofs.Harts.{ready-below}
@@ -151,19 +151,19 @@ unfit-known w m since i addresses e is before valid by executed =
 -- the entries before the next one are those before and it
 pub next-before :
     (w : RoundState) (m n : Machine) (since later : List ℕ) (i : ℕ) (e : Entry) (r : Record)
-    → IsBefore w m since i → slice_get w.schedule i ≡ Some e → IsRecordOf w i e r → n ≡ lay m r
+    → IsBefore w m since i → slice_get w.schedule i ≡ Some e → IsRecordOf w i e r → n ≡ apply m r
     → ((t : ℕ) → t < 32 → slice_index later t
     ≡ (if is_ready (hart_of n t).status && ((e.thread == t) || not (is_ready (hart_of m t).status)) then suc i
     else slice_index since t))
     → IsBefore w n later (i + 1)
-next-before w m n since later i e r before there is laid views =
+next-before w m n since later i e r before there is applied views =
     record {
       machine = machine ∙ ap (made_before w) (sym (add-one i));
       views = λ t few. viewed t few ∙ ap (λ (k : ℕ). view_since (made_before w) (threads_of w.schedule) k t) (sym (add-one i));
     }
   where
     machine : n ≡ made_before w (suc i)
-    machine = laid ∙ ap (λ (x : Machine). lay x r) before.machine ∙ is.laid
+    machine = applied ∙ ap (λ (x : Machine). apply x r) before.machine ∙ is.applied
 
     thread : slice_index (threads_of w.schedule) i ≡ e.thread
     thread =

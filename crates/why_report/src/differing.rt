@@ -51,10 +51,9 @@ pub fn register_cause(now: &Regs, was: &Regs) -> Option<Cause>
 fn has_other(view: &PageTable, read: &ReadPage) -> bool
     ensures { result ≡ not (bytes_eq (page_of view.now read.now.slot) read.now.bytes) }
 {
-    let page = read.page();
-    let _bytes = page.bytes();
+    let bytes = read.page().bytes().as_slice();
     if read.slot() < view.len() {
-        view.page(read.slot()) != page
+        view.page(read.slot()).bytes().as_slice() != bytes
     } else {
         true
     }

@@ -1,7 +1,7 @@
 //! Why a step was executed.
 
 /// Why no record of an earlier run stood for a step.
-#[derive(Clone, Copy, Debug, PartialEq, Eq)]
+#[derive(Clone, Copy)]
 pub enum Cause {
     /// There is no record of this thread at this number.
     NoRecord,
@@ -23,7 +23,7 @@ pub enum Cause {
 }
 
 /// Why an entry of a round was executed.
-#[derive(Clone, Copy, Debug, PartialEq, Eq)]
+#[derive(Clone, Copy)]
 pub struct Reason {
     /// The entry, counted from 0.
     pub step: usize,

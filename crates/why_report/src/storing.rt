@@ -14,7 +14,7 @@ use thunk_record::Record;
 pub const REMEMBERED: usize = 1024;
 
 /// What a search found: which of the first so many entries of a round stored to a place of the page in a slot last.
-#[derive(Clone, Copy, Debug, PartialEq, Eq)]
+#[derive(Clone, Copy)]
 pub struct Search {
     slot: usize,
     place: usize,

@@ -6,7 +6,7 @@ ghost use Rattle.std.specs.Option.{option_to_list};
 ghost use Rattle.isa_spec.specs.Registers.{same_registers};
 ghost use Rattle.record_spec.specs.Reads.{ReadPage as Read, has};
 ghost use Rattle.machine_spec.specs.Machine.{hart_of, is_ready};
-ghost use Rattle.machine_spec.specs.Setup.{map_of};
+ghost use Rattle.machine_spec.specs.Setup.{first, map_of};
 ghost use Rattle.machine_spec.specs.Whole.{IsWhole};
 ghost use Rattle.history_spec.specs.History.{IsSound, found};
 ghost use Rattle.round_spec.specs.Marks.{record_for, fits_next};
@@ -49,7 +49,8 @@ fn page_cause(
     requires inside { since ≤ length round.now.schedule }
     requires pages { AreOf round.now pages.old }
     requires whole { length view.now ≡ length (addresses_of round.now.setup) }
-    ensures cause { result ≡ page_cause (addresses_of round.now.setup) (last_store round.now.records since) view.now
+    ensures cause { result
+        ≡ page_cause (addresses_of round.now.setup) (last_store round.now.records since) view.now
         (first_other_page view.now reads.now) }
     ensures pages { AreOf round.now pages.new }
     ensures none { IfNone result (All (λ (p : Read). p.slot < length view.now) reads.now
@@ -81,7 +82,8 @@ fn page_cause(
 fn record_of(round: &Round, thread: u8, number: u32) -> Option<&Arc<Record>>
     ensures found { option_map (λ r. arc_value r.now) result ≡ found round.now.past thread number }
     ensures mapped { IfSome result (λ r. GoesByOldRun round.now.past round.now.setup
-        → All (λ (p : Read). p.slot < length (map_of round.now.setup)) (arc_value r.now).kept.reads) }
+        → All (λ (p : Read). p.slot < length (map_of round.now.setup))
+        (arc_value r.now).kept.reads) }
 {
     round.old_record(thread, number)
 }
@@ -99,10 +101,12 @@ fn record_cause(
     requires inside { since ≤ length round.now.schedule }
     requires pages { AreOf round.now pages.old }
     requires whole { length (hart_of core.now thread).view ≡ length (addresses_of round.now.setup) }
-    ensures cause { result ≡ cause_of (addresses_of round.now.setup) (last_store round.now.records since)
+    ensures cause { result
+        ≡ cause_of (addresses_of round.now.setup) (last_store round.now.records since)
         (hart_of core.now thread) (Some rec.now) }
     ensures pages { AreOf round.now pages.new }
-    ensures none { IfNone result (All (λ (p : Read). p.slot < length (addresses_of round.now.setup)) rec.now.kept.reads
+    ensures none { IfNone result
+        (All (λ (p : Read). p.slot < length (addresses_of round.now.setup)) rec.now.kept.reads
         → (same_registers rec.now.start (hart_of core.now thread).regs ≡ true)
         × (has (hart_of core.now thread).view rec.now.kept.reads ≡ true)) }
 {
@@ -125,7 +129,8 @@ fn cause_at(
     requires inside { since ≤ length round.now.schedule }
     requires pages { AreOf round.now pages.old }
     requires whole { length (hart_of core.now thread).view ≡ length (addresses_of round.now.setup) }
-    ensures cause { result ≡ cause_of (addresses_of round.now.setup) (last_store round.now.records since)
+    ensures cause { result
+        ≡ cause_of (addresses_of round.now.setup) (last_store round.now.records since)
         (hart_of core.now thread) (record_for round.now.past core.now thread) }
     ensures pages { AreOf round.now pages.new }
     ensures none { IfNone result (GoesByOldRun round.now.past round.now.setup
@@ -188,7 +193,8 @@ fn note_views(
     count: usize,
 )
     ensures { (t : ℕ) → t < THREADS → slice_index since.new t
-        ≡ (if is_ready (hart_of core.now t).status && ((thread == t) || not (slice_index_or before.now t false))
+        ≡ (if is_ready (hart_of core.now t).status
+        && ((thread == t) || not (slice_index_or before.now t false))
         then count else slice_index since.old t) }
 {
     for t in 0..THREADS {
@@ -212,7 +218,7 @@ fn walk(
 {
     let before = ready_threads(core);
     let thread = round.schedule()[step].thread;
-    core.lay(round.entry(step))?;
+    core.apply(round.entry(step))?;
     note_views(since, &before, core, thread, step + 1);
     Ok(())
 }
@@ -225,6 +231,32 @@ fn add_reason(reasons: &mut Vec<Reason>, reason: Option<Reason>) -> Result<(), A
         reasons.push(reason)?;
     }
     Ok(())
+}
+
+/// The reasons of a round's executed entries, from the machine that it began as on.
+fn reasons_from(
+    alloc: Global,
+    round: &Round,
+    core: &mut Core,
+    pages: &mut Pages,
+) -> Result<Vec<Reason>, AllocError>
+    requires first { core.old ≡ first round.now.setup }
+    requires whole { IsWhole core.old }
+    requires pages { AreOf round.now pages.old }
+    ensures reasons { IfOk result (λ rs. rs.items ≡ reasons_of round.now) }
+    ensures each { IfOk result (λ rs. GoesByOldRun round.now.past round.now.setup
+        → map (λ (r : Reason). r.step) rs.items ≡ executed_places round.now.schedule) }
+    ensures scratch { IfOk result (λ rs. IsSound round.now.past round.now.setup
+        → rs.items ≡ reasons_by (scratch_before round.now) round.now) }
+{
+    let mut since = [0; THREADS];
+    let mut reasons = Vec::new(alloc);
+    for step in 0..round.schedule().len() {
+        let reason = reason_at(round, core, pages, &since, step);
+        add_reason(&mut reasons, reason)?;
+        walk(round, core, &mut since, step)?;
+    }
+    Ok(reasons)
 }
 
 /// Why the executed entries of a round were executed, in order. Where the round goes by a history that holds together,
@@ -245,12 +277,5 @@ pub fn reasons(alloc: Global, round: &Round) -> Result<Vec<Reason>, AllocError>
         remembered: no_searches(alloc)?,
     };
     let mut core = Core::new(alloc, round.setup())?;
-    let mut since = [0; THREADS];
-    let mut reasons = Vec::new(alloc);
-    for step in 0..round.schedule().len() {
-        let reason = reason_at(round, &core, &mut pages, &since, step);
-        add_reason(&mut reasons, reason)?;
-        walk(round, &mut core, &mut since, step)?;
-    }
-    Ok(reasons)
+    reasons_from(alloc, round, &mut core, &mut pages)
 }

@@ -1,7 +1,7 @@
 //! One failing call of the host: what was printed before it, what becomes of the memo, and the status.
 
 use super::lines::{guest_files, host_with_guests, put, status_of};
-use super::told::text_from;
+use super::report_text::text_from;
 use ith_host::MemHost;
 use std::alloc::{AllocError, Global};
 use std::process::Abort;

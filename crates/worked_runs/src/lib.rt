@@ -13,11 +13,11 @@ mod reaching;
 #[cfg(test)]
 mod replays;
 #[cfg(test)]
+mod report_text;
+#[cfg(test)]
 mod rounds;
 #[cfg(test)]
 mod schedules;
-#[cfg(test)]
-mod told;
 #[cfg(test)]
 mod words;
 #[cfg(test)]

@@ -2,7 +2,7 @@
 //! nothing.
 
 use super::lines::{host_with_guests, status_at, status_of};
-use super::told::{line_after, schedule, shares, text_from};
+use super::report_text::{line_after, schedule, text_from, worker_steps};
 use ith_host::Gate;
 use std::alloc::{AllocError, Global};
 use std::sync::atomic::{AtomicU64, Ordering};
@@ -58,10 +58,10 @@ impl Gate for Meeting {
 /// The thunks of the guest of two adding threads: six of thread 0, and three of each other.
 const OF_PAIR: u64 = 0x07_07_3f;
 
-/// How many steps shares add up to.
-fn total(shares: &[u64]) -> u64 {
+/// How many steps workers made together.
+fn total(worker_steps: &[u64]) -> u64 {
     let mut sum = 0u64;
-    for share in shares {
+    for share in worker_steps {
         sum = sum.saturating_add(*share);
     }
     sum
@@ -69,7 +69,7 @@ fn total(shares: &[u64]) -> u64 {
 
 /// Whether a report of two workers tells twelve steps, of which each of them made one at least.
 fn is_shared(alloc: Global, report: &[u8]) -> Result<bool, AllocError> {
-    let told = shares(alloc, report)?;
+    let told = worker_steps(alloc, report)?;
     Ok(told.len() == 2 && !told.contains(&0) && total(&told) == 12)
 }
 

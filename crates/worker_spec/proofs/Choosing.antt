@@ -1,4 +1,4 @@
--- What holds of the thread that is chosen, and that with nobody out there is one where any is ready.
+-- What holds of the thread that is chosen, and that with nobody in flight there is one where any is ready.
 use Rattle.std.proofs.Common.{◌≡◌, ◌⊎◌, ◌≤◌, ◌+◌, ℕ, zero, suc, Bool, true, false, not, ◌&&◌, eqb, List, [], ◌∷◌, length, map, Option, Some, is_some, refl, ap, sym, ◌∙◌, subst, inl, inr, arith}
 use Rattle.std.proofs.lemmas.Bool.{eqb-true}
 use Rattle.std.specs.List.{AllByRecursion, filter, list_any, range_with_len}
@@ -7,36 +7,36 @@ use Rattle.machine_spec.specs.Choice.{least}
 use Rattle.machine_spec.proofs.Harts.{ready-below}
 use Rattle.history_spec.specs.History.{History}
 use Rattle.history_spec.proofs.Scratch.{and-left}
-use Rattle.round_spec.specs.Rounds.{nobody_out, is_out_of, is_free_in}
+use Rattle.round_spec.specs.Rounds.{none_in_flight, is_in_flight_of, is_free_in}
 use Rattle.round_spec.specs.Due.{place_in, is_due}
-use Rattle.round_spec.specs.Choice.{free_threads, first_of, least_by, best, is_any_out, eligible, choice_by}
-use Rattle.round_spec.proofs.Happening.{nobody_out-none}
+use Rattle.round_spec.specs.Choice.{free_threads, first_of, least_by, best, is_any_in_flight, eligible, choice_by}
+use Rattle.round_spec.proofs.Happening.{none_in_flight-none}
 use Rattle.worker_spec.proofs.Lists.{some-filter, any-range, first-all, all-filter, all-pass, all-unfiltered, range-at, least-under, some-least_by}
 
--- with nobody out, who is ready is free
-pub free-ready : (m : Machine) (v : ℕ) → is_free_in m nobody_out v ≡ is_ready (hart_of m v).status
-free-ready m v = rw (nobody_out-none v) (right (is_ready (hart_of m v).status))
+-- with nobody in flight, who is ready is free
+pub free-ready : (m : Machine) (v : ℕ) → is_free_in m none_in_flight v ≡ is_ready (hart_of m v).status
+free-ready m v = rw (none_in_flight-none v) (right (is_ready (hart_of m v).status))
   where
     right : (a : Bool) → (a && true) ≡ a
     right true = refl
     right false = refl
 
-pub any-nobody : is_any_out nobody_out ≡ false
-unfolding nobody_out
+pub any-nobody : is_any_in_flight none_in_flight ≡ false
+unfolding none_in_flight
 any-nobody = refl
 
 -- a test of the free threads is one of the harts
 pub free-at :
-    (m : Machine) (i k : ℕ) → 0 + i ≡ k → is_free_in m nobody_out k ≡ is_ready (hart_in m.harts i).status
+    (m : Machine) (i k : ℕ) → 0 + i ≡ k → is_free_in m none_in_flight k ≡ is_ready (hart_in m.harts i).status
 free-at m i k is = let same : k ≡ i = omega arith in rw same (free-ready m i)
 
 some-free :
     (m : Machine)
-    → is_some (first_of (free_threads m nobody_out)) ≡ list_any (λ (h : Hart). is_ready h.status) m.harts
+    → is_some (first_of (free_threads m none_in_flight)) ≡ list_any (λ (h : Hart). is_ready h.status) m.harts
 unfolding free_threads
 some-free m =
-    some-filter (is_free_in m nobody_out) (range_with_len 0 (length m.harts))
-    ∙ any-range (is_free_in m nobody_out) (λ (h : Hart). is_ready h.status) m.harts 0 (free-at m)
+    some-filter (is_free_in m none_in_flight) (range_with_len 0 (length m.harts))
+    ∙ any-range (is_free_in m none_in_flight) (λ (h : Hart). is_ready h.status) m.harts 0 (free-at m)
 
 some-best : (past : Option History) (m : Machine) (xs : List ℕ) → is_some (best past m xs) ≡ is_some (first_of xs)
 unfolding best
@@ -53,17 +53,17 @@ some-eligible p (t ∷ free) = either (filter p (t ∷ free))
     either [] = refl
     either (u ∷ due) = refl
 
--- with nobody out a thread is chosen exactly where one is ready
+-- with nobody in flight a thread is chosen exactly where one is ready
 pub choice_by-some :
-    (past : Option History) (m : Machine) → is_some (choice_by past m nobody_out)
+    (past : Option History) (m : Machine) → is_some (choice_by past m none_in_flight)
     ≡ list_any (λ (h : Hart). is_ready h.status) m.harts
 unfolding choice_by
 choice_by-some past m =
-    some-best past m (eligible (filter (is_due past m) (free_threads m nobody_out)) (free_threads m nobody_out)
-    (is_any_out nobody_out))
+    some-best past m (eligible (filter (is_due past m) (free_threads m none_in_flight)) (free_threads m none_in_flight)
+    (is_any_in_flight none_in_flight))
     ∙ ap (λ (b : Bool). is_some
-    (first_of (eligible (filter (is_due past m) (free_threads m nobody_out)) (free_threads m nobody_out) b))) any-nobody
-    ∙ some-eligible (is_due past m) (free_threads m nobody_out)
+    (first_of (eligible (filter (is_due past m) (free_threads m none_in_flight)) (free_threads m none_in_flight) b))) any-nobody
+    ∙ some-eligible (is_due past m) (free_threads m none_in_flight)
     ∙ some-free m
 
 -- who is best is one of those
@@ -101,77 +101,77 @@ chosen-cases past m [] free false u is = inr (refl, refl, is)
 chosen-cases past m [] free true u is = absurd (best-none past m u is)
 
 -- the one that is chosen: free; of the least place among those that are free and due; and due, where anybody ready is
-pub record IsChosen (past : Option History) (m : Machine) (out : List Bool) (u : ℕ) : Type 0 where
-  pub free : is_free_in m out u ≡ true
+pub record IsChosen (past : Option History) (m : Machine) (in_flight : List Bool) (u : ℕ) : Type 0 where
+  pub free : is_free_in m in_flight u ≡ true
   pub least :
-      (v : ℕ) → is_free_in m out v ≡ true → is_due past m v ≡ true
+      (v : ℕ) → is_free_in m in_flight v ≡ true → is_due past m v ≡ true
       → place_in past m u ≤ place_in past m v
   pub due : (is_due past m u ≡ true) ⊎ ((v : ℕ) → is_ready (hart_of m v).status ≡ true → is_due past m v ≡ false)
 
 pub free-is_ready :
-    (m : Machine) (out : List Bool) (v : ℕ) → is_free_in m out v ≡ true → is_ready (hart_of m v).status ≡ true
-free-is_ready m out v free = and-left (is_ready (hart_of m v).status) (not (is_out_of out v)) free
+    (m : Machine) (in_flight : List Bool) (v : ℕ) → is_free_in m in_flight v ≡ true → is_ready (hart_of m v).status ≡ true
+free-is_ready m in_flight v free = and-left (is_ready (hart_of m v).status) (not (is_in_flight_of in_flight v)) free
 
 pub free-of :
-    (m : Machine) (out : List Bool) (v : ℕ) → is_ready (hart_of m v).status ≡ true → is_out_of out v ≡ false
-    → is_free_in m out v ≡ true
-free-of m out v ready inside = rw (ready, inside) refl
+    (m : Machine) (in_flight : List Bool) (v : ℕ) → is_ready (hart_of m v).status ≡ true → is_in_flight_of in_flight v ≡ false
+    → is_free_in m in_flight v ≡ true
+free-of m in_flight v ready inside = rw (ready, inside) refl
 
--- where no flag is raised nobody is out
-none-out : (out : List Bool) (v : ℕ) → is_any_out out ≡ false → is_out_of out v ≡ false
-none-out [] v none = refl
-none-out (true ∷ out) v none = cc
-none-out (false ∷ out) zero none = refl
-none-out (false ∷ out) (suc v) none = none-out out v none
+-- where no flag is raised nobody is in flight
+none-in_flight : (in_flight : List Bool) (v : ℕ) → is_any_in_flight in_flight ≡ false → is_in_flight_of in_flight v ≡ false
+none-in_flight [] v none = refl
+none-in_flight (true ∷ in_flight) v none = cc
+none-in_flight (false ∷ in_flight) zero none = refl
+none-in_flight (false ∷ in_flight) (suc v) none = none-in_flight in_flight v none
 
 all-free :
-    (m : Machine) (out : List Bool) → AllByRecursion (λ v. is_free_in m out v ≡ true) (free_threads m out)
+    (m : Machine) (in_flight : List Bool) → AllByRecursion (λ v. is_free_in m in_flight v ≡ true) (free_threads m in_flight)
 unfolding free_threads
-all-free m out = all-pass (is_free_in m out) (range_with_len 0 (length m.harts))
+all-free m in_flight = all-pass (is_free_in m in_flight) (range_with_len 0 (length m.harts))
 
 -- what holds of all free threads that pass a test
 free-due :
-    (P : ℕ → Type 0) (m : Machine) (out : List Bool) (p : ℕ → Bool) (v : ℕ)
-    → AllByRecursion P (filter p (free_threads m out)) → is_free_in m out v ≡ true → p v ≡ true → P v
+    (P : ℕ → Type 0) (m : Machine) (in_flight : List Bool) (p : ℕ → Bool) (v : ℕ)
+    → AllByRecursion P (filter p (free_threads m in_flight)) → is_free_in m in_flight v ≡ true → p v ≡ true → P v
 unfolding free_threads
-free-due P m out p v all free pass =
-    range-at (λ u. is_free_in m out u ≡ true → p u ≡ true → P u) (length m.harts) 0 v
-    (all-unfiltered (λ u. p u ≡ true → P u) (is_free_in m out) (range_with_len 0 (length m.harts))
-    (all-unfiltered P p (filter (is_free_in m out) (range_with_len 0 (length m.harts))) all))
-    (omega arith) (let below = ready-below m.harts v (free-is_ready m out v free) in omega arith) free pass
+free-due P m in_flight p v all free pass =
+    range-at (λ u. is_free_in m in_flight u ≡ true → p u ≡ true → P u) (length m.harts) 0 v
+    (all-unfiltered (λ u. p u ≡ true → P u) (is_free_in m in_flight) (range_with_len 0 (length m.harts))
+    (all-unfiltered P p (filter (is_free_in m in_flight) (range_with_len 0 (length m.harts))) all))
+    (omega arith) (let below = ready-below m.harts v (free-is_ready m in_flight v free) in omega arith) free pass
 
 pub choice_by-chosen :
-    (past : Option History) (m : Machine) (out : List Bool) (u : ℕ) → choice_by past m out ≡ Some u
-    → IsChosen past m out u
+    (past : Option History) (m : Machine) (in_flight : List Bool) (u : ℕ) → choice_by past m in_flight ≡ Some u
+    → IsChosen past m in_flight u
 unfolding choice_by
-choice_by-chosen past m out u is =
-    elim (chosen-cases past m (filter (is_due past m) (free_threads m out)) (free_threads m out)
-    (is_any_out out) u is) [
+choice_by-chosen past m in_flight u is =
+    elim (chosen-cases past m (filter (is_due past m) (free_threads m in_flight)) (free_threads m in_flight)
+    (is_any_in_flight in_flight) u is) [
       | inl one ↦ record {
         free =
-            best-all (λ v. is_free_in m out v ≡ true) past m (filter (is_due past m) (free_threads m out)) u
-            (all-filter (λ v. is_free_in m out v ≡ true) (is_due past m) (free_threads m out) (all-free m out)) one;
+            best-all (λ v. is_free_in m in_flight v ≡ true) past m (filter (is_due past m) (free_threads m in_flight)) u
+            (all-filter (λ v. is_free_in m in_flight v ≡ true) (is_due past m) (free_threads m in_flight) (all-free m in_flight)) one;
         least =
-            λ v free due. free-due (λ v. place_in past m u ≤ place_in past m v) m out (is_due past m) v
-            (best-least past m (filter (is_due past m) (free_threads m out)) u one) free due;
+            λ v free due. free-due (λ v. place_in past m u ≤ place_in past m v) m in_flight (is_due past m) v
+            (best-least past m (filter (is_due past m) (free_threads m in_flight)) u one) free due;
         due =
-            inl (best-all (λ v. is_due past m v ≡ true) past m (filter (is_due past m) (free_threads m out)) u
-            (all-pass (is_due past m) (free_threads m out)) one);
+            inl (best-all (λ v. is_due past m v ≡ true) past m (filter (is_due past m) (free_threads m in_flight)) u
+            (all-pass (is_due past m) (free_threads m in_flight)) one);
       }
       | inr none ↦ record {
-        free = best-all (λ v. is_free_in m out v ≡ true) past m (free_threads m out) u (all-free m out) none.2;
+        free = best-all (λ v. is_free_in m in_flight v ≡ true) past m (free_threads m in_flight) u (all-free m in_flight) none.2;
         least = λ v free due. absurd (not-due none.0 v free due);
         due =
             inr (λ v ready.
-            either (is_due past m v) (not-due none.0 v (free-of m out v ready (none-out out v none.1))));
+            either (is_due past m v) (not-due none.0 v (free-of m in_flight v ready (none-in_flight in_flight v none.1))));
       }
     ]
   where
     not-due :
-        filter (is_due past m) (free_threads m out) ≡ [] → (v : ℕ)
-        → is_free_in m out v ≡ true → is_due past m v ≡ true → ⊥
+        filter (is_due past m) (free_threads m in_flight) ≡ [] → (v : ℕ)
+        → is_free_in m in_flight v ≡ true → is_due past m v ≡ true → ⊥
     not-due empty v free due =
-        free-due (λ v. ⊥) m out (is_due past m) v (subst (λ (xs : List ℕ). AllByRecursion (λ v. ⊥) xs) (sym empty) tt)
+        free-due (λ v. ⊥) m in_flight (is_due past m) v (subst (λ (xs : List ℕ). AllByRecursion (λ v. ⊥) xs) (sym empty) tt)
         free due
 
     either : (b : Bool) → (b ≡ true → ⊥) → b ≡ false

@@ -3,7 +3,7 @@ use Rattle.std.proofs.Common.{◌≡◌, ◌≢◌, ◌≤◌, ◌+◌, ℕ, zer
 use Rattle.record_spec.specs.Record.{Record}
 use Rattle.machine_spec.specs.declared.states.End.{End}
 use Rattle.machine_spec.specs.Machine.{Machine, hart_of, is_ready}
-use Rattle.machine_spec.specs.Step.{step, lay, can_step}
+use Rattle.machine_spec.specs.Step.{step, apply, can_step}
 use Rattle.machine_spec.specs.Schedule.{record_of}
 use Rattle.machine_spec.specs.Setup.{Setup, IsSetup, first}
 use Rattle.machine_spec.specs.Whole.{IsWhole}
@@ -11,8 +11,8 @@ use Rattle.machine_spec.proofs.Alone.{step-limit, step-steps, first-limit}
 use Rattle.machine_spec.proofs.Beginning.{IsWhole-first}
 use Rattle.machine_spec.proofs.Steps.{step-whole, can_step-ready}
 use Rattle.history_spec.specs.History.{History}
-use Rattle.history_spec.proofs.Laying.{fits-can_step, lay-limit, lay-whole}
-use Rattle.history_spec.proofs.Numbers.{lay-steps}
+use Rattle.history_spec.proofs.Applying.{fits-can_step, apply-limit, apply-whole}
+use Rattle.history_spec.proofs.Numbers.{apply-steps}
 use Rattle.report_spec.specs.declared.Entry.{Entry}
 use Rattle.round_spec.specs.declared.events.Pick.{Pick}
 use Rattle.round_spec.specs.declared.events.Pick.TheVariants as pick
@@ -22,7 +22,7 @@ use Rattle.round_spec.specs.Choice.{pick_of}
 use Rattle.round_spec.specs.Alone.{after_pick, after_picks, lone_round}
 use Rattle.worker_spec.proofs.Picks.{lone_state, after-reuse, after-run, pick-over, pick-chosen, running, below-32, Stands, Over, Goes, stands}
 
--- how a round goes on from a whole machine: it is over and stays as it is, or one step more is made
+-- how a round goes on from a whole machine: it is finished and stays as it is, or one step more is made
 data GoesOn (setup : Setup) (past : Option History) (m : Machine) (w : RoundState) : Type 0 where
   Ended : is_some m.ending ≡ true → pick_of w ≡ pick.Over → GoesOn setup past m w
   Stepped :
@@ -34,7 +34,7 @@ not-hold : (p : Pick) (t : ℕ) (b : Bool) → p ≡ cond b (pick.Reuse t) (pick
 not-hold p t true is = λ hold. cc
 not-hold p t false is = λ hold. cc
 
--- the chosen thread's record is laid where it fits, true or not, and else its step is made
+-- the chosen thread's record is applied where it fits, true or not, and else its step is made
 chosen-goes :
     (setup : Setup) (past : Option History) (m : Machine) (schedule : List Entry) (rs : List Record) (picked : List ℕ)
     (t : ℕ)
@@ -45,12 +45,12 @@ chosen-goes :
     → GoesOn setup past m (lone_state setup past m schedule rs picked)
 chosen-goes setup past m schedule rs picked t None true whole none can there fit is_pick = absurd (cc)
 chosen-goes setup past m schedule rs picked t (Some r) true whole none can there fit is_pick =
-    Stepped (lay m r) (schedule ++ record { thread = t; reused = true } ∷ []) (rs ++ r ∷ [])
+    Stepped (apply m r) (schedule ++ record { thread = t; reused = true } ∷ []) (rs ++ r ∷ [])
     (picked ++ length schedule ∷ [])
     (ap (after_pick (lone_state setup past m schedule rs picked)) is_pick
     ∙ after-reuse setup past m schedule rs picked t r (running m none) (can_step-ready m t can) there fit)
-    (lay-whole m r whole (fits-can_step m r (ap (λ (e : Option End). is_none e) none) fit))
-    (lay-limit m r) (lay-steps m r) (not-hold (pick_of (lone_state setup past m schedule rs picked)) t true is_pick)
+    (apply-whole m r whole (fits-can_step m r (ap (λ (e : Option End). is_none e) none) fit))
+    (apply-limit m r) (apply-steps m r) (not-hold (pick_of (lone_state setup past m schedule rs picked)) t true is_pick)
 chosen-goes setup past m schedule rs picked t o false whole none can there fit is_pick =
     let ready : is_ready (hart_of m t).status ≡ true = can_step-ready m t can in
     Stepped (step m t) (schedule ++ record { thread = t; reused = false } ∷ []) (rs ++ record_of m t ∷ [])
@@ -75,7 +75,8 @@ goes-on setup past m schedule rs picked whole = by (stands past m whole)
         (fits_next past m t) whole none can refl refl
         (pick-chosen setup past m schedule rs picked t (running m none) chosen)
 
--- after any number of picks nobody is out, nothing was discarded, nobody stopped the round, and its machine is whole
+-- after any number of picks nobody is in flight, nothing was discarded, nobody stopped the round, and its machine is
+-- whole
 record IsLone (setup : Setup) (past : Option History) (w : RoundState) : Type 0 where
   machine : Machine
   schedule : List Entry

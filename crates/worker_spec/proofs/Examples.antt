@@ -18,13 +18,13 @@ use Rattle.record_spec.specs.Record.{put_of, may_end, fits_at}
 use Rattle.machine_spec.specs.Machine.{Machine}
 use Rattle.machine_spec.specs.Performing.{first_registers}
 use Rattle.machine_spec.specs.Setup.{first}
-use Rattle.machine_spec.specs.Step.{step, finished, lay, fits}
+use Rattle.machine_spec.specs.Step.{step, finished, apply, fits}
 use Rattle.machine_spec.proofs.Guests.{begins, late}
 use Rattle.history_spec.specs.History.{History}
 use Rattle.history_spec.proofs.Examples.{shortest, only_step, only-honest}
 use Rattle.round_spec.specs.declared.events.Event.TheVariants.{Take, Reuse, Commit, GiveBack, Stop}
 use Rattle.round_spec.specs.declared.events.Pick.TheVariants as pick
-use Rattle.round_spec.specs.Rounds.{nobody_out, happens}
+use Rattle.round_spec.specs.Rounds.{none_in_flight, happens}
 use Rattle.round_spec.specs.Due.{is_due}
 use Rattle.round_spec.specs.Choice.{free_threads, least_by, best, choice_by, pick_of}
 use Rattle.round_spec.specs.Alone.{after_picks, lone_round, begun_in}
@@ -60,7 +60,7 @@ was_4 = past_of (recorded (begins 9 9 (forgets 4)) 0 [] ∷ recorded (step (begi
 pub picks-main_first :
     seen (after_picks 9 (starts (begins 9 9 late) main_first))
     ≡ (reuses 0 ∷ reuses 0 ∷ reuses 1 ∷ reuses 0 ∷ [], [], 0, false)
-unfolding nobody_out is_due free_threads least_by best choice_by pick_of first entry_of u32_at happens step finished lay
+unfolding none_in_flight is_due free_threads least_by best choice_by pick_of first entry_of u32_at happens step finished apply
     fits fits_at may_end put_of reads_of thunk turn fetched number_at number_in permission_at decoded reading_of
     u_immediate i_immediate s_immediate immediate_result shift_result register_result with_register is_readable
     put_addresses loaded may_store bytes_stored with_byte first_registers all_unlocked
@@ -68,7 +68,7 @@ picks-main_first = refl
 
 -- Nothing is executed then.
 pub executed-main_first : executed_in 9 (starts (begins 9 9 late) main_first) ≡ 0
-unfolding nobody_out is_due free_threads least_by best choice_by pick_of first entry_of u32_at happens step finished lay
+unfolding none_in_flight is_due free_threads least_by best choice_by pick_of first entry_of u32_at happens step finished apply
     fits fits_at may_end put_of reads_of thunk turn fetched number_at number_in permission_at decoded reading_of
     u_immediate i_immediate s_immediate immediate_result shift_result register_result with_register is_readable
     put_addresses loaded may_store bytes_stored with_byte first_registers all_unlocked
@@ -76,7 +76,7 @@ executed-main_first = refl
 
 -- With nothing to go by all is executed: 5 instructions to create, 5 to store, 4 to load, 2 to end, 6 to exit.
 pub executed-alone : executed_in 9 (starts (begins 9 9 late) None) ≡ 22
-unfolding nobody_out is_due free_threads least_by best choice_by pick_of first entry_of u32_at happens step finished lay
+unfolding none_in_flight is_due free_threads least_by best choice_by pick_of first entry_of u32_at happens step finished apply
     fits fits_at may_end put_of reads_of thunk turn fetched number_at number_in permission_at decoded reading_of
     u_immediate i_immediate s_immediate immediate_result shift_result register_result with_register is_readable
     put_addresses loaded may_store bytes_stored with_byte first_registers all_unlocked
@@ -84,7 +84,7 @@ executed-alone = refl
 
 -- So much in the first two picks.
 pub executed-two : executed_in 2 (starts (begins 9 9 late) None) ≡ 10
-unfolding nobody_out is_due free_threads least_by best choice_by pick_of first entry_of u32_at happens step finished lay
+unfolding none_in_flight is_due free_threads least_by best choice_by pick_of first entry_of u32_at happens step finished apply
     fits fits_at may_end put_of reads_of thunk turn fetched number_at number_in permission_at decoded reading_of
     u_immediate i_immediate s_immediate immediate_result shift_result register_result with_register is_readable
     put_addresses loaded may_store bytes_stored with_byte first_registers all_unlocked
@@ -93,7 +93,7 @@ executed-two = refl
 -- After an edit of the byte the first step is executed, of 5 instructions, and the second is reused.
 pub picks-edited :
     seen (after_picks 9 (starts (begins 9 9 (forgets 7)) was_4)) ≡ (executes 0 ∷ reuses 0 ∷ [], [], 0, false)
-unfolding nobody_out is_due free_threads least_by best choice_by pick_of first entry_of u32_at happens step finished lay
+unfolding none_in_flight is_due free_threads least_by best choice_by pick_of first entry_of u32_at happens step finished apply
     fits fits_at may_end put_of reads_of thunk turn fetched number_at number_in permission_at decoded reading_of
     u_immediate i_immediate s_immediate immediate_result shift_result register_result with_register is_readable
     put_addresses loaded may_store bytes_stored with_byte first_registers all_unlocked
@@ -101,7 +101,7 @@ picks-edited = refl
 
 -- These 5 are all.
 pub executed-edited : executed_in 9 (starts (begins 9 9 (forgets 7)) was_4) ≡ 5
-unfolding nobody_out is_due free_threads least_by best choice_by pick_of first entry_of u32_at happens step finished lay
+unfolding none_in_flight is_due free_threads least_by best choice_by pick_of first entry_of u32_at happens step finished apply
     fits fits_at may_end put_of reads_of thunk turn fetched number_at number_in permission_at decoded reading_of
     u_immediate i_immediate s_immediate immediate_result shift_result register_result with_register is_readable
     put_addresses loaded may_store bytes_stored with_byte first_registers all_unlocked
@@ -109,28 +109,28 @@ executed-edited = refl
 
 -- Without an edit no step is begun; with nothing to go by each is, in order; after the edit the first is.
 pub begun-main_first : begun_in 9 (starts (begins 9 9 late) main_first) ≡ []
-unfolding nobody_out is_due free_threads least_by best choice_by pick_of first entry_of u32_at happens step finished lay
+unfolding none_in_flight is_due free_threads least_by best choice_by pick_of first entry_of u32_at happens step finished apply
     fits fits_at may_end put_of reads_of thunk turn fetched number_at number_in permission_at decoded reading_of
     u_immediate i_immediate s_immediate immediate_result shift_result register_result with_register is_readable
     put_addresses loaded may_store bytes_stored with_byte first_registers all_unlocked
 begun-main_first = refl
 
 pub begun-alone : begun_in 9 (starts (begins 9 9 late) None) ≡ 0 ∷ 1 ∷ 0 ∷ 1 ∷ 0 ∷ []
-unfolding nobody_out is_due free_threads least_by best choice_by pick_of first entry_of u32_at happens step finished lay
+unfolding none_in_flight is_due free_threads least_by best choice_by pick_of first entry_of u32_at happens step finished apply
     fits fits_at may_end put_of reads_of thunk turn fetched number_at number_in permission_at decoded reading_of
     u_immediate i_immediate s_immediate immediate_result shift_result register_result with_register is_readable
     put_addresses loaded may_store bytes_stored with_byte first_registers all_unlocked
 begun-alone = refl
 
 pub begun-two : begun_in 2 (starts (begins 9 9 late) None) ≡ 0 ∷ 1 ∷ []
-unfolding nobody_out is_due free_threads least_by best choice_by pick_of first entry_of u32_at happens step finished lay
+unfolding none_in_flight is_due free_threads least_by best choice_by pick_of first entry_of u32_at happens step finished apply
     fits fits_at may_end put_of reads_of thunk turn fetched number_at number_in permission_at decoded reading_of
     u_immediate i_immediate s_immediate immediate_result shift_result register_result with_register is_readable
     put_addresses loaded may_store bytes_stored with_byte first_registers all_unlocked
 begun-two = refl
 
 pub begun-edited : begun_in 9 (starts (begins 9 9 (forgets 7)) was_4) ≡ 0 ∷ []
-unfolding nobody_out is_due free_threads least_by best choice_by pick_of first entry_of u32_at happens step finished lay
+unfolding none_in_flight is_due free_threads least_by best choice_by pick_of first entry_of u32_at happens step finished apply
     fits fits_at may_end put_of reads_of thunk turn fetched number_at number_in permission_at decoded reading_of
     u_immediate i_immediate s_immediate immediate_result shift_result register_result with_register is_readable
     put_addresses loaded may_store bytes_stored with_byte first_registers all_unlocked

@@ -25,7 +25,7 @@ use Rattle.order_spec.proofs.Lists.{or-in_left}
 use Rattle.order_spec.proofs.Clocks.{lt-bit}
 use Rattle.report_spec.specs.declared.Entry.{Entry}
 use Rattle.round_spec.specs.Marks.{record_for, is_fitting, fits_next, marked_from}
-use Rattle.round_spec.specs.Rounds.{nobody_out}
+use Rattle.round_spec.specs.Rounds.{none_in_flight}
 use Rattle.round_spec.specs.Due.{place_in, is_passed_at, are_passed_before, is_due}
 use Rattle.round_spec.specs.Choice.{choice_by}
 use Rattle.round_spec.specs.Alone.{guided_from}
@@ -194,17 +194,17 @@ can_step-none m t can = none (m.ending) (and-left (is_none m.ending) (is_ready (
 -- it is what is chosen
 pub next-chosen :
     (past : Option History) (m : Machine) (front : List Record) (t : ℕ) (back : List Record)
-    → IsWhole m → IsNext past m front t back → choice_by past m nobody_out ≡ Some t
+    → IsWhole m → IsNext past m front t back → choice_by past m none_in_flight ≡ Some t
 next-chosen past m front t back whole next = by (stands past m whole)
   where
-    by : Stands past m → choice_by past m nobody_out ≡ Some t
+    by : Stands past m → choice_by past m none_in_flight ≡ Some t
     by (Over e is) = absurd (let none = can_step-none m t next.can in cc)
     by (Goes u none chosen can) =
         elim (cases_eq u t) [
           | inl same ↦ chosen ∙ ap (λ (n : ℕ). Some n) same
           | inr other ↦ absurd
               (let least =
-              (choice_by-chosen past m nobody_out u chosen).least t (free-ready m t ∙ can_step-ready m t next.can)
+              (choice_by-chosen past m none_in_flight u chosen).least t (free-ready m t ∙ can_step-ready m t next.can)
               (next-due past m front t back next) in
               let own = next-place past m front t back next in
               let far = other-place past m front t back u next other in

@@ -16,12 +16,12 @@ use Rattle.history_spec.specs.History.{History, IsSound, is_of, past_records, fo
 use Rattle.history_spec.proofs.Scratch.{and-left, and-right}
 use Rattle.report_spec.specs.declared.Entry.{Entry}
 use Rattle.round_spec.specs.Marks.{is_fitting, fits_next, marked_from, marked}
-use Rattle.round_spec.specs.Rounds.{RoundState, nobody_out, is_out_of}
+use Rattle.round_spec.specs.Rounds.{RoundState, none_in_flight, is_in_flight_of}
 use Rattle.round_spec.specs.Due.{place_in, is_due}
 use Rattle.round_spec.specs.Choice.{choice_by}
 use Rattle.round_spec.specs.Alone.{guided_from, one_worker, lone_round}
 use Rattle.round_spec.specs.Picking.{is_ready_and_due, any_thread, is_picked_on, machine_after, IsPicked, ArePicked}
-use Rattle.round_spec.proofs.Happening.{nobody_out-none}
+use Rattle.round_spec.proofs.Happening.{none_in_flight-none}
 use Rattle.worker_spec.proofs.Lists.{none-any, range-all}
 use Rattle.worker_spec.proofs.Choosing.{IsChosen, choice_by-chosen, free-is_ready, free-of}
 use Rattle.worker_spec.proofs.Lone.{rounds-made}
@@ -30,7 +30,7 @@ use Rattle.worker_spec.proofs.Picks.{marked-threads, marked-length, guided-over,
 -- each entry is the choice after those before it
 abbrev AllChosen : Option History → Machine → List ℕ → Type 0
 AllChosen past m [] = Unit {0}
-AllChosen past m (t ∷ ts) = (choice_by past m nobody_out ≡ Some t) × AllChosen past (step m t) ts
+AllChosen past m (t ∷ ts) = (choice_by past m none_in_flight ≡ Some t) × AllChosen past (step m t) ts
 
 guided-chosen : (past : Option History) (n : ℕ) (m : Machine) → IsWhole m → AllChosen past m (guided_from past n m)
 guided-chosen past zero m whole = tt
@@ -47,7 +47,7 @@ guided-chosen past (suc n) m whole =
 chosen-at :
     (past : Option History) (m : Machine) (ts : List ℕ) (i d : ℕ)
     → AllChosen past m ts → i < length ts
-    → choice_by past (scratch_from m (take i ts)) nobody_out ≡ Some (get_or ts i d)
+    → choice_by past (scratch_from m (take i ts)) none_in_flight ≡ Some (get_or ts i d)
 chosen-at past m [] i d all below = absurd (omega arith)
 chosen-at past m (t ∷ ts) zero d all below = all.0
 chosen-at past m (t ∷ ts) (suc i) d all below = chosen-at past (step m t) ts i d all.1 (omega arith)
@@ -98,9 +98,9 @@ none-thread m p never =
     none-any p (range_with_len 0 (length m.harts)) (range-all (λ v. p v ≡ false) (length m.harts) 0 never)
 
 right-due :
-    (past : Option History) (m : Machine) (out : List Bool) (u : ℕ) → IsChosen past m out u
+    (past : Option History) (m : Machine) (in_flight : List Bool) (u : ℕ) → IsChosen past m in_flight u
     → (is_due past m u || not (any_thread m (is_ready_and_due past m))) ≡ true
-right-due past m out u chosen =
+right-due past m in_flight u chosen =
     elim chosen.due [
       | inl due ↦ rw due refl
       | inr nobody ↦
@@ -122,44 +122,44 @@ unfit-past :
 unfit-past past m v far = ap (is_fitting m) (place-none (is_of v (hart_of m v).number) (past_records past) far)
 
 right-fit :
-    (past : Option History) (m : Machine) (out : List Bool) (u : ℕ) (b : Bool)
-    → ((v : ℕ) → is_out_of out v ≡ true → fits_next past m v ≡ false)
-    → IsChosen past m out u → is_some (found past u (hart_of m u).number) ≡ b
+    (past : Option History) (m : Machine) (in_flight : List Bool) (u : ℕ) (b : Bool)
+    → ((v : ℕ) → is_in_flight_of in_flight v ≡ true → fits_next past m v ≡ false)
+    → IsChosen past m in_flight u → is_some (found past u (hart_of m u).number) ≡ b
     → (b || not (any_thread m (λ v. is_ready_and_due past m v && fits_next past m v))) ≡ true
-right-fit past m out u true held chosen is = refl
-right-fit past m out u false held chosen is =
+right-fit past m in_flight u true held chosen is = refl
+right-fit past m in_flight u false held chosen is =
     let place : place_in past m u ≡ length (past_records past) =
     find-none (is_of u (hart_of m u).number) (past_records past) is in
     let none : any_thread m (λ v. is_ready_and_due past m v && fits_next past m v) ≡ false =
     none-thread m (λ v. is_ready_and_due past m v && fits_next past m v)
     (λ v. and-false (is_ready_and_due past m v) (fits_next past m v)
-    (λ both. unfit v (is_out_of out v) refl place
+    (λ both. unfit v (is_in_flight_of in_flight v) refl place
     (and-left (is_ready (hart_of m v).status) (is_due past m v) both)
     (and-right (is_ready (hart_of m v).status) (is_due past m v) both))) in
     rw none refl
   where
     unfit :
-        (v : ℕ) (b : Bool) → is_out_of out v ≡ b → place_in past m u ≡ length (past_records past)
+        (v : ℕ) (b : Bool) → is_in_flight_of in_flight v ≡ b → place_in past m u ≡ length (past_records past)
         → is_ready (hart_of m v).status ≡ true → is_due past m v ≡ true → fits_next past m v ≡ false
-    unfit v true is_out place ready due = held v is_out
+    unfit v true is_in_flight place ready due = held v is_in_flight
     unfit v false inside place ready due =
-        unfit-past past m v (let least = chosen.least v (free-of m out v ready inside) due in omega arith)
+        unfit-past past m v (let least = chosen.least v (free-of m in_flight v ready inside) due in omega arith)
 
--- who is chosen is picked rightly, where no record of anybody who is out fits
+-- who is chosen is picked rightly, where no record of anybody who is in flight fits
 pub chosen-picked :
-    (past : Option History) (m : Machine) (out : List Bool) (u : ℕ)
-    → ((v : ℕ) → is_out_of out v ≡ true → fits_next past m v ≡ false)
-    → IsChosen past m out u
+    (past : Option History) (m : Machine) (in_flight : List Bool) (u : ℕ)
+    → ((v : ℕ) → is_in_flight_of in_flight v ≡ true → fits_next past m v ≡ false)
+    → IsChosen past m in_flight u
     → is_picked_on past m u (hart_of m u).number ≡ true
 unfolding is_picked_on
-chosen-picked past m out u held chosen =
+chosen-picked past m in_flight u held chosen =
     let number : eqb (hart_of m u).number (hart_of m u).number ≡ true =
     eq-eqb (hart_of m u).number (hart_of m u).number refl in
     rw (
-      free-is_ready m out u chosen.free,
+      free-is_ready m in_flight u chosen.free,
       number,
-      right-due past m out u chosen,
-      right-fit past m out u
+      right-due past m in_flight u chosen,
+      right-fit past m in_flight u
           (is_some (found past u (hart_of m u).number)) held chosen refl,
     ) refl
 
@@ -173,7 +173,7 @@ guided-picked setup past i e valid below is =
     let long = marked-length past (first setup) (one_worker setup past) in
     let thread : e.thread ≡ get_or (one_worker setup past) i 0 =
     marked-at past (first setup) (one_worker setup past) i 0 e (omega arith) is in
-    let chosen : choice_by past (scratch setup (take i (one_worker setup past))) nobody_out ≡ Some e.thread =
+    let chosen : choice_by past (scratch setup (take i (one_worker setup past))) none_in_flight ≡ Some e.thread =
     chosen-at past (first setup) (one_worker setup past) i 0
     (guided-chosen past setup.limit (first setup) (IsWhole-first setup valid)) (omega arith)
     ∙ ap (λ (t : ℕ). Some t) (sym thread) in
@@ -183,9 +183,9 @@ guided-picked setup past i e valid below is =
       rightly =
           subst (λ (m : Machine). is_picked_on past m e.thread (hart_of m e.thread).number ≡ true)
           (sym (after-marked setup past (one_worker setup past) i))
-          (chosen-picked past (scratch setup (take i (one_worker setup past))) nobody_out e.thread
-          (λ v is_out. absurd (let none = nobody_out-none v in cc))
-          (choice_by-chosen past (scratch setup (take i (one_worker setup past))) nobody_out e.thread chosen));
+          (chosen-picked past (scratch setup (take i (one_worker setup past))) none_in_flight e.thread
+          (λ v is_in_flight. absurd (let none = none_in_flight-none v in cc))
+          (choice_by-chosen past (scratch setup (take i (one_worker setup past))) none_in_flight e.thread chosen));
     }
 
 lone-picked :

@@ -5,7 +5,7 @@ use Rattle.std.specs.List.{range_with_len}
 use Rattle.record_spec.specs.Record.{Record}
 use Rattle.machine_spec.specs.declared.states.End.{End}
 use Rattle.machine_spec.specs.Machine.{Machine, hart_of, is_ready}
-use Rattle.machine_spec.specs.Step.{step, lay, fits, can_step}
+use Rattle.machine_spec.specs.Step.{step, apply, fits, can_step}
 use Rattle.machine_spec.specs.Schedule.{record_of}
 use Rattle.machine_spec.specs.Setup.{Setup, first, scratch, records}
 use Rattle.machine_spec.specs.Choice.{chosen_first}
@@ -13,16 +13,16 @@ use Rattle.machine_spec.specs.Whole.{IsWhole}
 use Rattle.machine_spec.proofs.Harts.{ready-below}
 use Rattle.history_spec.specs.History.{History, IsSound}
 use Rattle.history_spec.proofs.Scratch.{scratch-frame, scratch-more, records-more}
-use Rattle.history_spec.proofs.Truth.{reuse-record, reuse-lay}
+use Rattle.history_spec.proofs.Truth.{reuse-record, reuse-apply}
 use Rattle.report_spec.specs.declared.Entry.{Entry}
 use Rattle.report_spec.specs.Report.{threads_of}
 use Rattle.round_spec.specs.declared.events.Pick.TheVariants as pick
 use Rattle.round_spec.specs.Marks.{record_for, is_fitting, fits_next, marked_from, marked}
-use Rattle.round_spec.specs.Rounds.{RoundState, nobody_out, nothing_taken, happens}
+use Rattle.round_spec.specs.Rounds.{RoundState, none_in_flight, nothing_taken, happens}
 use Rattle.round_spec.specs.Choice.{choice_by, pick_of}
 use Rattle.round_spec.specs.Alone.{guided_from, after_pick}
 use Rattle.round_spec.proofs.Fits.{marked-more}
-use Rattle.round_spec.proofs.Happening.{nobody_out-none, nothing_taken-none, nothing_taken-length}
+use Rattle.round_spec.proofs.Happening.{none_in_flight-none, nothing_taken-none, nothing_taken-length}
 use Rattle.round_spec.proofs.BySchedule.{set-back, picked-more}
 use Rattle.worker_spec.specs.OneWorker.{made_by}
 use Rattle.worker_spec.proofs.Lists.{get-raised}
@@ -48,7 +48,7 @@ lone_state setup past m schedule rs picked =
       schedule = schedule;
       records = rs;
       picked = picked;
-      out = nobody_out;
+      in_flight = none_in_flight;
       taken_at = nothing_taken;
       discarded = 0;
       stopped = false;
@@ -78,18 +78,18 @@ pub after-reuse :
     → is_some m.ending ≡ false → is_ready (hart_of m t).status ≡ true
     → record_for past m t ≡ Some r → fits m r ≡ true
     → after_pick (lone_state setup past m schedule rs picked) (pick.Reuse t)
-    ≡ lone_state setup past (lay m r) (schedule ++ record { thread = t; reused = true } ∷ []) (rs ++ r ∷ [])
+    ≡ lone_state setup past (apply m r) (schedule ++ record { thread = t; reused = true } ∷ []) (rs ++ r ∷ [])
     (picked ++ length schedule ∷ [])
 unfolding happens
 after-reuse setup past m schedule rs picked t r none ready there fit =
-    rw (none, ready, nobody_out-none t, there, fit) refl
+    rw (none, ready, none_in_flight-none t, there, fit) refl
 
-raised : (t : ℕ) → t < 32 → get_or (set nobody_out t true) t false ≡ true
-unfolding nobody_out
+raised : (t : ℕ) → t < 32 → get_or (set none_in_flight t true) t false ≡ true
+unfolding none_in_flight
 raised t below = get-raised 32 t below
 
-lowered : (t : ℕ) → set (set nobody_out t true) t false ≡ nobody_out
-lowered t = set-back nobody_out t true false (nobody_out-none t)
+lowered : (t : ℕ) → set (set none_in_flight t true) t false ≡ none_in_flight
+lowered t = set-back none_in_flight t true false (none_in_flight-none t)
 
 -- so are lengths
 noted : (t n : ℕ) → t < 32 → get_or (set nothing_taken t n) t 0 ≡ n
@@ -112,7 +112,7 @@ after-run setup past m schedule rs picked t none ready below unfit =
     rw (
       none,
       ready,
-      nobody_out-none t,
+      none_in_flight-none t,
       unfit,
       raised t below,
       lowered t,
@@ -131,7 +131,7 @@ pick-over setup past m schedule rs picked is = rw is refl
 pub pick-chosen :
     (setup : Setup) (past : Option History) (m : Machine) (schedule : List Entry) (rs : List Record) (picked : List ℕ)
     (t : ℕ)
-    → is_some m.ending ≡ false → choice_by past m nobody_out ≡ Some t
+    → is_some m.ending ≡ false → choice_by past m none_in_flight ≡ Some t
     → pick_of (lone_state setup past m schedule rs picked) ≡ cond (fits_next past m t) (pick.Reuse t) (pick.Run t)
 unfolding pick_of
 pick-chosen setup past m schedule rs picked t none chosen = rw (none, chosen) refl
@@ -147,9 +147,9 @@ below-32 m t whole ready =
     omega arith
 
 chosen-ready :
-    (past : Option History) (m : Machine) (t : ℕ) → choice_by past m nobody_out ≡ Some t
+    (past : Option History) (m : Machine) (t : ℕ) → choice_by past m none_in_flight ≡ Some t
     → is_ready (hart_of m t).status ≡ true
-chosen-ready past m t chosen = free-is_ready m nobody_out t (choice_by-chosen past m nobody_out t chosen).free
+chosen-ready past m t chosen = free-is_ready m none_in_flight t (choice_by-chosen past m none_in_flight t chosen).free
 
 -- to follow the choice of a thread makes its step, by its record where that fits
 after-chosen :
@@ -167,7 +167,7 @@ after-chosen setup past m schedule rs picked t (Some r) true sound whole frame n
     after-reuse setup past m schedule rs picked t r (running m none) ready there fit
     ∙ ap (λ (n : Machine). lone_state setup past n (schedule ++ record { thread = t; reused = true } ∷ [])
     (rs ++ r ∷ []) (picked ++ length schedule ∷ []))
-    (reuse-lay setup past m t (hart_of m t).number r sound whole frame there fit)
+    (reuse-apply setup past m t (hart_of m t).number r sound whole frame there fit)
     ∙ ap (λ (x : Record). lone_state setup past (step m t) (schedule ++ record { thread = t; reused = true } ∷ [])
     (rs ++ x ∷ []) (picked ++ length schedule ∷ []))
     (reuse-record setup past m t (hart_of m t).number r sound whole frame there fit)
@@ -179,7 +179,7 @@ pub after-made :
     (setup : Setup) (past : Option History) (ts : List ℕ) (t : ℕ)
     → IsSound past setup → IsWhole (scratch setup ts)
     → (scratch setup ts).ending ≡ None
-    → choice_by past (scratch setup ts) nobody_out ≡ Some t
+    → choice_by past (scratch setup ts) none_in_flight ≡ Some t
     → after_pick (made_by setup past ts) (pick_of (made_by setup past ts)) ≡ made_by setup past (ts ++ t ∷ [])
 after-made setup past ts t sound whole none chosen =
     ap (after_pick (made_by setup past ts))
@@ -208,25 +208,25 @@ pub guided-over :
     → guided_from past n m ≡ []
 guided-over past zero m e is = refl
 guided-over past (suc n) m e is =
-    ap (λ (o : Option End). chosen_first o (choice_by past m nobody_out) (λ t. guided_from past n (step m t))) is
+    ap (λ (o : Option End). chosen_first o (choice_by past m none_in_flight) (λ t. guided_from past n (step m t))) is
 
 pub guided-next :
     (past : Option History) (n : ℕ) (m : Machine) (t : ℕ)
-    → m.ending ≡ None → choice_by past m nobody_out ≡ Some t
+    → m.ending ≡ None → choice_by past m none_in_flight ≡ Some t
     → guided_from past (suc n) m ≡ t ∷ guided_from past n (step m t)
 guided-next past n m t none chosen =
-    ap (λ (o : Option End). chosen_first o (choice_by past m nobody_out) (λ u. guided_from past n (step m u))) none
+    ap (λ (o : Option End). chosen_first o (choice_by past m none_in_flight) (λ u. guided_from past n (step m u))) none
     ∙ ap (λ (o : Option ℕ). chosen_first None o (λ u. guided_from past n (step m u))) chosen
 
 -- how things stand after a permitted schedule: at an end, or before the step of the chosen thread
 pub data Stands (past : Option History) (m : Machine) : Type 0 where
   Over : (e : End) → m.ending ≡ Some e → Stands past m
-  Goes : (t : ℕ) → m.ending ≡ None → choice_by past m nobody_out ≡ Some t → can_step m t ≡ true → Stands past m
+  Goes : (t : ℕ) → m.ending ≡ None → choice_by past m none_in_flight ≡ Some t → can_step m t ≡ true → Stands past m
 
 pub stands : (past : Option History) (m : Machine) → IsWhole m → Stands past m
-stands past m whole = by m.ending (choice_by past m nobody_out) refl refl
+stands past m whole = by m.ending (choice_by past m none_in_flight) refl refl
   where
-    by : (e : Option End) (o : Option ℕ) → m.ending ≡ e → choice_by past m nobody_out ≡ o → Stands past m
+    by : (e : Option End) (o : Option ℕ) → m.ending ≡ e → choice_by past m none_in_flight ≡ o → Stands past m
     by (Some e) o is chosen = Over e is
     by None None is chosen =
         absurd (let some = choice_by-some past m ∙ whole.some_ready is in let impossible = rw chosen at some in cc)

@@ -13,7 +13,7 @@ use Rattle.machine_spec.specs.Whole.{IsWhole}
 use Rattle.machine_spec.proofs.Steps.{can_step-ready}
 use Rattle.history_spec.specs.History.{History, IsHonest, schedule_of}
 use Rattle.history_spec.proofs.Scratch.{scratch-more}
-use Rattle.history_spec.proofs.Truth.{record-fits, record-lay}
+use Rattle.history_spec.proofs.Truth.{record-fits, record-apply}
 use Rattle.report_spec.specs.declared.Entry.{Entry}
 use Rattle.report_spec.specs.Report.{threads_of, instructions_from}
 use Rattle.round_spec.specs.declared.events.Event.{Event}
@@ -21,7 +21,7 @@ use Rattle.round_spec.specs.declared.events.Event.TheVariants.{Take, Reuse, Comm
 use Rattle.round_spec.specs.declared.events.Pick.{Pick}
 use Rattle.round_spec.specs.declared.events.Pick.TheVariants as pick
 use Rattle.round_spec.specs.Marks.{record_for, fits_next}
-use Rattle.round_spec.specs.Rounds.{RoundState, opening, is_over, is_out, is_out_of, reused_by, happens}
+use Rattle.round_spec.specs.Rounds.{RoundState, opening, is_finished, is_in_flight, is_in_flight_of, reused_by, happens}
 use Rattle.round_spec.specs.Due.{place_in, is_due}
 use Rattle.round_spec.specs.Choice.{choice_by, pick_of}
 use Rattle.round_spec.specs.Alone.{begun}
@@ -29,7 +29,7 @@ use Rattle.round_spec.specs.Instructions.{executed_instructions}
 use Rattle.round_spec.specs.Unedited.{is_all_reused, all_reused_of, OnlyReuses}
 use Rattle.round_spec.proofs.Conditions.{happens-commit_not, happens-give_back_not, happens-stop}
 use Rattle.round_spec.proofs.Fits.{threads-more}
-use Rattle.round_spec.proofs.Happening.{nobody_out-none}
+use Rattle.round_spec.proofs.Happening.{none_in_flight-none}
 use Rattle.worker_spec.specs.Replaying.{IsReplaying, IsNextStep, goes_on_by}
 use Rattle.worker_spec.proofs.Following.{IsNext, honest-next, honest-whole, honest-end, next-place, other-place, next-due, next-found, next-fits, next-chosen, can_step-none}
 use Rattle.worker_spec.proofs.Unedited.{reused-all, reused-instructions, reused-executed, unedited-begun}
@@ -116,37 +116,37 @@ where-it-stands h w honest replays = by (drop (length w.schedule) (schedule_of h
 
 -- what is picked
 
-pick-over : (w : RoundState) → is_over w ≡ true → pick_of w ≡ pick.Over
+pick-over : (w : RoundState) → is_finished w ≡ true → pick_of w ≡ pick.Over
 unfolding pick_of
 pick-over w over = rw over refl
 
 pick-reuse :
     (w : RoundState) (t : ℕ)
-    → is_over w ≡ false → choice_by w.past w.machine w.out ≡ Some t → fits_next w.past w.machine t ≡ true
+    → is_finished w ≡ false → choice_by w.past w.machine w.in_flight ≡ Some t → fits_next w.past w.machine t ≡ true
     → pick_of w ≡ pick.Reuse t
 unfolding pick_of
 pick-reuse w t going chosen fit = rw (going, chosen, fit) refl
 
 reuse-happens :
     (w : RoundState) (t : ℕ) (r : Record)
-    → is_over w ≡ false → is_ready (hart_of w.machine t).status ≡ true → is_out w t ≡ false
+    → is_finished w ≡ false → is_ready (hart_of w.machine t).status ≡ true → is_in_flight w t ≡ false
     → record_for w.past w.machine t ≡ Some r → fits w.machine r ≡ true
     → happens w (Reuse t) ≡ reused_by w t (Some r)
 unfolding happens
 reuse-happens w t r going ready inside there fit = rw (going, ready, inside, there, fit) refl
 
-replay-out : (h : History) (w : RoundState) (t : ℕ) → IsReplaying h w → is_out w t ≡ false
-replay-out h w t replays = ap (λ (out : List Bool). is_out_of out t) replays.out ∙ nobody_out-none t
+replay-in_flight : (h : History) (w : RoundState) (t : ℕ) → IsReplaying h w → is_in_flight w t ≡ false
+replay-in_flight h w t replays = ap (λ (in_flight : List Bool). is_in_flight_of in_flight t) replays.in_flight ∙ none_in_flight-none t
 
 replay-pick :
     (h : History) (w : RoundState) (t : ℕ) (ys : List ℕ)
-    → IsReplaying h w → is_over w ≡ false → IsWhole w.machine
+    → IsReplaying h w → is_finished w ≡ false → IsWhole w.machine
     → IsNext (Some h) w.machine (records h.setup (threads_of w.schedule)) t (records_from (step w.machine t) ys)
     → pick_of w ≡ pick.Reuse t
 replay-pick h w t ys replays going whole next =
     pick-reuse w t going
-    (ap (λ (past : Option History). choice_by past w.machine w.out) replays.past
-    ∙ ap (choice_by (Some h) w.machine) replays.out
+    (ap (λ (past : Option History). choice_by past w.machine w.in_flight) replays.past
+    ∙ ap (choice_by (Some h) w.machine) replays.in_flight
     ∙ next-chosen (Some h) w.machine (records h.setup (threads_of w.schedule)) t (records_from (step w.machine t) ys)
     whole next)
     (ap (λ (past : Option History). fits_next past w.machine t) replays.past
@@ -167,7 +167,7 @@ replayed-more h w t ys replays split whole next =
       setup = replays.setup;
       past = replays.past;
       machine =
-          record-lay w.machine t whole next.can
+          record-apply w.machine t whole next.can
           ∙ ap (λ (m : Machine). step m t) replays.machine
           ∙ sym (scratch-more (first h.setup) (threads_of w.schedule) t)
           ∙ ap (scratch h.setup) (sym (threads-more w.schedule (reused_of t)));
@@ -185,7 +185,7 @@ replayed-more h w t ys replays split whole next =
           let same = length-records (first h.setup) (threads_of w.schedule) in
           let threads = length-threads w.schedule in
           omega arith);
-      out = replays.out;
+      in_flight = replays.in_flight;
       discarded = replays.discarded;
     }
   where
@@ -214,7 +214,7 @@ reuse-same p t u is goes = let same = rw is at goes in eqb-true t u same
 
 take-never :
     (h : History) (w : RoundState) (u : ℕ) (over : Bool)
-    → IsReplaying h w → Replays h w → is_over w ≡ over → goes_on_by (pick_of w) (Take u) ≡ true → ⊥
+    → IsReplaying h w → Replays h w → is_finished w ≡ over → goes_on_by (pick_of w) (Take u) ≡ true → ⊥
 take-never h w u true replays place is goes = over-takes_nothing (pick_of w) u (pick-over w is) goes
 take-never h w u false replays (Done split ended) is goes = let over = rw ended at is in cc
 take-never h w u false replays (Next t ys split whole next) is goes =
@@ -222,7 +222,7 @@ take-never h w u false replays (Next t ys split whole next) is goes =
 
 reuse-replays :
     (h : History) (w : RoundState) (u : ℕ) (over : Bool)
-    → IsReplaying h w → Replays h w → is_over w ≡ over → goes_on_by (pick_of w) (Reuse u) ≡ true
+    → IsReplaying h w → Replays h w → is_finished w ≡ over → goes_on_by (pick_of w) (Reuse u) ≡ true
     → IsReplaying h (happens w (Reuse u))
 reuse-replays h w u true replays place is goes = absurd (over-reuses_nothing (pick_of w) u (pick-over w is) goes)
 reuse-replays h w u false replays (Done split ended) is goes = absurd (let over = rw ended at is in cc)
@@ -230,7 +230,7 @@ reuse-replays h w u false replays (Next t ys split whole next) is goes =
     subst (λ (v : ℕ). IsReplaying h (happens w (Reuse v)))
     (reuse-same (pick_of w) t u (replay-pick h w t ys replays is whole next) goes)
     (subst (IsReplaying h)
-    (sym (reuse-happens w t (record_of w.machine t) is (can_step-ready w.machine t next.can) (replay-out h w t replays)
+    (sym (reuse-happens w t (record_of w.machine t) is (can_step-ready w.machine t next.can) (replay-in_flight h w t replays)
     (ap (λ (past : Option History). record_for past w.machine t) replays.past
     ∙ next-found (Some h) w.machine (records h.setup (threads_of w.schedule)) t (records_from (step w.machine t) ys)
     next)
@@ -240,19 +240,19 @@ reuse-replays h w u false replays (Next t ys split whole next) is goes =
 -- the round replays its history from its start on, as long as it goes on by what is picked
 pub replays-start : (h : History) → IsReplaying h (opening h.setup (Some h))
 replays-start h =
-    record { setup = refl; past = refl; machine = refl; schedule = refl; records = refl; out = refl; discarded = refl }
+    record { setup = refl; past = refl; machine = refl; schedule = refl; records = refl; in_flight = refl; discarded = refl }
 
 pub replays-on :
     (h : History) (w : RoundState) (e : Event) → IsHonest h → IsReplaying h w → goes_on_by (pick_of w) e ≡ true
     → IsReplaying h (happens w e)
 replays-on h w (Take u) honest replays goes =
-    absurd (take-never h w u (is_over w) replays (where-it-stands h w honest replays) refl goes)
+    absurd (take-never h w u (is_finished w) replays (where-it-stands h w honest replays) refl goes)
 replays-on h w (Reuse u) honest replays goes =
-    reuse-replays h w u (is_over w) replays (where-it-stands h w honest replays) refl goes
+    reuse-replays h w u (is_finished w) replays (where-it-stands h w honest replays) refl goes
 replays-on h w (Commit u) honest replays goes =
-    subst (IsReplaying h) (sym (happens-commit_not w u (replay-out h w u replays))) replays
+    subst (IsReplaying h) (sym (happens-commit_not w u (replay-in_flight h w u replays))) replays
 replays-on h w (GiveBack u) honest replays goes =
-    subst (IsReplaying h) (sym (happens-give_back_not w u (replay-out h w u replays))) replays
+    subst (IsReplaying h) (sym (happens-give_back_not w u (replay-in_flight h w u replays))) replays
 replays-on h w Stop honest replays goes =
     subst (IsReplaying h) (sym (happens-stop w))
     (record {
@@ -261,14 +261,14 @@ replays-on h w Stop honest replays goes =
       machine = replays.machine;
       schedule = replays.schedule;
       records = replays.records;
-      out = replays.out;
+      in_flight = replays.in_flight;
       discarded = replays.discarded;
     })
 
 -- what comes next is due, comes first, and is picked
 next-step :
     (h : History) (w : RoundState) (t : ℕ) (ys : List ℕ)
-    → IsReplaying h w → is_over w ≡ false → IsWhole w.machine
+    → IsReplaying h w → is_finished w ≡ false → IsWhole w.machine
     → IsNext (Some h) w.machine (records h.setup (threads_of w.schedule)) t (records_from (step w.machine t) ys)
     → IsNextStep w t
 next-step h w t ys replays going whole next =
@@ -290,7 +290,7 @@ next-step h w t ys replays going whole next =
     }
 
 pub replays-next :
-    (h : History) (w : RoundState) → IsHonest h → IsReplaying h w → is_over w ≡ false
+    (h : History) (w : RoundState) → IsHonest h → IsReplaying h w → is_finished w ≡ false
     → (t : ℕ) × IsNextStep w t
 replays-next h w honest replays going = by (where-it-stands h w honest replays)
   where

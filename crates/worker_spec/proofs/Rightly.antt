@@ -11,19 +11,19 @@ use Rattle.machine_spec.specs.Setup.{Setup, scratch}
 use Rattle.history_spec.specs.History.{History, CanGoBy}
 use Rattle.history_spec.proofs.Scratch.{and-left}
 use Rattle.history_spec.proofs.Truth.{past-of}
-use Rattle.history_spec.proofs.Numbers.{one_for, step-number, lay-number}
+use Rattle.history_spec.proofs.Numbers.{one_for, step-number, apply-number}
 use Rattle.report_spec.specs.declared.Entry.{Entry}
 use Rattle.report_spec.specs.Report.{threads_of}
 use Rattle.round_spec.specs.declared.events.Event.{Event}
 use Rattle.round_spec.specs.declared.events.Event.TheVariants.{Take, Reuse, Commit, GiveBack, Stop}
 use Rattle.round_spec.specs.declared.events.Pick.TheVariants as pick
 use Rattle.round_spec.specs.Marks.{record_for, fits_next}
-use Rattle.round_spec.specs.Rounds.{RoundState, opening, is_over, is_out, can_begin, can_take, can_reuse, taken, taken_when, reused_by, committed, given_back, happens}
+use Rattle.round_spec.specs.Rounds.{RoundState, opening, is_finished, is_in_flight, can_begin, can_take, can_reuse, taken, taken_when, reused_by, committed, given_back, happens}
 use Rattle.round_spec.specs.Choice.{choice_by, with_choice, pick_of}
 use Rattle.round_spec.specs.Keeping.{IsFromScratch, IsInOrder}
-use Rattle.round_spec.specs.Picking.{is_picked_on, machine_after, IsPicked, ArePicked, IsOutRightly, IsPickedSoFar}
-use Rattle.round_spec.proofs.BySchedule.{out-below}
-use Rattle.round_spec.proofs.Happening.{CanBegin, can_begin-parts, nobody_out-none, still_out}
+use Rattle.round_spec.specs.Picking.{is_picked_on, machine_after, IsPicked, ArePicked, IsInFlightRightly, IsPickedSoFar}
+use Rattle.round_spec.proofs.BySchedule.{in_flight-below}
+use Rattle.round_spec.proofs.Happening.{CanBegin, can_begin-parts, none_in_flight-none, still_in_flight}
 use Rattle.worker_spec.specs.Replaying.{goes_on_by}
 use Rattle.worker_spec.proofs.Choosing.{choice_by-chosen}
 use Rattle.worker_spec.proofs.Picked.{chosen-picked}
@@ -31,46 +31,46 @@ use Rattle.worker_spec.proofs.Picked.{chosen-picked}
 -- what is begun where it was picked was chosen
 
 take-chosen :
-    (w : RoundState) (u : ℕ) → goes_on_by (pick_of w) (Take u) ≡ true → choice_by w.past w.machine w.out ≡ Some u
+    (w : RoundState) (u : ℕ) → goes_on_by (pick_of w) (Take u) ≡ true → choice_by w.past w.machine w.in_flight ≡ Some u
 unfolding pick_of
-take-chosen w u goes = by (is_over w) (choice_by w.past w.machine w.out) refl goes
+take-chosen w u goes = by (is_finished w) (choice_by w.past w.machine w.in_flight) refl goes
   where
     run : (t : ℕ) (b : Bool) → goes_on_by (cond b (pick.Reuse t) (pick.Run t)) (Take u) ≡ true → t ≡ u
     run t true goes = cc
     run t false goes = eqb-true t u goes
 
     by :
-        (over : Bool) (o : Option ℕ) → choice_by w.past w.machine w.out ≡ o
+        (over : Bool) (o : Option ℕ) → choice_by w.past w.machine w.in_flight ≡ o
         → goes_on_by (cond over pick.Over (with_choice w.past w.machine o)) (Take u) ≡ true
-        → choice_by w.past w.machine w.out ≡ Some u
+        → choice_by w.past w.machine w.in_flight ≡ Some u
     by true o is goes = cc
     by false None is goes = cc
     by false (Some t) is goes = is ∙ ap (λ (n : ℕ). Some n) (run t (fits_next w.past w.machine t) goes)
 
 reuse-chosen :
-    (w : RoundState) (u : ℕ) → goes_on_by (pick_of w) (Reuse u) ≡ true → choice_by w.past w.machine w.out ≡ Some u
+    (w : RoundState) (u : ℕ) → goes_on_by (pick_of w) (Reuse u) ≡ true → choice_by w.past w.machine w.in_flight ≡ Some u
 unfolding pick_of
-reuse-chosen w u goes = by (is_over w) (choice_by w.past w.machine w.out) refl goes
+reuse-chosen w u goes = by (is_finished w) (choice_by w.past w.machine w.in_flight) refl goes
   where
     reuse : (t : ℕ) (b : Bool) → goes_on_by (cond b (pick.Reuse t) (pick.Run t)) (Reuse u) ≡ true → t ≡ u
     reuse t true goes = eqb-true t u goes
     reuse t false goes = cc
 
     by :
-        (over : Bool) (o : Option ℕ) → choice_by w.past w.machine w.out ≡ o
+        (over : Bool) (o : Option ℕ) → choice_by w.past w.machine w.in_flight ≡ o
         → goes_on_by (cond over pick.Over (with_choice w.past w.machine o)) (Reuse u) ≡ true
-        → choice_by w.past w.machine w.out ≡ Some u
+        → choice_by w.past w.machine w.in_flight ≡ Some u
     by true o is goes = cc
     by false None is goes = cc
     by false (Some t) is goes = is ∙ ap (λ (n : ℕ). Some n) (reuse t (fits_next w.past w.machine t) goes)
 
 -- so it is picked rightly on the machine as it is
 rightly-now :
-    (w : RoundState) (u : ℕ) → IsInOrder w → choice_by w.past w.machine w.out ≡ Some u
+    (w : RoundState) (u : ℕ) → IsInOrder w → choice_by w.past w.machine w.in_flight ≡ Some u
     → is_picked_on w.past w.machine u (hart_of w.machine u).number ≡ true
 rightly-now w u kept chosen =
-    chosen-picked w.past w.machine w.out u (λ v raised. (kept.held v raised).unfit)
-    (choice_by-chosen w.past w.machine w.out u chosen)
+    chosen-picked w.past w.machine w.in_flight u (λ v raised. (kept.held v raised).unfit)
+    (choice_by-chosen w.past w.machine w.in_flight u chosen)
 
 -- the machine after so many entries
 
@@ -152,15 +152,15 @@ entries-more setup past schedule picked e n are last =
         (subst (λ (x : Entry). IsPicked setup past (schedule ++ e ∷ []) i x n) is
         (subst (λ (k : ℕ). IsPicked setup past (schedule ++ e ∷ []) k e n) place last))
 
--- who is out
+-- who is in flight
 
 -- at a schedule with an entry more and another number of the same value
-out-longer :
+in_flight-longer :
     (past : Option History) (setup : Setup) (schedule : List Entry) (e : Entry) (t n a b : ℕ)
     → n ≤ length schedule → b ≡ a
     → is_picked_on past (machine_after setup schedule n) t a ≡ true
     → is_picked_on past (machine_after setup (schedule ++ e ∷ []) n) t b ≡ true
-out-longer past setup schedule e t n a b low same is =
+in_flight-longer past setup schedule e t n a b low same is =
     ap (λ (m : Machine). is_picked_on past m t b) (after-more setup schedule e n low)
     ∙ ap (is_picked_on past (machine_after setup schedule n) t) same
     ∙ is
@@ -173,7 +173,7 @@ one-other t u other = let isnt : eqb u t ≡ false = ne_eqb u t (λ same. other 
 
 take-rightly :
     (w : RoundState) (u : ℕ) (b : Bool)
-    → IsFromScratch w → IsInOrder w → IsPickedSoFar w → choice_by w.past w.machine w.out ≡ Some u
+    → IsFromScratch w → IsInOrder w → IsPickedSoFar w → choice_by w.past w.machine w.in_flight ≡ Some u
     → IsPickedSoFar (cond b (taken w u) w)
 take-rightly w u false s kept so_far chosen = so_far
 take-rightly w u true s kept so_far chosen =
@@ -182,10 +182,10 @@ take-rightly w u true s kept so_far chosen =
       held = λ t raised. at t raised (cases_eq t u);
     }
   where
-    at : (t : ℕ) → is_out (taken w u) t ≡ true → (t ≡ u) ⊎ (t ≢ u) → IsOutRightly (taken w u) t
+    at : (t : ℕ) → is_in_flight (taken w u) t ≡ true → (t ≡ u) ⊎ (t ≢ u) → IsInFlightRightly (taken w u) t
     at t raised (inl same) =
-        let below = out-below (set w.out u true) t raised in
-        let flags = length-set w.out u true in
+        let below = in_flight-below (set w.in_flight u true) t raised in
+        let flags = length-set w.in_flight u true in
         let fits = kept.flags in
         let lengths = kept.lengths in
         let when_u : get_or (set w.taken_at u (length w.schedule)) u 0 ≡ length w.schedule =
@@ -202,7 +202,7 @@ take-rightly w u true s kept so_far chosen =
               ∙ rightly-now w u kept chosen;
         }
     at t raised (inr other) =
-        let before : IsOutRightly w t = so_far.held t (sym (get_or-set_other w.out u t true false other) ∙ raised) in
+        let before : IsInFlightRightly w t = so_far.held t (sym (get_or-set_other w.in_flight u t true false other) ∙ raised) in
         let when : taken_when (taken w u) t ≡ taken_when w t =
         get_or-set_other w.taken_at u t (length w.schedule) 0 other in
         let earlier = before.earlier in
@@ -217,7 +217,7 @@ take-rightly w u true s kept so_far chosen =
 reused-rightly :
     (w : RoundState) (u : ℕ) (o : Option Record)
     → record_for w.past w.machine u ≡ o → CanBegin w u
-    → IsFromScratch w → IsInOrder w → IsPickedSoFar w → choice_by w.past w.machine w.out ≡ Some u
+    → IsFromScratch w → IsInOrder w → IsPickedSoFar w → choice_by w.past w.machine w.in_flight ≡ Some u
     → IsPickedSoFar (reused_by w u o)
 reused-rightly w u None there can s kept so_far chosen = so_far
 reused-rightly w u (Some r) there can s kept so_far chosen =
@@ -243,25 +243,25 @@ reused-rightly w u (Some r) there can s kept so_far chosen =
     ready : is_ready (hart_of w.machine r.thread).status ≡ true
     ready = ap (λ (k : ℕ). is_ready (hart_of w.machine k).status) of.0 ∙ can.ready
 
-    at : (t : ℕ) → is_out w t ≡ true → IsOutRightly (reused_by w u (Some r)) t
+    at : (t : ℕ) → is_in_flight w t ≡ true → IsInFlightRightly (reused_by w u (Some r)) t
     at t raised =
-        let other : t ≢ u = λ same. let inside : is_out w t ≡ false = ap (is_out w) same ∙ can.inside in cc in
-        let before : IsOutRightly w t = so_far.held t raised in
+        let other : t ≢ u = λ same. let inside : is_in_flight w t ≡ false = ap (is_in_flight w) same ∙ can.inside in cc in
+        let before : IsInFlightRightly w t = so_far.held t raised in
         let earlier = before.earlier in
         let more = length-append w.schedule (e ∷ []) in
         let none : one_for t r.thread ≡ 0 = ap (one_for t) of.0 ∙ one-other t u other in
-        let number = lay-number w.machine r t ready in
+        let number = apply-number w.machine r t ready in
         record {
           earlier = omega arith;
           rightly =
-              out-longer w.past w.setup w.schedule e t (taken_when w t) (hart_of w.machine t).number _ earlier
+              in_flight-longer w.past w.setup w.schedule e t (taken_when w t) (hart_of w.machine t).number _ earlier
               (omega arith) before.rightly;
         }
 
 reuse-rightly :
     (w : RoundState) (u : ℕ) (b : Bool)
     → can_reuse w u ≡ b
-    → IsFromScratch w → IsInOrder w → IsPickedSoFar w → choice_by w.past w.machine w.out ≡ Some u
+    → IsFromScratch w → IsInOrder w → IsPickedSoFar w → choice_by w.past w.machine w.in_flight ≡ Some u
     → IsPickedSoFar (cond b (reused_by w u (record_for w.past w.machine u)) w)
 reuse-rightly w u false is s kept so_far chosen = so_far
 reuse-rightly w u true is s kept so_far chosen =
@@ -272,10 +272,10 @@ given_back-rightly : (w : RoundState) (u : ℕ) → IsPickedSoFar w → IsPicked
 given_back-rightly w u so_far =
     record {
       entries = so_far.entries;
-      held = λ t raised. at t (still_out w.out u t raised).0 (so_far.held t (still_out w.out u t raised).1);
+      held = λ t raised. at t (still_in_flight w.in_flight u t raised).0 (so_far.held t (still_in_flight w.in_flight u t raised).1);
     }
   where
-    at : (t : ℕ) → t ≢ u → IsOutRightly w t → IsOutRightly (given_back w u) t
+    at : (t : ℕ) → t ≢ u → IsInFlightRightly w t → IsInFlightRightly (given_back w u) t
     at t other before =
         let when : taken_when (given_back w u) t ≡ taken_when w t = get_or-set_other w.taken_at u t 0 0 other in
         let earlier = before.earlier in
@@ -288,9 +288,9 @@ given_back-rightly w u so_far =
         }
 
 committed-rightly :
-    (w : RoundState) (u : ℕ) → is_out w u ≡ true
+    (w : RoundState) (u : ℕ) → is_in_flight w u ≡ true
     → IsFromScratch w → IsInOrder w → IsPickedSoFar w → IsPickedSoFar (committed w u)
-committed-rightly w u out s kept so_far =
+committed-rightly w u in_flight s kept so_far =
     record {
       entries =
           entries-more w.setup w.past w.schedule w.picked e (taken_when w u) so_far.entries
@@ -298,44 +298,44 @@ committed-rightly w u out s kept so_far =
             earlier = own.earlier;
             at_once = λ reused. cc;
             rightly =
-                out-longer w.past w.setup w.schedule e u (taken_when w u) (hart_of w.machine u).number _ own.earlier
+                in_flight-longer w.past w.setup w.schedule e u (taken_when w u) (hart_of w.machine u).number _ own.earlier
                 (ap (λ (m : Machine). (hart_of m u).number) (after-now w e s)) own.rightly;
           });
-      held = λ t raised. at t (still_out w.out u t raised).0 (so_far.held t (still_out w.out u t raised).1);
+      held = λ t raised. at t (still_in_flight w.in_flight u t raised).0 (so_far.held t (still_in_flight w.in_flight u t raised).1);
     }
   where
     e : Entry
     e = record { thread = u; reused = false }
 
-    own : IsOutRightly w u
-    own = so_far.held u out
+    own : IsInFlightRightly w u
+    own = so_far.held u in_flight
 
-    at : (t : ℕ) → t ≢ u → IsOutRightly w t → IsOutRightly (committed w u) t
+    at : (t : ℕ) → t ≢ u → IsInFlightRightly w t → IsInFlightRightly (committed w u) t
     at t other before =
         let when : taken_when (committed w u) t ≡ taken_when w t = get_or-set_other w.taken_at u t 0 0 other in
         let earlier = before.earlier in
         let more = length-append w.schedule (e ∷ []) in
         let none : one_for t u ≡ 0 = one-other t u other in
-        let number = step-number w.machine u t (kept.held u out).ready in
+        let number = step-number w.machine u t (kept.held u in_flight).ready in
         record {
           earlier = omega arith;
           rightly =
               ap (λ (k : ℕ). is_picked_on w.past (machine_after w.setup (w.schedule ++ e ∷ []) k) t
               (hart_of (committed w u).machine t).number) when
-              ∙ out-longer w.past w.setup w.schedule e t (taken_when w t) (hart_of w.machine t).number _ earlier
+              ∙ in_flight-longer w.past w.setup w.schedule e t (taken_when w t) (hart_of w.machine t).number _ earlier
               (omega arith) before.rightly;
         }
 
 commit-rightly :
-    (w : RoundState) (u : ℕ) (out over : Bool)
-    → is_out w u ≡ out → IsFromScratch w → IsInOrder w → IsPickedSoFar w
-    → IsPickedSoFar (cond out (cond over (given_back w u) (committed w u)) w)
-commit-rightly w u false over out s kept so_far = so_far
-commit-rightly w u true true out s kept so_far = given_back-rightly w u so_far
-commit-rightly w u true false out s kept so_far = committed-rightly w u out s kept so_far
+    (w : RoundState) (u : ℕ) (in_flight over : Bool)
+    → is_in_flight w u ≡ in_flight → IsFromScratch w → IsInOrder w → IsPickedSoFar w
+    → IsPickedSoFar (cond in_flight (cond over (given_back w u) (committed w u)) w)
+commit-rightly w u false over in_flight s kept so_far = so_far
+commit-rightly w u true true in_flight s kept so_far = given_back-rightly w u so_far
+commit-rightly w u true false in_flight s kept so_far = committed-rightly w u in_flight s kept so_far
 
 give_back-rightly :
-    (w : RoundState) (u : ℕ) (out : Bool) → IsPickedSoFar w → IsPickedSoFar (cond out (given_back w u) w)
+    (w : RoundState) (u : ℕ) (in_flight : Bool) → IsPickedSoFar w → IsPickedSoFar (cond in_flight (given_back w u) w)
 give_back-rightly w u true so_far = given_back-rightly w u so_far
 give_back-rightly w u false so_far = so_far
 
@@ -350,13 +350,13 @@ rightly-happens w (Take u) premise kept so_far goes =
 rightly-happens w (Reuse u) premise kept so_far goes =
     reuse-rightly w u (can_reuse w u) refl (kept.scratch premise.sound) kept so_far (reuse-chosen w u goes)
 rightly-happens w (Commit u) premise kept so_far goes =
-    commit-rightly w u (is_out w u) (is_over w) refl (kept.scratch premise.sound) kept so_far
-rightly-happens w (GiveBack u) premise kept so_far goes = give_back-rightly w u (is_out w u) so_far
+    commit-rightly w u (is_in_flight w u) (is_finished w) refl (kept.scratch premise.sound) kept so_far
+rightly-happens w (GiveBack u) premise kept so_far goes = give_back-rightly w u (is_in_flight w u) so_far
 rightly-happens w Stop premise kept so_far goes =
     record {
       entries = so_far.entries;
       held = λ t raised.
-          let before : IsOutRightly w t = so_far.held t raised in
+          let before : IsInFlightRightly w t = so_far.held t raised in
           record { earlier = before.earlier; rightly = before.rightly };
     }
 
@@ -368,5 +368,5 @@ rightly-opening setup past =
         each = refl;
         rightly = λ i e there. absurd (let within = slice_get_within [] i e there in omega arith);
       };
-      held = λ t raised. absurd (let none = nobody_out-none t in cc);
+      held = λ t raised. absurd (let none = none_in_flight-none t in cc);
     }

@@ -13,7 +13,7 @@ use Rattle.round_spec.specs.declared.events.Event.TheVariants.{Take, Reuse, Comm
 use Rattle.round_spec.specs.declared.events.Pick.{Pick}
 use Rattle.round_spec.specs.declared.events.Pick.TheVariants as pick
 use Rattle.round_spec.specs.Marks.{record_for, fits_next, marked}
-use Rattle.round_spec.specs.Rounds.{RoundState, opening, is_over, is_out, can_begin, can_take, can_reuse, taken, reused_by, happens, all_happen, history_of}
+use Rattle.round_spec.specs.Rounds.{RoundState, opening, is_finished, is_in_flight, can_begin, can_take, can_reuse, taken, reused_by, happens, all_happen, history_of}
 use Rattle.round_spec.specs.Schedules.{events_of, events_in, round_by, IsBySchedule}
 use Rattle.round_spec.specs.Choice.{pick_of}
 use Rattle.round_spec.specs.Alone.{after_pick, after_picks, lone_round}
@@ -34,7 +34,7 @@ use Rattle.worker_spec.proofs.Replay.{threads-reused, length-threads, replays-en
 
 -- the round of one worker
 
--- what a pick comes to where nobody is out: nothing, or one entry more
+-- what a pick comes to where nobody is in flight: nothing, or one entry more
 data Makes (w v : RoundState) : Type 0 where
   Nothing : v ≡ w → Makes w v
   Entry_more : (e : Entry) → v.schedule ≡ w.schedule ++ e ∷ [] → v ≡ all_happen w (events_of e) → Makes w v
@@ -59,7 +59,7 @@ run-makes : (w : RoundState) (t : ℕ) → IsInside w → Makes w (happens (happ
 run-makes w t inside = by (can_take w t) refl
   where
     raised :
-        (b : Bool) → can_take w t ≡ true → is_over w ≡ false → is_out (taken w t) t ≡ b
+        (b : Bool) → can_take w t ≡ true → is_finished w ≡ false → is_in_flight (taken w t) t ≡ b
         → Makes w (happens (happens w (Take t)) (Commit t))
     raised true can over is =
         Entry_more (record { thread = t; reused = false })
@@ -74,7 +74,7 @@ run-makes w t inside = by (can_take w t) refl
 
     by : (b : Bool) → can_take w t ≡ b → Makes w (happens (happens w (Take t)) (Commit t))
     by true is =
-        raised (is_out (taken w t) t) is
+        raised (is_in_flight (taken w t) t) is
         (inside-over w t inside (and-left (can_begin w t) (not (fits_next w.past w.machine t)) is)) refl
     by false is =
         Nothing
@@ -138,12 +138,12 @@ lone-reused h setup unedited =
 -- what workers make
 
 pub lone-made :
-    (workers : ℕ) (setup : Setup) (past : Option History) (shares : List ℕ)
+    (workers : ℕ) (setup : Setup) (past : Option History) (worker_steps : List ℕ)
     → IsSetup setup
-    → length shares ≡ workers
-    → sum shares ≡ length (lone_round setup past).schedule
-    → IsMadeBy workers setup past (lone_round setup past).schedule shares
-lone-made workers setup past shares valid each steps =
+    → length worker_steps ≡ workers
+    → sum worker_steps ≡ length (lone_round setup past).schedule
+    → IsMadeBy workers setup past (lone_round setup past).schedule worker_steps
+lone-made workers setup past worker_steps valid each steps =
     record {
       stands = ap (λ (w : RoundState). w.schedule) (lone-entries setup past);
       ended = entries-end setup past valid;
@@ -159,16 +159,16 @@ lone-made workers setup past shares valid each steps =
     }
 
 pub ended-made :
-    (workers : ℕ) (w : RoundState) (shares : List ℕ)
+    (workers : ℕ) (w : RoundState) (worker_steps : List ℕ)
     → 1 < workers
     → IsBySchedule w
     → is_some w.machine.ending ≡ true
-    → length shares ≡ workers
-    → sum shares ≡ length w.schedule
+    → length worker_steps ≡ workers
+    → sum worker_steps ≡ length w.schedule
     → ((h : History) → w.past ≡ Some h → IsUnedited h w.setup → IsReplaying h w)
     → (IsSound w.past w.setup → IsPickedSoFar w)
-    → IsMadeBy workers w.setup w.past w.schedule shares
-ended-made workers w shares many is ended each steps replays rightly =
+    → IsMadeBy workers w.setup w.past w.schedule worker_steps
+ended-made workers w worker_steps many is ended each steps replays rightly =
     record {
       stands = is.schedule;
       ended = ap (λ (m : Machine). is_some m.ending) is.machine ∙ ended;
@@ -194,17 +194,17 @@ by-parts w setup past m es rs picked inside is_setup is_past is_machine is_sched
     ∙ ap (λ (x : List Record). record w { setup = setup; past = past; machine = m; schedule = es; records = x })
     is_records
     ∙ ap (λ (x : List ℕ). record (lone_state setup past m es rs x) {
-      out = w.out;
+      in_flight = w.in_flight;
       taken_at = w.taken_at;
       discarded = w.discarded;
       stopped = w.stopped;
     }) is_picked
     ∙ ap (λ (x : List Bool). record (lone_state setup past m es rs picked) {
-      out = x;
+      in_flight = x;
       taken_at = w.taken_at;
       discarded = w.discarded;
       stopped = w.stopped;
-    }) inside.out
+    }) inside.in_flight
     ∙ ap (λ (x : List ℕ). record (lone_state setup past m es rs picked) {
       taken_at = x;
       discarded = w.discarded;
@@ -221,11 +221,11 @@ workers-scratch setup past entries premise =
     round-scratch setup past (events_in entries) premise.valid premise.sound
 
 pub workers-round :
-    (workers : ℕ) (setup : Setup) (past : Option History) (entries : List Entry) (shares : List ℕ)
+    (workers : ℕ) (setup : Setup) (past : Option History) (entries : List Entry) (worker_steps : List ℕ)
     → CanGoBy past setup
-    → IsMadeBy workers setup past entries shares
+    → IsMadeBy workers setup past entries worker_steps
     → round_by setup past entries ≡ made_by setup past (threads_of entries)
-workers-round workers setup past entries shares premise made =
+workers-round workers setup past entries worker_steps premise made =
     by-parts v setup past (scratch setup ts) (marked past setup ts) (records setup ts) (range_with_len 0 (length ts))
     (round_by-inside setup past entries) is_setup is_past
     (s.machine ∙ ap (λ (x : Setup). scratch x (threads_of v.schedule)) is_setup ∙ ap (scratch setup) threads)
@@ -256,75 +256,75 @@ workers-round workers setup past entries shares premise made =
     is_past = round-past setup past (events_in entries)
 
 pub workers-permitted :
-    (workers : ℕ) (setup : Setup) (past : Option History) (entries : List Entry) (shares : List ℕ)
+    (workers : ℕ) (setup : Setup) (past : Option History) (entries : List Entry) (worker_steps : List ℕ)
     → CanGoBy past setup
-    → IsMadeBy workers setup past entries shares
+    → IsMadeBy workers setup past entries worker_steps
     → is_permitted setup (threads_of entries) ≡ true
-workers-permitted workers setup past entries shares premise made =
+workers-permitted workers setup past entries worker_steps premise made =
     ap (λ (es : List Entry). is_permitted setup (threads_of es)) (sym made.stands)
     ∙ ap (λ (s : Setup). is_permitted s (threads_of (round_by setup past entries).schedule))
     (sym (round-setup setup past (events_in entries)))
     ∙ (workers-scratch setup past entries premise).permitted
 
 pub workers-complete :
-    (workers : ℕ) (setup : Setup) (past : Option History) (entries : List Entry) (shares : List ℕ)
+    (workers : ℕ) (setup : Setup) (past : Option History) (entries : List Entry) (worker_steps : List ℕ)
     → CanGoBy past setup
-    → IsMadeBy workers setup past entries shares
+    → IsMadeBy workers setup past entries worker_steps
     → is_complete setup (threads_of entries) ≡ true
-workers-complete workers setup past entries shares premise made =
+workers-complete workers setup past entries worker_steps premise made =
     ap (λ (w : RoundState). is_some w.machine.ending)
-    (sym (workers-round workers setup past entries shares premise made))
+    (sym (workers-round workers setup past entries worker_steps premise made))
     ∙ made.ended
 
 pub workers-marks :
-    (workers : ℕ) (setup : Setup) (past : Option History) (entries : List Entry) (shares : List ℕ)
+    (workers : ℕ) (setup : Setup) (past : Option History) (entries : List Entry) (worker_steps : List ℕ)
     → CanGoBy past setup
-    → IsMadeBy workers setup past entries shares
+    → IsMadeBy workers setup past entries worker_steps
     → entries ≡ marked past setup (threads_of entries)
-workers-marks workers setup past entries shares premise made =
+workers-marks workers setup past entries worker_steps premise made =
     sym made.stands
-    ∙ ap (λ (w : RoundState). w.schedule) (workers-round workers setup past entries shares premise made)
+    ∙ ap (λ (w : RoundState). w.schedule) (workers-round workers setup past entries worker_steps premise made)
 
 pub workers-honest :
-    (workers : ℕ) (setup : Setup) (past : Option History) (entries : List Entry) (shares : List ℕ)
+    (workers : ℕ) (setup : Setup) (past : Option History) (entries : List Entry) (worker_steps : List ℕ)
     → CanGoBy past setup
-    → IsMadeBy workers setup past entries shares
+    → IsMadeBy workers setup past entries worker_steps
     → IsHonest (history_of (round_by setup past entries))
-workers-honest workers setup past entries shares premise made =
+workers-honest workers setup past entries worker_steps premise made =
     round-honest setup past (events_in entries) premise.valid premise.sound made.ended
 
 pub workers-alone :
-    (setup : Setup) (past : Option History) (entries : List Entry) (shares : List ℕ)
-    → IsMadeBy 1 setup past entries shares
+    (setup : Setup) (past : Option History) (entries : List Entry) (worker_steps : List ℕ)
+    → IsMadeBy 1 setup past entries worker_steps
     → round_by setup past entries ≡ lone_round setup past
-workers-alone setup past entries shares made =
+workers-alone setup past entries worker_steps made =
     ap (round_by setup past) (made.alone refl) ∙ lone-entries setup past
 
 -- without an edit
 
 pub workers-threads :
-    (workers : ℕ) (h : History) (setup : Setup) (entries : List Entry) (shares : List ℕ)
+    (workers : ℕ) (h : History) (setup : Setup) (entries : List Entry) (worker_steps : List ℕ)
     → IsUnedited h setup
-    → IsMadeBy workers setup (Some h) entries shares
+    → IsMadeBy workers setup (Some h) entries worker_steps
     → threads_of entries ≡ schedule_of h
-workers-threads workers h setup entries shares unedited made =
+workers-threads workers h setup entries worker_steps unedited made =
     ap threads_of (made.unedited h refl unedited) ∙ threads-reused (schedule_of h)
 
 -- it is the round that one worker makes
 pub workers-unedited :
-    (workers : ℕ) (h : History) (setup : Setup) (entries : List Entry) (shares : List ℕ)
+    (workers : ℕ) (h : History) (setup : Setup) (entries : List Entry) (worker_steps : List ℕ)
     → IsUnedited h setup
-    → IsMadeBy workers setup (Some h) entries shares
+    → IsMadeBy workers setup (Some h) entries worker_steps
     → round_by setup (Some h) entries ≡ lone_round setup (Some h)
-workers-unedited workers h setup entries shares unedited made =
+workers-unedited workers h setup entries worker_steps unedited made =
     ap (round_by setup (Some h)) (made.unedited h refl unedited ∙ sym (lone-reused h setup unedited))
     ∙ lone-entries setup (Some h)
 
 pub workers-reuse :
-    (workers : ℕ) (h : History) (setup : Setup) (entries : List Entry) (shares : List ℕ)
+    (workers : ℕ) (h : History) (setup : Setup) (entries : List Entry) (worker_steps : List ℕ)
     → IsUnedited h setup
-    → IsMadeBy workers setup (Some h) entries shares
+    → IsMadeBy workers setup (Some h) entries worker_steps
     → OnlyReuses h (round_by setup (Some h) entries)
-workers-reuse workers h setup entries shares unedited made =
-    subst (OnlyReuses h) (sym (workers-unedited workers h setup entries shares unedited made))
+workers-reuse workers h setup entries worker_steps unedited made =
+    subst (OnlyReuses h) (sym (workers-unedited workers h setup entries worker_steps unedited made))
     (subst (λ (s : Setup). OnlyReuses h (lone_round s (Some h))) unedited.same (unedited-reuses h unedited.honest))

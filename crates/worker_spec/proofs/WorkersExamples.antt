@@ -45,43 +45,43 @@ reuses-again =
     workers-reuse 2 only_step shortest again-entries (length again-entries ∷ 0 ∷ []) unedited-only made-again
 
 -- A mark of reuse with nothing to go by doesn't stand.
-pub wrong-mark : (n : ℕ) (setup : Setup) (t : ℕ) (shares : List ℕ) → IsMadeBy n setup None (reuses t ∷ []) shares → ⊥
-wrong-mark n setup t shares made =
+pub wrong-mark : (n : ℕ) (setup : Setup) (t : ℕ) (worker_steps : List ℕ) → IsMadeBy n setup None (reuses t ∷ []) worker_steps → ⊥
+wrong-mark n setup t worker_steps made =
     let empty : [] ≡ reuses t ∷ [] = ap (λ (w : RoundState). w.schedule) (sym (by-nothing setup t)) ∙ made.stands in cc
 
 -- A round that nothing was made of has no end.
-pub no-end : (n : ℕ) (setup : Setup) (past : Option History) (shares : List ℕ) → IsMadeBy n setup past [] shares → ⊥
+pub no-end : (n : ℕ) (setup : Setup) (past : Option History) (worker_steps : List ℕ) → IsMadeBy n setup past [] worker_steps → ⊥
 unfolding first
-no-end n setup past shares made = let ended : false ≡ true = made.ended in cc
+no-end n setup past worker_steps made = let ended : false ≡ true = made.ended in cc
 
 not-both : (n : ℕ) → n ≡ 1 → n ≡ 2 → ⊥
 not-both n one two = omega arith
 
--- There is a share for each worker, and all steps are shared out, but no more.
+-- There is a number of steps for each worker, and all steps are shared out, but no more.
 pub wrong-share_count :
     (setup : Setup) (past : Option History) (entries : List Entry) → IsMadeBy 2 setup past entries (1 ∷ []) → ⊥
 wrong-share_count setup past entries made = not-both 1 refl made.each
 
-pub wrong-shares :
+pub wrong-worker_steps :
     (setup : Setup) (past : Option History) (e : Entry) → IsMadeBy 2 setup past (e ∷ []) (1 ∷ 1 ∷ []) → ⊥
-wrong-shares setup past e made = not-both 2 made.steps refl
+wrong-worker_steps setup past e made = not-both 2 made.steps refl
 
 -- One worker makes only what it picks.
 pub wrong-alone :
-    (setup : Setup) (past : Option History) (entries : List Entry) (shares : List ℕ)
+    (setup : Setup) (past : Option History) (entries : List Entry) (worker_steps : List ℕ)
     → length entries ≡ 3
     → length (lone_round setup past).schedule ≡ 2
-    → IsMadeBy 1 setup past entries shares
+    → IsMadeBy 1 setup past entries worker_steps
     → ⊥
-wrong-alone setup past entries shares three two made =
+wrong-alone setup past entries worker_steps three two made =
     let same = ap (λ (es : List Entry). length es) (made.alone refl) in omega arith
 
 -- Without an edit nothing is executed.
 pub executes-unedited :
-    (n : ℕ) (h : History) (setup : Setup) (t : ℕ) (entries : List Entry) (shares : List ℕ)
+    (n : ℕ) (h : History) (setup : Setup) (t : ℕ) (entries : List Entry) (worker_steps : List ℕ)
     → IsUnedited h setup
-    → IsMadeBy n setup (Some h) (executes t ∷ entries) shares
+    → IsMadeBy n setup (Some h) (executes t ∷ entries) worker_steps
     → ⊥
-executes-unedited n h setup t entries shares unedited made =
+executes-unedited n h setup t entries worker_steps unedited made =
     let all : false ≡ true =
     ap is_all_reused (made.unedited h refl unedited) ∙ reused-all (schedule_of h) in cc

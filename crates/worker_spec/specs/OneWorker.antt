@@ -9,12 +9,12 @@ use Rattle.history_spec.specs.History.{History}
 use Rattle.round_spec.specs.declared.events.Pick.{Pick}
 use Rattle.round_spec.specs.declared.events.Pick.TheVariants as pick
 use Rattle.round_spec.specs.Marks.{marked}
-use Rattle.round_spec.specs.Rounds.{RoundState, nobody_out, nothing_taken}
+use Rattle.round_spec.specs.Rounds.{RoundState, none_in_flight, nothing_taken}
 use Rattle.round_spec.specs.Choice.{pick_of}
 use Rattle.round_spec.specs.Alone.{after_pick}
 
--- The round whose steps were made under a schedule, where nobody is out, nothing was discarded and nobody stopped it:
--- its machine and its records are those from scratch, its marks are exact, and each thread was picked when its turn
+-- The round whose steps were made under a schedule, where nobody is in flight, nothing was discarded and nobody stopped
+-- it: its machine and its records are those from scratch, its marks are exact, and each thread was picked when its turn
 -- came.
 abbrev pub made_by : Setup → Option History → List ℕ → RoundState
 made_by setup past schedule =
@@ -25,7 +25,7 @@ made_by setup past schedule =
       schedule = marked past setup schedule;
       records = records setup schedule;
       picked = range_with_len 0 (length schedule);
-      out = nobody_out;
+      in_flight = none_in_flight;
       taken_at = nothing_taken;
       discarded = 0;
       stopped = false;

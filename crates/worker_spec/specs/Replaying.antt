@@ -7,20 +7,20 @@ use Rattle.round_spec.specs.declared.events.Event.{Event}
 use Rattle.round_spec.specs.declared.events.Event.TheVariants.{Take, Reuse, Commit, GiveBack, Stop}
 use Rattle.round_spec.specs.declared.events.Pick.{Pick}
 use Rattle.round_spec.specs.declared.events.Pick.TheVariants as pick
-use Rattle.round_spec.specs.Rounds.{RoundState, nobody_out}
+use Rattle.round_spec.specs.Rounds.{RoundState, none_in_flight}
 use Rattle.round_spec.specs.Due.{place_in, is_due}
 use Rattle.round_spec.specs.Choice.{pick_of}
 use Rattle.round_spec.specs.Unedited.{all_reused_of}
 
 -- A round of the history's own setup that has reused the history's first steps in order and done nothing else: its
--- records are the history's, nobody is out, and nothing was discarded.
+-- records are the history's, nobody is in flight, and nothing was discarded.
 pub record IsReplaying (h : History) (w : RoundState) : Type 0 where
   pub setup : w.setup ≡ h.setup
   pub past : w.past ≡ Some h
   pub machine : w.machine ≡ scratch h.setup (threads_of w.schedule)
   pub schedule : w.schedule ≡ take (length w.schedule) (all_reused_of h)
   pub records : w.records ≡ take (length w.schedule) h.records
-  pub out : w.out ≡ nobody_out
+  pub in_flight : w.in_flight ≡ none_in_flight
   pub discarded : w.discarded ≡ 0
 
 -- The step that a round which replays its history makes next: it is picked, to be reused; it is due; its place is after

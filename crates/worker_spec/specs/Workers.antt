@@ -9,15 +9,15 @@ use Rattle.round_spec.specs.Picking.{ArePicked}
 use Rattle.round_spec.specs.Unedited.{IsUnedited, all_reused_of}
 
 -- So many workers make a round by this schedule with marks, of which each of them makes so many steps: the schedule is
--- one that can be made, mark by mark, and comes to an end; there is a share for each worker, and the shares add up to
--- the number of steps; one worker makes the schedule that it picks; without an edit each step of the history is reused,
--- in the history's order; and by a sound history each entry was picked rightly.
+-- one that can be made, mark by mark, and comes to an end; there is a number of steps for each worker, and these
+-- numbers add up to the number of steps; one worker makes the schedule that it picks; without an edit each step of the
+-- history is reused, in the history's order; and by a sound history each entry was picked rightly.
 pub record IsMadeBy (workers : ℕ) (setup : Setup) (past : Option History) (entries : List Entry)
-    (shares : List ℕ) : Type 0 where
+    (worker_steps : List ℕ) : Type 0 where
   pub stands : (round_by setup past entries).schedule ≡ entries
   pub ended : is_some (round_by setup past entries).machine.ending ≡ true
-  pub each : length shares ≡ workers
-  pub steps : sum shares ≡ length entries
+  pub each : length worker_steps ≡ workers
+  pub steps : sum worker_steps ≡ length entries
   pub alone : workers ≡ 1 → entries ≡ (lone_round setup past).schedule
   pub unedited : (h : History) → past ≡ Some h → IsUnedited h setup → entries ≡ all_reused_of h
   pub picked : IsSound past setup → (points : List ℕ) × ArePicked setup past entries points

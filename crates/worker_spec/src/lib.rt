@@ -13,7 +13,7 @@ ghost use Rattle.report_spec.specs.declared.Entry.{Entry};
 ghost use Rattle.report_spec.specs.Report.{threads_of, instructions_from};
 ghost use Rattle.round_spec.specs.declared.events.Event.{Event};
 ghost use Rattle.round_spec.specs.declared.events.Pick.TheVariants as pick;
-ghost use Rattle.round_spec.specs.Rounds.{RoundState, opening, happens, is_over, round_after, history_of};
+ghost use Rattle.round_spec.specs.Rounds.{RoundState, opening, happens, is_finished, round_after, history_of};
 ghost use Rattle.round_spec.specs.Schedules.{IsBySchedule, round_by};
 ghost use Rattle.round_spec.specs.Choice.{pick_of};
 ghost use Rattle.round_spec.specs.Alone.{guided_from, one_worker, after_picks, lone_round};
@@ -52,7 +52,8 @@ pub fn one_worker_comes_to_an_end()
 pub fn one_worker_makes_its_schedule()
     ensures picks { (setup : Setup) (past : Option History) (n : ℕ)
         → CanGoBy past setup
-        → after_picks n (opening setup past) ≡ made_by setup past (guided_from past n (first setup)) }
+        → after_picks n (opening setup past)
+        ≡ made_by setup past (guided_from past n (first setup)) }
     ensures round { (setup : Setup) (past : Option History)
         → CanGoBy past setup
         → lone_round setup past ≡ made_by setup past (one_worker setup past) }
@@ -68,7 +69,8 @@ pub fn one_worker_makes_its_schedule()
 /// that events reach holds of its round, after each pick.
 pub fn one_worker_does_events()
     ensures { (setup : Setup) (past : Option History) (n : ℕ)
-        → (events : List Event) × (after_picks n (opening setup past) ≡ round_after setup past events) }
+        → (events : List Event)
+        × (after_picks n (opening setup past) ≡ round_after setup past events) }
 {}
 
 /// One worker makes its round entry by entry: it is the round that its schedule makes. So a round by that
@@ -76,65 +78,73 @@ pub fn one_worker_does_events()
 pub fn one_worker_makes_its_entries()
     ensures round { (setup : Setup) (past : Option History)
         → round_by setup past (lone_round setup past).schedule ≡ lone_round setup past }
-    ensures made { (workers : ℕ) (setup : Setup) (past : Option History) (shares : List ℕ)
+    ensures made { (workers : ℕ) (setup : Setup) (past : Option History) (worker_steps : List ℕ)
         → IsSetup setup
-        → length shares ≡ workers
-        → sum shares ≡ length (lone_round setup past).schedule
-        → IsMadeBy workers setup past (lone_round setup past).schedule shares }
+        → length worker_steps ≡ workers
+        → sum worker_steps ≡ length (lone_round setup past).schedule
+        → IsMadeBy workers setup past (lone_round setup past).schedule worker_steps }
 {}
 
 /// A round that has an end was made by the workers who share its steps, where it is where its schedule leads
 /// and was picked rightly and, without an edit, replays its history; of one worker more is owed.
 pub fn workers_make_what_comes_to_an_end()
-    ensures { (workers : ℕ) (w : RoundState) (shares : List ℕ)
+    ensures { (workers : ℕ) (w : RoundState) (worker_steps : List ℕ)
         → 1 < workers
         → IsBySchedule w
         → is_some w.machine.ending ≡ true
-        → length shares ≡ workers
-        → sum shares ≡ length w.schedule
+        → length worker_steps ≡ workers
+        → sum worker_steps ≡ length w.schedule
         → ((h : History) → w.past ≡ Some h → IsUnedited h w.setup → IsReplaying h w)
         → (IsSound w.past w.setup → IsPickedSoFar w)
-        → IsMadeBy workers w.setup w.past w.schedule shares }
+        → IsMadeBy workers w.setup w.past w.schedule worker_steps }
 {}
 
 /// A round that workers make by a sound history is the one that their schedule makes from scratch: the
 /// schedule is permitted and complete, machine and records are those from scratch, and the marks are exact.
 /// What it leaves is an honest history. One worker's round is the one that follows the choice.
 pub fn workers_make_rounds_from_scratch()
-    ensures round { (workers : ℕ) (setup : Setup) (past : Option History) (entries : List Entry) (shares : List ℕ)
+    ensures round { (workers : ℕ) (setup : Setup) (past : Option History) (entries : List Entry)
+        (worker_steps : List ℕ)
         → CanGoBy past setup
-        → IsMadeBy workers setup past entries shares
+        → IsMadeBy workers setup past entries worker_steps
         → round_by setup past entries ≡ made_by setup past (threads_of entries) }
-    ensures permitted { (workers : ℕ) (setup : Setup) (past : Option History) (entries : List Entry) (shares : List ℕ)
+    ensures permitted { (workers : ℕ) (setup : Setup) (past : Option History)
+        (entries : List Entry) (worker_steps : List ℕ)
         → CanGoBy past setup
-        → IsMadeBy workers setup past entries shares
+        → IsMadeBy workers setup past entries worker_steps
         → is_permitted setup (threads_of entries) ≡ true }
-    ensures complete { (workers : ℕ) (setup : Setup) (past : Option History) (entries : List Entry) (shares : List ℕ)
+    ensures complete { (workers : ℕ) (setup : Setup) (past : Option History) (entries : List Entry)
+        (worker_steps : List ℕ)
         → CanGoBy past setup
-        → IsMadeBy workers setup past entries shares
+        → IsMadeBy workers setup past entries worker_steps
         → is_complete setup (threads_of entries) ≡ true }
-    ensures marks { (workers : ℕ) (setup : Setup) (past : Option History) (entries : List Entry) (shares : List ℕ)
+    ensures marks { (workers : ℕ) (setup : Setup) (past : Option History) (entries : List Entry)
+        (worker_steps : List ℕ)
         → CanGoBy past setup
-        → IsMadeBy workers setup past entries shares
+        → IsMadeBy workers setup past entries worker_steps
         → entries ≡ marked past setup (threads_of entries) }
-    ensures honest { (workers : ℕ) (setup : Setup) (past : Option History) (entries : List Entry) (shares : List ℕ)
+    ensures honest { (workers : ℕ) (setup : Setup) (past : Option History) (entries : List Entry)
+        (worker_steps : List ℕ)
         → CanGoBy past setup
-        → IsMadeBy workers setup past entries shares
+        → IsMadeBy workers setup past entries worker_steps
         → IsHonest (history_of (round_by setup past entries)) }
-    ensures alone { (setup : Setup) (past : Option History) (entries : List Entry) (shares : List ℕ)
-        → IsMadeBy 1 setup past entries shares
+    ensures alone { (setup : Setup) (past : Option History) (entries : List Entry)
+        (worker_steps : List ℕ)
+        → IsMadeBy 1 setup past entries worker_steps
         → round_by setup past entries ≡ lone_round setup past }
 {}
 
 /// Without an edit the round that workers make is all reuse of the history, however many they are.
 pub fn workers_repeat_an_unedited_round()
-    ensures threads { (workers : ℕ) (h : History) (setup : Setup) (entries : List Entry) (shares : List ℕ)
+    ensures threads { (workers : ℕ) (h : History) (setup : Setup) (entries : List Entry)
+        (worker_steps : List ℕ)
         → IsUnedited h setup
-        → IsMadeBy workers setup (Some h) entries shares
+        → IsMadeBy workers setup (Some h) entries worker_steps
         → threads_of entries ≡ schedule_of h }
-    ensures reuses { (workers : ℕ) (h : History) (setup : Setup) (entries : List Entry) (shares : List ℕ)
+    ensures reuses { (workers : ℕ) (h : History) (setup : Setup) (entries : List Entry)
+        (worker_steps : List ℕ)
         → IsUnedited h setup
-        → IsMadeBy workers setup (Some h) entries shares
+        → IsMadeBy workers setup (Some h) entries worker_steps
         → OnlyReuses h (round_by setup (Some h) entries) }
 {}
 
@@ -145,7 +155,7 @@ pub fn one_worker_leaves_an_honest_history()
         → IsHonest (history_of (lone_round setup past)) }
 {}
 
-/// One worker never has to wait: with nobody out there is always something to do, or the round is over.
+/// One worker never has to wait: with nobody in flight there is always something to do, or the round is finished.
 /// By which history it goes doesn't matter.
 pub fn one_worker_never_waits()
     ensures { (setup : Setup) (past : Option History) (n : ℕ)
@@ -160,12 +170,13 @@ pub fn one_worker_picks_rightly()
         → ArePicked setup past (lone_round setup past).schedule (lone_round setup past).picked }
     ensures points { (setup : Setup) (past : Option History)
         → CanGoBy past setup
-        → (lone_round setup past).picked ≡ range_with_len 0 (length (lone_round setup past).schedule) }
+        → (lone_round setup past).picked
+        ≡ range_with_len 0 (length (lone_round setup past).schedule) }
 {}
 
 /// As long as a step is begun only where it was picked, all that a round by a sound history does is picked
 /// rightly, whatever else happens in between: its entries, each when the schedule was as long as is kept
-/// with it, and the steps that are out. So it is by any number of workers.
+/// with it, and the steps that are in flight. So it is by any number of workers.
 pub fn workers_pick_rightly()
     ensures start { (setup : Setup) (past : Option History)
         → CanGoBy past setup
@@ -212,7 +223,7 @@ pub fn no_edit_reuses_all()
 {}
 
 /// Without an edit the same holds by any number of workers, at each moment: as long as a step is begun
-/// only where it was picked, a round replays its history. Nobody is ever out; until it is over, the history's
+/// only where it was picked, a round replays its history. Nobody is ever in flight; until it is finished, the history's
 /// next step is due, comes first, and is picked to be reused; no instruction is executed; and at its end
 /// the round is all reuse.
 pub fn no_edit_replays_the_history()
@@ -227,7 +238,7 @@ pub fn no_edit_replays_the_history()
     ensures next { (h : History) (w : RoundState)
         → IsHonest h
         → IsReplaying h w
-        → is_over w ≡ false
+        → is_finished w ≡ false
         → (t : ℕ) × IsNextStep w t }
     ensures instructions { (h : History) (w : RoundState)
         → IsReplaying h w

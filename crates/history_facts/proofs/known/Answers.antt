@@ -6,8 +6,8 @@ use Rattle.machine_spec.specs.Setup.{IsSetup}
 use Rattle.machine_spec.specs.Machine.{Machine}
 use Rattle.order_spec.specs.Facts as order
 use Rattle.history_facts.specs.Outlining.{machine_at, IsOutlineOf}
-use Rattle.history_facts.proofs.Coming.{follows-laid, all-came}
-use Rattle.history_facts.proofs.Outlining.{machine-more, coherent-can, coherent-laid, coherent-last}
+use Rattle.history_facts.proofs.PendingFacts.{follows-applied, all-came}
+use Rattle.history_facts.proofs.Outlining.{machine-more, coherent-can, coherent-applied, coherent-last}
 use Rattle.history_facts.proofs.known.Goals as goal
 
 pub next-requires : goal.next-requires
@@ -16,10 +16,10 @@ next-requires c =
     let at : slice_get h.records c.loop-place.place ≡ Some c.deref.result.now =
     ap (λ rs. slice_get rs c.loop-place.place) (sym c.records-records.ensures.records) ∙ c.at.ensures
     ∙ ap (λ (r : Record). Some r) (sym c.deref.ensures) in
-    let laid =
-    coherent-laid h c.loop-place.place c.deref.result.now c.loop-place.outline
+    let applied =
+    coherent-applied h c.loop-place.place c.deref.result.now c.loop-place.outline
     (subst IsSetup c.setup.ensures.setup c.in_ok-outline.ensures.sound) c.requires at c.loop-place.invariant.outline in
-    (machine_at h c.loop-place.place, laid)
+    (machine_at h c.loop-place.place, applied)
 
 pub loop-place-preserved : goal.loop-place-preserved
 loop-place-preserved c =
@@ -29,8 +29,8 @@ loop-place-preserved c =
     let at : slice_get h.records c.loop-place.place ≡ Some r =
     ap (λ rs. slice_get rs c.loop-place.place) (sym c.records-records.ensures.records) ∙ c.at.ensures
     ∙ ap (λ (x : Record). Some x) (sym c.deref.ensures) in
-    let laid =
-    coherent-laid h c.loop-place.place r c.loop-place.outline (subst IsSetup c.setup.ensures.setup c.in_ok-outline.ensures.sound)
+    let applied =
+    coherent-applied h c.loop-place.place r c.loop-place.outline (subst IsSetup c.setup.ensures.setup c.in_ok-outline.ensures.sound)
     c.requires at c.loop-place.invariant.outline in
     let last =
     ap (λ n. eqb (c.loop-place.place + 1) n)
@@ -39,7 +39,7 @@ loop-place-preserved c =
     let more = machine-more h c.loop-place.place r at in
     record {
       come =
-          follows-laid (order.reads_in c.records-records.result.now) c.records-records.result.now c.loop-place.place
+          follows-applied (order.reads_in c.records-records.result.now) c.records-records.result.now c.loop-place.place
           m (machine_at h (c.loop-place.place + 1)) r true true
           c.loop-place.facts.items c.push.new.self.items _ _
           (record {
@@ -47,8 +47,8 @@ loop-place-preserved c =
             fits = sym (coherent-can h c.loop-place.place r c.requires at);
             more = c.in_ok-push.ensures.items;
           })
-          refl (c.in_ok-fact.ensures.says m laid last) more c.loop-place.invariant.come;
-      outline = subst (λ (n : Machine). IsOutlineOf n c.next.new.self) (sym more) (c.in_ok-fact.ensures.outline m laid);
+          refl (c.in_ok-fact.ensures.says m applied last) more c.loop-place.invariant.come;
+      outline = subst (λ (n : Machine). IsOutlineOf n c.next.new.self) (sym more) (c.in_ok-fact.ensures.outline m applied);
     }
 
 pub returns-clause-facts : goal.returns-clause-facts

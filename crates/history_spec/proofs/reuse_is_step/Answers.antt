@@ -2,7 +2,7 @@
 use Rattle.machine_spec.specs.Setup.{first, scratch}
 use Rattle.machine_spec.proofs.Beginning.{IsWhole-first}
 use Rattle.history_spec.proofs.Scratch.{scratch-frame, scratch-whole}
-use Rattle.history_spec.proofs.Truth.{reuse-record, reuse-lay}
+use Rattle.history_spec.proofs.Truth.{reuse-record, reuse-apply}
 use Rattle.history_spec.proofs.reuse_is_step.Goals as goal
 
 pub returns-clause-record : goal.returns-clause-record
@@ -11,8 +11,8 @@ returns-clause-record c = λ setup past schedule t number r premise permitted th
     (scratch-whole (first setup) schedule (IsWhole-first setup premise.valid) permitted)
     (scratch-frame (first setup) schedule) there fit
 
-pub returns-clause-lay : goal.returns-clause-lay
-returns-clause-lay c = λ setup past schedule t number r premise permitted there fit.
-    reuse-lay setup past (scratch setup schedule) t number r premise.sound
+pub returns-clause-apply : goal.returns-clause-apply
+returns-clause-apply c = λ setup past schedule t number r premise permitted there fit.
+    reuse-apply setup past (scratch setup schedule) t number r premise.sound
     (scratch-whole (first setup) schedule (IsWhole-first setup premise.valid) permitted)
     (scratch-frame (first setup) schedule) there fit

@@ -3,7 +3,7 @@
 ghost use Rattle.std.specs.Prelude.{◌≡◌, ◌<◌, ◌≤◌, ◌+◌, ◌++◌, [], ◌^◌, length, OnOk};
 ghost use Rattle.std.specs.List.{flat_map, concat};
 ghost use Rattle.machine_spec.specs.Setup.{map_of};
-ghost use Rattle.memo_spec.specs.Spelling.{IsSpellable, word, magic, profile, record_bytes, body};
+ghost use Rattle.memo_spec.specs.Encoding.{IsEncodable, word, magic, profile, record_bytes, body};
 ghost use Rattle.memo_spec.specs.declared.Format.TheVariants.{Version2};
 ghost use Rattle.memo_file.specs.WritingPool.{pages_lent, IsPoolOf};
 
@@ -27,7 +27,8 @@ fn write_sized(out: &mut Vec<u8>, bytes: &[u8]) -> Result<(), AllocError>
 /// Appends all before the number of records.
 fn write_setup(out: &mut Vec<u8>, setup: &Setup) -> Result<(), AllocError>
     ensures { OnOk result (out.new.items ≡ out.old.items ++ magic ++ word 2 ++ word profile
-        ++ word (length setup.now.elf) ++ setup.now.elf ++ word (length setup.now.input) ++ setup.now.input
+        ++ word (length setup.now.elf) ++ setup.now.elf ++ word (length setup.now.input)
+        ++ setup.now.input
         ++ word setup.now.fuel ++ word setup.now.limit) }
 {
     let limits = setup.limits();
@@ -60,11 +61,12 @@ fn write_records(
     pool: &Pool,
     history: &History,
 ) -> Result<(), AllocError>
-    requires spellable { IsSpellable history.now }
+    requires encodable { IsEncodable history.now }
     requires slots { slots.now ≡ map_of history.now.setup }
     requires pool { IsPoolOf history.now (pages_lent pool.now.pages.items) pool.now.places.items }
     ensures { OnOk result (out.new.items ≡ out.old.items
-        ++ flat_map (record_bytes slots.now (pages_lent pool.now.pages.items)) history.now.records) }
+        ++ flat_map
+        (record_bytes slots.now (pages_lent pool.now.pages.items)) history.now.records) }
 {
     let records = history.records();
     let mut start = 0;
@@ -83,7 +85,7 @@ pub fn write_body(
     pool: &Pool,
     history: &History,
 ) -> Result<(), AllocError>
-    requires spellable { IsSpellable history.now }
+    requires encodable { IsEncodable history.now }
     requires slots { slots.now ≡ map_of history.now.setup }
     requires pool { IsPoolOf history.now (pages_lent pool.now.pages.items) pool.now.places.items }
     requires empty { out.old.items ≡ [] }

@@ -1,7 +1,7 @@
 //! Numbers as bytes, the lowest first.
 
 ghost use Rattle.std.specs.Prelude.{◌≡◌, ◌++◌, OnOk};
-ghost use Rattle.memo_spec.specs.Spelling.{half, word};
+ghost use Rattle.memo_spec.specs.Encoding.{half, word};
 
 use std::alloc::AllocError;
 

@@ -2,7 +2,7 @@
 
 ghost use Rattle.std.specs.Prelude.{◌≡◌, ◌<◌, ◌≤◌, ◌+◌, ◌*◌, ◌^◌, ◌++◌, [], true, false, map, length, slice_index_or, IfOk, OnOk};
 ghost use Rattle.std.specs.List.{fold};
-ghost use Rattle.memo_spec.specs.Spelling.{IsSpellable, has_page, with_page, index_in};
+ghost use Rattle.memo_spec.specs.Encoding.{IsEncodable, has_page, with_page, index_in};
 ghost use Rattle.memo_file.specs.WritingPool.{pages_lent, bytes_read, places_from, StandsAt, IsIndexed, IsPoolOf};
 
 use release_core::History;
@@ -121,7 +121,8 @@ fn add_reads<'a>(
     ensures pool { OnOk result (pages_lent known.new.pool.items
         ≡ fold with_page (pages_lent known.old.pool.items) (bytes_read reads.now)) }
     ensures places { OnOk result (places.new.items
-        ≡ places.old.items ++ places_from (pages_lent known.old.pool.items) (bytes_read reads.now)) }
+        ≡ places.old.items
+        ++ places_from (pages_lent known.old.pool.items) (bytes_read reads.now)) }
     ensures few { OnOk result (length known.new.pool.items
         ≤ length known.old.pool.items + length reads.now) }
 {
@@ -138,7 +139,7 @@ pub fn pool_of_history<'a>(
     history: &'a History,
     slots: usize,
 ) -> Result<Pool<'a>, AllocError>
-    requires { IsSpellable history.now }
+    requires { IsEncodable history.now }
     ensures { IfOk result
         (λ pool. IsPoolOf history.now (pages_lent pool.pages.items) pool.places.items) }
 {

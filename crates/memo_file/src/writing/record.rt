@@ -3,7 +3,7 @@
 ghost use Rattle.std.specs.Prelude.{◌≡◌, ◌<◌, ◌≤◌, ◌+◌, ◌++◌, All, length, OnOk};
 ghost use Rattle.std.specs.List.{flat_map};
 ghost use Rattle.isa_spec.specs.Causes.{number_of};
-ghost use Rattle.memo_spec.specs.Spelling.{byte, half, word, registers as registers_of, end_number, read_page, stored_page as stored_page_bytes, record_bytes};
+ghost use Rattle.memo_spec.specs.Encoding.{byte, half, word, registers as registers_of, end_number, read_page, stored_page as stored_page_bytes, record_bytes};
 ghost use Rattle.memo_file.specs.WritingPool.{pages_lent, ArePlaced};
 ghost use Rattle.memo_file.specs.WritingSizes.{HasFewPages};
 ghost use Rattle.history_spec.specs.History.{IsMappedIn};
@@ -43,8 +43,10 @@ fn end_byte(end: ThunkEnd) -> u8
 
 /// Appends all of a record before the counts of its pages.
 fn write_head(out: &mut Vec<u8>, rec: &Record) -> Result<(), AllocError>
-    ensures { OnOk result (out.new.items ≡ out.old.items ++ byte rec.now.thread ++ byte (end_number rec.now.kept.end)
-        ++ word rec.now.kept.count ++ registers_of rec.now.start ++ registers_of rec.now.kept.finish) }
+    ensures { OnOk result
+        (out.new.items ≡ out.old.items ++ byte rec.now.thread ++ byte (end_number rec.now.kept.end)
+        ++ word rec.now.kept.count ++ registers_of rec.now.start
+        ++ registers_of rec.now.kept.finish) }
 {
     out.push(rec.thread())?;
     out.push(end_byte(rec.end()))?;
@@ -62,9 +64,11 @@ fn write_reads(
     reads: &[ReadPage],
 ) -> Result<(), AllocError>
     requires mapped { All (λ p. p.slot < length slots.now) reads.now }
-    requires placed { ArePlaced (pages_lent pool.now.pages.items) pool.now.places.items start reads.now }
+    requires placed { ArePlaced
+        (pages_lent pool.now.pages.items) pool.now.places.items start reads.now }
     ensures { OnOk result (out.new.items
-        ≡ out.old.items ++ flat_map (read_page slots.now (pages_lent pool.now.pages.items)) reads.now) }
+        ≡ out.old.items
+        ++ flat_map (read_page slots.now (pages_lent pool.now.pages.items)) reads.now) }
 {
     for (k, read) in reads.iter().enumerate() {
         put_word(out, slots.page(read.slot()).number())?;
@@ -95,7 +99,8 @@ pub fn write_record(
 ) -> Result<(), AllocError>
     requires mapped { IsMappedIn (length slots.now) rec.now }
     requires few { HasFewPages rec.now }
-    requires placed { ArePlaced (pages_lent pool.now.pages.items) pool.now.places.items start rec.now.kept.reads }
+    requires placed { ArePlaced
+        (pages_lent pool.now.pages.items) pool.now.places.items start rec.now.kept.reads }
     ensures { OnOk result (out.new.items
         ≡ out.old.items ++ record_bytes slots.now (pages_lent pool.now.pages.items) rec.now) }
 {

@@ -1,7 +1,7 @@
 //! How many bytes a memo has, before any is written.
 
 ghost use Rattle.std.specs.Prelude.{◌≡◌, ◌<◌, ◌≤◌, ◌+◌, ◌*◌, ◌^◌, length, sum_by};
-ghost use Rattle.memo_spec.specs.Spelling.{IsSpellable};
+ghost use Rattle.memo_spec.specs.Encoding.{IsEncodable};
 ghost use Rattle.memo_file.specs.WritingMasks.{marks_in};
 ghost use Rattle.memo_file.specs.WritingSizes.{stored_size, record_size, memo_size, HasFewPages};
 
@@ -23,7 +23,7 @@ fn marked_count(mask: &Mask) -> usize
     count
 }
 
-/// How many bytes spell a stored page.
+/// How many bytes encode a stored page.
 fn size_of_stored(delta: &PageDelta) -> u64
     ensures size { result ≡ stored_size delta.now }
     ensures most { result ≤ 4612 }
@@ -33,7 +33,7 @@ fn size_of_stored(delta: &PageDelta) -> u64
     516 + marked_count(kept.mask) as u64
 }
 
-/// How many bytes spell a record.
+/// How many bytes encode a record.
 fn size_of_record(rec: &Record) -> u64
     requires { HasFewPages rec.now }
     ensures size { result ≡ record_size rec.now }
@@ -46,9 +46,9 @@ fn size_of_record(rec: &Record) -> u64
     size
 }
 
-/// How many bytes spell a history whose pool has this many pages.
+/// How many bytes encode a history whose pool has this many pages.
 pub fn size_of_memo(history: &History, pool: usize) -> u64
-    requires spellable { IsSpellable history.now }
+    requires encodable { IsEncodable history.now }
     requires few { pool < 2 ^ 32 }
     ensures { result ≡ memo_size history.now pool }
 {

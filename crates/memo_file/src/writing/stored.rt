@@ -2,7 +2,7 @@
 
 ghost use Rattle.std.specs.Prelude.{◌≡◌, ◌<◌, ◌+◌, ◌*◌, ◌++◌, length, drop, OnOk};
 ghost use Rattle.record_spec.specs.Delta.{chosen};
-ghost use Rattle.memo_spec.specs.Spelling.{stored_page as stored_page_bytes, mask as mask_bytes};
+ghost use Rattle.memo_spec.specs.Encoding.{stored_page as stored_page_bytes, mask as mask_bytes};
 
 use super::numbers::put_word;
 use page_map::PageMap;
@@ -26,7 +26,8 @@ fn write_word(out: &mut Vec<u8>, mask: &Mask, page: &[u8], number: usize) -> Res
     requires within { number < 64 }
     ensures whole { length mask.now ≡ PAGE_SIZE }
     ensures marked { OnOk result
-        (out.new.items ++ chosen (drop (64 * (number + 1)) mask.now) (drop (64 * (number + 1)) page.now)
+        (out.new.items
+        ++ chosen (drop (64 * (number + 1)) mask.now) (drop (64 * (number + 1)) page.now)
         ≡ out.old.items ++ chosen (drop (64 * number) mask.now) (drop (64 * number) page.now)) }
 {
     let mut place = 64 * number;

@@ -55,7 +55,7 @@ returns-clause-threads c = round-threads
 
 pub returns-clause-report : goal.returns-clause-report
 returns-clause-report c =
-    each-holds (λ r. report_of r ≡ report r.number r.setup (made r).schedule (extras_in r) r.found.shares) report-entries
+    each-holds (λ r. report_of r ≡ report r.number r.setup (made r).schedule (extras_in r) r.found.worker_steps) report-entries
 
 pub returns-clause-exit : goal.returns-clause-exit
 returns-clause-exit c =

@@ -1,5 +1,5 @@
 -- Answers to the goals that the check leaves of `reports_count_right`.
-use Rattle.rerun_spec.proofs.Reports.{reports-count, made-count, shares-steps, shares-made}
+use Rattle.rerun_spec.proofs.Reports.{reports-count, made-count, worker_steps-steps, worker_steps-made}
 use Rattle.rerun_spec.proofs.reports_count_right.Goals as goal
 
 pub returns-clause-reports : goal.returns-clause-reports
@@ -8,11 +8,11 @@ returns-clause-reports c = reports-count
 pub returns-clause-made : goal.returns-clause-made
 returns-clause-made c = made-count
 
-pub returns-clause-shares : goal.returns-clause-shares
-returns-clause-shares c = λ r workers is. is.each
+pub returns-clause-worker_steps : goal.returns-clause-worker_steps
+returns-clause-worker_steps c = λ r workers is. is.each
 
 pub returns-clause-steps : goal.returns-clause-steps
-returns-clause-steps c = λ r workers. shares-steps workers r
+returns-clause-steps c = λ r workers. worker_steps-steps workers r
 
 pub returns-clause-steps_made : goal.returns-clause-steps_made
-returns-clause-steps_made c = λ r workers. shares-made workers r
+returns-clause-steps_made c = λ r workers. worker_steps-made workers r

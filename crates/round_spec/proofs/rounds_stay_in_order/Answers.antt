@@ -9,4 +9,4 @@ pub returns-clause-events : goal.returns-clause-events
 returns-clause-events c = round-kept
 
 pub returns-clause-held : goal.returns-clause-held
-returns-clause-held c = λ setup past es t valid out. (round-kept setup past es valid).held t out
+returns-clause-held c = λ setup past es t valid in_flight. (round-kept setup past es valid).held t in_flight

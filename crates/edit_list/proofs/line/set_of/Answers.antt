@@ -2,7 +2,7 @@
 use Rattle.std.proofs.Common.{ℕ, List, sym, ◌∙◌, subst}
 use Rattle.std.specs.Prelude.{decimal}
 use Rattle.std.proofs.lemmas.Result.{err_from_is_err_and}
-use Rattle.edit_spec.specs.Grammar.{SpellBytes}
+use Rattle.edit_spec.specs.Grammar.{EncodeBytes}
 use Rattle.edit_list.proofs.Words.{set_line, around_first_space, no_space-decimal, space_is_there, no_set_without_bytes}
 use Rattle.edit_list.proofs.line.set_of.Goals as goal
 
@@ -31,4 +31,4 @@ returns-in_err-bytes-clause-refused c =
     around_first_space c.in-Some.number.now (decimal s.0) c.in-Some.digits.now s.2 c.in-Some.ensures.0
     (no_space-decimal s.0 s.3)
     (sym c.in-Some.ensures.1 ∙ s.6) in
-    (s.1, s.4, subst (λ (ds : List ℕ). SpellBytes ds s.1) (sym same.1) s.5)))
+    (s.1, s.4, subst (λ (ds : List ℕ). EncodeBytes ds s.1) (sym same.1) s.5)))

@@ -11,6 +11,6 @@ returns-clause-added c =
     let not_none : (length c.args.text.now == 0) ≡ false = sym c.is_empty.ensures ∙ c.if-is_empty.false in
     edit_added c.args.number c.args.text.now (edit_said c.in-Ok.edit) (map line_said c.args.lines.now.items)
     (map line_said c.push.new.self.items)
-    (grind (arith, nat_tests, not_none)) c.in-Ok.ensures.spelled
+    (grind (arith, nat_tests, not_none)) c.in-Ok.ensures.encoded
     (ap (map line_said) c.in_ok-push.ensures.items
     ∙ map_push line_said c.args.lines.now.items (record { line = c.args.number; edit = c.in-Ok.edit }))

@@ -46,8 +46,8 @@ loop-text-preserved c =
       count = omega (arith, c.loop-text.invariant.count);
     }
 
-pub returns-clause-spelled : goal.returns-clause-spelled
-returns-clause-spelled c =
+pub returns-clause-encoded : goal.returns-clause-encoded
+returns-clause-encoded c =
     let leads =
     last_leads c.args.bytes.now c.loop-text.number c.loop-text.rest.now (map line_said c.loop-text.lines.items)
     c.in_default.ensures c.loop-text.invariant.leads in

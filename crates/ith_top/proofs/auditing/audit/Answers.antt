@@ -8,7 +8,7 @@ use Rattle.ith_top.specs.Ends.{HasVerdict, Prints, IsAudited, AuditEnds, audit_o
 use Rattle.ith_top.specs.Refusals.{WhyUnprinted}
 use Rattle.ith_top.proofs.Going.{prints_then}
 use Rattle.ith_top.proofs.Ending.{cut_ends}
-use Rattle.ith_top.proofs.Told.{told, untold, has_verdict}
+use Rattle.ith_top.proofs.OneText.{told, untold, has_verdict}
 use Rattle.ith_top.proofs.auditing.audit.Goals as goal
 
 pub returns-in_err-history : goal.returns-in_err-history

@@ -21,17 +21,17 @@ unreachable-requires c =
 
 pub with-requires : goal.with-requires
 with-requires c =
-    let first : c.args.plan.inputs ≡ c.in-Some.input.items ∷ c.next.new.self =
+    let first : c.args.plan.inputs ≡ c.in-Some.input.items ∷ c.take_next.new.self =
     rw c.in-Some.is at c.in_ok-input.ensures.taken in
-    short_first c.in-Some.input.items c.next.new.self (subst AreShort first c.requires.short)
+    short_first c.in-Some.input.items c.take_next.new.self (subst AreShort first c.requires.short)
 
 pub returns-clause-reasons : goal.returns-clause-reasons
 returns-clause-reasons c =
     let p : Plan = plan_said c.args.plan in
-    let first : p.inputs ≡ c.in-Some.input.items ∷ c.next.new.self =
+    let first : p.inputs ≡ c.in-Some.input.items ∷ c.take_next.new.self =
     rw c.in-Some.is at c.in_ok-input.ensures.taken in
     let setup : c.in_ok-edited.edited ≡ with_input p.beginning.setup c.in-Some.input.items = search rules in
-    reasons_told p c.in-Some.input.items c.next.new.self c.in_ok-edited.edited c.in_ok-round.round
+    reasons_told p c.in-Some.input.items c.take_next.new.self c.in_ok-edited.edited c.in_ok-round.round
     c.in_ok-reasons.reasons.items c.in_ok-told.told.items first setup c.in_ok-round.ensures.alone
     c.in_ok-reasons.ensures.reasons c.in_ok-reasons.ensures.each c.in_ok-reasons.ensures.scratch
     (c.in_ok-told.ensures ∙ ap why_text c.as_slice.ensures.value)
@@ -39,10 +39,10 @@ returns-clause-reasons c =
 pub returns-clause-cost : goal.returns-clause-cost
 returns-clause-cost c = λ input later is.
     let p : Plan = plan_said c.args.plan in
-    let first : p.inputs ≡ c.in-Some.input.items ∷ c.next.new.self =
+    let first : p.inputs ≡ c.in-Some.input.items ∷ c.take_next.new.self =
     rw c.in-Some.is at c.in_ok-input.ensures.taken in
     let setup : c.in_ok-edited.edited ≡ with_input p.beginning.setup c.in-Some.input.items = search rules in
-    let both : c.in-Some.input.items ∷ c.next.new.self ≡ input ∷ later = sym first ∙ is in
+    let both : c.in-Some.input.items ∷ c.take_next.new.self ≡ input ∷ later = sym first ∙ is in
     let same : c.in-Some.input.items ≡ input = cc in
     c.in_ok-round.ensures.cost
     ∙ ap (λ (w : RoundState). c.args.turns.now + executed_by w)

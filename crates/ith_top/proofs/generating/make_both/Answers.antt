@@ -14,11 +14,11 @@ use Rattle.ith_top.proofs.generating.make_both.Goals.{then-first, else-first}
 pub make_round-requires-2-clause-short : goal.make_round-requires-2-clause-short
 make_round-requires-2-clause-short g c = λ lifetimes bounds.
     let p : Plan = plan_said c.in_ok-beginning.field-0 in
-    let first : p.inputs ≡ c.in-Some.input.items ∷ c.next.new.self = rw c.in-Some.is at c.in_ok-input.ensures.taken in
-    let second : c.next.new.self ≡ c.in-Some-2.edited.items ∷ c.next-2.new.self =
+    let first : p.inputs ≡ c.in-Some.input.items ∷ c.take_next.new.self = rw c.in-Some.is at c.in_ok-input.ensures.taken in
+    let second : c.take_next.new.self ≡ c.in-Some-2.edited.items ∷ c.take_next-2.new.self =
     rw c.in-Some-2.is at c.in_ok-edited.ensures.taken in
-    short_first c.in-Some-2.edited.items c.next-2.new.self
-    (subst AreShort second (short_rest c.in-Some.input.items c.next.new.self
+    short_first c.in-Some-2.edited.items c.take_next-2.new.self
+    (subst AreShort second (short_rest c.in-Some.input.items c.take_next.new.self
     (subst AreShort first c.in_ok-beginning.ensures.playable.short)))
 
 pub make_round-requires-2-clause-same : goal.make_round-requires-2-clause-same
@@ -31,8 +31,8 @@ make_round-requires-2-clause-same g c = λ lifetimes bounds.
 pub make_round-requires-2-clause-few : goal.make_round-requires-2-clause-few
 make_round-requires-2-clause-few g c = λ lifetimes bounds.
     let p : Plan = plan_said c.in_ok-beginning.field-0 in
-    let first : p.inputs ≡ c.in-Some.input.items ∷ c.next.new.self = rw c.in-Some.is at c.in_ok-input.ensures.taken in
-    let second : c.next.new.self ≡ c.in-Some-2.edited.items ∷ c.next-2.new.self =
+    let first : p.inputs ≡ c.in-Some.input.items ∷ c.take_next.new.self = rw c.in-Some.is at c.in_ok-input.ensures.taken in
+    let second : c.take_next.new.self ≡ c.in-Some-2.edited.items ∷ c.take_next-2.new.self =
     rw c.in-Some-2.is at c.in_ok-edited.ensures.taken in
     let count = ap length first in let more = ap length second in
     let next = ap (λ (b : Beginning). b.number) c.in_ok-first.ensures.played.is_next in
@@ -42,19 +42,19 @@ make_round-requires-2-clause-few g c = λ lifetimes bounds.
 pub returns-clause-lines : goal.returns-clause-lines
 returns-clause-lines g c =
     let p : Plan = plan_said c.in_ok-beginning.field-0 in
-    let first : p.inputs ≡ c.in-Some.input.items ∷ c.next.new.self = rw c.in-Some.is at c.in_ok-input.ensures.taken in
-    let second : c.next.new.self ≡ c.in-Some-2.edited.items ∷ c.next-2.new.self =
+    let first : p.inputs ≡ c.in-Some.input.items ∷ c.take_next.new.self = rw c.in-Some.is at c.in_ok-input.ensures.taken in
+    let second : c.take_next.new.self ≡ c.in-Some-2.edited.items ∷ c.take_next-2.new.self =
     rw c.in-Some-2.is at c.in_ok-edited.ensures.taken in
-    let inputs : p.inputs ≡ c.in-Some.input.items ∷ c.in-Some-2.edited.items ∷ c.next-2.new.self =
+    let inputs : p.inputs ≡ c.in-Some.input.items ∷ c.in-Some-2.edited.items ∷ c.take_next-2.new.self =
     first ∙ ap (λ l. c.in-Some.input.items ∷ l) second in
     let ends : c.if-first.result ≡ (c.in_ok-first.first.exited && c.in_ok-second.second.exited) =
     elim c.if-first.branch [ then-first w ↦ search rules | else-first w ↦ search rules ] in
     both_generated c.args.crew.now.workers c.args.number p c.in-Some.input.items c.in-Some-2.edited.items
-    c.next-2.new.self c.in_ok-first.first.text.items c.in_ok-second.second.text.items c.in_ok-text.text.items
+    c.take_next-2.new.self c.in_ok-first.first.text.items c.in_ok-second.second.text.items c.in_ok-text.text.items
     c.in_ok-first.first.exited c.in_ok-second.second.exited c.if-first.result (beginning_said c.in_ok-first.first.next)
     (beginning_said c.in_ok-second.second.next) c.args.crew.now.work c.make_round.new.crew.work c.make_round-2.new.crew.work
     (let one = c.in_ok-first.ensures.made in let other = c.in_ok-second.ensures.made in omega arith)
-    c.in_ok-beginning.ensures.plan c.in_ok-beginning.ensures.playable c.in_ok-beginning.ensures.spelled inputs
+    c.in_ok-beginning.ensures.plan c.in_ok-beginning.ensures.playable c.in_ok-beginning.ensures.encoded inputs
     c.in_ok-first.ensures.played (rw c.make_round.ensures.workers at c.in_ok-second.ensures.played)
     (rw (← c.as_slice.ensures.value, ← c.as_slice-2.ensures.value) c.in_ok-text.ensures)
     ends

@@ -1,5 +1,5 @@
 -- The plan of what was generated, which isn't refused.
-use Rattle.std.proofs.Common.{rules, ◌≡◌, ◌∷◌, true, false, List, [], ℕ, ap, sym, subst}
+use Rattle.std.proofs.Common.{rules, ◌≡◌, ◌∷◌, true, false, List, [], ℕ, ap, sym, subst, arith}
 use Rattle.elf_load.specs.Load.{Refuses}
 use Rattle.elf_load.specs.declared.loader.LoadError.TheVariants.{Refused}
 use Rattle.elf_spec.specs.Image.{is_image}
@@ -12,7 +12,7 @@ use Rattle.rerun_spec.specs.Rounds.{nothing_asked}
 use Rattle.ith_top.specs.Contents.{Plan}
 use Rattle.ith_top.specs.Playing.{plan_said}
 use Rattle.ith_top.proofs.Ending.{refused_image}
-use Rattle.ith_top.proofs.Planning.{run_spelled}
+use Rattle.ith_top.proofs.Planning.{run_playable, run_encoded}
 use Rattle.ith_top.proofs.Generated.{generated-small, generated-unrefused}
 use Rattle.ith_top.proofs.generating.prepare.Goals as goal
 
@@ -39,8 +39,8 @@ unreachable-requires-in-Err-Refused-inputs_of c =
     generated-unrefused c.args.number g c.in_ok-copy.copy.items e.field-0-0 (refusal_of e.field-0-1 e.field-0-2)
     c.in_ok-elf.ensures copied why
 
-pub returns-in-Ok-inputs_of-clause-spelled : goal.returns-in-Ok-inputs_of-clause-spelled
-returns-in-Ok-inputs_of-clause-spelled c =
+pub returns-in-Ok-inputs_of-clause-encoded : goal.returns-in-Ok-inputs_of-clause-encoded
+returns-in-Ok-inputs_of-clause-encoded c =
     let g : Generated = c.in_ok-elf.field-0 in
     let s : Setup = c.in-Ok.setup in
     let p : Plan = plan_said c.from_scratch.result in
@@ -50,5 +50,19 @@ returns-in-Ok-inputs_of-clause-spelled c =
     let same : AreInputs s.input (g.edits.items ∷ []) p.inputs =
     subst (λ (i : List ℕ). AreInputs i (g.edits.items ∷ []) p.inputs) (sym is_input)
     (subst (λ (i : List ℕ). AreInputs i (g.edits.items ∷ []) p.inputs) copied edited) in
-    run_spelled s nothing_asked (g.edits.items ∷ []) p c.in-Ok.ensures.sound c.in-Ok.ensures.bytes.0 c.in-Ok.ensures.bytes.1
+    run_encoded s nothing_asked (g.edits.items ∷ []) p c.in-Ok.ensures.sound c.in-Ok.ensures.bytes.0 c.in-Ok.ensures.bytes.1
     c.from_scratch.ensures.beginning same
+
+pub returns-in-Ok-inputs_of-clause-playable : goal.returns-in-Ok-inputs_of-clause-playable
+returns-in-Ok-inputs_of-clause-playable c =
+    let g : Generated = c.in_ok-elf.field-0 in
+    let s : Setup = c.in-Ok.setup in
+    let p : Plan = plan_said c.from_scratch.result in
+    let is_input : s.input ≡ g.input.items = ap (λ (t : Setup). t.input) c.in-Ok.ensures.setup in
+    let copied : c.in_ok-copy.copy.items ≡ g.input.items = search rules in
+    let edited : AreInputs c.in_ok-copy.copy.items (g.edits.items ∷ []) p.inputs = search rules in
+    let same : AreInputs s.input (g.edits.items ∷ []) p.inputs =
+    subst (λ (i : List ℕ). AreInputs i (g.edits.items ∷ []) p.inputs) (sym is_input)
+    (subst (λ (i : List ℕ). AreInputs i (g.edits.items ∷ []) p.inputs) copied edited) in
+    run_playable s nothing_asked (g.edits.items ∷ []) p c.in-Ok.ensures.sound c.from_scratch.ensures.beginning
+    (omega arith) same

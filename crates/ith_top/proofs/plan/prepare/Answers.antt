@@ -1,5 +1,5 @@
 -- How a line ends that has no plan, and what holds of its plan.
-use Rattle.std.proofs.Common.{rules, ◌≡◌, ◌<◌, ◌^◌, true, length}
+use Rattle.std.proofs.Common.{rules, ◌≡◌, true}
 use Rattle.std.proofs.lemmas.Result.{err_from_is_err_and}
 use Rattle.elf_spec.specs.Image.{is_image}
 use Rattle.round_inputs.specs.Lists.{bytes_of_each}
@@ -13,7 +13,7 @@ use Rattle.ith_top.specs.Playing.{plan_said}
 use Rattle.ith_top.specs.Refusals.{WhyUnedited}
 use Rattle.ith_top.proofs.Worlds.{reads_then}
 use Rattle.ith_top.proofs.Ending.{unread_ends, refused_ends, unedited_ends}
-use Rattle.ith_top.proofs.Planning.{run_plan, run_playable, run_spelled}
+use Rattle.ith_top.proofs.Planning.{few_lists, run_plan, run_playable, run_encoded}
 use Rattle.ith_top.proofs.plan.prepare.Goals as goal
 
 pub returns-in_err-elf-clause-refused : goal.returns-in_err-elf-clause-refused
@@ -61,14 +61,12 @@ returns-clause-plan g c =
     let asked = asked_by c.args.line.now.reach c.args.line.now.progress in
     let edited : AreInputs s.input lists c.in_ok-inputs.inputs = search rules in
     let made : AreInputs s.input lists c.from_scratch.result.inputs = rw c.from_scratch.ensures.inputs edited in
-    let few : length c.from_scratch.result.inputs < 2 ^ 64 =
-    rw c.from_scratch.ensures.inputs c.from_scratch.ensures.few in
     let begins = c.from_scratch.ensures.beginning in let sound = c.in_ok-setup.ensures.sound in
     record {
       is = run_plan (run_said c.args.line.now) a contents s p c.in_ok-elf.ensures.contents c.in_ok-setup.ensures.setup
           sound begins made;
-      playable = run_playable s asked lists p sound begins few made;
-      spelled = run_spelled s asked lists p sound c.in_ok-setup.ensures.bytes.0 c.in_ok-setup.ensures.bytes.1 begins made;
+      playable = run_playable s asked lists p sound begins (few_lists files.lists) made;
+      encoded = run_encoded s asked lists p sound c.in_ok-setup.ensures.bytes.0 c.in_ok-setup.ensures.bytes.1 begins made;
       reads = reads_then _ a b (w c.edit.new.host)
           (reads_then _ a (w c.read_files.new.host) b c.in_ok-elf.ensures.reads c.in_ok-setup.ensures.quiet)
           c.in_ok-inputs.ensures.quiet;

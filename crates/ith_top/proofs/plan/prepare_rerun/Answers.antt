@@ -13,7 +13,7 @@ use Rattle.ith_top.specs.Playing.{plan_said}
 use Rattle.ith_top.specs.Refusals.{WhyNoHistory, WhyUnedited}
 use Rattle.ith_top.proofs.Worlds.{reads_then}
 use Rattle.ith_top.proofs.Ending.{unread_ends, forgotten_ends, rerun_unedited_ends, cut_ends}
-use Rattle.ith_top.proofs.Planning.{rerun_plan, rerun_playable, rerun_spelled}
+use Rattle.ith_top.proofs.Planning.{few_lists, rerun_plan, rerun_playable, rerun_encoded}
 use Rattle.ith_top.proofs.plan.prepare_rerun.Goals as goal
 
 pub returns-in_err-memo-clause-refused : goal.returns-in_err-memo-clause-refused
@@ -79,8 +79,8 @@ returns-clause-plan g c =
     record {
       is = rerun_plan line a files.memo.items lists h p c.in_ok-memo.ensures.memo c.in_ok-memo.ensures.lists is begins made;
       playable = rerun_playable files.memo.items lists h limits asked p is c.in_ok-after_memo.ensures.beginning
-          (rw c.in_ok-after_memo.ensures.inputs c.in_ok-inputs.ensures.few) made;
-      spelled = rerun_spelled files.memo.items lists h limits asked p is c.limits_for-limits.ensures.within
+          (few_lists files.lists) made;
+      encoded = rerun_encoded files.memo.items lists h limits asked p is c.limits_for-limits.ensures.within
           c.in_ok-after_memo.ensures.beginning made;
       reads = reads_then _ a b (w c.edit_again.new.host)
           (reads_then _ a (w c.read_rerun_files.new.host) b c.in_ok-memo.ensures.reads c.in_ok-history.ensures.quiet)

@@ -1,16 +1,16 @@
 -- Answers to the goals that the check leaves of `carry_out`.
 use Rattle.std.proofs.Common.{◌∙◌, sym, subst, inl}
 use Rattle.std.proofs.lemmas.Result.{err_from_is_err_and}
-use Rattle.memo_spec.specs.Spelling.{IsSpellable}
+use Rattle.memo_spec.specs.Encoding.{IsEncodable}
 use Rattle.ith_top.specs.Playing.{plan_said}
-use Rattle.ith_top.proofs.Promises.{last_spelled}
+use Rattle.ith_top.proofs.Promises.{last_encoded}
 use Rattle.ith_top.proofs.program.carry_out.Goals as goal
 
-pub keep-requires : goal.keep-requires
-keep-requires g c =
+pub write_memo-requires : goal.write_memo-requires
+write_memo-requires g c =
     let played = c.in_ok-exits.ensures.played in
-    subst IsSpellable (sym (c.deref.ensures ∙ played.is_left))
-    (last_spelled c.args.crew.now.workers (plan_said c.args.plan) played.found c.requires.playable c.requires.spelled
+    subst IsEncodable (sym (c.deref.ensures ∙ played.is_left))
+    (last_encoded c.args.crew.now.workers (plan_said c.args.plan) played.found c.requires.playable c.requires.encoded
     played.made played.all)
 
 pub returns-in_err-exits-clause-refused : goal.returns-in_err-exits-clause-refused

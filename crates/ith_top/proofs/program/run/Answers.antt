@@ -3,7 +3,7 @@ use Rattle.std.proofs.Common.{inl, inr}
 use Rattle.std.proofs.lemmas.Result.{err_from_is_err_and}
 use Rattle.ith_words.specs.Words.{Line, Runs}
 use Rattle.ith_words.specs.Said.{run_said}
-use Rattle.ith_top.specs.Ends.{kept_by}
+use Rattle.ith_top.specs.Ends.{new_memo_of}
 use Rattle.ith_top.specs.Playing.{plan_said}
 use Rattle.ith_top.proofs.Done.{rounds_end, rounds_spend}
 use Rattle.ith_top.proofs.Spent.{early_unspent}
@@ -42,7 +42,7 @@ returns-clause-ends g c =
 pub returns-clause-made : goal.returns-clause-made
 returns-clause-made g c =
     let w = g.H.Host.world in let line : Line = Runs (run_said c.args.line.now) in
-    counted line (kept_by line) c.args.crew.now.workers (plan_said c.in_ok-plan.plan) (w c.prepare.new.host)
+    counted line (new_memo_of line) c.args.crew.now.workers (plan_said c.in_ok-plan.plan) (w c.prepare.new.host)
     (w c.carry_out.new.host) c.args.crew.now.work c.carry_out.new.crew.work c.carry_out.result
     (run_asked (run_said c.args.line.now) (w c.args.host.now) (plan_said c.in_ok-plan.plan) c.in_ok-plan.ensures.plan.is)
     c.carry_out.ensures.done c.carry_out.ensures.refused

@@ -9,7 +9,7 @@ use Rattle.ith_top.specs.Files.{files_named}
 use Rattle.ith_top.specs.Ends.{HasHistory, Prints, RacesEnd}
 use Rattle.ith_top.specs.Refusals.{WhyUnprinted}
 use Rattle.ith_top.proofs.Ending.{cut_ends}
-use Rattle.ith_top.proofs.Told.{has_history, told, untold}
+use Rattle.ith_top.proofs.OneText.{has_history, told, untold}
 use Rattle.ith_top.proofs.racing.find_races.Goals as goal
 
 pub returns-in_err-history : goal.returns-in_err-history

@@ -5,7 +5,7 @@ use Rattle.std.specs.Prelude.{option_map}
 use Rattle.std.specs.Arc.{arc_value}
 use Rattle.round_spec.specs.Rounds.{RoundState, history_of}
 use Rattle.worker_spec.specs.Workers.{IsMadeBy}
-use Rattle.propagate.specs.Kept.{IsOfMap}
+use Rattle.propagate.specs.Consistency.{IsOfMap}
 use Rattle.rerun_spec.specs.Rounds.{Found, Beginning, with_input}
 use Rattle.rerun_spec.specs.Reports.{is_exit}
 use Rattle.ith_top.specs.Counting.{Spends}
@@ -32,7 +32,7 @@ returns-clause-played g c =
     let on : IsOfMap w.past w.setup =
     round_map begins c.args.input.items w setup c.in_ok-round.ensures.past c.requires.same in
     let is : IsMadeBy c.args.crew.now.workers (with_input c.args.beginning.setup c.args.input.items)
-    (option_map arc_value c.args.beginning.past) w.schedule c.in_ok-round.field-0.shares.items =
+    (option_map arc_value c.args.beginning.past) w.schedule c.in_ok-round.field-0.worker_steps.items =
     rw start at c.in_ok-round.ensures.made in
     let left : c.in-Some.left ≡ history_of w =
     some_is c.in-Some.left (history_of w) (sym c.in-Some.is ∙ c.into_history.ensures.same on) in
@@ -42,7 +42,7 @@ returns-clause-played g c =
     rw start at c.in_ok-round.ensures.cost in
     let f : Found = record {
       entries = w.schedule;
-      shares = c.in_ok-round.field-0.shares.items;
+      worker_steps = c.in_ok-round.field-0.worker_steps.items;
       progress = c.in_ok-round.field-0.progress.items;
       turns = cost.0;
     } in

@@ -2,7 +2,7 @@
 use Rattle.std.proofs.Common.{◌≡◌, ◌+◌, ◌^◌, ◌<◌, None, length}
 use Rattle.std.specs.Prelude.{option_map}
 use Rattle.std.specs.Arc.{arc_value}
-use Rattle.propagate.specs.Kept.{IsOfMap}
+use Rattle.propagate.specs.Consistency.{IsOfMap}
 use Rattle.rerun_spec.specs.Inputs.{AreShort}
 use Rattle.ith_top.specs.Playing.{beginning_said, plan_said}
 use Rattle.ith_top.proofs.Going.{IsGoing}

@@ -8,7 +8,7 @@ use Rattle.ith_top.specs.Files.{files_named}
 use Rattle.ith_top.specs.Ends.{HasHistory, Prints, ShowEnds}
 use Rattle.ith_top.specs.Refusals.{WhyUnprinted}
 use Rattle.ith_top.proofs.Ending.{cut_ends}
-use Rattle.ith_top.proofs.Told.{has_history, told, untold}
+use Rattle.ith_top.proofs.OneText.{has_history, told, untold}
 use Rattle.ith_top.proofs.showing.show.Goals as goal
 
 pub returns-in_err-history : goal.returns-in_err-history

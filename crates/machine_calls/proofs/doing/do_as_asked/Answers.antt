@@ -23,12 +23,14 @@ returns-in_err-settle-in-Asks-clause-full g c =
     let woken : length c.effect_of-effect.result.woken
     ≡ length (act (is_readable c.args.written.now.map.now) c.args.objects.now c.args.t c.in-Asks.call).0.woken =
     ap (λ r. length r.0.woken) c.effect_of-effect.ensures in
-    let same = ap length c.woken.ensures in
-    let gives = gives_few (is_readable c.args.written.now.map.now) c.args.objects.now c.args.t c.in-Asks.call
-    (omega (arith, woken, same, c.len-woken.ensures.fits)) in
     let most = ap most_views c.in-Asks.is in
     let failed = err_from_is_err_and c.from_residual.result c.from_residual.ensures.1 in
     rw failed.1 (elim c.in_err-settle-in-Asks.ensures.full [
       | inl full ↦ inl full
-      | inr fewer ↦ inr (omega (arith, gives, woken, most, fewer))
+      | inr fewer ↦ inr (omega (
+        arith,
+        most,
+        gives_few (is_readable c.args.written.now.map.now) c.args.objects.now c.args.t c.in-Asks.call _
+            (omega (arith, woken, fewer.0)) fewer.1,
+      ))
     ])

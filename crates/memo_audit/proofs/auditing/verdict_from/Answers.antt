@@ -13,7 +13,7 @@ returns-then-is_empty-clause-first g c =
     let is : (claims.len == 0) ≡ true = sym c.is_empty.ensures ∙ c.if-is_empty.true in
     let none : claims.len ≡ 0 = eqb-true claims.len 0 is in
     let empty : claims.items ≡ [] = nil-of-length claims.items (omega (arith, none, claims.ok)) in
-    (audited-stuck c.args.core c.args.records.now c.loop-place.place c.loop-place.core c.loop-place.found c.closed.result
+    (audited-stuck c.args.core.now c.args.records.now c.loop-place.place c.loop-place.core c.loop-place.found c.closed.result
     c.loop-place.invariant (omega arith) (c.in_ok-claims.ensures.none empty) c.closed.ensures.first
     c.closed.ensures.instructions).first
 
@@ -23,7 +23,7 @@ returns-then-is_empty-clause-instructions g c =
     let is : (claims.len == 0) ≡ true = sym c.is_empty.ensures ∙ c.if-is_empty.true in
     let none : claims.len ≡ 0 = eqb-true claims.len 0 is in
     let empty : claims.items ≡ [] = nil-of-length claims.items (omega (arith, none, claims.ok)) in
-    (audited-stuck c.args.core c.args.records.now c.loop-place.place c.loop-place.core c.loop-place.found c.closed.result
+    (audited-stuck c.args.core.now c.args.records.now c.loop-place.place c.loop-place.core c.loop-place.found c.closed.result
     c.loop-place.invariant (omega arith) (c.in_ok-claims.ensures.none empty) c.closed.ensures.first
     c.closed.ensures.instructions).turns
 
@@ -40,9 +40,9 @@ loop-place-preserved g c =
     rw (← c.as_slice.ensures.value) c.in_ok-more.ensures in
     let long : c.len-place.result ≡ length c.in_ok-claims.claims.items =
     omega (arith, c.len-place.ensures, c.in_ok-claims.claims.ok) in
-    subst (λ (n : ℕ). IsAuditedTo c.args.core c.args.records.now (c.loop-place.place + n) c.claims_from.new.core
+    subst (λ (n : ℕ). IsAuditedTo c.args.core.now c.args.records.now (c.loop-place.place + n) c.claims_from.new.core
     c.and-found.result) (sym long)
-    (audited-more c.args.core c.args.records.now c.loop-place.place c.loop-place.core c.claims_from.new.core
+    (audited-more c.args.core.now c.args.records.now c.loop-place.place c.loop-place.core c.claims_from.new.core
     c.loop-place.found c.in_ok-more.more c.and-found.result c.in_ok-claims.claims.items c.loop-place.invariant
     c.in_ok-claims.ensures.claims found c.in_ok-claims.ensures.few c.and-found.ensures.instructions
     c.and-found.ensures.first)

@@ -22,7 +22,7 @@ loop-place-preserved c =
     let long : length c.push.new.self.items ≡ length (claims ++ claim ∷ []) =
     ap (λ (l : List Claim). length l) c.in_ok-push.ensures.items in (
       omega (arith, long, length-append claims (claim ∷ []), c.loop-place.invariant.0),
-      rw (c.in_ok-push.ensures.items, c.in_ok-claim_of.ensures.laid) more,
+      rw (c.in_ok-push.ensures.items, c.in_ok-claim_of.ensures.applied) more,
     )
 
 pub returns-clause-none : goal.returns-clause-none

@@ -1,4 +1,4 @@
--- The records so far have claims, and were laid.
+-- The records so far have claims, and were applied.
 use Rattle.std.proofs.Common.{◌≡◌, ◌+◌, drop, length}
 use Rattle.memo_audit.specs.Claims.{AreClaims}
 use Rattle.memo_audit.proofs.claims.claims_from.Given as goal

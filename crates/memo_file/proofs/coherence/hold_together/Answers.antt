@@ -2,7 +2,7 @@
 use Rattle.std.proofs.Common.{◌≡◌, ℕ, Option, Some, ap, sym, ◌∙◌, arith, rules}
 use Rattle.std.specs.Prelude.{slice_get}
 use Rattle.memo_spec.specs.Reading.{incoherent_from, coherent_or}
-use Rattle.memo_file.proofs.Cohering.{laid_next, stale_at}
+use Rattle.memo_file.proofs.Cohering.{applied_next, stale_at}
 use Rattle.memo_file.proofs.coherence.hold_together.Goals as goal
 
 pub returns-in-Err-Stale : goal.returns-in-Err-Stale
@@ -20,5 +20,5 @@ loop-i-preserved c =
     let rs = c.records-records.result.now in
     let r = c.deref.result.now in
     let e : slice_get rs c.loop-i.i ≡ Some r = search rules in
-    rw c.in-Ok.ensures.ok (laid_next rs c.loop-i.core c.loop-i.i r _ (omega arith) e c.in-Ok.ensures.fitting
+    rw c.in-Ok.ensures.ok (applied_next rs c.loop-i.core c.loop-i.i r _ (omega arith) e c.in-Ok.ensures.fitting
     c.loop-i.invariant)

@@ -1,4 +1,4 @@
--- What is still laid, from the machine so far on, tells what is told of all.
+-- What is still applied, from the machine so far on, tells what is told of all.
 use Rattle.std.proofs.Common.{◌≡◌, drop}
 use Rattle.memo_spec.specs.Reading.{incoherent_from}
 use Rattle.memo_file.proofs.coherence.hold_together.Given as goal

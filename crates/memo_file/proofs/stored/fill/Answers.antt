@@ -1,5 +1,7 @@
 -- Answers to the goals that the check leaves of `fill`.
 use Rattle.std.proofs.Common.{◌≡◌, ◌≤◌, ◌*◌, ℕ, List, length, arith, ap, ◌∙◌}
+use Rattle.std.proofs.lemmas.List.{length-replicate}
+use Rattle.memory_spec.specs.Pages.{zero_page}
 use Rattle.record_spec.specs.Delta.{is_stored}
 use Rattle.memo_spec.specs.Reading.{marks_of}
 use Rattle.memo_spec.proofs.Formats.{AreBytes-of}
@@ -11,10 +13,14 @@ use Rattle.memo_file.proofs.stored.fill.Goals.{then-marks-group-ne0, else-marks-
 whole : (marks : List ℕ) → length marks ≡ 512 → length (marks_of marks) ≡ 4096
 whole marks size = omega (arith, length_marks marks, size)
 
+blank_long : length zero_page ≡ 4096
+unfolding zero_page
+blank_long = length-replicate {A = ℕ} 4096 0
+
 pub loop-group-init : goal.loop-group-init
 loop-group-init c =
-    rw c.requires.blank (filled_first (marks_of c.args.marks.now) c.args.bytes.now c.args.stored.now.page
-    (whole c.args.marks.now c.requires.size) c.bytes-page.ensures.whole)
+    rw c.requires.blank (filled_first (marks_of c.args.marks.now) c.args.bytes.now zero_page
+    (whole c.args.marks.now c.requires.size) blank_long)
 
 pub loop-group-preserved : goal.loop-group-preserved
 loop-group-preserved c =

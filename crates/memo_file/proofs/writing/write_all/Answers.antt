@@ -1,7 +1,7 @@
 -- The digest stands behind the rest.
 use Rattle.std.proofs.Common.{◌≡◌, ◌++◌, ℕ, List, ap, ◌∙◌}
 use Rattle.sha2.specs.Sha256.{sha256}
-use Rattle.memo_spec.specs.Spelling.{body, memo_in, memo}
+use Rattle.memo_spec.specs.Encoding.{body, memo_in, memo}
 use Rattle.memo_spec.specs.declared.Format.TheVariants.{Version2}
 use Rattle.memo_file.proofs.writing.write_all.Goals as goal
 

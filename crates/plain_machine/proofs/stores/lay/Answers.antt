@@ -15,7 +15,7 @@ returns-in_ok-write-clause-ok c =
     rw (← c.stored.view_is)
     (c.in_ok-write.ensures.ok
     ∙ ap (λ (o : ℕ). set m c.in-Some.slot (with_number (page_of m c.in-Some.slot) o s.size s.value))
-    c.offset_of-offset.ensures.value
+    c.offset_of-offset.ensures
     ∙ ap (λ (k : ℕ). set m k (with_number (page_of m k) (s.address % 4096) s.size s.value)) slot
     ∙ sym (laid_in_page map m s.address s.size s.value c.stored.invariant mapped))
 

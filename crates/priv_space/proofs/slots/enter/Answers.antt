@@ -1,13 +1,11 @@
 -- Answers to the goals that the check leaves of `enter`.
 use Rattle.std.proofs.Common.{arith}
-use Rattle.std.proofs.lemmas.List.{with_items_is}
 use Rattle.priv_space.specs.Changes.{EntersPage}
 use Rattle.priv_space.proofs.Held.{put-touched, change-put}
 use Rattle.priv_space.proofs.slots.enter.Goals as goal
 
 pub returns-clause-entered : goal.returns-clause-entered
 returns-clause-entered c entered =
-    let p =
-    put-touched c.enter.new.self c.slots.view_is c.deref_mut.ensures.value c.in-Ok.ensures c.requires
-    c.index_mut.ensures.value (with_items_is c.slots.inside.places c.place_for.new.places (omega arith)) in
+    let p = put-touched c.enter.new.self c.slots.inside.places c.slots.view_is c.deref_mut.ensures.value
+    c.in-Ok.ensures c.requires c.index_mut.ensures.value (omega arith) in
     change-put EntersPage p (c.enter.ensures.entered entered)

@@ -1,6 +1,5 @@
 -- Answers to the goals that the check leaves of `fetch`.
 use Rattle.std.proofs.Common.{arith}
-use Rattle.std.proofs.lemmas.List.{with_items_is}
 use Rattle.memory_spec.specs.Pages.{page_of}
 use Rattle.priv_space.specs.Changes.{any, TakesNumber}
 use Rattle.priv_space.proofs.Held.{put-touched, shared-put, change-put}
@@ -8,21 +7,18 @@ use Rattle.priv_space.proofs.slots.fetch.Goals as goal
 
 pub fetch-requires-clause-share : goal.fetch-requires-clause-share
 fetch-requires-clause-share c =
-    let p =
-    put-touched c.index_mut.result.now c.slots.view_is c.deref_mut.ensures.value c.in_ok-place.ensures c.requires.within.slot
-    c.index_mut.ensures.value (with_items_is c.slots.inside.places c.place_for.new.places (omega arith)) in
+    let p = put-touched c.index_mut.result.now c.slots.inside.places c.slots.view_is c.deref_mut.ensures.value
+    c.in_ok-place.ensures c.requires.within.slot c.index_mut.ensures.value (omega arith) in
     shared-put c.args.view.now p c.requires.over
 
 pub invariant_of-slots-2 : goal.invariant_of-slots-2
 invariant_of-slots-2 c =
-    let p =
-    put-touched c.fetch.new.self c.slots.view_is c.deref_mut.ensures.value c.in_ok-place.ensures c.requires.within.slot
-    c.index_mut.ensures.value (with_items_is c.slots.inside.places c.place_for.new.places (omega arith)) in
+    let p = put-touched c.fetch.new.self c.slots.inside.places c.slots.view_is c.deref_mut.ensures.value
+    c.in_ok-place.ensures c.requires.within.slot c.index_mut.ensures.value (omega arith) in
     p.each
 
 pub returns : goal.returns
 returns c =
-    let p =
-    put-touched c.fetch.new.self c.slots.view_is c.deref_mut.ensures.value c.in_ok-place.ensures c.requires.within.slot
-    c.index_mut.ensures.value (with_items_is c.slots.inside.places c.place_for.new.places (omega arith)) in
+    let p = put-touched c.fetch.new.self c.slots.inside.places c.slots.view_is c.deref_mut.ensures.value
+    c.in_ok-place.ensures c.requires.within.slot c.index_mut.ensures.value (omega arith) in
     change-put (TakesNumber any (page_of c.args.view.now c.args.access.slot) c.args.access _) p c.fetch.ensures

@@ -1,6 +1,5 @@
 -- Answers to the goals that the check leaves of `store`.
 use Rattle.std.proofs.Common.{arith}
-use Rattle.std.proofs.lemmas.List.{with_items_is}
 use Rattle.memory_spec.specs.Pages.{page_of}
 use Rattle.priv_space.specs.Changes.{StoresNumber}
 use Rattle.priv_space.proofs.Held.{put-touched, shared-put, outcome-put}
@@ -8,14 +7,12 @@ use Rattle.priv_space.proofs.slots.store.Goals as goal
 
 pub store-requires-clause-share : goal.store-requires-clause-share
 store-requires-clause-share c =
-    let p =
-    put-touched c.index_mut.result.now c.slots.view_is c.deref_mut.ensures.value c.in_ok-place.ensures c.requires.within.slot
-    c.index_mut.ensures.value (with_items_is c.slots.inside.places c.place_for.new.places (omega arith)) in
+    let p = put-touched c.index_mut.result.now c.slots.inside.places c.slots.view_is c.deref_mut.ensures.value
+    c.in_ok-place.ensures c.requires.within.slot c.index_mut.ensures.value (omega arith) in
     shared-put c.args.view.now p c.requires.over
 
 pub returns : goal.returns
 returns c =
-    let p =
-    put-touched c.store.new.self c.slots.view_is c.deref_mut.ensures.value c.in_ok-place.ensures c.requires.within.slot
-    c.index_mut.ensures.value (with_items_is c.slots.inside.places c.place_for.new.places (omega arith)) in
+    let p = put-touched c.store.new.self c.slots.inside.places c.slots.view_is c.deref_mut.ensures.value
+    c.in_ok-place.ensures c.requires.within.slot c.index_mut.ensures.value (omega arith) in
     outcome-put (λ done. StoresNumber (page_of c.args.view.now c.args.access.slot) c.args.access c.args.value) c.store.result p c.store.ensures

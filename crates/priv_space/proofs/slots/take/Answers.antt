@@ -1,6 +1,5 @@
 -- Answers to the goals that the check leaves of `take`.
 use Rattle.std.proofs.Common.{arith}
-use Rattle.std.proofs.lemmas.List.{with_items_is}
 use Rattle.memory_spec.specs.Pages.{page_of, allows, read_right}
 use Rattle.priv_space.specs.Changes.{TakesNumber}
 use Rattle.priv_space.proofs.Held.{put-touched, shared-put, outcome-put}
@@ -8,14 +7,12 @@ use Rattle.priv_space.proofs.slots.take.Goals as goal
 
 pub take-requires-clause-share : goal.take-requires-clause-share
 take-requires-clause-share c =
-    let p =
-    put-touched c.index_mut.result.now c.slots.view_is c.deref_mut.ensures.value c.in_ok-place.ensures c.requires.within.slot
-    c.index_mut.ensures.value (with_items_is c.slots.inside.places c.place_for.new.places (omega arith)) in
+    let p = put-touched c.index_mut.result.now c.slots.inside.places c.slots.view_is c.deref_mut.ensures.value
+    c.in_ok-place.ensures c.requires.within.slot c.index_mut.ensures.value (omega arith) in
     shared-put c.args.view.now p c.requires.over
 
 pub returns : goal.returns
 returns c =
-    let p =
-    put-touched c.take.new.self c.slots.view_is c.deref_mut.ensures.value c.in_ok-place.ensures c.requires.within.slot
-    c.index_mut.ensures.value (with_items_is c.slots.inside.places c.place_for.new.places (omega arith)) in
+    let p = put-touched c.take.new.self c.slots.inside.places c.slots.view_is c.deref_mut.ensures.value
+    c.in_ok-place.ensures c.requires.within.slot c.index_mut.ensures.value (omega arith) in
     outcome-put (TakesNumber (allows read_right) (page_of c.args.view.now c.args.access.slot) c.args.access) c.take.result p c.take.ensures

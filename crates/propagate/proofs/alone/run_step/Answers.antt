@@ -9,8 +9,8 @@ use Rattle.propagate.specs.Executing.{Costs}
 use Rattle.propagate.proofs.Executing.{run-record, own-commits, own-counts}
 use Rattle.propagate.proofs.alone.run_step.Goals as goal
 
-pub make-requires : goal.make-requires
-make-requires c =
+pub commit_executed-requires : goal.commit_executed-requires
+commit_executed-requires c =
     let own : arc_value c.in_ok-run.run'.rec ≡ record_of c.args.round.now.machine c.args.t =
     run-record c.args.round.now.machine c.args.t c.in_ok-job.job c.in_ok-run.run' c.in_ok-job.ensures.job
     c.in_ok-run.ensures.run in
@@ -25,15 +25,15 @@ with_ok (Err e) f p = tt
 
 pub returns-clause-cost : goal.returns-clause-cost
 returns-clause-cost c =
-    with_ok c.make.result
+    with_ok c.commit_executed.result
     (λ committed.
     let counts =
-    own-counts c.args.round.now c.take.new.self c.make.new.self c.args.t (arc_value c.in_ok-run.run'.rec)
+    own-counts c.args.round.now c.take.new.self c.commit_executed.new.self c.args.t (arc_value c.in_ok-run.run'.rec)
     c.take.ensures.valid.in_order c.take.ensures.valid.counted
     c.requires c.in_ok-job.ensures.ok committed
     (run-record c.args.round.now.machine c.args.t c.in_ok-job.job c.in_ok-run.run' c.in_ok-job.ensures.job
     c.in_ok-run.ensures.run) in
-    let cost : Costs c.args.turns.now c.args.round.now c.execute.new.turns c.make.new.self =
+    let cost : Costs c.args.turns.now c.args.round.now c.execute.new.turns c.commit_executed.new.self =
     omega (arith, counts, c.in_ok-run.ensures.cost) in
     cost)
-    c.make.ensures.ok
+    c.commit_executed.ensures.ok

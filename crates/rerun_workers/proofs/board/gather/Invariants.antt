@@ -9,10 +9,10 @@ use Rattle.rerun_workers.proofs.board.gather.Given as goal
 abbrev pub invariant-loop-passes : goal.invariant-loop-passes
 invariant-loop-passes g l =
     (l.all.parts + vec_len l.passes ≡ vec_len l.fn.passes)
-    × (l.all.amount ≡ sum l.shares.items)
-    × (vec_len l.shares + vec_len l.passes ≡ vec_len l.fn.passes)
-    × (vec_len l.fn.passes ≤ vec_capacity l.shares)
-    × (l.shares.items ++ map (λ pass. pass.steps) l.passes.items ≡ map (λ pass. pass.steps) l.fn.passes.items)
+    × (l.all.amount ≡ sum l.worker_steps.items)
+    × (vec_len l.worker_steps + vec_len l.passes ≡ vec_len l.fn.passes)
+    × (vec_len l.fn.passes ≤ vec_capacity l.worker_steps)
+    × (l.worker_steps.items ++ map (λ pass. pass.steps) l.passes.items ≡ map (λ pass. pass.steps) l.fn.passes.items)
     × (l.turns + sum_by (λ pass. pass.turns) l.passes.items ≡ sum_by (λ pass. pass.turns) l.fn.passes.items)
     × ((h : History) → g.J.Naming.past ≡ Some h → IsUnedited h g.J.Naming.setup → l.turns ≡ 0)
 

@@ -1,6 +1,5 @@
 -- What is left to prove of `last_numbers`.
 use Rattle.std.proofs.Common.{◌≤◌, ◌∷◌, [], ◌++◌, ap, ◌∙◌, arith}
-use Rattle.std.specs.Prelude.{Some}
 use Rattle.std.specs.Option.{option_to_list}
 use Rattle.std.proofs.lemmas.List.Elements.{All-push, All-same}
 use Rattle.rerun_workers.proofs.board.last_numbers.Goals as goal

@@ -8,14 +8,14 @@ use Rattle.rerun_workers.proofs.running.run_by_first.Goals as goal
 pub returns-clause-round : goal.returns-clause-round
 returns-clause-round g c =
     let steps = length c.in_ok-round.round.schedule in
-    let shares : c.in_ok-shares.shares.items ≡ steps ∷ replicate (c.args.workers - 1) 0 = search rules in
+    let worker_steps : c.in_ok-worker_steps.worker_steps.items ≡ steps ∷ replicate (c.args.workers - 1) 0 = search rules in
     by-one c.args.workers c.args.setup (option_map arc_value c.args.past) c.in_ok-round.round
-    c.in_ok-shares.shares.items c.in_ok-round.ensures.alone c.in_ok-round.ensures.sound c.schedule.ensures.valid.by_schedule
-    (first-each c.args.workers steps c.in_ok-shares.shares.items c.requires.some shares)
-    (first-sum c.args.workers steps c.in_ok-shares.shares.items shares)
+    c.in_ok-worker_steps.worker_steps.items c.in_ok-round.ensures.alone c.in_ok-round.ensures.sound c.schedule.ensures.valid.by_schedule
+    (first-each c.args.workers steps c.in_ok-worker_steps.worker_steps.items c.requires.some worker_steps)
+    (first-sum c.args.workers steps c.in_ok-worker_steps.worker_steps.items worker_steps)
 
 pub returns-clause-cost : goal.returns-clause-cost
 returns-clause-cost g c =
     cost-first c.args.workers c.args.turns c.run_alone_shown.new.turns c.args.setup (option_map arc_value c.args.past)
-    c.in_ok-round.round c.in_ok-shares.shares.items (returns-clause-round g c) c.in_ok-round.ensures.cost
+    c.in_ok-round.round c.in_ok-worker_steps.worker_steps.items (returns-clause-round g c) c.in_ok-round.ensures.cost
     c.requires.unused c.requires.idle

@@ -8,8 +8,8 @@ use Rattle.rerun_workers.proofs.watched.run_watched.Goals as goal
 pub returns-clause-last : goal.returns-clause-last
 returns-clause-last g c =
     let steps : ℕ = length c.close_watched-worked.result.0.round.schedule in
-    let seat = c.join-seat.result.0.0 in
-    let numbers : List ℕ = c.join-seat.result.0.1.items in
+    let seat = c.work_watched-seat.result.0 in
+    let numbers : List ℕ = c.work_watched-seat.result.1.items in
     let watches : c.push_reserved.new.self.items ≡ seat ∷ [] = search rules in
     let seen : seat.reader.seen ≤ steps =
     All-head (λ watch. watch.reader.seen ≤ steps) seat []

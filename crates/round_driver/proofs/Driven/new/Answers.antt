@@ -8,5 +8,5 @@ pub invariant_of-result : goal.invariant_of-result
 invariant_of-result c =
     record {
       held = jobs-none c.in_ok-round.round c.from_fn.result c.from_fn.ensures.items.long
-          (ap (λ (w : RoundState). w.out) c.in_ok-round.ensures.round);
+          (ap (λ (w : RoundState). w.in_flight) c.in_ok-round.ensures.round);
     }

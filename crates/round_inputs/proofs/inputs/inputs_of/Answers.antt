@@ -4,7 +4,7 @@ use Rattle.std.proofs.lemmas.Result.{err_from_is_err_and}
 use Rattle.std.proofs.lemmas.List.Elements.{All-from_recursion}
 use Rattle.machine_spec.specs.declared.TheConstants.{MOST_INPUT_BYTES}
 use Rattle.rerun_spec.proofs.Inputs.{inputs-short}
-use Rattle.round_inputs.specs.Coming.{inputs_from}
+use Rattle.round_inputs.specs.Pending.{inputs_from}
 use Rattle.round_inputs.specs.Lists.{bytes_of_each}
 use Rattle.round_inputs.proofs.Leading.{leads-done}
 use Rattle.round_inputs.proofs.Going.{one-more, refused-there}

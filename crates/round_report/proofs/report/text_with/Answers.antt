@@ -3,7 +3,7 @@ use Rattle.std.proofs.Common.{◌≡◌, ℕ, List, [], ◌∷◌, ◌++◌, len
 use Rattle.std.specs.List.{concat}
 use Rattle.std.proofs.lemmas.List.Folds.{concat-append}
 use Rattle.report_spec.specs.Text.{newline, line, list_line}
-use Rattle.report_spec.specs.Report.{Told, ending_text, entry_text, reused_count, executed_count, memory_digest, reached_lines, progress_lines, report_lines, report_text}
+use Rattle.report_spec.specs.Report.{ReportData, ending_text, entry_text, reused_count, executed_count, memory_digest, reached_lines, progress_lines, report_lines, report_text}
 use Rattle.round_report.specs.Parts.{steps_part, work_part, outcome_part}
 use Rattle.round_report.proofs.report.text_with.Goals as goal
 
@@ -19,12 +19,12 @@ cut a b c d e more f g others h i j output end =
     ) (simp append_assoc)
 
 -- a report in its parts
-opened : (n : ℕ) (t : Told) → report_text n t ≡ concat (report_lines n t) ++ t.output ++ newline
+opened : (n : ℕ) (t : ReportData) → report_text n t ≡ concat (report_lines n t) ++ t.output ++ newline
 unfolding report_text
 opened n t = refl
 
 in_parts :
-    (n : ℕ) (t : Told)
+    (n : ℕ) (t : ReportData)
     → concat (report_lines n t) ++ t.output ++ newline
     ≡ line (codes "round") (decimal n) ++ steps_part t ++ work_part t ++ outcome_part t
 in_parts n t =
@@ -36,7 +36,7 @@ in_parts n t =
     (line (codes "executed") (decimal (executed_count t.schedule)))
     (reached_lines t.extras.reached)
     (line (codes "instructions") (decimal t.instructions))
-    (list_line (codes "by") decimal t.shares)
+    (list_line (codes "by") decimal t.worker_steps)
     (progress_lines t.extras.progress)
     (list_line (codes "schedule") entry_text t.schedule)
     (line (codes "memory") (memory_digest t.memory))
@@ -45,7 +45,7 @@ in_parts n t =
     newline
 
 report_text_is :
-    (n : ℕ) (t : Told)
+    (n : ℕ) (t : ReportData)
     → report_text n t ≡ line (codes "round") (decimal n) ++ steps_part t ++ work_part t ++ outcome_part t
 report_text_is n t = opened n t ∙ in_parts n t
 

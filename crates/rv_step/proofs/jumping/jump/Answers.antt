@@ -7,14 +7,15 @@ use Rattle.rv_step.proofs.Words.{inside-leads, offset-leads, word_at-aligned, li
 use Rattle.rv_step.proofs.jumping.jump.Goals as goal
 
 pub returns : goal.returns
-returns c =
+returns c w r =
     let p = c.args.placed in
     let inside : p.imm < 1024 = p.inside c.requires.inside in
-    inside-leads p c.args.regs.now c.args.regs.now p.imm
+    inside-leads p r r p.imm
     (instr.Jal 0 (offset_to (word_at p.number p.index) p.imm)) c.requires.stands inside
-    (λ w.
+    (λ v.
     rw (
-      linked-zero (at_word p.number p.index c.args.regs.now),
+      linked-zero (at_word p.number p.index r),
       offset-leads p.number p.index p.imm p.few_pages (p.within c.requires.inside) inside,
       word_at-aligned p.number p.imm,
     ) refl)
+    w

@@ -1,8 +1,9 @@
 -- What is left to prove of `run_page`.
 use Rattle.std.proofs.Common.{◌≡◌, ◌+◌, ◌-◌, ◌<◌, refl, arith}
 use Rattle.isa_spec.specs.Registers.{with_pc}
-use Rattle.rv_step.specs.Paging.{at_word}
+use Rattle.rv_step.specs.Paging.{at_word, instr_placed}
 use Rattle.rv_step.proofs.Pages.{placed-within, placed-more}
+use Rattle.rv_step.proofs.Zero.{executes-zero}
 use Rattle.rv_step.proofs.page.run_page.Goals as goal
 
 pub turns-preserved-in-Ok-Next : goal.turns-preserved-in-Ok-Next
@@ -18,7 +19,7 @@ turns-preserved-in-Ok-Next g c =
     here.operation here.number here.index c.turns.invariant.within led.0 in
     let more = placed-more page p c.turns.index (c.turns.ahead + c.turns.index - 1024)
     (c.turns.ahead + (c.turns.index + 1) - 1024) (g.M.Mem.workspace c.args.mem.now) w after c.args.regs.now c.turns.regs
-    registers here.code here.operation here.number here.index c.turns.invariant.runs c.as_array-zero.ensures.zero
+    registers here.code here.operation here.number here.index c.turns.invariant.runs c.turns.invariant.zero
     c.turns.invariant.follow within (omega arith) led.0 in
     let same : registers ≡ at_word page.number (c.turns.index + 1) c.execute_operation.new.regs =
     rw (here.number, here.index) refl in
@@ -27,6 +28,7 @@ turns-preserved-in-Ok-Next g c =
       some = omega arith;
       few = c.turns.invariant.few;
       counted = c.turns.invariant.counted;
+      zero = executes-zero (instr_placed p) w after (at_word p.number p.index c.turns.regs) registers c.turns.invariant.zero led.0;
       runs = (rw here.number at led.1) page.bytes c.turns.invariant.runs;
       follow = rw (← same) more;
     }
@@ -48,7 +50,7 @@ turns-preserved g c =
     (c.turns.ahead - (1023 - c.turns.index) + (1024 - target) + target - 1024) (g.M.Mem.workspace c.args.mem.now) w
     after
     c.args.regs.now c.turns.regs
-    registers here.code here.operation here.number here.index c.turns.invariant.runs c.as_array-zero.ensures.zero
+    registers here.code here.operation here.number here.index c.turns.invariant.runs c.turns.invariant.zero
     c.turns.invariant.follow within (omega arith) led.0 in
     let same : registers ≡ at_word page.number target c.execute_operation.new.regs =
     rw here.number refl in
@@ -57,6 +59,7 @@ turns-preserved g c =
       some = omega arith;
       few = omega arith;
       counted = c.turns.invariant.counted;
+      zero = executes-zero (instr_placed p) w after (at_word p.number p.index c.turns.regs) registers c.turns.invariant.zero led.0;
       runs = (rw here.number at led.1) page.bytes c.turns.invariant.runs;
       follow = rw (← same) more;
     }
@@ -75,7 +78,7 @@ returns-then-made-room-clause-turns g c =
     rw (c.leave.ensures.registers, c.address_of-pc.ensures)
     (placed-more page p c.turns.index (c.turns.ahead + c.turns.index - 1024) c.leave.result.count
     (g.M.Mem.workspace c.args.mem.now) w after c.args.regs.now c.turns.regs registers here.code here.operation
-    here.number here.index c.turns.invariant.runs c.as_array-zero.ensures.zero c.turns.invariant.follow within
+    here.number here.index c.turns.invariant.runs c.turns.invariant.zero c.turns.invariant.follow within
     (omega arith) led.0)
 
 pub returns-in-Ok-Outside-clause-turns : goal.returns-in-Ok-Outside-clause-turns
@@ -92,7 +95,7 @@ returns-in-Ok-Outside-clause-turns g c =
     rw c.leave-in-Ok-Outside.ensures.registers
     (placed-more page p c.turns.index (c.turns.ahead + c.turns.index - 1024) c.leave-in-Ok-Outside.result.count
     (g.M.Mem.workspace c.args.mem.now) w after c.args.regs.now c.turns.regs registers here.code here.operation
-    here.number here.index c.turns.invariant.runs c.as_array-zero.ensures.zero c.turns.invariant.follow within
+    here.number here.index c.turns.invariant.runs c.turns.invariant.zero c.turns.invariant.follow within
     (omega arith) led)
 
 pub returns-in-Ok-Changed-clause-turns : goal.returns-in-Ok-Changed-clause-turns
@@ -109,5 +112,5 @@ returns-in-Ok-Changed-clause-turns g c =
     rw (c.leave-in-Ok-Changed.ensures.registers, c.address_of-pc-in-Ok-Changed.ensures, ← here.index)
     (placed-more page p c.turns.index (c.turns.ahead + c.turns.index - 1024) c.leave-in-Ok-Changed.result.count
     (g.M.Mem.workspace c.args.mem.now) w after c.args.regs.now c.turns.regs registers here.code here.operation
-    here.number here.index c.turns.invariant.runs c.as_array-zero.ensures.zero c.turns.invariant.follow within
+    here.number here.index c.turns.invariant.runs c.turns.invariant.zero c.turns.invariant.follow within
     (omega arith) led)

@@ -1,5 +1,6 @@
 -- What holds at the loop of `run_page`.
 use Rattle.std.proofs.Common.{◌≡◌, ◌+◌, ◌-◌, ◌≤◌}
+use Rattle.isa_spec.specs.Registers.{register}
 use Rattle.page_map.specs.Entering.{RunsFrom}
 use Rattle.rv_step.specs.Step.{Follow}
 use Rattle.rv_step.specs.Paging.{at_word}
@@ -11,6 +12,7 @@ invariant-turns g l = record {
   some : 1024 ≤ l.ahead + l.index;
   few : l.ahead ≤ l.room;
   counted : l.turns ≡ l.fn.turns;
+  zero : register l.regs 0 ≡ 0;
   runs : RunsFrom (g.M.Mem.workspace l.mem) l.page.number l.page.bytes;
   follow : Follow (l.ahead + l.index - 1024) (g.M.Mem.workspace l.fn.mem) l.fn.regs (g.M.Mem.workspace l.mem)
       (at_word l.page.number l.index l.regs);

@@ -33,8 +33,8 @@ returns-in_err-add_token-2-clause-refused c =
     (refused_there c.args.text.now c.loop-piece.rest.now [] c.loop-piece.threads.items
     c.in_err-add_token-2.field-0.0 has c.in_err-add_token-2.ensures.refused)
 
-pub returns-clause-spelled : goal.returns-clause-spelled
-returns-clause-spelled c =
+pub returns-clause-encoded : goal.returns-clause-encoded
+returns-clause-encoded c =
     all_read c.args.text.now c.add_token-2.new.threads.items
     (piece_read c.args.text.now c.loop-piece.rest.now [] c.loop-piece.threads.items c.add_token-2.new.threads.items
     (last_piece c.args.text.now c.loop-piece.rest.now c.loop-piece.threads.items c.in_default.ensures

@@ -1,6 +1,6 @@
 -- What is left to prove of `thread_of`.
 use Rattle.std.proofs.Common.{sym, ◌∙◌, arith}
-use Rattle.schedule_list.proofs.Spelling.{one_number, no_thread}
+use Rattle.schedule_list.proofs.Encoding.{one_number, no_thread}
 use Rattle.schedule_list.proofs.token.thread_of.Goals as goal
 
 pub returns-in_default : goal.returns-in_default

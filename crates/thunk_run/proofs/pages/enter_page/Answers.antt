@@ -6,7 +6,7 @@ use Rattle.thunk_run.proofs.pages.enter_page.Goals as goal
 pub returns-in_err-page-clause-left : goal.returns-in_err-page-clause-left
 returns-in_err-page-clause-left g c n some =
     entered-left (g.M.Mem.workspace c.args.mem.now) (g.M.Mem.workspace c.enter.new.self) c.args.regs.now c.pc-pc.result
-    c.in_ok-slot.slot n c.pc-pc.ensures c.in_ok-slot.ensures.entered c.if-pc-ne0.false some
+    c.in_ok-slot.slot n c.pc-pc.ensures.value c.in_ok-slot.ensures.entered c.if-pc-ne0.false some
 
 pub returns-then-number-pc-clause-runs : goal.returns-then-number-pc-clause-runs
 returns-then-number-pc-clause-runs g c =
@@ -17,9 +17,9 @@ returns-then-number-pc-clause-runs g c =
 pub returns-then-number-pc-clause-left : goal.returns-then-number-pc-clause-left
 returns-then-number-pc-clause-left g c n some =
     entered-left (g.M.Mem.workspace c.args.mem.now) (g.M.Mem.workspace c.enter.new.self) c.args.regs.now c.pc-pc.result
-    c.in_ok-slot.slot n c.pc-pc.ensures c.in_ok-slot.ensures.entered c.if-pc-ne0.false some
+    c.in_ok-slot.slot n c.pc-pc.ensures.value c.in_ok-slot.ensures.entered c.if-pc-ne0.false some
 
 pub returns-else-number-pc-clause-left : goal.returns-else-number-pc-clause-left
 returns-else-number-pc-clause-left g c n some =
     entered-left (g.M.Mem.workspace c.args.mem.now) (g.M.Mem.workspace c.enter.new.self) c.args.regs.now c.pc-pc.result
-    c.in_ok-slot.slot n c.pc-pc.ensures c.in_ok-slot.ensures.entered c.if-pc-ne0.false some
+    c.in_ok-slot.slot n c.pc-pc.ensures.value c.in_ok-slot.ensures.entered c.if-pc-ne0.false some

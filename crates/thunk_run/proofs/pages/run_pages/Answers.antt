@@ -1,6 +1,6 @@
 -- What is left to prove of `run_pages`.
 use Rattle.std.proofs.Common.{◌+◌, ◌-◌, refl, ap, ◌∙◌, arith}
-use Rattle.thunk_run.specs.Left.{counted}
+use Rattle.thunk_run.specs.TurnsOutcome.{counted}
 use Rattle.thunk_run.proofs.Entering.{follow-left, follow-view}
 use Rattle.thunk_run.proofs.pages.run_pages.Goals as goal
 

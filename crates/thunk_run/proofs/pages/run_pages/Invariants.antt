@@ -1,6 +1,6 @@
 -- What holds at the loop of `run_pages`.
 use Rattle.std.proofs.Common.{◌≡◌, ℕ, ◌+◌, ◌-◌, ◌≤◌}
-use Rattle.thunk_run.specs.Left.{left_after, counted}
+use Rattle.thunk_run.specs.TurnsOutcome.{left_after, counted}
 use Rattle.thunk_run.specs.Seeing.{AreSeen}
 use Rattle.thunk_run.proofs.pages.run_pages.Given as goal
 

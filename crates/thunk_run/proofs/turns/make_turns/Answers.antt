@@ -2,7 +2,7 @@
 use Rattle.std.proofs.Common.{◌≡◌, ℕ, ◌+◌, ◌-◌, ◌<◌, ◌≤◌, ◌⊎◌, Bool, true, false, ◌∙◌, sym, inl, inr, arith}
 use Rattle.thunk_run.proofs.Leaving.{turns-next, turns-call, turns-trap}
 use Rattle.thunk_run.proofs.Entering.{turn-view, left-more}
-use Rattle.thunk_run.specs.Left.{left_after}
+use Rattle.thunk_run.specs.TurnsOutcome.{left_after}
 use Rattle.thunk_run.proofs.turns.make_turns.Goals as goal
 use Rattle.thunk_run.proofs.turns.make_turns.Goals.{then-count-ge-LONG_TURNS+then-not-told, else-count-ge-LONG_TURNS}
 use Rattle.thunk_run.proofs.turns.make_turns.Goals.{else-count-ge-LONG_TURNS-via-then-count-ge-LONG_TURNS+else-not-told}

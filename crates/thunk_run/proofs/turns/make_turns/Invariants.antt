@@ -1,6 +1,6 @@
 -- What holds at the loop of `make_turns`.
 use Rattle.std.proofs.Common.{◌≡◌, ◌+◌, ◌-◌, ◌≤◌, ◌⊎◌, false}
-use Rattle.thunk_run.specs.Left.{left_after, counted}
+use Rattle.thunk_run.specs.TurnsOutcome.{left_after, counted}
 use Rattle.thunk_run.specs.Seeing.{AreSeen}
 use Rattle.thunk_run.proofs.turns.make_turns.Given as goal
 

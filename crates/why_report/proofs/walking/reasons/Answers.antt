@@ -1,66 +1,19 @@
 -- What is left to prove of `reasons`.
-use Rattle.std.proofs.Common.{◌≡◌, length, map, ap, sym, subst, ◌∙◌, arith}
-use Rattle.std.proofs.lemmas.List.{get_or-replicate}
+use Rattle.std.proofs.Common.{ap, subst, sym, ◌∙◌}
 use Rattle.machine_spec.specs.Setup.{first}
 use Rattle.machine_spec.specs.Whole.{IsWhole}
 use Rattle.machine_spec.proofs.Beginning.{IsWhole-first}
 use Rattle.memo_listing.specs.Listing.{addresses_of}
-use Rattle.why_report.specs.declared.reason.Reason.{Reason}
-use Rattle.why_report.proofs.Steps.{first-before}
-use Rattle.why_report.proofs.Told.{told_so_far, executed_so_far, told-next, each-next, all-told, told-scratch}
 use Rattle.why_report.proofs.walking.reasons.Goals as goal
 
-pub loop-step-init : goal.loop-step-init
-loop-step-init c = record {
+pub reasons_from-requires : goal.reasons_from-requires
+reasons_from-requires c = record {
+  first = c.in_ok-core.ensures.first ∙ ap first c.setup-2.ensures;
+  whole = subst IsWhole (sym c.in_ok-core.ensures.first) (IsWhole-first c.setup-2.result.now c.in_ok-core.ensures.sound);
   pages =
       record {
         addresses = c.in_ok-addresses_of.ensures ∙ ap addresses_of c.setup.ensures;
         room = c.in_ok-no_searches.ensures.room;
         right = c.in_ok-no_searches.ensures.right c.args.round.now.records;
       };
-  before =
-      first-before c.args.round.now c.in_ok-core.core _ (c.in_ok-core.ensures.first ∙ ap first c.setup-2.ensures)
-      (λ t few. get_or-replicate 32 t 0 0 few);
-  whole = subst IsWhole (sym c.in_ok-core.ensures.first) (IsWhole-first c.setup-2.result.now c.in_ok-core.ensures.sound);
-  told = c.new-reasons.ensures.items;
-  each = λ old. ap (map (λ (r : Reason). r.step)) c.new-reasons.ensures.items;
 }
-
-pub loop-step-preserved : goal.loop-step-preserved
-loop-step-preserved c = record {
-  pages = c.reason_at-reason.ensures.pages;
-  before = c.in_ok-walk.ensures.before;
-  whole = c.in_ok-walk.ensures.whole;
-  told =
-      told-next c.args.round.now c.loop-step.step c.loop-step.reasons.items c.add_reason.new.reasons.items
-      c.reason_at-reason.result c.loop-step.invariant.told c.in_ok-add_reason.ensures c.reason_at-reason.ensures.reason;
-  each = λ old.
-      each-next c.args.round.now c.loop-step.step c.loop-step.reasons.items c.add_reason.new.reasons.items
-      c.reason_at-reason.result (c.loop-step.invariant.each old) c.in_ok-add_reason.ensures
-      c.reason_at-reason.ensures.reason (c.reason_at-reason.ensures.each old);
-}
-
-pub returns-clause-reasons : goal.returns-clause-reasons
-returns-clause-reasons c =
-    let same : length c.schedule-step-end.result.now ≡ length c.args.round.now.schedule =
-    ap length c.schedule-step-end.ensures.schedule in
-    let end : c.loop-step.step ≡ length c.args.round.now.schedule = omega arith in
-    all-told c.args.round.now c.loop-step.reasons.items
-    (c.loop-step.invariant.told ∙ ap (told_so_far c.args.round.now) end)
-
-pub returns-clause-each : goal.returns-clause-each
-returns-clause-each c =
-    let same : length c.schedule-step-end.result.now ≡ length c.args.round.now.schedule =
-    ap length c.schedule-step-end.ensures.schedule in
-    let end : c.loop-step.step ≡ length c.args.round.now.schedule = omega arith in
-    λ old. c.loop-step.invariant.each old ∙ ap (executed_so_far c.args.round.now) end
-
-pub returns-clause-scratch : goal.returns-clause-scratch
-returns-clause-scratch c =
-    let same : length c.schedule-step-end.result.now ≡ length c.args.round.now.schedule =
-    ap length c.schedule-step-end.ensures.schedule in
-    let end : c.loop-step.step ≡ length c.args.round.now.schedule = omega arith in
-    λ sound.
-    told-scratch c.args.round.now c.loop-step.reasons.items c.schedule-step-end.ensures.valid.setup c.schedule-step-end.ensures.valid.by_schedule sound
-    (all-told c.args.round.now c.loop-step.reasons.items
-    (c.loop-step.invariant.told ∙ ap (told_so_far c.args.round.now) end))

@@ -1,7 +1,7 @@
 -- What was written, and the pages that are left.
 use Rattle.std.proofs.Common.{◌≡◌, ◌++◌, drop, length}
 use Rattle.std.specs.List.{concat}
-use Rattle.memo_spec.specs.Spelling.{word}
+use Rattle.memo_spec.specs.Encoding.{word}
 use Rattle.memo_file.specs.WritingPool.{pages_lent}
 use Rattle.memo_file.proofs.writing.body.write_pool.Given as goal
 

@@ -4,7 +4,7 @@ use Rattle.std.specs.Prelude.{slice_get}
 use Rattle.std.specs.Arc.{arc_value}
 use Rattle.record_spec.specs.Record.{Record}
 use Rattle.machine_spec.specs.Setup.{map_of}
-use Rattle.memo_spec.specs.Spelling.{record_bytes, pool_of}
+use Rattle.memo_spec.specs.Encoding.{record_bytes, pool_of}
 use Rattle.memo_file.specs.WritingPool.{pages_lent}
 use Rattle.memo_file.specs.WritingSizes.{HasFewPages}
 use Rattle.memo_file.proofs.WritingRecords.{one_written, all_written, mapped_in, placed_at, places_left}
@@ -16,7 +16,7 @@ write_record-requires-clause-few c =
     let at : slice_get c.args.history.now.records c.loop-place.place ≡ Some (arc_value c.at-rec.result.now) =
     ap (λ (rs : List Record). slice_get rs c.loop-place.place) (sym c.records-records.ensures.records) ∙ c.at-rec.ensures in
     subst HasFewPages (sym c.deref.ensures)
-    (few_in_record c.args.history.now c.loop-place.place (arc_value c.at-rec.result.now) c.requires.spellable at)
+    (few_in_record c.args.history.now c.loop-place.place (arc_value c.at-rec.result.now) c.requires.encodable at)
 
 pub write_record-requires-clause-placed : goal.write_record-requires-clause-placed
 write_record-requires-clause-placed c =

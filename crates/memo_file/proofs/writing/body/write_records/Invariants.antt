@@ -1,7 +1,7 @@
--- What was written, what spells the records that are left, and the places that they need.
+-- What was written, what encodes the records that are left, and the places that they need.
 use Rattle.std.proofs.Common.{◌≡◌, ◌≤◌, ◌++◌, drop, map, length}
 use Rattle.std.specs.List.{flat_map}
-use Rattle.memo_spec.specs.Spelling.{record_bytes, pool_of, index_in, pages_read}
+use Rattle.memo_spec.specs.Encoding.{record_bytes, pool_of, index_in, pages_read}
 use Rattle.memo_file.specs.WritingPool.{pages_lent}
 use Rattle.memo_file.proofs.writing.body.write_records.Given as goal
 

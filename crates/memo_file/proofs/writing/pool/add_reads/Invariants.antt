@@ -1,7 +1,7 @@
 -- The read pages that are left lead from the pool so far to the pool of all, and to the places of all.
 use Rattle.std.proofs.Common.{◌≡◌, ◌+◌, ◌≤◌, ◌++◌, length, drop}
 use Rattle.std.specs.List.{fold}
-use Rattle.memo_spec.specs.Spelling.{with_page}
+use Rattle.memo_spec.specs.Encoding.{with_page}
 use Rattle.memo_file.specs.WritingPool.{pages_lent, bytes_read, places_from, IsIndexed}
 use Rattle.memo_file.proofs.writing.pool.add_reads.Given as goal
 

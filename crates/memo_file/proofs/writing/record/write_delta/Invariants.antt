@@ -1,7 +1,7 @@
--- What was written, and what spells the stored pages that are left.
+-- What was written, and what encodes the stored pages that are left.
 use Rattle.std.proofs.Common.{◌≡◌, ◌++◌, drop}
 use Rattle.std.specs.List.{flat_map}
-use Rattle.memo_spec.specs.Spelling.{stored_page}
+use Rattle.memo_spec.specs.Encoding.{stored_page}
 use Rattle.memo_file.proofs.writing.record.write_delta.Given as goal
 
 abbrev pub invariant-loop-stored : goal.invariant-loop-stored

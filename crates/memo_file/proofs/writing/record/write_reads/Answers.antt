@@ -3,7 +3,7 @@ use Rattle.std.proofs.Common.{◌≡◌, ◌+◌, ◌<◌, Some, length, refl, s
 use Rattle.std.specs.Prelude.{slice_get, slice_index}
 use Rattle.std.proofs.lemmas.Grind.{common_steps}
 use Rattle.std.proofs.lemmas.Option.{gets, slice_get_read, get_or_from_slice_get}
-use Rattle.memo_spec.specs.Spelling.{page_number, read_page}
+use Rattle.memo_spec.specs.Encoding.{page_number, read_page}
 use Rattle.memo_file.specs.WritingPool.{pages_lent}
 use Rattle.memo_file.proofs.WritingRecords.{one_written, read_written}
 use Rattle.memo_file.proofs.writing.record.write_reads.Goals as goal

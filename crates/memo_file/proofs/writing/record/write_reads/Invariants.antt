@@ -1,7 +1,7 @@
--- What was written, and what spells the read pages that are left.
+-- What was written, and what encodes the read pages that are left.
 use Rattle.std.proofs.Common.{◌≡◌, ◌++◌, drop}
 use Rattle.std.specs.List.{flat_map}
-use Rattle.memo_spec.specs.Spelling.{read_page}
+use Rattle.memo_spec.specs.Encoding.{read_page}
 use Rattle.memo_file.specs.WritingPool.{pages_lent}
 use Rattle.memo_file.proofs.writing.record.write_reads.Given as goal
 

@@ -3,7 +3,7 @@ use Rattle.std.proofs.Common.{◌≡◌, ◌<◌, ◌≤◌, ◌+◌, ◌++◌, 
 use Rattle.std.specs.List.{flat_map}
 use Rattle.std.proofs.lemmas.List.{take_more, take_all, drop-set, length-set}
 use Rattle.std.proofs.lemmas.List.Concat.{flat_map-append}
-use Rattle.memo_spec.specs.Spelling.{word}
+use Rattle.memo_spec.specs.Encoding.{word}
 use Rattle.memo_file.proofs.writing.record.write_registers.Goals as goal
 
 -- the first numbers with one more

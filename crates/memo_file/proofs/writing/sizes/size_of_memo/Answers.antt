@@ -12,7 +12,7 @@ size_of_record-size-requires c =
     let at : slice_get c.args.history.now.records c.loop-place.place ≡ Some (arc_value c.at.result.now) =
     ap (λ (rs : List Record). slice_get rs c.loop-place.place) (sym c.records-records.ensures.records) ∙ c.at.ensures in
     subst HasFewPages (sym c.deref.ensures)
-    (few_in_record c.args.history.now c.loop-place.place (arc_value c.at.result.now) c.requires.spellable at)
+    (few_in_record c.args.history.now c.loop-place.place (arc_value c.at.result.now) c.requires.encodable at)
 
 pub loop-place-preserved : goal.loop-place-preserved
 loop-place-preserved c =

@@ -1,6 +1,6 @@
--- What was written, and what spells the marks that are left. A word says how many places there are.
+-- What was written, and what encodes the marks that are left. A word says how many places there are.
 use Rattle.std.proofs.Common.{◌≡◌, ◌<◌, ◌*◌, ◌++◌, drop, length}
-use Rattle.memo_spec.specs.Spelling.{mask}
+use Rattle.memo_spec.specs.Encoding.{mask}
 use Rattle.memo_file.proofs.writing.stored.write_mask.Given as goal
 
 abbrev pub invariant-loop-number : goal.invariant-loop-number

@@ -1,19 +1,14 @@
 -- Answers to the goals that the check leaves of `give_delta`.
-use Rattle.std.proofs.Common.{◌≡◌, ◌<◌, length, get_or, set, refl, ap, ◌∙◌, arith}
+use Rattle.std.proofs.Common.{◌≡◌, get_or, set, refl, ap, ◌∙◌}
 use Rattle.priv_space.specs.Slots.{untouched}
-use Rattle.priv_space.specs.Held.{all_held}
-use Rattle.priv_space.proofs.Held.{all_held-set, length-all_held}
+use Rattle.priv_space.proofs.Held.{put-slot}
 use Rattle.priv_space.proofs.slots.Slots.give_delta.Goals as goal
 
 pub returns-clause-left : goal.returns-clause-left
 returns-clause-left c =
-    let places = c.self.inside.places.items in
-    let held = c.self.inside.held.items in
     let slot = c.args.slot in
-    let place = c.place_of-place.result in
     let given : c.replace-given.new.dest ≡ untouched = c.replace-given.ensures.after ∙ c.new.ensures in
-    let inside : slot < length places = omega (arith, ap length c.self.view_is, length-all_held places held) in
-    ap (λ s. all_held places (set held place s)) given
-    ∙ all_held-set places held slot place untouched c.self.invariant inside
-    (c.place_of-place.ensures ∙ ap (λ p. get_or p slot 0) c.deref.ensures.value) (λ zero_is. refl)
-    ∙ ap (λ slots. set slots slot untouched) c.self.view_is
+    let p = put-slot c.replace-given.new.dest c.self.view_is c.self.invariant c.requires
+    (c.place_of-place.ensures ∙ ap (λ p. get_or p slot 0) c.deref.ensures.value) c.index_mut.ensures.value refl
+    (λ zero_is was. given) in
+    p.all ∙ ap (set c.args.self.now slot) given

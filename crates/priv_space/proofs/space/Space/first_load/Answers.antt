@@ -4,14 +4,11 @@ use Rattle.std.specs.Arc.{arc_value}
 use Rattle.memory_spec.specs.Access.{loaded}
 use Rattle.memory_spec.specs.Pages.{allows, read_right, page_of}
 use Rattle.priv_space.specs.Changes.{TakesNumber}
-use Rattle.priv_space.specs.Spaces.{workspace}
 use Rattle.priv_space.proofs.Spaces.{fits-outcome, taken_space, found_space}
 use Rattle.priv_space.proofs.space.Space.first_load.Goals as goal
-use Rattle.priv_space.proofs.space.Space.first_load.Goals.{in-Ok, in-Err}
 
-pub invariant_of-self : goal.invariant_of-self
-invariant_of-self c =
-    let pages = arc_value c.self.inside.pages in
+pub invariant_of-self-in-Some : goal.invariant_of-self-in-Some
+invariant_of-self-in-Some c =
     let view = arc_value c.self.inside.view in
     let done = rw (c.deref-in-Some.ensures, c.access_to-access.ensures.value) at c.take.ensures in
     let found = rw c.deref.ensures at c.in-Some.ensures in
@@ -21,21 +18,14 @@ invariant_of-self c =
     (ap (allows read_right) (sym found.perm) ∙ sym c.if-not-reads.ensures)
     (λ number old new taken. taken.takes.keeps) done
 
-pub returns-after-take-clause-found : goal.returns-after-take-clause-found
+pub returns-in-Ok-clause-found : goal.returns-in-Ok-clause-found
 unfolding loaded
-returns-after-take-clause-found c =
+returns-in-Ok-clause-found c =
     let pages = arc_value c.self.inside.pages in
-    let view = arc_value c.self.inside.view in
+    let done = rw (c.deref-in-Some.ensures, c.access_to-access.ensures.value) at c.in-Ok.ensures in
     let found = rw c.deref.ensures at c.in-Some.ensures in
-    let fits = c.self.invariant in
-    elim c.match-take.branch [
-      | in-Ok w ↦
-          let done = rw (c.deref-in-Some.ensures, c.access_to-access.ensures.value) at w.in-Ok.ensures in
-          rw (← c.self.view_is, w.result-is) (
-            found_space read_right pages c.args.address c.args.size fits found.slot
-                (ap (allows read_right) (sym found.perm) ∙ sym c.if-not-reads.ensures)
-                done.change.value,
-            taken_space pages c.args.address fits found.slot done.others done.change.takes,
-          )
-      | in-Err w ↦ rw (← c.self.view_is, w.result-is) (ap (workspace pages view) w.in-Err.ensures)
-    ]
+    rw (← c.self.view_is) (
+      found_space read_right pages c.args.address c.args.size c.self.invariant found.slot
+          (ap (allows read_right) (sym found.perm) ∙ sym c.if-not-reads.ensures) done.change.value,
+      taken_space pages c.args.address c.self.invariant found.slot done.others done.change.takes,
+    )

@@ -1,60 +1,40 @@
 -- Answers to the goals that the check leaves of `into_delta`.
-use Rattle.std.proofs.Common.{◌≡◌, ◌++◌, length, map, get_or, ap, sym, ◌∙◌, arith}
-use Rattle.std.proofs.lemmas.List.{length-set, get_or-set_other}
-use Rattle.std.specs.Arc.{arc_value}
+use Rattle.std.proofs.Common.{◌+◌, ◌++◌, length, ap, ◌∙◌, arith}
+use Rattle.std.proofs.lemmas.List.{length-set}
 use Rattle.memory_spec.specs.Pages.{page_of}
 use Rattle.record_spec.specs.Ascending.{deltas_ascend}
-use Rattle.priv_space.specs.Parts.{delta_part}
-use Rattle.priv_space.specs.Slots.{on_view, untouched, slot_bytes, slot_marks}
-use Rattle.priv_space.specs.Held.{IsNext}
-use Rattle.priv_space.proofs.Collecting.{collects-deltas, collected_next, deltas_all, delta_from-ascend}
+use Rattle.priv_space.specs.Slots.{untouched}
+use Rattle.priv_space.proofs.Collecting.{collects-deltas, collected_next, collected_all, deltas_left, deltas_left-set, delta_from-ascend}
 use Rattle.priv_space.proofs.space.Space.into_delta.Goals as goal
 
 pub loop-slot-preserved : goal.loop-slot-preserved
 loop-slot-preserved c =
-    let all = c.self.inside.slots in
-    let view = arc_value c.self.inside.view in
+    let view = c.args.self.view in
     let slots = c.loop-slot.slots in
     let kept = c.loop-slot.invariant in
     let slot = c.in-Some.slot in
-    let found = c.in-Some.ensures in
-    let deltas = c.loop-slot.deltas.items in
+    let deltas = c.give_delta.new.deltas.items in
     let left = c.give_delta.ensures.left in
-    let page = page_of view slot in
-    let next : IsNext (λ k. get_or all k untouched ≡ untouched) c.loop-slot.from (length all) slot = record {
-      above = found.above;
-      within = omega (arith, found.within, kept.count);
-      fits = found.fits;
-      before = λ k above under. sym (kept.rest k above) ∙ found.before k above under;
-    } in
-    let more =
-    collected_next deltas (collects-deltas view all c.self.invariant.over.count)
-    (rw (← c.self.view_is) at kept.deltas) next
-    (c.in_ok-give_delta.ensures.given page
-    ∙ ap (λ s. deltas ++ delta_part slot (slot_marks s) (slot_bytes page s)) (kept.rest slot found.above)) in
     record {
       count = ap length left ∙ length-set slots slot untouched ∙ kept.count;
-      rest = λ k above.
-          ap (λ xs. get_or xs k untouched) left
-          ∙ get_or-set_other slots slot k untouched untouched (λ is. absurd (omega arith))
-          ∙ kept.rest k (omega (arith, found.above));
-      deltas = rw (← c.self.view_is) more;
+      deltas = ap (λ s. deltas ++ deltas_left view s (slot + 1)) left
+          ∙ ap (λ rest. deltas ++ rest) (deltas_left-set view slots slot (slot + 1) untouched (omega arith))
+          ∙ collected_next c.loop-slot.deltas.items (collects-deltas view slots kept.count) kept.deltas
+          c.in-Some.ensures (c.in_ok-give_delta.ensures.given (page_of view slot));
     }
 
 pub new-requires : goal.new-requires
 new-requires c =
-    let slots = c.self.inside.slots in
-    let view = arc_value c.self.inside.view in
+    let self = c.args.self in
     let kept = c.loop-slot.invariant in
     ap (deltas_ascend 0)
-    (deltas_all view slots c.loop-slot.from c.loop-slot.deltas.items c.self.invariant.over.count
-    (rw (← c.self.view_is) at kept.deltas) (λ k above. sym (kept.rest k above) ∙ c.in_default.ensures k above))
-    ∙ delta_from-ascend 0 0 (map slot_marks slots) (on_view slot_bytes view slots) (omega arith)
+    (collected_all c.loop-slot.deltas.items (collects-deltas self.view c.loop-slot.slots kept.count) kept.deltas
+    c.in_default.ensures)
+    ∙ delta_from-ascend 0 0 self.stored self.memory (omega arith)
 
 pub returns : goal.returns
 returns c =
     let kept = c.loop-slot.invariant in
     c.new.ensures
-    ∙ rw (← c.self.view_is) (deltas_all (arc_value c.self.inside.view) c.self.inside.slots c.loop-slot.from
-    c.loop-slot.deltas.items c.self.invariant.over.count (rw (← c.self.view_is) at kept.deltas)
-    (λ k above. sym (kept.rest k above) ∙ c.in_default.ensures k above))
+    ∙ collected_all c.loop-slot.deltas.items (collects-deltas c.args.self.view c.loop-slot.slots kept.count) kept.deltas
+    c.in_default.ensures

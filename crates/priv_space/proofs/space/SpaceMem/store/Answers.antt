@@ -1,13 +1,15 @@
 -- Answers to the goals that the check leaves of `store`.
 use Rattle.std.specs.Arc.{arc_value}
-use Rattle.priv_space.proofs.Spaces.{fits-again, stored_again}
+use Rattle.memory_spec.specs.Pages.{allows, write_right}
+use Rattle.priv_space.proofs.Spaces.{fits-if, stored_again}
 use Rattle.priv_space.proofs.space.SpaceMem.store.Goals as goal
 
 pub invariant_of-self : goal.invariant_of-self
 invariant_of-self c =
     let found = rw c.deref.ensures at c.in-Some.ensures in
     let done = rw (c.access_to-access.ensures.value) at c.store_again.ensures in
-    fits-again c.store_again.result c.self.invariant found.1 done.stored done.stays
+    fits-if (allows write_right) c.store_again.result c.self.invariant found.1 done.stored done.stays
+    (λ page old new was again. ((again.stores page).keeps, again.writes _ was))
 
 pub returns-then-store_again : goal.returns-then-store_again
 returns-then-store_again c =

@@ -5,7 +5,7 @@ use Rattle.elf_spec.specs.Image.{image_pages}
 use Rattle.machine_spec.specs.Setup.{Setup}
 use Rattle.history_spec.specs.History.{History, IsMapped}
 use Rattle.round_spec.specs.Rounds.{RoundState}
-use Rattle.propagate.specs.Kept.{IsOnMap}
+use Rattle.propagate.specs.Consistency.{IsOnMap}
 use Rattle.propagate.proofs.Mapped.{of_map, of_map-mapped, none_mapped}
 use Rattle.propagate.proofs.round.Round.has_same_map.Goals as goal
 

@@ -1,16 +1,17 @@
 -- What is left to prove of `Round::into_history`.
 use Rattle.std.proofs.Common.{◌≡◌, true, is_some, sym, ap, subst, ◌∙◌}
 use Rattle.history_spec.specs.History.{History, is_coherent, IsMapped}
-use Rattle.round_spec.specs.Rounds.{RoundState, history_of}
-use Rattle.propagate.proofs.Keeping.{laid-coherent}
+use Rattle.round_spec.specs.Rounds.{history_of}
+use Rattle.propagate.proofs.Keeping.{applied-coherent}
 use Rattle.propagate.proofs.round.Round.into_history.Goals as goal
 
 pub new-history-requires : goal.new-history-requires
 new-history-requires c =
-    subst (λ (w : RoundState). IsMapped (history_of w)) (sym c.self.view_is) c.if-not-has_same_map.ensures.mapped
+    subst IsMapped c.into_steps-setup.ensures c.if-not-has_same_map.ensures.mapped
 
 pub known_coherent-requires : goal.known_coherent-requires
 known_coherent-requires c =
-    subst (λ (h : History). is_coherent h ≡ true) (sym c.new-history.ensures)
-    (laid-coherent _ c.self.invariant.laid
+    subst (λ (h : History). is_coherent h ≡ true)
+    (ap history_of c.self.view_is ∙ c.into_steps-setup.ensures ∙ sym c.new-history.ensures)
+    (applied-coherent _ c.self.invariant.applied
     (sym (ap is_some c.ended.ensures.ending) ∙ sym c.is_some-has_end.ensures ∙ c.if-has_end.true))

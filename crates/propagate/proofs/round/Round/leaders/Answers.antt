@@ -1,5 +1,5 @@
 -- What is left to prove of `Round::leaders`.
-use Rattle.std.proofs.Common.{true, length, sym, ◌∙◌}
+use Rattle.std.proofs.Common.{length, sym, ◌∙◌}
 use Rattle.propagate.proofs.Choosing.{leaders-first}
 use Rattle.propagate.proofs.round.Round.leaders.Goals as goal
 

@@ -12,7 +12,8 @@ invariant_of-result c =
       c.new-2.ensures.items,
       c.new-3.ensures,
       c.new-4.ensures.items,
-      c.nobody_out.ensures,
+      c.none_in_flight.ensures,
       c.nothing_taken.ensures,
     )
-    (kept_opening c.args.setup (option_map arc_value c.args.past) c.in_ok-core.ensures.sound c.in_ok-graph.ensures.of_run)
+    (kept_opening c.args.setup (option_map arc_value c.args.past) c.in_ok-marks.marks c.in_ok-core.ensures.sound
+    c.in_ok-graph.ensures.of_run c.in_ok-marks.ensures)

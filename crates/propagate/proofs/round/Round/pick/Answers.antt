@@ -3,18 +3,18 @@ use Rattle.std.proofs.Common.{true, false, sym, ◌∙◌}
 use Rattle.propagate.proofs.Choosing.{pick-over, pick-stopped, pick-hold, pick-chosen, picked-run}
 use Rattle.propagate.proofs.round.Round.pick.Goals as goal
 
-pub returns-then-is_over-clause-pick : goal.returns-then-is_over-clause-pick
-returns-then-is_over-clause-pick c = sym (pick-over c.args.self.now (sym c.is_over.ensures.over ∙ c.if-is_over.true))
+pub returns-then-is_finished-clause-pick : goal.returns-then-is_finished-clause-pick
+returns-then-is_finished-clause-pick c = sym (pick-over c.args.self.now (sym c.is_finished.ensures.over ∙ c.if-is_finished.true))
 
 pub returns-in-Some-clause-pick : goal.returns-in-Some-clause-pick
 returns-in-Some-clause-pick c =
-    sym (pick-chosen c.args.self.now c.in-Some.t true (sym c.is_over.ensures.over ∙ c.if-is_over.false)
+    sym (pick-chosen c.args.self.now c.in-Some.t true (sym c.is_finished.ensures.over ∙ c.if-is_finished.false)
     (sym c.choice.ensures ∙ c.in-Some.is)
     (sym c.can_reuse.ensures.can ∙ c.if-can_reuse.true))
 
 pub returns-in-Some-2-clause-pick : goal.returns-in-Some-2-clause-pick
 returns-in-Some-2-clause-pick c =
-    sym (pick-chosen c.args.self.now c.in-Some.t false (sym c.is_over.ensures.over ∙ c.if-is_over.false)
+    sym (pick-chosen c.args.self.now c.in-Some.t false (sym c.is_finished.ensures.over ∙ c.if-is_finished.false)
     (sym c.choice.ensures ∙ c.in-Some.is)
     (sym c.can_reuse.ensures.can ∙ c.if-can_reuse.false))
 
@@ -23,7 +23,7 @@ returns-in-Some-2-clause-run c = λ t same. picked-run c.args.self.now t (sym (r
 
 pub returns-in-None-clause-pick : goal.returns-in-None-clause-pick
 returns-in-None-clause-pick c =
-    sym (pick-hold c.args.self.now (sym c.is_over.ensures.over ∙ c.if-is_over.false) (sym c.choice.ensures ∙ c.in-None.is))
+    sym (pick-hold c.args.self.now (sym c.is_finished.ensures.over ∙ c.if-is_finished.false) (sym c.choice.ensures ∙ c.in-None.is))
 
 pub returns-in-Some-clause-stopped : goal.returns-in-Some-clause-stopped
 returns-in-Some-clause-stopped c = λ stopped. returns-in-Some-clause-pick c ∙ pick-stopped c.args.self.now stopped

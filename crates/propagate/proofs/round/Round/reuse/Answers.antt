@@ -1,12 +1,17 @@
 -- What is left to prove of `Round::reuse`.
-use Rattle.std.proofs.Common.{◌≡◌, length, true, Some, option_map, refl, ap, sym, subst, ◌∙◌}
+use Rattle.std.proofs.Common.{◌≡◌, length, Bool, true, cond, Option, Some, None, Vec, option_map, refl, ap, sym, subst, ◌∙◌}
 use Rattle.std.proofs.lemmas.Result.{err_from_is_err_and}
 use Rattle.std.specs.Arc.{arc_value}
+use Rattle.std.specs.Global.{Global}
 use Rattle.record_spec.specs.Record.{Record}
 use Rattle.round_spec.specs.declared.events.Event.TheVariants.{Reuse}
 use Rattle.round_spec.specs.Marks.{record_for}
 use Rattle.round_spec.specs.Rounds.{RoundState, can_reuse, happens}
+use Rattle.round_spec.specs.Due.{place_in}
+use Rattle.propagate.specs.Alike.{IsAsBefore}
 use Rattle.propagate.specs.Appending.{Trail}
+use Rattle.propagate.proofs.Alike.{reuse-as-before}
+use Rattle.propagate.proofs.Keeping.{record_count}
 use Rattle.propagate.proofs.Appending.{Reusable}
 use Rattle.propagate.proofs.Making.{appended, reuse-append, reuse-happens, reuse-kept, goes-nowhere, goes-more}
 use Rattle.propagate.proofs.round.Round.reuse.Goals as goal
@@ -21,7 +26,7 @@ before c =
       schedule = c.self.inside.schedule.items;
       records = c.self.inside.records;
       picked = c.self.inside.picked.items;
-      out = c.self.inside.out;
+      in_flight = c.self.inside.in_flight;
       taken_at = c.self.inside.taken_at;
       discarded = c.self.inside.discarded;
       stopped = c.self.inside.stopped;
@@ -41,7 +46,7 @@ there c =
 
 reusable : (c : goal.After-rec-2-1) → Reusable (before c) c.args.t (arc_value c.in_ok-rec-in-Some.rec)
 reusable c =
-    reuse-append (before c) c.self.inside.instructions c.args.t c.self.inside.graph (arc_value c.in_ok-rec-in-Some.rec)
+    reuse-append (before c) c.self.inside.instructions c.args.t c.self.inside.graph c.self.inside.marks (arc_value c.in_ok-rec-in-Some.rec)
     c.self.invariant (can c) (there c)
 
 pub append-requires-clause-can : goal.append-requires-clause-can
@@ -66,7 +71,7 @@ start c =
       schedule = c.self.inside.schedule.items;
       records = c.self.inside.records;
       picked = c.self.inside.picked.items;
-      out = c.self.inside.out;
+      in_flight = c.self.inside.in_flight;
       taken_at = c.self.inside.taken_at;
       discarded = c.self.inside.discarded;
       stopped = c.self.inside.stopped;
@@ -108,12 +113,21 @@ made c =
 
 pub invariant_of-self-3 : goal.invariant_of-self-3
 invariant_of-self-3 c =
-    reuse-kept (start c) (after c) c.self.inside.instructions c.args.t c.self.inside.graph
-    (arc_value c.in_ok-rec-in-Some.rec) c.self.invariant (can-2 c) (there-2 c) (made c)
+    reuse-kept (start c) (after c) c.self.inside.instructions c.args.t c.self.inside.graph c.self.inside.marks
+    c.marks_if.result (arc_value c.in_ok-rec-in-Some.rec) c.self.invariant (can-2 c) (there-2 c) (made c)
+    (subst (IsAsBefore (after c))
+    (ap (λ (m : Option (Vec Bool Global)). cond c.comes_next-next.result m None) (sym c.take.ensures.value) ∙ sym c.marks_if.ensures)
+    (reuse-as-before (start c) (after c) c.args.t (arc_value c.in_ok-rec-in-Some.rec) c.self.inside.marks
+    c.comes_next-next.result c.self.invariant.as_before c.self.invariant.in_order.whole
+    (record_count (start c) c.self.invariant.counted)
+    (λ on. subst (λ (w : RoundState). place_in w.past w.machine c.args.t ≡ length w.schedule) (sym c.self.view_is)
+    (c.comes_next-next.ensures on))
+    (there-2 c) (can-2 c) (ap (λ (w : RoundState). w.past) (made c)) (ap (λ (w : RoundState). w.machine) (made c))
+    (ap (λ (w : RoundState). w.records) (made c))))
 
 pub returns-clause-ok : goal.returns-clause-ok
 returns-clause-ok c =
-    reuse-happens (start c) (after c) c.self.inside.instructions c.args.t c.self.inside.graph
+    reuse-happens (start c) (after c) c.self.inside.instructions c.args.t c.self.inside.graph c.self.inside.marks
     (arc_value c.in_ok-rec-in-Some.rec) c.self.invariant (can-2 c) (there-2 c) (made c)
     ∙ ap (λ (w : RoundState). happens w (Reuse c.args.t)) c.self.view_is
 

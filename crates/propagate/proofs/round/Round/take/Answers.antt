@@ -6,6 +6,7 @@ use Rattle.round_spec.specs.declared.events.Event.TheVariants.{Take}
 use Rattle.round_spec.specs.Rounds.{RoundState, can_take, happens}
 use Rattle.round_spec.proofs.Conditions.{happens-take}
 use Rattle.propagate.proofs.Keeping.{kept-happens}
+use Rattle.propagate.proofs.Alike.{as-before-same}
 use Rattle.propagate.proofs.round.Round.take.Goals as goal
 
 pub returns-clause-ok : goal.returns-clause-ok
@@ -21,7 +22,7 @@ before c =
       schedule = c.self.inside.schedule.items;
       records = c.self.inside.records;
       picked = c.self.inside.picked.items;
-      out = c.self.inside.out;
+      in_flight = c.self.inside.in_flight;
       taken_at = c.self.inside.taken_at;
       discarded = c.self.inside.discarded;
       stopped = c.self.inside.stopped;
@@ -32,7 +33,7 @@ invariant_of-self c =
     let w : RoundState = before c in
     let v : RoundState =
     record w {
-      out = set w.out c.from.result true;
+      in_flight = set w.in_flight c.from.result true;
       taken_at = set w.taken_at c.from-2.result c.entries-now.result;
     } in
     let now : c.entries-now.result ≡ length w.schedule =
@@ -41,6 +42,7 @@ invariant_of-self c =
     happens-take w c.args.t (subst (λ (x : RoundState). can_take x c.args.t ≡ true) (sym c.self.view_is) c.requires)
     ∙ sym (rw (c.from.ensures, c.from-2.ensures, now) refl) in
     kept-happens w v (Take c.args.t) c.self.inside.instructions c.self.inside.instructions c.self.inside.graph
-    c.self.invariant is refl refl
-    (record { machine = c.self.invariant.laid.machine; can = c.self.invariant.laid.can })
+    c.self.inside.marks c.self.inside.marks c.self.invariant is refl refl
+    (record { machine = c.self.invariant.applied.machine; can = c.self.invariant.applied.can })
     c.self.invariant.points c.self.invariant.executed c.self.invariant.few
+    (as-before-same w v c.self.inside.marks c.self.invariant.as_before refl refl refl)

@@ -1,0 +1,11 @@
+-- What holds at the loop of `facts_on`.
+use Rattle.std.proofs.Common.{◌≡◌, ◌++◌, drop}
+use Rattle.order_spec.specs.Facts as order
+use Rattle.history_facts.specs.PendingFacts.{facts_to_come}
+use Rattle.history_facts.proofs.facts_on.Given as goal
+
+-- the facts so far, with those that are still to come, are all
+abbrev pub invariant-loop-place : goal.invariant-loop-place
+invariant-loop-place l =
+    l.facts.items ++ facts_to_come l.fits (order.reads_in l.records) l.replay (drop l.place l.records)
+    ≡ order.facts_from (order.reads_in l.records) l.fn.replay l.records

@@ -1,0 +1,10 @@
+-- The facts that are still to come where records are applied one after the other.
+use Rattle.std.specs.Prelude.{ℕ, Bool, true, false, List, map}
+use Rattle.record_spec.specs.Record.{Record}
+use Rattle.machine_spec.specs.Machine.{Machine}
+use Rattle.order_spec.specs.Facts.{Fact, facts_from, bare_fact}
+
+-- The facts of the records that are left: as far as they fit, where all before them did, and else bare ones.
+abbrev pub facts_to_come : Bool → (ℕ → ℕ → List ℕ) → Machine → List Record → List Fact
+facts_to_come true reads m rs = facts_from reads m rs
+facts_to_come false reads m rs = map bare_fact rs

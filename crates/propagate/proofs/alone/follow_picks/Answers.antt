@@ -1,0 +1,22 @@
+-- What is left to prove of `follow_picks`.
+use Rattle.std.proofs.Common.{◌-◌, ◌+◌, arith}
+use Rattle.round_spec.specs.Alone.{after_picks}
+use Rattle.propagate.proofs.Executing.{partway-pick, partway-over}
+use Rattle.propagate.proofs.alone.follow_picks.Goals as goal
+
+pub returns-then-not-branch-clause-followed : goal.returns-then-not-branch-clause-followed
+returns-then-not-branch-clause-followed g c =
+    (partway-over (c.args.most - c.loop-followed.followed) (after_picks c.args.most c.args.round.now) c.args.round.now
+    c.loop-followed.round c.follow_pick.new.round
+    c.args.turns.now c.loop-followed.turns c.follow_pick.new.turns
+    c.loop-followed.invariant c.in_ok-follow_pick.ensures.followed
+    (c.in_ok-follow_pick.ensures.over c.if-not-branch.true) c.in_ok-follow_pick.ensures.cost
+    c.follow_pick.ensures.never_lower).rest
+
+pub loop-followed-preserved : goal.loop-followed-preserved
+loop-followed-preserved g c =
+    partway-pick (c.args.most - c.loop-followed.followed) (c.args.most - (c.loop-followed.followed + 1))
+    (after_picks c.args.most c.args.round.now) c.args.round.now
+    c.loop-followed.round c.follow_pick.new.round c.args.turns.now c.loop-followed.turns c.follow_pick.new.turns
+    c.loop-followed.invariant (omega (arith, c.loop-followed-test.true)) c.in_ok-follow_pick.ensures.followed
+    c.in_ok-follow_pick.ensures.cost c.follow_pick.ensures.never_lower

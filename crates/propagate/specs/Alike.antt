@@ -1,0 +1,86 @@
+-- When a round goes on as its history did, but for some pages.
+use Rattle.std.specs.Prelude.{◌≡◌, ℕ, ⊤, Bool, true, false, not, ◌&&◌, List, [], ◌∷◌, length, Option, Some, None, is_none, option_map, slice_get, slice_index_or, slice_set, Vec}
+use Rattle.std.specs.Global.{Global}
+use Rattle.isa_spec.specs.Registers.{same_registers}
+use Rattle.memory_spec.specs.Pages.{Memory, page_of}
+use Rattle.record_spec.specs.Reads.{ReadPage}
+use Rattle.record_spec.specs.Record.{Record}
+use Rattle.machine_spec.specs.Machine.{Machine, hart_of, is_ready}
+use Rattle.machine_spec.specs.Setup.{IsSetup}
+use Rattle.history_spec.specs.History.{History, is_coherent}
+use Rattle.order_spec.specs.Facts.{ask_of, written_slots}
+use Rattle.history_facts.specs.Outlining.{machine_at}
+use Rattle.round_spec.specs.Marks.{fits_next}
+use Rattle.round_spec.specs.Rounds.{RoundState}
+
+-- Whether the page in a slot is marked.
+abbrev pub is_marked : List Bool → ℕ → Bool
+is_marked marks slot = slice_index_or marks slot false
+
+-- A machine goes on as an older one did: page map, fuel, objects and threads are the same, and so are the pages that
+-- aren't marked, in shared memory and in the view of each ready thread.
+pub record IsLike (marks : List Bool) (old m : Machine) : Type 0 where
+  pub frame : m.frame ≡ old.frame
+  pub objects : m.objects ≡ old.objects
+  pub count : length m.harts ≡ length old.harts
+  pub status : (u : ℕ) → (hart_of m u).status ≡ (hart_of old u).status
+  pub number : (u : ℕ) → (hart_of m u).number ≡ (hart_of old u).number
+  pub size : length m.memory ≡ length old.memory
+  pub marked : length marks ≡ length old.memory
+  pub memory : (p : ℕ) → is_marked marks p ≡ false → page_of m.memory p ≡ page_of old.memory p
+  pub views :
+      (u p : ℕ) → is_ready (hart_of old u).status ≡ true → is_marked marks p ≡ false
+      → page_of (hart_of m u).view p ≡ page_of (hart_of old u).view p
+
+-- A round goes on as a history did that may be run and holds together: its machine is like the history's after as many
+-- steps, unless the history's has ended.
+pub record GoesOnAs (h : History) (marks : List Bool) (w : RoundState) : Type 0 where
+  pub valid : IsSetup h.setup
+  pub coherent : is_coherent h ≡ true
+  pub like :
+      is_none (machine_at h (length w.records)).ending ≡ true
+      → IsLike marks (machine_at h (length w.records)) w.machine
+
+-- The same of the history that a round goes by, where marks are kept.
+abbrev pub IsAsBefore : RoundState → Option (Vec Bool Global) → Type 0
+IsAsBefore w None = ⊤
+IsAsBefore w (Some marks) = (h : History) → w.past ≡ Some h → GoesOnAs h marks.items w
+
+-- Marks on the pages of two memories: a page that isn't marked is the same in both.
+pub record AreMarksOn (old new : Memory) (marks : List Bool) : Type 0 where
+  pub count : length marks ≡ length old
+  pub same : (p : ℕ) → is_marked marks p ≡ false → page_of new p ≡ page_of old p
+
+-- Marks with the pages in some slots marked too.
+abbrev pub marked : List Bool → List ℕ → List Bool
+marked marks [] = marks
+marked marks (slot ∷ slots) = marked (slice_set marks slot true) slots
+
+-- Whether none of some read pages is marked.
+abbrev pub all_unmarked : List Bool → List ReadPage → Bool
+all_unmarked marks [] = true
+all_unmarked marks (r ∷ reads) = not (is_marked marks r.slot) && all_unmarked marks reads
+
+-- Marks after an executed step in the place of a history's record: those before, if there were any, with the pages that
+-- the step or the record writes; the record is of the same thread, and asks for the same.
+pub record AreMarksAfter (past : Option History) (place : ℕ) (rec : Record) (old : Option (Vec Bool Global))
+    (after : List Bool) : Type 0 where
+  pub marks : List Bool
+  pub were : option_map (λ v. v.items) old ≡ Some marks
+  pub history : History
+  pub goes_by : past ≡ Some history
+  pub record_there : Record
+  pub there : slice_get history.records place ≡ Some record_there
+  pub thread : rec.thread ≡ record_there.thread
+  pub ask : ask_of rec ≡ ask_of record_there
+  pub after_both : after ≡ marked (marked marks (written_slots record_there)) (written_slots rec)
+
+-- The same where there may be none.
+abbrev pub MayBeMarks : Option History → ℕ → Record → Option (Vec Bool Global) → Option (Vec Bool Global) → Type 0
+MayBeMarks past place rec old None = ⊤
+MayBeMarks past place rec old (Some after) = AreMarksAfter past place rec old after.items
+
+-- The next step of a thread, which is ready, is the one of a record if its registers are the record's.
+pub record IsNext (w : RoundState) (t : ℕ) (r : Record) : Type 0 where
+  pub ready : is_ready (hart_of w.machine t).status ≡ true
+  pub fit : fits_next w.past w.machine t ≡ same_registers r.start (hart_of w.machine t).regs

@@ -1,0 +1,59 @@
+-- What a round in code keeps beside what is seen of it.
+use Rattle.std.specs.Prelude.{◌≡◌, ◌≤◌, ◌*◌, ℕ, ⊤, Bool, true, List, All, length, Option, Some, None, Vec}
+use Rattle.std.specs.Global.{Global}
+use Rattle.machine_spec.specs.Setup.{Setup, IsSetup, first, map_of}
+use Rattle.history_spec.specs.History.{History, applied_from, can_apply_from, IsMappedIn, IsMapped, past_records}
+use Rattle.order_spec.specs.Facts.{Fact}
+use Rattle.release_core.specs.Records.{AreOfRun}
+use Rattle.round_spec.specs.Rounds.{RoundState, history_of}
+use Rattle.round_spec.specs.Due.{past_facts}
+use Rattle.round_spec.specs.Keeping.{IsInOrder, IsCounted}
+use Rattle.round_spec.specs.Schedules.{IsBySchedule}
+use Rattle.round_spec.specs.Instructions.{executed_instructions}
+use Rattle.propagate.specs.Alike.{IsAsBefore}
+
+-- What a setup goes by has its page map, if it goes by anything.
+abbrev pub IsOfMap : Option History → Setup → Type 0
+IsOfMap None setup = ⊤
+IsOfMap (Some h) setup = map_of h.setup ≡ map_of setup
+
+-- A round on the page map of its setup: where the records that it goes by have their slots in that map, so have its
+-- own.
+pub record IsOnMap (w : RoundState) : Type 0 where
+  pub frame : w.machine.frame.map ≡ map_of w.setup
+  pub mapped : All (IsMappedIn (length (map_of w.setup))) (past_records w.past) → IsMapped (history_of w)
+
+-- The machine of a round is the one that the records of its entries leave, each of which fits where it is applied.
+pub record IsApplied (w : RoundState) : Type 0 where
+  pub machine : w.machine ≡ applied_from (first w.setup) w.records
+  pub can : can_apply_from (first w.setup) w.records ≡ true
+
+-- What holds of every round: its setup may be run, its machine has the page map and the fuel of it, it is in order,
+-- counts right, and is where its schedule leads.
+pub record IsValid (w : RoundState) : Type 0 where
+  pub setup : IsSetup w.setup
+  pub framed : w.machine.frame ≡ (first w.setup).frame
+  pub in_order : IsInOrder w
+  pub counted : IsCounted w
+  pub by_schedule : IsBySchedule w
+
+-- A round that is in order, counts right and is where its schedule and its records lead, with the page map and the fuel
+-- of its setup; for each entry it is kept when its thread was picked; and what it goes by are records of a run. With it
+-- stand the sum of the counts of its executed entries, what the steps of its history do, and while it goes on as that
+-- history did, marks on the pages that may differ.
+pub record IsConsistent (w : RoundState) (instructions : ℕ) (facts : List Fact)
+    (marks : Option (Vec Bool Global)) : Type 0
+  where
+    pub valid : IsSetup w.setup
+    pub in_order : IsInOrder w
+    pub counted : IsCounted w
+    pub by_schedule : IsBySchedule w
+    pub applied : IsApplied w
+    pub on_map : IsOnMap w
+    pub framed : w.machine.frame ≡ (first w.setup).frame
+    pub points : length w.picked ≡ length w.schedule
+    pub executed : instructions ≡ executed_instructions w.schedule w.records
+    pub few : instructions ≤ 4294967295 * length w.schedule
+    pub of_run : AreOfRun (past_records w.past)
+    pub facts_are : facts ≡ past_facts w.past
+    pub as_before : IsAsBefore w marks
