@@ -65,7 +65,7 @@ fn text_of(alloc: Global, plan: Plan, turns: &mut Turns) -> Result<Vec<u8>, Allo
     let Some(input) = inputs.take_next()? else {
         unreachable!()
     };
-    let edited = setup.with(input, setup.limits())?;
+    let edited = setup.with_input(input)?;
     let round = run_alone(alloc, edited, past, turns)?;
     let reasons = reasons(alloc, &round)?;
     let told = text(alloc, reasons.as_slice())?;

@@ -165,9 +165,9 @@ fn limits_for(line: &RerunLine<'_>, history: &History) -> Limits
     ensures value { result ≡ limits_for (rerun_said line.now) history.now }
     ensures within { AreLimits result.fuel result.steps }
 {
-    let kept = history.setup().limits();
-    let fuel = line.fuel.unwrap_or(kept.fuel());
-    let steps = line.steps.unwrap_or(kept.steps());
+    let setup = history.setup();
+    let fuel = line.fuel.unwrap_or(setup.fuel());
+    let steps = line.steps.unwrap_or(setup.steps());
     match Limits::new(fuel, steps) {
         Some(limits) => limits,
         None => unreachable!(),

@@ -117,7 +117,7 @@ pub fn make_round<R: Threads + Wait + Sync, G: Gate + Sync>(
         setup,
         asked,
     } = beginning;
-    let start = setup.with(input, setup.limits())?;
+    let start = setup.with_input(input)?;
     let MadeRound {
         round,
         worker_steps,

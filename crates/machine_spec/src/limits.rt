@@ -2,6 +2,7 @@
 
 ghost use Rattle.std.specs.Prelude.{◌≡◌, ◌≤◌, ◌↔◌, IsTrue, is_some, IfSome};
 ghost use Rattle.machine_spec.specs.Limits.{AreLimits};
+ghost use Rattle.machine_spec.specs.declared.TheConstants.{MOST_FUEL, MOST_STEPS};
 
 use crate::{MOST_FUEL, MOST_STEPS};
 use std::marker::Model;
@@ -42,22 +43,17 @@ impl Limits {
 
     /// The most turns of a thunk.
     pub fn fuel(&self) -> u32
-        ensures { result ≡ self.now.fuel }
+        ensures value { result ≡ self.now.fuel }
+        ensures within { (1 ≤ result) × (result ≤ MOST_FUEL) }
     {
         self.fuel
     }
 
     /// The most steps of a run.
     pub fn steps(&self) -> u32
-        ensures { result ≡ self.now.steps }
+        ensures value { result ≡ self.now.steps }
+        ensures within { (1 ≤ result) × (result ≤ MOST_STEPS) }
     {
         self.steps
-    }
-
-    /// They are in range: what a caller learns of any limits.
-    pub fn sound(&self)
-        ensures { AreLimits self.now.fuel self.now.steps }
-    {
-        let _fuel = self.fuel;
     }
 }

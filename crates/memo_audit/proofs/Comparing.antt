@@ -28,10 +28,9 @@ pub delta_same :
     (d e : PageDelta) (m n : List Bool) (p q after : List ℕ) (answer : Bool)
     → d ≡ Delta d.slot m p → e ≡ Delta e.slot n q → d.slot ≡ e.slot → m ≡ n
     → length m ≡ 4096 → length p ≡ 4096 → length q ≡ 4096
-    → after ≡ spread d.mask d.bytes q → Decides answer (after ≡ q) → Decides answer (d ≡ e)
+    → after ≡ spread m (chosen m p) q → Decides answer (after ≡ q) → Decides answer (d ≡ e)
 delta_same d e m n p q after answer is_d is_e slots masks lm lp lq written decides =
-    let over : spread m (chosen m p) q ≡ after =
-    ap (λ (x : PageDelta). spread x.mask x.bytes q) (sym is_d) ∙ sym written in (
+    let over : spread m (chosen m p) q ≡ after = sym written in (
       λ yes.
           let bytes : chosen m p ≡ chosen m q =
           sym (chosen-spread m p q (omega (arith, lm, lp)) (lp ∙ sym lq))

@@ -48,15 +48,12 @@ fn is_same_delta(a: &PageDelta, b: &PageDelta) -> bool
 {
     let mine = a.stored();
     let theirs = b.stored();
-    let _mine = mine.page.bytes();
-    let _theirs = theirs.page.bytes();
-    if a.slot() != b.slot() {
+    if a.slot() != b.slot() || !is_same_mask(mine.mask, theirs.mask) {
         return false;
     }
-    if !is_same_mask(mine.mask, theirs.mask) {
-        return false;
-    }
-    a.written(theirs.page) == *theirs.page
+    let mut merged = *theirs.page.bytes();
+    mine.mask.merge(&mut merged, mine.page.bytes());
+    merged == *theirs.page.bytes()
 }
 
 /// Whether the same bytes were stored.

@@ -1,8 +1,8 @@
 //! Whether a memo is from before the standard extension M, or from before reader-writer locks.
 
-ghost use Rattle.std.specs.Prelude.{◌≡◌, ◌<◌, ◌+◌, true, false, length, take, slice_get, slice_index_or, None, Some, IfOk, IfErr, if◌then◌else◌};
+ghost use Rattle.std.specs.Prelude.{◌≡◌, ◌<◌, ◌+◌, true, false, take, slice_get, slice_index_or, None, Some, IfOk, IfErr, if◌then◌else◌};
 ghost use Rattle.std.specs.List.{count_by};
-ghost use Rattle.memory_spec.specs.Pages.{slot_of, AreAddressable};
+ghost use Rattle.memory_spec.specs.Pages.{AreAddressable};
 ghost use Rattle.machine_spec.specs.Setup.{IsSetup, map_of};
 ghost use Rattle.memo_spec.specs.Old.{is_of_m, stored_byte, read_byte, told_byte, whole_word, told_word, ends_at_m, is_before_m, ends_at_lock, is_before_locks, last_number};
 ghost use Rattle.memo_spec.specs.Reading.{is_old_in};
@@ -10,6 +10,7 @@ ghost use Rattle.memo_spec.specs.declared.Refusal.TheVariants.{Old};
 ghost use Rattle.memo_file.specs.declared.error.ReadError.TheVariants.{Refused};
 
 use crate::error::ReadError;
+use crate::pages::slot_or_end;
 use isa_spec::Cause;
 use memo_spec::{Format, Refusal};
 use memory_spec::PAGE_SIZE;
@@ -76,20 +77,6 @@ fn read_byte(pages: &[ReadPage], slot: usize, offset: usize) -> Option<u8>
         }
     }
     None
-}
-
-/// The slot of an address, or how many pages there are where none has it, as behind the last address.
-fn slot_or_end(slots: &PageMap, address: u64) -> usize
-    requires { AreAddressable slots.now }
-    ensures { result ≡ slot_of slots.now address }
-{
-    match u32::try_from(address) {
-        Ok(address) => match slots.slot_of(address) {
-            Some(slot) => slot,
-            None => slots.len(),
-        },
-        Err(_) => slots.len(),
-    }
 }
 
 /// The byte that a record tells of an address, as its thunk left it: one that was stored, or else one that was read.

@@ -1,11 +1,11 @@
 //! The read pages of a record.
 
-ghost use Rattle.std.specs.Prelude.{◌≡◌, ◌≢◌, ◌<◌, true, suc, length, map, IfSome, IfNone, IfOk, IfErr};
+ghost use Rattle.std.specs.Prelude.{◌≡◌, ◌≢◌, ◌<◌, ◌^◌, true, suc, length, map, IfOk, IfErr};
 ghost use Rattle.std.specs.Arc.{arc_value};
-ghost use Rattle.memory_spec.specs.Pages.{AreAddressable};
+ghost use Rattle.memory_spec.specs.Pages.{slot_of, AreAddressable};
 ghost use Rattle.record_spec.specs.Ascending.{reads_ascend};
 ghost use Rattle.memo_spec.specs.Reader.{chain};
-ghost use Rattle.memo_spec.specs.Reading.{slot_of_number, slot_at, read_page_at};
+ghost use Rattle.memo_spec.specs.Reading.{slot_at, read_page_at};
 ghost use Rattle.memo_file.specs.declared.error.ReadError.TheVariants as errors;
 ghost use Rattle.memo_file.specs.Gives.{Gives};
 
@@ -14,40 +14,42 @@ use crate::fields::word;
 use crate::growth::Sources;
 use ith_fields::Cursor;
 use memo_spec::Refusal;
-use memory_spec::PAGE_NUMBERS;
+use memory_spec::PAGE_SIZE;
 use page_map::{PageMap, Slot};
 use std::alloc::Global;
 use std::sync::Arc;
 use store_mask::ReadPage;
 
-/// The slot of the page of a number.
-#[tactic(auto, using(crate::proofs::Slots::slot_of_is, crate::proofs::Slots::far))]
-fn slot_of_page(slots: &PageMap, number: u32) -> Option<Slot>
-    requires small { AreAddressable slots.now }
-    ensures found { IfSome result (λ slot. (slot ≡ slot_of_number slots.now number)
-        × (slot < length slots.now)) }
-    ensures missing { IfNone result (slot_of_number slots.now number ≡ length slots.now) }
+/// The slot of an address, or how many pages there are where none has it, as behind the last address.
+pub fn slot_or_end(slots: &PageMap, address: u64) -> usize
+    requires { AreAddressable slots.now }
+    ensures { result ≡ slot_of slots.now address }
 {
-    if number < PAGE_NUMBERS {
-        slots.slot_of(number * 4096)
-    } else {
-        None
+    match u32::try_from(address) {
+        Ok(address) => match slots.slot_of(address) {
+            Some(slot) => slot,
+            None => slots.len(),
+        },
+        Err(_) => slots.len(),
     }
 }
 
 /// A page number, from a slot on.
-#[tactic(auto, unfolding(memo_spec::specs::Reading::slot_at))]
+#[tactic(auto, unfolding(memo_spec::specs::Reading::slot_at), using(crate::proofs::Slots::slot_of_is))]
 pub fn slot(cursor: &mut Cursor, slots: &PageMap, low: usize) -> Result<Slot, ReadError>
     requires small { AreAddressable slots.now }
     ensures mapped { IfOk result (λ s. s < length slots.now) }
+    ensures bounded { IfOk result (λ s. length slots.now < 2 ^ 64) }
     ensures given { Gives (λ s. (s, cursor.new)) result (slot_at slots.now low cursor.old) }
     ensures no_memory { IfErr result (λ e. e ≢ errors.NoMemory) }
 {
     let at = cursor.position();
     let number = word(cursor)?;
-    match slot_of_page(slots, number) {
-        Some(slot) if low <= slot => Ok(slot),
-        _ => Err(ReadError::Refused(Refusal::Field(at))),
+    let slot = slot_or_end(slots, u64::from(number) * PAGE_SIZE as u64);
+    if low <= slot && slot < slots.len() {
+        Ok(slot)
+    } else {
+        Err(ReadError::Refused(Refusal::Field(at)))
     }
 }
 
@@ -61,6 +63,7 @@ fn read_page(
 ) -> Result<(ReadPage, usize), ReadError>
     requires small { AreAddressable sources.now.slots.now }
     ensures mapped { IfOk result (λ x. x.0.slot < length sources.now.slots.now) }
+    ensures bounded { IfOk result (λ x. length sources.now.slots.now < 2 ^ 64) }
     ensures given { Gives
         (λ x. ((x.0, record { low = suc x.0.slot; used = x.1 }), cursor.new)) result
         (read_page_at sources.now.slots.now (map arc_value sources.now.pool.now)
@@ -91,7 +94,6 @@ pub fn read_pages(
         (chain (read_page_at sources.now.slots.now (map arc_value sources.now.pool.now)) count
         (record { low = 0; used = used }) cursor.old) }
 {
-    let _size = sources.slots.len();
     let mut pages = Vec::new(alloc);
     let mut low = 0;
     let mut used = used;

@@ -40,7 +40,6 @@ fn pool_page<'a>(
         (λ page. ((page, map arc_value pages.now ++ page ∷ []), cursor.new)) result
         (pool_page_at (map arc_value pages.now) cursor.old) }
 {
-    let _count = pages.len();
     let at = cursor.position();
     let piece = run(cursor, PAGE_SIZE)?;
     match seen.insert(piece, ())? {

@@ -50,7 +50,7 @@ fn pool_and_records(
     let pool = read_pool(alloc, cursor, count)?;
     let sources = Sources {
         slots,
-        fuel: setup.limits().fuel(),
+        fuel: setup.fuel(),
         pool: pool.as_slice(),
     };
     let read = read_records(alloc, cursor, &sources, entries)?;
@@ -70,7 +70,7 @@ fn read_history(alloc: Global, cursor: &mut Cursor) -> Result<(History, Core), R
     ensures given { Gives (λ x. (x.0, cursor.new)) result (history_at cursor.old) }
 {
     let setup = read_setup(alloc, cursor)?;
-    let entries = limited(cursor, 1, setup.limits().steps(), Limit::Entries)?;
+    let entries = limited(cursor, 1, setup.steps(), Limit::Entries)?;
     let core = Core::new(alloc, &setup)?;
     let records = pool_and_records(alloc, cursor, &setup, core.frame().map(), entries)?;
     Ok((History::new(setup, records), core))

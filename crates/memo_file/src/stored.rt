@@ -1,6 +1,6 @@
 //! The stored pages of a record.
 
-ghost use Rattle.std.specs.Prelude.{◌≡◌, ◌==◌, ◌+◌, ◌*◌, ◌<◌, ◌≤◌, true, not, suc, length, IfOk};
+ghost use Rattle.std.specs.Prelude.{◌≡◌, ◌==◌, ◌+◌, ◌*◌, ◌^◌, ◌<◌, true, not, suc, length, IfOk};
 ghost use Rattle.std.specs.List.{count_by, list_any};
 ghost use Rattle.memory_spec.specs.Pages.{zero_page, AreAddressable};
 ghost use Rattle.memory_spec.specs.Workspace.{no_marks};
@@ -119,6 +119,7 @@ fn stored_page(
 ) -> Result<PageDelta, ReadError>
     requires small { AreAddressable slots.now }
     ensures mapped { IfOk result (λ d. d.slot < length slots.now) }
+    ensures bounded { IfOk result (λ d. length slots.now < 2 ^ 64) }
     ensures given { Gives (λ d. ((d, suc d.slot), cursor.new)) result
         (stored_page_at slots.now low cursor.old) }
 {
@@ -146,7 +147,6 @@ pub fn stored_pages(
     ensures given { Gives (λ x. ((x.0.items, x.1), cursor.new)) result
         (chain (stored_page_at slots.now) count 0 cursor.old) }
 {
-    let _size = slots.len();
     let mut pages = Vec::new(alloc);
     let mut low = 0;
     for _ in 0..count {

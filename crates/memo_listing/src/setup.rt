@@ -29,11 +29,10 @@ pub(super) fn setup_lines(
 ) -> Result<(), AllocError>
     ensures { OnOk result (into.new.items ≡ into.old.items ++ setup_lines setup.now entries) }
 {
-    let limits = setup.limits();
     number_line(alloc, "elf", setup.elf().len() as u64, into)?;
     number_line(alloc, "input", setup.input().len() as u64, into)?;
-    number_line(alloc, "fuel", u64::from(limits.fuel()), into)?;
-    number_line(alloc, "limit", u64::from(limits.steps()), into)?;
+    number_line(alloc, "fuel", u64::from(setup.fuel()), into)?;
+    number_line(alloc, "limit", u64::from(setup.steps()), into)?;
     number_line(alloc, "entries", entries, into)?;
     Ok(())
 }

@@ -171,8 +171,8 @@ impl PlainMachine {
         Ok(PlainMachine {
             alloc,
             map,
-            fuel: setup.limits().fuel(),
-            limit: setup.limits().steps(),
+            fuel: setup.fuel(),
+            limit: setup.steps(),
             memory,
             harts,
             objects: Objects::new(alloc)?,

@@ -105,7 +105,7 @@ pub fn run_alone_shown<G: Gate>(
     ensures cost { IfOk result (λ round. turns.new ≡ turns.old + executed_by round) }
     ensures never_lower { turns.old ≤ turns.new }
 {
-    let limit = setup.limits().steps();
+    let limit = setup.steps();
     let mut round = Round::new(alloc, setup, past)?;
     follow_picks(alloc, &mut round, limit, turns, gate)?;
     Ok(round)

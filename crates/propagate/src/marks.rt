@@ -109,7 +109,7 @@ fn is_same_program(old: &Setup, new: &Setup) -> bool
     ensures program { result ≡ true → IsSameProgram old.now new.now }
     ensures fuel { result ≡ true → old.now.fuel ≡ new.now.fuel }
 {
-    old.limits().fuel() == new.limits().fuel() && old.elf() == new.elf()
+    old.fuel() == new.fuel() && old.elf() == new.elf()
 }
 
 /// Marks for a round of a setup that starts with this memory and goes by a history; none where it can't go on as that did:

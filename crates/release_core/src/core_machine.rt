@@ -195,7 +195,7 @@ fn frame_of(alloc: Global, setup: &Setup) -> Result<Arc<Frame>, AllocError>
 {
     let map = Arc::new(alloc, setup.page_map(alloc)?)?;
     let code = Arc::try_clone(setup.code())?;
-    let frame = Arc::new(alloc, Frame::new(map, setup.limits().fuel(), code))?;
+    let frame = Arc::new(alloc, Frame::new(map, setup.fuel(), code))?;
     Ok(frame)
 }
 
@@ -218,7 +218,7 @@ impl Core {
         Ok(Core {
             alloc,
             frame,
-            limit: setup.limits().steps(),
+            limit: setup.steps(),
             memory,
             harts,
             objects: Objects::new(alloc)?,

@@ -57,7 +57,8 @@ fn program_of(alloc: Global, elf: Vec<u8>) -> Result<Arc<Program>, LoadError>
 pub struct Setup {
     program: Arc<Program>,
     input: Vec<u8>,
-    limits: Limits,
+    fuel: u32,
+    steps: u32,
 }
 
 impl Model for Setup {
@@ -70,8 +71,8 @@ impl Model for Setup {
     ghost view = { λ s. record {
       elf = (arc_value s.program).elf.items;
       input = s.input.items;
-      fuel = s.limits.fuel;
-      limit = s.limits.steps;
+      fuel = s.fuel;
+      limit = s.steps;
     } };
 
     ghost invariant = { λ s. IsLoaded (view s) (arc_value s.program).image };
@@ -101,12 +102,12 @@ impl Setup {
         ensures sound { IfOk result (λ s. setup.IsSetup s) }
         ensures refused { IfErr result (λ e. Refuses elf.items e) }
     {
-        limits.sound();
         let program = program_of(alloc, elf)?;
         Ok(Setup {
             program,
             input,
-            limits,
+            fuel: limits.fuel(),
+            steps: limits.steps(),
         })
     }
 
@@ -125,12 +126,30 @@ impl Setup {
               limit = limits.steps;
             }) }
     {
-        limits.sound();
         let program = Arc::try_clone(&self.program)?;
         Ok(Setup {
             program,
             input,
-            limits,
+            fuel: limits.fuel(),
+            steps: limits.steps(),
+        })
+    }
+
+    /// The setup of the same executable with this input and the same limits. The executable is shared.
+    ///
+    /// # Errors
+    ///
+    /// An error where the host's memory ran out.
+    pub fn with_input(&self, input: Vec<u8>) -> Result<Setup, AllocError>
+        requires { length input.items ≤ MOST_INPUT_BYTES }
+        ensures { IfOk result (λ s. s ≡ record self.now { input = input.items }) }
+    {
+        let program = Arc::try_clone(&self.program)?;
+        Ok(Setup {
+            program,
+            input,
+            fuel: self.fuel,
+            steps: self.steps,
         })
     }
 
@@ -149,12 +168,20 @@ impl Setup {
         self.input.as_slice()
     }
 
-    /// The most turns of one thunk, and the most steps of a run.
-    pub fn limits(&self) -> Limits
-        ensures limits { result ≡ record { fuel = self.now.fuel; steps = self.now.limit } }
+    /// The most turns of one thunk.
+    pub fn fuel(&self) -> u32
+        ensures value { result ≡ self.now.fuel }
         ensures sound { setup.IsSetup self.now }
     {
-        self.limits
+        self.fuel
+    }
+
+    /// The most steps of a run.
+    pub fn steps(&self) -> u32
+        ensures value { result ≡ self.now.limit }
+        ensures sound { setup.IsSetup self.now }
+    {
+        self.steps
     }
 
     /// What its executable starts as.

@@ -2,3 +2,4 @@
 pub mod Inputs
 pub mod Rounds
 pub mod Reports
+pub mod Making

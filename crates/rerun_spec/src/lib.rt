@@ -6,28 +6,23 @@
 //! that follows the choice. No code but one plain type.
 #![tactic(auto)]
 
-ghost use Rattle.std.specs.Prelude.{◌≡◌, ◌≢◌, ◌≤◌, ◌<◌, ◌+◌, ℕ, suc, min, max, Bool, true, ◌&&◌, List, [], ◌∷◌, ◌++◌, All, length, map, take, drop, sum, slice_get, Option, Some, None, is_some, ◌⊎◌};
+ghost use Rattle.std.specs.Prelude.{◌≡◌, ◌≢◌, ◌≤◌, ◌<◌, ◌+◌, ℕ, suc, min, max, ◌&&◌, List, [], ◌∷◌, ◌++◌, All, length, map, take, drop, sum, slice_get, Some, None, ◌⊎◌};
 ghost use Rattle.std.specs.List.{range_with_len};
 ghost use Rattle.edit_spec.specs.Editing.{longest_input};
 ghost use Rattle.machine_spec.specs.Limits.{Limits, AreLimits};
-ghost use Rattle.machine_spec.specs.Setup.{Setup, IsSetup, first, scratch, is_permitted, is_complete, records};
+ghost use Rattle.machine_spec.specs.Setup.{Setup, IsSetup, scratch};
 ghost use Rattle.machine_spec.specs.Choice.{alone};
 ghost use Rattle.history_spec.specs.History.{History, IsHonest, IsSameProgram, CanGoBy, schedule_of};
-ghost use Rattle.report_spec.specs.Report.{threads_of, instructions_from, report};
-ghost use Rattle.round_spec.specs.declared.events.Pick.TheVariants as pick;
+ghost use Rattle.report_spec.specs.Report.{threads_of, report};
 ghost use Rattle.round_spec.specs.Marks.{marked};
-ghost use Rattle.round_spec.specs.Rounds.{opening};
-ghost use Rattle.round_spec.specs.Choice.{pick_of};
-ghost use Rattle.round_spec.specs.Alone.{one_worker, after_picks, lone_round};
-ghost use Rattle.round_spec.specs.Instructions.{executed_instructions};
+ghost use Rattle.round_spec.specs.Alone.{lone_round};
 ghost use Rattle.round_spec.specs.Keeping.{IsCounted};
-ghost use Rattle.round_spec.specs.Unedited.{OnlyReuses};
-ghost use Rattle.worker_spec.specs.OneWorker.{executed_in};
 ghost use Rattle.reach_spec.specs.Working.{ReexecutesLeast};
 ghost use Rattle.rerun_spec.specs.Inputs.{Makes, AreInputs, AreRerunInputs, AreShort, Refusal, Refuses, IsFirstRefused};
 ghost use Rattle.rerun_spec.specs.declared.Asked.{Asked as AskedFor};
-ghost use Rattle.rerun_spec.specs.Rounds.{Found, Round, Beginning, limits_of, with_input, with_limits, made, IsMade, IsPickedRightly, left_by, from_scratch, after_memo, CanBegin, round_on, after_round, rounds_after, after_rounds, IsOfProgram, last_left, schedule_in, entries_of, machine_of, IsRepeated, IsUneditedRerun};
-ghost use Rattle.rerun_spec.specs.Reports.{all_executed, extras_of, extras_in, report_of, reports_of, is_exit, exits, all_exit, made_report, made_reports, made_exits, all_made_exit};
+ghost use Rattle.rerun_spec.specs.Rounds.{Found, Round, Beginning, limits_of, with_input, with_limits, made, IsMade, left_by, from_scratch, after_memo, CanBegin, round_on, after_round, rounds_after, after_rounds, IsOfProgram, last_left, schedule_in, entries_of, machine_of, IsRepeated, IsUneditedRerun};
+ghost use Rattle.rerun_spec.specs.Making.{AreMade, ComesToAnEnd, IsAsReported, FollowsTheChoice, Repeats, PicksNoneToExecute};
+ghost use Rattle.rerun_spec.specs.Reports.{all_executed, extras_of, report_of, reports_of, is_exit, exits, all_exit, made_report, made_reports, made_exits, all_made_exit};
 
 /// Which lines a report has only because they are asked for.
 #[derive(Clone, Copy, Debug, PartialEq, Eq)]
@@ -245,13 +240,7 @@ pub fn each_round_comes_to_an_end()
         → All (λ (r : Round). IsSetup r.setup) (rounds_after b inputs found) }
     ensures ends { (b : Beginning) (inputs : List (List ℕ)) (found : List Found) (workers : ℕ)
         → All (IsMade workers) (rounds_after b inputs found)
-        → All (λ r. is_some (made r).machine.ending ≡ true) (rounds_after b inputs found) }
-    ensures steps { (b : Beginning) (inputs : List (List ℕ)) (found : List Found) (workers : ℕ)
-        → All (IsMade workers) (rounds_after b inputs found)
-        → All (λ r. (made r).schedule ≢ []) (rounds_after b inputs found) }
-    ensures entries { (b : Beginning) (inputs : List (List ℕ)) (found : List Found) (workers : ℕ)
-        → All (IsMade workers) (rounds_after b inputs found)
-        → All (λ r. (made r).schedule ≡ r.found.entries) (rounds_after b inputs found) }
+        → All ComesToAnEnd (rounds_after b inputs found) }
     ensures records { (b : Beginning) (inputs : List (List ℕ)) (found : List Found)
         → IsSetup b.setup
         → AreShort inputs
@@ -285,24 +274,16 @@ pub fn each_round_may_be_made()
         → AreLimits limits.fuel limits.steps
         → CanBegin (after_memo h limits asked) }
     ensures sound { (b : Beginning) (inputs : List (List ℕ)) (found : List Found) (workers : ℕ)
-        → CanBegin b
-        → AreShort inputs
-        → All (IsMade workers) (rounds_after b inputs found)
+        → AreMade b inputs found workers
         → All (λ (r : Round). CanGoBy r.past r.setup) (rounds_after b inputs found) }
     ensures later { (b : Beginning) (inputs : List (List ℕ)) (found : List Found) (workers : ℕ)
-        → CanBegin b
-        → AreShort inputs
-        → All (IsMade workers) (rounds_after b inputs found)
+        → AreMade b inputs found workers
         → CanBegin (after_rounds b inputs found) }
     ensures honest { (b : Beginning) (inputs : List (List ℕ)) (found : List Found) (workers : ℕ)
-        → CanBegin b
-        → AreShort inputs
-        → All (IsMade workers) (rounds_after b inputs found)
+        → AreMade b inputs found workers
         → All (λ r. IsHonest (left_by r)) (rounds_after b inputs found) }
     ensures last { (b : Beginning) (inputs : List (List ℕ)) (found : List Found) (workers : ℕ)
-        → CanBegin b
-        → AreShort inputs
-        → All (IsMade workers) (rounds_after b inputs found)
+        → AreMade b inputs found workers
         → inputs ≢ []
         → found ≢ []
         → IsHonest (last_left b inputs found) }
@@ -321,95 +302,15 @@ pub fn each_round_may_be_made()
 /// report says.
 pub fn each_round_is_from_scratch()
     ensures threads { (r : Round) → threads_of (entries_of r) ≡ schedule_in r }
-    ensures permitted { (b : Beginning) (inputs : List (List ℕ)) (found : List Found) (workers : ℕ)
-        → CanBegin b
-        → AreShort inputs
-        → All (IsMade workers) (rounds_after b inputs found)
-        → All (λ (r : Round). is_permitted r.setup (threads_of (entries_of r)) ≡ true)
-        (rounds_after b inputs found) }
-    ensures complete { (b : Beginning) (inputs : List (List ℕ)) (found : List Found) (workers : ℕ)
-        → CanBegin b
-        → AreShort inputs
-        → All (IsMade workers) (rounds_after b inputs found)
-        → All (λ (r : Round). is_complete r.setup (threads_of (entries_of r)) ≡ true)
-        (rounds_after b inputs found) }
-    ensures entries { (b : Beginning) (inputs : List (List ℕ)) (found : List Found) (workers : ℕ)
-        → CanBegin b
-        → AreShort inputs
-        → All (IsMade workers) (rounds_after b inputs found)
-        → All (λ r. (made r).schedule ≡ entries_of r) (rounds_after b inputs found) }
-    ensures found { (b : Beginning) (inputs : List (List ℕ)) (found : List Found) (workers : ℕ)
-        → CanBegin b
-        → AreShort inputs
-        → All (IsMade workers) (rounds_after b inputs found)
-        → All (λ (r : Round). r.found.entries ≡ entries_of r) (rounds_after b inputs found) }
-    ensures marks { (b : Beginning) (inputs : List (List ℕ)) (found : List Found) (workers : ℕ)
-        → CanBegin b
-        → AreShort inputs
-        → All (IsMade workers) (rounds_after b inputs found)
-        → All (λ (r : Round). r.found.entries ≡ marked r.past r.setup (threads_of r.found.entries))
-        (rounds_after b inputs found) }
-    ensures picked { (b : Beginning) (inputs : List (List ℕ)) (found : List Found) (workers : ℕ)
-        → CanBegin b
-        → AreShort inputs
-        → All (IsMade workers) (rounds_after b inputs found)
-        → All IsPickedRightly (rounds_after b inputs found) }
-    ensures machine { (b : Beginning) (inputs : List (List ℕ)) (found : List Found) (workers : ℕ)
-        → CanBegin b
-        → AreShort inputs
-        → All (IsMade workers) (rounds_after b inputs found)
-        → All (λ (r : Round). (made r).machine ≡ scratch r.setup (threads_of (entries_of r)))
-        (rounds_after b inputs found) }
-    ensures records { (b : Beginning) (inputs : List (List ℕ)) (found : List Found) (workers : ℕ)
-        → CanBegin b
-        → AreShort inputs
-        → All (IsMade workers) (rounds_after b inputs found)
-        → All (λ (r : Round). (made r).records ≡ records r.setup (threads_of (entries_of r)))
-        (rounds_after b inputs found) }
-    ensures ends { (b : Beginning) (inputs : List (List ℕ)) (found : List Found) (workers : ℕ)
-        → CanBegin b
-        → AreShort inputs
-        → All (IsMade workers) (rounds_after b inputs found)
-        → All (λ r. is_some (machine_of r).ending ≡ true) (rounds_after b inputs found) }
-    ensures instructions { (b : Beginning) (inputs : List (List ℕ)) (found : List Found)
-        (workers : ℕ)
-        → CanBegin b
-        → AreShort inputs
-        → All (IsMade workers) (rounds_after b inputs found)
-        → All (λ (r : Round).
-        executed_instructions (made r).schedule (made r).records
-        ≡ instructions_from (first r.setup) (entries_of r))
-        (rounds_after b inputs found) }
-    ensures report { (b : Beginning) (inputs : List (List ℕ)) (found : List Found) (workers : ℕ)
-        → CanBegin b
-        → AreShort inputs
-        → All (IsMade workers) (rounds_after b inputs found)
-        → All
-        (λ r. report_of r
-        ≡ report r.number r.setup (made r).schedule (extras_in r) r.found.worker_steps)
-        (rounds_after b inputs found) }
-    ensures exit { (b : Beginning) (inputs : List (List ℕ)) (found : List Found) (workers : ℕ)
-        → CanBegin b
-        → AreShort inputs
-        → All (IsMade workers) (rounds_after b inputs found)
-        → All (λ r. exits r ≡ is_exit (made r).machine.ending) (rounds_after b inputs found) }
+    ensures rounds { (b : Beginning) (inputs : List (List ℕ)) (found : List Found) (workers : ℕ)
+        → AreMade b inputs found workers
+        → All IsAsReported (rounds_after b inputs found) }
     ensures lone { (b : Beginning) (inputs : List (List ℕ)) (found : List Found)
         → All (IsMade 1) (rounds_after b inputs found)
         → All (λ r. made r ≡ lone_round r.setup r.past) (rounds_after b inputs found) }
     ensures alone { (b : Beginning) (inputs : List (List ℕ)) (found : List Found)
-        → CanBegin b
-        → AreShort inputs
-        → All (IsMade 1) (rounds_after b inputs found)
-        → All (λ (r : Round). schedule_in r ≡ one_worker r.setup r.past)
-        (rounds_after b inputs found) }
-    ensures executed { (b : Beginning) (inputs : List (List ℕ)) (found : List Found)
-        → CanBegin b
-        → AreShort inputs
-        → All (IsMade 1) (rounds_after b inputs found)
-        → All (λ (r : Round).
-        executed_in r.setup.limit (opening r.setup r.past)
-        ≡ instructions_from (first r.setup) (entries_of r))
-        (rounds_after b inputs found) }
+        → AreMade b inputs found 1
+        → All FollowsTheChoice (rounds_after b inputs found) }
 {}
 
 /// Each round that workers make, by whatever history, executes again no more than it must.
@@ -433,14 +334,10 @@ pub fn made_rounds_are_told_right()
         → IsMade workers r
         → made_exits r ≡ exits r }
     ensures reports { (b : Beginning) (inputs : List (List ℕ)) (found : List Found) (workers : ℕ)
-        → CanBegin b
-        → AreShort inputs
-        → All (IsMade workers) (rounds_after b inputs found)
+        → AreMade b inputs found workers
         → made_reports (rounds_after b inputs found) ≡ reports_of (rounds_after b inputs found) }
     ensures exits { (b : Beginning) (inputs : List (List ℕ)) (found : List Found) (workers : ℕ)
-        → CanBegin b
-        → AreShort inputs
-        → All (IsMade workers) (rounds_after b inputs found)
+        → AreMade b inputs found workers
         → all_made_exit (rounds_after b inputs found) ≡ all_exit (rounds_after b inputs found) }
 {}
 
@@ -448,49 +345,16 @@ pub fn made_rounds_are_told_right()
 /// workers there are: no instruction is executed and nothing is discarded; and schedule and machine (so its end,
 /// output and final memory) are those of the round before. One worker would pick no step to be executed.
 pub fn repeated_round_executes_nothing()
-    ensures reuses { (b : Beginning) (inputs : List (List ℕ)) (found : List Found) (workers : ℕ)
+    ensures repeats { (b : Beginning) (inputs : List (List ℕ)) (found : List Found) (workers : ℕ)
         (before after : Round)
-        → CanBegin b
-        → AreShort inputs
-        → All (IsMade workers) (rounds_after b inputs found)
+        → AreMade b inputs found workers
         → IsRepeated (rounds_after b inputs found) before after
-        → OnlyReuses (left_by before) (made after) }
-    ensures schedule { (b : Beginning) (inputs : List (List ℕ)) (found : List Found) (workers : ℕ)
+        → Repeats (left_by before) (schedule_in before) (machine_of before) after }
+    ensures alone { (b : Beginning) (inputs : List (List ℕ)) (found : List Found) (workers : ℕ)
         (before after : Round)
-        → CanBegin b
-        → AreShort inputs
-        → All (IsMade workers) (rounds_after b inputs found)
+        → AreMade b inputs found workers
         → IsRepeated (rounds_after b inputs found) before after
-        → schedule_in after ≡ schedule_in before }
-    ensures never_runs { (b : Beginning) (inputs : List (List ℕ)) (found : List Found) (workers : ℕ)
-        (before after : Round) (n t : ℕ)
-        → CanBegin b
-        → AreShort inputs
-        → All (IsMade workers) (rounds_after b inputs found)
-        → IsRepeated (rounds_after b inputs found) before after
-        → pick_of (after_picks n (opening after.setup after.past)) ≢ pick.Run t }
-    ensures executed { (b : Beginning) (inputs : List (List ℕ)) (found : List Found) (workers : ℕ)
-        (before after : Round)
-        → CanBegin b
-        → AreShort inputs
-        → All (IsMade workers) (rounds_after b inputs found)
-        → IsRepeated (rounds_after b inputs found) before after
-        → executed_in after.setup.limit (opening after.setup after.past) ≡ 0 }
-    ensures instructions { (b : Beginning) (inputs : List (List ℕ)) (found : List Found)
-        (workers : ℕ)
-        (before after : Round)
-        → CanBegin b
-        → AreShort inputs
-        → All (IsMade workers) (rounds_after b inputs found)
-        → IsRepeated (rounds_after b inputs found) before after
-        → instructions_from (first after.setup) (entries_of after) ≡ 0 }
-    ensures machine { (b : Beginning) (inputs : List (List ℕ)) (found : List Found) (workers : ℕ)
-        (before after : Round)
-        → CanBegin b
-        → AreShort inputs
-        → All (IsMade workers) (rounds_after b inputs found)
-        → IsRepeated (rounds_after b inputs found) before after
-        → machine_of after ≡ machine_of before }
+        → PicksNoneToExecute after }
 {}
 
 /// Where input and limits of the first round of a rerun are those of the memo's round, and the memo's history is
@@ -498,45 +362,17 @@ pub fn repeated_round_executes_nothing()
 /// is discarded; and schedule and machine (so its end, output and final memory) are those of the memo's round. One
 /// worker would pick no step to be executed.
 pub fn unedited_rerun_executes_nothing()
-    ensures reuses { (h : History) (limits : Limits) (asked : AskedFor) (inputs : List (List ℕ))
-        (found : List Found)
-        (workers : ℕ) (r : Round)
+    ensures repeats { (h : History) (limits : Limits) (asked : AskedFor) (inputs : List (List ℕ))
+        (found : List Found) (workers : ℕ) (r : Round)
         → IsHonest h
         → IsUneditedRerun h limits asked inputs found r
         → IsMade workers r
-        → OnlyReuses h (made r) }
-    ensures schedule { (h : History) (limits : Limits) (asked : AskedFor) (inputs : List (List ℕ))
-        (found : List Found)
-        (workers : ℕ) (r : Round)
-        → IsHonest h
-        → IsUneditedRerun h limits asked inputs found r
-        → IsMade workers r
-        → schedule_in r ≡ schedule_of h }
-    ensures never_runs { (h : History) (limits : Limits) (asked : AskedFor)
-        (inputs : List (List ℕ)) (found : List Found)
-        (r : Round) (n t : ℕ)
-        → IsHonest h
-        → IsUneditedRerun h limits asked inputs found r
-        → pick_of (after_picks n (opening r.setup r.past)) ≢ pick.Run t }
-    ensures executed { (h : History) (limits : Limits) (asked : AskedFor) (inputs : List (List ℕ))
+        → Repeats h (schedule_of h) (scratch h.setup (schedule_of h)) r }
+    ensures alone { (h : History) (limits : Limits) (asked : AskedFor) (inputs : List (List ℕ))
         (found : List Found) (r : Round)
         → IsHonest h
         → IsUneditedRerun h limits asked inputs found r
-        → executed_in r.setup.limit (opening r.setup r.past) ≡ 0 }
-    ensures instructions { (h : History) (limits : Limits) (asked : AskedFor)
-        (inputs : List (List ℕ)) (found : List Found)
-        (workers : ℕ) (r : Round)
-        → IsHonest h
-        → IsUneditedRerun h limits asked inputs found r
-        → IsMade workers r
-        → instructions_from (first r.setup) (entries_of r) ≡ 0 }
-    ensures machine { (h : History) (limits : Limits) (asked : AskedFor) (inputs : List (List ℕ))
-        (found : List Found)
-        (workers : ℕ) (r : Round)
-        → IsHonest h
-        → IsUneditedRerun h limits asked inputs found r
-        → IsMade workers r
-        → machine_of r ≡ scratch h.setup (schedule_of h) }
+        → PicksNoneToExecute r }
 {}
 
 /// Without lists of edits there is one round, a run from scratch: with no history each entry is executed, and report

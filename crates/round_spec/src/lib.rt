@@ -10,21 +10,19 @@ ghost use Rattle.std.specs.Prelude.{◌≡◌, ◌≢◌, ◌<◌, ◌≤◌, �
 ghost use Rattle.record_spec.specs.Record.{Record, IsTrue};
 ghost use Rattle.machine_spec.specs.Step.{apply, fits};
 ghost use Rattle.machine_spec.specs.Whole.{IsWhole};
-ghost use Rattle.report_spec.specs.declared.Entry.{Entry};
 ghost use Rattle.round_spec.specs.declared.events.Event.TheVariants.{Commit};
 ghost use Rattle.machine_spec.specs.Machine.{Machine, hart_of};
 ghost use Rattle.machine_spec.specs.Choice.{choice, alone};
-ghost use Rattle.machine_spec.specs.Setup.{Setup, IsSetup, first, map_of, scratch, is_permitted, records};
+ghost use Rattle.machine_spec.specs.Setup.{Setup, IsSetup, first, map_of};
 ghost use Rattle.history_spec.specs.History.{History, IsHonest, IsSameProgram, IsSound, CanGoBy, IsMappedIn, IsMapped, past_records, is_numbered};
-ghost use Rattle.report_spec.specs.Report.{threads_of, instructions_from};
+ghost use Rattle.report_spec.specs.Report.{instructions_from};
 ghost use Rattle.round_spec.specs.declared.events.Event.{Event};
-ghost use Rattle.round_spec.specs.Marks.{marked, sourced};
 ghost use Rattle.round_spec.specs.Rounds.{RoundState, none_in_flight, happens, is_in_flight, is_finished, taken_when, round_after, history_of};
 ghost use Rattle.round_spec.specs.Schedules.{IsBySchedule};
 ghost use Rattle.round_spec.specs.Choice.{choice_by};
 ghost use Rattle.round_spec.specs.Alone.{one_worker};
 ghost use Rattle.round_spec.specs.Instructions.{executed_instructions};
-ghost use Rattle.round_spec.specs.Keeping.{IsCounted, IsHeld, IsInOrder};
+ghost use Rattle.round_spec.specs.Keeping.{IsCounted, IsFromScratch, IsHeld, IsInOrder};
 ghost use Rattle.round_spec.specs.Reordering.{reuses_of, ReusesInOrder};
 ghost use Rattle.round_spec.specs.Due.{place_in, has_exited, are_passed_before, is_due};
 ghost use Rattle.order_spec.specs.Facts.{Fact, facts};
@@ -116,25 +114,9 @@ pub fn rounds_stay_mapped()
 /// is the one from scratch under it; its records are those of the steps, where that of a reused entry is
 /// the history's own; and exactly the steps whose record fitted are marked as reused.
 pub fn rounds_are_from_scratch()
-    ensures permitted { (setup : Setup) (past : Option History) (events : List Event)
+    ensures { (setup : Setup) (past : Option History) (events : List Event)
         → CanGoBy past setup
-        → is_permitted setup (threads_of (round_after setup past events).schedule) ≡ true }
-    ensures machine { (setup : Setup) (past : Option History) (events : List Event)
-        → CanGoBy past setup
-        → (round_after setup past events).machine
-        ≡ scratch setup (threads_of (round_after setup past events).schedule) }
-    ensures records { (setup : Setup) (past : Option History) (events : List Event)
-        → CanGoBy past setup
-        → (round_after setup past events).records
-        ≡ records setup (threads_of (round_after setup past events).schedule) }
-    ensures sources { (setup : Setup) (past : Option History) (events : List Event)
-        → CanGoBy past setup
-        → (round_after setup past events).records
-        ≡ sourced past setup (round_after setup past events).schedule }
-    ensures marks { (setup : Setup) (past : Option History) (events : List Event)
-        → CanGoBy past setup
-        → (round_after setup past events).schedule
-        ≡ marked past setup (threads_of (round_after setup past events).schedule) }
+        → IsFromScratch (round_after setup past events) }
 {}
 
 /// What a round leaves that goes by a sound history and has an end is an honest history, and so a sound

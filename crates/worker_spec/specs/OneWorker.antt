@@ -1,17 +1,19 @@
 -- What one worker makes of a round: a round that is known by its schedule alone, and how many instructions were
 -- executed.
-use Rattle.std.specs.Prelude.{ℕ, zero, suc, ◌+◌, false, List, length, Option}
+use Rattle.std.specs.Prelude.{ℕ, zero, suc, ◌+◌, ◌≡◌, ◌≢◌, false, List, length, Option, Some}
 use Rattle.std.specs.List.{range_with_len}
 use Rattle.thunk_spec.specs.Thunk.{thunk}
 use Rattle.machine_spec.specs.Machine.{hart_of}
-use Rattle.machine_spec.specs.Setup.{Setup, scratch, records}
-use Rattle.history_spec.specs.History.{History}
+use Rattle.machine_spec.specs.Setup.{Setup, first, scratch, records}
+use Rattle.history_spec.specs.History.{History, schedule_of}
+use Rattle.report_spec.specs.Report.{instructions_from}
 use Rattle.round_spec.specs.declared.events.Pick.{Pick}
 use Rattle.round_spec.specs.declared.events.Pick.TheVariants as pick
 use Rattle.round_spec.specs.Marks.{marked}
-use Rattle.round_spec.specs.Rounds.{RoundState, none_in_flight, nothing_taken}
+use Rattle.round_spec.specs.Rounds.{RoundState, none_in_flight, nothing_taken, opening}
 use Rattle.round_spec.specs.Choice.{pick_of}
-use Rattle.round_spec.specs.Alone.{after_pick}
+use Rattle.round_spec.specs.Alone.{one_worker, after_pick, after_picks, lone_round}
+use Rattle.round_spec.specs.Unedited.{OnlyReuses}
 
 -- The round whose steps were made under a schedule, where nobody is in flight, nothing was discarded and nobody stopped
 -- it: its machine and its records are those from scratch, its marks are exact, and each thread was picked when its turn
@@ -42,3 +44,12 @@ cost_of w pick.Over = 0
 abbrev pub executed_in : ℕ → RoundState → ℕ
 executed_in zero w = 0
 executed_in (suc n) w = cost_of w (pick_of w) + executed_in n (after_pick w (pick_of w))
+
+-- One worker that runs a setup by a history makes the history's schedule, and its round is all reuse of the history: it
+-- picks no step to be executed, and executes no instruction.
+pub record ReusesAll (h : History) (setup : Setup) : Type 0 where
+  pub threads : one_worker setup (Some h) ≡ schedule_of h
+  pub reuses : OnlyReuses h (lone_round setup (Some h))
+  pub never_runs : (n t : ℕ) → pick_of (after_picks n (opening setup (Some h))) ≢ pick.Run t
+  pub executed : executed_in setup.limit (opening setup (Some h)) ≡ 0
+  pub instructions : instructions_from (first setup) (lone_round setup (Some h)).schedule ≡ 0

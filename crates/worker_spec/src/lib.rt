@@ -20,9 +20,8 @@ ghost use Rattle.round_spec.specs.Alone.{guided_from, one_worker, after_picks, l
 ghost use Rattle.round_spec.specs.Keeping.{IsFromScratch, IsInOrder};
 ghost use Rattle.round_spec.specs.Picking.{ArePicked, IsPickedSoFar};
 ghost use Rattle.round_spec.specs.Unedited.{IsUnedited, OnlyReuses};
-ghost use Rattle.worker_spec.specs.OneWorker.{made_by, executed_in};
-ghost use Rattle.round_spec.specs.Marks.{marked};
-ghost use Rattle.worker_spec.specs.Workers.{IsMadeBy};
+ghost use Rattle.worker_spec.specs.OneWorker.{made_by, executed_in, ReusesAll};
+ghost use Rattle.worker_spec.specs.Workers.{IsMadeBy, MakeFromScratch};
 ghost use Rattle.worker_spec.specs.Replaying.{IsReplaying, IsNextStep, goes_on_by};
 
 /// How often a watcher looks at most how many steps of a round were made.
@@ -103,31 +102,11 @@ pub fn workers_make_what_comes_to_an_end()
 /// schedule is permitted and complete, machine and records are those from scratch, and the marks are exact.
 /// What it leaves is an honest history. One worker's round is the one that follows the choice.
 pub fn workers_make_rounds_from_scratch()
-    ensures round { (workers : ℕ) (setup : Setup) (past : Option History) (entries : List Entry)
+    ensures rounds { (workers : ℕ) (setup : Setup) (past : Option History) (entries : List Entry)
         (worker_steps : List ℕ)
         → CanGoBy past setup
         → IsMadeBy workers setup past entries worker_steps
-        → round_by setup past entries ≡ made_by setup past (threads_of entries) }
-    ensures permitted { (workers : ℕ) (setup : Setup) (past : Option History)
-        (entries : List Entry) (worker_steps : List ℕ)
-        → CanGoBy past setup
-        → IsMadeBy workers setup past entries worker_steps
-        → is_permitted setup (threads_of entries) ≡ true }
-    ensures complete { (workers : ℕ) (setup : Setup) (past : Option History) (entries : List Entry)
-        (worker_steps : List ℕ)
-        → CanGoBy past setup
-        → IsMadeBy workers setup past entries worker_steps
-        → is_complete setup (threads_of entries) ≡ true }
-    ensures marks { (workers : ℕ) (setup : Setup) (past : Option History) (entries : List Entry)
-        (worker_steps : List ℕ)
-        → CanGoBy past setup
-        → IsMadeBy workers setup past entries worker_steps
-        → entries ≡ marked past setup (threads_of entries) }
-    ensures honest { (workers : ℕ) (setup : Setup) (past : Option History) (entries : List Entry)
-        (worker_steps : List ℕ)
-        → CanGoBy past setup
-        → IsMadeBy workers setup past entries worker_steps
-        → IsHonest (history_of (round_by setup past entries)) }
+        → MakeFromScratch setup past entries }
     ensures alone { (setup : Setup) (past : Option History) (entries : List Entry)
         (worker_steps : List ℕ)
         → IsMadeBy 1 setup past entries worker_steps
@@ -205,21 +184,7 @@ pub fn one_worker_executes_what_is_reported()
 /// Without an edit one worker makes the history's schedule, and its round is all reuse: at no pick is a
 /// step begun, no instruction is executed, and nothing is discarded.
 pub fn no_edit_reuses_all()
-    ensures threads { (h : History) (setup : Setup)
-        → IsUnedited h setup
-        → one_worker setup (Some h) ≡ schedule_of h }
-    ensures reuses { (h : History) (setup : Setup)
-        → IsUnedited h setup
-        → OnlyReuses h (lone_round setup (Some h)) }
-    ensures never_runs { (h : History) (setup : Setup) (n t : ℕ)
-        → IsUnedited h setup
-        → pick_of (after_picks n (opening setup (Some h))) ≢ pick.Run t }
-    ensures executed { (h : History) (setup : Setup)
-        → IsUnedited h setup
-        → executed_in setup.limit (opening setup (Some h)) ≡ 0 }
-    ensures instructions { (h : History) (setup : Setup)
-        → IsUnedited h setup
-        → instructions_from (first setup) (lone_round setup (Some h)).schedule ≡ 0 }
+    ensures { (h : History) (setup : Setup) → IsUnedited h setup → ReusesAll h setup }
 {}
 
 /// Without an edit the same holds by any number of workers, at each moment: as long as a step is begun

@@ -31,14 +31,13 @@ fn write_setup(out: &mut Vec<u8>, setup: &Setup) -> Result<(), AllocError>
         ++ setup.now.input
         ++ word setup.now.fuel ++ word setup.now.limit) }
 {
-    let limits = setup.limits();
     out.extend_from_slice(&MAGIC)?;
     put_word(out, VERSION)?;
     put_word(out, PROFILE)?;
     write_sized(out, setup.elf())?;
     write_sized(out, setup.input())?;
-    put_word(out, limits.fuel())?;
-    put_word(out, limits.steps())
+    put_word(out, setup.fuel())?;
+    put_word(out, setup.steps())
 }
 
 /// Appends the pages of a pool behind their number.

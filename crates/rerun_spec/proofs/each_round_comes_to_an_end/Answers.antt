@@ -1,8 +1,9 @@
 -- Answers to the goals that the check leaves of `each_round_comes_to_an_end`.
-use Rattle.std.proofs.Common.{◌≡◌, ◌≢◌, true, [], is_some, slice_index_or}
+use Rattle.std.proofs.Common.{◌≡◌, slice_index_or}
 use Rattle.history_spec.specs.History.{schedule_of}
 use Rattle.round_spec.specs.Keeping.{IsCounted}
 use Rattle.rerun_spec.specs.Rounds.{made, left_by, schedule_in, rounds_after}
+use Rattle.rerun_spec.specs.Making.{ComesToAnEnd}
 use Rattle.rerun_spec.proofs.Ending.{all-valid, valid-holds, made-holds, valid-made-holds, round-stops, round-stands, round-steps, round-counts, left-own, left-found, same-program, same-past, later-past}
 use Rattle.rerun_spec.proofs.each_round_comes_to_an_end.Goals as goal
 
@@ -10,13 +11,9 @@ pub returns-clause-runs : goal.returns-clause-runs
 returns-clause-runs c = all-valid
 
 pub returns-clause-ends : goal.returns-clause-ends
-returns-clause-ends c = made-holds (λ r. is_some (made r).machine.ending ≡ true) round-stops
-
-pub returns-clause-steps : goal.returns-clause-steps
-returns-clause-steps c = made-holds (λ r. (made r).schedule ≢ []) round-steps
-
-pub returns-clause-entries : goal.returns-clause-entries
-returns-clause-entries c = made-holds (λ r. (made r).schedule ≡ r.found.entries) round-stands
+returns-clause-ends c = made-holds ComesToAnEnd
+    (λ workers r is.
+    record { ends = round-stops workers r is; steps = round-steps workers r is; entries = round-stands workers r is })
 
 pub returns-clause-records : goal.returns-clause-records
 returns-clause-records c = valid-holds (λ r. IsCounted (made r)) round-counts

@@ -11,16 +11,19 @@ pub returns-clause-memo : goal.returns-clause-memo
 returns-clause-memo c = memo-begins
 
 pub returns-clause-sound : goal.returns-clause-sound
-returns-clause-sound c = each-holds (λ (r : Round). CanGoBy r.past r.setup) (λ workers r is. is.can)
+returns-clause-sound c = λ b inputs found workers are.
+    each-holds (λ (r : Round). CanGoBy r.past r.setup) (λ workers r is. is.can) b inputs found workers are.begin are.short
+    are.made
 
 pub returns-clause-later : goal.returns-clause-later
-returns-clause-later c = later-round
+returns-clause-later c = λ b inputs found workers are. later-round b inputs found workers are.begin are.short are.made
 
 pub returns-clause-honest : goal.returns-clause-honest
-returns-clause-honest c = each-holds (λ r. IsHonest (left_by r)) round-honest
+returns-clause-honest c = λ b inputs found workers are.
+    each-holds (λ r. IsHonest (left_by r)) round-honest b inputs found workers are.begin are.short are.made
 
 pub returns-clause-last : goal.returns-clause-last
-returns-clause-last c = last-honest
+returns-clause-last c = λ b inputs found workers are. last-honest b inputs found workers are.begin are.short are.made
 
 pub returns-clause-some : goal.returns-clause-some
 returns-clause-some c = some-made

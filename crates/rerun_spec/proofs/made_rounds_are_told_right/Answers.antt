@@ -9,7 +9,7 @@ pub returns-clause-exit : goal.returns-clause-exit
 returns-clause-exit c = λ r workers can is. exit-made workers r (record { can = can; made = is })
 
 pub returns-clause-reports : goal.returns-clause-reports
-returns-clause-reports c = reports-made
+returns-clause-reports c = λ b inputs found workers are. reports-made b inputs found workers are.begin are.short are.made
 
 pub returns-clause-exits : goal.returns-clause-exits
-returns-clause-exits c = exits-made
+returns-clause-exits c = λ b inputs found workers are. exits-made b inputs found workers are.begin are.short are.made

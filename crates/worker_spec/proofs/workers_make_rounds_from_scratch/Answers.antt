@@ -2,20 +2,15 @@
 use Rattle.worker_spec.proofs.Workers.{workers-round, workers-permitted, workers-complete, workers-marks, workers-honest, workers-alone}
 use Rattle.worker_spec.proofs.workers_make_rounds_from_scratch.Goals as goal
 
-pub returns-clause-round : goal.returns-clause-round
-returns-clause-round c = workers-round
-
-pub returns-clause-permitted : goal.returns-clause-permitted
-returns-clause-permitted c = workers-permitted
-
-pub returns-clause-complete : goal.returns-clause-complete
-returns-clause-complete c = workers-complete
-
-pub returns-clause-marks : goal.returns-clause-marks
-returns-clause-marks c = workers-marks
-
-pub returns-clause-honest : goal.returns-clause-honest
-returns-clause-honest c = workers-honest
+pub returns-clause-rounds : goal.returns-clause-rounds
+returns-clause-rounds c = λ workers setup past entries worker_steps can is.
+    record {
+      round = workers-round workers setup past entries worker_steps can is;
+      permitted = workers-permitted workers setup past entries worker_steps can is;
+      complete = workers-complete workers setup past entries worker_steps can is;
+      marks = workers-marks workers setup past entries worker_steps can is;
+      honest = workers-honest workers setup past entries worker_steps can is;
+    }
 
 pub returns-clause-alone : goal.returns-clause-alone
 returns-clause-alone c = workers-alone

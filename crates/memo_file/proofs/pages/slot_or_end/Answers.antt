@@ -1,7 +1,7 @@
 -- Answers to the goals that the check leaves of `slot_or_end`.
 use Rattle.std.proofs.Common.{◌≤◌, ◌^◌, sym, ◌∙◌, arith}
 use Rattle.memo_file.proofs.Aging.{no_slot}
-use Rattle.memo_file.proofs.age.slot_or_end.Goals as goal
+use Rattle.memo_file.proofs.pages.slot_or_end.Goals as goal
 
 pub returns-in-Err : goal.returns-in-Err
 returns-in-Err c =
