@@ -31,11 +31,13 @@ fn write_setup(out: &mut Vec<u8>, setup: &Setup) -> Result<(), AllocError>
         ++ setup.now.input
         ++ word setup.now.fuel ++ word setup.now.limit) }
 {
+    let elf = setup.elf();
+    let input = setup.input();
     out.extend_from_slice(&MAGIC)?;
     put_word(out, VERSION)?;
     put_word(out, PROFILE)?;
-    write_sized(out, setup.elf())?;
-    write_sized(out, setup.input())?;
+    write_sized(out, elf)?;
+    write_sized(out, input)?;
     put_word(out, setup.fuel())?;
     put_word(out, setup.steps())
 }
