@@ -19,8 +19,8 @@ unreachable-requires c =
     let some : 0 < length c.args.plan.inputs = c.requires.some in
     omega (arith, ap (length {A = List ℕ}) none)
 
-pub with-requires : goal.with-requires
-with-requires c =
+pub with_input-requires : goal.with_input-requires
+with_input-requires c =
     let first : c.args.plan.inputs ≡ c.in-Some.input.items ∷ c.take_next.new.self =
     rw c.in-Some.is at c.in_ok-input.ensures.taken in
     short_first c.in-Some.input.items c.take_next.new.self (subst AreShort first c.requires.short)
