@@ -23,7 +23,8 @@ use Rattle.round_memo_spec.proofs.Events.{round-encoded}
 use Rattle.ith_host.specs.World.{World}
 use Rattle.ith_words.specs.Words.{Line, Runs, Reruns, Replays, Shows, Explains, FindsRaces, Audits, Generates, RerunLine}
 use Rattle.ith_top.specs.Contents.{Plan, IsRerunPlan, IsPlan, setup_of, as_rerun, workers_of, limits_for}
-use Rattle.ith_top.specs.Rounds.{IsPromised, ArePromised, OnlyRepeats, BeginsHonestly, CanBeKept, rounds_of}
+use Rattle.rerun_spec.specs.Making.{OnlyRepeats}
+use Rattle.ith_top.specs.Rounds.{IsPromised, ArePromised, BeginsHonestly, CanBeKept, rounds_of}
 use Rattle.ith_top.specs.Ends.{left_of}
 use Rattle.ith_top.specs.Playing.{AreFound, CanBePlayed, CanBeEncoded}
 

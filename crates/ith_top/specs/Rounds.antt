@@ -1,28 +1,14 @@
 -- What is promised of the rounds of a line.
 use Rattle.std.specs.Prelude.{◌≡◌, ℕ, true, List, All, IfSome, Some, slice_get, is_some}
-use Rattle.machine_spec.specs.Setup.{first, is_permitted, is_complete, records}
+use Rattle.machine_spec.specs.Setup.{is_permitted, is_complete, records}
 use Rattle.history_spec.specs.History.{History, IsHonest}
 use Rattle.memo_spec.specs.Encoding.{IsEncodable}
-use Rattle.report_spec.specs.Report.{instructions_from}
 use Rattle.round_spec.specs.Alone.{one_worker}
-use Rattle.round_spec.specs.Unedited.{OnlyReuses}
 use Rattle.reach_spec.specs.Working.{ReexecutesLeast}
-use Rattle.rerun_spec.specs.Rounds.{Found, Round, Beginning, made, IsPickedRightly, left_by, schedule_in, entries_of, machine_of, rounds_after, IsRepeated}
+use Rattle.rerun_spec.specs.Rounds.{Found, Round, Beginning, made, IsPickedRightly, left_by, schedule_in, entries_of, rounds_after, IsRepeated}
+use Rattle.rerun_spec.specs.Making.{OnlyRepeats, Repeats}
 use Rattle.rerun_spec.specs.Reports.{reports_of, made_reports, all_exit, all_made_exit}
 use Rattle.ith_top.specs.Contents.{Plan}
-
--- A round is all reuse of a history: its schedule and its machine are those that the history left, its report tells of
--- no executed instruction, and one worker that goes by this history would begin no step.
-pub record OnlyRepeats (h : History) (r : Round) : Type 0 where
-  pub reuses : OnlyReuses h (made r)
-  pub instructions : instructions_from (first r.setup) (entries_of r) ≡ 0
-
--- A round does what the round before it did, and executes nothing: it is all reuse of what that one left; its schedule
--- and its machine, and with it end, output and final memory, are those of the round before.
-pub record Repeats (before after : Round) : Type 0 where
-  pub repeats : OnlyRepeats (left_by before) after
-  pub schedule : schedule_in after ≡ schedule_in before
-  pub machine : machine_of after ≡ machine_of before
 
 -- What is promised of a round, whoever of so many workers made its steps: the schedule that it prints is the one that
 -- was made, permitted and complete; a step is marked as reused exactly where the record of it fits; one worker makes

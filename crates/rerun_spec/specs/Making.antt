@@ -1,8 +1,7 @@
 -- Rounds that workers make, and what holds of each of them.
 use Rattle.std.specs.Prelude.{ℕ, ◌≡◌, ◌≢◌, true, List, [], All, is_some}
-use Rattle.machine_spec.specs.Machine.{Machine}
 use Rattle.machine_spec.specs.Setup.{first, scratch, is_permitted, is_complete, records}
-use Rattle.history_spec.specs.History.{History}
+use Rattle.history_spec.specs.History.{History, schedule_of}
 use Rattle.report_spec.specs.Report.{threads_of, instructions_from, report}
 use Rattle.round_spec.specs.declared.events.Pick.TheVariants as pick
 use Rattle.round_spec.specs.Rounds.{opening}
@@ -12,7 +11,7 @@ use Rattle.round_spec.specs.Instructions.{executed_instructions}
 use Rattle.round_spec.specs.Unedited.{OnlyReuses}
 use Rattle.worker_spec.specs.OneWorker.{executed_in}
 use Rattle.rerun_spec.specs.Inputs.{AreShort}
-use Rattle.rerun_spec.specs.Rounds.{Found, Round, Beginning, made, IsMade, IsPickedRightly, CanBegin, rounds_after, schedule_in, entries_of, machine_of}
+use Rattle.rerun_spec.specs.Rounds.{Found, Round, Beginning, made, IsMade, IsPickedRightly, left_by, CanBegin, rounds_after, schedule_in, entries_of, machine_of}
 use Rattle.rerun_spec.specs.Reports.{extras_in, report_of, is_exit, exits}
 
 -- So many workers make rounds on inputs that are short enough, from a beginning of which rounds may be made.
@@ -49,13 +48,24 @@ pub record FollowsTheChoice (r : Round) : Type 0 where
   pub schedule : schedule_in r ≡ one_worker r.setup r.past
   pub executed : executed_in r.setup.limit (opening r.setup r.past) ≡ instructions_from (first r.setup) (entries_of r)
 
--- A round that workers made is all reuse of a history: it has this schedule and this machine (so its end, output and
--- final memory), and executes no instruction.
-pub record Repeats (h : History) (order : List ℕ) (last : Machine) (r : Round) : Type 0 where
+-- A round is all reuse of a history: its schedule and its machine are those that the history left, and its report tells of
+-- no executed instruction.
+pub record OnlyRepeats (h : History) (r : Round) : Type 0 where
   pub reuses : OnlyReuses h (made r)
-  pub schedule : schedule_in r ≡ order
   pub instructions : instructions_from (first r.setup) (entries_of r) ≡ 0
-  pub machine : machine_of r ≡ last
+
+-- A round does what the round before it did, and executes nothing: it is all reuse of what that one left; its schedule
+-- and its machine, and with it end, output and final memory, are those of the round before.
+pub record Repeats (before after : Round) : Type 0 where
+  pub repeats : OnlyRepeats (left_by before) after
+  pub schedule : schedule_in after ≡ schedule_in before
+  pub machine : machine_of after ≡ machine_of before
+
+-- A round does what the round of a history did, and executes nothing.
+pub record RepeatsHistory (h : History) (r : Round) : Type 0 where
+  pub repeats : OnlyRepeats h r
+  pub schedule : schedule_in r ≡ schedule_of h
+  pub machine : machine_of r ≡ scratch h.setup (schedule_of h)
 
 -- One worker that makes a round picks no step to be executed, and executes nothing.
 pub record PicksNoneToExecute (r : Round) : Type 0 where

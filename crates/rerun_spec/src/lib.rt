@@ -20,8 +20,8 @@ ghost use Rattle.round_spec.specs.Keeping.{IsCounted};
 ghost use Rattle.reach_spec.specs.Working.{ReexecutesLeast};
 ghost use Rattle.rerun_spec.specs.Inputs.{Makes, AreInputs, AreRerunInputs, AreShort, Refusal, Refuses, IsFirstRefused};
 ghost use Rattle.rerun_spec.specs.declared.Asked.{Asked as AskedFor};
-ghost use Rattle.rerun_spec.specs.Rounds.{Found, Round, Beginning, limits_of, with_input, with_limits, made, IsMade, left_by, from_scratch, after_memo, CanBegin, round_on, after_round, rounds_after, after_rounds, IsOfProgram, last_left, schedule_in, entries_of, machine_of, IsRepeated, IsUneditedRerun};
-ghost use Rattle.rerun_spec.specs.Making.{AreMade, ComesToAnEnd, IsAsReported, FollowsTheChoice, Repeats, PicksNoneToExecute};
+ghost use Rattle.rerun_spec.specs.Rounds.{Found, Round, Beginning, limits_of, with_input, with_limits, made, IsMade, left_by, from_scratch, after_memo, CanBegin, round_on, after_round, rounds_after, after_rounds, IsOfProgram, last_left, schedule_in, entries_of, IsRepeated, IsUneditedRerun};
+ghost use Rattle.rerun_spec.specs.Making.{AreMade, ComesToAnEnd, IsAsReported, FollowsTheChoice, Repeats, RepeatsHistory, PicksNoneToExecute};
 ghost use Rattle.rerun_spec.specs.Reports.{all_executed, extras_of, report_of, reports_of, is_exit, exits, all_exit, made_report, made_reports, made_exits, all_made_exit};
 
 /// Which lines a report has only because they are asked for.
@@ -349,7 +349,7 @@ pub fn repeated_round_executes_nothing()
         (before after : Round)
         → AreMade b inputs found workers
         → IsRepeated (rounds_after b inputs found) before after
-        → Repeats (left_by before) (schedule_in before) (machine_of before) after }
+        → Repeats before after }
     ensures alone { (b : Beginning) (inputs : List (List ℕ)) (found : List Found) (workers : ℕ)
         (before after : Round)
         → AreMade b inputs found workers
@@ -367,7 +367,7 @@ pub fn unedited_rerun_executes_nothing()
         → IsHonest h
         → IsUneditedRerun h limits asked inputs found r
         → IsMade workers r
-        → Repeats h (schedule_of h) (scratch h.setup (schedule_of h)) r }
+        → RepeatsHistory h r }
     ensures alone { (h : History) (limits : Limits) (asked : AskedFor) (inputs : List (List ℕ))
         (found : List Found) (r : Round)
         → IsHonest h

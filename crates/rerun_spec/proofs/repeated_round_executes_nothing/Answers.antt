@@ -7,9 +7,12 @@ pub returns-clause-repeats : goal.returns-clause-repeats
 returns-clause-repeats c = λ b inputs found workers before after are repeated.
     let is = repeated-after b inputs found workers before after are.begin are.short are.made repeated in
     record {
-      reuses = again-reuses workers (left_by before) after is.again is.made;
+      repeats =
+          record {
+            reuses = again-reuses workers (left_by before) after is.again is.made;
+            instructions = again-instructions workers (left_by before) after is.again is.made;
+          };
       schedule = after-schedule workers before after is;
-      instructions = again-instructions workers (left_by before) after is.again is.made;
       machine = after-machine workers before after is;
     }
 

@@ -6,9 +6,9 @@ pub returns-clause-repeats : goal.returns-clause-repeats
 returns-clause-repeats c = λ h limits asked inputs found workers r honest rerun is.
     let again = rerun-again h limits asked inputs found r honest rerun in
     record {
-      reuses = again-reuses workers h r again is;
+      repeats =
+          record { reuses = again-reuses workers h r again is; instructions = again-instructions workers h r again is };
       schedule = again-schedule workers h r again is;
-      instructions = again-instructions workers h r again is;
       machine = again-machine workers h r again is;
     }
 
