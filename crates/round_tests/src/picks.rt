@@ -84,33 +84,43 @@ fn taken<R: Threads>(rt: &R, alloc: Global, round: &mut Round) -> Result<Run, Fa
     }
 }
 
-/// The round after a foreign run was committed while its thread was in flight, and then the step that comes next; with
-/// the run that came back.
-fn after_foreign_run<R: Threads>(
+/// The run of the first step of a round with this fuel.
+fn first_run<R: Threads>(rt: &R, alloc: Global, fuel: u32) -> Result<Run, Fail> {
+    let mut round = Round::new(alloc, setup(alloc, fuel)?, None)?;
+    taken(rt, alloc, &mut round)
+}
+
+/// Commits a foreign run while its thread is in flight. The answer is the number of turns of the run that came back.
+fn commit_foreign<R: Threads>(
     rt: &R,
     alloc: Global,
-    mut round: Round,
+    round: &mut Round,
     foreign: Run,
-) -> Result<(Round, Run), Fail> {
-    let _own = taken(rt, alloc, &mut round)?;
-    let Committed::Stale(back) = round.commit(foreign) else {
-        return Err(Fail::new("the run isn't stale"));
-    };
-    let own = taken(rt, alloc, &mut round)?;
-    let Committed::Done = round.commit(own) else {
-        return Err(Fail::new("the run isn't committed"));
-    };
-    Ok((round, back))
+) -> Result<u32, Fail> {
+    let _own = taken(rt, alloc, round)?;
+    match round.commit(foreign) {
+        Committed::Stale(back) => Ok(back.rec.count()),
+        _ => Err(Fail::new("the run isn't stale")),
+    }
+}
+
+/// Commits the step that comes next.
+fn commit_next<R: Threads>(rt: &R, alloc: Global, round: &mut Round) -> Result<(), Fail> {
+    let own = taken(rt, alloc, round)?;
+    match round.commit(own) {
+        Committed::Done => Ok(()),
+        _ => Err(Fail::new("the run isn't committed")),
+    }
 }
 
 #[test]
 fn a_run_of_another_setup_is_stale(rt: HostRuntime) -> Result<(), Fail> {
     let alloc = rt.alloc();
-    let mut other = Round::new(alloc, setup(alloc, 999_999)?, None)?;
-    let foreign = taken(&rt, alloc, &mut other)?;
-    let opened = Round::new(alloc, setup(alloc, 1_000_000)?, None)?;
-    let (round, back) = after_foreign_run(&rt, alloc, opened, foreign)?;
-    assert!(rt; back.rec.count() == 5);
+    let foreign = first_run(&rt, alloc, 999_999)?;
+    let mut round = Round::new(alloc, setup(alloc, 1_000_000)?, None)?;
+    let count = commit_foreign(&rt, alloc, &mut round, foreign)?;
+    commit_next(&rt, alloc, &mut round)?;
+    assert!(rt; count == 5);
     assert!(rt; round.schedule().len() == 1);
     assert!(rt; round.instructions() == 5);
     assert!(rt; round.discarded() == 1);
