@@ -39,7 +39,7 @@ pub record IsAsReported (r : Round) : Type 0 where
   pub records : (made r).records ≡ records r.setup (threads_of (entries_of r))
   pub ends : is_some (machine_of r).ending ≡ true
   pub instructions : executed_instructions (made r).schedule (made r).records
-    ≡ instructions_from (first r.setup) (entries_of r)
+      ≡ instructions_from (first r.setup) (entries_of r)
   pub report : report_of r ≡ report r.number r.setup (made r).schedule (extras_in r) r.found.worker_steps
   pub exit : exits r ≡ is_exit (made r).machine.ending
 
