@@ -1,5 +1,6 @@
 -- The next fact, and those that come after it.
-use Rattle.std.proofs.Common.{◌≡◌, ◌<◌, ◌≤◌, ◌+◌, ℕ, suc, Bool, true, false, List, [], ◌∷◌, ◌++◌, Some, length, drop, cond, map, refl, sym, ap, ◌∙◌, add-one, append_assoc, drop-cons}
+use Rattle.std.proofs.Common.{◌≡◌, ◌≤◌, ◌+◌, ℕ, suc, Bool, true, false, List, [], ◌∷◌, ◌++◌, Some, is_some, length, drop, cond, map, refl, sym, ap, ◌∙◌, add-one, append_assoc, drop-cons}
+use Rattle.std.proofs.lemmas.Bool.{and_parts}
 use Rattle.std.specs.List.{slice_get}
 use Rattle.std.proofs.lemmas.List.{append-nil, drop_all}
 use Rattle.std.proofs.lemmas.Option.{slice_get_within, get_or_from_slice_get}
@@ -7,6 +8,7 @@ use Rattle.std.specs.Prelude.{◌&&◌}
 use Rattle.record_spec.specs.Record.{Record}
 use Rattle.machine_spec.specs.Machine.{Machine}
 use Rattle.machine_spec.specs.Step.{apply}
+use Rattle.history_spec.specs.History.{applied_from, can_apply_from}
 use Rattle.release_core.specs.Applying.{can_apply}
 use Rattle.order_spec.specs.Facts.{Fact, fact_of, bare_fact, facts_from}
 use Rattle.history_facts.specs.PendingFacts.{facts_to_come}
@@ -35,6 +37,15 @@ pub record IsNext (reads : ℕ → ℕ → List ℕ) (records : List Record) (pl
   pub fits : after ≡ (before && can_apply m r)
   pub more : facts ≡ so_far ++ f ∷ []
 
+-- what is left of some records
+pub rest-of :
+    (records : List Record) (place : ℕ) (r : Record) → slice_get records place ≡ Some r
+    → drop place records ≡ r ∷ drop (place + 1) records
+rest-of records place r at =
+    drop-cons records place r (slice_get_within records place r at)
+    ∙ ap (λ x. x ∷ drop (suc place) records) (get_or_from_slice_get records place r r at)
+    ∙ ap (λ n. r ∷ drop n records) (sym (add-one place))
+
 pub follows :
     (reads : ℕ → ℕ → List ℕ) (records : List Record) (place : ℕ) (m next : Machine) (r : Record)
     (before after : Bool) (so_far facts all : List Fact) (f : Fact)
@@ -44,11 +55,7 @@ pub follows :
     → so_far ++ facts_to_come before reads m (drop place records) ≡ all
     → facts ++ facts_to_come after reads next (drop (place + 1) records) ≡ all
 follows reads records place m next r before after so_far facts all f is is_fact is_next known =
-    let inside : place < length records = slice_get_within records place r is.at_place in
-    let rest : drop place records ≡ r ∷ drop (place + 1) records =
-    drop-cons records place r inside
-    ∙ ap (λ x. x ∷ drop (suc place) records) (get_or_from_slice_get records place r r is.at_place)
-    ∙ ap (λ n. r ∷ drop n records) (sym (add-one place)) in
+    let rest = rest-of records place r is.at_place in
     let come : facts_to_come before reads m (drop place records)
     ≡ f ∷ facts_to_come after reads next (drop (place + 1) records) =
     ap (facts_to_come before reads m) rest
@@ -86,3 +93,45 @@ pub all-came :
 all-came fits reads m records place facts all past known =
     sym (append-nil facts) ∙ ap (λ xs. facts ++ xs) (sym (none-to-come fits reads m))
     ∙ ap (λ rs. facts ++ facts_to_come fits reads m rs) (sym (drop_all place records past)) ∙ known
+
+-- ---- whether all records fit, and the machine that they leave
+
+can-choice :
+    (before can : Bool) (m : Machine) (r : Record) (rs : List Record)
+    → (before && (can && can_apply_from (apply m r) rs))
+    ≡ ((before && can) && can_apply_from (cond (before && can) (apply m r) m) rs)
+can-choice false can m r rs = refl
+can-choice true false m r rs = refl
+can-choice true true m r rs = refl
+
+-- What is known of some records while they are applied: all fit where those so far did and the others fit after them,
+-- and if those so far did, all leave what the others leave.
+pub record AreLeft (start : Machine) (records : List Record) (fits : Bool) (m : Machine) (rest : List Record) : Type 0
+  where
+    pub can : can_apply_from start records ≡ (fits && can_apply_from m rest)
+    pub applied : fits ≡ true → applied_from start records ≡ applied_from m rest
+
+pub left-more :
+    (start m next : Machine) (records rs : List Record) (r : Record) (before after : Bool)
+    → after ≡ (before && can_apply m r) → next ≡ cond after (apply m r) m
+    → AreLeft start records before m (r ∷ rs) → AreLeft start records after next rs
+left-more start m next records rs r before after is_after is_next left =
+    record {
+      can =
+          left.can ∙ can-choice before (can_apply m r) m r rs
+          ∙ ap (λ (b : Bool). b && can_apply_from (cond b (apply m r) m) rs) (sym is_after)
+          ∙ ap (λ (n : Machine). after && can_apply_from n rs) (sym is_next);
+      applied = λ all.
+          left.applied (and_parts before (can_apply m r) (sym is_after ∙ all)).0
+          ∙ ap (λ (n : Machine). applied_from n rs)
+          (ap (λ (b : Bool). cond b (apply m r) m) (sym all) ∙ sym is_next);
+    }
+
+pub left-none :
+    (start m : Machine) (records : List Record) (fits : Bool) → AreLeft start records fits m []
+    → (fits && is_some m.ending) ≡ (can_apply_from start records && is_some (applied_from start records).ending)
+left-none start m records true left =
+    ap (λ (b : Bool). b && is_some m.ending) (sym left.can)
+    ∙ ap (λ (n : Machine). can_apply_from start records && is_some n.ending) (sym (left.applied refl))
+left-none start m records false left =
+    ap (λ (b : Bool). b && is_some (applied_from start records).ending) (sym left.can)

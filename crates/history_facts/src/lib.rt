@@ -1,8 +1,8 @@
 //! The facts of a history: what each of its steps does, as far as other steps can depend on it.
 #![tactic(auto)]
 
-ghost use Rattle.std.specs.Prelude.{◌≡◌, ◌&&◌, true, if◌then◌else◌, IfOk, OnOk};
-ghost use Rattle.history_spec.specs.History.{is_coherent};
+ghost use Rattle.std.specs.Prelude.{◌≡◌, ◌&&◌, true, if◌then◌else◌, is_some, IfOk, OnOk};
+ghost use Rattle.history_spec.specs.History.{applied_from, can_apply_from, is_coherent};
 ghost use Rattle.machine_spec.specs.Step as step;
 ghost use Rattle.order_spec.specs.Facts as order;
 ghost use Rattle.release_core.specs.Applying.{can_apply};
@@ -21,6 +21,15 @@ use replay::Replay;
 use std::alloc::{AllocError, Global};
 use sync_objects::ActedOn;
 use thunk_record::Record;
+
+/// The facts of a history's records, in order, and whether the history holds together.
+#[derive(Drop)]
+pub struct HistoryFacts {
+    /// The facts.
+    pub facts: Vec<Fact>,
+    /// Whether each record fits where it is applied, and an end comes after the last one and no earlier.
+    pub coherent: bool,
+}
 
 /// The fact of a record that doesn't fit, or that follows an end.
 fn bare_fact(alloc: Global, rec: &Record) -> Result<Fact, AllocError>
@@ -59,10 +68,17 @@ fn next_fact(
     }
 }
 
-/// The facts of records that are applied to a machine, as far as they fit.
-fn facts_on(alloc: Global, replay: &mut Replay, records: &Records) -> Result<Vec<Fact>, AllocError>
-    ensures facts { IfOk result (λ facts. facts.items
+/// The facts of records that are applied to a machine, as far as they fit, and whether all do and lead to an end.
+fn facts_on(
+    alloc: Global,
+    replay: &mut Replay,
+    records: &Records,
+) -> Result<HistoryFacts, AllocError>
+    ensures facts { IfOk result (λ found. found.facts.items
         ≡ order.facts_from (order.reads_in records.now) replay.old records.now) }
+    ensures coherent { IfOk result (λ found. found.coherent
+        ≡ (can_apply_from replay.old records.now
+        && is_some (applied_from replay.old records.now).ending)) }
     ensures of_run { IfOk result (λ _. AreOfRun records.now) }
 {
     let mut facts = Vec::with_capacity(alloc, records.len())?;
@@ -71,12 +87,14 @@ fn facts_on(alloc: Global, replay: &mut Replay, records: &Records) -> Result<Vec
         let fact = next_fact(alloc, replay, &mut fits, records, records.at(place))?;
         facts.push(fact)?;
     }
-    Ok(facts)
+    let coherent = fits && replay.has_ended();
+    Ok(HistoryFacts { facts, coherent })
 }
 
 /// The facts of a history of which nothing is known: each record is applied, as far as it fits.
-fn by_applying(alloc: Global, history: &History) -> Result<Vec<Fact>, AllocError>
-    ensures facts { IfOk result (λ facts. facts.items ≡ order.facts history.now) }
+fn by_applying(alloc: Global, history: &History) -> Result<HistoryFacts, AllocError>
+    ensures facts { IfOk result (λ found. found.facts.items ≡ order.facts history.now) }
+    ensures coherent { IfOk result (λ found. found.coherent ≡ is_coherent history.now) }
     ensures of_run { IfOk result (λ _. AreOfRun history.now.records) }
 {
     let records = history.records();
@@ -101,19 +119,23 @@ fn known(alloc: Global, history: &History) -> Result<Vec<Fact>, AllocError>
     Ok(facts)
 }
 
-/// The facts of a history's records, in order. From the first record on that doesn't fit, or that follows an end, the
-/// facts name thread and written pages alone.
+/// The facts of a history, and whether it holds together. From the first record on that doesn't fit, or that follows an
+/// end, the facts name thread and written pages alone. No page is compared where the history is known to hold together.
 ///
 /// # Errors
 ///
 /// An error where the host's memory ran out.
-pub fn facts(alloc: Global, history: &History) -> Result<Vec<Fact>, AllocError>
-    ensures facts { IfOk result (λ facts. facts.items ≡ order.facts history.now) }
+pub fn facts(alloc: Global, history: &History) -> Result<HistoryFacts, AllocError>
+    ensures facts { IfOk result (λ found. found.facts.items ≡ order.facts history.now) }
+    ensures coherent { IfOk result (λ found. found.coherent ≡ is_coherent history.now) }
     ensures of_run { IfOk result (λ _. AreOfRun history.now.records) }
 {
-    if history.is_known_coherent() {
-        known(alloc, history)
-    } else {
-        by_applying(alloc, history)
+    if !history.is_known_coherent() {
+        return by_applying(alloc, history);
     }
+    let facts = known(alloc, history)?;
+    Ok(HistoryFacts {
+        facts,
+        coherent: true,
+    })
 }

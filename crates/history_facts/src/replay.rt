@@ -1,6 +1,6 @@
 //! The machine that records leave, applied one after the other, and the facts of their steps.
 
-ghost use Rattle.std.specs.Prelude.{◌≡◌, true, IfOk, OnOk};
+ghost use Rattle.std.specs.Prelude.{◌≡◌, true, is_some, IfOk, OnOk};
 ghost use Rattle.machine_spec.specs.Setup.{first};
 ghost use Rattle.machine_spec.specs.Step as step;
 ghost use Rattle.release_core.specs.Applying.{can_apply};
@@ -53,6 +53,13 @@ impl Replay {
         self.core.ended().is_none() && self.core.fits(rec)
     }
 
+    /// Whether there is an end.
+    pub fn has_ended(&self) -> bool
+        ensures { result ≡ is_some self.now.ending }
+    {
+        self.core.ended().is_some()
+    }
+
     /// Applies a record that may be applied, and gives the fact of its step, by the thunks of a history.
     ///
     /// # Errors
@@ -70,7 +77,7 @@ impl Replay {
             fact ≡ order.fact_of (order.reads_in records.now) self.old rec.now) }
     {
         self.core.apply(rec)?;
-        let last = self.core.ended().is_some();
+        let last = self.has_ended();
         self.outline.next(alloc, records, rec, last)
     }
 }

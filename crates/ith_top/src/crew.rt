@@ -11,7 +11,7 @@ ghost use Rattle.ith_top.specs.Counting.{Spends};
 use ith_host::Gate;
 use propagate::Round;
 use release_core::{History, Setup};
-use rerun_workers::{ClosedRound, run_round, run_round_watched};
+use rerun_workers::{ClosedRound, Effort, run_round, run_round_watched};
 use std::alloc::{AllocError, Global};
 use std::marker::Model;
 use std::sync::{Arc, Wait};
@@ -58,7 +58,7 @@ fn run_unwatched<R: Threads + Wait + Sync, G: Gate + Sync>(
     ensures round { IfOk result (λ r.
         IsRoundBy workers setup (option_map arc_value past) r.0.round r.0.worker_steps.items) }
     ensures cost { IfOk result (λ r. IsCostOf workers setup (option_map arc_value past)
-        r.0.round r.0.turns) }
+        r.0.round r.0.effort.turns) }
 {
     let worked = run_round(rt, alloc, setup, past, workers, gate)?;
     Ok((worked, Vec::new(alloc)))
@@ -132,7 +132,7 @@ impl<'a, R: Threads + Wait + Sync, G: Gate + Sync> Crew<'a, R, G> {
         let ClosedRound {
             round,
             worker_steps,
-            turns,
+            effort: Effort { turns, .. },
         } = worked;
         self.work.turns.merge(turns);
         Ok(MadeRound {

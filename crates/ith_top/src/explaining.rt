@@ -18,6 +18,7 @@ use ith_host::Host;
 use ith_words::{ExplainLine, RerunLine};
 use propagate::run_alone;
 use std::alloc::{AllocError, Global};
+use thunk_record::Compared;
 use turn_count::Turns;
 use why_report::{reasons, text};
 
@@ -51,7 +52,12 @@ fn prepare<H: Host>(alloc: Global, host: &mut H, line: &ExplainLine<'_>) -> Resu
 }
 
 /// The text that tells why the executed steps of a plan's round were executed.
-fn text_of(alloc: Global, plan: Plan, turns: &mut Turns) -> Result<Vec<u8>, AllocError>
+fn text_of(
+    alloc: Global,
+    plan: Plan,
+    turns: &mut Turns,
+    compared: &mut Compared,
+) -> Result<Vec<u8>, AllocError>
     requires { CanBePlayed (plan_said plan) }
     ensures reasons { IfOk result (λ text. TellsReasons (plan_said plan) text.items) }
     ensures cost { IfOk result (λ _. (input : List ℕ) (later : List (List ℕ)) →
@@ -66,7 +72,7 @@ fn text_of(alloc: Global, plan: Plan, turns: &mut Turns) -> Result<Vec<u8>, Allo
         unreachable!()
     };
     let edited = setup.with_input(input)?;
-    let round = run_alone(alloc, edited, past, turns)?;
+    let round = run_alone(alloc, edited, past, turns, compared)?;
     let reasons = reasons(alloc, &round)?;
     let told = text(alloc, reasons.as_slice())?;
     Ok(told)
@@ -78,6 +84,7 @@ pub fn explain<H: Host>(
     host: &mut H,
     line: &ExplainLine<'_>,
     turns: &mut Turns,
+    compared: &mut Compared,
 ) -> Result<bool, Status>
     ensures ends { Ends (Some (Explains (explain_said line.now)))
         (H.world host.old) (H.world host.new) (status_in result) }
@@ -85,7 +92,7 @@ pub fn explain<H: Host>(
         turns.old turns.new (status_in result) }
 {
     let plan = prepare(alloc, host, line)?;
-    let text = text_of(alloc, plan, turns)?;
+    let text = text_of(alloc, plan, turns, compared)?;
     print_text(alloc, host, text.as_slice())?;
     Ok(true)
 }

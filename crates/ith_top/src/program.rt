@@ -28,6 +28,7 @@ use ith_words::{Line, LineFault, RerunLine, RunLine, line_of};
 use std::alloc::Global;
 use std::sync::Wait;
 use std::thread::Threads;
+use thunk_record::Compared;
 use turn_count::Turns;
 
 /// Makes the rounds of a plan, prints their texts, and writes the memo of what the last one leaves, if it has a name.
@@ -111,7 +112,13 @@ fn do_line<R: Threads + Wait + Sync, H: Host, G: Gate + Sync>(
         Ok(Line::Rerun(line)) => rerun(alloc, host, &line, &mut Crew::new(rt, line.workers, gate)),
         Ok(Line::Replay(line)) => replay(alloc, host, &line, &mut Turns::new(rt)),
         Ok(Line::Show(line)) => show(alloc, host, &line),
-        Ok(Line::Explain(line)) => explain(alloc, host, &line, &mut Turns::new(rt)),
+        Ok(Line::Explain(line)) => explain(
+            alloc,
+            host,
+            &line,
+            &mut Turns::new(rt),
+            &mut Compared::new(rt),
+        ),
         Ok(Line::FindRaces(line)) => find_races(alloc, host, &line),
         Ok(Line::Audit(line)) => audit(rt, alloc, host, &line),
         Ok(Line::Generate(line)) => generate(

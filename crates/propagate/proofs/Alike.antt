@@ -1,5 +1,5 @@
 -- A round that goes on as its history did, but for some pages.
-use Rattle.std.proofs.Common.{◌≡◌, ◌<◌, ◌≤◌, ◌+◌, ℕ, zero, suc, Bool, true, false, ◌&&◌, ◌||◌, not, eqb, List, [], ◌∷◌, ◌++◌, length, map, set, take, cond, Option, Vec, Some, None, is_none, is_some, refl, ap, ap₂, sym, ◌∙◌, subst, inl, inr, arith}
+use Rattle.std.proofs.Common.{◌≡◌, ◌<◌, ◌≤◌, ◌+◌, ℕ, zero, suc, Bool, true, false, ◌&&◌, ◌||◌, not, eqb, List, [], ◌∷◌, ◌++◌, length, map, set, take, replicate, cond, Option, Vec, Some, None, is_none, is_some, refl, ap, ap₂, sym, ◌∙◌, subst, inl, inr, arith}
 use Rattle.std.proofs.lemmas.Bool.{and_parts, cases_eq, cases_lt, eq-eqb, eqb-true}
 use Rattle.std.proofs.lemmas.Bool.Decides.{nat_tests}
 use Rattle.std.proofs.lemmas.List.{length-append, length-set, get_or_past, get_or-set_same}
@@ -24,7 +24,7 @@ use Rattle.machine_spec.specs.Setup.{Setup, IsSetup, first, start_memory, map_of
 use Rattle.machine_spec.specs.Step.{apply, fits, fate_end, asked, asked_call}
 use Rattle.machine_spec.specs.Whole.{IsWhole}
 use Rattle.machine_spec.proofs.Beginning.{IsWhole-first, IsMemory-start}
-use Rattle.history_spec.specs.History.{History, IsSameProgram, applied_from, can_apply_from, is_of, is_coherent}
+use Rattle.history_spec.specs.History.{History, IsSameProgram, schedule_of, applied_from, can_apply_from, is_of, is_coherent}
 use Rattle.history_spec.proofs.Applying.{apply-frame, apply-whole, fits-can_step}
 use Rattle.history_spec.proofs.Truth.{past-of}
 use Rattle.order_spec.specs.Facts.{ask_of, acted, effect_of, written_slots}
@@ -43,9 +43,14 @@ use Rattle.release_core.specs.Applying.{can_apply}
 use Rattle.round_spec.specs.Marks.{record_for, is_fitting, fits_next}
 use Rattle.round_spec.specs.Due.{place_in}
 use Rattle.round_spec.specs.Rounds.{RoundState, opening, can_reuse}
+use Rattle.round_spec.specs.Unedited.{all_reused_of}
+use Rattle.report_spec.specs.declared.Entry.{Entry}
+use Rattle.worker_spec.specs.Replaying.{HasReused}
+use Rattle.worker_spec.proofs.Replay.{reused-placed}
+use Rattle.propagate.specs.Consistency.{IsApplied}
 use Rattle.propagate.proofs.Appending.{reuse-can}
 use Rattle.reach_spec.specs.Reach.{changed_slots, changed}
-use Rattle.propagate.specs.Alike.{is_marked, IsLike, GoesOnAs, IsAsBefore, AreMarksOn, MayBeMarks, marked, all_unmarked, IsNext}
+use Rattle.propagate.specs.Alike.{is_marked, IsLike, GoesOnAs, IsAsMarked, IsClean, AreClean, IsAsBefore, AreMarksOn, MayBeMarks, marked, all_unmarked, IsNext}
 
 -- ---- marks
 
@@ -216,11 +221,11 @@ module _
 -- ---- a round and its history
 
 -- a round of the same history, machine and records
-pub as-before-same :
+as-marked-same :
     (w v : RoundState) (marks : Option (Vec Bool Global))
-    → IsAsBefore w marks → v.past ≡ w.past → v.machine ≡ w.machine → v.records ≡ w.records → IsAsBefore v marks
-as-before-same w v None was past machine records = was
-as-before-same w v (Some marks) was past machine records = λ h is.
+    → IsAsMarked w marks → v.past ≡ w.past → v.machine ≡ w.machine → v.records ≡ w.records → IsAsMarked v marks
+as-marked-same w v None was past machine records = tt
+as-marked-same w v (Some marks) was past machine records = λ h is.
     let old : GoesOnAs h marks.items w = was h (sym past ∙ is) in
     record {
       valid = old.valid;
@@ -229,6 +234,35 @@ as-before-same w v (Some marks) was past machine records = λ h is.
           subst (λ (m : Machine). IsLike marks.items (machine_at h (length v.records)) m) (sym machine)
           (subst (λ (rs : List Record). IsLike marks.items (machine_at h (length rs)) w.machine) (sym records)
           (old.like (subst (λ (rs : List Record). is_none (machine_at h (length rs)).ending ≡ true) records none)));
+    }
+
+-- The parts of a round that what its marks say speaks of are another's.
+pub record AreSame (w v : RoundState) : Type 0 where
+  pub setup : v.setup ≡ w.setup
+  pub past : v.past ≡ w.past
+  pub machine : v.machine ≡ w.machine
+  pub schedule : v.schedule ≡ w.schedule
+  pub records : v.records ≡ w.records
+
+pub as-before-same :
+    (w v : RoundState) (marks : Option (Vec Bool Global)) → IsAsBefore w marks → AreSame w v → IsAsBefore v marks
+as-before-same w v marks was same =
+    record {
+      marked = as-marked-same w v marks was.marked same.past same.machine same.records;
+      clean = λ h coherent reused.
+          was.clean h coherent
+          (record {
+            setup = sym same.setup ∙ reused.setup;
+            past = sym same.past ∙ reused.past;
+            machine =
+                sym same.machine ∙ reused.machine
+                ∙ ap (λ (rs : List Record). applied_from (first h.setup) rs) same.records;
+            schedule =
+                sym same.schedule ∙ reused.schedule
+                ∙ ap (λ (es : List Entry). take (length es) (all_reused_of h)) same.schedule;
+            records =
+                sym same.records ∙ reused.records ∙ ap (λ (es : List Entry). take (length es) h.records) same.schedule;
+          });
     }
 
 whole-at :
@@ -370,10 +404,21 @@ next-fits w h marks t r goes past place there clean =
           ∙ ap (λ (u : ℕ). same_registers r.start (hart_of w.machine u).regs) own;
     }
 
+-- where no page is marked, none that was read is
+pub clean-unmarked : (marks : List Bool) (reads : List ReadPage) → IsClean marks → all_unmarked marks reads ≡ true
+clean-unmarked marks [] clean = refl
+clean-unmarked marks (r ∷ reads) clean =
+    ap (λ (b : Bool). not b && all_unmarked marks reads) (clean r.slot) ∙ clean-unmarked marks reads clean
+
+pub clean-at-start : (n p : ℕ) → is_marked (replicate n false) p ≡ false
+clean-at-start zero p = refl
+clean-at-start (suc n) zero = refl
+clean-at-start (suc n) (suc p) = clean-at-start n p
+
 -- the same of a round that keeps marks
 pub next-fits-of :
     (w : RoundState) (marks : Vec Bool Global) (t : ℕ) (r : Record)
-    → IsAsBefore w (Some marks) → length w.records ≡ length w.schedule
+    → IsAsMarked w (Some marks) → length w.records ≡ length w.schedule
     → place_in w.past w.machine t ≡ length w.schedule → record_for w.past w.machine t ≡ Some r
     → all_unmarked marks.items r.kept.reads ≡ true
     → IsNext w t r
@@ -466,17 +511,53 @@ changed-slots a b = refl
 
 -- ---- events
 
+-- the first elements of what some first elements begin with
+front-of : {X : Type 0} (xs : List X) (x : X) (all : List X) (n : ℕ) → xs ++ x ∷ [] ≡ take n all → xs ≡ take (length xs) all
+front-of [] x all n is = refl
+front-of (y ∷ xs) x [] zero is = absurd (let none = is in cc)
+front-of (y ∷ xs) x [] (suc n) is = absurd (let none = is in cc)
+front-of (y ∷ xs) x (a ∷ all) zero is = absurd (let none = is in cc)
+front-of (y ∷ xs) x (a ∷ all) (suc n) is =
+    let head : y ≡ a = cc in
+    let tail : xs ++ x ∷ [] ≡ take n all = cc in
+    ap₂ (λ b l. b ∷ l) head (front-of xs x all n tail)
+
+-- A round with an entry and its record more.
+pub record IsMore (w v : RoundState) (e : Entry) (r : Record) : Type 0 where
+  pub setup : v.setup ≡ w.setup
+  pub past : v.past ≡ w.past
+  pub machine : v.machine ≡ apply w.machine r
+  pub schedule : v.schedule ≡ w.schedule ++ e ∷ []
+  pub records : v.records ≡ w.records ++ r ∷ []
+
+-- what has reused a history's first steps had done so before its last one
+reused-before :
+    (h : History) (w v : RoundState) (e : Entry) (r : Record)
+    → IsApplied w → length w.records ≡ length w.schedule → IsMore w v e r → HasReused h v → HasReused h w
+reused-before h w v e r applied count more reused =
+    let setup : w.setup ≡ h.setup = sym more.setup ∙ reused.setup in
+    record {
+      setup = setup;
+      past = sym more.past ∙ reused.past;
+      machine = applied.machine ∙ ap (λ (s : Setup). applied_from (first s) w.records) setup;
+      schedule =
+          front-of w.schedule e (all_reused_of h) (length v.schedule) (sym more.schedule ∙ reused.schedule);
+      records =
+          front-of w.records r h.records (length v.schedule) (sym more.records ∙ reused.records)
+          ∙ ap (λ (n : ℕ). take n h.records) count;
+    }
+
 -- a record that is reused
-pub reuse-as-before :
+reuse-as-marked :
     (w v : RoundState) (t : ℕ) (r : Record) (marks : Option (Vec Bool Global)) (next : Bool)
-    → IsAsBefore w marks → IsWhole w.machine → length w.records ≡ length w.schedule
+    → IsAsMarked w marks → IsWhole w.machine → length w.records ≡ length w.schedule
     → (next ≡ true → place_in w.past w.machine t ≡ length w.schedule)
     → record_for w.past w.machine t ≡ Some r → can_reuse w t ≡ true
     → v.past ≡ w.past → v.machine ≡ apply w.machine r → v.records ≡ w.records ++ r ∷ []
-    → IsAsBefore v (cond next marks None)
-reuse-as-before w v t r marks false was whole count place there can past machine records = tt
-reuse-as-before w v t r None true was whole count place there can past machine records = tt
-reuse-as-before w v t r (Some marks) true was whole count place there can past machine records = λ h is.
+    → IsAsMarked v (cond next marks None)
+reuse-as-marked w v t r marks false was whole count place there can past machine records = tt
+reuse-as-marked w v t r None true was whole count place there can past machine records = tt
+reuse-as-marked w v t r (Some marks) true was whole count place there can past machine records = λ h is.
     let own : w.past ≡ Some h = sym past ∙ is in
     let at : slice_get h.records (length w.records) ≡ Some r =
     ap (slice_get h.records)
@@ -484,6 +565,30 @@ reuse-as-before w v t r (Some marks) true was whole count place there can past m
     ∙ at-place h w.machine t r (ap (λ (p : Option History). record_for p w.machine t) (sym own) ∙ there) in
     as-before-reused w v h marks.items r (was h own) whole at
     (and_parts (is_none w.machine.ending) (fits w.machine r) (reuse-can w t r can there)).1 machine records
+
+pub reuse-as-before :
+    (w v : RoundState) (t : ℕ) (e : Entry) (r : Record) (marks : Option (Vec Bool Global)) (next : Bool)
+    → IsAsBefore w marks → IsWhole w.machine → IsApplied w → length w.records ≡ length w.schedule
+    → next ≡ eqb (place_in w.past w.machine t) (length w.schedule)
+    → record_for w.past w.machine t ≡ Some r → can_reuse w t ≡ true
+    → IsMore w v e r
+    → IsAsBefore v (cond next marks None)
+reuse-as-before w v t e r marks next was whole applied count is_next there can more =
+    record {
+      marked =
+          reuse-as-marked w v t r marks next was.marked whole count
+          (λ on. eqb-true (place_in w.past w.machine t) (length w.schedule) (sym is_next ∙ on))
+          there can more.past more.machine more.records;
+      clean = λ h coherent reused.
+          let before : HasReused h w = reused-before h w v e r applied count more reused in
+          let place : place_in w.past w.machine t ≡ length w.schedule =
+          subst (λ (u : ℕ). place_in w.past w.machine u ≡ length w.schedule)
+          (past-of w.past t (hart_of w.machine t).number r there).0
+          (reused-placed h w v r coherent before reused more.records) in
+          let on : next ≡ true =
+          is_next ∙ eq-eqb (place_in w.past w.machine t) (length w.schedule) place in
+          subst (λ (b : Bool). AreClean (cond b marks None)) (sym on) (was.clean h coherent before);
+    }
 
 -- what isn't marked after an executed step was written by neither
 committed-page :
@@ -510,15 +615,15 @@ committed-page mem old marks new r q p size long like after clean =
     ]
 
 -- an executed step that is committed
-pub commit-as-before :
+commit-as-marked :
     (w v : RoundState) (rec : Record) (old new : Option (Vec Bool Global))
-    → IsAsBefore w old → IsWhole w.machine → fits w.machine rec ≡ true
+    → IsAsMarked w old → IsWhole w.machine → fits w.machine rec ≡ true
     → MayBeMarks w.past (length w.records) rec old new
     → v.past ≡ w.past → v.machine ≡ apply w.machine rec → v.records ≡ w.records ++ rec ∷ []
-    → IsAsBefore v new
-commit-as-before w v rec old None was whole fit are past machine records = tt
-commit-as-before w v rec None (Some new) was whole fit are past machine records = λ h is. absurd (let none = are.were in cc)
-commit-as-before w v rec (Some old) (Some new) was whole fit are past machine records = λ h is.
+    → IsAsMarked v new
+commit-as-marked w v rec old None was whole fit are past machine records = tt
+commit-as-marked w v rec None (Some new) was whole fit are past machine records = λ h is. absurd (let none = are.were in cc)
+commit-as-marked w v rec (Some old) (Some new) was whole fit are past machine records = λ h is.
     let own : w.past ≡ Some h = sym past ∙ is in
     let same : are.history ≡ h = (let both = sym are.goes_by ∙ own in cc) in
     let marks : old.items ≡ are.marks = (let both = are.were in cc) in
@@ -541,3 +646,32 @@ commit-as-before w v rec (Some old) (Some new) was whole fit are past machine re
     committed-page w.machine.memory (machine_at h (length w.records)).memory old.items new.items r rec p size long like after
     clean)
     machine records
+
+-- its entry is none of a round that has only reused a history
+not-reused : (es : List Entry) (e : Entry) (n : ℕ) (ts : List ℕ) → e.reused ≡ false
+    → es ++ e ∷ [] ≡ take n (map (λ t. record { thread = t; reused = true }) ts) → ⊥
+not-reused [] e zero ts executed is = let none = is in cc
+not-reused [] e (suc n) [] executed is = let none = is in cc
+not-reused [] e (suc n) (t ∷ ts) executed is =
+    let same : e ≡ record { thread = t; reused = true } = cc in
+    let on : e.reused ≡ true = ap (λ (x : Entry). x.reused) same in cc
+not-reused (x ∷ es) e zero ts executed is = let none = is in cc
+not-reused (x ∷ es) e (suc n) [] executed is = let none = is in cc
+not-reused (x ∷ es) e (suc n) (t ∷ ts) executed is =
+    let tail : es ++ e ∷ [] ≡ take n (map (λ u. record { thread = u; reused = true }) ts) = cc in
+    not-reused es e n ts executed tail
+
+pub commit-as-before :
+    (w v : RoundState) (e : Entry) (rec : Record) (old new : Option (Vec Bool Global))
+    → IsAsBefore w old → IsWhole w.machine → fits w.machine rec ≡ true
+    → MayBeMarks w.past (length w.records) rec old new
+    → e.reused ≡ false → IsMore w v e rec
+    → IsAsBefore v new
+commit-as-before w v e rec old new was whole fit are executed more =
+    record {
+      marked = commit-as-marked w v rec old new was.marked whole fit are more.past more.machine more.records;
+      clean = λ h coherent reused.
+          absurd
+          (not-reused w.schedule e (length v.schedule) (schedule_of h) executed
+          (sym more.schedule ∙ reused.schedule));
+    }

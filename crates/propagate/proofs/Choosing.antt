@@ -1,5 +1,5 @@
 -- The leaders of some threads, the choice, and what may be done with a pick.
-use Rattle.std.proofs.Common.{◌≡◌, ◌+◌, ℕ, zero, suc, add-one, Bool, true, false, ◌||◌, cond, List, [], ◌∷◌, ◌++◌, append-nil, length, filter, Option, Some, None, is_some, refl, ap, sym, subst, ◌∙◌, arith}
+use Rattle.std.proofs.Common.{◌≡◌, ◌+◌, ℕ, zero, suc, add-one, Bool, true, false, not, ◌&&◌, ◌||◌, cond, List, [], ◌∷◌, ◌++◌, append-nil, length, filter, Option, Some, None, is_some, refl, ap, sym, subst, ◌∙◌, arith}
 use Rattle.std.specs.Prelude.{option_map}
 use Rattle.std.proofs.lemmas.Bool.{or_right}
 use Rattle.std.specs.List.{AllByRecursion, range_with_len}
@@ -14,7 +14,7 @@ use Rattle.round_spec.specs.Choice.{free_threads, is_any_in_flight, eligible, ch
 use Rattle.worker_spec.proofs.Lists.{all-filter, all-pass}
 use Rattle.propagate.specs.declared.picking.Candidate.{Candidate}
 use Rattle.propagate.specs.declared.picking.Leaders.{Leaders}
-use Rattle.propagate.specs.Choosing.{candidate_of, free_below, due_below, leader_of, AreLeadersBelow, comes_before, leads, better}
+use Rattle.propagate.specs.Choosing.{candidate_of, free_below, due_below, leader_of, AreLeadersBelow, comes_before, leads, better, is_something}
 use Rattle.propagate.proofs.Best.{filter-more, range-more, best-nobody, best-more, best-first, best-none, best-all, IsAhead, ahead-none, ahead-more}
 
 -- the better of a leader and of one more leads all
@@ -430,3 +430,22 @@ picked-by w false (Some u) p over chosen is = by (fits_next w.past w.machine u) 
 
 pub picked-run : (w : RoundState) (t : ℕ) → pick_of w ≡ pick.Run t → can_take w t ≡ true
 picked-run w t is = (picked-by w (is_finished w) (choice_by w.past w.machine w.in_flight) (pick_of w) refl refl refl).1 t is
+
+-- whether anything is picked doesn't depend on what fits
+pub something_picked :
+    (w : RoundState)
+    → (not (is_finished w) && is_some (choice_by w.past w.machine w.in_flight)) ≡ is_something (pick_of w)
+something_picked w = by (is_finished w) (choice_by w.past w.machine w.in_flight) refl refl
+  where
+    either : (fit : Bool) (t : ℕ) → is_something (cond fit (pick.Reuse t) (pick.Run t)) ≡ true
+    either true t = refl
+    either false t = refl
+
+    by :
+        (over : Bool) (o : Option ℕ) → is_finished w ≡ over → choice_by w.past w.machine w.in_flight ≡ o
+        → (not over && is_some o) ≡ is_something (pick_of w)
+    by true o is chosen = sym (ap is_something (pick-over w is))
+    by false None is chosen = sym (ap is_something (pick-hold w is chosen))
+    by false (Some t) is chosen =
+        sym
+        (ap is_something (pick-chosen w t (can_reuse w t) is chosen refl) ∙ either (can_reuse w t) t)

@@ -1,6 +1,6 @@
 -- The picks of one worker, and what a round executes.
 use Rattle.std.proofs.Common.{◌≡◌, ◌≤◌, ◌+◌, ℕ, zero, suc, Bool, true, false, not, ◌&&◌, cond, length, Option, Some, None, is_some, Result, Ok, Err, OnOk, refl, ap, sym, ◌∙◌, subst, arith}
-use Rattle.std.proofs.lemmas.Bool.{and_parts, not-true}
+use Rattle.std.proofs.lemmas.Bool.{and_parts, not-true, eq-eqb}
 use Rattle.std.proofs.lemmas.List.{get_or-set_same}
 use Rattle.std.specs.Arc.{arc_value}
 use Rattle.std.specs.declared.alloc.AllocError.{AllocError}
@@ -10,13 +10,15 @@ use Rattle.machine_spec.specs.Machine.{Machine, hart_of, is_ready}
 use Rattle.machine_spec.specs.Schedule.{record_of}
 use Rattle.machine_spec.specs.Setup.{Setup, IsSetup, is_permitted, is_complete}
 use Rattle.machine_spec.specs.Step.{fits}
-use Rattle.history_spec.specs.History.{History, IsSound}
+use Rattle.history_spec.specs.History.{History, IsSound, is_coherent}
 use Rattle.history_spec.proofs.Truth.{record-fits}
 use Rattle.report_spec.specs.Report.{threads_of}
 use Rattle.round_spec.specs.declared.events.Event.{Event}
 use Rattle.round_spec.specs.declared.events.Event.TheVariants.{Take, Reuse, Commit, GiveBack, Stop}
+use Rattle.round_spec.specs.declared.events.Pick.{Pick}
+use Rattle.round_spec.specs.declared.events.Pick.TheVariants as pick
 use Rattle.round_spec.specs.Marks.{record_for, fits_next}
-use Rattle.round_spec.specs.Rounds.{RoundState, is_finished, is_in_flight, can_begin, can_take, can_reuse, taken, reused_by, committed, given_back, happens}
+use Rattle.round_spec.specs.Rounds.{RoundState, opening, is_finished, is_in_flight, can_begin, can_take, can_reuse, taken, reused_by, committed, given_back, happens}
 use Rattle.round_spec.specs.Choice.{pick_of}
 use Rattle.round_spec.specs.Alone.{one_worker, after_pick, after_picks, lone_round}
 use Rattle.round_spec.specs.Keeping.{IsInOrder, IsCounted, IsHeld, IsFromScratch}
@@ -27,6 +29,8 @@ use Rattle.worker_spec.proofs.Lone.{one_worker-permitted, one_worker-complete, l
 use Rattle.worker_spec.proofs.Picked.{lone-all_picked}
 use Rattle.worker_spec.proofs.Ending.{lone-ends, lone-discarded}
 use Rattle.worker_spec.proofs.Unedited.{unedited-reuses}
+use Rattle.worker_spec.specs.Replaying.{Repeats, IsReplaying, goes_on_by}
+use Rattle.worker_spec.proofs.Replay.{replays-start, replays-on, replays-next}
 use Rattle.thunk_run.specs.declared.job.Job.{Job}
 use Rattle.thunk_run.specs.declared.job.Run.{Run}
 use Rattle.thunk_run.specs.Running.{IsRunOf}
@@ -34,7 +38,8 @@ use Rattle.release_core.specs.Jobs.{IsJobOf}
 use Rattle.reach_spec.specs.Working.{ReexecutesLeast}
 use Rattle.reach_spec.proofs.ByWorkers.{reexecutes-alone}
 use Rattle.propagate.specs.Committing.{CanCommit}
-use Rattle.propagate.specs.Executing.{executed_by, Costs, IsPartWay}
+use Rattle.propagate.specs.Executing.{executed_by, Costs, Spares, IsPartWay}
+use Rattle.propagate.proofs.Choosing.{pick-over}
 use Rattle.propagate.proofs.Keeping.{record_count, executed-more}
 use Rattle.propagate.proofs.Appending.{below-32, take-ready}
 
@@ -183,17 +188,28 @@ ok-costs (Err error) n w v e counted nothing is = tt
 picks-more : (n k : ℕ) (w : RoundState) → n ≡ suc k → after_picks k (after_pick w (pick_of w)) ≡ after_picks n w
 picks-more n k w is = rw is refl
 
+-- while a history is replayed, a later counter of compared pages is that of the beginning
+spares-both :
+    (a b c : ℕ) (u w v : RoundState) → Spares a u b w → Spares b w c v → Spares a u c v
+spares-both a b c u w v first next = λ h coherent replays.
+    let one = first h coherent replays in
+    let two = next h coherent one.0 in
+    (two.0, two.1 ∙ one.1)
+
 pub partway-pick :
-    (n k : ℕ) (after begun w v : RoundState) (start before now : ℕ)
-    → IsPartWay n after begun w start before → n ≡ suc k
+    (n k : ℕ) (after begun w v : RoundState) (start before now compared_start compared_before compared : ℕ)
+    → IsPartWay n after begun w start before compared_start compared_before → n ≡ suc k
     → v ≡ after_pick w (pick_of w)
     → Costs before w now v → before ≤ now
-    → IsPartWay k after begun v start now
-partway-pick n k after begun w v start before now way more is cost rises =
+    → Spares compared_before w compared v → compared_before ≤ compared
+    → IsPartWay k after begun v start now compared_start compared
+partway-pick n k after begun w v start before now compared_start compared_before compared way more is cost rises spares compares =
     record {
       rest = ap (after_picks k) is ∙ picks-more n k w more ∙ way.rest;
       cost = let so_far = way.cost in omega arith;
       rises = let so_far = way.rises in omega arith;
+      spares = spares-both compared_start compared_before compared begun w v way.spares spares;
+      compares = let so_far = way.compares in omega arith;
     }
 
 -- where nothing is picked, nothing is done any more
@@ -202,17 +218,71 @@ picks-stay zero w stays = refl
 picks-stay (suc n) w stays = ap (after_picks n) stays ∙ picks-stay n w stays
 
 pub partway-over :
-    (n : ℕ) (after begun w v : RoundState) (start before now : ℕ)
-    → IsPartWay n after begun w start before
+    (n : ℕ) (after begun w v : RoundState) (start before now compared_start compared_before compared : ℕ)
+    → IsPartWay n after begun w start before compared_start compared_before
     → v ≡ after_pick w (pick_of w) → v ≡ w
     → Costs before w now v → before ≤ now
-    → IsPartWay 0 after begun v start now
-partway-over n after begun w v start before now way is same cost rises =
+    → Spares compared_before w compared v → compared_before ≤ compared
+    → IsPartWay 0 after begun v start now compared_start compared
+partway-over n after begun w v start before now compared_start compared_before compared way is same cost rises spares compares =
     record {
       rest = same ∙ sym (picks-stay n w (sym is ∙ same)) ∙ way.rest;
       cost = let so_far = way.cost in omega arith;
       rises = let so_far = way.rises in omega arith;
+      spares = spares-both compared_start compared_before compared begun w v way.spares spares;
+      compares = let so_far = way.compares in omega arith;
     }
+
+-- ---- pages that are compared
+
+valid-past : (h : History) (w : RoundState) → IsSetup w.setup → IsReplaying h w → IsSetup h.setup
+valid-past h w valid replays = subst IsSetup replays.reused.setup valid
+
+pub reuse-spares :
+    (w v : RoundState) (t before now : ℕ) → IsSetup w.setup → pick_of w ≡ pick.Reuse t → v ≡ happens w (Reuse t)
+    → ((h : History) → is_coherent h ≡ true → IsReplaying h w → now ≡ before)
+    → Spares before w now v
+reuse-spares w v t before now valid picked is spares = λ h coherent replays. (
+    subst (IsReplaying h) (sym is)
+    (replays-on h w (Reuse t) (valid-past h w valid replays) coherent replays
+    (ap (λ (p : Pick). goes_on_by p (Reuse t)) picked ∙ eq-eqb t t refl)),
+    spares h coherent replays,
+)
+
+-- a round that replays a history executes nothing
+pub never-runs :
+    (h : History) (w : RoundState) (t : ℕ) → IsSetup w.setup → is_coherent h ≡ true → IsReplaying h w
+    → pick_of w ≡ pick.Run t → ⊥
+never-runs h w t valid coherent replays picked = by (is_finished w) refl
+  where
+    by : (over : Bool) → is_finished w ≡ over → ⊥
+    by true is = let both : pick.Over ≡ pick.Run t = sym (pick-over w is) ∙ picked in cc
+    by false is =
+        let next = replays-next h w (valid-past h w valid replays) coherent replays is in
+        let both : pick.Reuse next.0 ≡ pick.Run t = sym next.1.picked ∙ picked in cc
+
+pub run-spares :
+    (w v : RoundState) (t before now : ℕ) → IsSetup w.setup → pick_of w ≡ pick.Run t → Spares before w now v
+run-spares w v t before now valid picked = λ h coherent replays.
+    absurd (never-runs h w t valid coherent replays picked)
+
+pub stay-spares :
+    (w v : RoundState) (before now : ℕ) → v ≡ w
+    → ((h : History) → is_coherent h ≡ true → IsReplaying h w → now ≡ before)
+    → Spares before w now v
+stay-spares w v before now same spares = λ h coherent replays. (
+    subst (IsReplaying h) (sym same) replays,
+    spares h coherent replays,
+)
+
+pub alone-spares :
+    (setup : Setup) (past : Option History) (opened w : RoundState) (before now : ℕ) (h : History)
+    → opened ≡ opening setup past → Spares before opened now w → past ≡ Some h → Repeats h setup → now ≡ before
+alone-spares setup past opened w before now h is spares there repeats =
+    (spares h repeats.coherent
+    (subst (IsReplaying h)
+    (ap (λ (s : Setup). opening s (Some h)) repeats.same ∙ ap (opening setup) (sym there) ∙ sym is)
+    (replays-start h))).1
 
 -- the round of one worker
 

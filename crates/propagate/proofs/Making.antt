@@ -120,7 +120,8 @@ discarded-kept w v i t fs b kept in_flight is =
     subst (λ (x : RoundState). IsConsistent x i fs b) (sym is)
     (kept-happens w (given_back w t) (GiveBack t) i i fs b b kept (happens-give_back w t in_flight) refl refl
     (record { machine = kept.applied.machine; can = kept.applied.can }) kept.points kept.executed kept.few
-    (as-before-same w (given_back w t) b kept.as_before refl refl refl))
+    (as-before-same w (given_back w t) b kept.as_before
+    (record { setup = refl; past = refl; machine = refl; schedule = refl; records = refl })))
 
 -- ---- the entries of a round after it
 

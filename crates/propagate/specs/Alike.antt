@@ -12,6 +12,8 @@ use Rattle.order_spec.specs.Facts.{ask_of, written_slots}
 use Rattle.history_facts.specs.Outlining.{machine_at}
 use Rattle.round_spec.specs.Marks.{fits_next}
 use Rattle.round_spec.specs.Rounds.{RoundState}
+use Rattle.round_spec.specs.Due.{place_in}
+use Rattle.worker_spec.specs.Replaying.{HasReused}
 
 -- Whether the page in a slot is marked.
 abbrev pub is_marked : List Bool → ℕ → Bool
@@ -42,9 +44,24 @@ pub record GoesOnAs (h : History) (marks : List Bool) (w : RoundState) : Type 0 
       → IsLike marks (machine_at h (length w.records)) w.machine
 
 -- The same of the history that a round goes by, where marks are kept.
-abbrev pub IsAsBefore : RoundState → Option (Vec Bool Global) → Type 0
-IsAsBefore w None = ⊤
-IsAsBefore w (Some marks) = (h : History) → w.past ≡ Some h → GoesOnAs h marks.items w
+abbrev pub IsAsMarked : RoundState → Option (Vec Bool Global) → Type 0
+IsAsMarked w None = ⊤
+IsAsMarked w (Some marks) = (h : History) → w.past ≡ Some h → GoesOnAs h marks.items w
+
+-- No page is marked.
+abbrev pub IsClean : List Bool → Type 0
+IsClean marks = (p : ℕ) → is_marked marks p ≡ false
+
+-- Marks are kept, and no page is marked.
+abbrev pub AreClean : Option (Vec Bool Global) → Type 0
+AreClean None = ⊥
+AreClean (Some marks) = IsClean marks.items
+
+-- What the marks of a round say: it goes on as its history did, where marks are kept; and as long as it has only reused
+-- its own setup's history, which holds together, they are kept and no page is marked.
+pub record IsAsBefore (w : RoundState) (marks : Option (Vec Bool Global)) : Type 0 where
+  pub marked : IsAsMarked w marks
+  pub clean : (h : History) → is_coherent h ≡ true → HasReused h w → AreClean marks
 
 -- Marks on the pages of two memories: a page that isn't marked is the same in both.
 pub record AreMarksOn (old new : Memory) (marks : List Bool) : Type 0 where
@@ -84,3 +101,11 @@ MayBeMarks past place rec old (Some after) = AreMarksAfter past place rec old af
 pub record IsNext (w : RoundState) (t : ℕ) (r : Record) : Type 0 where
   pub ready : is_ready (hart_of w.machine t).status ≡ true
   pub fit : fits_next w.past w.machine t ≡ same_registers r.start (hart_of w.machine t).regs
+
+-- A thread's next step is the next one of its own setup's history, which holds together and of which a round has only
+-- reused what came before.
+pub record IsRepeated (w : RoundState) (t : ℕ) : Type 0 where
+  pub history : History
+  pub coherent : is_coherent history ≡ true
+  pub reused : HasReused history w
+  pub place : place_in w.past w.machine t ≡ length w.schedule

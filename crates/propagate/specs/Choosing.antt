@@ -1,9 +1,11 @@
 -- The choice of the next thread, as far as threads were looked at.
-use Rattle.std.specs.Prelude.{◌≡◌, ◌≢◌, ◌<◌, ℕ, Bool, true, ◌&&◌, ◌||◌, ◌==◌, nat_lt, nat_le, if◌then◌else◌, List, filter, slice_index_or, Option, Some, None, option_map}
+use Rattle.std.specs.Prelude.{◌≡◌, ◌≢◌, ◌<◌, ℕ, Bool, true, false, ◌&&◌, ◌||◌, ◌==◌, nat_lt, nat_le, if◌then◌else◌, List, filter, slice_index_or, Option, Some, None, option_map}
 use Rattle.std.specs.List.{range_with_len}
 use Rattle.guest_call.specs.declared.thread_number.TheConstants.{THREADS}
 use Rattle.machine_spec.specs.Machine.{Machine, hart_of}
 use Rattle.history_spec.specs.History.{History}
+use Rattle.round_spec.specs.declared.events.Pick.{Pick}
+use Rattle.round_spec.specs.declared.events.Pick.TheVariants as pick
 use Rattle.round_spec.specs.Rounds.{RoundState, is_free_in}
 use Rattle.round_spec.specs.Due.{place_in, is_due, has_exited}
 use Rattle.round_spec.specs.Choice.{best}
@@ -52,3 +54,10 @@ has_made m t steps = nat_le steps (hart_of m t).number || has_exited m t
 -- Each thread but one has made the steps that a clock counts of it, or has ended.
 pub record HaveMade (m : Machine) (t : ℕ) (clock : List ℕ) : Type 0 where
   pub each : (u : ℕ) → u < THREADS → u ≢ t → has_made m u (slice_index_or clock u 0) ≡ true
+
+-- Whether a pick is to reuse a record or to execute a step.
+abbrev pub is_something : Pick → Bool
+is_something (pick.Reuse t) = true
+is_something (pick.Run t) = true
+is_something pick.Hold = false
+is_something pick.Over = false

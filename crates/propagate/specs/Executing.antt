@@ -1,8 +1,10 @@
--- What a round has executed, and a round between picks.
-use Rattle.std.specs.Prelude.{◌≡◌, ◌≤◌, ◌+◌, ℕ}
+-- What a round has executed and compared, and a round between picks.
+use Rattle.std.specs.Prelude.{◌≡◌, ◌≤◌, ◌+◌, ℕ, true}
+use Rattle.history_spec.specs.History.{History, is_coherent}
 use Rattle.round_spec.specs.Rounds.{RoundState}
 use Rattle.round_spec.specs.Alone.{after_picks}
 use Rattle.round_spec.specs.Instructions.{executed_instructions}
+use Rattle.worker_spec.specs.Replaying.{IsReplaying}
 
 -- How many instructions the executed entries of a round made.
 abbrev pub executed_by : RoundState → ℕ
@@ -12,9 +14,16 @@ executed_by w = executed_instructions w.schedule w.records
 abbrev pub Costs : ℕ → RoundState → ℕ → RoundState → Type 0
 Costs before old now new = now + executed_by old ≡ before + executed_by new
 
--- A round on the way to the one after some picks, with so many left; and a counter rose from where it was by what the
--- entries so far executed.
-pub record IsPartWay (left : ℕ) (after begun w : RoundState) (before now : ℕ) : Type 0 where
+-- While a round replays a history that holds together, a counter of compared pages stays as it is.
+abbrev pub Spares : ℕ → RoundState → ℕ → RoundState → Type 0
+Spares before old now new =
+    (h : History) → is_coherent h ≡ true → IsReplaying h old → IsReplaying h new × (now ≡ before)
+
+-- A round on the way to the one after some picks, with so many left; a counter of turns rose from where it was by what
+-- the entries so far executed; and one of compared pages stays if the round replays its history.
+pub record IsPartWay (left : ℕ) (after begun w : RoundState) (before now compared_before compared : ℕ) : Type 0 where
   pub rest : after_picks left w ≡ after
   pub cost : Costs before begun now w
   pub rises : before ≤ now
+  pub spares : Spares compared_before begun compared w
+  pub compares : compared_before ≤ compared

@@ -12,8 +12,9 @@ ghost use Rattle.round_spec.specs.Alone.{one_worker, after_pick, after_picks, lo
 ghost use Rattle.round_spec.specs.Keeping.{IsFromScratch};
 ghost use Rattle.round_spec.specs.Picking.{ArePicked};
 ghost use Rattle.round_spec.specs.Unedited.{IsUnedited, OnlyReuses};
+ghost use Rattle.worker_spec.specs.Replaying.{Repeats};
 ghost use Rattle.reach_spec.specs.Working.{ReexecutesLeast};
-ghost use Rattle.propagate.specs.Executing.{executed_by, Costs};
+ghost use Rattle.propagate.specs.Executing.{executed_by, Costs, Spares};
 
 use super::round::Round;
 use ith_host::{Gate, OpenGate};
@@ -21,6 +22,7 @@ use release_core::{History, Setup};
 use round_spec::Pick;
 use std::alloc::{AllocError, Global};
 use std::sync::Arc;
+use thunk_record::Compared;
 use thunk_run::execute;
 use turn_count::Turns;
 
@@ -39,19 +41,22 @@ fn run_step(alloc: Global, round: &mut Round, t: u8, turns: &mut Turns) -> Resul
 }
 
 /// Follows one pick: what is picked is reused, or executed and committed, and shown. The answer is whether
-/// anything was picked. The counter rises by the instructions that were executed.
+/// anything was picked. The counter of turns rises by the instructions that were executed.
 fn follow_pick<G: Gate>(
     alloc: Global,
     round: &mut Round,
     turns: &mut Turns,
+    compared: &mut Compared,
     gate: &G,
 ) -> Result<bool, AllocError>
     ensures followed { OnOk result (round.new ≡ after_pick round.old (pick_of round.old)) }
     ensures over { IfOk result (λ going. going ≡ false → round.new ≡ round.old) }
     ensures cost { OnOk result (Costs turns.old round.old turns.new round.new) }
     ensures never_lower { turns.old ≤ turns.new }
+    ensures spares { OnOk result (Spares compared.old round.old compared.new round.new) }
+    ensures compares { compared.old ≤ compared.new }
 {
-    match round.pick() {
+    match round.pick(compared) {
         Pick::Reuse(t) => {
             round.reuse(t)?;
             gate.made(1, true);
@@ -66,21 +71,24 @@ fn follow_pick<G: Gate>(
     }
 }
 
-/// Follows so many picks, one after the other, or fewer where nothing is picked any more. The counter rises by the
-/// instructions that were executed.
+/// Follows so many picks, one after the other, or fewer where nothing is picked any more. The counter of turns rises by
+/// the instructions that were executed.
 fn follow_picks<G: Gate>(
     alloc: Global,
     round: &mut Round,
     most: u32,
     turns: &mut Turns,
+    compared: &mut Compared,
     gate: &G,
 ) -> Result<(), AllocError>
     ensures followed { OnOk result (round.new ≡ after_picks most round.old) }
     ensures cost { OnOk result (Costs turns.old round.old turns.new round.new) }
     ensures never_lower { turns.old ≤ turns.new }
+    ensures spares { OnOk result (Spares compared.old round.old compared.new round.new) }
+    ensures compares { compared.old ≤ compared.new }
 {
     for followed in 0..most {
-        if !follow_pick(alloc, round, turns, gate)? {
+        if !follow_pick(alloc, round, turns, compared, gate)? {
             return Ok(());
         }
     }
@@ -92,42 +100,49 @@ fn follow_picks<G: Gate>(
 ///
 /// # Errors
 ///
-/// An error where the host's memory ran out; the counter may have risen, and is never lower.
+/// An error where the host's memory ran out; the counters may have risen, and are never lower.
 pub fn run_alone_shown<G: Gate>(
     alloc: Global,
     setup: Setup,
     past: Option<Arc<History>>,
     turns: &mut Turns,
+    compared: &mut Compared,
     gate: &G,
 ) -> Result<Round, AllocError>
     ensures alone { IfOk result (λ round. round ≡ lone_round setup (option_map arc_value past)) }
     ensures sound { IfOk result (λ _. IsSetup setup) }
     ensures cost { IfOk result (λ round. turns.new ≡ turns.old + executed_by round) }
     ensures never_lower { turns.old ≤ turns.new }
+    ensures spares { IfOk result (λ _.
+        (h : OldHistory) → option_map arc_value past ≡ Some h → Repeats h setup
+        → compared.new ≡ compared.old) }
+    ensures compares { compared.old ≤ compared.new }
 {
     let limit = setup.steps();
     let mut round = Round::new(alloc, setup, past)?;
-    follow_picks(alloc, &mut round, limit, turns, gate)?;
+    follow_picks(alloc, &mut round, limit, turns, compared, gate)?;
     Ok(round)
 }
 
 /// The round of one worker: step after step is picked, and reused, or executed and committed, until
 /// the round is finished. It has an end then, and nothing was discarded, by whatever history it goes. The
-/// counter rises by the instructions of the executed steps.
+/// counter of turns rises by the instructions of the executed steps, and the other one by the pages that are compared.
 ///
 /// Where the round goes by a sound history, its schedule is the one of one worker, which is permitted
 /// and complete; it is at the machine from scratch, its marks are exact, and each entry was picked
-/// rightly. Where the setup is the history's own, the round is all reuse, and the counter stays as it is. No round
-/// executes again more than it must: if it works as the history did, it executes no more than its setup reaches.
+/// rightly. Where the setup is the history's own, the round is all reuse, and the counters stay as they are; that of
+/// compared pages does so by any history that holds together. No round executes again more than it must: if it works as
+/// the history did, it executes no more than its setup reaches.
 ///
 /// # Errors
 ///
-/// An error where the host's memory ran out; the counter may have risen, and is never lower.
+/// An error where the host's memory ran out; the counters may have risen, and are never lower.
 pub fn run_alone(
     alloc: Global,
     setup: Setup,
     past: Option<Arc<History>>,
     turns: &mut Turns,
+    compared: &mut Compared,
 ) -> Result<Round, AllocError>
     ensures alone { IfOk result (λ round. round ≡ lone_round setup (option_map arc_value past)) }
     ensures cost { IfOk result (λ round. turns.new ≡ turns.old + executed_by round) }
@@ -151,7 +166,11 @@ pub fn run_alone(
     ensures executes_nothing { IfOk result (λ _.
         (h : OldHistory) → option_map arc_value past ≡ Some h → IsUnedited h setup
         → turns.new ≡ turns.old) }
+    ensures spares { IfOk result (λ _.
+        (h : OldHistory) → option_map arc_value past ≡ Some h → Repeats h setup
+        → compared.new ≡ compared.old) }
+    ensures compares { compared.old ≤ compared.new }
 {
-    let round = run_alone_shown(alloc, setup, past, turns, &OpenGate)?;
+    let round = run_alone_shown(alloc, setup, past, turns, compared, &OpenGate)?;
     Ok(round)
 }

@@ -27,11 +27,11 @@ use thunk_run::{Job, Run};
 /// What came of committing an executed step.
 #[derive(Drop)]
 pub enum Committed {
-    /// It is an entry of the schedule, and its thread is no longer out.
+    /// It is an entry of the schedule, and its thread is no longer in flight.
     Done,
     /// It can't be committed, and is handed back: the round is finished, the step ran on another page map
     /// or with another fuel than the round's, its thread isn't in flight, or its record doesn't fit. Its
-    /// thread is no longer out; if it was, one step more was discarded.
+    /// thread is no longer in flight; if it was, one step more was discarded.
     Stale(Run),
     /// The host's memory ran out. The round is as before, and the step is handed back.
     Memory(Run),
@@ -99,7 +99,7 @@ impl Round {
             Some(rec) => Arc::try_clone(rec)?,
             None => unreachable!(),
         };
-        let next = self.comes_next(t);
+        let next = self.is_next(t);
         self.picked.reserve(1)?;
         let now = self.entries();
         append(

@@ -1,14 +1,14 @@
 //! Marks on the pages that may differ from those of the history that a round goes on as.
 
-ghost use Rattle.std.specs.Prelude.{◌≡◌, true, is_some, None, option_map, slice_set, if◌then◌else◌, IfOk};
+ghost use Rattle.std.specs.Prelude.{◌≡◌, true, is_some, Some, None, option_map, slice_set, if◌then◌else◌, IfOk};
 ghost use Rattle.std.specs.Arc.{arc_value};
 ghost use Rattle.thunk_spec.specs.Put.{call_at};
 ghost use Rattle.machine_spec.specs.Setup.{IsSetup, first};
-ghost use Rattle.history_spec.specs.History.{IsSameProgram};
+ghost use Rattle.history_spec.specs.History.{History as OldHistory, IsSameProgram, is_coherent};
 ghost use Rattle.order_spec.specs.Facts.{written_slots};
 ghost use Rattle.order_spec.specs.Facts as facts;
 ghost use Rattle.round_spec.specs.Rounds.{opening};
-ghost use Rattle.propagate.specs.Alike.{IsAsBefore, AreMarksOn, MayBeMarks, marked};
+ghost use Rattle.propagate.specs.Alike.{IsAsBefore, IsClean, AreMarksOn, MayBeMarks, marked};
 ghost use Rattle.propagate.specs.Alike as alike;
 
 use super::reaching::slots_that_differ;
@@ -93,6 +93,7 @@ fn marks_between(
     requires memory { memory.now ≡ (first new.now).memory }
     ensures marks { IfOk result
         (λ marks. AreMarksOn (first old.now).memory (first new.now).memory marks.items) }
+    ensures clean { old.now ≡ new.now → IfOk result (λ marks. IsClean marks.items) }
     ensures valid { IfOk result (λ _. IsSetup old.now) }
 {
     let marks = vec![in alloc; false; memory.len()]?;
@@ -108,23 +109,27 @@ fn marks_between(
 fn is_same_program(old: &Setup, new: &Setup) -> bool
     ensures program { result ≡ true → IsSameProgram old.now new.now }
     ensures fuel { result ≡ true → old.now.fuel ≡ new.now.fuel }
+    ensures same { old.now ≡ new.now → result ≡ true }
 {
     old.fuel() == new.fuel() && old.elf() == new.elf()
 }
 
-/// Marks for a round of a setup that starts with this memory and goes by a history; none where it can't go on as that did:
-/// the history isn't known to hold together, or is of another program or fuel.
+/// Marks for a round of a setup that starts with this memory and goes by a history, which is coherent if it holds together;
+/// none where it can't go on as that did: the history doesn't hold together, or is of another program or fuel.
 pub fn marks_at_start(
     alloc: Global,
     past: &Option<Arc<History>>,
+    coherent: bool,
     setup: &Setup,
     memory: &PageTable,
 ) -> Result<Option<Vec<bool>>, AllocError>
-    requires { memory.now ≡ (first setup.now).memory }
+    requires memory { memory.now ≡ (first setup.now).memory }
+    requires coherent { (h : OldHistory) → option_map arc_value past.now ≡ Some h
+        → coherent ≡ is_coherent h }
     ensures { IfOk result (IsAsBefore (opening setup.now (option_map arc_value past.now))) }
 {
     match past {
-        Some(history) if history.is_known_coherent() && is_same_program(history.setup(), setup) => {
+        Some(history) if coherent && is_same_program(history.setup(), setup) => {
             let marks = marks_between(alloc, history.setup(), setup, memory)?;
             Ok(Some(marks))
         }

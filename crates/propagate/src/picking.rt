@@ -1,17 +1,19 @@
 //! What a worker may do next.
 
-ghost use Rattle.std.specs.Prelude.{◌≡◌, ◌<◌, ◌+◌, ℕ, true, length, slice_index, nat_le, option_map, Some, Decides};
+ghost use Rattle.std.specs.Prelude.{◌≡◌, ◌<◌, ◌≤◌, ◌+◌, ◌==◌, ℕ, true, length, slice_index, nat_le, option_map, Some, Decides};
 ghost use Rattle.std.specs.Arc.{arc_value};
+ghost use Rattle.history_spec.specs.History.{History as OldHistory, is_coherent};
 ghost use Rattle.round_spec.specs.declared.events.Pick.TheVariants as pick;
 ghost use Rattle.round_spec.specs.Marks.{record_for, fits_next};
 ghost use Rattle.round_spec.specs.Rounds.{is_free_in, can_begin, can_take, can_reuse};
 ghost use Rattle.round_spec.specs.Due.{is_due, place_in};
 ghost use Rattle.round_spec.specs.Choice.{is_any_in_flight, choice_by, pick_of};
-ghost use Rattle.propagate.specs.Alike.{IsNext};
+ghost use Rattle.worker_spec.specs.Replaying.{IsReplaying};
+ghost use Rattle.propagate.specs.Alike.{IsNext, IsRepeated};
 ghost use Rattle.propagate.specs.Choosing as choosing;
 ghost use Rattle.propagate.specs.Consistency.{IsValid};
 ghost use Rattle.propagate.specs.declared.picking.Candidate.{Candidate};
-ghost use Rattle.propagate.specs.Choosing.{comes_before, has_made, HaveMade, candidate_of, leader_of, free_below, AreLeadersBelow};
+ghost use Rattle.propagate.specs.Choosing.{comes_before, has_made, HaveMade, candidate_of, leader_of, free_below, AreLeadersBelow, is_something};
 
 use super::marks::all_unmarked;
 use super::round::Round;
@@ -19,7 +21,7 @@ use guest_call::THREADS;
 use release_core::Core;
 use round_spec::Pick;
 use std::sync::Arc;
-use thunk_record::Record;
+use thunk_record::{Compared, Record};
 use vclock::Clock;
 
 /// What the choice looks at of a thread: the place of its next step in the history, and how many
@@ -120,36 +122,39 @@ impl Round {
         self.old_record(t, self.core.number(t))
     }
 
-    /// Whether the round goes on as its history did, and the next step of thread `t`, which exists, comes next there.
-    pub(super) fn comes_next(&self, t: u8) -> bool
+    /// Whether the next step of thread `t`, which exists, comes next in the history.
+    pub(super) fn is_next(&self, t: u8) -> bool
         requires { t < length self.now.machine.harts }
-        ensures { result ≡ true
-            → place_in self.now.past self.now.machine t ≡ length self.now.schedule }
+        ensures { result ≡ (place_in self.now.past self.now.machine t == length self.now.schedule) }
     {
-        self.marks.is_some() && self.place(t) == self.schedule.len()
+        self.place(t) == self.schedule.len()
     }
 
-    /// Whether the record of the next step of thread `t`, which exists, fits where its registers are the thread's: it comes
-    /// next, and no page is marked that it read.
+    /// Whether the record of the next step of thread `t`, which exists, fits where its registers are the thread's: the
+    /// round goes on as its history did, it comes next, and no page is marked that it read.
     fn has_same_pages(&self, t: u8, rec: &Record) -> bool
         requires exists { t < length self.now.machine.harts }
         requires record { record_for self.now.past self.now.machine t ≡ Some rec.now }
         ensures next { result ≡ true → IsNext self.now t rec.now }
+        ensures repeated { IsRepeated self.now t → result ≡ true }
     {
         match &self.marks {
-            Some(marks) => self.comes_next(t) && all_unmarked(marks, rec.reads().pages()),
+            Some(marks) => self.is_next(t) && all_unmarked(marks, rec.reads().pages()),
             None => false,
         }
     }
 
-    /// Whether the record of the next step of thread `t`, which exists, fits. Pages are compared only if they may differ.
-    fn has_fitting(&self, t: u8) -> bool
+    /// Whether the record of the next step of thread `t`, which exists, fits. Pages are compared only if they may differ:
+    /// none while the round repeats its history.
+    fn has_fitting(&self, t: u8, compared: &mut Compared) -> bool
         requires { t < length self.now.machine.harts }
-        ensures { result ≡ fits_next self.now.past self.now.machine t }
+        ensures fits { result ≡ fits_next self.now.past self.now.machine t }
+        ensures spares { IsRepeated self.now t → compared.new ≡ compared.old }
+        ensures never_lower { compared.old ≤ compared.new }
     {
         match self.next_record(t) {
             Some(rec) if self.has_same_pages(t, rec) => rec.start() == self.core.regs(t),
-            Some(rec) => self.core.fits(rec),
+            Some(rec) => self.core.fits_counted(rec, compared),
             None => false,
         }
     }
@@ -201,19 +206,23 @@ impl Round {
     }
 
     /// Whether the next step of thread `t` can be taken, to be executed.
-    pub fn can_take(&self, t: u8) -> bool
+    pub fn can_take(&self, t: u8, compared: &mut Compared) -> bool
         ensures can { result ≡ can_take self.now t }
+        ensures spares { IsRepeated self.now t → compared.new ≡ compared.old }
+        ensures never_lower { compared.old ≤ compared.new }
         ensures valid { IsValid self.now }
     {
-        self.can_begin(t) && !self.has_fitting(t)
+        self.can_begin(t) && !self.has_fitting(t, compared)
     }
 
     /// Whether the record of the next step of thread `t` can be reused.
-    pub fn can_reuse(&self, t: u8) -> bool
+    pub fn can_reuse(&self, t: u8, compared: &mut Compared) -> bool
         ensures can { result ≡ can_reuse self.now t }
+        ensures spares { IsRepeated self.now t → compared.new ≡ compared.old }
+        ensures never_lower { compared.old ≤ compared.new }
         ensures valid { IsValid self.now }
     {
-        self.can_begin(t) && self.has_fitting(t)
+        self.can_begin(t) && self.has_fitting(t, compared)
     }
 
     /// What the choice looks at of thread `t`, which exists.
@@ -314,19 +323,31 @@ impl Round {
         thread_of(free)
     }
 
-    /// What a worker may do next. Takes no memory, and compares one record at most.
-    pub fn pick(&self) -> Pick
+    /// Whether there is anything to do: to reuse a record or to execute a step. Compares no page.
+    #[tactic(auto, using(crate::proofs::Choosing::something_picked))]
+    pub fn has_pick(&self) -> bool
+        ensures { result ≡ is_something (pick_of self.now) }
+    {
+        !self.is_finished() && self.choice().is_some()
+    }
+
+    /// What a worker may do next. Takes no memory, and compares the pages of one record at most: of none while the round
+    /// replays a history that holds together.
+    pub fn pick(&self, compared: &mut Compared) -> Pick
         ensures pick { result ≡ pick_of self.now }
         ensures stopped { self.now.stopped ≡ true → result ≡ pick.Over }
         ensures reuse { (t : ℕ) → result ≡ pick.Reuse t → can_reuse self.now t ≡ true }
         ensures run { (t : ℕ) → result ≡ pick.Run t → can_take self.now t ≡ true }
+        ensures spares { (h : OldHistory) → is_coherent h ≡ true → IsReplaying h self.now
+            → compared.new ≡ compared.old }
+        ensures never_lower { compared.old ≤ compared.new }
         ensures valid { IsValid self.now }
     {
         if self.is_finished() {
             return Pick::Over;
         }
         match self.choice() {
-            Some(t) if self.can_reuse(t) => Pick::Reuse(t),
+            Some(t) if self.can_reuse(t, compared) => Pick::Reuse(t),
             Some(t) => Pick::Run(t),
             None => Pick::Hold,
         }

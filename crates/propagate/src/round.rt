@@ -4,7 +4,7 @@ ghost use Rattle.std.specs.Prelude.{◌≡◌, ◌<◌, true, false, length, is_
 ghost use Rattle.std.specs.Bool.{OnTrue};
 ghost use Rattle.std.specs.Arc.{arc_value};
 ghost use Rattle.machine_spec.specs.Setup.{IsSetup, first};
-ghost use Rattle.history_spec.specs.History.{History as OldHistory, IsHonest, IsSound, IsMapped, found, past_records};
+ghost use Rattle.history_spec.specs.History.{History as OldHistory, IsHonest, IsSound, IsMapped, found, is_coherent, past_records};
 ghost use Rattle.report_spec.specs.Report.{instructions_from};
 ghost use Rattle.round_spec.specs.Rounds.{none_in_flight, nothing_taken, opening, is_finished, is_in_flight, history_of};
 ghost use Rattle.round_spec.specs.Due.{past_facts};
@@ -15,7 +15,7 @@ ghost use Rattle.propagate.specs.Consistency.{IsOfMap, IsValid};
 use super::marks::marks_at_start;
 use depend_graph::Graph;
 use guest_call::THREADS;
-use history_facts::facts;
+use history_facts::{HistoryFacts, facts};
 use machine_spec::End;
 use page_store::PageTable;
 use release_core::{Core, History, Records, Setup};
@@ -87,14 +87,20 @@ fn nothing_taken() -> [u32; THREADS]
     [0; THREADS]
 }
 
-/// Which steps of a history depend on which, if there is one.
-fn graph_of(alloc: Global, past: &Option<Arc<History>>) -> Result<Graph, AllocError>
-    ensures graph { IfOk result (λ graph. graph ≡ past_facts (option_map arc_value past.now)) }
+/// Which steps of a history depend on which, and whether it holds together, if there is one.
+fn graph_of(alloc: Global, past: &Option<Arc<History>>) -> Result<(Graph, bool), AllocError>
+    ensures graph { IfOk result (λ found.
+        found.0 ≡ past_facts (option_map arc_value past.now)) }
+    ensures coherent { IfOk result (λ found. (h : OldHistory) → option_map arc_value past.now ≡ Some h
+        → found.1 ≡ is_coherent h) }
     ensures of_run { IfOk result (λ _. AreOfRun (past_records (option_map arc_value past.now))) }
 {
     match past {
-        Some(history) => Graph::of(alloc, facts(alloc, history)?),
-        None => Graph::of(alloc, Vec::new(alloc)),
+        Some(history) => {
+            let HistoryFacts { facts, coherent } = facts(alloc, history)?;
+            Ok((Graph::of(alloc, facts)?, coherent))
+        }
+        None => Ok((Graph::of(alloc, Vec::new(alloc))?, false)),
     }
 }
 
@@ -111,8 +117,8 @@ impl Round {
         ensures sound { IfOk result (λ _. IsSetup setup) }
     {
         let core = Core::new(alloc, &setup)?;
-        let graph = graph_of(alloc, &past)?;
-        let marks = marks_at_start(alloc, &past, &setup, core.memory())?;
+        let (graph, coherent) = graph_of(alloc, &past)?;
+        let marks = marks_at_start(alloc, &past, coherent, &setup, core.memory())?;
         Ok(Round {
             setup,
             past,

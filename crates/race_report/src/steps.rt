@@ -86,7 +86,7 @@ pub fn steps_of(alloc: Global, history: &History, pages: usize) -> Result<Vec<St
     ensures of_run { IfOk result (λ _. AreOfRun history.now.records) }
 {
     let records = history.records();
-    let facts = facts(alloc, history)?;
+    let facts = facts(alloc, history)?.facts;
     let graph = Graph::of_sync(alloc, &facts)?;
     let mut numbers = [0; THREADS];
     let mut steps = Vec::with_capacity(alloc, facts.len())?;

@@ -1,8 +1,9 @@
--- When a record may be applied to a machine, and why it wasn't.
-use Rattle.std.specs.Prelude.{◌≡◌, Bool, true, false, ◌&&◌, is_none}
+-- When a record may be applied to a machine, why it wasn't, and what is compared to find that.
+use Rattle.std.specs.Prelude.{◌≡◌, ℕ, Bool, true, false, ◌&&◌, if◌then◌else◌, is_none}
 use Rattle.record_spec.specs.Record.{Record}
-use Rattle.machine_spec.specs.Machine.{Machine}
+use Rattle.machine_spec.specs.Machine.{Machine, hart_of, is_ready}
 use Rattle.machine_spec.specs.Step.{fits}
+use Rattle.thunk_record.specs.Comparing.{compared_for}
 use Rattle.release_core.specs.declared.core_machine.ApplyError.{ApplyError}
 use Rattle.release_core.specs.declared.core_machine.ApplyError.TheVariants.{Stale, NoMemory}
 
@@ -14,3 +15,10 @@ can_apply m r = is_none m.ending && fits m r
 abbrev pub IsCauseOf : Machine → Record → ApplyError → Type 0
 IsCauseOf m r Stale = can_apply m r ≡ false
 IsCauseOf m r NoMemory = can_apply m r ≡ true
+
+-- How many read pages are compared to find whether a record fits: none if its thread isn't ready.
+abbrev pub compared_on : Machine → Record → ℕ
+compared_on m r =
+    if is_ready (hart_of m r.thread).status
+    then compared_for r (hart_of m r.thread).number (hart_of m r.thread).regs (hart_of m r.thread).view
+    else 0

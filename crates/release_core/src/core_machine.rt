@@ -7,7 +7,7 @@ ghost use Rattle.record_spec.specs.Record.{put_of, IsTrue};
 ghost use Rattle.machine_calls.specs.Views.{AreViewsOf};
 ghost use Rattle.machine_calls.specs.Views as views;
 ghost use Rattle.release_core.specs.Jobs.{IsJobOf};
-ghost use Rattle.release_core.specs.Applying.{can_apply, IsCauseOf};
+ghost use Rattle.release_core.specs.Applying.{can_apply, IsCauseOf, compared_on};
 ghost use Rattle.machine_spec.specs.Machine.{Machine, hart_of, is_ready, is_ended};
 ghost use Rattle.machine_spec.specs.Setup.{IsSetup, first, map_of};
 ghost use Rattle.machine_spec.specs.Step as step;
@@ -26,7 +26,7 @@ use std::alloc::{AllocError, Global};
 use std::marker::Model;
 use std::sync::Arc;
 use sync_objects::Objects;
-use thunk_record::{Frame, Record, fits};
+use thunk_record::{Compared, Frame, Record, fits, fits_counted};
 use thunk_run::Job;
 
 /// Why a record wasn't applied.
@@ -184,6 +184,26 @@ impl Core {
             hart.regs(),
             hart.view(),
             self.frame.fuel(),
+        )
+    }
+
+    /// The same. The counter rises by the read pages that are compared.
+    #[tactic(auto, using(machine_calls::proofs::Asking::below), unfolding(machine_spec::specs::Step::fits))]
+    pub fn fits_counted(&self, rec: &Record, compared: &mut Compared) -> bool
+        ensures fits { result ≡ step.fits self.now rec.now }
+        ensures compared { compared.new ≡ compared.old + compared_on self.now rec.now }
+    {
+        if !self.ready(rec.thread()) {
+            return false;
+        }
+        let hart = &self.harts[usize::from(rec.thread())];
+        fits_counted(
+            rec,
+            hart.number(),
+            hart.regs(),
+            hart.view(),
+            self.frame.fuel(),
+            compared,
         )
     }
 }

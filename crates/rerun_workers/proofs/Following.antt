@@ -14,7 +14,7 @@ use Rattle.round_spec.specs.Unedited.{IsUnedited}
 use Rattle.round_spec.proofs.Happening.{happens-kept}
 use Rattle.round_spec.proofs.Leaving.{same-happens}
 use Rattle.worker_spec.specs.Replaying.{IsReplaying, goes_on_by}
-use Rattle.worker_spec.proofs.Replay.{replays-start, replays-on, replays-next}
+use Rattle.worker_spec.proofs.Replay.{unedited-repeats, replays-start, replays-on, replays-next}
 use Rattle.worker_spec.proofs.Rightly.{rightly-opening, rightly-happens}
 use Rattle.propagate.proofs.Choosing.{pick-over}
 use Rattle.rerun_workers.specs.Following.{FollowsPicks}
@@ -45,9 +45,9 @@ follows_opening setup past w is =
     subst (FollowsPicks setup past) (sym is)
     (record {
       picked = λ sound. rightly-opening setup past;
-      replays = λ h past_is unedited.
+      replays = λ h past_is repeats.
           subst (λ (p : Option History). IsReplaying h (opening setup p)) (sym past_is)
-          (subst (λ (s : Setup). IsReplaying h (opening s (Some h))) unedited.same (replays-start h));
+          (subst (λ (s : Setup). IsReplaying h (opening s (Some h))) repeats.same (replays-start h));
     })
 
 -- an event by which a round may go on after its pick
@@ -59,8 +59,9 @@ on setup past w v e under goes is =
     (record {
       picked = λ sound.
           rightly-happens w e (can-go setup past w under sound) under.in_order (under.follows.picked sound) goes;
-      replays = λ h past_is unedited.
-          replays-on h w e unedited.honest (under.follows.replays h past_is unedited) goes;
+      replays = λ h past_is repeats.
+          let replays = under.follows.replays h past_is repeats in
+          replays-on h w e (subst IsSetup replays.reused.setup under.valid) repeats.coherent replays goes;
     })
 
 -- and what is known of it then
@@ -138,7 +139,9 @@ never-begins setup past w t h follows picked past_is unedited = by (is_finished 
     by : (over : Bool) → is_finished w ≡ over → ⊥
     by true is = let over = pick-over w is in let both : pick.Over ≡ pick.Run t = sym over ∙ picked in cc
     by false is =
-        let next = replays-next h w unedited.honest (follows.replays h past_is unedited) is in
+        let repeats = unedited-repeats h setup unedited in
+        let next =
+        replays-next h w unedited.honest.valid repeats.coherent (follows.replays h past_is repeats) is in
         let both : pick.Reuse next.0 ≡ pick.Run t = sym next.1.picked ∙ picked in cc
 
 -- one record more was reused

@@ -13,7 +13,7 @@ use Rattle.worker_spec.proofs.Workers.{lone-made, ended-made}
 use Rattle.round_spec.specs.Picking.{ArePicked, IsPickedSoFar}
 use Rattle.round_spec.specs.Unedited.{IsUnedited, OnlyReuses}
 use Rattle.worker_spec.specs.Watching.{IsProgress}
-use Rattle.worker_spec.proofs.Replay.{replays-end}
+use Rattle.worker_spec.proofs.Replay.{unedited-repeats, replays-end}
 use Rattle.reach_spec.proofs.ByWorkers.{reexecutes-picked}
 use Rattle.propagate.specs.Executing.{executed_by}
 use Rattle.propagate.proofs.Executing.{alone-picked, alone-least, alone-ends, alone-reuses}
@@ -52,7 +52,8 @@ pub together-made :
 together-made workers setup past w worker_steps many is_setup is_past stands ended each steps follows =
     subst (λ (s : Setup). IsMadeBy workers s past w.schedule worker_steps) is_setup
     (subst (λ (p : Option History). IsMadeBy workers w.setup p w.schedule worker_steps) is_past
-    (ended-made workers w worker_steps many stands ended each steps follows.replays follows.picked))
+    (ended-made workers w worker_steps many stands ended each steps
+    (λ h by unedited. follows.replays h by (unedited-repeats h w.setup unedited)) follows.picked))
 
 -- what is picked so far was picked rightly, entry by entry
 pub entries-picked :
@@ -85,10 +86,10 @@ by-one workers setup past w worker_steps is valid stands each steps =
 
 pub by-several :
     (workers : ℕ) (setup : Setup) (past : Option History) (w : RoundState) (worker_steps : List ℕ)
-    (turns : ℕ)
-    → 1 < workers → IsSetup w.setup → IsClosed setup past w worker_steps turns → IsBySchedule w
+    (turns compared : ℕ)
+    → 1 < workers → IsSetup w.setup → IsClosed setup past w worker_steps turns compared → IsBySchedule w
     → is_some w.machine.ending ≡ true → length worker_steps ≡ workers → IsRoundBy workers setup past w worker_steps
-by-several workers setup past w worker_steps turns many valid closed stands ended each =
+by-several workers setup past w worker_steps turns compared many valid closed stands ended each =
     let is_setup = closed.setup in
     let is_past = closed.past in
     let follows = closed.follows in
@@ -106,7 +107,8 @@ by-several workers setup past w worker_steps turns many valid closed stands ende
       ends = ended;
       unedited = λ h is unedited.
           replays-end h w unedited.honest
-          (own.replays h (is_past ∙ is) (subst (IsUnedited h) (sym is_setup) unedited)) ended;
+          (own.replays h (is_past ∙ is)
+          (unedited-repeats h w.setup (subst (IsUnedited h) (sym is_setup) unedited))) ended;
     }
 
 -- the steps of each worker where the first made all
@@ -154,9 +156,9 @@ cost-first workers spent turns s before w worker_steps by rise one none =
 
 -- and one that several made together
 pub cost-several :
-    (workers turns : ℕ) (s : Setup) (before : Option History) (w : RoundState) (worker_steps : List ℕ)
-    → 1 < workers → IsClosed s before w worker_steps turns → IsCostOf workers s before w turns
-cost-several workers turns s before w worker_steps many closed =
+    (workers turns compared : ℕ) (s : Setup) (before : Option History) (w : RoundState) (worker_steps : List ℕ)
+    → 1 < workers → IsClosed s before w worker_steps turns compared → IsCostOf workers s before w turns
+cost-several workers turns compared s before w worker_steps many closed =
     record {
       alone = λ one. absurd (let no : 1 < workers = many in omega (arith, one, no));
       idle = closed.idle;

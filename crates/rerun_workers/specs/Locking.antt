@@ -1,5 +1,5 @@
 -- What the calls of a worker do to the round under the lock.
-use Rattle.std.specs.Prelude.{◌≡◌, ◌+◌, ◌<◌, ℕ, zero, suc, ⊤, Bool, true, false, length}
+use Rattle.std.specs.Prelude.{◌≡◌, ◌+◌, ◌<◌, ℕ, zero, suc, ⊤, length}
 use Rattle.std.specs.Arc.{arc_value}
 use Rattle.thunk_spec.specs.Thunk.{Frame}
 use Rattle.release_core.specs.Jobs.{IsJobOf}
@@ -14,13 +14,6 @@ use Rattle.rerun_workers.specs.declared.locked.Task.{Task}
 use Rattle.rerun_workers.specs.declared.locked.Task.TheVariants as task
 use Rattle.rerun_workers.specs.declared.locked.CommitOutcome.{CommitOutcome}
 use Rattle.rerun_workers.specs.declared.locked.CommitOutcome.TheVariants as outcome
-
--- Whether a pick is to reuse a record or to execute a step.
-abbrev pub is_something : Pick → Bool
-is_something (pick.Reuse t) = true
-is_something (pick.Run t) = true
-is_something pick.Hold = false
-is_something pick.Over = false
 
 -- A round after what was picked, where that is to reuse a record; any other pick is left.
 abbrev pub with_reuse : RoundState → Pick → RoundState

@@ -8,6 +8,7 @@ use Rattle.round_spec.specs.Alone.{lone_round}
 use Rattle.round_spec.specs.Picking.{ArePicked}
 use Rattle.round_spec.specs.Unedited.{IsUnedited, OnlyReuses}
 use Rattle.worker_spec.specs.Workers.{IsMadeBy}
+use Rattle.worker_spec.specs.Replaying.{Repeats}
 use Rattle.reach_spec.specs.Working.{ReexecutesLeast}
 use Rattle.propagate.specs.Executing.{executed_by}
 use Rattle.rerun_workers.specs.Following.{FollowsPicks}
@@ -27,14 +28,21 @@ pub record IsRoundBy (workers : ℕ) (s : Setup) (before : Option History) (w : 
     pub ends : is_some w.machine.ending ≡ true
     pub unedited : (h : History) → before ≡ Some h → IsUnedited h s → OnlyReuses h w
 
--- A round after its board was closed, finished or not, how many steps each worker made and their counters of turns as
--- one: only what was picked was begun; these numbers add up to the steps; and without an edit the counter is 0.
-pub record IsClosed (s : Setup) (before : Option History) (w : RoundState) (worker_steps : List ℕ) (turns : ℕ) : Type 0 where
+-- How many pages were compared for a round: none without an edit since a history that holds together.
+abbrev pub ComparesNone : Setup → Option History → ℕ → Type 0
+ComparesNone s before compared = (h : History) → before ≡ Some h → Repeats h s → compared ≡ 0
+
+-- A round after its board was closed, finished or not, how many steps each worker made, and their counters of turns and of
+-- compared pages as one each: only what was picked was begun; these numbers add up to the steps; and without an edit the
+-- counters are 0.
+pub record IsClosed (s : Setup) (before : Option History) (w : RoundState) (worker_steps : List ℕ) (turns compared : ℕ)
+    : Type 0 where
   pub setup : w.setup ≡ s
   pub past : w.past ≡ before
   pub steps : sum worker_steps ≡ length w.schedule
   pub follows : FollowsPicks s before w
   pub idle : (h : History) → before ≡ Some h → IsUnedited h s → turns ≡ 0
+  pub spares : ComparesNone s before compared
 
 -- What is known of how many turns so many workers made for a round: one worker those of the executed steps; without an
 -- edit there are none; else they may be any number.

@@ -15,10 +15,11 @@ ghost use Rattle.history_spec.specs.History.{History};
 ghost use Rattle.round_spec.specs.Rounds.{opening};
 ghost use Rattle.round_spec.specs.Unedited.{IsUnedited};
 ghost use Rattle.rerun_workers.specs.declared.locked.Task.TheVariants as task;
-ghost use Rattle.rerun_workers.specs.Making.{IsClosed};
+ghost use Rattle.rerun_workers.specs.Making.{IsClosed, ComparesNone};
 ghost use Rattle.rerun_workers.specs.Passes.{held};
 ghost use Rattle.rerun_workers.specs.Locking.{BeginsIn, BeginsNothing, begun_by, IsReady, HandsBack, steps_by};
 
+use super::effort::Effort;
 use super::locked::{CommitOutcome, Locked, Task};
 use super::naming::{Naming, Pass};
 use super::watching::{Counter, Watch, WatchedRound};
@@ -28,7 +29,6 @@ use std::sync::ledger::{Blank, Share};
 use std::sync::{Condvar, Mutex, Wait};
 use std::thread::Threads;
 use thunk_run::{Job, Run};
-use turn_count::Turns;
 
 /// What workers share: the round under a lock, and the condition that there is work or none any more. A worker executes
 /// outside the lock, and who watches the round takes none.
@@ -49,11 +49,11 @@ pub struct ClosedRound {
     pub round: Round,
     /// How many of its steps each worker made.
     pub worker_steps: Vec<u64>,
-    /// The counters of its workers as one.
-    pub turns: Turns,
+    /// What its workers' work took.
+    pub effort: Effort,
 }
 
-/// A pass for each of so many workers, which has made no step, each with a new counter of turns.
+/// A pass for each of so many workers, which has made no step.
 fn passes_of<J: Naming, R: Threads>(
     rt: &R,
     alloc: Global,
@@ -68,7 +68,7 @@ fn passes_of<J: Naming, R: Threads>(
     let mut passes = Vec::new(alloc);
     for made in 0..workers {
         let share = all.split_off(1, 0);
-        passes.push(Pass::new(share, Turns::new(rt)))?;
+        passes.push(Pass::new(share, Effort::new(rt)))?;
     }
     Ok(passes)
 }
@@ -112,24 +112,24 @@ fn places_of<J: Naming, R: Threads>(
     })
 }
 
-/// All shares as one, the steps of each pass in their order, and all counters of turns as one, which is 0 without an
-/// edit.
+/// All shares as one, the steps of each pass in their order, and their effort as one, of which there is none without an edit.
 fn gather<J: Naming>(
     mut passes: Vec<Pass<J>>,
     mut worker_steps: Vec<u64>,
-) -> (Share<J>, Vec<u64>, Turns)
+) -> (Share<J>, Vec<u64>, Effort)
     requires some { 0 < vec_len passes }
     requires none { worker_steps.items ≡ [] }
     requires room { vec_len passes ≤ vec_capacity worker_steps }
     ensures parts { result.0.parts ≡ vec_len passes }
     ensures amount { result.0.amount ≡ sum result.1.items }
     ensures worker_steps { result.1.items ≡ map (λ pass. pass.steps) passes.items }
-    ensures turns { result.2 ≡ sum_by (λ pass. pass.turns) passes.items }
-    ensures idle { (h : History) → J.past ≡ Some h → IsUnedited h J.setup → result.2 ≡ 0 }
+    ensures turns { result.2.turns ≡ sum_by (λ pass. pass.effort.turns) passes.items }
+    ensures idle { (h : History) → J.past ≡ Some h → IsUnedited h J.setup → result.2.turns ≡ 0 }
+    ensures spares { ComparesNone J.setup J.past result.2.compared }
 {
     let Pass {
         share: mut all,
-        mut turns,
+        mut effort,
         steps,
         ..
     } = passes.remove(0);
@@ -137,15 +137,15 @@ fn gather<J: Naming>(
     while !passes.is_empty() {
         let Pass {
             share,
-            turns: more,
+            effort: more,
             steps,
             ..
         } = passes.remove(0);
         all.merge(share);
-        turns.merge(more);
+        effort.merge(more);
         worker_steps.push_reserved(steps);
     }
-    (all, worker_steps, turns)
+    (all, worker_steps, effort)
 }
 
 /// So many watches of the word that counts the steps of a round.
@@ -382,14 +382,15 @@ impl<J: Naming> Board<J> {
     }
 
     /// When all passes are back: the round, how many steps each worker made, in the order of the passes, and their
-    /// counters of turns as one, which is 0 without an edit. Takes no memory.
+    /// effort as one, of which there is none without an edit. Takes no memory.
     pub fn close(self, passes: Vec<Pass<J>>) -> ClosedRound
         requires all { vec_len passes ≡ J.parts }
         requires workers { (vec_len passes ≡ J.workers) × (0 < vec_len passes) }
         ensures closed { IsClosed J.setup J.past result.round result.worker_steps.items
-            result.turns }
+            result.effort.turns result.effort.compared }
         ensures worker_steps { result.worker_steps.items ≡ map (λ pass. pass.steps) passes.items }
-        ensures turns { result.turns ≡ sum_by (λ pass. pass.turns) passes.items }
+        ensures turns { result.effort.turns
+            ≡ sum_by (λ pass. pass.effort.turns) passes.items }
     {
         let Board {
             lock,
@@ -401,12 +402,12 @@ impl<J: Naming> Board<J> {
             mut book,
             ..
         } = lock.into_inner();
-        let (mut all, worker_steps, turns) = gather(passes, worker_steps);
+        let (mut all, worker_steps, effort) = gather(passes, worker_steps);
         book.audit(&mut all);
         ClosedRound {
             round,
             worker_steps,
-            turns,
+            effort,
         }
     }
 
@@ -421,9 +422,10 @@ impl<J: Naming> Board<J> {
         requires workers { (vec_len passes ≡ J.workers) × (0 < vec_len passes) }
         requires watches { (vec_len watches ≡ J.watches) × (0 < vec_len watches) }
         ensures closed { IsClosed J.setup J.past result.0.round result.0.worker_steps.items
-            result.0.turns }
+            result.0.effort.turns result.0.effort.compared }
         ensures worker_steps { result.0.worker_steps.items ≡ map (λ pass. pass.steps) passes.items }
-        ensures turns { result.0.turns ≡ sum_by (λ pass. pass.turns) passes.items }
+        ensures turns { result.0.effort.turns
+            ≡ sum_by (λ pass. pass.effort.turns) passes.items }
         ensures numbers { result.1.items
             ≡ replicate (vec_len watches) (length result.0.round.schedule) }
         ensures seen { All
@@ -440,7 +442,7 @@ impl<J: Naming> Board<J> {
             mut book,
             counter,
         } = lock.into_inner();
-        let (mut all, worker_steps, turns) = gather(passes, worker_steps);
+        let (mut all, worker_steps, effort) = gather(passes, worker_steps);
         book.audit(&mut all);
         let Some(counter) = counter else {
             unreachable!()
@@ -449,7 +451,7 @@ impl<J: Naming> Board<J> {
         let worked = ClosedRound {
             round,
             worker_steps,
-            turns,
+            effort,
         };
         (worked, numbers)
     }

@@ -11,13 +11,14 @@ ghost use Rattle.round_spec.specs.declared.events.Pick.TheVariants as pick;
 ghost use Rattle.round_spec.specs.Rounds.{opening, can_take, can_reuse, happens};
 ghost use Rattle.round_spec.specs.Choice.{pick_of};
 ghost use Rattle.round_spec.specs.Unedited.{IsUnedited};
+ghost use Rattle.propagate.specs.Choosing.{is_something};
 ghost use Rattle.propagate.specs.Committing.{GoesOn};
 ghost use Rattle.propagate.specs.Consistency.{IsValid};
 ghost use Rattle.rerun_workers.specs.Following.{FollowsPicks};
 ghost use Rattle.std.proofs.Props.{props};
 ghost use Rattle.rerun_workers.specs.Watching.{IsCounting};
 ghost use Rattle.rerun_workers.specs.Passes.{held};
-ghost use Rattle.rerun_workers.specs.Locking.{Tells, TellsAfter, BeginsIn, BeginsNothing, begun_by, IsReady, is_something, given_up, Lands, HandsBack, steps_by, Counts};
+ghost use Rattle.rerun_workers.specs.Locking.{Tells, TellsAfter, BeginsIn, BeginsNothing, begun_by, IsReady, given_up, Lands, HandsBack, steps_by, Counts};
 
 use super::naming::{Naming, Pass};
 use super::watching::Counter;
@@ -43,13 +44,13 @@ pub enum Task {
 /// What came of a run that a worker handed in.
 #[derive(Drop)]
 pub enum CommitOutcome {
-    /// It is an entry of the schedule, and its thread is no longer out.
+    /// It is an entry of the schedule, and its thread is no longer in flight.
     Done,
     /// It can't be committed, and is handed back: the round is finished, the step ran on another page map
     /// or with another fuel than the round's, its thread isn't in flight, or its record doesn't fit. Its
-    /// thread is no longer out; if it was, one step more was discarded.
+    /// thread is no longer in flight; if it was, one step more was discarded.
     Stale(Run),
-    /// The host's memory ran out, and the run is handed back. Its thread is no longer out; if it was,
+    /// The host's memory ran out, and the run is handed back. Its thread is no longer in flight; if it was,
     /// one step more was discarded. The round was stopped.
     Memory(Run),
 }
@@ -195,7 +196,7 @@ impl<J: Naming> Locked<J> {
     {
         pass.asked.raise(1);
         loop {
-            match self.round.pick() {
+            match self.round.pick(&mut pass.effort.compared) {
                 Pick::Reuse(t) => {
                     let Ok(()) = self.reuse(pass, t) else {
                         self.stop();
@@ -219,10 +220,7 @@ impl<J: Naming> Locked<J> {
     pub fn has_more(&self) -> bool
         ensures { result ≡ is_something (pick_of self.now.round) }
     {
-        match self.round.pick() {
-            Pick::Reuse(_) | Pick::Run(_) => true,
-            Pick::Hold | Pick::Over => false,
-        }
+        self.round.has_pick()
     }
 
     /// Commits a run, which had the page map and the fuel of the round's setup, and counts it as a step of this worker;

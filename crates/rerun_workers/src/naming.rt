@@ -8,12 +8,14 @@ ghost use Rattle.round_spec.specs.Unedited.{IsUnedited};
 ghost use Rattle.thunk_run.specs.declared.job.Job.{Job as Begun};
 ghost use Rattle.atomic_table.specs.Seated.{TableId};
 ghost use Rattle.progress_word.specs.Views.{no_table};
+ghost use Rattle.rerun_workers.specs.Making.{ComparesNone};
 ghost use Rattle.rerun_workers.specs.Passes.{held};
 
+use super::effort::Effort;
 use std::marker::Brand;
 use std::sync::ledger::{Ledger, Share};
 use thunk_run::Job;
-use turn_count::{Tally, Turns};
+use turn_count::Tally;
 
 /// What the round of a board started from, what it goes by, how many workers make it, how many watch it, and by which
 /// word. The types of the board, of its passes and of its watches name it, so nobody can put a round of another setup or
@@ -43,12 +45,13 @@ impl Naming for Brand {
 }
 
 /// What a worker holds of a board: how many steps of the round it has made, which its share of the ledger counts too; a
-/// step that was begun for it before it set to work, if there is one; and its counter of turns, which is 0 without an
-/// edit. Four tallies count how often it asked what to do, was told to begin a step, executed one, and handed one in.
+/// step that was begun for it before it set to work, if there is one; and its effort: without an edit it executes no turn
+/// and, by any history that holds together, compares no page. Four tallies count how often it asked what to do, was told
+/// to begin a step, executed one, and handed one in.
 #[derive(Drop)]
 pub struct Pass<J: Naming> {
     pub(super) share: Share<J>,
-    pub(super) turns: Turns,
+    pub(super) effort: Effort,
     pub(super) asked: Tally,
     pub(super) taken: Tally,
     pub(super) ran: Tally,
@@ -60,20 +63,21 @@ pub struct Pass<J: Naming> {
     ghost own: { (job : Begun) → begun ≡ Some job → arc_value job.frame ≡ (first J.setup).frame },
     ghost edited: { (job : Begun) → begun ≡ Some job → (h : History) → J.past ≡ Some h → IsUnedited h J.setup → ⊥ },
     ghost once: { ran.number + held begun ≤ taken.number },
-    ghost idle: { (h : History) → J.past ≡ Some h → IsUnedited h J.setup → turns ≡ 0 },
+    ghost idle: { (h : History) → J.past ≡ Some h → IsUnedited h J.setup → effort.turns ≡ 0 },
+    ghost spares: { ComparesNone J.setup J.past effort.compared },
 }
 
 impl<J: Naming> Pass<J> {
-    /// A pass of a share and of a counter that count nothing.
-    pub(super) fn new(share: Share<J>, turns: Turns) -> Pass<J>
+    /// A pass of a share that counts nothing, and of no effort.
+    pub(super) fn new(share: Share<J>, effort: Effort) -> Pass<J>
         requires one { share.parts ≡ 1 }
         requires nothing { share.amount ≡ 0 }
-        requires unused { turns ≡ 0 }
+        requires unused { (effort.turns ≡ 0) × (effort.compared ≡ 0) }
         ensures { result.steps ≡ 0 }
     {
         Pass {
             share,
-            turns,
+            effort,
             asked: Tally::none(),
             taken: Tally::none(),
             ran: Tally::none(),

@@ -6,9 +6,10 @@ ghost use Rattle.history_spec.specs.History.{History as OldHistory};
 ghost use Rattle.round_spec.specs.Rounds.{opening};
 ghost use Rattle.round_spec.specs.Unedited.{IsUnedited};
 ghost use Rattle.worker_spec.specs.Watching.{IsProgress};
-ghost use Rattle.rerun_workers.specs.Making.{IsRoundBy, IsClosed, IsCostOf};
+ghost use Rattle.rerun_workers.specs.Making.{IsRoundBy, IsClosed, IsCostOf, ComparesNone};
 
 use super::board::{Board, ClosedRound};
+use super::effort::Effort;
 use super::naming::Naming;
 use super::watched::run_watched;
 use super::watching::{Counter, WatchedRound};
@@ -21,7 +22,6 @@ use std::marker::Brand;
 use std::sync::ledger::Blank;
 use std::sync::{Arc, Wait};
 use std::thread::Threads;
-use turn_count::Turns;
 
 /// The steps of each worker where the first worker made all steps.
 #[tactic(auto, using(crate::proofs::Made::first_set))]
@@ -34,33 +34,37 @@ fn first_makes(alloc: Global, steps: u64, workers: u32) -> Result<Vec<u64>, Allo
     Ok(worker_steps)
 }
 
-/// A round of which the first of so many workers makes all steps. The counter rises by the round's turns; it is 0 before,
-/// if there is one worker or no edit.
+/// A round of which the first of so many workers makes all steps. What that takes is added to the effort, of which there
+/// is none before, if there is one worker or no edit.
 fn run_by_first<G: Gate>(
     alloc: Global,
     setup: Setup,
     past: Option<Arc<History>>,
     workers: u32,
     gate: &G,
-    mut turns: Turns,
+    mut effort: Effort,
 ) -> Result<ClosedRound, AllocError>
     requires some { 1 ≤ workers }
-    requires unused { workers ≡ 1 → turns ≡ 0 }
+    requires unused { workers ≡ 1 → effort.turns ≡ 0 }
     requires idle { (h : OldHistory) → option_map arc_value past ≡ Some h → IsUnedited h setup
-        → turns ≡ 0 }
+        → effort.turns ≡ 0 }
+    requires spares { ComparesNone setup (option_map arc_value past) effort.compared }
     ensures round { IfOk result (λ r.
         IsRoundBy workers setup (option_map arc_value past) r.round r.worker_steps.items) }
     ensures worker_steps { IfOk result (λ r. r.worker_steps.items
         ≡ length r.round.schedule ∷ replicate (workers - 1) 0) }
     ensures cost { IfOk result
-        (λ r. IsCostOf workers setup (option_map arc_value past) r.round r.turns) }
+        (λ r. IsCostOf workers setup (option_map arc_value past) r.round r.effort.turns) }
+    ensures spares { IfOk result
+        (λ r. ComparesNone setup (option_map arc_value past) r.effort.compared) }
 {
-    let round = run_alone_shown(alloc, setup, past, &mut turns, gate)?;
+    let Effort { turns, compared } = &mut effort;
+    let round = run_alone_shown(alloc, setup, past, turns, compared, gate)?;
     let worker_steps = first_makes(alloc, round.schedule().len() as u64, workers)?;
     Ok(ClosedRound {
         round,
         worker_steps,
-        turns,
+        effort,
     })
 }
 
@@ -71,21 +75,24 @@ fn run_by_first_watched<G: Gate>(
     past: Option<Arc<History>>,
     workers: u32,
     gate: &G,
-    turns: Turns,
+    effort: Effort,
 ) -> Result<(ClosedRound, Vec<u64>), AllocError>
     requires some { 1 ≤ workers }
-    requires unused { workers ≡ 1 → turns ≡ 0 }
+    requires unused { workers ≡ 1 → effort.turns ≡ 0 }
     requires idle { (h : OldHistory) → option_map arc_value past ≡ Some h → IsUnedited h setup
-        → turns ≡ 0 }
+        → effort.turns ≡ 0 }
+    requires spares { ComparesNone setup (option_map arc_value past) effort.compared }
     ensures round { IfOk result (λ r.
         IsRoundBy workers setup (option_map arc_value past) r.0.round r.0.worker_steps.items) }
     ensures worker_steps { IfOk result (λ r. r.0.worker_steps.items
         ≡ length r.0.round.schedule ∷ replicate (workers - 1) 0) }
     ensures cost { IfOk result
-        (λ r. IsCostOf workers setup (option_map arc_value past) r.0.round r.0.turns) }
+        (λ r. IsCostOf workers setup (option_map arc_value past) r.0.round r.0.effort.turns) }
+    ensures spares { IfOk result
+        (λ r. ComparesNone setup (option_map arc_value past) r.0.effort.compared) }
     ensures progress { IfOk result (λ r. IsProgress workers (length r.0.round.schedule) r.1.items) }
 {
-    let worked = run_by_first(alloc, setup, past, workers, gate, turns)?;
+    let worked = run_by_first(alloc, setup, past, workers, gate, effort)?;
     let mut numbers = Vec::new(alloc);
     numbers.push(worked.round.schedule().len() as u64)?;
     Ok((worked, numbers))
@@ -108,7 +115,8 @@ fn run_together<J: Naming + Send + Sync, R: Threads + Wait + Sync, G: Gate + Syn
     requires unwatched { J.watches ≡ 0 }
     requires opening { round ≡ opening J.setup J.past }
     ensures closed { IfOk result
-        (λ r. IsClosed J.setup J.past r.round r.worker_steps.items r.turns) }
+        (λ r. IsClosed J.setup J.past r.round r.worker_steps.items
+        r.effort.turns r.effort.compared) }
     ensures each { IfOk result (λ r. length r.worker_steps.items ≡ workers) }
 {
     let (board, mut passes) = Board::<J>::new(rt, alloc, round, workers, blank)?;
@@ -119,8 +127,9 @@ fn run_together<J: Naming + Send + Sync, R: Threads + Wait + Sync, G: Gate + Syn
 /// A round that so many workers make, and how many of its steps each of them made, in their order. It has an end. One
 /// worker makes it without a lock and without the gate, and discards nothing. By a sound history each entry was picked
 /// rightly: its thread was due, or nobody was. However many the workers are, they execute again no more than they must;
-/// and without an edit it is all reuse of the history, and nothing is discarded. The counter that comes with it has the
-/// turns of the executed steps if there is one worker, and 0 without an edit.
+/// and without an edit it is all reuse of the history, and nothing is discarded. The counter of turns that comes with it has
+/// those of the executed steps if there is one worker, and 0 without an edit; and without an edit since a history that
+/// holds together, honest or not, no page was compared.
 ///
 /// # Errors
 ///
@@ -139,10 +148,12 @@ pub fn run_round<R: Threads + Wait + Sync, G: Gate + Sync>(
     ensures round { IfOk result (λ r.
         IsRoundBy workers setup (option_map arc_value past) r.round r.worker_steps.items) }
     ensures cost { IfOk result
-        (λ r. IsCostOf workers setup (option_map arc_value past) r.round r.turns) }
+        (λ r. IsCostOf workers setup (option_map arc_value past) r.round r.effort.turns) }
+    ensures spares { IfOk result
+        (λ r. ComparesNone setup (option_map arc_value past) r.effort.compared) }
 {
     if workers == 1 {
-        return run_by_first(alloc, setup, past, workers, gate, Turns::new(rt));
+        return run_by_first(alloc, setup, past, workers, gate, Effort::new(rt));
     }
     let opened = Round::new(alloc, setup, past)?;
     let worked = run_together::<Brand, R, G>(
@@ -156,12 +167,14 @@ pub fn run_round<R: Threads + Wait + Sync, G: Gate + Sync>(
     if worked.round.end().is_some() {
         return Ok(worked);
     }
-    let ClosedRound { round, turns, .. } = worked;
+    let ClosedRound {
+        round, effort, ..
+    } = worked;
     if round.stopped() {
         return Err(AllocError);
     }
     let (setup, past) = round.into_setup();
-    run_by_first(alloc, setup, past, workers, gate, turns)
+    run_by_first(alloc, setup, past, workers, gate, effort)
 }
 
 /// A round as `run_round` makes it, and the numbers of steps that were read meanwhile: they ascend, and the last is how
@@ -184,11 +197,13 @@ pub fn run_round_watched<R: Threads + Wait + Sync, G: Gate + Sync>(
     ensures round { IfOk result (λ r.
         IsRoundBy workers setup (option_map arc_value past) r.0.round r.0.worker_steps.items) }
     ensures cost { IfOk result
-        (λ r. IsCostOf workers setup (option_map arc_value past) r.0.round r.0.turns) }
+        (λ r. IsCostOf workers setup (option_map arc_value past) r.0.round r.0.effort.turns) }
+    ensures spares { IfOk result
+        (λ r. ComparesNone setup (option_map arc_value past) r.0.effort.compared) }
     ensures progress { IfOk result (λ r. IsProgress workers (length r.0.round.schedule) r.1.items) }
 {
     if workers == 1 {
-        return run_by_first_watched(alloc, setup, past, workers, gate, Turns::new(rt));
+        return run_by_first_watched(alloc, setup, past, workers, gate, Effort::new(rt));
     }
     let counter = Counter::new(alloc)?;
     let begun = Round::new(alloc, setup, past)?;
@@ -206,10 +221,12 @@ pub fn run_round_watched<R: Threads + Wait + Sync, G: Gate + Sync>(
     if worked.round.end().is_some() {
         return Ok((worked, numbers));
     }
-    let ClosedRound { round, turns, .. } = worked;
+    let ClosedRound {
+        round, effort, ..
+    } = worked;
     if round.stopped() {
         return Err(AllocError);
     }
     let (setup, past) = round.into_setup();
-    run_by_first_watched(alloc, setup, past, workers, gate, turns)
+    run_by_first_watched(alloc, setup, past, workers, gate, effort)
 }

@@ -92,7 +92,8 @@ pub(super) fn run_watched<J: Naming + Send + Sync, R: Threads + Wait + Sync, G: 
     requires table { (watched.counter.writer.table ≡ J.table) × (watched.counter.writer.added ≡ 0) }
     requires opening { watched.round ≡ opening J.setup J.past }
     ensures closed { IfOk result
-        (λ r. IsClosed J.setup J.past r.0.round r.0.worker_steps.items r.0.turns) }
+        (λ r. IsClosed J.setup J.past r.0.round r.0.worker_steps.items
+        r.0.effort.turns r.0.effort.compared) }
     ensures each { IfOk result (λ r. length r.0.worker_steps.items ≡ workers) }
     ensures ascends { IfOk result (λ r. IsStrictlyIncreasing r.1.items) }
     ensures few { IfOk result (λ r. length r.1.items ≤ MOST_LOOKS + 1) }

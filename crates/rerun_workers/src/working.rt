@@ -44,13 +44,13 @@ fn run_job<J: Naming, W: Watch>(
     requires edited { (h : History) → J.past ≡ Some h → IsUnedited h J.setup → ⊥ }
     requires ready { pass.old.ran.number + held pass.old.begun < pass.old.taken.number }
     ensures run { IfOk result (λ run. IsRunOf job.now run) }
-    ensures cost { IfOk result (λ run. pass.new.turns
-        ≡ pass.old.turns + (arc_value run.rec).kept.count) }
+    ensures cost { IfOk result (λ run. pass.new.effort.turns
+        ≡ pass.old.effort.turns + (arc_value run.rec).kept.count) }
     ensures same { pass.new.steps ≡ pass.old.steps }
 {
-    let Pass { turns, ran, .. } = pass;
+    let Pass { effort, ran, .. } = pass;
     ran.raise(1);
-    execute_watched(alloc, job, turns, watch)
+    execute_watched(alloc, job, &mut effort.turns, watch)
 }
 
 /// Executes a job of the round past the gate, and hands in what came of it. The answer is whether the worker goes on.

@@ -24,6 +24,7 @@ use round_spec::Event;
 use std::alloc::{AllocError, Global};
 use std::array;
 use std::sync::Arc;
+use thunk_record::Compared;
 use thunk_run::{Job, execute};
 use turn_count::Turns;
 
@@ -50,12 +51,12 @@ impl Driven {
     }
 
     /// Takes the next step of thread `t`, where it can be taken.
-    fn on_take(&mut self, t: u8) -> Result<(), AllocError>
+    fn on_take(&mut self, t: u8, compared: &mut Compared) -> Result<(), AllocError>
         ensures round { OnOk result (self.new.round ≡ happens self.old.round (event.Take t)) }
         ensures valid { IsValid self.old.round }
     {
         let Driven { round, jobs, .. } = self;
-        if !round.can_take(t) {
+        if !round.can_take(t, compared) {
             return Ok(());
         }
         let job = round.take(t)?;
@@ -64,11 +65,11 @@ impl Driven {
     }
 
     /// Reuses the record of the next step of thread `t`, where it can be reused.
-    fn on_reuse(&mut self, t: u8) -> Result<(), AllocError>
+    fn on_reuse(&mut self, t: u8, compared: &mut Compared) -> Result<(), AllocError>
         ensures round { OnOk result (self.new.round ≡ happens self.old.round (event.Reuse t)) }
         ensures valid { IsValid self.old.round }
     {
-        if !self.round.can_reuse(t) {
+        if !self.round.can_reuse(t, compared) {
             return Ok(());
         }
         self.round.reuse(t)
@@ -118,14 +119,20 @@ impl Driven {
     }
 
     /// Does an event; one whose condition doesn't hold changes nothing.
-    fn happen(&mut self, alloc: Global, event: Event, turns: &mut Turns) -> Result<(), AllocError>
+    fn happen(
+        &mut self,
+        alloc: Global,
+        event: Event,
+        turns: &mut Turns,
+        compared: &mut Compared,
+    ) -> Result<(), AllocError>
         ensures round { OnOk result (self.new.round ≡ happens self.old.round event) }
         ensures cost { OnOk result (Costs turns.old self.old.round turns.new self.new.round) }
         ensures never_lower { turns.old ≤ turns.new }
     {
         match event {
-            Event::Take(t) => self.on_take(t),
-            Event::Reuse(t) => self.on_reuse(t),
+            Event::Take(t) => self.on_take(t, compared),
+            Event::Reuse(t) => self.on_reuse(t, compared),
             Event::Commit(t) => self.on_commit(alloc, t, turns),
             Event::GiveBack(t) => {
                 self.on_give_back(t);
@@ -141,20 +148,21 @@ impl Driven {
 
 /// The round of a setup that goes by a history, after some events, one after the other. A step that
 /// is committed is executed then, by the job that was taken; an event whose condition doesn't hold
-/// changes nothing. The counter rises by the instructions of the executed steps. Where the history is
+/// changes nothing. The counter of turns rises by the instructions of the executed steps. Where the history is
 /// sound, the round is at the machine from scratch, and its marks are exact. Where the setup is the
 /// history's own, and the events reuse its steps in any order in which each comes after all that must
 /// come before it, all of them are reused, and come to the same end, output and memory.
 ///
 /// # Errors
 ///
-/// An error where the host's memory ran out; the counter may have risen, and is never lower.
+/// An error where the host's memory ran out; the counters may have risen, and are never lower.
 pub fn drive(
     alloc: Global,
     setup: Setup,
     past: Option<Arc<History>>,
     events: &[Event],
     turns: &mut Turns,
+    compared: &mut Compared,
 ) -> Result<Round, AllocError>
     ensures round { IfOk result (λ round. round
         ≡ round_after setup (option_map arc_value past) events.now) }
@@ -171,7 +179,7 @@ pub fn drive(
 {
     let mut driven = Driven::new(alloc, setup, past)?;
     for event in events {
-        driven.happen(alloc, *event, turns)?;
+        driven.happen(alloc, *event, turns, compared)?;
     }
     Ok(driven.round)
 }

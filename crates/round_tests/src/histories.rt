@@ -39,7 +39,7 @@ fn facts_of(alloc: Global, calls: [Words; 3], answer: u32) -> Result<Vec<Fact>, 
         record_of(alloc, 0, 1, 301, after, next)?,
         record_of(alloc, 1, 0, 302, first(0xD002_0000, 1, 0), other)?,
     )?;
-    Ok(facts(alloc, &history)?)
+    Ok(facts(alloc, &history)?.facts)
 }
 
 /// What is known by hand of a fact: its objects, the threads that are given a view, the opened slots, and whether it is

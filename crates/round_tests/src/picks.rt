@@ -11,6 +11,7 @@ use std::alloc::Global;
 use std::sync::Arc;
 use std::test::Fail;
 use std::thread::Threads;
+use thunk_record::Compared;
 use thunk_run::{Run, execute};
 use turn_count::Turns;
 
@@ -21,7 +22,7 @@ enum By {
     Events(&'static [Event]),
 }
 
-/// The round of the guest, with nobody who looks at the counter of turns.
+/// The round of the guest, with nobody who looks at the counters.
 fn made<R: Threads>(
     rt: &R,
     alloc: Global,
@@ -30,9 +31,10 @@ fn made<R: Threads>(
 ) -> Result<Round, Fail> {
     let setup = setup(alloc, 1_000_000)?;
     let mut turns = Turns::new(rt);
+    let mut compared = Compared::new(rt);
     let round = match by {
-        By::Worker => run_alone(alloc, setup, past, &mut turns),
-        By::Events(events) => drive(alloc, setup, past, events, &mut turns),
+        By::Worker => run_alone(alloc, setup, past, &mut turns, &mut compared),
+        By::Events(events) => drive(alloc, setup, past, events, &mut turns, &mut compared),
     };
     Ok(round?)
 }
@@ -69,13 +71,13 @@ fn events_make_a_round(rt: HostRuntime) -> Result<(), Fail> {
     let round = made(&rt, rt.alloc(), None, By::Events(&EVENTS))?;
     assert!(rt; is_round(&round, &[false, false], 8, 1));
     assert!(rt; round.stopped());
-    assert!(rt; round.pick() == Pick::Over);
+    assert!(rt; round.pick(&mut Compared::new(&rt)) == Pick::Over);
     Ok(())
 }
 
 /// The run of the step that is picked to be executed, and taken.
 fn taken<R: Threads>(rt: &R, alloc: Global, round: &mut Round) -> Result<Run, Fail> {
-    match round.pick() {
+    match round.pick(&mut Compared::new(rt)) {
         Pick::Run(t) => {
             let job = round.take(t)?;
             Ok(execute(alloc, &job, &mut Turns::new(rt))?)

@@ -1,11 +1,13 @@
 //! Whether a record stands for a thread's next thunk.
 
-ghost use Rattle.std.specs.Prelude.{◌≡◌};
+ghost use Rattle.std.specs.Prelude.{◌≡◌, ◌+◌};
 ghost use Rattle.std.specs.Str.{bytes_eq};
 ghost use Rattle.memory_spec.specs.Pages.{page_of};
 ghost use Rattle.record_spec.specs.Reads.{has};
 ghost use Rattle.record_spec.specs.Record.{fits_at, may_end};
+ghost use Rattle.thunk_record.specs.Comparing.{compared_in, compared_for};
 
+use super::compared::Compared;
 use super::kept::Record;
 use page_store::PageTable;
 use rv_alu::Regs;
@@ -25,11 +27,13 @@ fn has_page(table: &PageTable, read: &ReadPage) -> bool
     }
 }
 
-/// Whether a view has the bytes of each of these read pages.
-fn has_pages(table: &PageTable, reads: &[ReadPage]) -> bool
-    ensures { result ≡ has table.now reads.now }
+/// Whether a view has the bytes of each of these read pages. Those up to the first that differs are compared.
+fn has_pages(table: &PageTable, reads: &[ReadPage], compared: &mut Compared) -> bool
+    ensures has { result ≡ has table.now reads.now }
+    ensures compared { compared.new ≡ compared.old + compared_in table.now reads.now }
 {
     for read in reads {
+        compared.count();
         if !has_page(table, read) {
             return false;
         }
@@ -53,12 +57,29 @@ fn is_within_fuel(fuel: u32, end: ThunkEnd, count: u32) -> bool
 /// these registers and this view, in a run of this fuel: it is of the same number, its first
 /// registers are these, the view has the bytes of each of its read pages, and a thunk of this fuel
 /// may have ended as it did. Takes no memory.
-#[tactic(auto, unfolding(record_spec::specs::Record::fits_at))]
 pub fn fits(rec: &Record, number: u32, regs: &Regs, table: &PageTable, fuel: u32) -> bool
     ensures { result ≡ fits_at rec.now number regs.now table.now fuel }
 {
+    fits_counted(rec, number, regs, table, fuel, &mut Compared::unread())
+}
+
+/// The same. The counter rises by the read pages that are compared: those up to the first that differs, and none where
+/// the number or the registers differ.
+#[tactic(auto, unfolding(record_spec::specs::Record::fits_at))]
+pub fn fits_counted(
+    rec: &Record,
+    number: u32,
+    regs: &Regs,
+    table: &PageTable,
+    fuel: u32,
+    compared: &mut Compared,
+) -> bool
+    ensures fits { result ≡ fits_at rec.now number regs.now table.now fuel }
+    ensures compared { compared.new
+        ≡ compared.old + compared_for rec.now number regs.now table.now }
+{
     rec.number() == number
         && rec.start() == regs
-        && has_pages(table, rec.reads().pages())
+        && has_pages(table, rec.reads().pages(), compared)
         && is_within_fuel(fuel, rec.end(), rec.count())
 }

@@ -1,10 +1,12 @@
 //! What is kept of a finished thunk, and whether it stands for a thread's next one.
 #![tactic(auto)]
 
+mod compared;
 mod fit;
 mod frame;
 mod kept;
 
-pub use fit::fits;
+pub use compared::Compared;
+pub use fit::{fits, fits_counted};
 pub use frame::Frame;
 pub use kept::{Kept, Record};

@@ -74,7 +74,7 @@ const FREE_IN_MET: [usize; 4] = [2, 3, 4, 14];
 
 /// Which steps of a history depend on which.
 fn graph_of(alloc: Global, history: &History) -> Result<Graph, AllocError> {
-    Graph::of(alloc, facts(alloc, history)?)
+    Graph::of(alloc, facts(alloc, history)?.facts)
 }
 
 /// Whether a step must come directly before the one at the next place.

@@ -11,6 +11,7 @@ use std::alloc::{AllocError, Global};
 use std::sync::Arc;
 use std::test::Fail;
 use std::thread::Threads;
+use thunk_record::Compared;
 use turn_count::Turns;
 use worked_guests::{Guest, file_of};
 
@@ -42,7 +43,14 @@ pub(super) fn driven<R: Threads>(
     events: &[Event],
 ) -> Result<Round, Fail> {
     match setup_of(alloc, guest, input)? {
-        Some(setup) => Ok(drive(alloc, setup, past, events, &mut Turns::new(rt))?),
+        Some(setup) => Ok(drive(
+            alloc,
+            setup,
+            past,
+            events,
+            &mut Turns::new(rt),
+            &mut Compared::new(rt),
+        )?),
         None => Err(Fail::new("the guest isn't taken")),
     }
 }

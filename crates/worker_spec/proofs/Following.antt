@@ -7,7 +7,7 @@ use Rattle.std.specs.List.{AllByRecursion, position_or_len}
 use Rattle.record_spec.specs.Record.{Record}
 use Rattle.machine_spec.specs.declared.states.End.{End}
 use Rattle.machine_spec.specs.Machine.{Machine, hart_of, is_ready}
-use Rattle.machine_spec.specs.Step.{step, can_step}
+use Rattle.machine_spec.specs.Step.{step, fits, can_step}
 use Rattle.machine_spec.specs.Schedule.{scratch_from, is_permitted_from, record_of, records_from}
 use Rattle.machine_spec.specs.Setup.{first, scratch, records}
 use Rattle.machine_spec.specs.Whole.{IsWhole}
@@ -23,6 +23,7 @@ use Rattle.order_spec.specs.Before.{fact_at}
 use Rattle.order_spec.specs.Ancestors.{is_ancestor, number_at}
 use Rattle.order_spec.proofs.Lists.{or-in_left}
 use Rattle.order_spec.proofs.Clocks.{lt-bit}
+use Rattle.order_spec.proofs.Alike.{fits-parts}
 use Rattle.report_spec.specs.declared.Entry.{Entry}
 use Rattle.round_spec.specs.Marks.{record_for, is_fitting, fits_next, marked_from}
 use Rattle.round_spec.specs.Rounds.{none_in_flight}
@@ -76,72 +77,74 @@ made-none_next :
 made-none_next m u [] all = tt
 made-none_next m u (r ∷ rs) all = (made-not_next m u r all.0, made-none_next m u rs all.1)
 
--- the records in front are those of steps that have been made, and then comes the record of a step that can be made
-pub record IsNext (past : Option History) (m : Machine) (front : List Record) (t : ℕ) (back : List Record) : Type 0
+-- the records in front are those of steps that have been made, and then comes one that fits, of a step that can be made
+pub record IsNext (past : Option History) (m : Machine) (front : List Record) (r : Record) (back : List Record) : Type 0
   where
-    pub split : past_records past ≡ front ++ record_of m t ∷ back
+    pub split : past_records past ≡ front ++ r ∷ back
     pub numbered : is_numbered (past_records past) ≡ true
     pub made : AllByRecursion (IsMadeOn m) front
-    pub can : can_step m t ≡ true
+    pub can : can_step m r.thread ≡ true
+    pub fit : fits m r ≡ true
 
-own-record : (m : Machine) (t : ℕ) → is_of t (hart_of m t).number (record_of m t) ≡ true
-own-record m t =
-    let thread : eqb t t ≡ true = eq-eqb t t refl in
-    let number : eqb (hart_of m t).number (hart_of m t).number ≡ true =
-    eq-eqb (hart_of m t).number (hart_of m t).number refl in
+own-record : (m : Machine) (r : Record) → fits m r ≡ true → is_of r.thread (hart_of m r.thread).number r ≡ true
+own-record m r fit =
+    let thread : eqb r.thread r.thread ≡ true = eq-eqb r.thread r.thread refl in
+    let number : eqb r.number (hart_of m r.thread).number ≡ true =
+    eq-eqb r.number (hart_of m r.thread).number (fits-parts m r fit).number in
     rw (thread, number) refl
 
-other-record : (m : Machine) (t u : ℕ) → u ≢ t → is_of u (hart_of m u).number (record_of m t) ≡ false
-other-record m t u other =
-    let thread : eqb t u ≡ false = ne_eqb t u (λ same. other (sym same)) in
+other-record : (m : Machine) (r : Record) (u : ℕ) → u ≢ r.thread → is_of u (hart_of m u).number r ≡ false
+other-record m r u other =
+    let thread : eqb r.thread u ≡ false = ne_eqb r.thread u (λ same. other (sym same)) in
     rw thread refl
 
 pub next-place :
-    (past : Option History) (m : Machine) (front : List Record) (t : ℕ) (back : List Record)
-    → IsNext past m front t back → place_in past m t ≡ length front
-next-place past m front t back next =
-    ap (position_or_len (is_of t (hart_of m t).number)) next.split
-    ∙ position-after (is_of t (hart_of m t).number) front (record_of m t ∷ back) (made-none_next m t front next.made)
-    ∙ here (own-record m t)
+    (past : Option History) (m : Machine) (front : List Record) (r : Record) (back : List Record)
+    → IsNext past m front r back → place_in past m r.thread ≡ length front
+next-place past m front r back next =
+    ap (position_or_len (is_of r.thread (hart_of m r.thread).number)) next.split
+    ∙ position-after (is_of r.thread (hart_of m r.thread).number) front (r ∷ back)
+    (made-none_next m r.thread front next.made)
+    ∙ here (own-record m r next.fit)
   where
     here :
-        is_of t (hart_of m t).number (record_of m t) ≡ true
-        → length front + position_or_len (is_of t (hart_of m t).number) (record_of m t ∷ back) ≡ length front
+        is_of r.thread (hart_of m r.thread).number r ≡ true
+        → length front + position_or_len (is_of r.thread (hart_of m r.thread).number) (r ∷ back) ≡ length front
     here own = rw own (omega arith)
 
 pub other-place :
-    (past : Option History) (m : Machine) (front : List Record) (t : ℕ) (back : List Record) (u : ℕ)
-    → IsNext past m front t back → u ≢ t → length front < place_in past m u
-other-place past m front t back u next other =
+    (past : Option History) (m : Machine) (front : List Record) (r : Record) (back : List Record) (u : ℕ)
+    → IsNext past m front r back → u ≢ r.thread → length front < place_in past m u
+other-place past m front r back u next other =
     let split = ap (position_or_len (is_of u (hart_of m u).number)) next.split in
     let after =
-    position-after (is_of u (hart_of m u).number) front (record_of m t ∷ back) (made-none_next m u front next.made) in
-    let here = later (other-record m t u other) in
+    position-after (is_of u (hart_of m u).number) front (r ∷ back) (made-none_next m u front next.made) in
+    let here = later (other-record m r u other) in
     omega arith
   where
     later :
-        is_of u (hart_of m u).number (record_of m t) ≡ false
-        → 1 ≤ position_or_len (is_of u (hart_of m u).number) (record_of m t ∷ back)
+        is_of u (hart_of m u).number r ≡ false
+        → 1 ≤ position_or_len (is_of u (hart_of m u).number) (r ∷ back)
     later not_own = rw not_own (omega arith)
 
 pub next-found :
-    (past : Option History) (m : Machine) (front : List Record) (t : ℕ) (back : List Record)
-    → IsNext past m front t back → record_for past m t ≡ Some (record_of m t)
-next-found past m front t back next =
-    ap (find (is_of t (hart_of m t).number)) next.split
-    ∙ find-after (is_of t (hart_of m t).number) front (record_of m t ∷ back) (made-none_next m t front next.made)
-    ∙ here (own-record m t)
+    (past : Option History) (m : Machine) (front : List Record) (r : Record) (back : List Record)
+    → IsNext past m front r back → record_for past m r.thread ≡ Some r
+next-found past m front r back next =
+    ap (find (is_of r.thread (hart_of m r.thread).number)) next.split
+    ∙ find-after (is_of r.thread (hart_of m r.thread).number) front (r ∷ back)
+    (made-none_next m r.thread front next.made)
+    ∙ here (own-record m r next.fit)
   where
     here :
-        is_of t (hart_of m t).number (record_of m t) ≡ true
-        → find (is_of t (hart_of m t).number) (record_of m t ∷ back) ≡ Some (record_of m t)
+        is_of r.thread (hart_of m r.thread).number r ≡ true
+        → find (is_of r.thread (hart_of m r.thread).number) (r ∷ back) ≡ Some r
     here own = rw own refl
 
 pub next-fits :
-    (past : Option History) (m : Machine) (front : List Record) (t : ℕ) (back : List Record)
-    → IsNext past m front t back → fits_next past m t ≡ true
-next-fits past m front t back next =
-    ap (is_fitting m) (next-found past m front t back next) ∙ record-fits m t (can_step-ready m t next.can)
+    (past : Option History) (m : Machine) (front : List Record) (r : Record) (back : List Record)
+    → IsNext past m front r back → fits_next past m r.thread ≡ true
+next-fits past m front r back next = ap (is_fitting m) (next-found past m front r back next) ∙ next.fit
 
 all-at :
     (P : Record → Type 0) (rs : List Record) (j : ℕ) (d : Record) → AllByRecursion P rs → j < length rs
@@ -152,16 +155,16 @@ all-at P (r ∷ rs) (suc j) d all below = all-at P rs j d all.1 (omega arith)
 
 -- all in front is passed
 next-passed :
-    (h : History) (m : Machine) (front : List Record) (t : ℕ) (back : List Record) (a : ℕ)
-    → IsNext (Some h) m front t back → a < length front → is_passed_at (facts h) m a ≡ true
-next-passed h m front t back a next less =
+    (h : History) (m : Machine) (front : List Record) (r : Record) (back : List Record) (a : ℕ)
+    → IsNext (Some h) m front r back → a < length front → is_passed_at (facts h) m a ≡ true
+next-passed h m front r back a next less =
     let there : get_or h.records a no_record ≡ get_or front a no_record =
     ap (λ (rs : List Record). get_or rs a no_record) next.split
-    ∙ get_or_append_left front (record_of m t ∷ back) no_record a less in
+    ∙ get_or_append_left front (r ∷ back) no_record a less in
     let made : IsMadeOn m (get_or h.records a no_record) =
     subst (IsMadeOn m) (sym there) (all-at (IsMadeOn m) front a no_record next.made less) in
     let long = ap (λ (rs : List Record). length rs) next.split in
-    let parts = length-append front (record_of m t ∷ back) in
+    let parts = length-append front (r ∷ back) in
     let below : a < length h.records = omega arith in
     let thread = ap (λ (u : ℕ). (hart_of m u).number) (record-thread h a below) in
     let number = record-number h a next.numbered below in
@@ -169,20 +172,20 @@ next-passed h m front t back a next less =
     (lt-bit (number_at (facts h) a) (hart_of m (fact_at (facts h) a).thread).number (omega arith))
 
 pub next-due :
-    (past : Option History) (m : Machine) (front : List Record) (t : ℕ) (back : List Record)
-    → IsNext past m front t back → is_due past m t ≡ true
+    (past : Option History) (m : Machine) (front : List Record) (r : Record) (back : List Record)
+    → IsNext past m front r back → is_due past m r.thread ≡ true
 unfolding is_due
-next-due None m front t back next = refl
-next-due (Some h) m front t back next =
-    let place : place_in (Some h) m t ≡ length front = next-place (Some h) m front t back next in
+next-due None m front r back next = refl
+next-due (Some h) m front r back next =
+    let place : place_in (Some h) m r.thread ≡ length front = next-place (Some h) m front r back next in
     let long = ap (λ (rs : List Record). length rs) next.split in
-    let parts = length-append front (record_of m t ∷ back) in
-    placed-due h m t next.numbered (omega arith)
+    let parts = length-append front (r ∷ back) in
+    placed-due h m r.thread next.numbered (omega arith)
     ∙ ap (are_passed_before (facts h) m) place
     ∙ all-below-of (λ a. not (is_ancestor (facts h) a (length front)) || is_passed_at (facts h) m a) (length front)
     (λ a less.
     not-or (is_ancestor (facts h) a (length front)) (is_passed_at (facts h) m a)
-    (λ ancestor. next-passed h m front t back a next less))
+    (λ ancestor. next-passed h m front r back a next less))
 
 pub can_step-none : (m : Machine) (t : ℕ) → can_step m t ≡ true → m.ending ≡ None
 can_step-none m t can = none (m.ending) (and-left (is_none m.ending) (is_ready (hart_of m t).status) can)
@@ -193,21 +196,22 @@ can_step-none m t can = none (m.ending) (and-left (is_none m.ending) (is_ready (
 
 -- it is what is chosen
 pub next-chosen :
-    (past : Option History) (m : Machine) (front : List Record) (t : ℕ) (back : List Record)
-    → IsWhole m → IsNext past m front t back → choice_by past m none_in_flight ≡ Some t
-next-chosen past m front t back whole next = by (stands past m whole)
+    (past : Option History) (m : Machine) (front : List Record) (r : Record) (back : List Record)
+    → IsWhole m → IsNext past m front r back → choice_by past m none_in_flight ≡ Some r.thread
+next-chosen past m front r back whole next = by (stands past m whole)
   where
-    by : Stands past m → choice_by past m none_in_flight ≡ Some t
-    by (Over e is) = absurd (let none = can_step-none m t next.can in cc)
+    by : Stands past m → choice_by past m none_in_flight ≡ Some r.thread
+    by (Over e is) = absurd (let none = can_step-none m r.thread next.can in cc)
     by (Goes u none chosen can) =
-        elim (cases_eq u t) [
+        elim (cases_eq u r.thread) [
           | inl same ↦ chosen ∙ ap (λ (n : ℕ). Some n) same
           | inr other ↦ absurd
               (let least =
-              (choice_by-chosen past m none_in_flight u chosen).least t (free-ready m t ∙ can_step-ready m t next.can)
-              (next-due past m front t back next) in
-              let own = next-place past m front t back next in
-              let far = other-place past m front t back u next other in
+              (choice_by-chosen past m none_in_flight u chosen).least r.thread
+              (free-ready m r.thread ∙ can_step-ready m r.thread next.can)
+              (next-due past m front r back next) in
+              let own = next-place past m front r back next in
+              let far = other-place past m front r back u next other in
               omega arith)
         ]
 
@@ -244,17 +248,21 @@ honest-whole h xs ys honest split =
 pub honest-next :
     (h : History) (xs : List ℕ) (t : ℕ) (ys : List ℕ)
     → IsHonest h → schedule_of h ≡ xs ++ t ∷ ys
-    → IsNext (Some h) (scratch h.setup xs) (records h.setup xs) t (records_from (step (scratch h.setup xs) t) ys)
+    → IsNext (Some h) (scratch h.setup xs) (records h.setup xs) (record_of (scratch h.setup xs) t)
+    (records_from (step (scratch h.setup xs) t) ys)
 honest-next h xs t ys honest split =
     let permitted : is_permitted_from (first h.setup) (xs ++ t ∷ ys) ≡ true =
     ap (is_permitted_from (first h.setup)) (sym split) ∙ honest.permitted in
     let back : is_permitted_from (scratch h.setup xs) (t ∷ ys) ≡ true =
     permitted-back (first h.setup) xs (t ∷ ys) permitted in
+    let can : can_step (scratch h.setup xs) t ≡ true =
+    and-left (can_step (scratch h.setup xs) t) (is_permitted_from (step (scratch h.setup xs) t) ys) back in
     record {
       split = honest.recorded ∙ ap (records h.setup) split ∙ records-both (first h.setup) xs (t ∷ ys);
       numbered = honest-numbered h honest;
       made = made-all (first h.setup) xs (permitted-front (first h.setup) xs (t ∷ ys) permitted);
-      can = and-left (can_step (scratch h.setup xs) t) (is_permitted_from (step (scratch h.setup xs) t) ys) back;
+      can = can;
+      fit = record-fits (scratch h.setup xs) t (can_step-ready (scratch h.setup xs) t can);
     }
 
 -- after all steps of it there is an end
@@ -280,7 +288,8 @@ follow h (suc n) xs [] honest split =
 follow h (suc n) xs (t ∷ ys) honest split =
     let next = honest-next h xs t ys honest split in
     guided-next (Some h) n (scratch h.setup xs) t (can_step-none (scratch h.setup xs) t next.can)
-    (next-chosen (Some h) (scratch h.setup xs) (records h.setup xs) t (records_from (step (scratch h.setup xs) t) ys)
+    (next-chosen (Some h) (scratch h.setup xs) (records h.setup xs) (record_of (scratch h.setup xs) t)
+    (records_from (step (scratch h.setup xs) t) ys)
     (honest-whole h xs (t ∷ ys) honest split) next)
     ∙ ap (λ (m : Machine). t ∷ guided_from (Some h) n m) (sym (scratch-more (first h.setup) xs t))
     ∙ ap (λ (us : List ℕ). t ∷ us) (follow h n (xs ++ t ∷ []) ys honest (split ∙ sym (append_assoc xs (t ∷ []) ys)))
@@ -294,8 +303,8 @@ follow-marks h xs [] honest split = refl
 follow-marks h xs (t ∷ ys) honest split =
     let next = honest-next h xs t ys honest split in
     ap (λ (b : Bool). record { thread = t; reused = b } ∷ marked_from (Some h) (step (scratch h.setup xs) t) ys)
-    (next-fits (Some h) (scratch h.setup xs) (records h.setup xs) t (records_from (step (scratch h.setup xs) t) ys)
-    next)
+    (next-fits (Some h) (scratch h.setup xs) (records h.setup xs) (record_of (scratch h.setup xs) t)
+    (records_from (step (scratch h.setup xs) t) ys) next)
     ∙ ap (λ (m : Machine). record { thread = t; reused = true } ∷ marked_from (Some h) m ys)
     (sym (scratch-more (first h.setup) xs t))
     ∙ ap (λ (es : List Entry). record { thread = t; reused = true } ∷ es)

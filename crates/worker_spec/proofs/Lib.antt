@@ -8,6 +8,7 @@ pub mod Ending
 pub mod Picked
 pub mod Rightly
 pub mod Following
+pub mod Coherent
 pub mod Unedited
 pub mod Cost
 pub mod Replay

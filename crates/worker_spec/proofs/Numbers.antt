@@ -14,7 +14,7 @@ use Rattle.history_spec.proofs.Numbers.{one_for, step-number, scratch-number}
 abbrev pub IsMadeOn : Machine → Record → Type 0
 IsMadeOn m r = r.number < (hart_of m r.thread).number
 
-one_for-own : (t : ℕ) → one_for t t ≡ 1
+pub one_for-own : (t : ℕ) → one_for t t ≡ 1
 one_for-own t = let same : eqb t t ≡ true = eq-eqb t t refl in rw same refl
 
 pub made-all :

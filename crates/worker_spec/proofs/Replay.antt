@@ -2,18 +2,17 @@
 use Rattle.std.proofs.Common.{◌≡◌, ℕ, suc, Bool, true, false, List, [], ◌∷◌, ◌++◌, length, map, take, drop, Option, Some, is_some, refl, ap, sym, ◌∙◌, subst, append_assoc, append-nil, arith}
 use Rattle.std.proofs.Math.Seq.{take-append_seam}
 use Rattle.std.proofs.lemmas.Bool.{eqb-true}
-use Rattle.std.proofs.lemmas.List.{take_all, take-append-drop, length-append}
+use Rattle.std.proofs.lemmas.List.{take-append-drop, length-append}
 use Rattle.std.specs.List.{take-map}
 use Rattle.record_spec.specs.Record.{Record}
 use Rattle.machine_spec.specs.Machine.{Machine, hart_of, is_ready}
-use Rattle.machine_spec.specs.Step.{step, fits}
-use Rattle.machine_spec.specs.Schedule.{record_of, records_from}
-use Rattle.machine_spec.specs.Setup.{Setup, first, scratch, records}
+use Rattle.machine_spec.specs.Step.{apply, fits}
+use Rattle.machine_spec.specs.Setup.{Setup, IsSetup, first, scratch}
 use Rattle.machine_spec.specs.Whole.{IsWhole}
+use Rattle.machine_spec.proofs.Beginning.{IsWhole-first}
 use Rattle.machine_spec.proofs.Steps.{can_step-ready}
-use Rattle.history_spec.specs.History.{History, IsHonest, schedule_of}
-use Rattle.history_spec.proofs.Scratch.{scratch-more}
-use Rattle.history_spec.proofs.Truth.{record-fits, record-apply}
+use Rattle.history_spec.specs.History.{History, IsHonest, schedule_of, threads_of_records, applied_from, is_coherent}
+use Rattle.history_spec.proofs.Truth.{records-applied, honest-coherent}
 use Rattle.report_spec.specs.declared.Entry.{Entry}
 use Rattle.report_spec.specs.Report.{threads_of, instructions_from}
 use Rattle.round_spec.specs.declared.events.Event.{Event}
@@ -26,12 +25,12 @@ use Rattle.round_spec.specs.Due.{place_in, is_due}
 use Rattle.round_spec.specs.Choice.{choice_by, pick_of}
 use Rattle.round_spec.specs.Alone.{begun}
 use Rattle.round_spec.specs.Instructions.{executed_instructions}
-use Rattle.round_spec.specs.Unedited.{is_all_reused, all_reused_of, OnlyReuses}
+use Rattle.round_spec.specs.Unedited.{IsUnedited, is_all_reused, all_reused_of, OnlyReuses}
 use Rattle.round_spec.proofs.Conditions.{happens-commit_not, happens-give_back_not, happens-stop}
-use Rattle.round_spec.proofs.Fits.{threads-more}
 use Rattle.round_spec.proofs.Happening.{none_in_flight-none}
-use Rattle.worker_spec.specs.Replaying.{IsReplaying, IsNextStep, goes_on_by}
-use Rattle.worker_spec.proofs.Following.{IsNext, honest-next, honest-whole, honest-end, next-place, other-place, next-due, next-found, next-fits, next-chosen, can_step-none}
+use Rattle.worker_spec.specs.Replaying.{Repeats, HasReused, IsReplaying, IsNextStep, goes_on_by}
+use Rattle.worker_spec.proofs.Following.{IsNext, next-place, other-place, next-due, next-found, next-fits, next-chosen, can_step-none}
+use Rattle.worker_spec.proofs.Coherent.{applied-both, coherent-whole, coherent-next, coherent-end}
 use Rattle.worker_spec.proofs.Unedited.{reused-all, reused-instructions, reused-executed, unedited-begun}
 
 -- a list's first elements
@@ -56,63 +55,68 @@ pub length-threads : (es : List Entry) → length (threads_of es) ≡ length es
 length-threads [] = refl
 length-threads (e ∷ es) = ap suc (length-threads es)
 
-length-records : (m : Machine) (ts : List ℕ) → length (records_from m ts) ≡ length ts
-length-records m [] = refl
-length-records m (t ∷ ts) = ap suc (length-records (step m t) ts)
+length-records : (rs : List Record) → length (threads_of_records rs) ≡ length rs
+length-records [] = refl
+length-records (r ∷ rs) = ap suc (length-records rs)
 
 length-reused : (ts : List ℕ) → length (map reused_of ts) ≡ length ts
 length-reused [] = refl
 length-reused (t ∷ ts) = ap suc (length-reused ts)
 
-map-both : (xs ys : List ℕ) → map reused_of (xs ++ ys) ≡ map reused_of xs ++ map reused_of ys
-map-both [] ys = refl
-map-both (x ∷ xs) ys = ap (λ (es : List Entry). reused_of x ∷ es) (map-both xs ys)
+reused-both :
+    (xs ys : List Record)
+    → map reused_of (threads_of_records (xs ++ ys))
+    ≡ map reused_of (threads_of_records xs) ++ map reused_of (threads_of_records ys)
+reused-both [] ys = refl
+reused-both (x ∷ xs) ys = ap (λ (es : List Entry). reused_of x.thread ∷ es) (reused-both xs ys)
 
--- the threads so far are the history's first
-replayed-threads :
-    (h : History) (w : RoundState) → IsReplaying h w
-    → threads_of w.schedule ≡ take (length w.schedule) (schedule_of h)
-replayed-threads h w replays =
-    ap threads_of replays.schedule
-    ∙ sym (take-map (λ (e : Entry). e.thread) (length w.schedule) (all_reused_of h))
-    ∙ ap (take (length w.schedule)) (threads-reused (schedule_of h))
-
-replayed-split :
-    (h : History) (w : RoundState) → IsReplaying h w
-    → schedule_of h ≡ threads_of w.schedule ++ drop (length w.schedule) (schedule_of h)
-replayed-split h w replays =
-    sym (take-append-drop (length w.schedule) (schedule_of h))
-    ∙ ap (λ (ts : List ℕ). ts ++ drop (length w.schedule) (schedule_of h)) (sym (replayed-threads h w replays))
-
+-- the steps so far are those of the records, reused
 replayed-schedule :
-    (h : History) (w : RoundState) → IsReplaying h w
-    → map reused_of (threads_of w.schedule) ≡ w.schedule
-replayed-schedule h w replays =
-    ap (map reused_of) (replayed-threads h w replays)
-    ∙ sym (take-map reused_of (length w.schedule) (schedule_of h))
-    ∙ sym replays.schedule
+    (h : History) (w : RoundState) → HasReused h w → w.schedule ≡ map reused_of (threads_of_records w.records)
+replayed-schedule h w reused =
+    reused.schedule
+    ∙ take-map reused_of (length w.schedule) (schedule_of h)
+    ∙ ap (map reused_of) (take-map (λ (r : Record). r.thread) (length w.schedule) h.records)
+    ∙ ap (λ (rs : List Record). map reused_of (threads_of_records rs)) (sym reused.records)
 
--- where it stands: after all of the history, or before its next step
+replayed-length : (h : History) (w : RoundState) → HasReused h w → length w.records ≡ length w.schedule
+replayed-length h w reused =
+    let schedule = ap (λ (es : List Entry). length es) (replayed-schedule h w reused) in
+    let entries = length-reused (threads_of_records w.records) in
+    let records = length-records w.records in
+    omega arith
+
+-- where it stands: after all of the history, or before its next record
 data Replays (h : History) (w : RoundState) : Type 0 where
-  Done : schedule_of h ≡ threads_of w.schedule → is_some w.machine.ending ≡ true → Replays h w
+  Done : h.records ≡ w.records → is_some w.machine.ending ≡ true → Replays h w
   Next :
-      (t : ℕ) (ys : List ℕ) → schedule_of h ≡ threads_of w.schedule ++ t ∷ ys → IsWhole w.machine
-      → IsNext (Some h) w.machine (records h.setup (threads_of w.schedule)) t (records_from (step w.machine t) ys)
-      → Replays h w
+      (r : Record) (back : List Record) → h.records ≡ w.records ++ r ∷ back → IsWhole w.machine
+      → IsNext (Some h) w.machine w.records r back → Replays h w
 
-where-it-stands : (h : History) (w : RoundState) → IsHonest h → IsReplaying h w → Replays h w
-where-it-stands h w honest replays = by (drop (length w.schedule) (schedule_of h)) (replayed-split h w replays)
+-- what comes next, where it is known
+pub reused-next :
+    (h : History) (w : RoundState) (r : Record) (back : List Record)
+    → is_coherent h ≡ true → HasReused h w → h.records ≡ w.records ++ r ∷ back
+    → IsNext (Some h) w.machine w.records r back
+reused-next h w r back coherent reused split =
+    subst (λ (m : Machine). IsNext (Some h) m w.records r back) (sym reused.machine)
+    (coherent-next h w.records r back coherent split)
+
+where-it-stands :
+    (h : History) (w : RoundState) → IsSetup h.setup → is_coherent h ≡ true → HasReused h w → Replays h w
+where-it-stands h w valid coherent reused =
+    by (drop (length w.schedule) h.records)
+    (sym (take-append-drop (length w.schedule) h.records)
+    ∙ ap (λ (rs : List Record). rs ++ drop (length w.schedule) h.records) (sym reused.records))
   where
-    by : (rest : List ℕ) → schedule_of h ≡ threads_of w.schedule ++ rest → Replays h w
+    by : (rest : List Record) → h.records ≡ w.records ++ rest → Replays h w
     by [] split =
-        Done (split ∙ append-nil (threads_of w.schedule))
-        (ap (λ (m : Machine). is_some m.ending) replays.machine ∙ honest-end h (threads_of w.schedule) honest split)
-    by (t ∷ ys) split =
-        Next t ys split
-        (subst IsWhole (sym replays.machine) (honest-whole h (threads_of w.schedule) (t ∷ ys) honest split))
-        (subst (λ (m : Machine). IsNext (Some h) m (records h.setup (threads_of w.schedule)) t
-        (records_from (step m t) ys)) (sym replays.machine)
-        (honest-next h (threads_of w.schedule) t ys honest split))
+        Done (split ∙ append-nil w.records)
+        (ap (λ (m : Machine). is_some m.ending) reused.machine ∙ coherent-end h w.records coherent split)
+    by (r ∷ back) split =
+        Next r back split
+        (subst IsWhole (sym reused.machine) (coherent-whole h w.records (r ∷ back) valid coherent split))
+        (reused-next h w r back coherent reused split)
 
 -- what is picked
 
@@ -138,65 +142,90 @@ reuse-happens w t r going ready inside there fit = rw (going, ready, inside, the
 replay-in_flight : (h : History) (w : RoundState) (t : ℕ) → IsReplaying h w → is_in_flight w t ≡ false
 replay-in_flight h w t replays = ap (λ (in_flight : List Bool). is_in_flight_of in_flight t) replays.in_flight ∙ none_in_flight-none t
 
-replay-pick :
-    (h : History) (w : RoundState) (t : ℕ) (ys : List ℕ)
-    → IsReplaying h w → is_finished w ≡ false → IsWhole w.machine
-    → IsNext (Some h) w.machine (records h.setup (threads_of w.schedule)) t (records_from (step w.machine t) ys)
-    → pick_of w ≡ pick.Reuse t
-replay-pick h w t ys replays going whole next =
-    pick-reuse w t going
-    (ap (λ (past : Option History). choice_by past w.machine w.in_flight) replays.past
+replay-choice :
+    (h : History) (w : RoundState) (r : Record) (back : List Record)
+    → IsReplaying h w → IsWhole w.machine → IsNext (Some h) w.machine w.records r back
+    → choice_by w.past w.machine w.in_flight ≡ Some r.thread
+replay-choice h w r back replays whole next =
+    ap (λ (past : Option History). choice_by past w.machine w.in_flight) replays.reused.past
     ∙ ap (choice_by (Some h) w.machine) replays.in_flight
-    ∙ next-chosen (Some h) w.machine (records h.setup (threads_of w.schedule)) t (records_from (step w.machine t) ys)
-    whole next)
-    (ap (λ (past : Option History). fits_next past w.machine t) replays.past
-    ∙ next-fits (Some h) w.machine (records h.setup (threads_of w.schedule)) t (records_from (step w.machine t) ys)
-    next)
+    ∙ next-chosen (Some h) w.machine w.records r back whole next
 
--- the next step is reused
+replay-pick :
+    (h : History) (w : RoundState) (r : Record) (back : List Record)
+    → IsReplaying h w → is_finished w ≡ false → IsWhole w.machine → IsNext (Some h) w.machine w.records r back
+    → pick_of w ≡ pick.Reuse r.thread
+replay-pick h w r back replays going whole next =
+    pick-reuse w r.thread going (replay-choice h w r back replays whole next)
+    (ap (λ (past : Option History). fits_next past w.machine r.thread) replays.reused.past
+    ∙ next-fits (Some h) w.machine w.records r back next)
+
+-- its place comes after all entries so far
+reused-place :
+    (h : History) (w : RoundState) (r : Record) (back : List Record)
+    → HasReused h w → IsNext (Some h) w.machine w.records r back
+    → place_in w.past w.machine r.thread ≡ length w.schedule
+reused-place h w r back reused next =
+    ap (λ (past : Option History). place_in past w.machine r.thread) reused.past
+    ∙ next-place (Some h) w.machine w.records r back next ∙ replayed-length h w reused
+
+-- so has the record of any entry that comes after it
+pub reused-placed :
+    (h : History) (w v : RoundState) (r : Record)
+    → is_coherent h ≡ true → HasReused h w → HasReused h v → v.records ≡ w.records ++ r ∷ []
+    → place_in w.past w.machine r.thread ≡ length w.schedule
+reused-placed h w v r coherent reused after more =
+    let back : List Record = drop (length v.schedule) h.records in
+    reused-place h w r back reused
+    (reused-next h w r back coherent reused
+    (sym (take-append-drop (length v.schedule) h.records)
+    ∙ ap (λ (rs : List Record). rs ++ back) (sym after.records ∙ more)
+    ∙ append_assoc w.records (r ∷ []) back))
+
+-- and what is chosen while it replays its history
+pub chosen-place :
+    (h : History) (w : RoundState) (t : ℕ)
+    → IsSetup h.setup → is_coherent h ≡ true → IsReplaying h w → is_finished w ≡ false
+    → choice_by w.past w.machine w.in_flight ≡ Some t
+    → place_in w.past w.machine t ≡ length w.schedule
+chosen-place h w t valid coherent replays going chosen = by (where-it-stands h w valid coherent replays.reused)
+  where
+    by : Replays h w → place_in w.past w.machine t ≡ length w.schedule
+    by (Done same ended) = absurd (let over = rw ended at going in cc)
+    by (Next r back split whole next) =
+        let same : r.thread ≡ t = (let both = sym (replay-choice h w r back replays whole next) ∙ chosen in cc) in
+        subst (λ (u : ℕ). place_in w.past w.machine u ≡ length w.schedule) same
+        (reused-place h w r back replays.reused next)
+
+-- the next record is reused
 
 replayed-more :
-    (h : History) (w : RoundState) (t : ℕ) (ys : List ℕ)
-    → IsReplaying h w
-    → schedule_of h ≡ threads_of w.schedule ++ t ∷ ys
-    → IsWhole w.machine
-    → IsNext (Some h) w.machine (records h.setup (threads_of w.schedule)) t (records_from (step w.machine t) ys)
-    → IsReplaying h (reused_by w t (Some (record_of w.machine t)))
-replayed-more h w t ys replays split whole next =
+    (h : History) (w : RoundState) (r : Record) (back : List Record)
+    → IsReplaying h w → h.records ≡ w.records ++ r ∷ back → IsReplaying h (reused_by w r.thread (Some r))
+replayed-more h w r back replays split =
+    let reused = replays.reused in
+    let long = replayed-length h w reused in
+    let entries = length-append w.schedule (reused_of r.thread ∷ []) in
+    let records = length-append w.records (r ∷ []) in
     record {
-      setup = replays.setup;
-      past = replays.past;
-      machine =
-          record-apply w.machine t whole next.can
-          ∙ ap (λ (m : Machine). step m t) replays.machine
-          ∙ sym (scratch-more (first h.setup) (threads_of w.schedule) t)
-          ∙ ap (scratch h.setup) (sym (threads-more w.schedule (reused_of t)));
-      schedule =
-          grown (all_reused_of h) w.schedule (reused_of t) (map reused_of ys) (length (w.schedule ++ reused_of t ∷ []))
-          (ap (map reused_of) split ∙ map-both (threads_of w.schedule) (t ∷ ys)
-          ∙ ap (λ (es : List Entry). es ++ reused_of t ∷ map reused_of ys) (replayed-schedule h w replays)) refl;
-      records =
-          ap (λ (rs : List Record). rs ++ record_of w.machine t ∷ []) so_far
-          ∙ grown h.records (records h.setup (threads_of w.schedule)) (record_of w.machine t)
-          (records_from (step w.machine t) ys)
-          (length (w.schedule ++ reused_of t ∷ [])) next.split
-          (let entries = length-append w.schedule (reused_of t ∷ []) in
-          let kept = length-append (records h.setup (threads_of w.schedule)) (record_of w.machine t ∷ []) in
-          let same = length-records (first h.setup) (threads_of w.schedule) in
-          let threads = length-threads w.schedule in
-          omega arith);
+      reused =
+          record {
+            setup = reused.setup;
+            past = reused.past;
+            machine =
+                ap (λ (m : Machine). apply m r) reused.machine ∙ sym (applied-both (first h.setup) w.records (r ∷ []));
+            schedule =
+                grown (all_reused_of h) w.schedule (reused_of r.thread) (map reused_of (threads_of_records back))
+                (length (w.schedule ++ reused_of r.thread ∷ []))
+                (ap (λ (rs : List Record). map reused_of (threads_of_records rs)) split ∙ reused-both w.records (r ∷ back)
+                ∙ ap (λ (es : List Entry). es ++ reused_of r.thread ∷ map reused_of (threads_of_records back))
+                (sym (replayed-schedule h w reused))) refl;
+            records = grown h.records w.records r back (length (w.schedule ++ reused_of r.thread ∷ [])) split
+                (omega (arith, long, entries, records));
+          };
       in_flight = replays.in_flight;
       discarded = replays.discarded;
     }
-  where
-    so_far : w.records ≡ records h.setup (threads_of w.schedule)
-    so_far =
-        replays.records ∙ ap (take (length w.schedule)) next.split
-        ∙ ap (λ (n : ℕ). take n (records h.setup (threads_of w.schedule) ++ record_of w.machine t ∷ records_from
-        (step w.machine t) ys))
-        (sym (length-records (first h.setup) (threads_of w.schedule) ∙ length-threads w.schedule))
-        ∙ take-append_seam (records h.setup (threads_of w.schedule))
-        (record_of w.machine t ∷ records_from (step w.machine t) ys)
 
 -- what picks and events have to do with each other
 
@@ -216,131 +245,129 @@ take-never :
     (h : History) (w : RoundState) (u : ℕ) (over : Bool)
     → IsReplaying h w → Replays h w → is_finished w ≡ over → goes_on_by (pick_of w) (Take u) ≡ true → ⊥
 take-never h w u true replays place is goes = over-takes_nothing (pick_of w) u (pick-over w is) goes
-take-never h w u false replays (Done split ended) is goes = let over = rw ended at is in cc
-take-never h w u false replays (Next t ys split whole next) is goes =
-    reuse-takes_nothing (pick_of w) t u (replay-pick h w t ys replays is whole next) goes
+take-never h w u false replays (Done same ended) is goes = let over = rw ended at is in cc
+take-never h w u false replays (Next r back split whole next) is goes =
+    reuse-takes_nothing (pick_of w) r.thread u (replay-pick h w r back replays is whole next) goes
 
 reuse-replays :
     (h : History) (w : RoundState) (u : ℕ) (over : Bool)
     → IsReplaying h w → Replays h w → is_finished w ≡ over → goes_on_by (pick_of w) (Reuse u) ≡ true
     → IsReplaying h (happens w (Reuse u))
 reuse-replays h w u true replays place is goes = absurd (over-reuses_nothing (pick_of w) u (pick-over w is) goes)
-reuse-replays h w u false replays (Done split ended) is goes = absurd (let over = rw ended at is in cc)
-reuse-replays h w u false replays (Next t ys split whole next) is goes =
+reuse-replays h w u false replays (Done same ended) is goes = absurd (let over = rw ended at is in cc)
+reuse-replays h w u false replays (Next r back split whole next) is goes =
     subst (λ (v : ℕ). IsReplaying h (happens w (Reuse v)))
-    (reuse-same (pick_of w) t u (replay-pick h w t ys replays is whole next) goes)
+    (reuse-same (pick_of w) r.thread u (replay-pick h w r back replays is whole next) goes)
     (subst (IsReplaying h)
-    (sym (reuse-happens w t (record_of w.machine t) is (can_step-ready w.machine t next.can) (replay-in_flight h w t replays)
-    (ap (λ (past : Option History). record_for past w.machine t) replays.past
-    ∙ next-found (Some h) w.machine (records h.setup (threads_of w.schedule)) t (records_from (step w.machine t) ys)
-    next)
-    (record-fits w.machine t (can_step-ready w.machine t next.can))))
-    (replayed-more h w t ys replays split whole next))
+    (sym (reuse-happens w r.thread r is (can_step-ready w.machine r.thread next.can) (replay-in_flight h w r.thread replays)
+    (ap (λ (past : Option History). record_for past w.machine r.thread) replays.reused.past
+    ∙ next-found (Some h) w.machine w.records r back next)
+    next.fit))
+    (replayed-more h w r back replays split))
 
 -- the round replays its history from its start on, as long as it goes on by what is picked
 pub replays-start : (h : History) → IsReplaying h (opening h.setup (Some h))
 replays-start h =
-    record { setup = refl; past = refl; machine = refl; schedule = refl; records = refl; in_flight = refl; discarded = refl }
+    record {
+      reused = record { setup = refl; past = refl; machine = refl; schedule = refl; records = refl };
+      in_flight = refl;
+      discarded = refl;
+    }
+
+-- without an edit since an honest history there is none since one that holds together
+pub unedited-repeats : (h : History) (setup : Setup) → IsUnedited h setup → Repeats h setup
+unedited-repeats h setup unedited =
+    record { coherent = honest-coherent h unedited.honest; same = unedited.same }
 
 pub replays-on :
-    (h : History) (w : RoundState) (e : Event) → IsHonest h → IsReplaying h w → goes_on_by (pick_of w) e ≡ true
-    → IsReplaying h (happens w e)
-replays-on h w (Take u) honest replays goes =
-    absurd (take-never h w u (is_finished w) replays (where-it-stands h w honest replays) refl goes)
-replays-on h w (Reuse u) honest replays goes =
-    reuse-replays h w u (is_finished w) replays (where-it-stands h w honest replays) refl goes
-replays-on h w (Commit u) honest replays goes =
+    (h : History) (w : RoundState) (e : Event) → IsSetup h.setup → is_coherent h ≡ true → IsReplaying h w
+    → goes_on_by (pick_of w) e ≡ true → IsReplaying h (happens w e)
+replays-on h w (Take u) valid coherent replays goes =
+    absurd (take-never h w u (is_finished w) replays (where-it-stands h w valid coherent replays.reused) refl goes)
+replays-on h w (Reuse u) valid coherent replays goes =
+    reuse-replays h w u (is_finished w) replays (where-it-stands h w valid coherent replays.reused) refl goes
+replays-on h w (Commit u) valid coherent replays goes =
     subst (IsReplaying h) (sym (happens-commit_not w u (replay-in_flight h w u replays))) replays
-replays-on h w (GiveBack u) honest replays goes =
+replays-on h w (GiveBack u) valid coherent replays goes =
     subst (IsReplaying h) (sym (happens-give_back_not w u (replay-in_flight h w u replays))) replays
-replays-on h w Stop honest replays goes =
+replays-on h w Stop valid coherent replays goes =
     subst (IsReplaying h) (sym (happens-stop w))
     (record {
-      setup = replays.setup;
-      past = replays.past;
-      machine = replays.machine;
-      schedule = replays.schedule;
-      records = replays.records;
+      reused =
+          record {
+            setup = replays.reused.setup;
+            past = replays.reused.past;
+            machine = replays.reused.machine;
+            schedule = replays.reused.schedule;
+            records = replays.reused.records;
+          };
       in_flight = replays.in_flight;
       discarded = replays.discarded;
     })
 
 -- what comes next is due, comes first, and is picked
 next-step :
-    (h : History) (w : RoundState) (t : ℕ) (ys : List ℕ)
-    → IsReplaying h w → is_finished w ≡ false → IsWhole w.machine
-    → IsNext (Some h) w.machine (records h.setup (threads_of w.schedule)) t (records_from (step w.machine t) ys)
-    → IsNextStep w t
-next-step h w t ys replays going whole next =
-    let long : length (records h.setup (threads_of w.schedule)) ≡ length w.schedule =
-    length-records (first h.setup) (threads_of w.schedule) ∙ length-threads w.schedule in
-    let back : List Record = records_from (step w.machine t) ys in
+    (h : History) (w : RoundState) (r : Record) (back : List Record)
+    → IsReplaying h w → is_finished w ≡ false → IsWhole w.machine → IsNext (Some h) w.machine w.records r back
+    → IsNextStep w r.thread
+next-step h w r back replays going whole next =
+    let long = replayed-length h w replays.reused in
     record {
-      picked = replay-pick h w t ys replays going whole next;
+      picked = replay-pick h w r back replays going whole next;
       due =
-          ap (λ (past : Option History). is_due past w.machine t) replays.past
-          ∙ next-due (Some h) w.machine (records h.setup (threads_of w.schedule)) t back next;
-      place =
-          ap (λ (past : Option History). place_in past w.machine t) replays.past
-          ∙ next-place (Some h) w.machine (records h.setup (threads_of w.schedule)) t back next ∙ long;
+          ap (λ (past : Option History). is_due past w.machine r.thread) replays.reused.past
+          ∙ next-due (Some h) w.machine w.records r back next;
+      place = reused-place h w r back replays.reused next;
       least = λ other apart.
-          let here = ap (λ (past : Option History). place_in past w.machine other) replays.past in
-          let far = other-place (Some h) w.machine (records h.setup (threads_of w.schedule)) t back other next apart in
+          let here = ap (λ (past : Option History). place_in past w.machine other) replays.reused.past in
+          let far = other-place (Some h) w.machine w.records r back other next apart in
           omega arith;
     }
 
 pub replays-next :
-    (h : History) (w : RoundState) → IsHonest h → IsReplaying h w → is_finished w ≡ false
+    (h : History) (w : RoundState) → IsSetup h.setup → is_coherent h ≡ true → IsReplaying h w → is_finished w ≡ false
     → (t : ℕ) × IsNextStep w t
-replays-next h w honest replays going = by (where-it-stands h w honest replays)
+replays-next h w valid coherent replays going = by (where-it-stands h w valid coherent replays.reused)
   where
     by : Replays h w → (t : ℕ) × IsNextStep w t
-    by (Done split ended) = absurd (let over = rw ended at going in cc)
-    by (Next t ys split whole next) = (t, next-step h w t ys replays going whole next)
+    by (Done same ended) = absurd (let over = rw ended at going in cc)
+    by (Next r back split whole next) = (r.thread, next-step h w r back replays going whole next)
 
--- at its end it was all reuse
+-- by an honest history it was all reuse at its end
 pub replays-end :
     (h : History) (w : RoundState)
     → IsHonest h → IsReplaying h w → is_some w.machine.ending ≡ true → OnlyReuses h w
-replays-end h w honest replays ended = by (where-it-stands h w honest replays)
+replays-end h w honest replays ended =
+    by (where-it-stands h w honest.valid (honest-coherent h honest) replays.reused)
   where
     by : Replays h w → OnlyReuses h w
-    by (Done split there) =
+    by (Done same there) =
         let schedule : w.schedule ≡ all_reused_of h =
-        replays.schedule
-        ∙ take_all (length w.schedule) (all_reused_of h)
-        (let steps = length-reused (schedule_of h) in
-        let threads = length-threads w.schedule in
-        let same = ap (λ (ts : List ℕ). length ts) split in
-        omega arith) in
+        replayed-schedule h w replays.reused
+        ∙ ap (λ (rs : List Record). map reused_of (threads_of_records rs)) (sym same) in
         record {
           schedule = schedule;
           reused = ap is_all_reused schedule ∙ reused-all (schedule_of h);
           begun =
-              ap (λ (s : Setup). begun s w.past) replays.setup
-              ∙ ap (begun h.setup) replays.past
+              ap (λ (s : Setup). begun s w.past) replays.reused.setup
+              ∙ ap (begun h.setup) replays.reused.past
               ∙ unedited-begun h honest;
           executed =
               ap (λ (es : List Entry). executed_instructions es w.records) schedule
               ∙ reused-executed (schedule_of h) w.records;
           discarded = replays.discarded;
-          machine = replays.machine ∙ ap (scratch h.setup) (sym split);
-          records =
-              replays.records
-              ∙ take_all (length w.schedule) h.records
-              (let kept = ap (λ (rs : List Record). length rs) honest.recorded in
-              let steps = length-records (first h.setup) (schedule_of h) in
-              let threads = length-threads w.schedule in
-              let same = ap (λ (ts : List ℕ). length ts) split in
-              omega arith);
+          machine =
+              replays.reused.machine ∙ ap (applied_from (first h.setup)) (sym same ∙ honest.recorded)
+              ∙ records-applied (first h.setup) (schedule_of h) (IsWhole-first h.setup honest.valid) honest.permitted;
+          records = sym same;
         }
-    by (Next t ys split whole next) =
-        absurd (let none = can_step-none w.machine t next.can in let impossible = rw none at ended in cc)
+    by (Next r back split whole next) =
+        absurd (let none = can_step-none w.machine r.thread next.can in let impossible = rw none at ended in cc)
 
 -- and on the way nothing is executed
 pub replays-instructions :
     (h : History) (w : RoundState) → IsReplaying h w
     → instructions_from (first h.setup) w.schedule ≡ 0
 replays-instructions h w replays =
-    ap (instructions_from (first h.setup)) (sym (replayed-schedule h w replays))
-    ∙ reused-instructions (first h.setup) (threads_of w.schedule)
+    ap (instructions_from (first h.setup)) (replayed-schedule h w replays.reused)
+    ∙ reused-instructions (first h.setup) (threads_of_records w.records)

@@ -5,7 +5,7 @@ use Rattle.std.specs.List.{range_with_len}
 use Rattle.record_spec.specs.Record.{Record}
 use Rattle.machine_spec.specs.Machine.{Machine}
 use Rattle.machine_spec.specs.Step.{step}
-use Rattle.machine_spec.specs.Schedule.{records_from}
+use Rattle.machine_spec.specs.Schedule.{record_of, records_from}
 use Rattle.machine_spec.specs.Setup.{first, scratch, records}
 use Rattle.history_spec.specs.History.{History, IsHonest, IsSound, schedule_of}
 use Rattle.report_spec.specs.declared.Entry.{Entry}
@@ -68,14 +68,15 @@ made-not_run h xs [] u honest split =
     (range_with_len 0 (length xs)) (honest-end h xs honest split))
 made-not_run h xs (t ∷ ys) u honest split =
     let next = honest-next h xs t ys honest split in
+    let own : Record = record_of (scratch h.setup xs) t in
     let back : List Record = records_from (step (scratch h.setup xs) t) ys in
     reuse-not_run (pick_of (made_by h.setup (Some h) xs)) t u
     (pick-chosen h.setup (Some h) (scratch h.setup xs) (marked (Some h) h.setup xs) (records h.setup xs)
     (range_with_len 0 (length xs)) t (running (scratch h.setup xs) (can_step-none (scratch h.setup xs) t next.can))
-    (next-chosen (Some h) (scratch h.setup xs) (records h.setup xs) t back (honest-whole h xs (t ∷ ys) honest split)
+    (next-chosen (Some h) (scratch h.setup xs) (records h.setup xs) own back (honest-whole h xs (t ∷ ys) honest split)
     next)
     ∙ ap (λ (b : Bool). cond b (pick.Reuse t) (pick.Run t))
-    (next-fits (Some h) (scratch h.setup xs) (records h.setup xs) t back next))
+    (next-fits (Some h) (scratch h.setup xs) (records h.setup xs) own back next))
 
 pub unedited-never_runs :
     (h : History) (n u : ℕ) → IsHonest h

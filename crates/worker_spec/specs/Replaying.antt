@@ -1,8 +1,7 @@
 -- Rounds that have done nothing yet but what the history that they go by did, step by step.
 use Rattle.std.specs.Prelude.{◌≡◌, ◌≢◌, ◌<◌, ℕ, Bool, true, false, ◌==◌, length, take, Some}
-use Rattle.machine_spec.specs.Setup.{scratch}
-use Rattle.history_spec.specs.History.{History}
-use Rattle.report_spec.specs.Report.{threads_of}
+use Rattle.machine_spec.specs.Setup.{Setup, first}
+use Rattle.history_spec.specs.History.{History, applied_from, is_coherent}
 use Rattle.round_spec.specs.declared.events.Event.{Event}
 use Rattle.round_spec.specs.declared.events.Event.TheVariants.{Take, Reuse, Commit, GiveBack, Stop}
 use Rattle.round_spec.specs.declared.events.Pick.{Pick}
@@ -12,14 +11,22 @@ use Rattle.round_spec.specs.Due.{place_in, is_due}
 use Rattle.round_spec.specs.Choice.{pick_of}
 use Rattle.round_spec.specs.Unedited.{all_reused_of}
 
--- A round of the history's own setup that has reused the history's first steps in order and done nothing else: its
--- records are the history's, nobody is in flight, and nothing was discarded.
-pub record IsReplaying (h : History) (w : RoundState) : Type 0 where
+-- A setup without an edit since a history that holds together, honest or not.
+pub record Repeats (h : History) (setup : Setup) : Type 0 where
+  pub coherent : is_coherent h ≡ true
+  pub same : h.setup ≡ setup
+
+-- A round of the history's own setup whose steps so far are the history's first, in order, each of them reused.
+pub record HasReused (h : History) (w : RoundState) : Type 0 where
   pub setup : w.setup ≡ h.setup
   pub past : w.past ≡ Some h
-  pub machine : w.machine ≡ scratch h.setup (threads_of w.schedule)
+  pub machine : w.machine ≡ applied_from (first h.setup) w.records
   pub schedule : w.schedule ≡ take (length w.schedule) (all_reused_of h)
   pub records : w.records ≡ take (length w.schedule) h.records
+
+-- Such a round that has done nothing else: nobody is in flight, and nothing was discarded.
+pub record IsReplaying (h : History) (w : RoundState) : Type 0 where
+  pub reused : HasReused h w
   pub in_flight : w.in_flight ≡ none_in_flight
   pub discarded : w.discarded ≡ 0
 

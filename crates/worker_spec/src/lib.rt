@@ -8,7 +8,7 @@
 ghost use Rattle.std.specs.Prelude.{◌≡◌, ◌≢◌, ◌<◌, ℕ, true, false, List, length, sum, Option, Some, is_some};
 ghost use Rattle.std.specs.List.{range_with_len};
 ghost use Rattle.machine_spec.specs.Setup.{Setup, IsSetup, first, is_permitted, is_complete};
-ghost use Rattle.history_spec.specs.History.{History, IsHonest, IsSound, CanGoBy, schedule_of};
+ghost use Rattle.history_spec.specs.History.{History, IsHonest, IsSound, CanGoBy, schedule_of, is_coherent};
 ghost use Rattle.report_spec.specs.declared.Entry.{Entry};
 ghost use Rattle.report_spec.specs.Report.{threads_of, instructions_from};
 ghost use Rattle.round_spec.specs.declared.events.Event.{Event};
@@ -22,7 +22,7 @@ ghost use Rattle.round_spec.specs.Picking.{ArePicked, IsPickedSoFar};
 ghost use Rattle.round_spec.specs.Unedited.{IsUnedited, OnlyReuses};
 ghost use Rattle.worker_spec.specs.OneWorker.{made_by, executed_in, ReusesAll};
 ghost use Rattle.worker_spec.specs.Workers.{IsMadeBy, MakeFromScratch};
-ghost use Rattle.worker_spec.specs.Replaying.{IsReplaying, IsNextStep, goes_on_by};
+ghost use Rattle.worker_spec.specs.Replaying.{Repeats, IsReplaying, IsNextStep, goes_on_by};
 
 /// How often a watcher looks at most how many steps of a round were made.
 pub const MOST_LOOKS: usize = 1_024;
@@ -187,21 +187,23 @@ pub fn no_edit_reuses_all()
     ensures { (h : History) (setup : Setup) → IsUnedited h setup → ReusesAll h setup }
 {}
 
-/// Without an edit the same holds by any number of workers, at each moment: as long as a step is begun
-/// only where it was picked, a round replays its history. Nobody is ever in flight; until it is finished, the history's
-/// next step is due, comes first, and is picked to be reused; no instruction is executed; and at its end
-/// the round is all reuse.
+/// Without an edit the same holds by any number of workers, at each moment, and whenever the history holds together,
+/// honest or not: as long as a step is begun only where it was picked, a round replays its history. Nobody is ever in
+/// flight; until it is finished, the history's next step is due, comes first, and is picked to be reused; and no
+/// instruction is executed. By an honest history the round is all reuse at its end.
 pub fn no_edit_replays_the_history()
     ensures start { (h : History) (setup : Setup)
-        → IsUnedited h setup
+        → Repeats h setup
         → IsReplaying h (opening setup (Some h)) }
     ensures event { (h : History) (w : RoundState) (e : Event)
-        → IsHonest h
+        → IsSetup h.setup
+        → is_coherent h ≡ true
         → IsReplaying h w
         → goes_on_by (pick_of w) e ≡ true
         → IsReplaying h (happens w e) }
     ensures next { (h : History) (w : RoundState)
-        → IsHonest h
+        → IsSetup h.setup
+        → is_coherent h ≡ true
         → IsReplaying h w
         → is_finished w ≡ false
         → (t : ℕ) × IsNextStep w t }

@@ -8,7 +8,7 @@ use Rattle.worker_spec.proofs.no_edit_replays_the_history.Goals as goal
 
 pub returns-clause-start : goal.returns-clause-start
 returns-clause-start c =
-    λ h setup unedited. subst (λ (s : Setup). IsReplaying h (opening s (Some h))) unedited.same (replays-start h)
+    λ h setup repeats. subst (λ (s : Setup). IsReplaying h (opening s (Some h))) repeats.same (replays-start h)
 
 pub returns-clause-event : goal.returns-clause-event
 returns-clause-event c = replays-on

@@ -8,3 +8,4 @@ use Rattle.propagate.proofs.alone.follow_picks.Given as goal
 abbrev pub invariant-loop-followed : goal.invariant-loop-followed
 invariant-loop-followed g l =
     IsPartWay (l.most - l.followed) (after_picks l.most l.fn.round) l.fn.round l.round l.fn.turns l.turns
+    l.fn.compared l.compared

@@ -16,6 +16,6 @@ returns-clause-round g c =
 
 pub returns-clause-cost : goal.returns-clause-cost
 returns-clause-cost g c =
-    cost-first c.args.workers c.args.turns c.run_alone_shown.new.turns c.args.setup (option_map arc_value c.args.past)
+    cost-first c.args.workers c.args.effort.turns c.run_alone_shown.new.turns c.args.setup (option_map arc_value c.args.past)
     c.in_ok-round.round c.in_ok-worker_steps.worker_steps.items (returns-clause-round g c) c.in_ok-round.ensures.cost
     c.requires.unused c.requires.idle

@@ -11,4 +11,5 @@ invariant_of-pass g c =
       edited = c.args.pass.now.edited;
       once = let ready = c.requires.ready in let one = c.raise.ensures in omega (arith, ready, one);
       idle = λ h past unedited. absurd (c.requires.edited h past unedited);
+      spares = c.args.pass.now.spares;
     }

@@ -121,7 +121,7 @@ invariant_of-self-2 c =
     c.marks_after.result (arc_value c.args.run.now.frame) (arc_value c.args.run.now.rec) c.self.invariant (can c)
     c.args.run.now.honest (made c)
     (ap (λ n. c.self.inside.instructions + n) count_is) few
-    (commit-as-before (before c) (after c) (arc_value c.args.run.now.rec) c.self.inside.marks c.marks_after.result
+    (commit-as-before (before c) (after c) _ (arc_value c.args.run.now.rec) c.self.inside.marks c.marks_after.result
     c.self.invariant.as_before c.self.invariant.in_order.whole (can c).fit
     (subst (λ (r : Record). MayBeMarks (before c).past (length (before c).records) r c.self.inside.marks c.marks_after.result)
     c.deref-3.ensures
@@ -132,8 +132,14 @@ invariant_of-self-2 c =
     (subst
     (λ (k : ℕ). MayBeMarks (before c).past k c.deref-3.result.now c.take.result c.marks_after.result)
     (c.len-place.ensures ∙ c.self.inside.schedule.ok.0 ∙ sym (record_count (before c) c.self.invariant.counted)) c.marks_after.ensures)))
-    (ap (λ (w : RoundState). w.past) (made c)) (ap (λ (w : RoundState). w.machine) (made c))
-    (ap (λ (w : RoundState). w.records) (made c)))
+    refl
+    (record {
+      setup = refl;
+      past = refl;
+      machine = ap (λ (w : RoundState). w.machine) (made c);
+      schedule = ap (λ (w : RoundState). w.schedule) (made c);
+      records = ap (λ (w : RoundState). w.records) (made c);
+    }))
 
 pub returns-clause-ok : goal.returns-clause-ok
 returns-clause-ok c =

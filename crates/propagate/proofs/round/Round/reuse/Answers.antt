@@ -1,5 +1,5 @@
 -- What is left to prove of `Round::reuse`.
-use Rattle.std.proofs.Common.{◌≡◌, length, Bool, true, cond, Option, Some, None, Vec, option_map, refl, ap, sym, subst, ◌∙◌}
+use Rattle.std.proofs.Common.{◌≡◌, length, eqb, Bool, true, cond, Option, Some, None, Vec, option_map, refl, ap, sym, subst, ◌∙◌}
 use Rattle.std.proofs.lemmas.Result.{err_from_is_err_and}
 use Rattle.std.specs.Arc.{arc_value}
 use Rattle.std.specs.Global.{Global}
@@ -116,14 +116,20 @@ invariant_of-self-3 c =
     reuse-kept (start c) (after c) c.self.inside.instructions c.args.t c.self.inside.graph c.self.inside.marks
     c.marks_if.result (arc_value c.in_ok-rec-in-Some.rec) c.self.invariant (can-2 c) (there-2 c) (made c)
     (subst (IsAsBefore (after c))
-    (ap (λ (m : Option (Vec Bool Global)). cond c.comes_next-next.result m None) (sym c.take.ensures.value) ∙ sym c.marks_if.ensures)
-    (reuse-as-before (start c) (after c) c.args.t (arc_value c.in_ok-rec-in-Some.rec) c.self.inside.marks
-    c.comes_next-next.result c.self.invariant.as_before c.self.invariant.in_order.whole
+    (ap (λ (m : Option (Vec Bool Global)). cond c.is_next-next.result m None) (sym c.take.ensures.value) ∙ sym c.marks_if.ensures)
+    (reuse-as-before (start c) (after c) c.args.t _ (arc_value c.in_ok-rec-in-Some.rec) c.self.inside.marks
+    c.is_next-next.result c.self.invariant.as_before c.self.invariant.in_order.whole c.self.invariant.applied
     (record_count (start c) c.self.invariant.counted)
-    (λ on. subst (λ (w : RoundState). place_in w.past w.machine c.args.t ≡ length w.schedule) (sym c.self.view_is)
-    (c.comes_next-next.ensures on))
-    (there-2 c) (can-2 c) (ap (λ (w : RoundState). w.past) (made c)) (ap (λ (w : RoundState). w.machine) (made c))
-    (ap (λ (w : RoundState). w.records) (made c))))
+    (c.is_next-next.ensures
+    ∙ ap (λ (w : RoundState). eqb (place_in w.past w.machine c.args.t) (length w.schedule)) (sym c.self.view_is))
+    (there-2 c) (can-2 c)
+    (record {
+      setup = refl;
+      past = refl;
+      machine = ap (λ (w : RoundState). w.machine) (made c);
+      schedule = ap (λ (w : RoundState). w.schedule) (made c);
+      records = ap (λ (w : RoundState). w.records) (made c);
+    })))
 
 pub returns-clause-ok : goal.returns-clause-ok
 returns-clause-ok c =

@@ -45,4 +45,5 @@ invariant_of-self c =
     c.self.inside.marks c.self.inside.marks c.self.invariant is refl refl
     (record { machine = c.self.invariant.applied.machine; can = c.self.invariant.applied.can })
     c.self.invariant.points c.self.invariant.executed c.self.invariant.few
-    (as-before-same w v c.self.inside.marks c.self.invariant.as_before refl refl refl)
+    (as-before-same w v c.self.inside.marks c.self.invariant.as_before
+    (record { setup = refl; past = refl; machine = refl; schedule = refl; records = refl }))

@@ -1,0 +1,39 @@
+//! What a worker's work takes.
+
+ghost use Rattle.std.specs.Prelude.{◌≡◌, ◌+◌};
+
+use std::thread::Threads;
+use thunk_record::Compared;
+use turn_count::Turns;
+
+/// What a worker's work takes. At run time it has no bytes.
+#[derive(Drop)]
+pub struct Effort {
+    /// How many turns it executed.
+    pub turns: Turns,
+    /// How many read pages it compared, to find whether records fit.
+    pub compared: Compared,
+}
+
+impl Effort {
+    /// None so far; it is made by who is lent the runtime.
+    pub fn new<R: Threads>(rt: &R) -> Effort
+        ensures turns { result.turns ≡ 0 }
+        ensures compared { result.compared ≡ 0 }
+    {
+        Effort {
+            turns: Turns::new(rt),
+            compared: Compared::new(rt),
+        }
+    }
+
+    /// Another's is added.
+    pub(super) fn merge(&mut self, other: Effort)
+        ensures turns { self.new.turns ≡ self.old.turns + other.turns }
+        ensures compared { self.new.compared ≡ self.old.compared + other.compared }
+    {
+        let Effort { turns, compared } = other;
+        self.turns.merge(turns);
+        self.compared.merge(compared);
+    }
+}
