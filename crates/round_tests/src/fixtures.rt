@@ -21,7 +21,7 @@ use thunk_spec::ThunkEnd;
 
 /// lui a0,0x10; addi a0,a0,0x20; addi a1,x0,3; addi a7,x0,1; ecall; addi a0,x0,0; addi a7,x0,0;
 /// ecall; and "hi\n", in one segment at 0x10000.
-pub(super) const HI: [u8; 119] = [
+const HI: [u8; 119] = [
     0x7f, 0x45, 0x4c, 0x46, 0x01, 0x01, 0x01, 0x00, 0x00, 0x00, 0x00, 0x00, 0x00, 0x00, 0x00, 0x00,
     0x02, 0x00, 0xf3, 0x00, 0x01, 0x00, 0x00, 0x00, 0x00, 0x00, 0x01, 0x00, 0x34, 0x00, 0x00, 0x00,
     0x00, 0x00, 0x00, 0x00, 0x00, 0x00, 0x00, 0x00, 0x34, 0x00, 0x20, 0x00, 0x01, 0x00, 0x00, 0x00,
@@ -48,7 +48,7 @@ pub(super) fn setup(alloc: Global, fuel: u32) -> Result<Setup, Fail> {
 }
 
 /// A page of zeros that was read.
-pub(super) fn reads_of(alloc: Global, slot: usize) -> Result<Reads, AllocError>
+fn reads_of(alloc: Global, slot: usize) -> Result<Reads, AllocError>
     requires { slot < 769 }
     ensures { IfOk result (λ reads. All (λ p. p.slot < 769) reads) }
 {
@@ -58,7 +58,7 @@ pub(super) fn reads_of(alloc: Global, slot: usize) -> Result<Reads, AllocError>
 }
 
 /// A page to which a zero was stored.
-pub(super) fn delta_of(alloc: Global, slot: usize) -> Result<Delta, AllocError>
+fn delta_of(alloc: Global, slot: usize) -> Result<Delta, AllocError>
     requires { slot < 769 }
     ensures { IfOk result (λ delta. All (λ d. d.slot < 769) delta) }
 {

@@ -1,4 +1,4 @@
-//! Clocks, graphs, facts, rounds, boards and what is printed of them, tried through the public calls of their crates.
+//! Clocks, graphs, facts, rounds and boards, tried through the public calls of their crates.
 #![tactic(auto)]
 
 #[cfg(test)]
@@ -12,12 +12,6 @@ mod graphs;
 #[cfg(test)]
 mod histories;
 #[cfg(test)]
-mod listings;
-#[cfg(test)]
 mod picks;
-#[cfg(test)]
-mod reasons;
-#[cfg(test)]
-mod reports;
 #[cfg(test)]
 mod watches;
