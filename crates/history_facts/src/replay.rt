@@ -77,7 +77,7 @@ impl Replay {
             fact ≡ order.fact_of (order.reads_in records.now) self.old rec.now) }
     {
         self.core.apply(rec)?;
-        let last = self.has_ended();
+        let last = self.core.ended().is_some();
         self.outline.next(alloc, records, rec, last)
     }
 }

@@ -324,7 +324,6 @@ impl Round {
     }
 
     /// Whether there is anything to do: to reuse a record or to execute a step. Compares no page.
-    #[tactic(auto, using(crate::proofs::Choosing::something_picked))]
     pub fn has_pick(&self) -> bool
         ensures { result ≡ is_something (pick_of self.now) }
     {

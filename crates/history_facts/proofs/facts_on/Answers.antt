@@ -11,7 +11,7 @@ use Rattle.history_facts.proofs.PendingFacts.{follows, all-came, AreLeft, rest-o
 use Rattle.history_facts.proofs.facts_on.Goals as goal
 
 pub loop-place-init : goal.loop-place-init
-loop-place-init c = record { come = refl; left = record { can = refl; applied = λ all. refl } }
+loop-place-init c = record { come = rw c.in_ok-facts.ensures.items refl; left = record { can = refl; applied = λ all. refl } }
 
 pub loop-place-preserved : goal.loop-place-preserved
 loop-place-preserved c =

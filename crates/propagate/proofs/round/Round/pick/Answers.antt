@@ -1,5 +1,7 @@
 -- What is left to prove of `Round::pick`.
-use Rattle.std.proofs.Common.{true, false, sym, ◌∙◌}
+use Rattle.std.proofs.Common.{true, false, sym, subst, ◌∙◌}
+use Rattle.machine_spec.specs.Setup.{IsSetup}
+use Rattle.worker_spec.proofs.Replay.{chosen-place}
 use Rattle.propagate.proofs.Choosing.{pick-over, pick-stopped, pick-hold, pick-chosen, picked-run}
 use Rattle.propagate.proofs.round.Round.pick.Goals as goal
 
@@ -33,3 +35,31 @@ returns-in-Some-2-clause-stopped c = λ stopped. returns-in-Some-2-clause-pick c
 
 pub returns-in-None-clause-stopped : goal.returns-in-None-clause-stopped
 returns-in-None-clause-stopped c = λ stopped. returns-in-None-clause-pick c ∙ pick-stopped c.args.self.now stopped
+
+-- what is chosen while a history is replayed comes next there
+
+pub returns-in-Some-clause-spares : goal.returns-in-Some-clause-spares
+returns-in-Some-clause-spares c = λ h coherent replays.
+    c.can_reuse.ensures.spares
+    (record {
+      history = h;
+      coherent = coherent;
+      reused = replays.reused;
+      place =
+          chosen-place h c.args.self.now c.in-Some.t
+          (subst IsSetup replays.reused.setup c.is_finished.ensures.valid.setup) coherent replays
+          (sym c.is_finished.ensures.over ∙ c.if-is_finished.false) (sym c.choice.ensures ∙ c.in-Some.is);
+    })
+
+pub returns-in-Some-2-clause-spares : goal.returns-in-Some-2-clause-spares
+returns-in-Some-2-clause-spares c = λ h coherent replays.
+    c.can_reuse.ensures.spares
+    (record {
+      history = h;
+      coherent = coherent;
+      reused = replays.reused;
+      place =
+          chosen-place h c.args.self.now c.in-Some.t
+          (subst IsSetup replays.reused.setup c.is_finished.ensures.valid.setup) coherent replays
+          (sym c.is_finished.ensures.over ∙ c.if-is_finished.false) (sym c.choice.ensures ∙ c.in-Some.is);
+    })
