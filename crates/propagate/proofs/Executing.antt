@@ -243,10 +243,10 @@ pub reuse-spares :
     → ((h : History) → is_coherent h ≡ true → IsReplaying h w → now ≡ before)
     → Spares before w now v
 reuse-spares w v t before now valid picked is spares = λ h coherent replays. (
-    subst (IsReplaying h) (sym is)
-    (replays-on h w (Reuse t) (valid-past h w valid replays) coherent replays
-    (ap (λ (p : Pick). goes_on_by p (Reuse t)) picked ∙ eq-eqb t t refl)),
-    spares h coherent replays,
+  subst (IsReplaying h) (sym is)
+      (replays-on h w (Reuse t) (valid-past h w valid replays) coherent replays
+      (ap (λ (p : Pick). goes_on_by p (Reuse t)) picked ∙ eq-eqb t t refl)),
+  spares h coherent replays,
 )
 
 -- a round that replays a history executes nothing
@@ -271,8 +271,8 @@ pub stay-spares :
     → ((h : History) → is_coherent h ≡ true → IsReplaying h w → now ≡ before)
     → Spares before w now v
 stay-spares w v before now same spares = λ h coherent replays. (
-    subst (IsReplaying h) (sym same) replays,
-    spares h coherent replays,
+  subst (IsReplaying h) (sym same) replays,
+  spares h coherent replays,
 )
 
 pub alone-spares :

@@ -167,9 +167,7 @@ pub fn run_round<R: Threads + Wait + Sync, G: Gate + Sync>(
     if worked.round.end().is_some() {
         return Ok(worked);
     }
-    let ClosedRound {
-        round, effort, ..
-    } = worked;
+    let ClosedRound { round, effort, .. } = worked;
     if round.stopped() {
         return Err(AllocError);
     }
@@ -221,9 +219,7 @@ pub fn run_round_watched<R: Threads + Wait + Sync, G: Gate + Sync>(
     if worked.round.end().is_some() {
         return Ok((worked, numbers));
     }
-    let ClosedRound {
-        round, effort, ..
-    } = worked;
+    let ClosedRound { round, effort, .. } = worked;
     if round.stopped() {
         return Err(AllocError);
     }
