@@ -79,7 +79,7 @@ loop-i-init c = record {
 
 pub bounds-numbers-from : goal.bounds-numbers-from
 bounds-numbers-from c =
-    let fs = c.in_ok-facts.facts.items in
+    let fs = c.in_ok-facts.field-0.facts.items in
     let less : c.loop-i.i < length fs = omega arith in
     let here = c.fact.view_is ∙ get_or_read fs c.loop-i.i c.index-fact.result.now less c.index-fact.ensures no_fact in
     let known = known-thread fs c.args.history.now c.loop-i.i c.in_ok-facts.ensures.facts c.in_ok-facts.ensures.of_run less in
@@ -88,7 +88,7 @@ bounds-numbers-from c =
 
 pub bounds-numbers-from-in-loop-i : goal.bounds-numbers-from-in-loop-i
 bounds-numbers-from-in-loop-i c =
-    let fs = c.in_ok-facts.facts.items in
+    let fs = c.in_ok-facts.field-0.facts.items in
     let less : c.loop-i.i < length fs = omega arith in
     let here = c.fact.view_is ∙ get_or_read fs c.loop-i.i c.index-fact.result.now less c.index-fact.ensures no_fact in
     let known = known-thread fs c.args.history.now c.loop-i.i c.in_ok-facts.ensures.facts c.in_ok-facts.ensures.of_run less in
@@ -97,7 +97,7 @@ bounds-numbers-from-in-loop-i c =
 
 pub bounds-numbers-from-in-loop-i-2 : goal.bounds-numbers-from-in-loop-i-2
 bounds-numbers-from-in-loop-i-2 c =
-    let fs = c.in_ok-facts.facts.items in
+    let fs = c.in_ok-facts.field-0.facts.items in
     let less : c.loop-i.i < length fs = omega arith in
     let here = c.fact.view_is ∙ get_or_read fs c.loop-i.i c.index-fact.result.now less c.index-fact.ensures no_fact in
     let known = known-thread fs c.args.history.now c.loop-i.i c.in_ok-facts.ensures.facts c.in_ok-facts.ensures.of_run less in
@@ -123,7 +123,7 @@ touches_of-requires c =
 
 pub overflow_add-numbers : goal.overflow_add-numbers
 overflow_add-numbers c =
-    let fs = c.in_ok-facts.facts.items in
+    let fs = c.in_ok-facts.field-0.facts.items in
     let less : c.loop-i.i < length fs = omega arith in
     let few = few-facts fs c.args.history.now c.in_ok-facts.ensures.facts c.in_ok-facts.ensures.of_run in
     let here = c.fact.view_is ∙ get_or_read fs c.loop-i.i c.index-fact.result.now less c.index-fact.ensures no_fact in
@@ -136,7 +136,7 @@ overflow_add-numbers c =
 pub loop-i-preserved : goal.loop-i-preserved
 loop-i-preserved c =
     let h = c.args.history.now in
-    let fs = c.in_ok-facts.facts.items in
+    let fs = c.in_ok-facts.field-0.facts.items in
     let i = c.loop-i.i in
     let r = c.deref-in-loop-i-2.result.now in
     let less : i < length fs = omega arith in
@@ -188,7 +188,7 @@ loop-i-preserved c =
 
 pub returns-clause-steps : goal.returns-clause-steps
 returns-clause-steps c =
-    let fs = c.in_ok-facts.facts.items in
+    let fs = c.in_ok-facts.field-0.facts.items in
     let end : c.loop-i.i ≡ length fs = omega arith in
     subst (λ (xs : List Fact). AreSteps xs (reads_of c.args.history.now) c.args.pages c.loop-i.steps.items)
     c.in_ok-facts.ensures.facts
