@@ -8,6 +8,6 @@ use Rattle.ith_top.proofs.crew.Crew.make.Goals.{then-watched, else-watched}
 pub returns-clause-cost : goal.returns-clause-cost
 returns-clause-cost g c =
     let worked = c.in_ok-worked.worked in
-    let cost : IsCostOf c.args.self.now.workers c.args.setup (option_map arc_value c.args.past) worked.round worked.turns =
+    let cost : IsCostOf c.args.self.now.workers c.args.setup (option_map arc_value c.args.past) worked.round worked.effort.turns =
     elim c.if-watched.branch [ then-watched w ↦ search rules | else-watched w ↦ search rules ] in
-    (worked.turns, search rules, cost)
+    (worked.effort.turns, search rules, cost)
