@@ -24,33 +24,39 @@ given_all page written first word full k lt =
     ap (λ b. cond b (get_or written (first + k) 0) (get_or page (first + k) 0))
     (ap (λ n. bit_at n k == 1) full ∙ ap (λ n. n == 1) (bit_at_ones 64 k lt))
 
--- a byte of the page, where none is written
-pub given_none :
-    (page written : List ℕ) (first word k : ℕ) → word ≡ 0
-    → get_or page (first + k) 0 ≡ cond (bit_at word k == 1) (get_or written (first + k) 0) (get_or page (first + k) 0)
-given_none page written first word k none =
-    ap (λ b. cond (nat_eq b 1) (get_or written (first + k) 0) (get_or page (first + k) 0))
-    (sym (bit_at-zero k) ∙ ap (λ w. bit_at w k) (sym none))
+-- two pages have the same bytes from a place on up to another
+abbrev pub SameBetween : List ℕ → List ℕ → ℕ → ℕ → Type 0
+SameBetween page written from to = (k : ℕ) → from ≤ k → k < to → get_or page k 0 ≡ get_or written k 0
 
--- the bytes that there are then, compared with the written ones as lists
+-- these bytes, compared as lists
 pub compared :
-    (merged page written : List ℕ) (first word n : ℕ) (answer : Bool)
-    → first + 64 ≤ length written → length merged ≡ 64 → n ≡ 64
-    → ((k : ℕ) → k < 64
-    → get_or merged k 0 ≡ cond (bit_at word k == 1) (get_or written (first + k) 0) (get_or page (first + k) 0))
-    → answer ≡ bytes_eq merged (take n (drop first written)) → Decides answer (GivesWord page written first word)
-compared merged page written first word n answer fits long size each eq =
-    let decides = bytes_eq-Decides merged (chunk first 64 written) in
-    let is : answer ≡ bytes_eq merged (chunk first 64 written) =
-    eq ∙ ap (λ m. bytes_eq merged (take m (drop first written))) size in (
-      λ yes k lt.
-          sym (each k lt) ∙ ap (λ l. get_or l k 0) (decides.0 (sym is ∙ yes)) ∙ get_or-chunk first 64 written k 0 lt,
-      λ gives.
+    (page written : List ℕ) (from to : ℕ) (answer : Bool)
+    → from ≤ to → to ≤ length page → to ≤ length written
+    → answer ≡ bytes_eq (chunk from (to - from) page) (chunk from (to - from) written)
+    → Decides answer (SameBetween page written from to)
+compared page written from to answer ordered fits within is =
+    let n = to - from in
+    let xs = chunk from n page in
+    let ys = chunk from n written in
+    let decides = bytes_eq-Decides xs ys in
+    let long : length xs ≡ n = length-chunk from n page (omega (arith, ordered, fits)) in
+    let same : length ys ≡ n = length-chunk from n written (omega (arith, ordered, within)) in (
+      λ yes k after before.
+          let place : from + (k - from) ≡ k = omega (arith, after) in
+          let inside : k - from < n = omega (arith, after, before) in
+          ap (λ p. get_or page p 0) (sym place)
+          ∙ sym (get_or-chunk from n page (k - from) 0 inside)
+          ∙ ap (λ l. get_or l (k - from) 0) (decides.0 (sym is ∙ yes))
+          ∙ get_or-chunk from n written (k - from) 0 inside
+          ∙ ap (λ p. get_or written p 0) place,
+      λ equal.
           is
-          ∙ decides.1 (ext_get_or 0 merged (chunk first 64 written) (long ∙ sym (length-chunk first 64 written fits))
+          ∙ decides.1 (ext_get_or 0 xs ys (long ∙ sym same)
           (λ k lt.
-          let small : k < 64 = omega (arith, long, lt) in
-          each k small ∙ gives k small ∙ sym (get_or-chunk first 64 written k 0 small))),
+          let inside : k < n = omega (arith, long, lt) in
+          get_or-chunk from n page k 0 inside
+          ∙ equal (from + k) (omega arith) (omega (arith, inside))
+          ∙ sym (get_or-chunk from n written k 0 inside))),
     )
 
 -- whether two lists of bytes differ at a place
@@ -161,6 +167,67 @@ given_more m page written i word n is next before here k lt =
           ∙ here (k - i) (omega arith)
           ∙ ap (λ p. get_or written p 0) place
     ]
+
+-- Places up to some are known to have the written bytes then, and those from there on up to another aren't marked.
+pub record IsGiven (m : List Bool) (page written : List ℕ) (from to : ℕ) : Type 0 where
+  pub ordered : from ≤ to
+  pub so_far : Gives m page written from
+  pub unmarked : (k : ℕ) → from ≤ k → k < to → get_or m k false ≡ false
+
+pub given_first : (m : List Bool) (page written : List ℕ) → IsGiven m page written 0 0
+given_first m page written = record {
+  ordered = omega arith;
+  so_far = λ k lt. absurd (omega (arith, lt));
+  unmarked = λ k after lt. absurd (omega (arith, lt));
+}
+
+-- those that aren't marked have the written bytes just where the pages have the same
+pub given_run :
+    (m : List Bool) (page written : List ℕ) (from to : ℕ)
+    → IsGiven m page written from to → SameBetween page written from to → Gives m page written to
+given_run m page written from to given same k lt =
+    elim (cases_lt k from) [
+      | inl below ↦ given.so_far k below
+      | inr after ↦
+          ap (λ b. cond b (get_or written k 0) (get_or page k 0)) (given.unmarked k after lt) ∙ same k after lt
+    ]
+
+pub run_given :
+    (m : List Bool) (page written : List ℕ) (from to n : ℕ)
+    → IsGiven m page written from to → to ≤ n → Gives m page written n → SameBetween page written from to
+run_given m page written from to n given within gives k after lt =
+    ap (λ b. cond b (get_or written k 0) (get_or page k 0)) (sym (given.unmarked k after lt))
+    ∙ gives k (omega (arith, within, lt))
+
+-- the places of one word more, which marks none
+pub given_past :
+    (m : List Bool) (page written : List ℕ) (from i word : ℕ)
+    → word ≡ mask_l (chunk i 64 m) → word ≡ 0 → IsGiven m page written from i → IsGiven m page written from (i + 64)
+given_past m page written from i word is none given = record {
+  ordered = omega (arith, given.ordered);
+  so_far = given.so_far;
+  unmarked = λ k after lt.
+      elim (cases_lt k i) [
+        | inl below ↦ given.unmarked k after below
+        | inr past ↦
+            let place : i + (k - i) ≡ k = omega arith in
+            ap (λ p. get_or m p false) (sym place)
+            ∙ sym (marked_at m i word (k - i) is (omega arith))
+            ∙ ap (λ w. nat_eq (bit_at w (k - i)) 1) none
+            ∙ ap (λ b. nat_eq b 1) (bit_at-zero (k - i))
+      ];
+}
+
+-- the places of one word more, which have the written bytes
+pub given_beyond :
+    (m : List Bool) (page written : List ℕ) (from i word : ℕ)
+    → word ≡ mask_l (chunk i 64 m) → IsGiven m page written from i → SameBetween page written from i
+    → GivesWord page written i word → IsGiven m page written (i + 64) (i + 64)
+given_beyond m page written from i word is given same here = record {
+  ordered = omega arith;
+  so_far = given_more m page written i word (i + 64) is refl (given_run m page written from i given same) here;
+  unmarked = λ k after lt. absurd (omega (arith, after, lt));
+}
 
 -- all places
 pub given_page :

@@ -6,7 +6,7 @@ ghost use Rattle.memory_spec.specs.Workspace.{no_marks};
 ghost use Rattle.record_spec.specs.Delta.{is_stored, chosen, spread};
 ghost use Rattle.store_mask.specs.Flags.{flags_of};
 
-use super::merging::{WORD_PLACES, gives_word, merge_word};
+use super::merging::{WORD_PLACES, gives_word, merge_word, same_between};
 use page_store::PAGE_SIZE;
 use std::marker::Model;
 
@@ -108,18 +108,28 @@ impl Mask {
         }
     }
 
-    /// Whether a page is another page once this one's bytes were written at the marked places.
+    /// Whether a page is another page once this one's bytes were written at the marked places. Places between two words
+    /// that mark some are compared at once, since most words mark none.
     pub fn gives_written(&self, page: &[u8], written: &[u8]) -> bool
         requires page_is_whole { length page.now ≡ PAGE_SIZE }
         requires written_is_whole { length written.now ≡ PAGE_SIZE }
         ensures { Decides result (spread self.now (chosen self.now written.now) page.now
             ≡ written.now) }
     {
+        let mut from = 0;
         for number in 0..MASK_WORDS {
-            if !gives_word(page, written, WORD_PLACES * number, self.word(number)) {
-                return false;
+            let word = self.word(number);
+            if word != 0 {
+                let first = WORD_PLACES * number;
+                if !same_between(page, written, from, first) {
+                    return false;
+                }
+                if !gives_word(page, written, first, word) {
+                    return false;
+                }
+                from = first + WORD_PLACES;
             }
         }
-        true
+        same_between(page, written, from, PAGE_SIZE)
     }
 }

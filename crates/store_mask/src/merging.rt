@@ -75,8 +75,24 @@ fn differing(page: &[u8], written: &[u8], first: usize) -> u64
         .to_bitmask()
 }
 
+/// Whether two pages have the same bytes from a place on up to another. None lies between two words side by side, so that
+/// is seen first.
+#[inline(always)]
+pub(super) fn same_between(page: &[u8], written: &[u8], from: usize, to: usize) -> bool
+    requires ordered { from ≤ to }
+    requires page { to ≤ length page.now }
+    requires written { to ≤ length written.now }
+    ensures { Decides result ((k : ℕ) → from ≤ k → k < to
+        → slice_index page.now k ≡ slice_index written.now k) }
+{
+    if from == to {
+        return true;
+    }
+    page[from..to] == written[from..to]
+}
+
 /// Whether 64 bytes of a page from a place on are those of another page once this one's were written at those whose bit
-/// is set in a word. A word that marks all or none, as most do, takes no look at single places.
+/// is set in a word. A word that marks all takes no look at single places.
 pub(super) fn gives_word(page: &[u8], written: &[u8], first: usize, word: u64) -> bool
     requires page { first + 64 ≤ length page.now }
     requires written { first + 64 ≤ length written.now }
@@ -87,9 +103,6 @@ pub(super) fn gives_word(page: &[u8], written: &[u8], first: usize, word: u64) -
 {
     if word == u64::MAX {
         return true;
-    }
-    if word == 0 {
-        return page[first..first + WORD_PLACES] == written[first..first + WORD_PLACES];
     }
     differing(page, written, first) & !word == 0
 }
