@@ -126,12 +126,3 @@ left-more start m next records rs r before after is_after is_next left =
           ∙ ap (λ (n : Machine). applied_from n rs)
           (ap (λ (b : Bool). cond b (apply m r) m) (sym all) ∙ sym is_next);
     }
-
-pub left-none :
-    (start m : Machine) (records : List Record) (fits : Bool) → AreLeft start records fits m []
-    → (fits && is_some m.ending) ≡ (can_apply_from start records && is_some (applied_from start records).ending)
-left-none start m records true left =
-    ap (λ (b : Bool). b && is_some m.ending) (sym left.can)
-    ∙ ap (λ (n : Machine). can_apply_from start records && is_some n.ending) (sym (left.applied refl))
-left-none start m records false left =
-    ap (λ (b : Bool). b && is_some (applied_from start records).ending) (sym left.can)

@@ -14,7 +14,7 @@ use Rattle.order_spec.specs.Keeping.{record_thread}
 use Rattle.order_spec.specs.Ancestors.{number_at}
 use Rattle.order_spec.proofs.Lists.{or-in_left, or-in_right, is_or_not}
 use Rattle.round_spec.proofs.Placed as placed
-use Rattle.round_spec.proofs.Placed.{no_record, number-less, number-same}
+use Rattle.round_spec.proofs.Placed.{no_record, number-same}
 use Rattle.reach_spec.proofs.Like.{record_at}
 use Rattle.reach_spec.specs.Reach.{read_at, reads_of}
 

@@ -1,13 +1,11 @@
 -- What is left to prove of `facts_on`.
-use Rattle.std.proofs.Common.{◌≡◌, ◌+◌, List, [], drop, refl, sym, ap, subst, ◌∙◌, arith}
-use Rattle.std.proofs.lemmas.List.{drop_all}
+use Rattle.std.proofs.Common.{◌+◌, drop, refl, ap, subst, ◌∙◌, arith}
 use Rattle.std.specs.Prelude.{◌&&◌, cond}
 use Rattle.std.specs.Arc.{arc_value}
-use Rattle.record_spec.specs.Record.{Record}
 use Rattle.machine_spec.specs.Step as step
 use Rattle.release_core.specs.Applying.{can_apply}
 use Rattle.order_spec.specs.Facts as order
-use Rattle.history_facts.proofs.PendingFacts.{follows, all-came, AreLeft, rest-of, left-more, left-none}
+use Rattle.history_facts.proofs.PendingFacts.{follows, all-came, AreLeft, rest-of, left-more}
 use Rattle.history_facts.proofs.facts_on.Goals as goal
 
 pub loop-place-init : goal.loop-place-init

@@ -1,7 +1,6 @@
 -- What is left to prove of `follow_picks`.
 use Rattle.std.proofs.Common.{◌-◌, ◌+◌, arith}
 use Rattle.round_spec.specs.Alone.{after_picks}
-use Rattle.propagate.specs.Executing.{IsPartWay}
 use Rattle.propagate.proofs.Executing.{partway-pick, partway-over}
 use Rattle.propagate.proofs.alone.follow_picks.Goals as goal
 

@@ -1,5 +1,5 @@
 -- One page more, and one step more.
-use Rattle.std.proofs.Common.{◌≡◌, ◌<◌, ◌≤◌, ◌+◌, ◌⊎◌, ℕ, false, ◌++◌, List, [], length, take, get_or, append-nil, ap, ap₂, sym, ◌∙◌, subst, inl, inr, arith}
+use Rattle.std.proofs.Common.{◌≡◌, ◌<◌, ◌≤◌, ◌+◌, ◌⊎◌, ℕ, false, ◌++◌, List, [], length, take, get_or, append-nil, ap, sym, ◌∙◌, subst, inl, inr, arith}
 use Rattle.std.specs.List.{filter, flat_map, range_with_len, count_by}
 use Rattle.std.proofs.lemmas.List.{length-set, get_or_default}
 use Rattle.memory_spec.specs.Pages.{Mapped}

@@ -1,10 +1,7 @@
 -- What is left to prove of `reasons_from`.
-use Rattle.std.proofs.Common.{◌≡◌, length, map, ap, sym, subst, ◌∙◌, arith}
+use Rattle.std.proofs.Common.{◌≡◌, length, map, ap, ◌∙◌, arith}
 use Rattle.std.proofs.lemmas.List.{get_or-replicate}
 use Rattle.machine_spec.specs.Setup.{first}
-use Rattle.machine_spec.specs.Whole.{IsWhole}
-use Rattle.machine_spec.proofs.Beginning.{IsWhole-first}
-use Rattle.memo_listing.specs.Listing.{addresses_of}
 use Rattle.why_report.specs.declared.reason.Reason.{Reason}
 use Rattle.why_report.proofs.Steps.{first-before}
 use Rattle.why_report.proofs.ReasonsSoFar.{told_so_far, executed_so_far, told-next, each-next, all-told, told-scratch}

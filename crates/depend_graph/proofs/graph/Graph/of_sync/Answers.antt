@@ -1,5 +1,5 @@
 -- The threads of facts stay, where their pages are left out.
-use Rattle.std.proofs.Common.{◌≡◌, ◌<◌, ℕ, List, length, map, get_or, ap, sym, ◌∙◌, subst, arith}
+use Rattle.std.proofs.Common.{◌≡◌, ◌<◌, List, length, map, get_or, ap, sym, ◌∙◌, subst, arith}
 use Rattle.std.proofs.lemmas.List.{take_all, length-map, get_or-map}
 use Rattle.order_spec.specs.Facts.{Fact}
 use Rattle.order_spec.specs.Before.{no_fact}

@@ -1,10 +1,6 @@
 -- What is left to prove of `push`: the counts after a record more.
-use Rattle.std.proofs.Common.{◌≡◌, ◌++◌, ◌∷◌, [], List, ℕ, length, get_or, sym, ap, subst, ◌∙◌, rules, arith}
-use Rattle.std.specs.Prelude.{◌==◌}
-use Rattle.std.specs.List.{count_by}
+use Rattle.std.proofs.Common.{◌≡◌, ◌++◌, ◌∷◌, [], length, sym, ap, subst, ◌∙◌, rules, arith}
 use Rattle.std.specs.Arc.{arc_value}
-use Rattle.record_spec.specs.Record.{Record}
-use Rattle.history_spec.specs.History.{threads_of_records}
 use Rattle.memo_file.specs.Growth.{Growth, AreCounts}
 use Rattle.memo_file.proofs.Counting.{few_of, counts_more}
 use Rattle.memo_file.proofs.growth.Growing.push.Goals as goal
