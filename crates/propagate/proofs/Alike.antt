@@ -1,5 +1,5 @@
 -- A round that goes on as its history did, but for some pages.
-use Rattle.std.proofs.Common.{◌≡◌, ◌<◌, ◌≤◌, ◌+◌, ℕ, zero, suc, Bool, true, false, ◌&&◌, ◌||◌, not, eqb, List, [], ◌∷◌, ◌++◌, length, map, set, take, replicate, cond, Option, Vec, Some, None, is_none, is_some, refl, ap, ap₂, sym, ◌∙◌, subst, inl, inr, arith}
+use Rattle.std.proofs.Common.{◌≡◌, ◌<◌, ◌+◌, ℕ, zero, suc, Bool, true, false, ◌&&◌, ◌||◌, not, eqb, List, [], ◌∷◌, ◌++◌, length, map, set, take, replicate, cond, Option, Vec, Some, None, is_none, is_some, refl, ap, ap₂, sym, ◌∙◌, subst, inl, inr, arith}
 use Rattle.std.proofs.lemmas.Bool.{and_parts, cases_eq, cases_lt, eq-eqb, eqb-true}
 use Rattle.std.proofs.lemmas.Bool.Decides.{nat_tests}
 use Rattle.std.proofs.lemmas.List.{length-append, length-set, get_or_past, get_or-set_same}
@@ -10,7 +10,7 @@ use Rattle.isa_spec.specs.Registers.{Registers, same_registers}
 use Rattle.memory_spec.specs.Pages.{Memory, page_of}
 use Rattle.guest_call.specs.Effect.{Effect}
 use Rattle.guest_call.specs.Objects.{Objects, created_count}
-use Rattle.record_spec.specs.Delta.{PageDelta, masked}
+use Rattle.record_spec.specs.Delta.{masked}
 use Rattle.record_spec.specs.Reads.{ReadPage, has}
 use Rattle.record_spec.specs.Record.{Record, Kept, may_end}
 use Rattle.guest_call.specs.declared.Call.{Call}
@@ -26,6 +26,7 @@ use Rattle.machine_spec.specs.Whole.{IsWhole}
 use Rattle.machine_spec.proofs.Beginning.{IsWhole-first, IsMemory-start}
 use Rattle.history_spec.specs.History.{History, IsSameProgram, schedule_of, applied_from, can_apply_from, is_of, is_coherent}
 use Rattle.history_spec.proofs.Applying.{apply-frame, apply-whole, fits-can_step}
+use Rattle.history_spec.proofs.Numbers.{one_for, apply-number}
 use Rattle.history_spec.proofs.Truth.{past-of}
 use Rattle.order_spec.specs.Facts.{ask_of, acted, effect_of, written_slots}
 use Rattle.order_spec.specs.Before.{is_in}
@@ -35,12 +36,11 @@ use Rattle.order_spec.proofs.After.{after_at, apply-at, apply-length, apply-memo
 use Rattle.order_spec.proofs.Local.{acted-like}
 use Rattle.order_spec.proofs.Alike.{touched, untouched-after, touched-served, has-like, fits-parts, fits-from}
 use Rattle.order_spec.proofs.Simulate.{none-is, end_after-none, fate-none}
-use Rattle.order_spec.proofs.Near.{plain, other_record, plain-after, IsNear}
+use Rattle.order_spec.proofs.Near.{plain, other_record, plain-after}
 use Rattle.reach_spec.proofs.Starts.{near-first, unchanged-start}
 use Rattle.history_facts.specs.Outlining.{machine_at}
 use Rattle.history_facts.proofs.Outlining.{machine-more, coherent-can}
-use Rattle.release_core.specs.Applying.{can_apply}
-use Rattle.round_spec.specs.Marks.{record_for, is_fitting, fits_next}
+use Rattle.round_spec.specs.Marks.{record_for, is_fitting}
 use Rattle.round_spec.specs.Due.{place_in}
 use Rattle.round_spec.specs.Rounds.{RoundState, opening, can_reuse}
 use Rattle.round_spec.specs.Unedited.{all_reused_of}
@@ -230,6 +230,9 @@ as-marked-same w v (Some marks) was past machine records = λ h is.
     record {
       valid = old.valid;
       coherent = old.coherent;
+      numbers = λ u.
+          ap (λ (m : Machine). (hart_of m u).number) machine ∙ old.numbers u
+          ∙ ap (λ (rs : List Record). (hart_of (machine_at h (length rs)) u).number) (sym records);
       like = λ none.
           subst (λ (m : Machine). IsLike marks.items (machine_at h (length v.records)) m) (sym machine)
           (subst (λ (rs : List Record). IsLike marks.items (machine_at h (length rs)) w.machine) (sym records)
@@ -313,6 +316,12 @@ as-before-more w v h marks after r q goes whole at thread ask fit long more page
     record {
       valid = goes.valid;
       coherent = goes.coherent;
+      numbers = λ u.
+          ap (λ (x : Machine). (hart_of x u).number) machine
+          ∙ apply-number w.machine q u new.ready
+          ∙ ap₂ (λ (k t : ℕ). k + one_for u t) (goes.numbers u) thread
+          ∙ sym (apply-number m r u old.ready)
+          ∙ ap (λ (x : Machine). (hart_of x u).number) (sym next);
       like = λ none.
           subst (λ (x : Machine). IsLike after x v.machine) (sym next)
           (subst (λ (x : Machine). IsLike after (apply (machine_at h (length w.records)) r) x)
@@ -464,7 +473,8 @@ pub as-before-start :
     → AreMarksOn (first h.setup).memory (first setup).memory marks
     → GoesOnAs h marks (opening setup (Some h))
 as-before-start setup h marks valid coherent same fuel are =
-    record { valid = valid; coherent = coherent; like = λ none. start-like h.setup setup marks same fuel are }
+    let like : IsLike marks (first h.setup) (first setup) = start-like h.setup setup marks same fuel are in
+    record { valid = valid; coherent = coherent; numbers = like.number; like = λ none. like }
 
 -- marks on the pages that differ
 

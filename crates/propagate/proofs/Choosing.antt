@@ -11,6 +11,7 @@ use Rattle.round_spec.specs.Marks.{fits_next}
 use Rattle.round_spec.specs.Rounds.{RoundState, is_finished, is_free_in, can_take, can_reuse}
 use Rattle.round_spec.specs.Due.{place_in, is_due}
 use Rattle.round_spec.specs.Choice.{free_threads, is_any_in_flight, eligible, choice_by, best, with_choice, pick_of}
+use Rattle.worker_spec.proofs.Choosing.{choice_by-none}
 use Rattle.worker_spec.proofs.Lists.{all-filter, all-pass}
 use Rattle.propagate.specs.declared.picking.Candidate.{Candidate}
 use Rattle.propagate.specs.declared.picking.Leaders.{Leaders}
@@ -350,6 +351,40 @@ choice-of w found b leads is = by found.due (is_any_in_flight w.in_flight) refl 
         choice-free w found false leads none in_flight
         ∙ ap (λ x. option_map (λ (c : Candidate). c.thread) (cond x found.due found.free)) both
 
+-- where all threads are due and nobody is in flight, the best free one is chosen
+
+filter-all : (p : ℕ → Bool) (xs : List ℕ) → ((u : ℕ) → p u ≡ true) → filter p xs ≡ xs
+filter-all p [] all = refl
+filter-all p (x ∷ xs) all = rw (all x) (ap (λ (us : List ℕ). x ∷ us) (filter-all p xs all))
+
+pub choice-all_due :
+    (w : RoundState) (leader : Option Candidate)
+    → ((u : ℕ) → is_due w.past w.machine u ≡ true) → is_any_in_flight w.in_flight ≡ false
+    → leader ≡ leader_of w (free_below w (length w.machine.harts))
+    → choice_by w.past w.machine w.in_flight ≡ option_map (λ (c : Candidate). c.thread) leader
+choice-all_due w leader all nobody leads = by leader leads
+  where
+    by :
+        (first : Option Candidate) → first ≡ leader_of w (free_below w (length w.machine.harts))
+        → choice_by w.past w.machine w.in_flight ≡ option_map (λ (c : Candidate). c.thread) first
+    by first is =
+        choice-of w (record { due = first; free = first }) (is_some first || is_any_in_flight w.in_flight)
+        (record {
+          due =
+              is
+              ∙ ap (leader_of w)
+              (sym (filter-all (is_due w.past w.machine) (free_below w (length w.machine.harts)) all));
+          free = is;
+        })
+        refl
+        ∙ either (is_some first || is_any_in_flight w.in_flight) first
+      where
+        either :
+            (b : Bool) (c : Option Candidate)
+            → option_map (λ (x : Candidate). x.thread) (cond b c c) ≡ option_map (λ (x : Candidate). x.thread) c
+        either true c = refl
+        either false c = refl
+
 -- who is chosen is free
 
 eligible-all :
@@ -403,6 +438,25 @@ pub pick-chosen :
 pick-chosen w t fit going chosen can =
     pick-going w going ∙ ap (with_choice w.past w.machine) chosen
     ∙ ap (λ b. cond b (pick.Reuse t) (pick.Run t)) (sym (chosen-fits w t going chosen) ∙ can)
+
+-- where a worker is to wait, nobody who is free is due
+pub hold-none_due :
+    (w : RoundState) (t : ℕ) → pick_of w ≡ pick.Hold → is_free_in w.machine w.in_flight t ≡ true
+    → is_due w.past w.machine t ≡ false
+hold-none_due w t held free = by (is_finished w) (choice_by w.past w.machine w.in_flight) refl refl
+  where
+    neither : (fit : Bool) (u : ℕ) → cond fit (pick.Reuse u) (pick.Run u) ≡ pick.Hold → ⊥
+    neither true u is = cc
+    neither false u is = cc
+
+    by :
+        (over : Bool) (o : Option ℕ) → is_finished w ≡ over → choice_by w.past w.machine w.in_flight ≡ o
+        → is_due w.past w.machine t ≡ false
+    by true o is chosen = absurd (let both : pick.Over ≡ pick.Hold = sym (pick-over w is) ∙ held in cc)
+    by false None is chosen = choice_by-none w.past w.machine w.in_flight t chosen free
+    by false (Some u) is chosen =
+        absurd
+        (neither (can_reuse w u) u (sym (pick-chosen w u (can_reuse w u) is chosen refl) ∙ held))
 
 -- and what was picked can be done
 

@@ -1,20 +1,19 @@
 -- What a round keeps beside what is seen of it, after each event.
-use Rattle.std.proofs.Common.{◌≡◌, ◌≤◌, ◌+◌, ◌*◌, ℕ, suc, Bool, true, cond, ◌&&◌, List, [], ◌∷◌, ◌++◌, length, length-append, Option, Vec, is_some, is_none, refl, ap, sym, ◌∙◌, subst, arith}
+use Rattle.std.proofs.Common.{◌≡◌, ◌≤◌, ◌+◌, ◌*◌, ℕ, suc, Bool, true, false, not, cond, ◌&&◌, List, [], ◌∷◌, ◌++◌, length, length-append, Option, Vec, Some, None, is_some, is_none, refl, ap, sym, ◌∙◌, subst, arith}
 use Rattle.std.proofs.lemmas.Bool.{and_parts}
 use Rattle.std.specs.Global.{Global}
 use Rattle.record_spec.specs.Record.{Record}
 use Rattle.machine_spec.specs.Machine.{Machine}
 use Rattle.machine_spec.specs.Setup.{Setup, IsSetup, first}
 use Rattle.machine_spec.specs.Step.{apply, fits}
-use Rattle.history_spec.specs.History.{History, IsHonest, IsSound, threads_of_records, past_records, applied_from, can_apply_from, is_coherent}
-use Rattle.release_core.specs.Records.{AreOfRun}
+use Rattle.history_spec.specs.History.{History, IsHonest, IsSound, threads_of_records, applied_from, can_apply_from, is_coherent}
 use Rattle.report_spec.specs.declared.Entry.{Entry}
 use Rattle.report_spec.specs.Report.{threads_of, instructions_from}
 use Rattle.round_spec.specs.declared.events.Event.{Event}
-use Rattle.round_spec.specs.Rounds.{RoundState, opening, happens, history_of}
+use Rattle.round_spec.specs.Rounds.{RoundState, opening, happens, history_of, is_in_flight, is_in_flight_of}
 use Rattle.round_spec.specs.Instructions.{executed_instructions}
 use Rattle.round_spec.specs.Keeping.{IsFromScratch, IsInOrder, IsCounted}
-use Rattle.round_spec.proofs.Happening.{opening-kept, happens-kept}
+use Rattle.round_spec.proofs.Happening.{opening-kept, happens-kept, none_in_flight-none}
 use Rattle.round_spec.proofs.Counting.{round-counted, happens-counted}
 use Rattle.round_spec.specs.Schedules.{IsBySchedule}
 use Rattle.round_spec.proofs.Mapping.{happens-frame}
@@ -22,9 +21,8 @@ use Rattle.round_spec.proofs.BySchedule.{by_schedule-opening, by_schedule-happen
 use Rattle.round_spec.proofs.Leaving.{leaves-honest}
 use Rattle.round_spec.proofs.Executed.{executed-records}
 use Rattle.order_spec.specs.Facts.{Fact}
-use Rattle.round_spec.specs.Due.{past_facts}
 use Rattle.release_core.specs.Applying.{can_apply}
-use Rattle.propagate.specs.Consistency.{IsApplied, IsOnMap, IsValid, IsConsistent}
+use Rattle.propagate.specs.Consistency.{IsApplied, IsOnMap, IsValid, IsConsistent, AreFactsOf, IsKnown, IsRight, IsFound, KnowsEnough}
 use Rattle.propagate.specs.Alike.{IsAsBefore}
 use Rattle.propagate.proofs.Mapped.{opening-on_map, happens-on_map}
 
@@ -71,7 +69,7 @@ reported w instructions kept is sound =
 
 -- what holds of every round
 pub valid_consistent :
-    (w v : RoundState) (instructions : ℕ) (facts : List Fact)
+    (w v : RoundState) (instructions : ℕ) (facts : Option (List Fact))
     (marks : Option (Vec Bool Global))
     → v ≡ w → IsConsistent v instructions facts marks → IsValid w
 valid_consistent w v instructions facts marks is kept =
@@ -84,11 +82,12 @@ valid_consistent w v instructions facts marks is kept =
     }
 
 pub kept_opening :
-    (setup : Setup) (past : Option History) (marks : Option (Vec Bool Global))
-    → IsSetup setup → AreOfRun (past_records past)
+    (setup : Setup) (past : Option History) (facts : Option (List Fact)) (marks : Option (Vec Bool Global))
+    → IsSetup setup
     → IsAsBefore (opening setup past) marks
-    → IsConsistent (opening setup past) 0 (past_facts past) marks
-kept_opening setup past marks valid run as_before =
+    → KnowsEnough (opening setup past) marks facts
+    → IsConsistent (opening setup past) 0 facts marks
+kept_opening setup past facts marks valid as_before knows =
     record {
       valid = valid;
       in_order = opening-kept setup past valid;
@@ -100,9 +99,89 @@ kept_opening setup past marks valid run as_before =
       points = refl;
       executed = refl;
       few = omega arith;
-      of_run = run;
-      facts_are = refl;
+      knows = knows;
       as_before = as_before;
+    }
+
+-- what is known of what the steps of the history do
+
+pub knows-right :
+    (w : RoundState) (marks : Option (Vec Bool Global)) (facts : Option (List Fact))
+    → KnowsEnough w marks facts → IsRight w.past facts
+knows-right w marks None knows = tt
+knows-right w marks (Some fs) knows = knows
+
+-- what was found is enough, with whatever marks
+pub knows-found :
+    (v : RoundState) (marks : Option (Vec Bool Global)) (past : Option History) (facts : Option (List Fact))
+    → IsKnown past facts → v.past ≡ past → KnowsEnough v marks facts
+knows-found v marks past None known same = absurd known
+knows-found v marks past (Some fs) known same = subst (λ (p : Option History). AreFactsOf p fs) (sym same) known
+
+pub knows-more :
+    (w : RoundState) (marks : Option (Vec Bool Global)) (before facts : Option (List Fact)) (needed : Bool)
+    → KnowsEnough w marks before → IsFound needed w.past before facts → KnowsEnough w marks facts
+knows-more w marks before facts true knows found = knows-found w marks w.past facts found refl
+knows-more w marks before facts false knows found = subst (KnowsEnough w marks) (sym found) knows
+
+-- at the start it is found if there are no marks
+pub knows-opening :
+    (setup : Setup) (past : Option History) (marks : Option (Vec Bool Global)) (before facts : Option (List Fact))
+    → IsRight past before → IsFound (not (is_some marks)) past before facts
+    → KnowsEnough (opening setup past) marks facts
+knows-opening setup past None before facts right found = knows-found (opening setup past) None past facts found refl
+knows-opening setup past (Some marks) before facts right found =
+    subst (KnowsEnough (opening setup past) (Some marks)) (sym found) (by before right)
+  where
+    by : (known : Option (List Fact)) → IsRight past known → KnowsEnough (opening setup past) (Some marks) known
+    by None known = record { nobody = refl; marked = refl }
+    by (Some fs) known = known
+
+-- it stays enough where nobody is taken
+pub knows-same :
+    (w v : RoundState) (marks : Option (Vec Bool Global)) (facts : Option (List Fact))
+    → KnowsEnough w marks facts → v.past ≡ w.past → v.in_flight ≡ w.in_flight → KnowsEnough v marks facts
+knows-same w v marks None knows past in_flight = record { nobody = in_flight ∙ knows.nobody; marked = knows.marked }
+knows-same w v marks (Some fs) knows past in_flight = knows-found v marks w.past (Some fs) knows past
+
+-- where anybody is in flight, all is known
+pub knows-in_flight :
+    (w v : RoundState) (marks after : Option (Vec Bool Global)) (facts : Option (List Fact)) (t : ℕ)
+    → KnowsEnough w marks facts → is_in_flight w t ≡ true → v.past ≡ w.past → KnowsEnough v after facts
+knows-in_flight w v marks after None t knows taken past =
+    absurd
+    (let nobody : is_in_flight w t ≡ false =
+    ap (λ (flags : List Bool). is_in_flight_of flags t) knows.nobody ∙ none_in_flight-none t in cc)
+knows-in_flight w v marks after (Some fs) t knows taken past = knows-found v after w.past (Some fs) knows past
+
+-- a record that is reused
+pub knows-reused :
+    (w v : RoundState) (marks : Option (Vec Bool Global)) (before facts : Option (List Fact)) (next : Bool)
+    → KnowsEnough w marks before → IsFound (not next) w.past before facts
+    → v.past ≡ w.past → v.in_flight ≡ w.in_flight
+    → KnowsEnough v (cond next marks None) facts
+knows-reused w v marks before facts true knows found past in_flight =
+    knows-same w v marks facts (subst (KnowsEnough w marks) (sym found) knows) past in_flight
+knows-reused w v marks before facts false knows found past in_flight = knows-found v None w.past facts found past
+
+-- a round after what its history's steps do was found
+pub kept-found :
+    (w : RoundState) (i : ℕ) (fs gs : Option (List Fact)) (b : Option (Vec Bool Global)) (needed : Bool)
+    → IsConsistent w i fs b → IsFound needed w.past fs gs → IsConsistent w i gs b
+kept-found w i fs gs b needed kept found =
+    record {
+      valid = kept.valid;
+      in_order = kept.in_order;
+      counted = kept.counted;
+      by_schedule = kept.by_schedule;
+      applied = kept.applied;
+      on_map = kept.on_map;
+      framed = kept.framed;
+      points = kept.points;
+      executed = kept.executed;
+      few = kept.few;
+      knows = knows-more w b fs gs needed kept.knows found;
+      as_before = kept.as_before;
     }
 
 -- records applied one after the other, and one more
@@ -144,14 +223,14 @@ applied-coherent w applied ended =
 -- after an event
 
 pub kept-happens :
-    (w v : RoundState) (e : Event) (i j : ℕ) (fs : List Fact)
+    (w v : RoundState) (e : Event) (i j : ℕ) (fs gs : Option (List Fact))
     (b c : Option (Vec Bool Global))
     → IsConsistent w i fs b → happens w e ≡ v → v.setup ≡ w.setup → v.past ≡ w.past
     → IsApplied v → length v.picked ≡ length v.schedule
     → j ≡ executed_instructions v.schedule v.records → j ≤ 4294967295 * length v.schedule
-    → IsAsBefore v c
-    → IsConsistent v j fs c
-kept-happens w v e i j fs b c kept is setup past applied points executed few as_before =
+    → IsAsBefore v c → KnowsEnough v c gs
+    → IsConsistent v j gs c
+kept-happens w v e i j fs gs b c kept is setup past applied points executed few as_before knows =
     record {
       valid = subst IsSetup (sym setup) kept.valid;
       in_order = subst IsInOrder is (happens-kept w e kept.in_order);
@@ -165,32 +244,31 @@ kept-happens w v e i j fs b c kept is setup past applied points executed few as_
       points = points;
       executed = executed;
       few = few;
-      of_run = subst (λ (p : Option History). AreOfRun (past_records p)) (sym past) kept.of_run;
-      facts_are = kept.facts_are ∙ ap past_facts (sym past);
+      knows = knows;
       as_before = as_before;
     }
 
 -- where one is
 pub kept-more :
-    (w v : RoundState) (e : Event) (i j : ℕ) (fs : List Fact)
+    (w v : RoundState) (e : Event) (i j : ℕ) (fs gs : Option (List Fact))
     (b c : Option (Vec Bool Global)) (entry : Entry) (r : Record) (point : ℕ)
     → IsConsistent w i fs b → happens w e ≡ v → v.setup ≡ w.setup → v.past ≡ w.past
     → v.schedule ≡ w.schedule ++ entry ∷ [] → v.records ≡ w.records ++ r ∷ [] → v.picked ≡ w.picked ++ point ∷ []
     → IsApplied v → j ≡ i + cond entry.reused 0 r.kept.count → cond entry.reused 0 r.kept.count ≤ 4294967295
-    → IsAsBefore v c
-    → IsConsistent v j fs c
-kept-more w v e i j fs b c entry r point kept is setup past schedule records picked applied sum few as_before =
+    → IsAsBefore v c → KnowsEnough v c gs
+    → IsConsistent v j gs c
+kept-more w v e i j fs gs b c entry r point kept is setup past schedule records picked applied sum few as_before knows =
     let more = executed-more w.schedule w.records entry r (record_count w kept.counted) in
     let executed = kept.executed in
     let before = kept.few in
     let points = kept.points in
     let longer = length-append w.schedule (entry ∷ []) in
     let one_more = length-append w.picked (point ∷ []) in
-    kept-happens w v e i j fs b c kept is setup past applied
+    kept-happens w v e i j fs gs b c kept is setup past applied
     (rw (schedule, picked) (omega arith))
     (rw (schedule, records) (omega arith))
     (rw schedule (omega arith))
-    as_before
+    as_before knows
 
 -- what is left
 

@@ -8,3 +8,4 @@ pub mod Appending
 pub mod Executing
 pub mod Alike
 pub mod Making
+pub mod InStep

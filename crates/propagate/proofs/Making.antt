@@ -11,10 +11,10 @@ use Rattle.round_spec.specs.declared.events.Event.TheVariants.{Reuse, Commit, Gi
 use Rattle.round_spec.specs.Marks.{record_for}
 use Rattle.round_spec.specs.Rounds.{RoundState, can_reuse, happens, is_in_flight, taken_when, given_back}
 use Rattle.round_spec.proofs.Conditions.{happens-reuse, happens-give_back, commit-applies}
-use Rattle.propagate.specs.Consistency.{IsConsistent}
+use Rattle.propagate.specs.Consistency.{IsConsistent, KnowsEnough}
 use Rattle.propagate.specs.Alike.{IsAsBefore}
 use Rattle.propagate.specs.Committing.{CanCommit, GoesOn}
-use Rattle.propagate.proofs.Keeping.{kept-happens, kept-more, applied-round}
+use Rattle.propagate.proofs.Keeping.{kept-happens, kept-more, applied-round, knows-in_flight}
 use Rattle.propagate.proofs.Alike.{as-before-same}
 use Rattle.propagate.proofs.Appending.{CanAppend, fitting-append, Reusable, reusable, going-none, can-apply, reuse-can}
 
@@ -39,12 +39,12 @@ handed_in w r =
 -- an executed step that can be committed
 
 pub commit-append :
-    (w : RoundState) (i : ℕ) (fs : List Fact) (b : Option (Vec Bool Global)) (frame : Frame) (r : Record) → IsConsistent w i fs b → CanCommit w frame r
+    (w : RoundState) (i : ℕ) (fs : Option (List Fact)) (b : Option (Vec Bool Global)) (frame : Frame) (r : Record) → IsConsistent w i fs b → CanCommit w frame r
     → CanAppend w r
 commit-append w i fs b frame r kept can = fitting-append w r kept.in_order kept.counted can.going can.fit
 
 pub commit-happens :
-    (w : RoundState) (i : ℕ) (fs : List Fact) (b : Option (Vec Bool Global)) (frame : Frame) (r : Record)
+    (w : RoundState) (i : ℕ) (fs : Option (List Fact)) (b : Option (Vec Bool Global)) (frame : Frame) (r : Record)
     → IsConsistent w i fs b → CanCommit w frame r → IsTrue frame r.start r.kept
     → happens w (Commit r.thread) ≡ handed_in w r
 commit-happens w i fs b frame r kept can honest =
@@ -52,14 +52,14 @@ commit-happens w i fs b frame r kept can honest =
     can.taken can.going can.fit
 
 pub commit-kept :
-    (w v : RoundState) (i j : ℕ) (fs : List Fact) (b c : Option (Vec Bool Global)) (frame : Frame) (r : Record)
+    (w v : RoundState) (i j : ℕ) (fs : Option (List Fact)) (b c : Option (Vec Bool Global)) (frame : Frame) (r : Record)
     → IsConsistent w i fs b → CanCommit w frame r → IsTrue frame r.start r.kept
     → v ≡ handed_in w r
     → j ≡ i + r.kept.count → r.kept.count ≤ 4294967295
     → IsAsBefore v c
     → IsConsistent v j fs c
 commit-kept w v i j fs b c frame r kept can honest is sum few as_before =
-    kept-more w v (Commit r.thread) i j fs b c (record { thread = r.thread; reused = false }) r (taken_when w r.thread) kept
+    kept-more w v (Commit r.thread) i j fs fs b c (record { thread = r.thread; reused = false }) r (taken_when w r.thread) kept
     (commit-happens w i fs b frame r kept can honest ∙ sym is)
     (ap (λ (x : RoundState). x.setup) is) (ap (λ (x : RoundState). x.past) is)
     (ap (λ (x : RoundState). x.schedule) is) (ap (λ (x : RoundState). x.records) is)
@@ -68,16 +68,17 @@ commit-kept w v i j fs b c frame r kept can honest is sum few as_before =
     (ap (λ (x : RoundState). x.setup) is) (ap (λ (x : RoundState). x.machine) is)
     (ap (λ (x : RoundState). x.records) is))
     sum few as_before
+    (knows-in_flight w v b c fs r.thread kept.knows can.taken (ap (λ (x : RoundState). x.past) is))
 
 -- a record that is reused
 
 pub reuse-append :
-    (w : RoundState) (i t : ℕ) (fs : List Fact) (b : Option (Vec Bool Global)) (r : Record)
+    (w : RoundState) (i t : ℕ) (fs : Option (List Fact)) (b : Option (Vec Bool Global)) (r : Record)
     → IsConsistent w i fs b → can_reuse w t ≡ true → record_for w.past w.machine t ≡ Some r → Reusable w t r
 reuse-append w i t fs b r kept can there = reusable w t r kept.in_order kept.counted can there
 
 pub reuse-happens :
-    (w v : RoundState) (i t : ℕ) (fs : List Fact) (b : Option (Vec Bool Global)) (r : Record)
+    (w v : RoundState) (i t : ℕ) (fs : Option (List Fact)) (b : Option (Vec Bool Global)) (r : Record)
     → IsConsistent w i fs b → can_reuse w t ≡ true → record_for w.past w.machine t ≡ Some r
     → v ≡ appended w r true (length w.schedule)
     → v ≡ happens w (Reuse t)
@@ -94,13 +95,13 @@ reuse-happens w v i t fs b r kept can there is =
     ∙ sym (happens-reuse w t r can there)
 
 pub reuse-kept :
-    (w v : RoundState) (i t : ℕ) (fs : List Fact) (b c : Option (Vec Bool Global)) (r : Record)
+    (w v : RoundState) (i t : ℕ) (fs gs : Option (List Fact)) (b c : Option (Vec Bool Global)) (r : Record)
     → IsConsistent w i fs b → can_reuse w t ≡ true → record_for w.past w.machine t ≡ Some r
     → v ≡ appended w r true (length w.schedule)
-    → IsAsBefore v c
-    → IsConsistent v i fs c
-reuse-kept w v i t fs b c r kept can there is as_before =
-    kept-more w v (Reuse t) i i fs b c (record { thread = r.thread; reused = true }) r (length w.schedule) kept
+    → IsAsBefore v c → KnowsEnough v c gs
+    → IsConsistent v i gs c
+reuse-kept w v i t fs gs b c r kept can there is as_before knows =
+    kept-more w v (Reuse t) i i fs gs b c (record { thread = r.thread; reused = true }) r (length w.schedule) kept
     (sym (reuse-happens w v i t fs b r kept can there is))
     (ap (λ (x : RoundState). x.setup) is) (ap (λ (x : RoundState). x.past) is)
     (ap (λ (x : RoundState). x.schedule) is) (ap (λ (x : RoundState). x.records) is)
@@ -109,19 +110,20 @@ reuse-kept w v i t fs b c r kept can there is as_before =
     (ap (λ (x : RoundState). x.setup) is) (ap (λ (x : RoundState). x.machine) is)
     (ap (λ (x : RoundState). x.records) is))
     (omega arith) (omega arith)
-    as_before
+    as_before knows
 
 -- a step that is discarded
 
 pub discarded-kept :
-    (w v : RoundState) (i t : ℕ) (fs : List Fact) (b : Option (Vec Bool Global))
+    (w v : RoundState) (i t : ℕ) (fs : Option (List Fact)) (b : Option (Vec Bool Global))
     → IsConsistent w i fs b → is_in_flight w t ≡ true → v ≡ given_back w t → IsConsistent v i fs b
 discarded-kept w v i t fs b kept in_flight is =
     subst (λ (x : RoundState). IsConsistent x i fs b) (sym is)
-    (kept-happens w (given_back w t) (GiveBack t) i i fs b b kept (happens-give_back w t in_flight) refl refl
+    (kept-happens w (given_back w t) (GiveBack t) i i fs fs b b kept (happens-give_back w t in_flight) refl refl
     (record { machine = kept.applied.machine; can = kept.applied.can }) kept.points kept.executed kept.few
     (as-before-same w (given_back w t) b kept.as_before
-    (record { setup = refl; past = refl; machine = refl; schedule = refl; records = refl })))
+    (record { setup = refl; past = refl; machine = refl; schedule = refl; records = refl }))
+    (knows-in_flight w (given_back w t) b b fs t kept.knows in_flight refl))
 
 -- ---- the entries of a round after it
 

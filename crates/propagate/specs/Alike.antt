@@ -34,11 +34,12 @@ pub record IsLike (marks : List Bool) (old m : Machine) : Type 0 where
       (u p : ℕ) → is_ready (hart_of old u).status ≡ true → is_marked marks p ≡ false
       → page_of (hart_of m u).view p ≡ page_of (hart_of old u).view p
 
--- A round goes on as a history did that may be run and holds together: its machine is like the history's after as many
--- steps, unless the history's has ended.
+-- A round goes on as a history did that may be run and holds together: each thread has made as many steps as in the
+-- history's machine after as many steps, and unless that has ended, the round's machine is like it.
 pub record GoesOnAs (h : History) (marks : List Bool) (w : RoundState) : Type 0 where
   pub valid : IsSetup h.setup
   pub coherent : is_coherent h ≡ true
+  pub numbers : (u : ℕ) → (hart_of w.machine u).number ≡ (hart_of (machine_at h (length w.records)) u).number
   pub like :
       is_none (machine_at h (length w.records)).ending ≡ true
       → IsLike marks (machine_at h (length w.records)) w.machine

@@ -1,11 +1,11 @@
 -- What a round in code keeps beside what is seen of it.
-use Rattle.std.specs.Prelude.{◌≡◌, ◌≤◌, ◌*◌, ℕ, ⊤, Bool, true, List, All, length, Option, Some, None, Vec}
+use Rattle.std.specs.Prelude.{◌≡◌, ◌≤◌, ◌*◌, ℕ, ⊤, Bool, true, false, List, All, length, Option, Some, None, is_some, Vec}
 use Rattle.std.specs.Global.{Global}
 use Rattle.machine_spec.specs.Setup.{Setup, IsSetup, first, map_of}
 use Rattle.history_spec.specs.History.{History, applied_from, can_apply_from, IsMappedIn, IsMapped, past_records}
 use Rattle.order_spec.specs.Facts.{Fact}
 use Rattle.release_core.specs.Records.{AreOfRun}
-use Rattle.round_spec.specs.Rounds.{RoundState, history_of}
+use Rattle.round_spec.specs.Rounds.{RoundState, history_of, none_in_flight}
 use Rattle.round_spec.specs.Due.{past_facts}
 use Rattle.round_spec.specs.Keeping.{IsInOrder, IsCounted}
 use Rattle.round_spec.specs.Schedules.{IsBySchedule}
@@ -37,11 +37,40 @@ pub record IsValid (w : RoundState) : Type 0 where
   pub counted : IsCounted w
   pub by_schedule : IsBySchedule w
 
+-- What the steps of a history do, whose records are those of a run.
+pub record AreFactsOf (past : Option History) (facts : List Fact) : Type 0 where
+  pub same : facts ≡ past_facts past
+  pub of_run : AreOfRun (past_records past)
+
+-- This is known; and it is right where anything is.
+abbrev pub IsKnown : Option History → Option (List Fact) → Type 0
+IsKnown past None = ⊥
+IsKnown past (Some facts) = AreFactsOf past facts
+
+abbrev pub IsRight : Option History → Option (List Fact) → Type 0
+IsRight past None = ⊤
+IsRight past (Some facts) = AreFactsOf past facts
+
+-- What is known after it was found if that was needed.
+abbrev pub IsFound : Bool → Option History → Option (List Fact) → Option (List Fact) → Type 0
+IsFound true past before facts = IsKnown past facts
+IsFound false past before facts = facts ≡ before
+
+-- Nobody is in flight, and marks are kept: the round goes on as its history did.
+pub record IsInStep (w : RoundState) (marks : Option (Vec Bool Global)) : Type 0 where
+  pub nobody : w.in_flight ≡ none_in_flight
+  pub marked : is_some marks ≡ true
+
+-- What the steps of a round's history do is known, or the round goes on as that history did with nobody in flight.
+abbrev pub KnowsEnough : RoundState → Option (Vec Bool Global) → Option (List Fact) → Type 0
+KnowsEnough w marks None = IsInStep w marks
+KnowsEnough w marks (Some facts) = AreFactsOf w.past facts
+
 -- A round that is in order, counts right and is where its schedule and its records lead, with the page map and the fuel
--- of its setup; for each entry it is kept when its thread was picked; and what it goes by are records of a run. With it
--- stand the sum of the counts of its executed entries, what the steps of its history do, and while it goes on as that
--- history did, marks on the pages that may differ.
-pub record IsConsistent (w : RoundState) (instructions : ℕ) (facts : List Fact)
+-- of its setup; and for each entry it is kept when its thread was picked. With it stand the sum of the counts of its
+-- executed entries; what the steps of its history do, unless it goes on as that did with nobody in flight; and while it
+-- goes on as that did, marks on the pages that may differ.
+pub record IsConsistent (w : RoundState) (instructions : ℕ) (facts : Option (List Fact))
     (marks : Option (Vec Bool Global)) : Type 0
   where
     pub valid : IsSetup w.setup
@@ -54,6 +83,5 @@ pub record IsConsistent (w : RoundState) (instructions : ℕ) (facts : List Fact
     pub points : length w.picked ≡ length w.schedule
     pub executed : instructions ≡ executed_instructions w.schedule w.records
     pub few : instructions ≤ 4294967295 * length w.schedule
-    pub of_run : AreOfRun (past_records w.past)
-    pub facts_are : facts ≡ past_facts w.past
+    pub knows : KnowsEnough w marks facts
     pub as_before : IsAsBefore w marks

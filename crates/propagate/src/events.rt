@@ -14,7 +14,7 @@ ghost use Rattle.propagate.specs.Committing.{CanCommit, Commits, GoesOn, entries
 ghost use Rattle.propagate.specs.Consistency.{IsValid};
 
 use super::marks::{marks_after, marks_if};
-use super::round::Round;
+use super::round::{Round, find_facts};
 use guest_call::THREADS;
 use machine_spec::MOST_STEPS;
 use release_core::{Core, Records};
@@ -100,6 +100,8 @@ impl Round {
             None => unreachable!(),
         };
         let next = self.is_next(t);
+        let alloc = *self.schedule.allocator();
+        find_facts(alloc, &self.past, &mut self.graph, !next)?;
         self.picked.reserve(1)?;
         let now = self.entries();
         append(
@@ -129,6 +131,8 @@ impl Round {
         ensures valid { IsValid self.old }
     {
         let job = self.core.start_of(t)?;
+        let alloc = *self.schedule.allocator();
+        find_facts(alloc, &self.past, &mut self.graph, true)?;
         let now = self.entries();
         self.in_flight[usize::from(t)] = true;
         self.taken_at[usize::from(t)] = now;

@@ -1,22 +1,24 @@
 //! What a worker may do next.
 
-ghost use Rattle.std.specs.Prelude.{◌≡◌, ◌<◌, ◌≤◌, ◌+◌, ◌==◌, ℕ, true, length, slice_index, nat_le, option_map, Some, Decides};
+ghost use Rattle.std.specs.Prelude.{◌≡◌, ◌<◌, ◌≤◌, ◌+◌, ◌==◌, ℕ, true, false, length, slice_get, slice_index, nat_le, option_map, Some, Decides};
 ghost use Rattle.std.specs.Arc.{arc_value};
-ghost use Rattle.history_spec.specs.History.{History as OldHistory, is_coherent};
+ghost use Rattle.record_spec.specs.Record.{Record as OldRecord};
+ghost use Rattle.history_spec.specs.History.{History as OldHistory, is_coherent, past_records};
 ghost use Rattle.round_spec.specs.declared.events.Pick.TheVariants as pick;
 ghost use Rattle.round_spec.specs.Marks.{record_for, fits_next};
-ghost use Rattle.round_spec.specs.Rounds.{is_free_in, can_begin, can_take, can_reuse};
+ghost use Rattle.round_spec.specs.Rounds.{is_finished, is_free_in, can_begin, can_take, can_reuse};
 ghost use Rattle.round_spec.specs.Due.{is_due, place_in};
 ghost use Rattle.round_spec.specs.Choice.{is_any_in_flight, choice_by, pick_of};
 ghost use Rattle.worker_spec.specs.Replaying.{IsReplaying};
 ghost use Rattle.propagate.specs.Alike.{IsNext, IsRepeated};
 ghost use Rattle.propagate.specs.Choosing as choosing;
-ghost use Rattle.propagate.specs.Consistency.{IsValid};
+ghost use Rattle.propagate.specs.Consistency.{IsValid, AreFactsOf};
 ghost use Rattle.propagate.specs.declared.picking.Candidate.{Candidate};
 ghost use Rattle.propagate.specs.Choosing.{comes_before, has_made, HaveMade, candidate_of, leader_of, free_below, AreLeadersBelow, is_something};
 
 use super::marks::all_unmarked;
 use super::round::Round;
+use depend_graph::Graph;
 use guest_call::THREADS;
 use release_core::Core;
 use round_spec::Pick;
@@ -172,14 +174,15 @@ impl Round {
 
     /// Whether thread `t`, whose next step has this place in the history, is due: each thread has made the
     /// steps that the clock of that place counts of it.
-    fn is_due_at(&self, t: u8, place: usize) -> bool
-        requires { place ≡ place_in self.now.past self.now.machine t }
+    fn is_due_at(&self, graph: &Graph, t: u8, place: usize) -> bool
+        requires facts { AreFactsOf self.now.past graph.now }
+        requires place { place ≡ place_in self.now.past self.now.machine t }
         ensures { result ≡ is_due self.now.past self.now.machine t }
     {
-        if place >= self.graph.len() {
+        if place >= graph.len() {
             return true;
         }
-        have_made(&self.core, self.graph.clock(place), t)
+        have_made(&self.core, graph.clock(place), t)
     }
 
     /// Whether thread `t` is ready and not in flight.
@@ -262,7 +265,8 @@ impl Round {
     }
 
     /// The leaders, where those below thread `t` are known.
-    fn with_thread(&self, found: Leaders, t: u8) -> Leaders
+    fn with_thread(&self, graph: &Graph, found: Leaders, t: u8) -> Leaders
+        requires facts { AreFactsOf self.now.past graph.now }
         requires exists { t < length self.now.machine.harts }
         requires below { AreLeadersBelow self.now t found }
         ensures { AreLeadersBelow self.now (t + 1) result }
@@ -273,7 +277,7 @@ impl Round {
         let next = self.candidate(t);
         let free = Some(better(found.free, next));
         // A clock is looked at only where the thread would lead.
-        if !leads(found.due, next) || !self.is_due_at(t, next.place) {
+        if !leads(found.due, next) || !self.is_due_at(graph, t, next.place) {
             return Leaders {
                 due: found.due,
                 free,
@@ -287,7 +291,8 @@ impl Round {
 
     /// The leaders of all free threads. Looks at each thread once, at the clock of those alone that come
     /// before all due ones so far, and compares no record.
-    fn all_leaders(&self) -> Leaders
+    fn all_leaders(&self, graph: &Graph) -> Leaders
+        requires facts { AreFactsOf self.now.past graph.now }
         ensures { AreLeadersBelow self.now (length self.now.machine.harts) result }
     {
         let mut found = Leaders {
@@ -295,32 +300,64 @@ impl Round {
             free: None,
         };
         for t in 0..self.core.threads() {
-            found = self.with_thread(found, t as u8);
+            found = self.with_thread(graph, found, t as u8);
         }
         found
     }
 
-    /// The leaders of all free threads. Where the best of them is due, as it is in a round without an edit, its clock
-    /// alone is looked at.
-    fn leaders(&self) -> Leaders
+    /// The leaders of all free threads. Where the best of them is due, its clock alone is looked at.
+    fn leaders(&self, graph: &Graph) -> Leaders
+        requires facts { AreFactsOf self.now.past graph.now }
         ensures { AreLeadersBelow self.now (length self.now.machine.harts) result }
     {
         let free = self.first_free();
         match free {
-            Some(first) if self.is_due_at(first.thread, first.place) => Leaders { due: free, free },
-            _ => self.all_leaders(),
+            Some(first) if self.is_due_at(graph, first.thread, first.place) => {
+                Leaders { due: free, free }
+            }
+            _ => self.all_leaders(graph),
         }
     }
 
-    /// The thread that is chosen, if one is.
-    fn choice(&self) -> Option<u8>
+    /// The thread that is chosen by what the steps of the history do, if one is.
+    fn choice_among(&self, graph: &Graph) -> Option<u8>
+        requires facts { AreFactsOf self.now.past graph.now }
         ensures { result ≡ choice_by self.now.past self.now.machine self.now.in_flight }
     {
-        let Leaders { due, free } = self.leaders();
+        let Leaders { due, free } = self.leaders(graph);
         if due.is_some() || self.is_any_in_flight() {
             return thread_of(due);
         }
         thread_of(free)
+    }
+
+    /// The thread of the history's step in the place of the next entry, if there is one.
+    fn next_in_history(&self) -> Option<u8>
+        ensures { result ≡ option_map (λ (r : OldRecord). r.thread)
+            (slice_get (past_records self.now.past) (length self.now.schedule)) }
+    {
+        let place = self.schedule.len();
+        match &self.past {
+            Some(history) if place < history.records().len() => {
+                Some(history.records().at(place).thread())
+            }
+            _ => None,
+        }
+    }
+
+    /// The thread that is chosen, if one is. No thread is looked at while the round goes on as its history did with nobody
+    /// in flight: the history's next step is due then, and comes first.
+    fn choice(&self) -> Option<u8>
+        requires going { is_finished self.now ≡ false }
+        ensures { result ≡ choice_by self.now.past self.now.machine self.now.in_flight }
+    {
+        match &self.graph {
+            Some(graph) => self.choice_among(graph),
+            None => match self.next_in_history() {
+                Some(t) => Some(t),
+                None => thread_of(self.first_free()),
+            },
+        }
     }
 
     /// Whether there is anything to do: to reuse a record or to execute a step. Compares no page.
@@ -337,6 +374,9 @@ impl Round {
         ensures stopped { self.now.stopped ≡ true → result ≡ pick.Over }
         ensures reuse { (t : ℕ) → result ≡ pick.Reuse t → can_reuse self.now t ≡ true }
         ensures run { (t : ℕ) → result ≡ pick.Run t → can_take self.now t ≡ true }
+        ensures holds { result ≡ pick.Hold → (t : ℕ)
+            → is_free_in self.now.machine self.now.in_flight t ≡ true
+            → is_due self.now.past self.now.machine t ≡ false }
         ensures spares { (h : OldHistory) → is_coherent h ≡ true → IsReplaying h self.now
             → compared.new ≡ compared.old }
         ensures never_lower { compared.old ≤ compared.new }

@@ -8,7 +8,7 @@ ghost use Rattle.reach_spec.specs.Reach.{reads_of, changed_slots, changed, reach
 ghost use Rattle.release_core.specs.Records.{AreOfRun};
 ghost use Rattle.depend_graph.specs.Reaching.{slots_of_each};
 
-use super::round::Round;
+use super::round::{Round, graph_of};
 use depend_graph::{Graph, MOST_FACTS};
 use page_store::PageTable;
 use release_core::{Core, History, Setup};
@@ -107,7 +107,15 @@ impl Round {
         match &self.past {
             Some(history) => {
                 let alloc = *self.schedule.allocator();
-                steps_reached(alloc, history, &self.graph, &self.setup)
+                match &self.graph {
+                    Some(graph) => steps_reached(alloc, history, graph, &self.setup),
+                    None => steps_reached(
+                        alloc,
+                        history,
+                        &graph_of(alloc, &self.past)?,
+                        &self.setup,
+                    ),
+                }
             }
             None => Ok(0),
         }

@@ -1,16 +1,14 @@
 //! A round, and what it tells.
 
-ghost use Rattle.std.specs.Prelude.{◌≡◌, ◌<◌, true, false, length, is_some, option_map, slice_get, Some, None, Decides, IfOk};
+ghost use Rattle.std.specs.Prelude.{◌≡◌, ◌<◌, true, false, length, is_some, option_map, slice_get, Some, None, Decides, IfOk, OnOk, OnErr};
 ghost use Rattle.std.specs.Bool.{OnTrue};
 ghost use Rattle.std.specs.Arc.{arc_value};
 ghost use Rattle.machine_spec.specs.Setup.{IsSetup, first};
-ghost use Rattle.history_spec.specs.History.{History as OldHistory, IsHonest, IsSound, IsMapped, found, is_coherent, past_records};
+ghost use Rattle.history_spec.specs.History.{History as OldHistory, IsHonest, IsSound, IsMapped, found, is_coherent};
 ghost use Rattle.report_spec.specs.Report.{instructions_from};
 ghost use Rattle.round_spec.specs.Rounds.{none_in_flight, nothing_taken, opening, is_finished, is_in_flight, history_of};
-ghost use Rattle.round_spec.specs.Due.{past_facts};
 ghost use Rattle.round_spec.specs.Instructions.{executed_instructions};
-ghost use Rattle.release_core.specs.Records.{AreOfRun};
-ghost use Rattle.propagate.specs.Consistency.{IsOfMap, IsValid};
+ghost use Rattle.propagate.specs.Consistency.{IsOfMap, IsValid, AreFactsOf, IsRight, IsFound};
 
 use super::marks::marks_at_start;
 use depend_graph::Graph;
@@ -27,14 +25,14 @@ use thunk_record::Record;
 
 /// A round as it stands: what it started from and goes by, the machine, the steps so far with their
 /// records and with when each was picked, who is in flight and since when, and what was discarded. A clause
-/// sees a `RoundState` of `round_spec`. Beside it stands which steps of the history depend on which, and while
-/// the round goes on as the history did, by slot, marks on the pages that may differ: records of other pages fit without a
-/// comparison.
+/// sees a `RoundState` of `round_spec`. Beside it stand, while the round goes on as the history did, by slot, marks on the
+/// pages that may differ: records of other pages fit without a comparison; and which steps of the history depend on which,
+/// unless the round goes on as the history did with nobody in flight: then the history's next step is due.
 #[derive(Drop)]
 pub struct Round {
     pub(super) setup: Setup,
     pub(super) past: Option<Arc<History>>,
-    pub(super) graph: Graph,
+    pub(super) graph: Option<Graph>,
     pub(super) core: Core,
     pub(super) schedule: Vec<Entry>,
     pub(super) records: Records,
@@ -87,20 +85,50 @@ fn nothing_taken() -> [u32; THREADS]
     [0; THREADS]
 }
 
-/// Which steps of a history depend on which, and whether it holds together, if there is one.
-fn graph_of(alloc: Global, past: &Option<Arc<History>>) -> Result<(Graph, bool), AllocError>
-    ensures graph { IfOk result (λ found.
-        found.0 ≡ past_facts (option_map arc_value past.now)) }
-    ensures coherent { IfOk result (λ found. (h : OldHistory) → option_map arc_value past.now ≡ Some h
-        → found.1 ≡ is_coherent h) }
-    ensures of_run { IfOk result (λ _. AreOfRun (past_records (option_map arc_value past.now))) }
+/// Which steps of a history depend on which, if there is one.
+pub(super) fn graph_of(alloc: Global, past: &Option<Arc<History>>) -> Result<Graph, AllocError>
+    ensures { IfOk result (AreFactsOf (option_map arc_value past.now)) }
 {
     match past {
+        Some(history) => Graph::of(alloc, facts(alloc, history)?.facts),
+        None => Graph::of(alloc, Vec::new(alloc)),
+    }
+}
+
+/// Finds which steps of a history depend on which if that is needed, unless it is known.
+pub(super) fn find_facts(
+    alloc: Global,
+    past: &Option<Arc<History>>,
+    graph: &mut Option<Graph>,
+    needed: bool,
+) -> Result<(), AllocError>
+    requires right { IsRight (option_map arc_value past.now) graph.old }
+    ensures found { OnOk result (IsFound needed (option_map arc_value past.now) graph.old graph.new) }
+    ensures err { OnErr result (graph.new ≡ graph.old) }
+{
+    if needed && graph.is_none() {
+        *graph = Some(graph_of(alloc, past)?);
+    }
+    Ok(())
+}
+
+/// Whether a history holds together, if there is one, and which of its steps depend on which, unless the former is known
+/// without the latter.
+fn first_look(
+    alloc: Global,
+    past: &Option<Arc<History>>,
+) -> Result<(Option<Graph>, bool), AllocError>
+    ensures right { IfOk result (λ found. IsRight (option_map arc_value past.now) found.0) }
+    ensures coherent { IfOk result (λ found. (h : OldHistory) → option_map arc_value past.now ≡ Some h
+        → found.1 ≡ is_coherent h) }
+{
+    match past {
+        Some(history) if history.is_known_coherent() => Ok((None, true)),
         Some(history) => {
             let HistoryFacts { facts, coherent } = facts(alloc, history)?;
-            Ok((Graph::of(alloc, facts)?, coherent))
+            Ok((Some(Graph::of(alloc, facts)?), coherent))
         }
-        None => Ok((Graph::of(alloc, Vec::new(alloc))?, false)),
+        None => Ok((None, false)),
     }
 }
 
@@ -117,8 +145,9 @@ impl Round {
         ensures sound { IfOk result (λ _. IsSetup setup) }
     {
         let core = Core::new(alloc, &setup)?;
-        let (graph, coherent) = graph_of(alloc, &past)?;
+        let (mut graph, coherent) = first_look(alloc, &past)?;
         let marks = marks_at_start(alloc, &past, coherent, &setup, core.memory())?;
+        find_facts(alloc, &past, &mut graph, marks.is_none())?;
         Ok(Round {
             setup,
             past,

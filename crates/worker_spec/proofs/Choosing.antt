@@ -1,5 +1,5 @@
 -- What holds of the thread that is chosen, and that with nobody in flight there is one where any is ready.
-use Rattle.std.proofs.Common.{◌≡◌, ◌⊎◌, ◌≤◌, ◌+◌, ℕ, zero, suc, Bool, true, false, not, ◌&&◌, eqb, List, [], ◌∷◌, length, map, Option, Some, is_some, refl, ap, sym, ◌∙◌, subst, inl, inr, arith}
+use Rattle.std.proofs.Common.{◌≡◌, ◌⊎◌, ◌≤◌, ◌+◌, ℕ, zero, suc, Bool, true, false, not, ◌&&◌, eqb, List, [], ◌∷◌, length, map, Option, Some, None, is_some, refl, ap, sym, ◌∙◌, subst, inl, inr, arith}
 use Rattle.std.proofs.lemmas.Bool.{eqb-true}
 use Rattle.std.specs.List.{AllByRecursion, filter, list_any, range_with_len}
 use Rattle.machine_spec.specs.Machine.{Hart, Machine, hart_in, hart_of, is_ready}
@@ -139,6 +139,35 @@ free-due P m in_flight p v all free pass =
     (all-unfiltered (λ u. p u ≡ true → P u) (is_free_in m in_flight) (range_with_len 0 (length m.harts))
     (all-unfiltered P p (filter (is_free_in m in_flight) (range_with_len 0 (length m.harts))) all))
     (omega arith) (let below = ready-below m.harts v (free-is_ready m in_flight v free) in omega arith) free pass
+
+-- where nobody is chosen, nobody who is free is due
+
+nobody-due : (due free : List ℕ) (any : Bool) → is_some (first_of (eligible due free any)) ≡ false → due ≡ []
+nobody-due [] free any none = refl
+nobody-due (t ∷ due) free any none = cc
+
+pub choice_by-none :
+    (past : Option History) (m : Machine) (in_flight : List Bool) (v : ℕ)
+    → choice_by past m in_flight ≡ None → is_free_in m in_flight v ≡ true → is_due past m v ≡ false
+unfolding choice_by
+choice_by-none past m in_flight v none free = by (is_due past m v) refl
+  where
+    nobody : filter (is_due past m) (free_threads m in_flight) ≡ []
+    nobody =
+        nobody-due (filter (is_due past m) (free_threads m in_flight)) (free_threads m in_flight)
+        (is_any_in_flight in_flight)
+        (sym
+        (some-best past m
+        (eligible (filter (is_due past m) (free_threads m in_flight)) (free_threads m in_flight)
+        (is_any_in_flight in_flight)))
+        ∙ ap (λ (o : Option ℕ). is_some o) none)
+
+    by : (b : Bool) → is_due past m v ≡ b → is_due past m v ≡ false
+    by true due =
+        absurd
+        (free-due (λ (u : ℕ). ⊥) m in_flight (is_due past m) v
+        (subst (AllByRecursion (λ (u : ℕ). ⊥)) (sym nobody) tt) free due)
+    by false due = due
 
 pub choice_by-chosen :
     (past : Option History) (m : Machine) (in_flight : List Bool) (u : ℕ) → choice_by past m in_flight ≡ Some u

@@ -1,18 +1,19 @@
 -- What comes next in a history that holds together.
-use Rattle.std.proofs.Common.{◌≡◌, ◌<◌, ◌≤◌, ◌+◌, ℕ, true, ◌&&◌, eqb, List, [], ◌∷◌, ◌++◌, count_by, Some, is_none, is_some, refl, ap, sym, ◌∙◌, subst, append-nil, arith}
+use Rattle.std.proofs.Common.{◌≡◌, ◌<◌, ◌≤◌, ℕ, true, ◌&&◌, eqb, List, [], ◌∷◌, ◌++◌, length, count_by, Some, is_none, is_some, refl, ap, sym, ◌∙◌, append-nil, arith}
 use Rattle.std.proofs.lemmas.Bool.{and_parts, eq-eqb}
 use Rattle.std.specs.List.{AllByRecursion}
 use Rattle.record_spec.specs.Record.{Record}
 use Rattle.machine_spec.specs.Machine.{Machine, hart_of}
 use Rattle.machine_spec.specs.Setup.{IsSetup, first}
-use Rattle.machine_spec.specs.Step.{apply, fits}
+use Rattle.machine_spec.specs.Step.{apply, fits, can_step}
 use Rattle.machine_spec.specs.Whole.{IsWhole}
 use Rattle.machine_spec.proofs.Beginning.{IsWhole-first}
-use Rattle.history_spec.specs.History.{History, applied_from, can_apply_from, is_coherent, is_numbered, is_numbered_after}
+use Rattle.history_spec.specs.History.{History, applied_from, can_apply_from, is_coherent, is_numbered_after}
 use Rattle.history_spec.proofs.Applying.{apply-whole, fits-can_step}
-use Rattle.history_spec.proofs.Numbers.{one_for, apply-number, count-more, first-number}
+use Rattle.history_spec.proofs.Numbers.{apply-number, count-more, first-number}
 use Rattle.order_spec.proofs.Alike.{fits-parts}
-use Rattle.worker_spec.proofs.Following.{IsNext}
+use Rattle.round_spec.specs.Due.{place_in}
+use Rattle.worker_spec.proofs.Following.{IsNext, made-absent}
 use Rattle.worker_spec.proofs.Numbers.{IsMadeOn, one_for-own}
 
 -- records in two parts
@@ -101,26 +102,70 @@ coherent-whole h front back valid coherent split =
     (can-front (first h.setup) front back
     (ap (can_apply_from (first h.setup)) (sym split) ∙ coherent-can h coherent))
 
--- what comes next
+-- the record after some first ones fits, and there is no end before it
+pub coherent-fits :
+    (h : History) (front : List Record) (r : Record) (back : List Record)
+    → is_coherent h ≡ true → h.records ≡ front ++ r ∷ back
+    → (is_none (applied_from (first h.setup) front).ending ≡ true) × (fits (applied_from (first h.setup) front) r ≡ true)
+coherent-fits h front r back coherent split =
+    let m : Machine = applied_from (first h.setup) front in
+    let all : can_apply_from (first h.setup) (front ++ r ∷ back) ≡ true =
+    ap (can_apply_from (first h.setup)) (sym split) ∙ coherent-can h coherent in
+    and_parts (is_none m.ending) (fits m r)
+    (and_parts (is_none m.ending && fits m r) (can_apply_from (apply m r) back)
+    (can-back (first h.setup) front (r ∷ back) all)).0
+
+-- A machine on which each thread has made as many steps as on another.
+abbrev pub HasNumbersOf : Machine → Machine → Type 0
+HasNumbersOf m n = (u : ℕ) → (hart_of n u).number ≡ (hart_of m u).number
+
+-- so the same records are those of steps that have been made
+made-on : (m n : Machine) (rs : List Record) → HasNumbersOf m n → AllByRecursion (IsMadeOn m) rs → AllByRecursion (IsMadeOn n) rs
+made-on m n [] numbers all = tt
+made-on m n (r ∷ rs) numbers all =
+    let same = numbers r.thread in
+    let before = all.0 in
+    let here : r.number < (hart_of n r.thread).number = omega arith in
+    (here, made-on m n rs numbers all.1)
+
+-- what comes next, also on a machine that has other memory and registers
+pub coherent-next-on :
+    (h : History) (front : List Record) (r : Record) (back : List Record) (m : Machine)
+    → is_coherent h ≡ true → h.records ≡ front ++ r ∷ back
+    → HasNumbersOf (applied_from (first h.setup) front) m → can_step m r.thread ≡ true
+    → IsNext (Some h) m front r back
+coherent-next-on h front r back m coherent split numbers can =
+    let all : can_apply_from (first h.setup) (front ++ r ∷ back) ≡ true =
+    ap (can_apply_from (first h.setup)) (sym split) ∙ coherent-can h coherent in
+    let fit = (coherent-fits h front r back coherent split).1 in
+    record {
+      split = split;
+      numbered = applied-numbered (first h.setup) h.records [] (coherent-can h coherent) (λ u. first-number h.setup u);
+      made =
+          made-on (applied_from (first h.setup) front) m front numbers
+          (applied-made (first h.setup) front (can-front (first h.setup) front (r ∷ back) all));
+      can = can;
+      number = (fits-parts (applied_from (first h.setup) front) r fit).number ∙ sym (numbers r.thread);
+    }
+
 pub coherent-next :
     (h : History) (front : List Record) (r : Record) (back : List Record)
     → is_coherent h ≡ true → h.records ≡ front ++ r ∷ back
     → IsNext (Some h) (applied_from (first h.setup) front) front r back
 coherent-next h front r back coherent split =
-    let m : Machine = applied_from (first h.setup) front in
-    let all : can_apply_from (first h.setup) (front ++ r ∷ back) ≡ true =
-    ap (can_apply_from (first h.setup)) (sym split) ∙ coherent-can h coherent in
-    let here =
-    and_parts (is_none m.ending) (fits m r)
-    (and_parts (is_none m.ending && fits m r) (can_apply_from (apply m r) back)
-    (can-back (first h.setup) front (r ∷ back) all)).0 in
-    record {
-      split = split;
-      numbered = applied-numbered (first h.setup) h.records [] (coherent-can h coherent) (λ u. first-number h.setup u);
-      made = applied-made (first h.setup) front (can-front (first h.setup) front (r ∷ back) all);
-      can = fits-can_step m r here.0 here.1;
-      fit = here.1;
-    }
+    let fit = coherent-fits h front r back coherent split in
+    coherent-next-on h front r back (applied_from (first h.setup) front) coherent split (λ u. refl)
+    (fits-can_step (applied_from (first h.setup) front) r fit.0 fit.1)
+
+-- nothing comes next after all of it, on such a machine
+pub coherent-over :
+    (h : History) (m : Machine) (u : ℕ)
+    → is_coherent h ≡ true → HasNumbersOf (applied_from (first h.setup) h.records) m
+    → place_in (Some h) m u ≡ length h.records
+coherent-over h m u coherent numbers =
+    made-absent (Some h) m u
+    (made-on (applied_from (first h.setup) h.records) m h.records numbers
+    (applied-made (first h.setup) h.records (coherent-can h coherent)))
 
 -- after all of it there is an end
 pub coherent-end :

@@ -77,20 +77,21 @@ made-none_next :
 made-none_next m u [] all = tt
 made-none_next m u (r ∷ rs) all = (made-not_next m u r all.0, made-none_next m u rs all.1)
 
--- the records in front are those of steps that have been made, and then comes one that fits, of a step that can be made
+-- the records in front are those of steps that have been made, and then comes one of a step that can be made
 pub record IsNext (past : Option History) (m : Machine) (front : List Record) (r : Record) (back : List Record) : Type 0
   where
     pub split : past_records past ≡ front ++ r ∷ back
     pub numbered : is_numbered (past_records past) ≡ true
     pub made : AllByRecursion (IsMadeOn m) front
     pub can : can_step m r.thread ≡ true
-    pub fit : fits m r ≡ true
+    pub number : r.number ≡ (hart_of m r.thread).number
 
-own-record : (m : Machine) (r : Record) → fits m r ≡ true → is_of r.thread (hart_of m r.thread).number r ≡ true
-own-record m r fit =
+own-record :
+    (m : Machine) (r : Record) → r.number ≡ (hart_of m r.thread).number
+    → is_of r.thread (hart_of m r.thread).number r ≡ true
+own-record m r is =
     let thread : eqb r.thread r.thread ≡ true = eq-eqb r.thread r.thread refl in
-    let number : eqb r.number (hart_of m r.thread).number ≡ true =
-    eq-eqb r.number (hart_of m r.thread).number (fits-parts m r fit).number in
+    let number : eqb r.number (hart_of m r.thread).number ≡ true = eq-eqb r.number (hart_of m r.thread).number is in
     rw (thread, number) refl
 
 other-record : (m : Machine) (r : Record) (u : ℕ) → u ≢ r.thread → is_of u (hart_of m u).number r ≡ false
@@ -105,7 +106,7 @@ next-place past m front r back next =
     ap (position_or_len (is_of r.thread (hart_of m r.thread).number)) next.split
     ∙ position-after (is_of r.thread (hart_of m r.thread).number) front (r ∷ back)
     (made-none_next m r.thread front next.made)
-    ∙ here (own-record m r next.fit)
+    ∙ here (own-record m r next.number)
   where
     here :
         is_of r.thread (hart_of m r.thread).number r ≡ true
@@ -134,7 +135,7 @@ next-found past m front r back next =
     ap (find (is_of r.thread (hart_of m r.thread).number)) next.split
     ∙ find-after (is_of r.thread (hart_of m r.thread).number) front (r ∷ back)
     (made-none_next m r.thread front next.made)
-    ∙ here (own-record m r next.fit)
+    ∙ here (own-record m r next.number)
   where
     here :
         is_of r.thread (hart_of m r.thread).number r ≡ true
@@ -143,8 +144,18 @@ next-found past m front r back next =
 
 pub next-fits :
     (past : Option History) (m : Machine) (front : List Record) (r : Record) (back : List Record)
-    → IsNext past m front r back → fits_next past m r.thread ≡ true
-next-fits past m front r back next = ap (is_fitting m) (next-found past m front r back next) ∙ next.fit
+    → IsNext past m front r back → fits m r ≡ true → fits_next past m r.thread ≡ true
+next-fits past m front r back next fit = ap (is_fitting m) (next-found past m front r back next) ∙ fit
+
+-- after all of them, no record is that of a next step
+pub made-absent :
+    (past : Option History) (m : Machine) (u : ℕ) → AllByRecursion (IsMadeOn m) (past_records past)
+    → place_in past m u ≡ length (past_records past)
+made-absent past m u made =
+    ap (position_or_len (is_of u (hart_of m u).number)) (sym (append-nil (past_records past)))
+    ∙ position-after (is_of u (hart_of m u).number) (past_records past) []
+    (made-none_next m u (past_records past) made)
+    ∙ omega arith
 
 all-at :
     (P : Record → Type 0) (rs : List Record) (j : ℕ) (d : Record) → AllByRecursion P rs → j < length rs
@@ -244,6 +255,10 @@ honest-whole h xs ys honest split =
     scratch-whole (first h.setup) xs (IsWhole-first h.setup honest.valid)
     (permitted-front (first h.setup) xs ys (ap (is_permitted_from (first h.setup)) (sym split) ∙ honest.permitted))
 
+-- the record of a step that can be made fits before it
+pub own-fits : (m : Machine) (t : ℕ) → can_step m t ≡ true → fits m (record_of m t) ≡ true
+own-fits m t can = record-fits m t (can_step-ready m t can)
+
 -- what comes next in an honest history
 pub honest-next :
     (h : History) (xs : List ℕ) (t : ℕ) (ys : List ℕ)
@@ -262,7 +277,8 @@ honest-next h xs t ys honest split =
       numbered = honest-numbered h honest;
       made = made-all (first h.setup) xs (permitted-front (first h.setup) xs (t ∷ ys) permitted);
       can = can;
-      fit = record-fits (scratch h.setup xs) t (can_step-ready (scratch h.setup xs) t can);
+      number =
+          (fits-parts (scratch h.setup xs) (record_of (scratch h.setup xs) t) (own-fits (scratch h.setup xs) t can)).number;
     }
 
 -- after all steps of it there is an end
@@ -304,7 +320,8 @@ follow-marks h xs (t ∷ ys) honest split =
     let next = honest-next h xs t ys honest split in
     ap (λ (b : Bool). record { thread = t; reused = b } ∷ marked_from (Some h) (step (scratch h.setup xs) t) ys)
     (next-fits (Some h) (scratch h.setup xs) (records h.setup xs) (record_of (scratch h.setup xs) t)
-    (records_from (step (scratch h.setup xs) t) ys) next)
+    (records_from (step (scratch h.setup xs) t) ys) next
+    (own-fits (scratch h.setup xs) t next.can))
     ∙ ap (λ (m : Machine). record { thread = t; reused = true } ∷ marked_from (Some h) m ys)
     (sym (scratch-more (first h.setup) xs t))
     ∙ ap (λ (es : List Entry). record { thread = t; reused = true } ∷ es)

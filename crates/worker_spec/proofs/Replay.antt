@@ -7,7 +7,7 @@ use Rattle.std.specs.List.{take-map}
 use Rattle.record_spec.specs.Record.{Record}
 use Rattle.machine_spec.specs.Machine.{Machine, hart_of, is_ready}
 use Rattle.machine_spec.specs.Step.{apply, fits}
-use Rattle.machine_spec.specs.Setup.{Setup, IsSetup, first, scratch}
+use Rattle.machine_spec.specs.Setup.{Setup, IsSetup, first}
 use Rattle.machine_spec.specs.Whole.{IsWhole}
 use Rattle.machine_spec.proofs.Beginning.{IsWhole-first}
 use Rattle.machine_spec.proofs.Steps.{can_step-ready}
@@ -30,7 +30,7 @@ use Rattle.round_spec.proofs.Conditions.{happens-commit_not, happens-give_back_n
 use Rattle.round_spec.proofs.Happening.{none_in_flight-none}
 use Rattle.worker_spec.specs.Replaying.{Repeats, HasReused, IsReplaying, IsNextStep, goes_on_by}
 use Rattle.worker_spec.proofs.Following.{IsNext, next-place, other-place, next-due, next-found, next-fits, next-chosen, can_step-none}
-use Rattle.worker_spec.proofs.Coherent.{applied-both, coherent-whole, coherent-next, coherent-end}
+use Rattle.worker_spec.proofs.Coherent.{applied-both, coherent-whole, coherent-fits, coherent-next, coherent-end}
 use Rattle.worker_spec.proofs.Unedited.{reused-all, reused-instructions, reused-executed, unedited-begun}
 
 -- a list's first elements
@@ -91,7 +91,7 @@ data Replays (h : History) (w : RoundState) : Type 0 where
   Done : h.records ≡ w.records → is_some w.machine.ending ≡ true → Replays h w
   Next :
       (r : Record) (back : List Record) → h.records ≡ w.records ++ r ∷ back → IsWhole w.machine
-      → IsNext (Some h) w.machine w.records r back → Replays h w
+      → IsNext (Some h) w.machine w.records r back → fits w.machine r ≡ true → Replays h w
 
 -- what comes next, where it is known
 pub reused-next :
@@ -117,6 +117,8 @@ where-it-stands h w valid coherent reused =
         Next r back split
         (subst IsWhole (sym reused.machine) (coherent-whole h w.records (r ∷ back) valid coherent split))
         (reused-next h w r back coherent reused split)
+        (subst (λ (m : Machine). fits m r ≡ true) (sym reused.machine)
+        (coherent-fits h w.records r back coherent split).1)
 
 -- what is picked
 
@@ -154,11 +156,12 @@ replay-choice h w r back replays whole next =
 replay-pick :
     (h : History) (w : RoundState) (r : Record) (back : List Record)
     → IsReplaying h w → is_finished w ≡ false → IsWhole w.machine → IsNext (Some h) w.machine w.records r back
+    → fits w.machine r ≡ true
     → pick_of w ≡ pick.Reuse r.thread
-replay-pick h w r back replays going whole next =
+replay-pick h w r back replays going whole next fit =
     pick-reuse w r.thread going (replay-choice h w r back replays whole next)
     (ap (λ (past : Option History). fits_next past w.machine r.thread) replays.reused.past
-    ∙ next-fits (Some h) w.machine w.records r back next)
+    ∙ next-fits (Some h) w.machine w.records r back next fit)
 
 -- its place comes after all entries so far
 reused-place :
@@ -192,7 +195,7 @@ chosen-place h w t valid coherent replays going chosen = by (where-it-stands h w
   where
     by : Replays h w → place_in w.past w.machine t ≡ length w.schedule
     by (Done same ended) = absurd (let over = rw ended at going in cc)
-    by (Next r back split whole next) =
+    by (Next r back split whole next fit) =
         let same : r.thread ≡ t = (let both = sym (replay-choice h w r back replays whole next) ∙ chosen in cc) in
         subst (λ (u : ℕ). place_in w.past w.machine u ≡ length w.schedule) same
         (reused-place h w r back replays.reused next)
@@ -246,8 +249,8 @@ take-never :
     → IsReplaying h w → Replays h w → is_finished w ≡ over → goes_on_by (pick_of w) (Take u) ≡ true → ⊥
 take-never h w u true replays place is goes = over-takes_nothing (pick_of w) u (pick-over w is) goes
 take-never h w u false replays (Done same ended) is goes = let over = rw ended at is in cc
-take-never h w u false replays (Next r back split whole next) is goes =
-    reuse-takes_nothing (pick_of w) r.thread u (replay-pick h w r back replays is whole next) goes
+take-never h w u false replays (Next r back split whole next fit) is goes =
+    reuse-takes_nothing (pick_of w) r.thread u (replay-pick h w r back replays is whole next fit) goes
 
 reuse-replays :
     (h : History) (w : RoundState) (u : ℕ) (over : Bool)
@@ -255,14 +258,14 @@ reuse-replays :
     → IsReplaying h (happens w (Reuse u))
 reuse-replays h w u true replays place is goes = absurd (over-reuses_nothing (pick_of w) u (pick-over w is) goes)
 reuse-replays h w u false replays (Done same ended) is goes = absurd (let over = rw ended at is in cc)
-reuse-replays h w u false replays (Next r back split whole next) is goes =
+reuse-replays h w u false replays (Next r back split whole next fit) is goes =
     subst (λ (v : ℕ). IsReplaying h (happens w (Reuse v)))
-    (reuse-same (pick_of w) r.thread u (replay-pick h w r back replays is whole next) goes)
+    (reuse-same (pick_of w) r.thread u (replay-pick h w r back replays is whole next fit) goes)
     (subst (IsReplaying h)
     (sym (reuse-happens w r.thread r is (can_step-ready w.machine r.thread next.can) (replay-in_flight h w r.thread replays)
     (ap (λ (past : Option History). record_for past w.machine r.thread) replays.reused.past
     ∙ next-found (Some h) w.machine w.records r back next)
-    next.fit))
+    fit))
     (replayed-more h w r back replays split))
 
 -- the round replays its history from its start on, as long as it goes on by what is picked
@@ -309,11 +312,12 @@ replays-on h w Stop valid coherent replays goes =
 next-step :
     (h : History) (w : RoundState) (r : Record) (back : List Record)
     → IsReplaying h w → is_finished w ≡ false → IsWhole w.machine → IsNext (Some h) w.machine w.records r back
+    → fits w.machine r ≡ true
     → IsNextStep w r.thread
-next-step h w r back replays going whole next =
+next-step h w r back replays going whole next fit =
     let long = replayed-length h w replays.reused in
     record {
-      picked = replay-pick h w r back replays going whole next;
+      picked = replay-pick h w r back replays going whole next fit;
       due =
           ap (λ (past : Option History). is_due past w.machine r.thread) replays.reused.past
           ∙ next-due (Some h) w.machine w.records r back next;
@@ -331,7 +335,7 @@ replays-next h w valid coherent replays going = by (where-it-stands h w valid co
   where
     by : Replays h w → (t : ℕ) × IsNextStep w t
     by (Done same ended) = absurd (let over = rw ended at going in cc)
-    by (Next r back split whole next) = (r.thread, next-step h w r back replays going whole next)
+    by (Next r back split whole next fit) = (r.thread, next-step h w r back replays going whole next fit)
 
 -- by an honest history it was all reuse at its end
 pub replays-end :
@@ -361,7 +365,7 @@ replays-end h w honest replays ended =
               ∙ records-applied (first h.setup) (schedule_of h) (IsWhole-first h.setup honest.valid) honest.permitted;
           records = sym same;
         }
-    by (Next r back split whole next) =
+    by (Next r back split whole next fit) =
         absurd (let none = can_step-none w.machine r.thread next.can in let impossible = rw none at ended in cc)
 
 -- and on the way nothing is executed

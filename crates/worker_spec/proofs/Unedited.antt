@@ -22,7 +22,7 @@ use Rattle.worker_spec.specs.OneWorker.{made_by, executed_in}
 use Rattle.worker_spec.proofs.Picks.{pick-over, pick-chosen, running}
 use Rattle.worker_spec.proofs.Lone.{rounds-made}
 use Rattle.worker_spec.proofs.Cost.{rounds-cost}
-use Rattle.worker_spec.proofs.Following.{honest-next, honest-whole, honest-end, honest-length, next-fits, next-chosen, can_step-none, follow, follow-marks}
+use Rattle.worker_spec.proofs.Following.{honest-next, honest-whole, honest-end, honest-length, own-fits, next-fits, next-chosen, can_step-none, follow, follow-marks}
 
 pub honest-sound : (h : History) → IsHonest h → IsSound (Some h) h.setup
 honest-sound h honest = (honest, refl)
@@ -76,7 +76,8 @@ made-not_run h xs (t ∷ ys) u honest split =
     (next-chosen (Some h) (scratch h.setup xs) (records h.setup xs) own back (honest-whole h xs (t ∷ ys) honest split)
     next)
     ∙ ap (λ (b : Bool). cond b (pick.Reuse t) (pick.Run t))
-    (next-fits (Some h) (scratch h.setup xs) (records h.setup xs) own back next))
+    (next-fits (Some h) (scratch h.setup xs) (records h.setup xs) own back next
+    (own-fits (scratch h.setup xs) t next.can)))
 
 pub unedited-never_runs :
     (h : History) (n u : ℕ) → IsHonest h

@@ -1,5 +1,5 @@
 -- What is left to prove of `marks_at_start`.
-use Rattle.std.proofs.Common.{◌≡◌, true, Some, Option, option_map, ap, sym, subst, ◌∙◌}
+use Rattle.std.proofs.Common.{◌≡◌, Option, option_map, ap, sym, subst, ◌∙◌}
 use Rattle.std.specs.Arc.{arc_value}
 use Rattle.machine_spec.specs.Setup.{Setup, IsSetup, first}
 use Rattle.history_spec.specs.History.{History, IsSameProgram}

@@ -2,7 +2,7 @@
 use Rattle.std.proofs.Common.{true, false, sym, subst, ◌∙◌}
 use Rattle.machine_spec.specs.Setup.{IsSetup}
 use Rattle.worker_spec.proofs.Replay.{chosen-place}
-use Rattle.propagate.proofs.Choosing.{pick-over, pick-stopped, pick-hold, pick-chosen, picked-run}
+use Rattle.propagate.proofs.Choosing.{pick-over, pick-stopped, pick-hold, pick-chosen, picked-run, hold-none_due}
 use Rattle.propagate.proofs.round.Round.pick.Goals as goal
 
 pub returns-then-is_finished-clause-pick : goal.returns-then-is_finished-clause-pick
@@ -26,6 +26,10 @@ returns-in-Some-2-clause-run c = λ t same. picked-run c.args.self.now t (sym (r
 pub returns-in-None-clause-pick : goal.returns-in-None-clause-pick
 returns-in-None-clause-pick c =
     sym (pick-hold c.args.self.now (sym c.is_finished.ensures.over ∙ c.if-is_finished.false) (sym c.choice.ensures ∙ c.in-None.is))
+
+pub returns-in-None-clause-holds : goal.returns-in-None-clause-holds
+returns-in-None-clause-holds c = λ held t free.
+    hold-none_due c.args.self.now t (sym (returns-in-None-clause-pick c) ∙ held) free
 
 pub returns-in-Some-clause-stopped : goal.returns-in-Some-clause-stopped
 returns-in-Some-clause-stopped c = λ stopped. returns-in-Some-clause-pick c ∙ pick-stopped c.args.self.now stopped

@@ -1,6 +1,5 @@
 -- What is left to prove of `Round::reuse`.
 use Rattle.std.proofs.Common.{◌≡◌, length, eqb, Bool, true, cond, Option, Some, None, Vec, option_map, refl, ap, sym, subst, ◌∙◌}
-use Rattle.std.proofs.lemmas.Result.{err_from_is_err_and}
 use Rattle.std.specs.Arc.{arc_value}
 use Rattle.std.specs.Global.{Global}
 use Rattle.record_spec.specs.Record.{Record}
@@ -9,11 +8,11 @@ use Rattle.round_spec.specs.Marks.{record_for}
 use Rattle.round_spec.specs.Rounds.{RoundState, can_reuse, happens}
 use Rattle.round_spec.specs.Due.{place_in}
 use Rattle.propagate.specs.Alike.{IsAsBefore}
-use Rattle.propagate.specs.Appending.{Trail}
+use Rattle.propagate.specs.Consistency.{KnowsEnough}
 use Rattle.propagate.proofs.Alike.{reuse-as-before}
-use Rattle.propagate.proofs.Keeping.{record_count}
+use Rattle.propagate.proofs.Keeping.{record_count, knows-reused}
 use Rattle.propagate.proofs.Appending.{Reusable}
-use Rattle.propagate.proofs.Making.{appended, reuse-append, reuse-happens, reuse-kept, goes-nowhere, goes-more}
+use Rattle.propagate.proofs.Making.{appended, reuse-append, reuse-happens, reuse-kept, goes-more}
 use Rattle.propagate.proofs.round.Round.reuse.Goals as goal
 
 -- the round before, by its parts; what holds of it; and the record that is reused
@@ -113,8 +112,9 @@ made c =
 
 pub invariant_of-self-3 : goal.invariant_of-self-3
 invariant_of-self-3 c =
-    reuse-kept (start c) (after c) c.self.inside.instructions c.args.t c.self.inside.graph c.self.inside.marks
-    c.marks_if.result (arc_value c.in_ok-rec-in-Some.rec) c.self.invariant (can-2 c) (there-2 c) (made c)
+    reuse-kept (start c) (after c) c.self.inside.instructions c.args.t c.self.inside.graph c.find_facts.new.graph
+    c.self.inside.marks c.marks_if.result (arc_value c.in_ok-rec-in-Some.rec) c.self.invariant (can-2 c) (there-2 c)
+    (made c)
     (subst (IsAsBefore (after c))
     (ap (λ (m : Option (Vec Bool Global)). cond c.is_next-next.result m None) (sym c.take.ensures.value) ∙ sym c.marks_if.ensures)
     (reuse-as-before (start c) (after c) c.args.t _ (arc_value c.in_ok-rec-in-Some.rec) c.self.inside.marks
@@ -130,6 +130,10 @@ invariant_of-self-3 c =
       schedule = ap (λ (w : RoundState). w.schedule) (made c);
       records = ap (λ (w : RoundState). w.records) (made c);
     })))
+    (subst (λ (m : Option (Vec Bool Global)). KnowsEnough (after c) m c.find_facts.new.graph)
+    (ap (λ (m : Option (Vec Bool Global)). cond c.is_next-next.result m None) (sym c.take.ensures.value) ∙ sym c.marks_if.ensures)
+    (knows-reused (start c) (after c) c.self.inside.marks c.self.inside.graph c.find_facts.new.graph
+    c.is_next-next.result c.self.invariant.knows c.in_ok-find_facts.ensures.found refl refl))
 
 pub returns-clause-ok : goal.returns-clause-ok
 returns-clause-ok c =
@@ -140,29 +144,3 @@ returns-clause-ok c =
 pub returns-clause-same : goal.returns-clause-same
 returns-clause-same c =
     goes-more (after c) (start c) c.args.self.now _ refl refl (ap (λ (w : RoundState). w.schedule) (made c)) c.self.view_is
-
--- where memory ran out, the round is as before
-
-pub invariant_of-self : goal.invariant_of-self
-invariant_of-self c = rw c.in_err-reserve.ensures.items c.self.invariant
-
-pub invariant_of-self-2 : goal.invariant_of-self-2
-invariant_of-self-2 c = rw c.in_ok-reserve.ensures.items c.self.invariant
-
-pub returns-in_err-reserve-clause-same : goal.returns-in_err-reserve-clause-same
-returns-in_err-reserve-clause-same c =
-    let p = err_from_is_err_and c.from_residual-in_err-reserve.result c.from_residual-in_err-reserve.ensures.1 in
-    rw (p.1, c.in_err-reserve.ensures.items) (goes-nowhere _ c.args.self.now c.self.view_is)
-
-pub returns-in_err-append-clause-same : goal.returns-in_err-append-clause-same
-returns-in_err-append-clause-same c =
-    let p = err_from_is_err_and c.from_residual-in_err-append.result c.from_residual-in_err-append.ensures.1 in
-    let err = c.in_err-append.ensures.err in
-    rw (
-      p.1,
-      ap (λ (t : Trail). t.machine) err,
-      ap (λ (t : Trail). t.schedule) err,
-      ap (λ (t : Trail). t.records) err,
-      c.in_ok-reserve.ensures.items,
-    )
-    (goes-nowhere _ c.args.self.now c.self.view_is)

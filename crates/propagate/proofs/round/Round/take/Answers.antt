@@ -1,11 +1,11 @@
 -- What is left to prove of `Round::take`.
-use Rattle.std.proofs.Common.{◌≡◌, true, length, set, option_map, refl, ap, sym, subst, ◌∙◌, arith}
+use Rattle.std.proofs.Common.{◌≡◌, true, length, set, option_map, refl, sym, subst, ◌∙◌, arith}
 use Rattle.std.proofs.lemmas.Grind.{common_steps}
 use Rattle.std.specs.Arc.{arc_value}
 use Rattle.round_spec.specs.declared.events.Event.TheVariants.{Take}
 use Rattle.round_spec.specs.Rounds.{RoundState, can_take, happens}
 use Rattle.round_spec.proofs.Conditions.{happens-take}
-use Rattle.propagate.proofs.Keeping.{kept-happens}
+use Rattle.propagate.proofs.Keeping.{kept-happens, knows-found}
 use Rattle.propagate.proofs.Alike.{as-before-same}
 use Rattle.propagate.proofs.round.Round.take.Goals as goal
 
@@ -28,22 +28,22 @@ before c =
       stopped = c.self.inside.stopped;
     }
 
-pub invariant_of-self : goal.invariant_of-self
-invariant_of-self c =
+pub invariant_of-self-3 : goal.invariant_of-self-3
+invariant_of-self-3 c =
     let w : RoundState = before c in
     let v : RoundState =
     record w {
       in_flight = set w.in_flight c.from.result true;
       taken_at = set w.taken_at c.from-2.result c.entries-now.result;
     } in
-    let now : c.entries-now.result ≡ length w.schedule =
-    c.entries-now.ensures ∙ ap (λ (x : RoundState). length x.schedule) (sym c.self.view_is) in
+    let now : c.entries-now.result ≡ length w.schedule = c.entries-now.ensures in
     let is : happens w (Take c.args.t) ≡ v =
     happens-take w c.args.t (subst (λ (x : RoundState). can_take x c.args.t ≡ true) (sym c.self.view_is) c.requires)
     ∙ sym (rw (c.from.ensures, c.from-2.ensures, now) refl) in
     kept-happens w v (Take c.args.t) c.self.inside.instructions c.self.inside.instructions c.self.inside.graph
-    c.self.inside.marks c.self.inside.marks c.self.invariant is refl refl
+    c.find_facts.new.graph c.self.inside.marks c.self.inside.marks c.self.invariant is refl refl
     (record { machine = c.self.invariant.applied.machine; can = c.self.invariant.applied.can })
     c.self.invariant.points c.self.invariant.executed c.self.invariant.few
     (as-before-same w v c.self.inside.marks c.self.invariant.as_before
     (record { setup = refl; past = refl; machine = refl; schedule = refl; records = refl }))
+    (knows-found v c.self.inside.marks w.past c.find_facts.new.graph c.in_ok-find_facts.ensures.found refl)
