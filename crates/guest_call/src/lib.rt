@@ -38,7 +38,7 @@ pub const EDEADLK: u32 = 0xFFFF_FFDD;
 
 /// An environment call with its arguments, as the guest makes it by ECALL: the number stands in a7, the
 /// first argument in a0 and the second in a1.
-#[derive(Clone, Copy, PartialEq, Eq)]
+#[derive(Clone, Copy)]
 pub enum Call {
     /// 0, `exit(code)`: ends the run, as `exit` of POSIX ends a process, with the whole of a0.
     Exit(u32),
@@ -121,7 +121,7 @@ impl Call {
 }
 
 /// What a call can act on, as the dependence of steps sees it.
-#[derive(Clone, Copy, Debug, PartialEq, Eq)]
+#[derive(Clone, Copy, PartialEq, Eq)]
 pub enum Object {
     /// The bytes that the guest has put out.
     Output,
@@ -140,7 +140,7 @@ pub enum Object {
 }
 
 /// What becomes of the thread that makes a call.
-#[derive(Clone, Copy, Debug, PartialEq, Eq)]
+#[derive(Clone, Copy, PartialEq, Eq)]
 pub enum Fate {
     /// The call returns at once: what it leaves in a0, and in a1 where it changes that too.
     Returns(u32, Option<u32>),

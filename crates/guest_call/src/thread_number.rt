@@ -10,7 +10,7 @@ use std::marker::Model;
 pub const THREADS: usize = 32;
 
 /// The number of a thread, which is below 32. Contracts see it as a number.
-#[derive(Clone, Copy, Debug, PartialEq, Eq)]
+#[derive(Clone, Copy, PartialEq, Eq)]
 pub struct Thread {
     number: u8,
 }

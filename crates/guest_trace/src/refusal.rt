@@ -8,7 +8,7 @@ use std::process::ExitCode;
 use std::{fmt, io};
 
 /// Why an entry isn't permitted.
-#[derive(Debug, PartialEq, Eq, Clone, Copy)]
+#[derive(Clone, Copy)]
 pub enum Why {
     /// The run has ended before it.
     Ended,
@@ -21,7 +21,7 @@ pub enum Why {
 }
 
 /// Why a run isn't traced to its end.
-#[derive(Debug, PartialEq, Eq, Clone, Copy)]
+#[derive(Clone, Copy)]
 pub enum Refusal {
     /// The words aren't three names, with options behind them.
     Words,

@@ -11,7 +11,7 @@ ghost use Rattle.isa_spec.specs.Table.{decoded};
 ghost use Rattle.isa_spec.specs.Encoding.{encoding, InRange, Spells};
 
 /// When a conditional branch is taken (RISC-V unprivileged ISA 20191213, 2.5).
-#[derive(Clone, Copy, PartialEq, Eq)]
+#[derive(Clone, Copy)]
 pub enum BranchTest {
     /// BEQ: the operands are equal.
     Equal,
@@ -28,7 +28,7 @@ pub enum BranchTest {
 }
 
 /// What a load reads, and how it fills the register (RISC-V unprivileged ISA 20191213, 2.6).
-#[derive(Clone, Copy, PartialEq, Eq)]
+#[derive(Clone, Copy)]
 pub enum Load {
     /// LB: a byte, sign-extended.
     Byte,
@@ -43,7 +43,7 @@ pub enum Load {
 }
 
 /// How many bytes a store writes (RISC-V unprivileged ISA 20191213, 2.6).
-#[derive(Clone, Copy, PartialEq, Eq)]
+#[derive(Clone, Copy)]
 pub enum Store {
     /// SB: the low byte of the register.
     Byte,
@@ -72,7 +72,7 @@ pub enum ImmediateOperation {
 }
 
 /// A shift by a constant (RISC-V unprivileged ISA 20191213, 2.4, Integer Register-Immediate Instructions).
-#[derive(Clone, Copy, PartialEq, Eq)]
+#[derive(Clone, Copy)]
 pub enum ShiftOperation {
     /// SLLI: zeros come in at the bottom.
     LeftLogical,
@@ -84,7 +84,7 @@ pub enum ShiftOperation {
 
 /// An operation on two registers (RISC-V unprivileged ISA 20191213, 2.4, Integer Register-Register Operations; the last
 /// eight 7.1 and 7.2, the standard extension M).
-#[derive(Clone, Copy, PartialEq, Eq)]
+#[derive(Clone, Copy)]
 pub enum RegisterOperation {
     /// ADD.
     Add,
@@ -128,7 +128,7 @@ pub enum RegisterOperation {
 ///
 /// Registers are numbers below 32. `imm` is the immediate as the word that the hart adds or
 /// compares: sign-extended to 32 bits, and with its twelve zeros for LUI and AUIPC.
-#[derive(Clone, Copy, PartialEq, Eq)]
+#[derive(Clone, Copy)]
 pub enum Instr {
     /// LUI: rd takes the immediate.
     Lui {
@@ -205,7 +205,7 @@ pub enum Instr {
 ///
 /// The first eight are exception codes of `mcause`
 /// (RISC-V privileged ISA 20211203, 3.1.15); the last is a call that doesn't exist.
-#[derive(Clone, Copy, Debug, PartialEq, Eq)]
+#[derive(Clone, Copy, PartialEq, Eq)]
 pub enum Cause {
     /// 0: an instruction address that is not a multiple of four.
     InstructionMisaligned,

@@ -8,7 +8,7 @@ use byteorder::{ByteOrder, LittleEndian};
 use std::marker::Model;
 
 /// The answer that fewer bytes are left than a field has.
-#[derive(Clone, Copy, Debug, PartialEq, Eq)]
+#[derive(Clone, Copy, PartialEq, Eq)]
 pub struct Short;
 
 /// A reader of the fields of a file, from the first byte on.

@@ -7,7 +7,7 @@ ghost use Rattle.ith_top.specs.declared.status.Status.TheVariants.{Memory};
 use std::alloc::{AllocError, AllocFailed};
 
 /// How a call of the program ends. Its number is the program's exit status.
-#[derive(Clone, Copy, Debug, PartialEq, Eq)]
+#[derive(Clone, Copy)]
 pub enum Status {
     /// 0: every report was printed, each round ended by exit, and the memo that was asked for was written; or a
     /// schedule was replayed, or the generated guest run, to an exit; or a memo was listed, or is honest as its audit

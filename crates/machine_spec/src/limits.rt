@@ -10,7 +10,7 @@ use std::marker::Model;
 /// The limits of a run: the most turns of a thunk, and the most steps, each in its range.
 ///
 /// A clause sees a `Limits` of `specs/`.
-#[derive(Clone, Copy, Debug, PartialEq, Eq)]
+#[derive(Clone, Copy)]
 pub struct Limits {
     fuel: u32,
     steps: u32,

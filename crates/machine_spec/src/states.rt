@@ -4,7 +4,7 @@ use guest_call::Call;
 use isa_spec::Cause;
 
 /// Whether a thread can be chosen for the next step.
-#[derive(Clone, Copy, Debug, PartialEq, Eq)]
+#[derive(Clone, Copy, PartialEq, Eq)]
 pub enum Status {
     /// It can.
     Ready,
@@ -15,7 +15,7 @@ pub enum Status {
 }
 
 /// How a run ends.
-#[derive(Clone, Copy, Debug, PartialEq, Eq)]
+#[derive(Clone, Copy, PartialEq, Eq)]
 pub enum End {
     /// A thread called `exit` with this code, or all threads have ended, which is code 0.
     Exit(u32),
@@ -35,7 +35,7 @@ pub enum End {
 }
 
 /// What the end of a thunk asks of the machine.
-#[derive(Clone, Copy, PartialEq, Eq)]
+#[derive(Clone, Copy)]
 pub enum Asked {
     /// To do an environment call.
     Asks(Call),

@@ -10,7 +10,7 @@ ghost use Rattle.memo_spec.specs.Reading.{reading, IsTaken};
 pub const MOST_MEMO_BYTES: usize = 268_435_456;
 
 /// The format of a memo file, by its version.
-#[derive(Clone, Copy, Debug, PartialEq, Eq)]
+#[derive(Clone, Copy)]
 pub enum Format {
     /// Version 1, which is read and no longer written.
     Version1,
@@ -19,7 +19,7 @@ pub enum Format {
 }
 
 /// A number that has a limit.
-#[derive(Clone, Copy, Debug, PartialEq, Eq)]
+#[derive(Clone, Copy)]
 pub enum Limit {
     /// The length of the executable.
     Elf,
@@ -34,7 +34,7 @@ pub enum Limit {
 }
 
 /// Why bytes aren't taken as a memo.
-#[derive(Clone, Copy, Debug, PartialEq, Eq)]
+#[derive(Clone, Copy)]
 pub enum Refusal {
     /// There are fewer than 40 bytes.
     Short,

@@ -14,7 +14,7 @@ pub const PAGE_SIZE: usize = 4096;
 pub const PAGE_NUMBERS: u32 = 1 << 20;
 
 /// How many bytes a load or a store moves. (RISC-V unprivileged ISA 20191213, 2.6)
-#[derive(Clone, Copy, Debug, PartialEq, Eq)]
+#[derive(Clone, Copy)]
 pub enum Size {
     /// One byte.
     One,
@@ -25,7 +25,7 @@ pub enum Size {
 }
 
 /// Why a fetch, a load or a store gave nothing.
-#[derive(Clone, Copy, Debug, PartialEq, Eq)]
+#[derive(Clone, Copy, PartialEq, Eq)]
 pub enum MemoryError {
     /// The page isn't mapped, or it lacks the permission.
     Access,

@@ -15,14 +15,14 @@ fn addresses_have_their_slots(rt: HostRuntime) -> Result<(), AllocError> {
         MappedPage::new(0xd_01ff, data),
     ]?;
     let map = PageMap::new(rt.alloc(), pages)?;
-    assert_eq!(rt; map.slot_of(0xffff), None);
-    assert_eq!(rt; map.slot_of(0x1_0000), Some(0));
-    assert_eq!(rt; map.slot_of(0x1_1fff), Some(1));
-    assert_eq!(rt; map.slot_of(0x1_2000), None);
-    assert_eq!(rt; map.slot_of(0x8001_0004), Some(2));
-    assert_eq!(rt; map.slot_of(0xd01f_ffff), Some(3));
-    assert_eq!(rt; map.address(3), 0xd01f_f000);
-    assert_eq!(rt; map.perm(0).bits(), 5);
+    assert!(rt; map.slot_of(0xffff) == None);
+    assert!(rt; map.slot_of(0x1_0000) == Some(0));
+    assert!(rt; map.slot_of(0x1_1fff) == Some(1));
+    assert!(rt; map.slot_of(0x1_2000) == None);
+    assert!(rt; map.slot_of(0x8001_0004) == Some(2));
+    assert!(rt; map.slot_of(0xd01f_ffff) == Some(3));
+    assert!(rt; map.address(3) == 0xd01f_f000);
+    assert!(rt; map.perm(0).bits() == 5);
     assert!(rt; map.perm(0).executes() && !map.perm(0).writes());
     Ok(())
 }

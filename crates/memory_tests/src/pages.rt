@@ -11,12 +11,12 @@ fn snapshot_keeps_the_old_page(rt: HostRuntime) -> Result<(), AllocError> {
     table.push(Page::new([7; PAGE_SIZE]))?;
     let before = table.snapshot()?;
     table.replace(1, Page::new([9; PAGE_SIZE]))?;
-    assert_eq!(rt; before.page(1).get(4095), 7);
-    assert_eq!(rt; table.page(1).get(4095), 9);
+    assert!(rt; before.page(1).get(4095) == 7);
+    assert!(rt; table.page(1).get(4095) == 9);
     assert!(rt; table.page(0) == before.page(0));
     assert!(rt; table != before);
     let shared = table.page_arc(1)?;
-    assert_eq!(rt; shared.get(0), 9);
+    assert!(rt; shared.get(0) == 9);
     Ok(())
 }
 
@@ -41,7 +41,7 @@ fn replace_on_each_shelf_leaves_the_snapshot(rt: HostRuntime) -> Result<(), Allo
     table.replace(63, Page::new([202; PAGE_SIZE]))?;
     table.replace(64, Page::new([203; PAGE_SIZE]))?;
     table.replace(99, Page::new([204; PAGE_SIZE]))?;
-    assert_eq!(rt; before.len(), 100);
+    assert!(rt; before.len() == 100);
     for slot in 0..100usize {
         let now = match slot {
             0 => 200,
@@ -53,8 +53,8 @@ fn replace_on_each_shelf_leaves_the_snapshot(rt: HostRuntime) -> Result<(), Allo
         };
         assert!(rt; slot < table.len());
         assert!(rt; slot < before.len());
-        assert_eq!(rt; table.page(slot).get(0), now);
-        assert_eq!(rt; before.page(slot).get(0), slot as u8);
+        assert!(rt; table.page(slot).get(0) == now);
+        assert!(rt; before.page(slot).get(0) == slot as u8);
     }
     Ok(())
 }
@@ -65,11 +65,11 @@ fn push_behind_a_snapshot_leaves_it(rt: HostRuntime) -> Result<(), AllocError> {
     let before = table.snapshot()?;
     let page = Arc::new(rt.alloc(), Page::new([250; PAGE_SIZE]))?;
     table.push_shared(&page)?;
-    assert_eq!(rt; before.len(), 100);
-    assert_eq!(rt; table.len(), 101);
+    assert!(rt; before.len() == 100);
+    assert!(rt; table.len() == 101);
     assert!(rt; table.len() > 100);
-    assert_eq!(rt; table.page(100).get(4095), 250);
-    assert_eq!(rt; table.page(99).get(4095), 99);
+    assert!(rt; table.page(100).get(4095) == 250);
+    assert!(rt; table.page(99).get(4095) == 99);
     Ok(())
 }
 
@@ -96,7 +96,7 @@ fn a_table_of_a_list_has_its_pages(rt: HostRuntime) -> Result<(), AllocError> {
         pages.push(Arc::new(rt.alloc(), Page::new([slot; PAGE_SIZE]))?)?;
     }
     let table = PageTable::new(rt.alloc(), pages)?;
-    assert_eq!(rt; table.len(), 100);
+    assert!(rt; table.len() == 100);
     assert!(rt; table == numbered(rt.alloc())?);
     Ok(())
 }

@@ -64,7 +64,7 @@ impl Crowd {
     pub(super) fn new(rt: &impl Abort, alloc: Global) -> Result<Crowd, AllocError> {
         let mut objects = Objects::new(alloc)?;
         for number in 1..32u32 {
-            assert_eq!(rt; make_thread(rt, &mut objects), number);
+            assert!(rt; make_thread(rt, &mut objects) == number);
         }
         Ok(Crowd {
             objects,
@@ -103,14 +103,14 @@ fn are_threads(queue: &Queue, numbers: &[u8]) -> bool {
 
 /// The caller returns this answer, and these threads are woken.
 pub(super) fn assert_returns(rt: &impl Abort, effect: Effect, answer: u32, woken: &[u8]) {
-    assert_eq!(rt; effect.fate(), Fate::Returns(answer, None));
+    assert!(rt; effect.fate() == Fate::Returns(answer, None));
     assert!(rt; effect.told().is_none());
     assert!(rt; are_threads(effect.woken(), woken));
 }
 
 /// The caller waits, and nobody is woken.
 pub(super) fn assert_blocks(rt: &impl Abort, effect: Effect) {
-    assert_eq!(rt; effect.fate(), Fate::Blocks);
+    assert!(rt; effect.fate() == Fate::Blocks);
     assert!(rt; effect.woken().is_empty());
 }
 

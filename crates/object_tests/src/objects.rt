@@ -24,10 +24,7 @@ fn first(alloc: Global, call: Call) -> Result<Effect, AllocError>
 fn threads_answer_by_their_numbers(rt: HostRuntime) -> Result<(), AllocError> {
     let alloc = rt.alloc();
     assert_returns(&rt, first(alloc, Call::Create(0x1_0000, 7))?, 1, &[]);
-    assert_eq!(rt;
-        first(alloc, Call::Create(0x1_0000, 7))?.created(),
-        Some((0x1_0000, 7))
-    );
+    assert!(rt; first(alloc, Call::Create(0x1_0000, 7))?.created() == Some((0x1_0000, 7)));
     // EINVAL is 22, ESRCH 3, EDEADLK 35
     assert_returns(
         &rt,
@@ -38,8 +35,8 @@ fn threads_answer_by_their_numbers(rt: HostRuntime) -> Result<(), AllocError> {
     assert_returns(&rt, first(alloc, Call::Join(1))?, negated(3), &[]);
     assert_returns(&rt, first(alloc, Call::Join(0))?, negated(35), &[]);
     assert_returns(&rt, first(alloc, Call::Yield)?, 0, &[]);
-    assert_eq!(rt; first(alloc, Call::ThreadExit(5))?.fate(), Fate::Ends(5));
-    assert_eq!(rt; first(alloc, Call::Exit(5))?.fate(), Fate::Exits(5));
+    assert!(rt; first(alloc, Call::ThreadExit(5))?.fate() == Fate::Ends(5));
+    assert!(rt; first(alloc, Call::Exit(5))?.fate() == Fate::Exits(5));
     Ok(())
 }
 
@@ -60,7 +57,7 @@ fn objects_answer_by_their_numbers(rt: HostRuntime) -> Result<(), AllocError> {
         negated(22),
         &[],
     );
-    assert_eq!(rt; first(alloc, Call::SemWait(63))?.fate(), Fate::Blocks);
+    assert!(rt; first(alloc, Call::SemWait(63))?.fate() == Fate::Blocks);
     assert_returns(&rt, first(alloc, Call::BarrierInit(63, 32))?, 0, &[]);
     assert_returns(
         &rt,
@@ -84,18 +81,12 @@ fn objects_answer_by_their_numbers(rt: HostRuntime) -> Result<(), AllocError> {
 fn calls_name_the_objects_that_they_act_on(rt: HostRuntime) -> Result<(), AllocError> {
     let alloc = rt.alloc();
     let objects = Objects::new(alloc)?;
-    assert_eq!(rt; objects.acts_on(Call::Yield), ActedOn::Nothing);
-    assert_eq!(rt;
-        objects.acts_on(Call::Lock(5)),
-        ActedOn::One(Object::Mutex(5))
+    assert!(rt; objects.acts_on(Call::Yield) == ActedOn::Nothing);
+    assert!(rt; objects.acts_on(Call::Lock(5)) == ActedOn::One(Object::Mutex(5)));
+    assert!(rt;
+        objects.acts_on(Call::CondWait(4, 5))
+            == ActedOn::Two(Object::Condition(4), Object::Mutex(5))
     );
-    assert_eq!(rt;
-        objects.acts_on(Call::CondWait(4, 5)),
-        ActedOn::Two(Object::Condition(4), Object::Mutex(5))
-    );
-    assert_eq!(rt;
-        objects.acts_on(Call::RwUnlock(5)),
-        ActedOn::One(Object::RwLock(5))
-    );
+    assert!(rt; objects.acts_on(Call::RwUnlock(5)) == ActedOn::One(Object::RwLock(5)));
     Ok(())
 }

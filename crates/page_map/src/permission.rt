@@ -6,7 +6,7 @@ ghost use Rattle.memory_spec.specs.Pages.{allows, execute_right, write_right, re
 use bitflags::{Flag, Flags, bitflag_items};
 
 /// A set of the rights to read, to write and to execute.
-#[derive(Clone, Copy, PartialEq, Eq, Debug)]
+#[derive(Clone, Copy, PartialEq, Eq)]
 pub struct Perm(u8);
 
 bitflag_items! {

@@ -11,7 +11,7 @@ ghost use Rattle.reach_spec.specs.Reach.{gave_at};
 ghost use Rattle.race_spec.specs.Sync.{sync_facts, seen_at, is_ordered};
 
 /// Two steps that touch a page without an order, of which one writes it.
-#[derive(Clone, Copy, Debug, PartialEq, Eq)]
+#[derive(Clone, Copy)]
 pub struct Race {
     /// The place of the earlier step.
     pub earlier: usize,

@@ -30,7 +30,7 @@ use thunk_record::{Compared, Frame, Record, fits, fits_counted};
 use thunk_run::Job;
 
 /// Why a record wasn't applied.
-#[derive(Debug, PartialEq, Eq, Clone, Copy, Drop)]
+#[derive(Clone, Copy, Drop)]
 pub enum ApplyError {
     /// The machine has ended, or the record doesn't fit: its thread isn't ready at its number of
     /// steps, or has other registers, or its view has other bytes in a read page, or no thunk of this

@@ -3,7 +3,7 @@
 #![tactic(auto)]
 
 /// One entry of a schedule, with its mark.
-#[derive(Clone, Copy, Debug, PartialEq, Eq)]
+#[derive(Clone, Copy)]
 pub struct Entry {
     /// The thread that made the step.
     pub thread: u8,

@@ -25,7 +25,7 @@ ghost use Rattle.rerun_spec.specs.Making.{AreMade, ComesToAnEnd, IsAsReported, F
 ghost use Rattle.rerun_spec.specs.Reports.{all_executed, extras_of, report_of, reports_of, is_exit, exits, all_exit, made_report, made_reports, made_exits, all_made_exit};
 
 /// Which lines a report has only because they are asked for.
-#[derive(Clone, Copy, Debug, PartialEq, Eq)]
+#[derive(Clone, Copy)]
 pub struct Asked {
     /// How many steps of the history that a round goes by are reached.
     pub reach: bool,

@@ -5,7 +5,7 @@ ghost use Rattle.std.specs.Prelude.{◌≡◌};
 use std::alloc::{AllocError, AllocFailed};
 
 /// Why a line of an edit list is refused.
-#[derive(Clone, Copy, Debug, PartialEq, Eq)]
+#[derive(Clone, Copy, PartialEq, Eq)]
 pub enum Why {
     /// It encodes no edit.
     BadLine,
@@ -14,7 +14,7 @@ pub enum Why {
 }
 
 /// Why there are no inputs.
-#[derive(Clone, Copy, Debug, PartialEq, Eq)]
+#[derive(Clone, Copy, PartialEq, Eq)]
 pub enum InputsError {
     /// An edit list is the first that is refused: its place, counted from 0, with its line, counted from 1, and
     /// the cause.

@@ -1,7 +1,7 @@
 //! What can happen to a round, and what a worker may do next.
 
 /// One event of a round. Where its condition doesn't hold, nothing changes.
-#[derive(Clone, Copy, Debug, PartialEq, Eq)]
+#[derive(Clone, Copy)]
 pub enum Event {
     /// A worker takes this thread's next step to execute it. Condition: the round isn't finished, the
     /// thread is ready and not in flight, and no record of it fits.
@@ -19,7 +19,7 @@ pub enum Event {
 }
 
 /// What a worker may do next.
-#[derive(Clone, Copy, Debug, PartialEq, Eq)]
+#[derive(Clone, Copy, PartialEq, Eq)]
 pub enum Pick {
     /// Reuse the record of this thread's next step.
     Reuse(u8),

@@ -10,7 +10,7 @@ use rv_decode::encode;
 use std::alloc::{AllocError, Global};
 
 /// What stands at a guest's base, one after the other.
-#[derive(Clone, Copy, PartialEq, Eq)]
+#[derive(Clone, Copy)]
 pub enum Item {
     /// An instruction, of four bytes.
     Instruction(Instr),

@@ -3,7 +3,7 @@
 use std::mem::size_of;
 
 /// What an operation does. The names are those of the instructions of `isa_spec`, and the sections its own.
-#[derive(Clone, Copy, Debug, PartialEq, Eq)]
+#[derive(Clone, Copy, PartialEq, Eq)]
 pub enum Kind {
     /// Left to a turn of its own: ECALL, EBREAK, a word of no instruction, JAL to no multiple of 4, a branch to what is
     /// no word of the page, a load to x0, and what stands behind the last word of a page.
@@ -105,7 +105,7 @@ pub enum Kind {
 }
 
 /// An operation: what it does, its registers, and its immediate or its target. It takes 8 bytes.
-#[derive(Clone, Copy, Debug, PartialEq, Eq)]
+#[derive(Clone, Copy, PartialEq, Eq)]
 pub struct Operation {
     /// What it does.
     pub kind: Kind,

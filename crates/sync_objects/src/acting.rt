@@ -19,7 +19,7 @@ pub(super) fn is_object(number: u32) -> bool
 }
 
 /// The objects on which a call acts, in the order in which the table of calls names them.
-#[derive(Clone, Copy, Debug, PartialEq, Eq)]
+#[derive(Clone, Copy, PartialEq, Eq)]
 pub enum ActedOn {
     /// None.
     Nothing,

@@ -17,7 +17,7 @@ use turn_count::Turns;
 pub(super) const PAGE_TURNS: u32 = 1024;
 
 /// What was seen of the view's page in a slot.
-#[derive(Clone, Copy, Debug, PartialEq, Eq)]
+#[derive(Clone, Copy)]
 pub(super) enum Seen {
     /// Nothing so far.
     Nothing,

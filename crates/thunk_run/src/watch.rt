@@ -11,7 +11,7 @@ pub trait Watch {
 }
 
 /// The watch of a thunk that nobody looks at.
-#[derive(Clone, Copy, Debug, PartialEq, Eq)]
+#[derive(Clone, Copy)]
 pub struct Unwatched;
 
 impl Watch for Unwatched {

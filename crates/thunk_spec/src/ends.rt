@@ -3,7 +3,7 @@
 use isa_spec::Cause;
 
 /// How a turn ends.
-#[derive(Clone, Copy, Debug, PartialEq, Eq)]
+#[derive(Clone, Copy)]
 pub enum Outcome {
     /// The instruction was executed; the next one follows.
     Next,
@@ -14,7 +14,7 @@ pub enum Outcome {
 }
 
 /// How a thunk ends.
-#[derive(Clone, Copy, Debug, PartialEq, Eq)]
+#[derive(Clone, Copy, PartialEq, Eq)]
 pub enum ThunkEnd {
     /// Its last turn asked for an environment call.
     Call,

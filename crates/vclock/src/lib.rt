@@ -11,7 +11,7 @@ use std::simd::prelude::*;
 pub const MOST_COUNT: u32 = 65_536;
 
 /// A count of steps for each thread. A clause sees the list of the counts.
-#[derive(Clone, Copy, Debug, PartialEq, Eq)]
+#[derive(Clone, Copy, PartialEq, Eq)]
 pub struct Clock {
     counts: [u32; THREADS],
 }

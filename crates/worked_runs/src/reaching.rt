@@ -63,7 +63,7 @@ fn who_wakes_the_reader_of_what_it_wrote_leads_to_it(rt: HostRuntime) -> Result<
     let alloc = rt.alloc();
     let past = history_of(alloc, scheduled(&rt, alloc, WAKING, b"\x05", &WOKEN)?)?;
     let round = driven(&rt, alloc, WAKING, b"\x08", Some(past), &EVENTS)?;
-    assert_eq!(rt; round.reached()?, 4);
+    assert!(rt; round.reached()? == 4);
     assert!(rt; has_marks(&round, &[true, true, false, false, false, false]));
     assert!(rt; round.end() == Some(End::Exit(8)));
     Ok(())
