@@ -37,7 +37,7 @@ use Rattle.order_spec.proofs.Local.{acted-like}
 use Rattle.order_spec.proofs.Alike.{touched, untouched-after, touched-served, has-like, fits-parts, fits-from}
 use Rattle.order_spec.proofs.Simulate.{none-is, end_after-none, fate-none}
 use Rattle.order_spec.proofs.Near.{plain, other_record, plain-after}
-use Rattle.reach_spec.proofs.Starts.{near-first, unchanged-start}
+use Rattle.reach_spec.proofs.Starts.{near-first}
 use Rattle.history_facts.specs.Outlining.{machine_at}
 use Rattle.history_facts.proofs.Outlining.{machine-more, coherent-can}
 use Rattle.round_spec.specs.Marks.{record_for, is_fitting}
@@ -49,7 +49,6 @@ use Rattle.worker_spec.specs.Replaying.{HasReused}
 use Rattle.worker_spec.proofs.Replay.{reused-placed}
 use Rattle.propagate.specs.Consistency.{IsApplied}
 use Rattle.propagate.proofs.Appending.{reuse-can}
-use Rattle.reach_spec.specs.Reach.{changed_slots, changed}
 use Rattle.propagate.specs.Alike.{is_marked, IsLike, GoesOnAs, IsAsMarked, IsClean, AreClean, IsAsBefore, AreMarksOn, MayBeMarks, marked, all_unmarked, IsNext}
 
 -- ---- marks
@@ -486,23 +485,6 @@ pub same-size : (a b : Setup) → IsSameProgram a b → length (start_memory b) 
 same-size a b same =
     (IsMemory-start b).count ∙ ap (λ (m : List _). length m) (same-map a b same) ∙ sym (IsMemory-start a).count
 
-pub marks-changed :
-    (a b : Setup) (old marks : List Bool) → IsSameProgram a b → length old ≡ length (start_memory b)
-    → marks ≡ marked old (changed a b) → AreMarksOn (first a).memory (first b).memory marks
-unfolding first
-marks-changed a b old marks same long is =
-    record {
-      count = ap (λ (l : List Bool). length l) is ∙ marked-length old (changed a b) ∙ long ∙ same-size a b same;
-      same = λ p clean.
-          elim (cases_lt p (length old)) [
-            | inl below ↦ unchanged-start a b p same
-                (marked-slots old (changed a b) p below (sym (ap (λ (l : List Bool). is_marked l p) is) ∙ clean))
-            | inr past ↦
-                (let size = same-size a b same in
-                get_or_past (start_memory b) p [] (omega arith) ∙ sym (get_or_past (start_memory a) p [] (omega arith)))
-          ];
-    }
-
 pub no-marks :
     (a b : Setup) (marks : List Bool) → IsSameProgram a b → a.input ≡ b.input → length marks ≡ length (start_memory b)
     → AreMarksOn (first a).memory (first b).memory marks
@@ -514,10 +496,6 @@ no-marks a b marks same input long =
 pub first-memory : (s : Setup) → (first s).memory ≡ start_memory s
 unfolding first
 first-memory s = refl
-
-pub changed-slots : (a b : Setup) → changed_slots (start_memory a) (start_memory b) ≡ changed a b
-unfolding changed
-changed-slots a b = refl
 
 -- ---- events
 
@@ -635,23 +613,23 @@ commit-as-marked w v rec old None was whole fit are past machine records = tt
 commit-as-marked w v rec None (Some new) was whole fit are past machine records = λ h is. absurd (let none = are.were in cc)
 commit-as-marked w v rec (Some old) (Some new) was whole fit are past machine records = λ h is.
     let own : w.past ≡ Some h = sym past ∙ is in
-    let same : are.history ≡ h = (let both = sym are.goes_by ∙ own in cc) in
+    let same : are.in_place.history ≡ h = (let both = sym are.in_place.goes_by ∙ own in cc) in
     let marks : old.items ≡ are.marks = (let both = are.were in cc) in
-    let r : Record = are.record_there in
-    let after : new.items ≡ marked (marked old.items (written_slots are.record_there)) (written_slots rec) =
+    let r : Record = are.in_place.record_there in
+    let after : new.items ≡ marked (marked old.items (written_slots r)) (written_slots rec) =
     are.after_both
-    ∙ ap (λ (l : List Bool). marked (marked l (written_slots are.record_there)) (written_slots rec)) (sym marks) in
+    ∙ ap (λ (l : List Bool). marked (marked l (written_slots are.in_place.record_there)) (written_slots rec)) (sym marks) in
     let goes : GoesOnAs h old.items w = was h own in
-    let clean_both : (p : ℕ) → is_marked new.items p ≡ false → is_marked (marked old.items (written_slots are.record_there)) p ≡ false =
+    let clean_both : (p : ℕ) → is_marked new.items p ≡ false → is_marked (marked old.items (written_slots r)) p ≡ false =
     λ p clean.
-    marked-before (marked old.items (written_slots are.record_there)) (written_slots rec) p
+    marked-before (marked old.items (written_slots r)) (written_slots rec) p
     (sym (ap (λ (l : List Bool). is_marked l p) after) ∙ clean) in
     as-before-more w v h old.items new.items r rec goes whole
-    (subst (λ (x : History). slice_get x.records (length w.records) ≡ Some r) same are.there)
-    are.thread are.ask fit
+    (subst (λ (x : History). slice_get x.records (length w.records) ≡ Some r) same are.in_place.there)
+    are.in_place.thread are.in_place.ask fit
     (ap (λ (l : List Bool). length l) after ∙ marked-length (marked old.items (written_slots r)) (written_slots rec)
     ∙ marked-length old.items (written_slots r))
-    (λ p clean. marked-before old.items (written_slots are.record_there) p (clean_both p clean))
+    (λ p clean. marked-before old.items (written_slots r) p (clean_both p clean))
     (λ p clean size long like.
     committed-page w.machine.memory (machine_at h (length w.records)).memory old.items new.items r rec p size long like after
     clean)

@@ -1,5 +1,5 @@
 -- What a round keeps beside what is seen of it, after each event.
-use Rattle.std.proofs.Common.{◌≡◌, ◌≤◌, ◌+◌, ◌*◌, ℕ, suc, Bool, true, false, not, cond, ◌&&◌, List, [], ◌∷◌, ◌++◌, length, length-append, Option, Vec, Some, None, is_some, is_none, refl, ap, sym, ◌∙◌, subst, arith}
+use Rattle.std.proofs.Common.{◌≡◌, ◌≤◌, ◌+◌, ◌*◌, ℕ, zero, suc, Bool, true, false, not, cond, ◌&&◌, List, [], ◌∷◌, ◌++◌, length, length-append, set, replicate, Option, Vec, Some, None, is_some, is_none, refl, ap, sym, ◌∙◌, subst, arith}
 use Rattle.std.proofs.lemmas.Bool.{and_parts}
 use Rattle.std.specs.Global.{Global}
 use Rattle.record_spec.specs.Record.{Record}
@@ -10,7 +10,7 @@ use Rattle.history_spec.specs.History.{History, IsHonest, IsSound, threads_of_re
 use Rattle.report_spec.specs.declared.Entry.{Entry}
 use Rattle.report_spec.specs.Report.{threads_of, instructions_from}
 use Rattle.round_spec.specs.declared.events.Event.{Event}
-use Rattle.round_spec.specs.Rounds.{RoundState, opening, happens, history_of, is_in_flight, is_in_flight_of}
+use Rattle.round_spec.specs.Rounds.{RoundState, opening, happens, history_of, none_in_flight, is_in_flight, is_in_flight_of}
 use Rattle.round_spec.specs.Instructions.{executed_instructions}
 use Rattle.round_spec.specs.Keeping.{IsFromScratch, IsInOrder, IsCounted}
 use Rattle.round_spec.proofs.Happening.{opening-kept, happens-kept, none_in_flight-none}
@@ -144,6 +144,15 @@ pub knows-same :
 knows-same w v marks None knows past in_flight = record { nobody = in_flight ∙ knows.nobody; marked = knows.marked }
 knows-same w v marks (Some fs) knows past in_flight = knows-found v marks w.past (Some fs) knows past
 
+none-set : (n t : ℕ) → set (replicate n false) t false ≡ replicate n false
+none-set zero t = refl
+none-set (suc n) zero = refl
+none-set (suc n) (suc t) = ap (λ (flags : List Bool). false ∷ flags) (none-set n t)
+
+none_in_flight-set : (t : ℕ) → set none_in_flight t false ≡ none_in_flight
+unfolding none_in_flight
+none_in_flight-set t = none-set 32 t
+
 -- where anybody is in flight, all is known
 pub knows-in_flight :
     (w v : RoundState) (marks after : Option (Vec Bool Global)) (facts : Option (List Fact)) (t : ℕ)
@@ -153,6 +162,27 @@ knows-in_flight w v marks after None t knows taken past =
     (let nobody : is_in_flight w t ≡ false =
     ap (λ (flags : List Bool). is_in_flight_of flags t) knows.nobody ∙ none_in_flight-none t in cc)
 knows-in_flight w v marks after (Some fs) t knows taken past = knows-found v after w.past (Some fs) knows past
+
+-- an executed step, whose thread isn't in flight after it
+pub knows-made :
+    (w v : RoundState) (marks after : Option (Vec Bool Global)) (before facts : Option (List Fact)) (t : ℕ)
+    (in_place : Bool)
+    → KnowsEnough w marks before → IsFound (not in_place) w.past before facts
+    → v.past ≡ w.past → v.in_flight ≡ set w.in_flight t false
+    → (in_place ≡ true → is_some marks ≡ true → is_some after ≡ true) → (in_place ≡ true → is_some marks ≡ true)
+    → KnowsEnough v after facts
+knows-made w v marks after before facts t false knows found past in_flight kept some =
+    knows-found v after w.past facts found past
+knows-made w v marks after before facts t true knows found past in_flight kept some =
+    by facts (subst (KnowsEnough w marks) (sym found) knows)
+  where
+    by : (known : Option (List Fact)) → KnowsEnough w marks known → KnowsEnough v after known
+    by None known =
+        record {
+          nobody = in_flight ∙ ap (λ (flags : List Bool). set flags t false) known.nobody ∙ none_in_flight-set t;
+          marked = kept refl (some refl);
+        }
+    by (Some fs) known = knows-found v after w.past (Some fs) known past
 
 -- a record that is reused
 pub knows-reused :
@@ -222,25 +252,36 @@ applied-coherent w applied ended =
 
 -- after an event
 
+pub valid-happens :
+    (w v : RoundState) (e : Event) → IsValid w → happens w e ≡ v → v.setup ≡ w.setup → IsValid v
+valid-happens w v e kept is setup =
+    record {
+      setup = subst IsSetup (sym setup) kept.setup;
+      framed =
+          ap (λ (x : RoundState). x.machine.frame) (sym is) ∙ happens-frame w e ∙ kept.framed
+          ∙ ap (λ (s : Setup). (first s).frame) (sym setup);
+      in_order = subst IsInOrder is (happens-kept w e kept.in_order);
+      counted = subst IsCounted is (happens-counted w e kept.in_order kept.counted);
+      by_schedule = subst IsBySchedule is (by_schedule-happens w e kept.in_order kept.by_schedule);
+    }
+
 pub kept-happens :
-    (w v : RoundState) (e : Event) (i j : ℕ) (fs gs : Option (List Fact))
-    (b c : Option (Vec Bool Global))
-    → IsConsistent w i fs b → happens w e ≡ v → v.setup ≡ w.setup → v.past ≡ w.past
+    (w v : RoundState) (e : Event) (j : ℕ) (gs : Option (List Fact)) (c : Option (Vec Bool Global))
+    → IsValid w → IsOnMap w → happens w e ≡ v → v.setup ≡ w.setup
     → IsApplied v → length v.picked ≡ length v.schedule
     → j ≡ executed_instructions v.schedule v.records → j ≤ 4294967295 * length v.schedule
     → IsAsBefore v c → KnowsEnough v c gs
     → IsConsistent v j gs c
-kept-happens w v e i j fs gs b c kept is setup past applied points executed few as_before knows =
+kept-happens w v e j gs c kept on_map is setup applied points executed few as_before knows =
+    let valid : IsValid v = valid-happens w v e kept is setup in
     record {
-      valid = subst IsSetup (sym setup) kept.valid;
-      in_order = subst IsInOrder is (happens-kept w e kept.in_order);
-      counted = subst IsCounted is (happens-counted w e kept.in_order kept.counted);
-      by_schedule = subst IsBySchedule is (by_schedule-happens w e kept.in_order kept.by_schedule);
+      valid = valid.setup;
+      in_order = valid.in_order;
+      counted = valid.counted;
+      by_schedule = valid.by_schedule;
       applied = applied;
-      on_map = subst IsOnMap is (happens-on_map w e kept.on_map);
-      framed =
-          ap (λ (x : RoundState). x.machine.frame) (sym is) ∙ happens-frame w e ∙ kept.framed
-          ∙ ap (λ (s : Setup). (first s).frame) (sym setup);
+      on_map = subst IsOnMap is (happens-on_map w e on_map);
+      framed = valid.framed;
       points = points;
       executed = executed;
       few = few;
@@ -248,23 +289,23 @@ kept-happens w v e i j fs gs b c kept is setup past applied points executed few 
       as_before = as_before;
     }
 
--- where one is
+-- where one is; what happens does so to that round or to a later one that is as long
 pub kept-more :
-    (w v : RoundState) (e : Event) (i j : ℕ) (fs gs : Option (List Fact))
+    (w x v : RoundState) (e : Event) (i j : ℕ) (fs gs : Option (List Fact))
     (b c : Option (Vec Bool Global)) (entry : Entry) (r : Record) (point : ℕ)
-    → IsConsistent w i fs b → happens w e ≡ v → v.setup ≡ w.setup → v.past ≡ w.past
+    → IsConsistent w i fs b → IsValid x → IsOnMap x → happens x e ≡ v → v.setup ≡ x.setup
     → v.schedule ≡ w.schedule ++ entry ∷ [] → v.records ≡ w.records ++ r ∷ [] → v.picked ≡ w.picked ++ point ∷ []
     → IsApplied v → j ≡ i + cond entry.reused 0 r.kept.count → cond entry.reused 0 r.kept.count ≤ 4294967295
     → IsAsBefore v c → KnowsEnough v c gs
     → IsConsistent v j gs c
-kept-more w v e i j fs gs b c entry r point kept is setup past schedule records picked applied sum few as_before knows =
+kept-more w x v e i j fs gs b c entry r point kept valid on_map is setup schedule records picked applied sum few as_before knows =
     let more = executed-more w.schedule w.records entry r (record_count w kept.counted) in
     let executed = kept.executed in
     let before = kept.few in
     let points = kept.points in
     let longer = length-append w.schedule (entry ∷ []) in
     let one_more = length-append w.picked (point ∷ []) in
-    kept-happens w v e i j fs gs b c kept is setup past applied
+    kept-happens x v e j gs c valid on_map is setup applied
     (rw (schedule, picked) (omega arith))
     (rw (schedule, records) (omega arith))
     (rw schedule (omega arith))

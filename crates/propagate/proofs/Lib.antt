@@ -9,3 +9,4 @@ pub mod Executing
 pub mod Alike
 pub mod Making
 pub mod InStep
+pub mod Starts

@@ -1,22 +1,27 @@
 -- A round after an entry was appended.
-use Rattle.std.proofs.Common.{◌≡◌, ◌≤◌, ◌+◌, ℕ, Bool, true, false, List, [], ◌∷◌, ◌++◌, length, set, Option, Vec, Some, refl, ap, sym, ◌∙◌, subst, arith}
-use Rattle.std.proofs.lemmas.List.{length-append}
+use Rattle.std.proofs.Common.{◌≡◌, ◌<◌, ◌≤◌, ◌+◌, ℕ, Bool, true, false, not, ◌||◌, List, [], ◌∷◌, ◌++◌, length, set, Option, Vec, Some, is_some, refl, ap, ap₂, sym, ◌∙◌, subst, arith}
+use Rattle.std.proofs.lemmas.Bool.{and_parts}
+use Rattle.std.proofs.lemmas.List.{length-append, get_or-set_same, set-set}
 use Rattle.std.specs.Global.{Global}
 use Rattle.report_spec.specs.declared.Entry.{Entry}
 use Rattle.thunk_spec.specs.Thunk.{Frame}
 use Rattle.record_spec.specs.Record.{Record, IsTrue}
-use Rattle.machine_spec.specs.Step.{apply}
+use Rattle.machine_spec.specs.Machine.{Machine}
+use Rattle.machine_spec.specs.Step.{apply, fits}
 use Rattle.order_spec.specs.Facts.{Fact}
-use Rattle.round_spec.specs.declared.events.Event.TheVariants.{Reuse, Commit, GiveBack}
-use Rattle.round_spec.specs.Marks.{record_for}
-use Rattle.round_spec.specs.Rounds.{RoundState, can_reuse, happens, is_in_flight, taken_when, given_back}
-use Rattle.round_spec.proofs.Conditions.{happens-reuse, happens-give_back, commit-applies}
+use Rattle.round_spec.specs.declared.events.Event.TheVariants.{Take, Reuse, Commit, GiveBack}
+use Rattle.round_spec.specs.Keeping.{IsInOrder}
+use Rattle.round_spec.specs.Marks.{record_for, fits_next}
+use Rattle.round_spec.specs.Rounds.{RoundState, can_begin, can_take, can_reuse, happens, is_finished, is_in_flight, taken, taken_when, given_back}
+use Rattle.round_spec.proofs.Conditions.{happens-take, happens-take_not, happens-reuse, happens-give_back, commit-applies}
+use Rattle.round_spec.proofs.Happening.{CanBegin, can_begin-parts, happens-kept}
 use Rattle.propagate.specs.Consistency.{IsConsistent, KnowsEnough}
 use Rattle.propagate.specs.Alike.{IsAsBefore}
-use Rattle.propagate.specs.Committing.{CanCommit, GoesOn}
-use Rattle.propagate.proofs.Keeping.{kept-happens, kept-more, applied-round, knows-in_flight}
+use Rattle.propagate.specs.Committing.{CanCommit, GoesOn, picked_at}
+use Rattle.propagate.proofs.Keeping.{valid_consistent, valid-happens, kept-happens, kept-more, applied-round, knows-in_flight}
+use Rattle.propagate.proofs.Mapped.{happens-on_map}
 use Rattle.propagate.proofs.Alike.{as-before-same}
-use Rattle.propagate.proofs.Appending.{CanAppend, fitting-append, Reusable, reusable, going-none, can-apply, reuse-can}
+use Rattle.propagate.proofs.Appending.{CanAppend, fitting-append, Reusable, reusable, going-none, can-apply, reuse-can, below-32, take-ready}
 
 -- a round with an entry, its record and when it was picked
 abbrev pub appended : RoundState → Record → Bool → ℕ → RoundState
@@ -38,37 +43,117 @@ handed_in w r =
 
 -- an executed step that can be committed
 
+-- a round in which the step of a thread was begun: the thread is in flight, or was taken
+pub record IsBegun (w x : RoundState) : Type 0 where
+  pub setup : x.setup ≡ w.setup
+  pub machine : x.machine ≡ w.machine
+  pub stopped : x.stopped ≡ w.stopped
+
+pub is-begun : (w : RoundState) (t : ℕ) → IsBegun w (happens w (Take t))
+is-begun w t = by (can_take w t) refl
+  where
+    by : (b : Bool) → can_take w t ≡ b → IsBegun w (happens w (Take t))
+    by true is = rw (happens-take w t is) (record { setup = refl; machine = refl; stopped = refl })
+    by false is = rw (happens-take_not w t is) (record { setup = refl; machine = refl; stopped = refl })
+
+-- the round is not finished, and the record fits
+pub begun-goes :
+    (w : RoundState) (frame : Frame) (r : Record)
+    → CanCommit (happens w (Take r.thread)) frame r
+    → (is_finished w ≡ false) × (fits w.machine r ≡ true)
+begun-goes w frame r can =
+    let begun = is-begun w r.thread in (
+      ap₂ (λ (m : Machine) (b : Bool). is_some m.ending || b) (sym begun.machine) (sym begun.stopped) ∙ can.going,
+      ap (λ (m : Machine). fits m r) (sym begun.machine) ∙ can.fit,
+    )
+
 pub commit-append :
-    (w : RoundState) (i : ℕ) (fs : Option (List Fact)) (b : Option (Vec Bool Global)) (frame : Frame) (r : Record) → IsConsistent w i fs b → CanCommit w frame r
+    (w : RoundState) (i : ℕ) (fs : Option (List Fact)) (b : Option (Vec Bool Global)) (frame : Frame) (r : Record)
+    → IsConsistent w i fs b → CanCommit (happens w (Take r.thread)) frame r
     → CanAppend w r
-commit-append w i fs b frame r kept can = fitting-append w r kept.in_order kept.counted can.going can.fit
+commit-append w i fs b frame r kept can =
+    let goes = begun-goes w frame r can in fitting-append w r kept.in_order kept.counted goes.0 goes.1
+
+-- a round after the step of a thread that was in flight, or was taken for it
+abbrev pub executed_in : RoundState → Record → RoundState
+executed_in w r =
+    record (appended w r false (picked_at w r.thread)) {
+      in_flight = set w.in_flight r.thread false;
+      taken_at = set w.taken_at r.thread 0;
+    }
+
+begun-handed_in :
+    (w : RoundState) (frame : Frame) (r : Record)
+    → IsInOrder w → CanCommit (happens w (Take r.thread)) frame r
+    → handed_in (happens w (Take r.thread)) r ≡ executed_in w r
+begun-handed_in w frame r in_order can = by (can_take w r.thread) refl
+  where
+    by : (b : Bool) → can_take w r.thread ≡ b → handed_in (happens w (Take r.thread)) r ≡ executed_in w r
+    by true is =
+        let below : r.thread < 32 = below-32 w.machine r.thread in_order.whole (take-ready w r.thread is) in
+        let begins : CanBegin w r.thread =
+        can_begin-parts w r.thread
+        (and_parts (can_begin w r.thread) (not (fits_next w.past w.machine r.thread)) is).0 in
+        let point : taken_when (taken w r.thread) r.thread ≡ length w.schedule =
+        get_or-set_same w.taken_at r.thread (length w.schedule) 0 (omega (arith, in_order.lengths)) in
+        rw (
+          happens-take w r.thread is,
+          begins.inside,
+          point,
+          set-set w.in_flight r.thread true false,
+          set-set w.taken_at r.thread (length w.schedule) 0,
+        )
+        refl
+    by false is =
+        let same = happens-take_not w r.thread is in
+        let in_flight : is_in_flight w r.thread ≡ true =
+        ap (λ (x : RoundState). is_in_flight x r.thread) (sym same) ∙ can.taken in
+        rw (same, in_flight) refl
 
 pub commit-happens :
-    (w : RoundState) (i : ℕ) (fs : Option (List Fact)) (b : Option (Vec Bool Global)) (frame : Frame) (r : Record)
-    → IsConsistent w i fs b → CanCommit w frame r → IsTrue frame r.start r.kept
-    → happens w (Commit r.thread) ≡ handed_in w r
-commit-happens w i fs b frame r kept can honest =
-    commit-applies w r kept.in_order.whole (subst (λ (x : Frame). IsTrue x r.start r.kept) can.same_frame honest)
-    can.taken can.going can.fit
+    (w : RoundState) (frame : Frame) (r : Record)
+    → IsInOrder w → CanCommit (happens w (Take r.thread)) frame r → IsTrue frame r.start r.kept
+    → happens (happens w (Take r.thread)) (Commit r.thread) ≡ executed_in w r
+commit-happens w frame r in_order can honest =
+    commit-applies (happens w (Take r.thread)) r (happens-kept w (Take r.thread) in_order).whole
+    (subst (λ (x : Frame). IsTrue x r.start r.kept) can.same_frame honest) can.taken can.going can.fit
+    ∙ begun-handed_in w frame r in_order can
 
 pub commit-kept :
-    (w v : RoundState) (i j : ℕ) (fs : Option (List Fact)) (b c : Option (Vec Bool Global)) (frame : Frame) (r : Record)
-    → IsConsistent w i fs b → CanCommit w frame r → IsTrue frame r.start r.kept
-    → v ≡ handed_in w r
+    (w v : RoundState) (i j : ℕ) (fs gs : Option (List Fact)) (b c : Option (Vec Bool Global)) (frame : Frame)
+    (r : Record)
+    → IsConsistent w i fs b → CanCommit (happens w (Take r.thread)) frame r → IsTrue frame r.start r.kept
+    → v ≡ executed_in w r
     → j ≡ i + r.kept.count → r.kept.count ≤ 4294967295
-    → IsAsBefore v c
-    → IsConsistent v j fs c
-commit-kept w v i j fs b c frame r kept can honest is sum few as_before =
-    kept-more w v (Commit r.thread) i j fs fs b c (record { thread = r.thread; reused = false }) r (taken_when w r.thread) kept
-    (commit-happens w i fs b frame r kept can honest ∙ sym is)
-    (ap (λ (x : RoundState). x.setup) is) (ap (λ (x : RoundState). x.past) is)
+    → IsAsBefore v c → KnowsEnough v c gs
+    → IsConsistent v j gs c
+commit-kept w v i j fs gs b c frame r kept can honest is sum few as_before knows =
+    let begun = is-begun w r.thread in
+    let goes = begun-goes w frame r can in
+    kept-more w (happens w (Take r.thread)) v (Commit r.thread) i j fs gs b c
+    (record { thread = r.thread; reused = false }) r (picked_at w r.thread) kept
+    (valid-happens w (happens w (Take r.thread)) (Take r.thread) (valid_consistent w w i fs b refl kept) refl begun.setup)
+    (happens-on_map w (Take r.thread) kept.on_map)
+    (commit-happens w frame r kept.in_order can honest ∙ sym is)
+    (ap (λ (x : RoundState). x.setup) is ∙ sym begun.setup)
     (ap (λ (x : RoundState). x.schedule) is) (ap (λ (x : RoundState). x.records) is)
     (ap (λ (x : RoundState). x.picked) is)
-    (applied-round w v r kept.applied (can-apply w r (going-none w.machine.ending w.stopped can.going) can.fit)
+    (applied-round w v r kept.applied (can-apply w r (going-none w.machine.ending w.stopped goes.0) goes.1)
     (ap (λ (x : RoundState). x.setup) is) (ap (λ (x : RoundState). x.machine) is)
     (ap (λ (x : RoundState). x.records) is))
-    sum few as_before
-    (knows-in_flight w v b c fs r.thread kept.knows can.taken (ap (λ (x : RoundState). x.past) is))
+    sum few as_before knows
+
+-- a thread that is in flight isn't taken again
+pub begun-in_flight : (w : RoundState) (t : ℕ) → is_in_flight w t ≡ true → happens w (Take t) ≡ w
+begun-in_flight w t in_flight = by (can_take w t) refl
+  where
+    by : (b : Bool) → can_take w t ≡ b → happens w (Take t) ≡ w
+    by true is =
+        absurd
+        (let begins : CanBegin w t =
+        can_begin-parts w t (and_parts (can_begin w t) (not (fits_next w.past w.machine t)) is).0 in
+        let inside = begins.inside in cc)
+    by false is = happens-take_not w t is
 
 -- a record that is reused
 
@@ -101,9 +186,10 @@ pub reuse-kept :
     → IsAsBefore v c → KnowsEnough v c gs
     → IsConsistent v i gs c
 reuse-kept w v i t fs gs b c r kept can there is as_before knows =
-    kept-more w v (Reuse t) i i fs gs b c (record { thread = r.thread; reused = true }) r (length w.schedule) kept
+    kept-more w w v (Reuse t) i i fs gs b c (record { thread = r.thread; reused = true }) r (length w.schedule) kept
+    (valid_consistent w w i fs b refl kept) kept.on_map
     (sym (reuse-happens w v i t fs b r kept can there is))
-    (ap (λ (x : RoundState). x.setup) is) (ap (λ (x : RoundState). x.past) is)
+    (ap (λ (x : RoundState). x.setup) is)
     (ap (λ (x : RoundState). x.schedule) is) (ap (λ (x : RoundState). x.records) is)
     (ap (λ (x : RoundState). x.picked) is)
     (applied-round w v r kept.applied (reuse-can w t r can there)
@@ -119,7 +205,8 @@ pub discarded-kept :
     → IsConsistent w i fs b → is_in_flight w t ≡ true → v ≡ given_back w t → IsConsistent v i fs b
 discarded-kept w v i t fs b kept in_flight is =
     subst (λ (x : RoundState). IsConsistent x i fs b) (sym is)
-    (kept-happens w (given_back w t) (GiveBack t) i i fs fs b b kept (happens-give_back w t in_flight) refl refl
+    (kept-happens w (given_back w t) (GiveBack t) i fs b (valid_consistent w w i fs b refl kept) kept.on_map
+    (happens-give_back w t in_flight) refl
     (record { machine = kept.applied.machine; can = kept.applied.can }) kept.points kept.executed kept.few
     (as-before-same w (given_back w t) b kept.as_before
     (record { setup = refl; past = refl; machine = refl; schedule = refl; records = refl }))

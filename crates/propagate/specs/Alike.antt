@@ -79,19 +79,23 @@ abbrev pub all_unmarked : List Bool → List ReadPage → Bool
 all_unmarked marks [] = true
 all_unmarked marks (r ∷ reads) = not (is_marked marks r.slot) && all_unmarked marks reads
 
--- Marks after an executed step in the place of a history's record: those before, if there were any, with the pages that
--- the step or the record writes; the record is of the same thread, and asks for the same.
-pub record AreMarksAfter (past : Option History) (place : ℕ) (rec : Record) (old : Option (Vec Bool Global))
-    (after : List Bool) : Type 0 where
-  pub marks : List Bool
-  pub were : option_map (λ v. v.items) old ≡ Some marks
+-- An executed step is in the place of a history's record: that is of the same thread, and asks for the same.
+pub record IsInPlace (past : Option History) (place : ℕ) (rec : Record) : Type 0 where
   pub history : History
   pub goes_by : past ≡ Some history
   pub record_there : Record
   pub there : slice_get history.records place ≡ Some record_there
   pub thread : rec.thread ≡ record_there.thread
   pub ask : ask_of rec ≡ ask_of record_there
-  pub after_both : after ≡ marked (marked marks (written_slots record_there)) (written_slots rec)
+
+-- Marks after an executed step in the place of a history's record: those before, if there were any, with the pages that
+-- the step or the record writes.
+pub record AreMarksAfter (past : Option History) (place : ℕ) (rec : Record) (old : Option (Vec Bool Global))
+    (after : List Bool) : Type 0 where
+  pub marks : List Bool
+  pub were : option_map (λ v. v.items) old ≡ Some marks
+  pub in_place : IsInPlace past place rec
+  pub after_both : after ≡ marked (marked marks (written_slots in_place.record_there)) (written_slots rec)
 
 -- The same where there may be none.
 abbrev pub MayBeMarks : Option History → ℕ → Record → Option (Vec Bool Global) → Option (Vec Bool Global) → Type 0

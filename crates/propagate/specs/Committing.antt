@@ -1,12 +1,12 @@
 -- When an executed step can be committed, and what comes of it.
-use Rattle.std.specs.Prelude.{◌≡◌, ◌+◌, ℕ, true, false, length}
+use Rattle.std.specs.Prelude.{◌≡◌, ◌+◌, ℕ, true, false, if◌then◌else◌, length}
 use Rattle.std.specs.Arc.{arc_value}
 use Rattle.thunk_spec.specs.Thunk.{Frame}
 use Rattle.record_spec.specs.Record.{Record}
 use Rattle.machine_spec.specs.Step.{fits}
 use Rattle.thunk_run.specs.declared.job.Run.{Run}
 use Rattle.round_spec.specs.declared.events.Event.TheVariants.{Commit, GiveBack}
-use Rattle.round_spec.specs.Rounds.{RoundState, is_finished, is_in_flight, happens}
+use Rattle.round_spec.specs.Rounds.{RoundState, is_finished, is_in_flight, taken_when, happens}
 use Rattle.propagate.specs.declared.events.Committed.{Committed}
 use Rattle.propagate.specs.declared.events.Committed.TheVariants.{Done, Stale, Memory}
 
@@ -17,6 +17,10 @@ pub record CanCommit (w : RoundState) (frame : Frame) (r : Record) : Type 0 wher
   pub same_frame : frame ≡ w.machine.frame
   pub taken : is_in_flight w r.thread ≡ true
   pub fit : fits w.machine r ≡ true
+
+-- How long the schedule of a round was when a thread was taken, or is if the thread isn't in flight.
+abbrev pub picked_at : RoundState → ℕ → ℕ
+picked_at w t = if is_in_flight w t then taken_when w t else length w.schedule
 
 -- What comes of committing a run: where it can be, it is done; where it can't, the run is handed back and its thread is
 -- no longer out; and where it can be but memory ran out, the run is handed back and the round is as before.

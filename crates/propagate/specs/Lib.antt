@@ -5,3 +5,4 @@ pub mod Appending
 pub mod Committing
 pub mod Choosing
 pub mod Executing
+pub mod Starts

@@ -34,7 +34,7 @@ fn run_step(alloc: Global, round: &mut Round, t: u8, turns: &mut Turns) -> Resul
     ensures cost { OnOk result (Costs turns.old round.old turns.new round.new) }
     ensures never_lower { turns.old ≤ turns.new }
 {
-    let job = round.take(t)?;
+    let job = round.start(t)?;
     let run = execute(alloc, &job, turns)?;
     // It ran by the round's own job, which stands as it was: nothing is compared.
     round.commit_executed(&run)

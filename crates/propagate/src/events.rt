@@ -10,10 +10,10 @@ ghost use Rattle.release_core.specs.Jobs.{IsJobOf};
 ghost use Rattle.round_spec.specs.declared.events.Event.TheVariants as event;
 ghost use Rattle.round_spec.specs.Rounds.{is_in_flight, can_take, can_reuse, happens};
 ghost use Rattle.propagate.specs.Appending.{trail, Appends};
-ghost use Rattle.propagate.specs.Committing.{CanCommit, Commits, GoesOn, entries_of};
+ghost use Rattle.propagate.specs.Committing.{CanCommit, Commits, GoesOn, entries_of, picked_at};
 ghost use Rattle.propagate.specs.Consistency.{IsValid};
 
-use super::marks::{marks_after, marks_if};
+use super::marks::{is_in_place, marks_after, marks_if};
 use super::round::{Round, find_facts};
 use guest_call::THREADS;
 use machine_spec::MOST_STEPS;
@@ -150,22 +150,53 @@ impl Round {
         !self.is_finished() && self.is_in_flight(run.rec.thread()) && self.core.fits(&run.rec)
     }
 
-    /// Makes an executed step that can be committed an entry of the schedule.
+    /// How many entries the schedule had when thread `t` was taken, or has now if the thread isn't in flight.
+    fn picked_at(&self, t: u8) -> u32
+        ensures { result ≡ picked_at self.now t }
+    {
+        if self.is_in_flight(t) {
+            self.taken_at[usize::from(t)]
+        } else {
+            self.entries()
+        }
+    }
+
+    /// The next step of thread `t`, which may be taken, to be executed and then committed.
+    ///
+    /// # Errors
+    ///
+    /// An error where the host's memory ran out.
+    pub(super) fn start(&self, t: u8) -> Result<Job, AllocError>
+        requires { can_take self.now t ≡ true }
+        ensures job { IfOk result (λ job. IsJobOf self.now.machine t job) }
+        ensures valid { IsValid self.now }
+    {
+        self.core.start_of(t)
+    }
+
+    /// Makes an executed step that can be committed an entry of the schedule. If its thread isn't in flight, the step is
+    /// taken and committed in one.
     ///
     /// # Errors
     ///
     /// An error where the host's memory ran out; the round is then as before.
     #[tactic(auto, using(crate::proofs::Keeping::valid_consistent))]
     pub(super) fn commit_executed(&mut self, run: &Run) -> Result<(), AllocError>
-        requires { CanCommit self.old (arc_value run.now.frame) (arc_value run.now.rec) }
+        requires { CanCommit (happens self.old (event.Take (arc_value run.now.rec).thread))
+            (arc_value run.now.frame) (arc_value run.now.rec) }
         ensures ok { OnOk result (self.new
-            ≡ happens self.old (event.Commit (arc_value run.now.rec).thread)) }
+            ≡ happens (happens self.old (event.Take (arc_value run.now.rec).thread))
+            (event.Commit (arc_value run.now.rec).thread)) }
         ensures same { GoesOn (if is_ok result then 1 else 0) self.old self.new }
         ensures err { OnErr result (self.new ≡ self.old) }
         ensures valid { IsValid self.old }
     {
-        self.picked.reserve(1)?;
+        let picked = self.picked_at(run.rec.thread());
         let place = self.schedule.len();
+        let in_place = is_in_place(&self.marks, &self.past, place, &run.rec);
+        let alloc = *self.schedule.allocator();
+        find_facts(alloc, &self.past, &mut self.graph, !in_place)?;
+        self.picked.reserve(1)?;
         append(
             &mut self.core,
             &mut self.schedule,
@@ -173,12 +204,12 @@ impl Round {
             &run.rec,
             false,
         )?;
+        self.picked.push_reserved(picked);
         let t = usize::from(run.rec.thread());
-        self.picked.push_reserved(self.taken_at[t]);
         self.in_flight[t] = false;
         self.taken_at[t] = 0;
         self.instructions += u64::from(run.rec.count());
-        self.marks = marks_after(self.marks.take(), &self.past, place, &run.rec);
+        self.marks = marks_after(self.marks.take(), &self.past, place, &run.rec, in_place);
         Ok(())
     }
 

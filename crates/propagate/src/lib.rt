@@ -6,6 +6,7 @@
 
 mod alone;
 mod events;
+mod inputs;
 mod marks;
 mod picking;
 mod reaching;

@@ -1,18 +1,20 @@
 //! Marks on the pages that may differ from those of the history that a round goes on as.
 
-ghost use Rattle.std.specs.Prelude.{◌≡◌, true, is_some, Some, None, option_map, slice_set, if◌then◌else◌, IfOk};
+ghost use Rattle.std.specs.Prelude.{◌≡◌, ◌<◌, ◌≤◌, ◌+◌, ℕ, true, false, is_some, Some, None, option_map, length, slice_get, slice_set, if◌then◌else◌, IfOk};
 ghost use Rattle.std.specs.Arc.{arc_value};
 ghost use Rattle.thunk_spec.specs.Put.{call_at};
-ghost use Rattle.machine_spec.specs.Setup.{IsSetup, first};
+ghost use Rattle.record_spec.specs.Record.{Record as OldRecord};
+ghost use Rattle.machine_spec.specs.Setup.{IsSetup, first, input_page};
 ghost use Rattle.history_spec.specs.History.{History as OldHistory, IsSameProgram, is_coherent};
 ghost use Rattle.order_spec.specs.Facts.{written_slots};
 ghost use Rattle.order_spec.specs.Facts as facts;
 ghost use Rattle.round_spec.specs.Rounds.{opening};
-ghost use Rattle.propagate.specs.Alike.{IsAsBefore, IsClean, AreMarksOn, MayBeMarks, marked};
+ghost use Rattle.propagate.specs.Alike.{is_marked, IsAsBefore, IsClean, AreMarksOn, IsInPlace, MayBeMarks, marked};
 ghost use Rattle.propagate.specs.Alike as alike;
 
-use super::reaching::slots_that_differ;
+use super::inputs::mark_parts;
 use guest_call::Call;
+use machine_spec::INPUT_PAGES;
 use page_store::PageTable;
 use release_core::{History, Setup};
 use rv_alu::Regs;
@@ -23,30 +25,12 @@ use thunk_record::Record;
 use thunk_spec::ThunkEnd;
 
 /// Marks the page in a slot, if there is one.
-fn mark(marks: &mut [bool], slot: usize)
+pub fn mark(marks: &mut [bool], slot: usize)
     ensures { marks.new ≡ slice_set marks.old slot true }
 {
     if slot < marks.len() {
         marks[slot] = true;
     }
-}
-
-/// Marks the pages in some slots.
-fn mark_all(marks: &mut [bool], slots: &[usize])
-    ensures { marks.new ≡ marked marks.old slots.now }
-{
-    for slot in slots {
-        mark(marks, *slot);
-    }
-}
-
-/// The marks with the pages in some slots marked too.
-fn with_marks(marks: Vec<bool>, slots: &[usize]) -> Vec<bool>
-    ensures { result.items ≡ marked marks.items slots.now }
-{
-    let mut marks = marks;
-    mark_all(&mut marks, slots);
-    marks
 }
 
 /// Marks the pages that a record writes.
@@ -60,8 +44,8 @@ fn mark_written(marks: &mut [bool], rec: &Record)
 }
 
 /// Whether the page in a slot is marked.
-fn is_marked(marks: &[bool], slot: usize) -> bool
-    ensures { result ≡ alike.is_marked marks.now slot }
+fn is_set(marks: &[bool], slot: usize) -> bool
+    ensures { result ≡ is_marked marks.now slot }
 {
     match marks.get(slot) {
         Some(mark) => *mark,
@@ -74,15 +58,32 @@ pub fn all_unmarked(marks: &[bool], reads: &[ReadPage]) -> bool
     ensures { result ≡ alike.all_unmarked marks.now reads.now }
 {
     for read in reads {
-        if is_marked(marks, read.slot()) {
+        if is_set(marks, read.slot()) {
             return false;
         }
     }
     true
 }
 
-/// Marks on the pages that differ between the start memories of two setups of one program. Pages are compared only if the
-/// inputs differ.
+/// The marks with the input's header marked too, which has this slot, and those of the input's pages behind it that are
+/// others in a second input.
+fn with_input(marks: Vec<bool>, header: usize, old: &[u8], new: &[u8]) -> Vec<bool>
+    requires { header + 1 + INPUT_PAGES ≤ length marks.items }
+    ensures count { length result.items ≡ length marks.items }
+    ensures header { is_marked result.items header ≡ false → length old.now ≡ length new.now }
+    ensures same { (k : ℕ) → k < INPUT_PAGES → is_marked result.items (header + 1 + k) ≡ false
+        → input_page new.now k ≡ input_page old.now k }
+{
+    let mut marks = marks;
+    if old.len() != new.len() {
+        mark(&mut marks, header);
+    }
+    mark_parts(&mut marks, header + 1, old, new);
+    marks
+}
+
+/// Marks on the pages that differ between the start memories of two setups of one program: on the input's header and pages,
+/// whose bytes are compared only if the inputs differ.
 fn marks_between(
     alloc: Global,
     old: &Setup,
@@ -100,9 +101,8 @@ fn marks_between(
     if old.input() == new.input() {
         return Ok(marks);
     }
-    let before = old.memory(alloc)?;
-    let slots = slots_that_differ(alloc, &before, memory)?;
-    Ok(with_marks(marks, &slots))
+    let header = new.image().pages.len();
+    Ok(with_input(marks, header, old.input(), new.input()))
 }
 
 /// Whether two setups are of one executable and one fuel.
@@ -169,27 +169,62 @@ pub fn marks_if(marks: Option<Vec<bool>>, holds: bool) -> Option<Vec<bool>>
     if holds { marks } else { None }
 }
 
-/// The marks after an executed step in the place of a history's record: with the pages that either writes, where both are
-/// of one thread and ask for the same, and else none.
+/// Whether a round that keeps marks goes on as its history did with an executed step: the record in the step's place is of
+/// the same thread, and asks for the same.
+pub fn is_in_place(
+    marks: &Option<Vec<bool>>,
+    past: &Option<Arc<History>>,
+    place: usize,
+    rec: &Record,
+) -> bool
+    ensures place { result ≡ true → IsInPlace (option_map arc_value past.now) place rec.now }
+    ensures marks { result ≡ true → is_some marks.now ≡ true }
+{
+    match past {
+        Some(history) if place < history.records().len() => {
+            marks.is_some() && is_alike(history.records().at(place), rec)
+        }
+        _ => false,
+    }
+}
+
+/// The marks with the pages that a record writes marked too.
+fn with_written(marks: Vec<bool>, rec: &Record) -> Vec<bool>
+    ensures { result.items ≡ marked marks.items (written_slots rec.now) }
+{
+    let mut marks = marks;
+    mark_written(&mut marks, rec);
+    marks
+}
+
+/// The marks with the pages marked too that the record in a place of a history writes, if there is one.
+fn with_old(marks: Vec<bool>, past: &Option<Arc<History>>, place: usize) -> Vec<bool>
+    ensures { (h : OldHistory) → (r : OldRecord) → option_map arc_value past.now ≡ Some h
+        → slice_get h.records place ≡ Some r → result.items ≡ marked marks.items (written_slots r) }
+{
+    match past {
+        Some(history) if place < history.records().len() => {
+            with_written(marks, history.records().at(place))
+        }
+        _ => marks,
+    }
+}
+
+/// The marks after an executed step: if it is in the place of a history's record, with the pages that either writes, and
+/// else none.
 pub fn marks_after(
     marks: Option<Vec<bool>>,
     past: &Option<Arc<History>>,
     place: usize,
     rec: &Record,
+    in_place: bool,
 ) -> Option<Vec<bool>>
-    ensures { MayBeMarks (option_map arc_value past.now) place rec.now marks result }
+    requires { in_place ≡ true → IsInPlace (option_map arc_value past.now) place rec.now }
+    ensures marks { MayBeMarks (option_map arc_value past.now) place rec.now marks result }
+    ensures kept { in_place ≡ true → is_some marks ≡ true → is_some result ≡ true }
 {
-    let (Some(mut marks), Some(history)) = (marks, past) else {
-        return None;
-    };
-    if place >= history.records().len() {
-        return None;
+    match marks_if(marks, in_place) {
+        Some(marks) => Some(with_written(with_old(marks, past, place), rec)),
+        None => None,
     }
-    let old = history.records().at(place);
-    if !is_alike(old, rec) {
-        return None;
-    }
-    mark_written(&mut marks, old);
-    mark_written(&mut marks, rec);
-    Some(marks)
 }

@@ -49,7 +49,7 @@ fn differs(old: &PageTable, new: &PageTable, slot: usize) -> bool
 }
 
 /// The slots of a memory's pages that are others in a second one.
-pub fn slots_that_differ(
+fn slots_that_differ(
     alloc: Global,
     old: &PageTable,
     new: &PageTable,

@@ -5,7 +5,7 @@ use Rattle.std.specs.Arc.{arc_value}
 use Rattle.round_spec.specs.declared.events.Event.TheVariants.{Take}
 use Rattle.round_spec.specs.Rounds.{RoundState, can_take, happens}
 use Rattle.round_spec.proofs.Conditions.{happens-take}
-use Rattle.propagate.proofs.Keeping.{kept-happens, knows-found}
+use Rattle.propagate.proofs.Keeping.{valid_consistent, kept-happens, knows-found}
 use Rattle.propagate.proofs.Alike.{as-before-same}
 use Rattle.propagate.proofs.round.Round.take.Goals as goal
 
@@ -40,8 +40,9 @@ invariant_of-self-3 c =
     let is : happens w (Take c.args.t) ≡ v =
     happens-take w c.args.t (subst (λ (x : RoundState). can_take x c.args.t ≡ true) (sym c.self.view_is) c.requires)
     ∙ sym (rw (c.from.ensures, c.from-2.ensures, now) refl) in
-    kept-happens w v (Take c.args.t) c.self.inside.instructions c.self.inside.instructions c.self.inside.graph
-    c.find_facts.new.graph c.self.inside.marks c.self.inside.marks c.self.invariant is refl refl
+    kept-happens w v (Take c.args.t) c.self.inside.instructions c.find_facts.new.graph c.self.inside.marks
+    (valid_consistent w w c.self.inside.instructions c.self.inside.graph c.self.inside.marks refl c.self.invariant)
+    c.self.invariant.on_map is refl
     (record { machine = c.self.invariant.applied.machine; can = c.self.invariant.applied.can })
     c.self.invariant.points c.self.invariant.executed c.self.invariant.few
     (as-before-same w v c.self.inside.marks c.self.invariant.as_before
