@@ -8,7 +8,7 @@ abbrev pub part_of : List ℕ → ℕ → List ℕ
 part_of input k =
     chunk (min (length input) (4096 * k)) (min (length input) (4096 * k + 4096) - min (length input) (4096 * k)) input
 
--- Marks of as many pages, where each page is marked that was.
+-- Marks of as many pages: each page that was marked is marked.
 pub record HasMore (old new : List Bool) : Type 0 where
   pub count : length new ≡ length old
   pub before : (p : ℕ) → is_marked new p ≡ false → is_marked old p ≡ false

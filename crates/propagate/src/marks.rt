@@ -65,8 +65,8 @@ pub fn all_unmarked(marks: &[bool], reads: &[ReadPage]) -> bool
     true
 }
 
-/// The marks with the input's header marked too, which has this slot, and those of the input's pages behind it that are
-/// others in a second input.
+/// The marks with more pages marked: that of the input's header, which has this slot, if a second input has another length,
+/// and each page of the input, behind it, that is another one in the second input.
 fn with_input(marks: Vec<bool>, header: usize, old: &[u8], new: &[u8]) -> Vec<bool>
     requires { header + 1 + INPUT_PAGES ≤ length marks.items }
     ensures count { length result.items ≡ length marks.items }
