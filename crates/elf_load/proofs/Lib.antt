@@ -3,3 +3,4 @@ pub mod Words
 pub mod Searches
 pub mod Along
 pub mod Given
+pub mod Parts

@@ -4,3 +4,4 @@ pub mod Questions
 pub mod Rows
 pub mod Load
 pub mod Touched
+pub mod Place

@@ -1,13 +1,14 @@
 //! The segments of a file, and the bytes that they give a page.
 
-ghost use Rattle.std.specs.Prelude.{◌≡◌, ◌<◌, ◌≤◌, ◌*◌, ◌+◌, ◌^◌, [], ◌∷◌, ◌++◌, if◌then◌else◌, ◌/◌, map, filter, find, IfOk, OnOk, Some};
+ghost use Rattle.std.specs.Prelude.{◌≡◌, ◌<◌, ◌≤◌, ◌*◌, ◌+◌, ◌-◌, ℕ, [], ◌∷◌, ◌++◌, if◌then◌else◌, true, map, filter, length, slice_index, IfOk, OnOk, Some};
 ghost use Rattle.elf_spec.specs.Header.{segments};
 ghost use Rattle.elf_spec.specs.Header as segment_header;
 ghost use Rattle.elf_spec.specs.Segments as segment;
-ghost use Rattle.elf_spec.specs.Image.{segment_byte, image_byte, image_page};
+ghost use Rattle.elf_spec.specs.Image.{segment_byte, image_page};
+ghost use Rattle.memory_spec.specs.Pages.{zero_page};
 ghost use Rattle.elf_load.specs.Header.{header_of};
+ghost use Rattle.elf_load.specs.Place as place;
 
-use crate::fields::byte_at;
 use crate::header::{Header, header_at, header_count, is_segment};
 use crate::pages::touches;
 use page_store::PAGE_SIZE;
@@ -64,60 +65,73 @@ fn push_touching(found: &mut Vec<Header>, header: Header, number: u32) -> Result
     Ok(())
 }
 
-/// Whether a segment has an address.
-fn has_address(header: Header, address: u64) -> bool
-    ensures { result ≡ segment.has_address (header_of header) address }
+/// The offset of an address on the page of a number; for one that isn't there, the nearer end of the page.
+fn offset_on(number: u32, address: u64) -> usize
+    ensures { result ≡ place.offset_on number address }
 {
-    (u64::from(header.vaddr) <= address)
-        & (address < u64::from(header.vaddr) + u64::from(header.memsz))
+    let start = u64::from(number) * PAGE_SIZE as u64;
+    address.saturating_sub(start).min(PAGE_SIZE as u64) as usize
 }
 
-/// The byte of a segment at one of its addresses.
-fn byte_of(bytes: &[u8], header: Header, address: u64) -> u8
-    requires { address < 2 ^ 33 }
-    ensures { result ≡ segment_byte bytes.now (Some (header_of header)) address }
+/// Where in the file a segment's byte at an address stands; for an address without one, the nearer end of its bytes.
+fn place_in_file(bytes: &[u8], header: Header, address: u64) -> usize
+    ensures { result ≡ place.place_in_file bytes.now (header_of header) address }
 {
-    let place = address.saturating_sub(u64::from(header.vaddr));
-    if place < u64::from(header.filesz) {
-        byte_at(bytes, u64::from(header.offset) + place)
-    } else {
-        0
-    }
+    let count = u64::from(header.filesz.min(header.memsz));
+    let before = count.min(address.saturating_sub(u64::from(header.vaddr)));
+    bytes
+        .len()
+        .min((u64::from(header.offset) + before) as usize)
 }
 
-/// The first segment that has an address.
-fn segment_at(headers: &[Header], address: u64) -> Option<Header>
-    ensures { result ≡ find (λ header. segment.has_address (header_of header) address) headers.now }
+/// The bytes of the file that a segment has on the page of a number.
+fn part_on(bytes: &[u8], header: Header, number: u32) -> &[u8]
+    ensures within { place.offset_on number header.vaddr + length result.now
+        ≤ place.offset_on number (header.vaddr + header.memsz) }
+    ensures each { (k : ℕ) → k < segment.page_size
+        → segment.has_address (header_of header) (segment.page_size * number + k) ≡ true
+        → slice_index result.now (k - place.offset_on number header.vaddr)
+        ≡ segment_byte bytes.now (Some (header_of header)) (segment.page_size * number + k) }
 {
-    headers
-        .iter()
-        .copied()
-        .find(|header| has_address(*header, address))
+    let start = u64::from(number) * PAGE_SIZE as u64;
+    let first = place_in_file(bytes, header, start);
+    let end = place_in_file(bytes, header, start + PAGE_SIZE as u64);
+    &bytes[first..end]
 }
 
-/// The byte of the image at an address, from the segments that touch its page.
-fn image_byte_at(bytes: &[u8], near: &[Header], address: u64) -> u8
-    requires near { map header_of near.now
-        ≡ filter (segment.touches (address / segment.page_size)) (segments bytes.now) }
-    requires address { address < 2 ^ 33 }
-    ensures { result ≡ image_byte bytes.now address }
+/// Whether no segment has bytes of the file on the page of a number: it then is one of zeros.
+pub fn is_blank(bytes: &[u8], near: &[Header], number: u32) -> bool
+    requires { map header_of near.now ≡ filter (segment.touches number) (segments bytes.now) }
+    ensures { result ≡ true → image_page bytes.now number ≡ zero_page }
 {
-    match segment_at(near, address) {
-        Some(header) => byte_of(bytes, header, address),
-        None => 0,
-    }
+    near.iter()
+        .all(|header| part_on(bytes, *header, number).is_empty())
+}
+
+/// Lays a segment over the page of a number: its bytes of the file there, and zeros behind them.
+fn lay_over(page: &mut [u8; PAGE_SIZE], bytes: &[u8], header: Header, number: u32)
+    ensures { (k : ℕ) → k < segment.page_size
+        → slice_index page.new k
+        ≡ (if segment.has_address (header_of header) (segment.page_size * number + k)
+        then segment_byte bytes.now (Some (header_of header)) (segment.page_size * number + k)
+        else slice_index page.old k) }
+{
+    let part = part_on(bytes, header, number);
+    let start = offset_on(number, u64::from(header.vaddr));
+    let end = offset_on(number, u64::from(header.vaddr) + u64::from(header.memsz));
+    page[start..start + part.len()].copy_from_slice(part);
+    page[start + part.len()..end].fill(0);
 }
 
 /// The bytes of the image on the page of a number, from the segments that touch it.
 pub fn page_bytes(bytes: &[u8], near: &[Header], number: u32) -> [u8; PAGE_SIZE]
-    requires near { map header_of near.now ≡ filter (segment.touches number) (segments bytes.now) }
-    requires number { number < 2 ^ 21 }
+    requires { map header_of near.now ≡ filter (segment.touches number) (segments bytes.now) }
     ensures { result ≡ image_page bytes.now number }
 {
     let mut page = [0; PAGE_SIZE];
-    let start = u64::from(number) * PAGE_SIZE as u64;
-    for offset in 0..PAGE_SIZE {
-        page[offset] = image_byte_at(bytes, near, start + offset as u64);
+    // An address has the byte of the first segment that has it, so the first is laid over the others.
+    for header in near.iter().rev() {
+        lay_over(&mut page, bytes, *header, number);
     }
     page
 }

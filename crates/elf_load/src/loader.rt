@@ -1,8 +1,10 @@
 //! The image of an executable: its pages, their access rights and bytes, and its entry.
 
-ghost use Rattle.std.specs.Prelude.{◌≡◌, ◌<◌, ◌^◌, [], ◌∷◌, ◌++◌, true, if◌then◌else◌, map, IfOk, IfErr, OnOk};
+ghost use Rattle.std.specs.Prelude.{◌≡◌, [], ◌∷◌, ◌++◌, true, if◌then◌else◌, map, filter, IfOk, IfErr, OnOk};
+ghost use Rattle.std.specs.Arc.{arc_value};
+ghost use Rattle.memory_spec.specs.Pages.{zero_page};
 ghost use Rattle.elf_spec.specs.Header.{segments};
-ghost use Rattle.elf_spec.specs.Segments.{page_permission};
+ghost use Rattle.elf_spec.specs.Segments.{page_permission, touches};
 ghost use Rattle.elf_spec.specs.Image.{image_pages, image_memory, image_page, is_image};
 ghost use Rattle.elf_load.specs.Header.{header_of};
 ghost use Rattle.elf_load.specs.Load.{IsImageOf, Refuses};
@@ -10,7 +12,7 @@ ghost use Rattle.elf_load.specs.declared.loader.LoadError.TheVariants.{NoMemory}
 
 use crate::fields::word_at;
 use crate::header::Header;
-use crate::image::{page_bytes, segments_of, segments_on};
+use crate::image::{is_blank, page_bytes, segments_of, segments_on};
 use crate::pages::{highest_page, rights_of, touched_pages};
 use crate::refusals::refusal;
 use bitflags::Flags;
@@ -18,6 +20,7 @@ use elf_spec::{Refusal, accepted_is_inside};
 use page_map::{MappedPage, PageMap, Perm};
 use page_store::{Page, PageTable};
 use std::alloc::{AllocError, Global};
+use std::sync::Arc;
 
 /// What an executable starts as.
 #[derive(Drop)]
@@ -67,6 +70,8 @@ pub fn load(alloc: Global, bytes: &[u8]) -> Result<Image, LoadError>
 struct Pages {
     mapped: Vec<MappedPage>,
     table: PageTable,
+    /// A page of zeros, for all places that hold one.
+    zero: Arc<Page>,
 }
 
 /// The image of an accepted file with these pages.
@@ -94,6 +99,7 @@ fn pages_of(alloc: Global, bytes: &[u8]) -> Result<Pages, AllocError>
     let mut pages = Pages {
         mapped: Vec::new(alloc),
         table: PageTable::empty(alloc),
+        zero: Arc::new(alloc, Page::zero())?,
     };
     for number in 0..highest_page(bytes) + 1 {
         let touched = marks[number as usize];
@@ -112,7 +118,7 @@ fn add_page(
     touched: bool,
 ) -> Result<(), AllocError>
     requires headers { map header_of headers.now ≡ segments bytes.now }
-    requires number { number < 2 ^ 21 }
+    requires zero { arc_value pages.old.zero ≡ zero_page }
     ensures mapped { OnOk result (pages.new.mapped.items ≡ (if touched
         then pages.old.mapped.items
         ++ record { number = number; permission = page_permission (segments bytes.now) number } ∷ []
@@ -120,14 +126,53 @@ fn add_page(
     ensures table { OnOk result (pages.new.table ≡ (if touched
         then pages.old.table ++ image_page bytes.now number ∷ []
         else pages.old.table)) }
+    ensures zero { pages.new.zero ≡ pages.old.zero }
 {
     if touched {
         let near = segments_on(alloc, headers, number)?;
         let rights = Perm::from_bits_retain(rights_of(near.as_slice()));
         pages.mapped.push(MappedPage::new(number, rights))?;
-        pages
-            .table
-            .push(Page::new(page_bytes(bytes, near.as_slice(), number)))?;
+        push_bytes(
+            &mut pages.table,
+            &pages.zero,
+            bytes,
+            near.as_slice(),
+            number,
+        )?;
     }
     Ok(())
+}
+
+/// Puts the bytes of the page of a number behind the others; where none is the file's, the page of zeros, shared.
+fn push_bytes(
+    table: &mut PageTable,
+    zero: &Arc<Page>,
+    bytes: &[u8],
+    near: &[Header],
+    number: u32,
+) -> Result<(), AllocError>
+    requires zero { arc_value zero.now ≡ zero_page }
+    requires near { map header_of near.now ≡ filter (touches number) (segments bytes.now) }
+    ensures { OnOk result (table.new ≡ table.old ++ image_page bytes.now number ∷ []) }
+{
+    if is_blank(bytes, near, number) {
+        table.push_shared(zero)
+    } else {
+        push_filled(table, bytes, near, number)
+    }
+}
+
+/// Puts the bytes of the page of a number behind the others, on a page of its own.
+///
+/// It stands apart, since a function clears its variables at its start, also where it goes another way: here a page.
+fn push_filled(
+    table: &mut PageTable,
+    bytes: &[u8],
+    near: &[Header],
+    number: u32,
+) -> Result<(), AllocError>
+    requires { map header_of near.now ≡ filter (touches number) (segments bytes.now) }
+    ensures { OnOk result (table.new ≡ table.old ++ image_page bytes.now number ∷ []) }
+{
+    table.push(Page::new(page_bytes(bytes, near, number)))
 }

@@ -1,40 +1,22 @@
--- Answers to the goals that the check leaves of `page_bytes`.
-use Rattle.std.proofs.Common.{set, subst, length-set, ◌≡◌, ◌<◌, ◌+◌, ◌*◌, ℕ, zero, suc, ◌∷◌, length, get_or, map, refl, sym, ap, ◌∙◌, arith, add-zero}
-use Rattle.std.specs.List.{range_with_len}
-use Rattle.std.proofs.lemmas.List.FromFn.{fill_by_all}
-use Rattle.std.proofs.lemmas.List.Edits.{fill_by_more}
-use Rattle.elf_spec.specs.Image.{image_byte, image_page}
+-- What is left to prove of `page_bytes`.
+use Rattle.std.proofs.Common.{◌+◌, ◌*◌, List, reverse, refl, ap, ◌∙◌}
+use Rattle.std.proofs.lemmas.Iterator.Adapters.{YieldsList-from_rev_slice}
+use Rattle.std.proofs.lemmas.Iterator.Consumers.{YieldsList-end}
+use Rattle.std.proofs.lemmas.List.{get_or-replicate, reverse-reverse}
+use Rattle.elf_load.specs.declared.header.Header.{Header}
+use Rattle.elf_load.proofs.Parts.{first_byte, page_is}
 use Rattle.elf_load.proofs.image.page_bytes.Goals as goal
 
--- the values at the numbers from a place on
-map-shifted : (f : ℕ → ℕ) (a b n : ℕ) → map (λ k. f (a + k)) (range_with_len b n) ≡ map f (range_with_len (a + b) n)
-map-shifted f a b zero = refl
-map-shifted f a b (suc n) =
-    let e : a + (b + 1) ≡ a + b + 1 = omega arith in
-    ap (λ rest. f (a + b) ∷ rest) (map-shifted f a (b + 1) n ∙ ap (λ k. map f (range_with_len k n)) e)
-
-pub loop-offset-preserved : goal.loop-offset-preserved
-loop-offset-preserved c =
-    let bytes = c.args.bytes.now in
-    let offset = c.loop-offset.offset in
-    let f : ℕ → ℕ = λ k. image_byte bytes (4096 * c.args.number + k) in
-    let place : c.from.result * 4096 + offset ≡ 4096 * c.args.number + offset = omega arith in
-    let byte : c.image_byte_at.result ≡ f offset = c.image_byte_at.ensures ∙ ap (image_byte bytes) place in
-    let inside : offset < length c.loop-offset.page = omega arith in
-    let more = fill_by_more f c.loop-offset.page offset 0 inside c.loop-offset.invariant.1 in (
-      length-set c.loop-offset.page offset c.image_byte_at.result
-          ∙ c.loop-offset.invariant.0,
-      λ k below. let P : ℕ → Type 0 = λ v. get_or (set c.loop-offset.page offset v) k 0
-          ≡ f k in subst P (sym byte) (more k below),
-    )
+pub loop-header-init : goal.loop-header-init
+loop-header-init c = (refl, λ k inside. get_or-replicate 4096 k 0 0 inside)
 
 pub returns : goal.returns
-unfolding image_page
 returns c =
     let bytes = c.args.bytes.now in
-    let start = 4096 * c.args.number in
-    let all : (k : ℕ) → k < 4096 → get_or c.loop-offset.page k 0 ≡ image_byte bytes (start + k) =
-    λ k below. c.loop-offset.invariant.1 k (omega arith) in
-    let e : start + 0 ≡ start = add-zero start in
-    fill_by_all (λ k. image_byte bytes (start + k)) c.loop-offset.page 4096 0 c.loop-offset.invariant.0 all
-    ∙ map-shifted (image_byte bytes) start 0 4096 ∙ ap (λ k. map (image_byte bytes) (range_with_len k 4096)) e
+    let near = c.args.near.now in
+    let all = YieldsList-end (YieldsList-from_rev_slice near (cc)) c.loop-header.yielded _ c.loop-header.yielded_by _ _
+    c.in-None.is c.next.ensures.steps in
+    page_is bytes near c.args.number c.loop-header.page c.requires c.loop-header.invariant.0 (λ k inside.
+    c.loop-header.invariant.1 k inside
+    ∙ ap (λ (headers : List Header). first_byte bytes headers (4096 * c.args.number + k))
+    (ap reverse all.0 ∙ reverse-reverse near))

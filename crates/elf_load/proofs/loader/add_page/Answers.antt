@@ -15,14 +15,14 @@ on_page :
 on_page bytes number near headers kept same =
     ap (map header_of) kept ∙ map-filter header_of (touches number) headers ∙ ap (filter (touches number)) same
 
-pub page_bytes-requires-clause-near : goal.page_bytes-requires-clause-near
-page_bytes-requires-clause-near c =
+pub push_bytes-requires-clause-near : goal.push_bytes-requires-clause-near
+push_bytes-requires-clause-near c =
     ap (map header_of) c.as_slice-then-touched.ensures.value
     ∙ on_page c.args.bytes.now c.args.number c.in_ok-near.near.items c.args.headers.now c.in_ok-near.ensures
     c.requires.headers
 
-pub returns-in_ok-push-2-clause-mapped : goal.returns-in_ok-push-2-clause-mapped
-returns-in_ok-push-2-clause-mapped c =
+pub returns-in_ok-push_bytes-clause-mapped : goal.returns-in_ok-push_bytes-clause-mapped
+returns-in_ok-push_bytes-clause-mapped c =
     let near =
     ap (map header_of) c.as_slice.ensures.value
     ∙ on_page c.args.bytes.now c.args.number c.in_ok-near.near.items c.args.headers.now c.in_ok-near.ensures

@@ -3,6 +3,7 @@ use Rattle.std.proofs.Common.{◌≡◌, ◌+◌, ◌<◌, length, ℕ, Bool, tr
 use Rattle.std.specs.List.{range_with_len, list_any}
 use Rattle.std.proofs.lemmas.List.{map-append, get_or_default}
 use Rattle.std.proofs.lemmas.List.Elements.{filter-append}
+use Rattle.std.specs.Arc.{arc_value}
 use Rattle.memory_spec.specs.Pages.{Mapped}
 use Rattle.elf_spec.specs.Header.{segments}
 use Rattle.elf_spec.specs.Segments.{touches, highest_page}
@@ -55,6 +56,7 @@ loop-number-preserved c =
           ∙ ap (λ b. cond b (c.loop-number.pages.table ++ image_page bytes n ∷ []) c.loop-number.pages.table) marked
           ∙ map-pushed (image_page bytes) test (touched_below bytes n) n c.loop-number.pages.table
           c.loop-number.invariant.2 ∙ ap (map (image_page bytes)) more,
+      ap arc_value c.in_ok-add_page.ensures.zero ∙ c.loop-number.invariant.3,
     )
 
 pub returns-clause-mapped : goal.returns-clause-mapped
