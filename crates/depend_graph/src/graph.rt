@@ -1,6 +1,6 @@
 //! The graph of a history's steps.
 
-ghost use Rattle.std.specs.Prelude.{◌≡◌, ℕ, ◌<◌, ◌≤◌, All, length, slice_index, IfOk};
+ghost use Rattle.std.specs.Prelude.{◌≡◌, ℕ, ◌<◌, ◌≤◌, All, Some, length, slice_get, slice_index, IfOk};
 ghost use Rattle.order_spec.specs.Facts.{Fact as StepFact};
 ghost use Rattle.order_spec.specs.Ancestors.{clock_at, edges_at};
 ghost use Rattle.reach_spec.specs.Reach.{reach as reached_by};
@@ -88,6 +88,14 @@ impl Graph {
         ensures { result ≡ length self.now }
     {
         self.facts.len()
+    }
+
+    /// What the step at place `i` does.
+    pub fn fact(&self, i: usize) -> &Fact
+        requires { i < length self.now }
+        ensures { slice_get self.now i ≡ Some result.now }
+    {
+        &self.facts[i]
     }
 
     /// The clock of the step at place `i`: how many steps of each thread are that step or must come before it.

@@ -277,7 +277,7 @@ whole-at m (x ∷ rs) (suc k) whole can =
     let here = and_parts (is_none m.ending) (fits m x) parts.0 in
     whole-at (apply m x) rs k (apply-whole m x whole (fits-can_step m x here.0 here.1)) parts.1
 
-whole-then : (h : History) (k : ℕ) → IsSetup h.setup → is_coherent h ≡ true → IsWhole (machine_at h k)
+pub whole-then : (h : History) (k : ℕ) → IsSetup h.setup → is_coherent h ≡ true → IsWhole (machine_at h k)
 whole-then h k valid coherent =
     whole-at (first h.setup) h.records k (IsWhole-first h.setup valid)
     (and_parts (can_apply_from (first h.setup) h.records) _ coherent).0

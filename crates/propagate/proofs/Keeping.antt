@@ -24,6 +24,8 @@ use Rattle.order_spec.specs.Facts.{Fact}
 use Rattle.release_core.specs.Applying.{can_apply}
 use Rattle.propagate.specs.Consistency.{IsApplied, IsOnMap, IsValid, IsConsistent, AreFactsOf, IsKnown, IsRight, IsFound, KnowsEnough}
 use Rattle.propagate.specs.Alike.{IsAsBefore}
+use Rattle.propagate.specs.declared.versions.Versions.{Versions}
+use Rattle.propagate.specs.Versions.{AreRight}
 use Rattle.propagate.proofs.Mapped.{opening-on_map, happens-on_map}
 
 -- as many records as entries
@@ -70,9 +72,9 @@ reported w instructions kept is sound =
 -- what holds of every round
 pub valid_consistent :
     (w v : RoundState) (instructions : ℕ) (facts : Option (List Fact))
-    (marks : Option (Vec Bool Global))
-    → v ≡ w → IsConsistent v instructions facts marks → IsValid w
-valid_consistent w v instructions facts marks is kept =
+    (marks : Option (Vec Bool Global)) (versions : Option Versions)
+    → v ≡ w → IsConsistent v instructions facts marks versions → IsValid w
+valid_consistent w v instructions facts marks versions is kept =
     subst IsValid is record {
       setup = kept.valid;
       framed = kept.framed;
@@ -86,7 +88,7 @@ pub kept_opening :
     → IsSetup setup
     → IsAsBefore (opening setup past) marks
     → KnowsEnough (opening setup past) marks facts
-    → IsConsistent (opening setup past) 0 facts marks
+    → IsConsistent (opening setup past) 0 facts marks None
 kept_opening setup past facts marks valid as_before knows =
     record {
       valid = valid;
@@ -101,6 +103,7 @@ kept_opening setup past facts marks valid as_before knows =
       few = omega arith;
       knows = knows;
       as_before = as_before;
+      right = tt;
     }
 
 -- what is known of what the steps of the history do
@@ -196,9 +199,10 @@ knows-reused w v marks before facts false knows found past in_flight = knows-fou
 
 -- a round after what its history's steps do was found
 pub kept-found :
-    (w : RoundState) (i : ℕ) (fs gs : Option (List Fact)) (b : Option (Vec Bool Global)) (needed : Bool)
-    → IsConsistent w i fs b → IsFound needed w.past fs gs → IsConsistent w i gs b
-kept-found w i fs gs b needed kept found =
+    (w : RoundState) (i : ℕ) (fs gs : Option (List Fact)) (b : Option (Vec Bool Global)) (vs : Option Versions)
+    (needed : Bool)
+    → IsConsistent w i fs b vs → IsFound needed w.past fs gs → IsConsistent w i gs b vs
+kept-found w i fs gs b vs needed kept found =
     record {
       valid = kept.valid;
       in_order = kept.in_order;
@@ -212,6 +216,7 @@ kept-found w i fs gs b needed kept found =
       few = kept.few;
       knows = knows-more w b fs gs needed kept.knows found;
       as_before = kept.as_before;
+      right = kept.right;
     }
 
 -- records applied one after the other, and one more
@@ -267,12 +272,13 @@ valid-happens w v e kept is setup =
 
 pub kept-happens :
     (w v : RoundState) (e : Event) (j : ℕ) (gs : Option (List Fact)) (c : Option (Vec Bool Global))
+    (us : Option Versions)
     → IsValid w → IsOnMap w → happens w e ≡ v → v.setup ≡ w.setup
     → IsApplied v → length v.picked ≡ length v.schedule
     → j ≡ executed_instructions v.schedule v.records → j ≤ 4294967295 * length v.schedule
-    → IsAsBefore v c → KnowsEnough v c gs
-    → IsConsistent v j gs c
-kept-happens w v e j gs c kept on_map is setup applied points executed few as_before knows =
+    → IsAsBefore v c → KnowsEnough v c gs → AreRight v us
+    → IsConsistent v j gs c us
+kept-happens w v e j gs c us kept on_map is setup applied points executed few as_before knows right =
     let valid : IsValid v = valid-happens w v e kept is setup in
     record {
       valid = valid.setup;
@@ -287,29 +293,30 @@ kept-happens w v e j gs c kept on_map is setup applied points executed few as_be
       few = few;
       knows = knows;
       as_before = as_before;
+      right = right;
     }
 
 -- where one is; what happens does so to that round or to a later one that is as long
 pub kept-more :
     (w x v : RoundState) (e : Event) (i j : ℕ) (fs gs : Option (List Fact))
-    (b c : Option (Vec Bool Global)) (entry : Entry) (r : Record) (point : ℕ)
-    → IsConsistent w i fs b → IsValid x → IsOnMap x → happens x e ≡ v → v.setup ≡ x.setup
+    (b c : Option (Vec Bool Global)) (vs us : Option Versions) (entry : Entry) (r : Record) (point : ℕ)
+    → IsConsistent w i fs b vs → IsValid x → IsOnMap x → happens x e ≡ v → v.setup ≡ x.setup
     → v.schedule ≡ w.schedule ++ entry ∷ [] → v.records ≡ w.records ++ r ∷ [] → v.picked ≡ w.picked ++ point ∷ []
     → IsApplied v → j ≡ i + cond entry.reused 0 r.kept.count → cond entry.reused 0 r.kept.count ≤ 4294967295
-    → IsAsBefore v c → KnowsEnough v c gs
-    → IsConsistent v j gs c
-kept-more w x v e i j fs gs b c entry r point kept valid on_map is setup schedule records picked applied sum few as_before knows =
+    → IsAsBefore v c → KnowsEnough v c gs → AreRight v us
+    → IsConsistent v j gs c us
+kept-more w x v e i j fs gs b c vs us entry r point kept valid on_map is setup schedule records picked applied sum few as_before knows right =
     let more = executed-more w.schedule w.records entry r (record_count w kept.counted) in
     let executed = kept.executed in
     let before = kept.few in
     let points = kept.points in
     let longer = length-append w.schedule (entry ∷ []) in
     let one_more = length-append w.picked (point ∷ []) in
-    kept-happens x v e j gs c valid on_map is setup applied
+    kept-happens x v e j gs c us valid on_map is setup applied
     (rw (schedule, picked) (omega arith))
     (rw (schedule, records) (omega arith))
     (rw schedule (omega arith))
-    as_before knows
+    as_before knows right
 
 -- what is left
 

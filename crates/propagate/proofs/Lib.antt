@@ -10,3 +10,6 @@ pub mod Alike
 pub mod Making
 pub mod InStep
 pub mod Starts
+pub mod Entries
+pub mod Passing
+pub mod KnownPages

@@ -17,10 +17,13 @@ use Rattle.round_spec.proofs.Conditions.{happens-take, happens-take_not, happens
 use Rattle.round_spec.proofs.Happening.{CanBegin, can_begin-parts, happens-kept}
 use Rattle.propagate.specs.Consistency.{IsConsistent, KnowsEnough}
 use Rattle.propagate.specs.Alike.{IsAsBefore}
+use Rattle.propagate.specs.declared.versions.Versions.{Versions}
+use Rattle.propagate.specs.Versions.{AreRight}
 use Rattle.propagate.specs.Committing.{CanCommit, GoesOn, picked_at}
 use Rattle.propagate.proofs.Keeping.{valid_consistent, valid-happens, kept-happens, kept-more, applied-round, knows-in_flight}
 use Rattle.propagate.proofs.Mapped.{happens-on_map}
 use Rattle.propagate.proofs.Alike.{as-before-same}
+use Rattle.propagate.proofs.KnownPages.{right-same}
 use Rattle.propagate.proofs.Appending.{CanAppend, fitting-append, Reusable, reusable, going-none, can-apply, reuse-can, below-32, take-ready}
 
 -- a round with an entry, its record and when it was picked
@@ -68,10 +71,11 @@ begun-goes w frame r can =
     )
 
 pub commit-append :
-    (w : RoundState) (i : ℕ) (fs : Option (List Fact)) (b : Option (Vec Bool Global)) (frame : Frame) (r : Record)
-    → IsConsistent w i fs b → CanCommit (happens w (Take r.thread)) frame r
+    (w : RoundState) (i : ℕ) (fs : Option (List Fact)) (b : Option (Vec Bool Global)) (vs : Option Versions) (frame : Frame)
+    (r : Record)
+    → IsConsistent w i fs b vs → CanCommit (happens w (Take r.thread)) frame r
     → CanAppend w r
-commit-append w i fs b frame r kept can =
+commit-append w i fs b vs frame r kept can =
     let goes = begun-goes w frame r can in fitting-append w r kept.in_order kept.counted goes.0 goes.1
 
 -- a round after the step of a thread that was in flight, or was taken for it
@@ -120,19 +124,19 @@ commit-happens w frame r in_order can honest =
     ∙ begun-handed_in w frame r in_order can
 
 pub commit-kept :
-    (w v : RoundState) (i j : ℕ) (fs gs : Option (List Fact)) (b c : Option (Vec Bool Global)) (frame : Frame)
-    (r : Record)
-    → IsConsistent w i fs b → CanCommit (happens w (Take r.thread)) frame r → IsTrue frame r.start r.kept
+    (w v : RoundState) (i j : ℕ) (fs gs : Option (List Fact)) (b c : Option (Vec Bool Global)) (vs us : Option Versions)
+    (frame : Frame) (r : Record)
+    → IsConsistent w i fs b vs → CanCommit (happens w (Take r.thread)) frame r → IsTrue frame r.start r.kept
     → v ≡ executed_in w r
     → j ≡ i + r.kept.count → r.kept.count ≤ 4294967295
-    → IsAsBefore v c → KnowsEnough v c gs
-    → IsConsistent v j gs c
-commit-kept w v i j fs gs b c frame r kept can honest is sum few as_before knows =
+    → IsAsBefore v c → KnowsEnough v c gs → AreRight v us
+    → IsConsistent v j gs c us
+commit-kept w v i j fs gs b c vs us frame r kept can honest is sum few as_before knows right =
     let begun = is-begun w r.thread in
     let goes = begun-goes w frame r can in
-    kept-more w (happens w (Take r.thread)) v (Commit r.thread) i j fs gs b c
+    kept-more w (happens w (Take r.thread)) v (Commit r.thread) i j fs gs b c vs us
     (record { thread = r.thread; reused = false }) r (picked_at w r.thread) kept
-    (valid-happens w (happens w (Take r.thread)) (Take r.thread) (valid_consistent w w i fs b refl kept) refl begun.setup)
+    (valid-happens w (happens w (Take r.thread)) (Take r.thread) (valid_consistent w w i fs b vs refl kept) refl begun.setup)
     (happens-on_map w (Take r.thread) kept.on_map)
     (commit-happens w frame r kept.in_order can honest ∙ sym is)
     (ap (λ (x : RoundState). x.setup) is ∙ sym begun.setup)
@@ -141,7 +145,7 @@ commit-kept w v i j fs gs b c frame r kept can honest is sum few as_before knows
     (applied-round w v r kept.applied (can-apply w r (going-none w.machine.ending w.stopped goes.0) goes.1)
     (ap (λ (x : RoundState). x.setup) is) (ap (λ (x : RoundState). x.machine) is)
     (ap (λ (x : RoundState). x.records) is))
-    sum few as_before knows
+    sum few as_before knows right
 
 -- a thread that is in flight isn't taken again
 pub begun-in_flight : (w : RoundState) (t : ℕ) → is_in_flight w t ≡ true → happens w (Take t) ≡ w
@@ -158,17 +162,19 @@ begun-in_flight w t in_flight = by (can_take w t) refl
 -- a record that is reused
 
 pub reuse-append :
-    (w : RoundState) (i t : ℕ) (fs : Option (List Fact)) (b : Option (Vec Bool Global)) (r : Record)
-    → IsConsistent w i fs b → can_reuse w t ≡ true → record_for w.past w.machine t ≡ Some r → Reusable w t r
-reuse-append w i t fs b r kept can there = reusable w t r kept.in_order kept.counted can there
+    (w : RoundState) (i t : ℕ) (fs : Option (List Fact)) (b : Option (Vec Bool Global)) (vs : Option Versions)
+    (r : Record)
+    → IsConsistent w i fs b vs → can_reuse w t ≡ true → record_for w.past w.machine t ≡ Some r → Reusable w t r
+reuse-append w i t fs b vs r kept can there = reusable w t r kept.in_order kept.counted can there
 
 pub reuse-happens :
-    (w v : RoundState) (i t : ℕ) (fs : Option (List Fact)) (b : Option (Vec Bool Global)) (r : Record)
-    → IsConsistent w i fs b → can_reuse w t ≡ true → record_for w.past w.machine t ≡ Some r
+    (w v : RoundState) (i t : ℕ) (fs : Option (List Fact)) (b : Option (Vec Bool Global)) (vs : Option Versions)
+    (r : Record)
+    → IsConsistent w i fs b vs → can_reuse w t ≡ true → record_for w.past w.machine t ≡ Some r
     → v ≡ appended w r true (length w.schedule)
     → v ≡ happens w (Reuse t)
-reuse-happens w v i t fs b r kept can there is =
-    let append : Reusable w t r = reuse-append w i t fs b r kept can there in
+reuse-happens w v i t fs b vs r kept can there is =
+    let append : Reusable w t r = reuse-append w i t fs b vs r kept can there in
     is
     ∙ ap (λ u. record w {
       machine = apply w.machine r;
@@ -180,15 +186,16 @@ reuse-happens w v i t fs b r kept can there is =
     ∙ sym (happens-reuse w t r can there)
 
 pub reuse-kept :
-    (w v : RoundState) (i t : ℕ) (fs gs : Option (List Fact)) (b c : Option (Vec Bool Global)) (r : Record)
-    → IsConsistent w i fs b → can_reuse w t ≡ true → record_for w.past w.machine t ≡ Some r
+    (w v : RoundState) (i t : ℕ) (fs gs : Option (List Fact)) (b c : Option (Vec Bool Global)) (vs us : Option Versions)
+    (r : Record)
+    → IsConsistent w i fs b vs → can_reuse w t ≡ true → record_for w.past w.machine t ≡ Some r
     → v ≡ appended w r true (length w.schedule)
-    → IsAsBefore v c → KnowsEnough v c gs
-    → IsConsistent v i gs c
-reuse-kept w v i t fs gs b c r kept can there is as_before knows =
-    kept-more w w v (Reuse t) i i fs gs b c (record { thread = r.thread; reused = true }) r (length w.schedule) kept
-    (valid_consistent w w i fs b refl kept) kept.on_map
-    (sym (reuse-happens w v i t fs b r kept can there is))
+    → IsAsBefore v c → KnowsEnough v c gs → AreRight v us
+    → IsConsistent v i gs c us
+reuse-kept w v i t fs gs b c vs us r kept can there is as_before knows right =
+    kept-more w w v (Reuse t) i i fs gs b c vs us (record { thread = r.thread; reused = true }) r (length w.schedule) kept
+    (valid_consistent w w i fs b vs refl kept) kept.on_map
+    (sym (reuse-happens w v i t fs b vs r kept can there is))
     (ap (λ (x : RoundState). x.setup) is)
     (ap (λ (x : RoundState). x.schedule) is) (ap (λ (x : RoundState). x.records) is)
     (ap (λ (x : RoundState). x.picked) is)
@@ -196,21 +203,22 @@ reuse-kept w v i t fs gs b c r kept can there is as_before knows =
     (ap (λ (x : RoundState). x.setup) is) (ap (λ (x : RoundState). x.machine) is)
     (ap (λ (x : RoundState). x.records) is))
     (omega arith) (omega arith)
-    as_before knows
+    as_before knows right
 
 -- a step that is discarded
 
 pub discarded-kept :
-    (w v : RoundState) (i t : ℕ) (fs : Option (List Fact)) (b : Option (Vec Bool Global))
-    → IsConsistent w i fs b → is_in_flight w t ≡ true → v ≡ given_back w t → IsConsistent v i fs b
-discarded-kept w v i t fs b kept in_flight is =
-    subst (λ (x : RoundState). IsConsistent x i fs b) (sym is)
-    (kept-happens w (given_back w t) (GiveBack t) i fs b (valid_consistent w w i fs b refl kept) kept.on_map
+    (w v : RoundState) (i t : ℕ) (fs : Option (List Fact)) (b : Option (Vec Bool Global)) (vs : Option Versions)
+    → IsConsistent w i fs b vs → is_in_flight w t ≡ true → v ≡ given_back w t → IsConsistent v i fs b vs
+discarded-kept w v i t fs b vs kept in_flight is =
+    subst (λ (x : RoundState). IsConsistent x i fs b vs) (sym is)
+    (kept-happens w (given_back w t) (GiveBack t) i fs b vs (valid_consistent w w i fs b vs refl kept) kept.on_map
     (happens-give_back w t in_flight) refl
     (record { machine = kept.applied.machine; can = kept.applied.can }) kept.points kept.executed kept.few
     (as-before-same w (given_back w t) b kept.as_before
     (record { setup = refl; past = refl; machine = refl; schedule = refl; records = refl }))
-    (knows-in_flight w (given_back w t) b b fs t kept.knows in_flight refl))
+    (knows-in_flight w (given_back w t) b b fs t kept.knows in_flight refl)
+    (right-same w (given_back w t) vs kept.right refl refl refl))
 
 -- ---- the entries of a round after it
 

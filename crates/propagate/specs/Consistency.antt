@@ -10,7 +10,9 @@ use Rattle.round_spec.specs.Due.{past_facts}
 use Rattle.round_spec.specs.Keeping.{IsInOrder, IsCounted}
 use Rattle.round_spec.specs.Schedules.{IsBySchedule}
 use Rattle.round_spec.specs.Instructions.{executed_instructions}
+use Rattle.propagate.specs.declared.versions.Versions.{Versions}
 use Rattle.propagate.specs.Alike.{IsAsBefore}
+use Rattle.propagate.specs.Versions.{AreRight}
 
 -- What a setup goes by has its page map, if it goes by anything.
 abbrev pub IsOfMap : Option History → Setup → Type 0
@@ -68,10 +70,10 @@ KnowsEnough w marks (Some facts) = AreFactsOf w.past facts
 
 -- A round that is in order, counts right and is where its schedule and its records lead, with the page map and the fuel
 -- of its setup; and for each entry it is kept when its thread was picked. With it stand the sum of the counts of its
--- executed entries; what the steps of its history do, unless it goes on as that did with nobody in flight; and while it
--- goes on as that did, marks on the pages that may differ.
+-- executed entries; what the steps of its history do, unless it goes on as that did with nobody in flight; while it goes
+-- on as that did, marks on the pages that may differ; and after that which versions of the history's pages its pages are.
 pub record IsConsistent (w : RoundState) (instructions : ℕ) (facts : Option (List Fact))
-    (marks : Option (Vec Bool Global)) : Type 0
+    (marks : Option (Vec Bool Global)) (versions : Option Versions) : Type 0
   where
     pub valid : IsSetup w.setup
     pub in_order : IsInOrder w
@@ -85,3 +87,4 @@ pub record IsConsistent (w : RoundState) (instructions : ℕ) (facts : Option (L
     pub few : instructions ≤ 4294967295 * length w.schedule
     pub knows : KnowsEnough w marks facts
     pub as_before : IsAsBefore w marks
+    pub right : AreRight w versions

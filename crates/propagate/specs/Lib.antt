@@ -6,3 +6,4 @@ pub mod Committing
 pub mod Choosing
 pub mod Executing
 pub mod Starts
+pub mod Versions

@@ -15,6 +15,7 @@ ghost use Rattle.propagate.specs.Consistency.{IsValid};
 
 use super::marks::{is_in_place, marks_after, marks_if};
 use super::round::{Round, find_facts};
+use super::versions::{after_execution, after_reuse, known_or};
 use guest_call::THREADS;
 use machine_spec::MOST_STEPS;
 use release_core::{Core, Records};
@@ -76,7 +77,7 @@ fn append(
 impl Round {
     /// How many entries the schedule has.
     #[tactic(auto, using(crate::proofs::Keeping::few_entries))]
-    fn entries(&self) -> u32
+    pub(super) fn entries(&self) -> u32
         ensures { result ≡ length self.now.schedule }
     {
         self.schedule.len() as u32
@@ -100,8 +101,10 @@ impl Round {
             None => unreachable!(),
         };
         let next = self.is_next(t);
+        let place = self.place(t);
         let alloc = *self.schedule.allocator();
         find_facts(alloc, &self.past, &mut self.graph, !next)?;
+        let fresh = self.first_versions(!next)?;
         self.picked.reserve(1)?;
         let now = self.entries();
         append(
@@ -113,6 +116,8 @@ impl Round {
         )?;
         self.picked.push_reserved(now);
         self.marks = marks_if(self.marks.take(), next);
+        let versions = known_or(self.versions.take(), fresh);
+        self.versions = after_reuse(versions, &self.core, place, &rec, now + 1);
         Ok(())
     }
 
@@ -196,7 +201,9 @@ impl Round {
         let in_place = is_in_place(&self.marks, &self.past, place, &run.rec);
         let alloc = *self.schedule.allocator();
         find_facts(alloc, &self.past, &mut self.graph, !in_place)?;
+        let fresh = self.first_versions(!in_place)?;
         self.picked.reserve(1)?;
+        let now = self.entries();
         append(
             &mut self.core,
             &mut self.schedule,
@@ -210,6 +217,8 @@ impl Round {
         self.taken_at[t] = 0;
         self.instructions += u64::from(run.rec.count());
         self.marks = marks_after(self.marks.take(), &self.past, place, &run.rec, in_place);
+        let versions = known_or(self.versions.take(), fresh);
+        self.versions = after_execution(versions, &self.core, &run.rec, now + 1);
         Ok(())
     }
 

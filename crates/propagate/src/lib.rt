@@ -11,6 +11,8 @@ mod marks;
 mod picking;
 mod reaching;
 mod round;
+mod times;
+mod versions;
 
 pub use alone::{run_alone, run_alone_shown};
 pub use events::Committed;

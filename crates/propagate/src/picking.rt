@@ -132,9 +132,11 @@ impl Round {
         self.place(t) == self.schedule.len()
     }
 
-    /// Whether the record of the next step of thread `t`, which exists, fits where its registers are the thread's: the
-    /// round goes on as its history did, it comes next, and no page is marked that it read.
+    /// Whether the record of the next step of thread `t`, which can be begun, fits where its registers are the thread's: the
+    /// round goes on as its history did, it comes next, and no page is marked that it read; or each page that it read is
+    /// known to be what it read.
     fn has_same_pages(&self, t: u8, rec: &Record) -> bool
+        requires begins { can_begin self.now t ≡ true }
         requires exists { t < length self.now.machine.harts }
         requires record { record_for self.now.past self.now.machine t ≡ Some rec.now }
         ensures next { result ≡ true → IsNext self.now t rec.now }
@@ -142,14 +144,28 @@ impl Round {
     {
         match &self.marks {
             Some(marks) => self.is_next(t) && all_unmarked(marks, rec.reads().pages()),
+            None => self.has_known_pages(t),
+        }
+    }
+
+    /// Whether each page that the record of the next step of thread `t`, which exists, read is known to be what it read.
+    fn has_known_pages(&self, t: u8) -> bool
+        requires { t < length self.now.machine.harts }
+        ensures { (r : OldRecord) → can_begin self.now t ≡ true
+            → record_for self.now.past self.now.machine t ≡ Some r
+            → result ≡ true → IsNext self.now t r }
+    {
+        match &self.versions {
+            Some(versions) => versions.has_read(self.place(t), t),
             None => false,
         }
     }
 
-    /// Whether the record of the next step of thread `t`, which exists, fits. Pages are compared only if they may differ:
-    /// none while the round repeats its history.
+    /// Whether the record of the next step of thread `t`, which can be begun, fits. Pages are compared only if they may
+    /// differ: none while the round repeats its history.
     fn has_fitting(&self, t: u8, compared: &mut Compared) -> bool
-        requires { t < length self.now.machine.harts }
+        requires begins { can_begin self.now t ≡ true }
+        requires exists { t < length self.now.machine.harts }
         ensures fits { result ≡ fits_next self.now.past self.now.machine t }
         ensures spares { IsRepeated self.now t → compared.new ≡ compared.old }
         ensures never_lower { compared.old ≤ compared.new }
@@ -162,7 +178,7 @@ impl Round {
     }
 
     /// The place of the next step of thread `t`, which exists, in the history.
-    fn place(&self, t: u8) -> usize
+    pub(super) fn place(&self, t: u8) -> usize
         requires { t < length self.now.machine.harts }
         ensures { result ≡ place_in self.now.past self.now.machine t }
     {

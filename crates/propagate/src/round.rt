@@ -9,8 +9,10 @@ ghost use Rattle.report_spec.specs.Report.{instructions_from};
 ghost use Rattle.round_spec.specs.Rounds.{none_in_flight, nothing_taken, opening, is_finished, is_in_flight, history_of};
 ghost use Rattle.round_spec.specs.Instructions.{executed_instructions};
 ghost use Rattle.propagate.specs.Consistency.{IsOfMap, IsValid, AreFactsOf, IsRight, IsFound};
+ghost use Rattle.propagate.specs.Versions.{AreRight, IsComparable};
 
 use super::marks::marks_at_start;
+use super::versions::{Versions, steps_of};
 use depend_graph::Graph;
 use guest_call::THREADS;
 use history_facts::{HistoryFacts, facts};
@@ -26,8 +28,9 @@ use thunk_record::Record;
 /// A round as it stands: what it started from and goes by, the machine, the steps so far with their
 /// records and with when each was picked, who is in flight and since when, and what was discarded. A clause
 /// sees a `RoundState` of `round_spec`. Beside it stand, while the round goes on as the history did, by slot, marks on the
-/// pages that may differ: records of other pages fit without a comparison; and which steps of the history depend on which,
-/// unless the round goes on as the history did with nobody in flight: then the history's next step is due.
+/// pages that may differ: records of other pages fit without a comparison; after that, which versions of the history's pages
+/// its own are, as far as that is known; and which steps of the history depend on which, unless the round goes on as the
+/// history did with nobody in flight: then the history's next step is due.
 #[derive(Drop)]
 pub struct Round {
     pub(super) setup: Setup,
@@ -43,6 +46,7 @@ pub struct Round {
     pub(super) stopped: bool,
     pub(super) instructions: u64,
     pub(super) marks: Option<Vec<bool>>,
+    pub(super) versions: Option<Versions>,
 }
 
 impl Model for Round {
@@ -66,7 +70,7 @@ impl Model for Round {
       stopped = r.stopped;
     } };
 
-    ghost invariant = { λ r. IsConsistent (view r) r.instructions r.graph r.marks };
+    ghost invariant = { λ r. IsConsistent (view r) r.instructions r.graph r.marks r.versions };
 }
 
 /// None of the threads is in flight.
@@ -162,6 +166,7 @@ impl Round {
             stopped: false,
             instructions: 0,
             marks,
+            versions: None,
         })
     }
 
@@ -288,6 +293,37 @@ impl Round {
         match &self.past {
             Some(history) => history.setup().image().map == self.setup.image().map,
             None => true,
+        }
+    }
+
+    /// Whether versions can be found: the round went on as its history did, which has its page map and its fuel, and none are
+    /// known.
+    fn can_find_versions(&self, history: &History) -> bool
+        requires { self.now.past ≡ Some history.now }
+        ensures { result ≡ true → IsComparable self.now history.now }
+    {
+        match &self.marks {
+            Some(_) if self.versions.is_none() => {
+                history.setup().fuel() == self.setup.fuel() && self.has_same_map()
+            }
+            _ => false,
+        }
+    }
+
+    /// Versions of pages of which nothing is known yet, if they are needed and none are known: from then on it is found which
+    /// versions of the history's pages those of the round are.
+    pub(super) fn first_versions(&self, needed: bool) -> Result<Option<Versions>, AllocError>
+        ensures { IfOk result (AreRight self.now) }
+    {
+        match (&self.past, &self.graph) {
+            (Some(history), Some(graph)) if needed && self.can_find_versions(history) => {
+                let alloc = *self.schedule.allocator();
+                let pages = self.core.memory().len();
+                let steps = steps_of(alloc, history, graph, pages)?;
+                let versions = Versions::new(alloc, steps, pages, self.entries())?;
+                Ok(Some(versions))
+            }
+            _ => Ok(None),
         }
     }
 

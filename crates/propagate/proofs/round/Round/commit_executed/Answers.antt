@@ -7,14 +7,18 @@ use Rattle.round_spec.specs.declared.events.Event.TheVariants.{Take, Commit}
 use Rattle.round_spec.specs.Rounds.{RoundState, happens}
 use Rattle.propagate.specs.Committing.{CanCommit, picked_at}
 use Rattle.propagate.specs.Alike.{MayBeMarks}
+use Rattle.propagate.specs.Versions.{AreRight, MayBeMadeAnew}
 use Rattle.propagate.proofs.Keeping.{record_count, few_entries, knows-made}
 use Rattle.propagate.proofs.Making.{executed_in, begun-goes, commit-append, commit-happens, commit-kept, goes-more}
 use Rattle.propagate.proofs.Alike.{commit-as-before}
+use Rattle.propagate.proofs.Appending.{going-none}
+use Rattle.propagate.proofs.Entries.{length-push}
+use Rattle.propagate.proofs.KnownPages.{right-either, right-executed}
 use Rattle.propagate.proofs.round.Round.commit_executed.Goals as goal
 
 pub append-requires-clause-can : goal.append-requires-clause-can
 append-requires-clause-can c =
-    (commit-append _ _ _ _ _ _ c.self.invariant
+    (commit-append _ _ _ _ _ _ _ c.self.invariant
     (subst
     (λ (w : RoundState).
     CanCommit (happens w (Take (arc_value c.args.run.now.rec).thread)) (arc_value c.args.run.now.frame) (arc_value c.args.run.now.rec))
@@ -22,7 +26,7 @@ append-requires-clause-can c =
 
 pub append-requires-clause-few : goal.append-requires-clause-few
 append-requires-clause-few c =
-    (commit-append _ _ _ _ _ _ c.self.invariant
+    (commit-append _ _ _ _ _ _ _ c.self.invariant
     (subst
     (λ (w : RoundState).
     CanCommit (happens w (Take (arc_value c.args.run.now.rec).thread)) (arc_value c.args.run.now.frame) (arc_value c.args.run.now.rec))
@@ -30,7 +34,7 @@ append-requires-clause-few c =
 
 pub append-requires-clause-thread : goal.append-requires-clause-thread
 append-requires-clause-thread c =
-    (commit-append _ _ _ _ _ _ c.self.invariant
+    (commit-append _ _ _ _ _ _ _ c.self.invariant
     (subst
     (λ (w : RoundState).
     CanCommit (happens w (Take (arc_value c.args.run.now.rec).thread)) (arc_value c.args.run.now.frame) (arc_value c.args.run.now.rec))
@@ -38,7 +42,7 @@ append-requires-clause-thread c =
 
 pub append-requires-clause-number : goal.append-requires-clause-number
 append-requires-clause-number c =
-    (commit-append _ _ _ _ _ _ c.self.invariant
+    (commit-append _ _ _ _ _ _ _ c.self.invariant
     (subst
     (λ (w : RoundState).
     CanCommit (happens w (Take (arc_value c.args.run.now.rec).thread)) (arc_value c.args.run.now.frame) (arc_value c.args.run.now.rec))
@@ -48,7 +52,7 @@ few_threads :
     (c : goal.After-way_told-1) → c.from-t.result < 32
 few_threads c =
     let append =
-    commit-append _ _ _ _ _ _ c.self.invariant
+    commit-append _ _ _ _ _ _ _ c.self.invariant
     (subst
     (λ (w : RoundState).
     CanCommit (happens w (Take (arc_value c.args.run.now.rec).thread)) (arc_value c.args.run.now.frame) (arc_value c.args.run.now.rec))
@@ -64,7 +68,7 @@ pub bounds-self-inside-t-2 : goal.bounds-self-inside-t-2
 bounds-self-inside-t-2 c = few_threads c
 
 -- the round before and after, by its parts
-abbrev before : goal.Joined-self-marks_after → RoundState
+abbrev before : goal.Joined-self-after_execution → RoundState
 before c =
     record {
       setup = c.self.inside.setup;
@@ -79,7 +83,7 @@ before c =
       stopped = c.self.inside.stopped;
     }
 
-abbrev after : goal.Joined-self-marks_after → RoundState
+abbrev after : goal.Joined-self-after_execution → RoundState
 after c =
     record (before c) {
       machine = c.append.new.core;
@@ -91,7 +95,7 @@ after c =
     }
 
 can :
-    (c : goal.Joined-self-marks_after)
+    (c : goal.Joined-self-after_execution)
     → CanCommit (happens (before c) (Take (arc_value c.args.run.now.rec).thread)) (arc_value c.args.run.now.frame)
     (arc_value c.args.run.now.rec)
 can c =
@@ -100,18 +104,18 @@ can c =
     CanCommit (happens w (Take (arc_value c.args.run.now.rec).thread)) (arc_value c.args.run.now.frame) (arc_value c.args.run.now.rec))
     (sym c.self.view_is) c.requires
 
-thread : (c : goal.Joined-self-marks_after) → c.from-t.result ≡ (arc_value c.args.run.now.rec).thread
+thread : (c : goal.Joined-self-after_execution) → c.from-t.result ≡ (arc_value c.args.run.now.rec).thread
 thread c = c.from-t.ensures ∙ c.thread-2.ensures ∙ ap (λ (r : Record). r.thread) c.deref-3.ensures
 
 picked :
-    (c : goal.Joined-self-marks_after)
+    (c : goal.Joined-self-after_execution)
     → c.picked_at-picked.result ≡ picked_at (before c) (arc_value c.args.run.now.rec).thread
 picked c =
     c.picked_at-picked.ensures
     ∙ ap (picked_at c.args.self.now) (c.thread.ensures ∙ ap (λ (r : Record). r.thread) c.deref.ensures)
     ∙ ap (λ (w : RoundState). picked_at w (arc_value c.args.run.now.rec).thread) (sym c.self.view_is)
 
-made : (c : goal.Joined-self-marks_after) → after c ≡ executed_in (before c) (arc_value c.args.run.now.rec)
+made : (c : goal.Joined-self-after_execution) → after c ≡ executed_in (before c) (arc_value c.args.run.now.rec)
 made c =
     rw (
       c.in_ok-append.ensures.ok.machine,
@@ -124,14 +128,15 @@ made c =
     )
     refl
 
-pub invariant_of-self-2 : goal.invariant_of-self-2
-invariant_of-self-2 c =
+pub invariant_of-self-4 : goal.invariant_of-self-4
+invariant_of-self-4 c =
     let count_is : c.from.result ≡ (arc_value c.args.run.now.rec).kept.count =
     grind (arith, c.from.ensures, c.count.ensures, c.deref-4.ensures) in
     let few : (arc_value c.args.run.now.rec).kept.count ≤ 4294967295 = omega (arith, count_is) in
+    let goes = begun-goes (before c) (arc_value c.args.run.now.frame) (arc_value c.args.run.now.rec) (can c) in
     commit-kept (before c) (after c) c.self.inside.instructions
     (c.self.inside.instructions + c.from.result) c.self.inside.graph c.find_facts.new.graph c.self.inside.marks
-    c.marks_after.result (arc_value c.args.run.now.frame) (arc_value c.args.run.now.rec) c.self.invariant (can c)
+    c.marks_after.result c.self.inside.versions c.after_execution.result (arc_value c.args.run.now.frame) (arc_value c.args.run.now.rec) c.self.invariant (can c)
     c.args.run.now.honest (made c)
     (ap (λ n. c.self.inside.instructions + n) count_is) few
     (commit-as-before (before c) (after c) _ (arc_value c.args.run.now.rec) c.self.inside.marks c.marks_after.result
@@ -161,6 +166,26 @@ invariant_of-self-2 c =
     (ap (λ n. set c.self.inside.in_flight n false) (thread c))
     (λ on some. c.marks_after.ensures.kept on (ap is_some c.take.ensures.value ∙ some))
     c.is_in_place-in_place.ensures.marks)
+    (right-executed (before c) (after c) (c.entries-now.result + 1) (arc_value c.args.run.now.rec) c.known_or-versions.result
+    c.after_execution.result
+    (subst (AreRight (before c)) (sym c.known_or-versions.ensures)
+    (right-either (before c) (is_some c.take-2.result) c.take-2.result c.in_ok-fresh.fresh
+    (subst (AreRight (before c)) (sym c.take-2.ensures.value) c.self.invariant.right) c.in_ok-fresh.ensures))
+    (record {
+      past = refl;
+      machine = ap (λ (w : RoundState). w.machine) (made c);
+      entries =
+          ap (λ (w : RoundState). length w.schedule) (made c)
+          ∙ length-push (before c).schedule (record { thread = (arc_value c.args.run.now.rec).thread; reused = false });
+      whole = c.self.invariant.in_order.whole;
+      going = going-none (before c).machine.ending (before c).stopped goes.0;
+      fit = goes.1;
+    })
+    (let now : c.entries-now.result ≡ length (before c).schedule = c.entries-now.ensures in omega arith)
+    (subst
+    (λ (r : Record).
+    MayBeMadeAnew c.known_or-versions.result (after c).machine r (c.entries-now.result + 1) c.after_execution.result)
+    c.deref-6.ensures c.after_execution.ensures))
 
 pub returns-clause-ok : goal.returns-clause-ok
 returns-clause-ok c =
@@ -184,3 +209,13 @@ overflow_add-self c =
 pub returns-clause-same : goal.returns-clause-same
 returns-clause-same c =
     goes-more (after c) (before c) c.args.self.now _ refl refl (ap (λ (w : RoundState). w.schedule) (made c)) c.self.view_is
+
+pub after_execution-requires : goal.after_execution-requires
+after_execution-requires c =
+    let append =
+    commit-append _ _ _ _ _ _ _ c.self.invariant
+    (subst
+    (λ (w : RoundState).
+    CanCommit (happens w (Take (arc_value c.args.run.now.rec).thread)) (arc_value c.args.run.now.frame) (arc_value c.args.run.now.rec))
+    (sym c.self.view_is) c.requires) in
+    omega (arith, append.few, record_count _ c.self.invariant.counted, c.entries-now.ensures)

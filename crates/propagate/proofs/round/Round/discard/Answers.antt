@@ -17,7 +17,7 @@ returns-else-is_in_flight-clause-event c =
 
 pub invariant_of-self : goal.invariant_of-self
 invariant_of-self c =
-    discarded-kept _ _ _ c.args.t _ _ c.self.invariant
+    discarded-kept _ _ _ c.args.t _ _ _ c.self.invariant
     (subst (λ (w : RoundState). is_in_flight w c.args.t ≡ true) (sym c.self.view_is)
     (sym c.is_in_flight.ensures.in_flight ∙ c.if-is_in_flight.true))
     (rw (c.from.ensures, c.from-then-is_in_flight.ensures, c.saturating_add-self-inside.ensures, add-one) refl)

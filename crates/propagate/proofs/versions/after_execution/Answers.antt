@@ -1,0 +1,16 @@
+-- What is left to prove of `after_execution`.
+use Rattle.std.proofs.Common.{Option, Some, ℕ, sym, subst}
+use Rattle.propagate.specs.declared.versions.Versions.{Versions}
+use Rattle.propagate.specs.Versions.{AreGiven, MayBeMadeAnew}
+use Rattle.propagate.proofs.versions.after_execution.Goals as goal
+
+pub returns-in-Some : goal.returns-in-Some
+returns-in-Some c =
+    let new = c.give_views.new.self in
+    subst (λ (o : Option Versions). MayBeMadeAnew o c.args.core.now c.args.rec.now c.args.now (Some new)) (sym c.in-Some.is)
+    (record {
+      made = c.execute.new.self;
+      executed = c.execute.ensures;
+      given =
+          subst (λ (t : ℕ). AreGiven c.args.core.now t c.args.now c.execute.new.self new) c.thread.ensures c.give_views.ensures;
+    })

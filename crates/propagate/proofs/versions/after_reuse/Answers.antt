@@ -1,0 +1,18 @@
+-- What is left to prove of `after_reuse`.
+use Rattle.std.proofs.Common.{Option, Some, ℕ, sym, subst}
+use Rattle.propagate.specs.declared.versions.Versions.{Versions}
+use Rattle.propagate.specs.Versions.{AreGiven, MayBeMadeAgain}
+use Rattle.propagate.proofs.versions.after_reuse.Goals as goal
+
+pub returns-in-Some : goal.returns-in-Some
+returns-in-Some c =
+    let new = c.give_views.new.self in
+    subst
+    (λ (o : Option Versions). MayBeMadeAgain o c.args.core.now c.args.place c.args.rec.now c.args.now (Some new))
+    (sym c.in-Some.is)
+    (record {
+      made = c.reuse.new.self;
+      reused = c.reuse.ensures;
+      given =
+          subst (λ (t : ℕ). AreGiven c.args.core.now t c.args.now c.reuse.new.self new) c.thread.ensures c.give_views.ensures;
+    })

@@ -1,0 +1,10 @@
+-- What holds at the loop of `forget`.
+use Rattle.std.proofs.Common.{◌≡◌, drop, map, None}
+use Rattle.record_spec.specs.Delta.{PageDelta}
+use Rattle.propagate.specs.Versions.{with_each}
+use Rattle.propagate.proofs.versions.forget.Given as goal
+
+abbrev pub invariant-loop-page : goal.invariant-loop-page
+invariant-loop-page l =
+    with_each l.pages (map (λ (d : PageDelta). d.slot) (drop l.page-index l.written)) None
+    ≡ with_each l.initial.pages (map (λ (d : PageDelta). d.slot) l.written) None

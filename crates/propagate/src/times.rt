@@ -1,0 +1,144 @@
+//! When pages were last written, and when threads were given their views.
+
+ghost use Rattle.std.specs.Prelude.{◌≡◌, ◌<◌, ◌≤◌, ◌∷◌, [], ℕ, length, replicate, slice_index, IfOk};
+ghost use Rattle.order_spec.specs.Facts.{written_slots};
+ghost use Rattle.propagate.specs.Versions as versions;
+ghost use Rattle.propagate.specs.Versions.{with_each, viewed_after, stored_version, seen_version};
+
+use guest_call::THREADS;
+use machine_spec::MOST_STEPS;
+use release_core::Core;
+use std::alloc::{AllocError, Global};
+use std::array;
+use thunk_record::Record;
+
+/// A page that a step reads or writes, and which version of it the step finds: the page as so many first steps leave it.
+/// None if that isn't known.
+#[derive(Clone, Copy)]
+pub struct PageVersion {
+    pub slot: usize,
+    pub version: Option<u32>,
+}
+
+/// When pages were last written, by slot, and when threads were given their views: after how many steps. A page that wasn't
+/// written since is the same in the view as in shared memory. Of a thread that isn't ready it is when it can be given its
+/// next view.
+#[derive(Drop)]
+pub struct Times {
+    pub written: Vec<u32>,
+    pub viewed: [u32; THREADS],
+}
+
+/// When thread `u`, which exists or is the next one, was given its view, after a step of thread `t` that left this machine: by
+/// that step, if it is `t` and ready; with the next step at the earliest, if it isn't ready; and else as before.
+fn viewed_at(core: &Core, t: u8, u: u8, before: u32, now: u32) -> u32
+    requires now { now ≤ MOST_STEPS }
+    requires there { u ≤ length core.now.harts }
+    ensures { result ≡ viewed_after core.now t u before now }
+{
+    if !core.ready(u) {
+        return now + 1;
+    }
+    if u == t { now } else { before }
+}
+
+impl Times {
+    /// So many pages, each written at a time, and no thread that was given a view.
+    pub fn new(alloc: Global, pages: usize, at: u32) -> Result<Times, AllocError>
+        ensures written { IfOk result (λ times. times.written.items ≡ replicate pages at) }
+        ensures viewed { IfOk result (λ times. times.viewed ≡ replicate THREADS 0) }
+    {
+        Ok(Times {
+            written: vec![in alloc; at; pages]?,
+            viewed: [0; THREADS],
+        })
+    }
+
+    /// When a thread was given its view.
+    fn viewed_by(&self, t: u8) -> u32
+        ensures { result ≡ slice_index self.now.viewed t }
+    {
+        match self.viewed.get(usize::from(t)) {
+            Some(at) => *at,
+            None => 0,
+        }
+    }
+
+    /// Whether a page wasn't written since a thread was given its view.
+    pub fn is_current(&self, t: u8, slot: usize) -> bool
+        ensures { result
+            ≡ versions.is_current self.now.written.items self.now.viewed t slot }
+    {
+        match self.written.get(slot) {
+            Some(at) => *at <= self.viewed_by(t),
+            None => false,
+        }
+    }
+
+    /// The version of a page in shared memory, where pages are those of a history.
+    pub fn stored(&self, slot: usize) -> PageVersion
+        ensures { result ≡ stored_version self.now.written.items slot }
+    {
+        PageVersion {
+            slot,
+            version: self.written.get(slot).copied(),
+        }
+    }
+
+    /// The version of a page in a thread's view, if it wasn't written since.
+    pub fn seen(&self, t: u8, slot: usize) -> PageVersion
+        ensures { result ≡ seen_version self.now.written.items self.now.viewed t slot }
+    {
+        if self.is_current(t, slot) {
+            return self.stored(slot);
+        }
+        PageVersion {
+            slot,
+            version: None,
+        }
+    }
+
+    /// A step wrote the pages of its record.
+    pub fn write(&mut self, rec: &Record, now: u32)
+        ensures written { self.new.written.items
+            ≡ with_each self.old.written.items (written_slots rec.now) now }
+        ensures viewed { self.new.viewed ≡ self.old.viewed }
+    {
+        let pages = rec.delta().pages();
+        for page in pages {
+            set(self.written.as_mut_slice(), page.slot(), now);
+        }
+    }
+
+    /// A step gave some threads a view.
+    pub fn give(&mut self, threads: &[u8], now: u32)
+        ensures viewed { self.new.viewed ≡ with_each self.old.viewed threads.now now }
+        ensures written { self.new.written.items ≡ self.old.written.items }
+    {
+        for t in threads {
+            set(self.viewed.as_mut_slice(), usize::from(*t), now);
+        }
+    }
+
+    /// A step of thread `t` gave threads a view, which left this machine.
+    pub fn give_by(&mut self, core: &Core, t: u8, now: u32)
+        requires { now ≤ MOST_STEPS }
+        ensures viewed { (u : ℕ) → u < THREADS → slice_index self.new.viewed u
+            ≡ viewed_after core.now t u (slice_index self.old.viewed u) now }
+        ensures count { length self.new.viewed ≡ THREADS }
+        ensures written { self.new.written.items ≡ self.old.written.items }
+    {
+        for u in 0..THREADS.min(core.threads() + 1) {
+            self.viewed[u] = viewed_at(core, t, u as u8, self.viewed[u], now);
+        }
+    }
+}
+
+/// Sets the entry of an index, if there is one.
+fn set(entries: &mut [u32], at: usize, entry: u32)
+    ensures { entries.new ≡ with_each entries.old (at ∷ []) entry }
+{
+    if at < entries.len() {
+        entries[at] = entry;
+    }
+}

@@ -1,0 +1,303 @@
+//! Which versions of its history's pages the pages of a round are. Where the pages that a record read are known to be of the
+//! versions that it read, the record fits without a comparison, in whatever order the steps come.
+
+ghost use Rattle.std.specs.Prelude.{◌≡◌, ◌<◌, ◌≤◌, ◌+◌, ◌∷◌, [], ℕ, true, map, length, slice_get, slice_set, None, is_some, if◌then◌else◌, IfOk, IfSome};
+ghost use Rattle.order_spec.specs.Facts.{written_slots, facts};
+ghost use Rattle.record_spec.specs.Delta.{PageDelta};
+ghost use Rattle.record_spec.specs.Reads.{ReadPage as Read};
+ghost use Rattle.machine_spec.specs.Setup.{IsSetup};
+ghost use Rattle.history_spec.specs.History.{is_coherent};
+ghost use Rattle.propagate.specs.Versions as versions;
+ghost use Rattle.propagate.specs.Versions.{with_each, stored_version, seen_version, learned, rewritten, is_of_version, all_known, AreStepsOf, AreFresh, AreReused, AreExecuted, AreGiven, MayBeMadeAgain, MayBeMadeAnew, HasRead};
+
+use super::times::{PageVersion, Times};
+use depend_graph::Graph;
+use machine_spec::MOST_STEPS;
+use release_core::{Core, History};
+use std::alloc::{AllocError, Global};
+use store_mask::ReadPage;
+use thunk_record::Record;
+
+/// Which versions of pages a step of a history reads and writes.
+#[derive(Drop)]
+pub struct StepVersions {
+    pub read: Vec<PageVersion>,
+    pub written: Vec<PageVersion>,
+}
+
+/// Which versions of pages each step of a history reads and writes; when the pages of a round were written, and its threads
+/// given their views; and by slot which version of the history each page of the round is, if that is known.
+#[derive(Drop)]
+pub struct Versions {
+    pub steps: Vec<StepVersions>,
+    pub times: Times,
+    pub pages: Vec<Option<u32>>,
+}
+
+/// Which versions of the pages that a step of thread `t` reads it finds in its view.
+fn read_versions(
+    alloc: Global,
+    times: &Times,
+    t: u8,
+    reads: &[ReadPage],
+) -> Result<Vec<PageVersion>, AllocError>
+    ensures { IfOk result (λ read. read.items
+        ≡ map (λ (p : Read). seen_version times.now.written.items times.now.viewed t p.slot)
+        reads.now) }
+{
+    reads
+        .iter()
+        .map(|page| times.seen(t, page.slot()))
+        .collect(alloc)
+}
+
+/// Which versions of the pages that a step writes it finds in shared memory.
+fn written_versions(
+    alloc: Global,
+    times: &Times,
+    rec: &Record,
+) -> Result<Vec<PageVersion>, AllocError>
+    ensures { IfOk result (λ written. written.items
+        ≡ map (λ (d : PageDelta). stored_version times.now.written.items d.slot)
+        rec.now.kept.delta) }
+{
+    rec.delta()
+        .pages()
+        .iter()
+        .map(|page| times.stored(page.slot()))
+        .collect(alloc)
+}
+
+/// Which versions of pages a step reads and writes, by when pages were written and views given before it.
+fn step_versions(alloc: Global, times: &Times, rec: &Record) -> Result<StepVersions, AllocError>
+    ensures read { IfOk result (λ step. step.read.items
+        ≡ map (λ (p : Read). seen_version times.now.written.items times.now.viewed
+        rec.now.thread p.slot) rec.now.kept.reads) }
+    ensures written { IfOk result (λ step. step.written.items
+        ≡ map (λ (d : PageDelta). stored_version times.now.written.items d.slot)
+        rec.now.kept.delta) }
+{
+    let read = read_versions(alloc, times, rec.thread(), rec.reads().pages())?;
+    let written = written_versions(alloc, times, rec)?;
+    Ok(StepVersions { read, written })
+}
+
+/// Which versions of pages the steps of a history read and write, which has this graph and so many pages. One pass.
+pub fn steps_of(
+    alloc: Global,
+    history: &History,
+    graph: &Graph,
+    pages: usize,
+) -> Result<Vec<StepVersions>, AllocError>
+    requires coherent { is_coherent history.now ≡ true }
+    requires valid { IsSetup history.now.setup }
+    requires graph { graph.now ≡ facts history.now }
+    ensures steps { IfOk result (λ steps. AreStepsOf history.now steps.items) }
+    ensures count { IfOk result (λ steps. length steps.items ≡ length history.now.records) }
+{
+    let records = history.records();
+    let mut times = Times::new(alloc, pages, 0)?;
+    let mut steps = Vec::with_capacity(alloc, records.len())?;
+    for place in 0..records.len() {
+        let rec = records.at(place);
+        steps.push(step_versions(alloc, &times, rec)?)?;
+        let now = place as u32 + 1;
+        times.write(rec, now);
+        times.give(graph.fact(place).given.as_slice(), now);
+    }
+    Ok(steps)
+}
+
+/// Whether the page in a slot is known to be of a version.
+fn is_of(pages: &[Option<u32>], slot: usize, version: Option<u32>) -> bool
+    ensures { result ≡ is_of_version version (slice_get pages.now slot) }
+{
+    match (version, pages.get(slot)) {
+        (Some(version), Some(Some(page))) => version == *page,
+        _ => false,
+    }
+}
+
+/// The page in a slot, if there is one, is of this version, or it isn't known of which.
+fn set(pages: &mut [Option<u32>], slot: usize, version: Option<u32>)
+    ensures { pages.new ≡ slice_set pages.old slot version }
+{
+    if slot < pages.len() {
+        pages[slot] = version;
+    }
+}
+
+/// Of a record that fits the pages that it read are known to be what it read, if they are current in its thread's view.
+fn learn(pages: &mut [Option<u32>], times: &Times, t: u8, read: &[PageVersion])
+    ensures { pages.new
+        ≡ learned times.now.written.items times.now.viewed pages.old t read.now }
+{
+    for page in read {
+        if times.is_current(t, page.slot) && page.version.is_some() {
+            set(pages, page.slot, page.version);
+        }
+    }
+}
+
+/// Pages that a step of the history writes are as it left them, if they were as it found them.
+fn rewrite(pages: &mut [Option<u32>], written: &[PageVersion], after: u32)
+    ensures { pages.new ≡ rewritten pages.old after written.now }
+{
+    for page in written {
+        let same = is_of(pages, page.slot, page.version);
+        set(pages, page.slot, if same { Some(after) } else { None });
+    }
+}
+
+/// What is known of pages once the record of a step of the history fits, and then is reused, which leaves this version.
+fn make_again(pages: &mut [Option<u32>], times: &Times, t: u8, step: &StepVersions, after: u32)
+    ensures { pages.new ≡ rewritten (learned times.now.written.items times.now.viewed pages.old t
+        step.now.read.items) after step.now.written.items }
+{
+    learn(pages, times, t, step.read.as_slice());
+    rewrite(pages, step.written.as_slice(), after);
+}
+
+/// Of the pages that an executed step wrote it isn't known of which version they are.
+fn forget(pages: &mut [Option<u32>], rec: &Record)
+    ensures { pages.new ≡ with_each pages.old (written_slots rec.now) None }
+{
+    let written = rec.delta().pages();
+    for page in written {
+        set(pages, page.slot(), None);
+    }
+}
+
+impl Versions {
+    /// Versions of which nothing is known yet, after so many steps of a round with so many pages.
+    pub fn new(
+        alloc: Global,
+        steps: Vec<StepVersions>,
+        pages: usize,
+        now: u32,
+    ) -> Result<Versions, AllocError>
+        requires { now ≤ MOST_STEPS }
+        ensures steps { IfOk result (λ versions. versions.steps.items ≡ steps.items) }
+        ensures fresh { IfOk result (AreFresh now) }
+    {
+        Ok(Versions {
+            steps,
+            times: Times::new(alloc, pages, now + 1)?,
+            pages: vec![in alloc; None; pages]?,
+        })
+    }
+
+    /// Whether each page that the history's step at a place read is known to be what it read, in the view of thread `t`.
+    pub fn has_read(&self, place: usize, t: u8) -> bool
+        ensures { result ≡ true → HasRead self.now place t }
+    {
+        place < self.steps.len() && self.are_known(t, self.steps[place].read.as_slice())
+    }
+
+    /// Whether each of some pages is current in the view of thread `t`, and known to be of the version that a step finds.
+    fn are_known(&self, t: u8, read: &[PageVersion]) -> bool
+        ensures { result ≡ all_known self.now.times.written.items self.now.times.viewed
+            self.now.pages.items t read.now }
+    {
+        for page in read {
+            if !(self.times.is_current(t, page.slot)
+                && is_of(self.pages.as_slice(), page.slot, page.version))
+            {
+                return false;
+            }
+        }
+        true
+    }
+
+    /// The record at a place of the history was reused, with which so many steps were made.
+    fn reuse(&mut self, place: usize, rec: &Record, now: u32)
+        requires there { place < length self.old.steps.items }
+        requires few { length self.old.steps.items ≤ MOST_STEPS }
+        ensures { AreReused self.old place rec.now now self.new }
+    {
+        let Versions {
+            steps,
+            times,
+            pages,
+        } = self;
+        let after = place as u32 + 1;
+        make_again(
+            pages.as_mut_slice(),
+            times,
+            rec.thread(),
+            &steps[place],
+            after,
+        );
+        times.write(rec, now);
+    }
+
+    /// A step of thread `t` gave threads a view, which left this machine after so many steps.
+    fn give_views(&mut self, core: &Core, t: u8, now: u32)
+        requires { now ≤ MOST_STEPS }
+        ensures { AreGiven core.now t now self.old self.new }
+    {
+        self.times.give_by(core, t, now);
+    }
+
+    /// A step was executed, with which so many steps were made.
+    fn execute(&mut self, rec: &Record, now: u32)
+        ensures { AreExecuted self.old rec.now now self.new }
+    {
+        forget(self.pages.as_mut_slice(), rec);
+        self.times.write(rec, now);
+    }
+}
+
+/// What is known of versions, if anything is, and else these.
+pub fn known_or(known: Option<Versions>, fresh: Option<Versions>) -> Option<Versions>
+    ensures { result ≡ (if is_some known then known else fresh) }
+{
+    match known {
+        Some(versions) => Some(versions),
+        None => fresh,
+    }
+}
+
+/// What is known of versions after the record at a place of the history was reused, which left this machine after so many
+/// steps.
+pub fn after_reuse(
+    versions: Option<Versions>,
+    core: &Core,
+    place: usize,
+    rec: &Record,
+    now: u32,
+) -> Option<Versions>
+    requires there { IfSome versions (λ v. place < length v.steps.items) }
+    requires few { IfSome versions (λ v. length v.steps.items ≤ MOST_STEPS) }
+    requires now { now ≤ MOST_STEPS }
+    ensures { MayBeMadeAgain versions core.now place rec.now now result }
+{
+    match versions {
+        Some(mut versions) => {
+            versions.reuse(place, rec, now);
+            versions.give_views(core, rec.thread(), now);
+            Some(versions)
+        }
+        None => None,
+    }
+}
+
+/// What is known of versions after a step was executed, which left this machine after so many steps.
+pub fn after_execution(
+    versions: Option<Versions>,
+    core: &Core,
+    rec: &Record,
+    now: u32,
+) -> Option<Versions>
+    requires { now ≤ MOST_STEPS }
+    ensures { MayBeMadeAnew versions core.now rec.now now result }
+{
+    match versions {
+        Some(mut versions) => {
+            versions.execute(rec, now);
+            versions.give_views(core, rec.thread(), now);
+            Some(versions)
+        }
+        None => None,
+    }
+}
