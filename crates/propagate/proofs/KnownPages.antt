@@ -1,5 +1,5 @@
 -- Versions of pages that a round is known to have.
-use Rattle.std.proofs.Common.{leb, ◌≡◌, ◌≢◌, ◌<◌, ◌≤◌, ◌+◌, ℕ, suc, Bool, true, false, ◌&&◌, ◌||◌, eqb, cond, List, [], ◌∷◌, length, map, set, slice_index, Option, Vec, Some, None, is_none, refl, ap, ap₂, sym, ◌∙◌, subst, inl, inr, ◌⊎◌, arith}
+use Rattle.std.proofs.Common.{leb, ◌≡◌, ◌≢◌, ◌<◌, ◌≤◌, ◌+◌, ℕ, suc, Bool, true, false, ◌&&◌, ◌||◌, eqb, cond, List, [], ◌∷◌, length, map, set, slice_index, Option, Box, Vec, Some, None, is_none, refl, ap, ap₂, sym, ◌∙◌, subst, inl, inr, ◌⊎◌, arith}
 use Rattle.std.proofs.lemmas.Bool.{and_parts, cases_eq, cases_lt, eq-eqb, eqb-true}
 use Rattle.std.proofs.lemmas.Bool.Decides.{nat_tests}
 use Rattle.std.proofs.lemmas.List.{length-set, get_or_past}
@@ -43,7 +43,7 @@ use Rattle.propagate.proofs.Appending.{below-32}
 use Rattle.propagate.specs.declared.times.PageVersion.{PageVersion}
 use Rattle.propagate.specs.declared.versions.StepVersions.{StepVersions}
 use Rattle.propagate.specs.declared.versions.Versions.{Versions}
-use Rattle.propagate.specs.Versions.{with_each, is_current, viewed_after, AreTimes, IsStepOf, AreStepsOf, AreOldPages, is_of_version, all_known, with_known, learned, rewritten, AreReused, AreExecuted, AreGiven, MayBeMadeAgain, MayBeMadeAnew, IsComparable, AreVersions, AreRight, AreFresh, HasRead}
+use Rattle.propagate.specs.Versions.{with_each, is_current, viewed_after, AreTimes, IsStepOf, AreStepsOf, AreOldPages, is_of_version, all_known, with_known, learned, rewritten, AreReused, AreExecuted, AreGiven, MayBeMadeAgain, MayBeMadeAnew, IsComparable, AreVersions, AreRight, AreFresh, HasRead, unboxed}
 use Rattle.propagate.proofs.Entries.{get-same, get-other, each-other, each-in, index-zeros}
 use Rattle.propagate.proofs.Passing.{IsBy, by-some, AreGivenBy, times-apply, applied-size, first-fuel, frame-fuel}
 
@@ -690,20 +690,22 @@ right-executed w v now r (Some old) (Some new) were longer is_now made = λ h is
     executed-versions h w v now r old made.made new (were h (sym longer.past ∙ is)) longer is_now made.executed made.given
 
 -- what is known, or else fresh
-pub right-either : (w : RoundState) (c : Bool) (a b : Option Versions) → AreRight w a → AreRight w b → AreRight w (cond c a b)
+pub right-either :
+    (w : RoundState) (c : Bool) (a b : Option (Box Versions Global)) → AreRight w (unboxed a) → AreRight w (unboxed b)
+    → AreRight w (unboxed (cond c a b))
 right-either w true a b first second = first
 right-either w false a b first second = second
 
 -- the place of a record that is found is one of a step whose versions are known
 
 pub right-there :
-    (w : RoundState) (t : ℕ) (r : Record) (vs : Option Versions)
-    → AreRight w vs → record_for w.past w.machine t ≡ Some r
-    → IfSome vs (λ (v : Versions). place_in w.past w.machine t < length v.steps.items)
+    (w : RoundState) (t : ℕ) (r : Record) (vs : Option (Box Versions Global))
+    → AreRight w (unboxed vs) → record_for w.past w.machine t ≡ Some r
+    → IfSome vs (λ (v : Box Versions Global). place_in w.past w.machine t < length v.value.steps.items)
 right-there w t r None were there = tt
 right-there w t r (Some v) were there = of w.past refl
   where
-    of : (past : Option History) → w.past ≡ past → place_in w.past w.machine t < length v.steps.items
+    of : (past : Option History) → w.past ≡ past → place_in w.past w.machine t < length v.value.steps.items
     of None is = absurd (let none = sym there ∙ ap (λ (p : Option History). record_for p w.machine t) is in cc)
     of (Some h) is =
         let here : record_for (Some h) w.machine t ≡ Some r =
@@ -714,12 +716,12 @@ right-there w t r (Some v) were there = of w.past refl
         omega (arith, (were h is).count)
 
 pub right-few :
-    (w : RoundState) (t : ℕ) (r : Record) (vs : Option Versions)
-    → AreRight w vs → record_for w.past w.machine t ≡ Some r
-    → IfSome vs (λ (v : Versions). length v.steps.items ≤ 65536)
+    (w : RoundState) (t : ℕ) (r : Record) (vs : Option (Box Versions Global))
+    → AreRight w (unboxed vs) → record_for w.past w.machine t ≡ Some r
+    → IfSome vs (λ (v : Box Versions Global). length v.value.steps.items ≤ 65536)
 right-few w t r None were there = tt
 right-few w t r (Some v) were there = of w.past refl
   where
-    of : (past : Option History) → w.past ≡ past → length v.steps.items ≤ 65536
+    of : (past : Option History) → w.past ≡ past → length v.value.steps.items ≤ 65536
     of None is = absurd (let none = sym there ∙ ap (λ (p : Option History). record_for p w.machine t) is in cc)
     of (Some h) is = (were h is).few

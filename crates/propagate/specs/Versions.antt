@@ -1,6 +1,7 @@
--- Which versions of its history's pages the pages of a round are. A version of a page is that page after so many first
--- steps of the history.
-use Rattle.std.specs.Prelude.{◌≡◌, ◌≤◌, ◌<◌, ℕ, suc, ⊤, Bool, true, false, ◌&&◌, ◌==◌, nat_le, if◌then◌else◌, List, [], ◌∷◌, length, map, replicate, Option, Some, None, is_none, slice_get, slice_set, slice_index}
+-- Which versions of its history's pages the pages of a round are. Version n of a page is the page as the first n steps of
+-- the history leave it.
+use Rattle.std.specs.Prelude.{◌≡◌, ◌≤◌, ◌<◌, ℕ, suc, ⊤, Bool, true, false, ◌&&◌, ◌==◌, nat_le, if◌then◌else◌, List, [], ◌∷◌, length, map, replicate, Option, Some, None, is_none, slice_get, slice_set, slice_index, Box}
+use Rattle.std.specs.Global.{Global}
 use Rattle.guest_call.specs.declared.thread_number.TheConstants.{THREADS}
 use Rattle.memory_spec.specs.Pages.{page_of}
 use Rattle.machine_spec.specs.declared.TheConstants.{MOST_STEPS}
@@ -24,7 +25,7 @@ with_each xs (p ∷ ps) x = with_each (slice_set xs p x) ps x
 
 -- ---- times
 
--- Whether something happened by a time, if it is known when.
+-- Whether something is known to have happened by a time.
 abbrev pub is_by : Option ℕ → ℕ → Bool
 is_by None given = false
 is_by (Some at) given = nat_le at given
@@ -41,8 +42,8 @@ viewed_after m t u before now =
     then (if is_ready (hart_of m u).status then (if u == t then now else before) else suc now)
     else before
 
--- Times of a machine after so many steps: a page that is current in the view of a ready thread is the same there as in
--- shared memory.
+-- Times of a machine after so many steps: unless it has ended, a page that is current in the view of a ready thread is the
+-- same there as in shared memory; a ready thread was given its view by now, and each other gets its next one after now.
 pub record AreTimes (m : Machine) (steps : ℕ) (written viewed : List ℕ) : Type 0 where
   pub current :
       (u p : ℕ) → is_none m.ending ≡ true → is_ready (hart_of m u).status ≡ true → is_current written viewed u p ≡ true
@@ -61,8 +62,8 @@ abbrev pub seen_version : List ℕ → List ℕ → ℕ → ℕ → PageVersion
 seen_version written viewed t p =
     record { slot = p; version = if is_current written viewed t p then slice_get written p else None }
 
--- Which versions of pages the step at a place of a history reads and writes: what is said of a page that it reads is so in
--- its thread's view, and of one that it writes in shared memory before it.
+-- The versions that the step at a place of a history finds: of a page that it reads, in its thread's view; of one that it
+-- writes, in shared memory. None says nothing.
 pub record IsStepOf (h : History) (place : ℕ) (r : Record) (s : StepVersions) : Type 0 where
   pub seen : ℕ → Option ℕ
   pub stored : ℕ → Option ℕ
@@ -76,7 +77,7 @@ pub record IsStepOf (h : History) (place : ℕ) (r : Record) (s : StepVersions) 
   pub memory :
       (p x : ℕ) → stored p ≡ Some x → page_of (machine_at h place).memory p ≡ page_of (machine_at h x).memory p
 
--- The same of the first steps of a history.
+-- The same of each step that both lists have.
 pub record AreStepsOf (h : History) (steps : List StepVersions) : Type 0 where
   pub each :
       (place : ℕ) → (r : Record) → (s : StepVersions)
@@ -176,7 +177,12 @@ MayBeMadeAnew old m r now None = ⊤
 MayBeMadeAnew None m r now (Some new) = ⊥
 MayBeMadeAnew (Some old) m r now (Some new) = AreMadeAnew old m r now new
 
--- A history may be run and holds together, and its machine has the fuel of a round's, and as many pages.
+-- What is known of versions, where it is kept on the heap.
+abbrev pub unboxed : Option (Box Versions Global) → Option Versions
+unboxed None = None
+unboxed (Some versions) = Some versions.value
+
+-- A history may be run and holds together, and a round's machine has its fuel and its number of pages.
 pub record IsComparable (w : RoundState) (h : History) : Type 0 where
   pub valid : IsSetup h.setup
   pub coherent : is_coherent h ≡ true

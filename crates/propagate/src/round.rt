@@ -9,7 +9,7 @@ ghost use Rattle.report_spec.specs.Report.{instructions_from};
 ghost use Rattle.round_spec.specs.Rounds.{none_in_flight, nothing_taken, opening, is_finished, is_in_flight, history_of};
 ghost use Rattle.round_spec.specs.Instructions.{executed_instructions};
 ghost use Rattle.propagate.specs.Consistency.{IsOfMap, IsValid, AreFactsOf, IsRight, IsFound};
-ghost use Rattle.propagate.specs.Versions.{AreRight, IsComparable};
+ghost use Rattle.propagate.specs.Versions.{AreRight, IsComparable, unboxed};
 
 use super::marks::marks_at_start;
 use super::versions::{Versions, steps_of};
@@ -46,7 +46,7 @@ pub struct Round {
     pub(super) stopped: bool,
     pub(super) instructions: u64,
     pub(super) marks: Option<Vec<bool>>,
-    pub(super) versions: Option<Versions>,
+    pub(super) versions: Option<Box<Versions>>,
 }
 
 impl Model for Round {
@@ -54,6 +54,7 @@ impl Model for Round {
     ghost use Rattle.std.specs.Arc.{arc_value};
     ghost use Rattle.round_spec.specs.Rounds.{RoundState};
     ghost use Rattle.propagate.specs.Consistency.{IsConsistent};
+    ghost use Rattle.propagate.specs.Versions.{unboxed};
 
     ghost Value = { RoundState };
 
@@ -70,7 +71,7 @@ impl Model for Round {
       stopped = r.stopped;
     } };
 
-    ghost invariant = { λ r. IsConsistent (view r) r.instructions r.graph r.marks r.versions };
+    ghost invariant = { λ r. IsConsistent (view r) r.instructions r.graph r.marks (unboxed r.versions) };
 }
 
 /// None of the threads is in flight.
@@ -310,10 +311,13 @@ impl Round {
         }
     }
 
-    /// Versions of pages of which nothing is known yet, if they are needed and none are known: from then on it is found which
-    /// versions of the history's pages those of the round are.
-    pub(super) fn first_versions(&self, needed: bool) -> Result<Option<Versions>, AllocError>
-        ensures { IfOk result (AreRight self.now) }
+    /// Versions to begin with, all unknown, if they are needed and the round has none; else none.
+    ///
+    /// # Errors
+    ///
+    /// An error where the host's memory ran out.
+    pub(super) fn first_versions(&self, needed: bool) -> Result<Option<Box<Versions>>, AllocError>
+        ensures { IfOk result (λ versions. AreRight self.now (unboxed versions)) }
     {
         match (&self.past, &self.graph) {
             (Some(history), Some(graph)) if needed && self.can_find_versions(history) => {
@@ -321,7 +325,7 @@ impl Round {
                 let pages = self.core.memory().len();
                 let steps = steps_of(alloc, history, graph, pages)?;
                 let versions = Versions::new(alloc, steps, pages, self.entries())?;
-                Ok(Some(versions))
+                Ok(Some(Box::new(alloc, versions)?))
             }
             _ => Ok(None),
         }

@@ -12,25 +12,27 @@ use std::alloc::{AllocError, Global};
 use std::array;
 use thunk_record::Record;
 
-/// A page that a step reads or writes, and which version of it the step finds: the page as so many first steps leave it.
-/// None if that isn't known.
+/// A page that a step reads or writes, and which version of it the step finds, if that is known. Version n is the page as the
+/// first n steps of the history leave it.
 #[derive(Clone, Copy)]
 pub struct PageVersion {
     pub slot: usize,
     pub version: Option<u32>,
 }
 
-/// When pages were last written, by slot, and when threads were given their views: after how many steps. A page that wasn't
-/// written since is the same in the view as in shared memory. Of a thread that isn't ready it is when it can be given its
-/// next view.
+/// When pages were written, and threads given their views. A page that wasn't written since a thread was given its view is
+/// the same in that view as in shared memory.
 #[derive(Drop)]
 pub struct Times {
+    /// By slot, after how many steps the page was last written.
     pub written: Vec<u32>,
+    /// By thread, after how many steps it was given its view; of a thread that isn't ready, after how many it can be given its
+    /// next one.
     pub viewed: [u32; THREADS],
 }
 
-/// When thread `u`, which exists or is the next one, was given its view, after a step of thread `t` that left this machine: by
-/// that step, if it is `t` and ready; with the next step at the earliest, if it isn't ready; and else as before.
+/// The entry in `viewed` of thread `u`, which exists or is the next to be created, after a step of thread `t` that left this
+/// machine: `now` if it is `t` and ready, `now + 1` if it isn't ready, and else as before.
 fn viewed_at(core: &Core, t: u8, u: u8, before: u32, now: u32) -> u32
     requires now { now ≤ MOST_STEPS }
     requires there { u ≤ length core.now.harts }

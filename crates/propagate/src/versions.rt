@@ -8,7 +8,7 @@ ghost use Rattle.record_spec.specs.Reads.{ReadPage as Read};
 ghost use Rattle.machine_spec.specs.Setup.{IsSetup};
 ghost use Rattle.history_spec.specs.History.{is_coherent};
 ghost use Rattle.propagate.specs.Versions as versions;
-ghost use Rattle.propagate.specs.Versions.{with_each, stored_version, seen_version, learned, rewritten, is_of_version, all_known, AreStepsOf, AreFresh, AreReused, AreExecuted, AreGiven, MayBeMadeAgain, MayBeMadeAnew, HasRead};
+ghost use Rattle.propagate.specs.Versions.{with_each, stored_version, seen_version, learned, rewritten, is_of_version, all_known, AreStepsOf, AreFresh, AreReused, AreExecuted, AreGiven, MayBeMadeAgain, MayBeMadeAnew, HasRead, unboxed};
 
 use super::times::{PageVersion, Times};
 use depend_graph::Graph;
@@ -25,8 +25,8 @@ pub struct StepVersions {
     pub written: Vec<PageVersion>,
 }
 
-/// Which versions of pages each step of a history reads and writes; when the pages of a round were written, and its threads
-/// given their views; and by slot which version of the history each page of the round is, if that is known.
+/// What a round knows of the versions of its history's pages: which of them each step of the history reads and writes; when
+/// the round's pages were written, and its threads given their views; and by slot which version each page is, if known.
 #[derive(Drop)]
 pub struct Versions {
     pub steps: Vec<StepVersions>,
@@ -127,7 +127,7 @@ fn set(pages: &mut [Option<u32>], slot: usize, version: Option<u32>)
     }
 }
 
-/// Of a record that fits the pages that it read are known to be what it read, if they are current in its thread's view.
+/// Notes the versions of the pages that a record which fits read, as far as they are current in its thread's view.
 fn learn(pages: &mut [Option<u32>], times: &Times, t: u8, read: &[PageVersion])
     ensures { pages.new
         ≡ learned times.now.written.items times.now.viewed pages.old t read.now }
@@ -158,7 +158,7 @@ fn make_again(pages: &mut [Option<u32>], times: &Times, t: u8, step: &StepVersio
     rewrite(pages, step.written.as_slice(), after);
 }
 
-/// Of the pages that an executed step wrote it isn't known of which version they are.
+/// The versions of the pages that an executed step wrote are unknown from then on.
 fn forget(pages: &mut [Option<u32>], rec: &Record)
     ensures { pages.new ≡ with_each pages.old (written_slots rec.now) None }
 {
@@ -249,7 +249,7 @@ impl Versions {
 }
 
 /// What is known of versions, if anything is, and else these.
-pub fn known_or(known: Option<Versions>, fresh: Option<Versions>) -> Option<Versions>
+pub fn known_or(known: Option<Box<Versions>>, fresh: Option<Box<Versions>>) -> Option<Box<Versions>>
     ensures { result ≡ (if is_some known then known else fresh) }
 {
     match known {
@@ -261,16 +261,16 @@ pub fn known_or(known: Option<Versions>, fresh: Option<Versions>) -> Option<Vers
 /// What is known of versions after the record at a place of the history was reused, which left this machine after so many
 /// steps.
 pub fn after_reuse(
-    versions: Option<Versions>,
+    versions: Option<Box<Versions>>,
     core: &Core,
     place: usize,
     rec: &Record,
     now: u32,
-) -> Option<Versions>
-    requires there { IfSome versions (λ v. place < length v.steps.items) }
-    requires few { IfSome versions (λ v. length v.steps.items ≤ MOST_STEPS) }
+) -> Option<Box<Versions>>
+    requires there { IfSome versions (λ v. place < length v.value.steps.items) }
+    requires few { IfSome versions (λ v. length v.value.steps.items ≤ MOST_STEPS) }
     requires now { now ≤ MOST_STEPS }
-    ensures { MayBeMadeAgain versions core.now place rec.now now result }
+    ensures { MayBeMadeAgain (unboxed versions) core.now place rec.now now (unboxed result) }
 {
     match versions {
         Some(mut versions) => {
@@ -284,13 +284,13 @@ pub fn after_reuse(
 
 /// What is known of versions after a step was executed, which left this machine after so many steps.
 pub fn after_execution(
-    versions: Option<Versions>,
+    versions: Option<Box<Versions>>,
     core: &Core,
     rec: &Record,
     now: u32,
-) -> Option<Versions>
+) -> Option<Box<Versions>>
     requires { now ≤ MOST_STEPS }
-    ensures { MayBeMadeAnew versions core.now rec.now now result }
+    ensures { MayBeMadeAnew (unboxed versions) core.now rec.now now (unboxed result) }
 {
     match versions {
         Some(mut versions) => {

@@ -1,16 +1,20 @@
 -- What is left to prove of `after_execution`.
 use Rattle.std.proofs.Common.{Option, Some, ℕ, sym, subst}
 use Rattle.propagate.specs.declared.versions.Versions.{Versions}
-use Rattle.propagate.specs.Versions.{AreGiven, MayBeMadeAnew}
+use Rattle.propagate.specs.Versions.{AreExecuted, AreGiven, MayBeMadeAnew, unboxed}
 use Rattle.propagate.proofs.versions.after_execution.Goals as goal
 
 pub returns-in-Some : goal.returns-in-Some
 returns-in-Some c =
     let new = c.give_views.new.self in
-    subst (λ (o : Option Versions). MayBeMadeAnew o c.args.core.now c.args.rec.now c.args.now (Some new)) (sym c.in-Some.is)
+    subst (λ o. MayBeMadeAnew (unboxed o) c.args.core.now c.args.rec.now c.args.now (Some new)) (sym c.in-Some.is)
     (record {
       made = c.execute.new.self;
-      executed = c.execute.ensures;
+      executed =
+          subst (λ (v : Versions). AreExecuted v c.args.rec.now c.args.now c.execute.new.self) c.deref_mut.ensures.value
+          c.execute.ensures;
       given =
-          subst (λ (t : ℕ). AreGiven c.args.core.now t c.args.now c.execute.new.self new) c.thread.ensures c.give_views.ensures;
+          subst (λ (t : ℕ). AreGiven c.args.core.now t c.args.now c.execute.new.self new) c.thread.ensures
+          (subst (λ (v : Versions). AreGiven c.args.core.now c.thread.result c.args.now v new) c.deref_mut-in-Some.ensures.value
+          c.give_views.ensures);
     })

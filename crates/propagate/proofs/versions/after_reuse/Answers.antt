@@ -1,18 +1,22 @@
 -- What is left to prove of `after_reuse`.
 use Rattle.std.proofs.Common.{Option, Some, ℕ, sym, subst}
 use Rattle.propagate.specs.declared.versions.Versions.{Versions}
-use Rattle.propagate.specs.Versions.{AreGiven, MayBeMadeAgain}
+use Rattle.propagate.specs.Versions.{AreReused, AreGiven, MayBeMadeAgain, unboxed}
 use Rattle.propagate.proofs.versions.after_reuse.Goals as goal
 
 pub returns-in-Some : goal.returns-in-Some
 returns-in-Some c =
     let new = c.give_views.new.self in
     subst
-    (λ (o : Option Versions). MayBeMadeAgain o c.args.core.now c.args.place c.args.rec.now c.args.now (Some new))
+    (λ o. MayBeMadeAgain (unboxed o) c.args.core.now c.args.place c.args.rec.now c.args.now (Some new))
     (sym c.in-Some.is)
     (record {
       made = c.reuse.new.self;
-      reused = c.reuse.ensures;
+      reused =
+          subst (λ (v : Versions). AreReused v c.args.place c.args.rec.now c.args.now c.reuse.new.self) c.deref_mut.ensures.value
+          c.reuse.ensures;
       given =
-          subst (λ (t : ℕ). AreGiven c.args.core.now t c.args.now c.reuse.new.self new) c.thread.ensures c.give_views.ensures;
+          subst (λ (t : ℕ). AreGiven c.args.core.now t c.args.now c.reuse.new.self new) c.thread.ensures
+          (subst (λ (v : Versions). AreGiven c.args.core.now c.thread.result c.args.now v new) c.deref_mut-in-Some.ensures.value
+          c.give_views.ensures);
     })

@@ -7,7 +7,7 @@ use Rattle.round_spec.specs.declared.events.Event.TheVariants.{Take, Commit}
 use Rattle.round_spec.specs.Rounds.{RoundState, happens}
 use Rattle.propagate.specs.Committing.{CanCommit, picked_at}
 use Rattle.propagate.specs.Alike.{MayBeMarks}
-use Rattle.propagate.specs.Versions.{AreRight, MayBeMadeAnew}
+use Rattle.propagate.specs.Versions.{AreRight, MayBeMadeAnew, unboxed}
 use Rattle.propagate.proofs.Keeping.{record_count, few_entries, knows-made}
 use Rattle.propagate.proofs.Making.{executed_in, begun-goes, commit-append, commit-happens, commit-kept, goes-more}
 use Rattle.propagate.proofs.Alike.{commit-as-before}
@@ -136,7 +136,7 @@ invariant_of-self-4 c =
     let goes = begun-goes (before c) (arc_value c.args.run.now.frame) (arc_value c.args.run.now.rec) (can c) in
     commit-kept (before c) (after c) c.self.inside.instructions
     (c.self.inside.instructions + c.from.result) c.self.inside.graph c.find_facts.new.graph c.self.inside.marks
-    c.marks_after.result c.self.inside.versions c.after_execution.result (arc_value c.args.run.now.frame) (arc_value c.args.run.now.rec) c.self.invariant (can c)
+    c.marks_after.result (unboxed c.self.inside.versions) (unboxed c.after_execution.result) (arc_value c.args.run.now.frame) (arc_value c.args.run.now.rec) c.self.invariant (can c)
     c.args.run.now.honest (made c)
     (ap (λ n. c.self.inside.instructions + n) count_is) few
     (commit-as-before (before c) (after c) _ (arc_value c.args.run.now.rec) c.self.inside.marks c.marks_after.result
@@ -166,11 +166,11 @@ invariant_of-self-4 c =
     (ap (λ n. set c.self.inside.in_flight n false) (thread c))
     (λ on some. c.marks_after.ensures.kept on (ap is_some c.take.ensures.value ∙ some))
     c.is_in_place-in_place.ensures.marks)
-    (right-executed (before c) (after c) (c.entries-now.result + 1) (arc_value c.args.run.now.rec) c.known_or-versions.result
-    c.after_execution.result
-    (subst (AreRight (before c)) (sym c.known_or-versions.ensures)
+    (right-executed (before c) (after c) (c.entries-now.result + 1) (arc_value c.args.run.now.rec)
+    (unboxed c.known_or-versions.result) (unboxed c.after_execution.result)
+    (subst (λ o. AreRight (before c) (unboxed o)) (sym c.known_or-versions.ensures)
     (right-either (before c) (is_some c.take-2.result) c.take-2.result c.in_ok-fresh.fresh
-    (subst (AreRight (before c)) (sym c.take-2.ensures.value) c.self.invariant.right) c.in_ok-fresh.ensures))
+    (subst (λ o. AreRight (before c) (unboxed o)) (sym c.take-2.ensures.value) c.self.invariant.right) c.in_ok-fresh.ensures))
     (record {
       past = refl;
       machine = ap (λ (w : RoundState). w.machine) (made c);
@@ -184,7 +184,7 @@ invariant_of-self-4 c =
     (let now : c.entries-now.result ≡ length (before c).schedule = c.entries-now.ensures in omega arith)
     (subst
     (λ (r : Record).
-    MayBeMadeAnew c.known_or-versions.result (after c).machine r (c.entries-now.result + 1) c.after_execution.result)
+    MayBeMadeAnew (unboxed c.known_or-versions.result) (after c).machine r (c.entries-now.result + 1) (unboxed c.after_execution.result))
     c.deref-6.ensures c.after_execution.ensures))
 
 pub returns-clause-ok : goal.returns-clause-ok

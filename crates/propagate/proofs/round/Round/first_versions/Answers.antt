@@ -5,12 +5,12 @@ use Rattle.history_spec.specs.History.{History, past_records}
 use Rattle.round_spec.specs.Rounds.{RoundState}
 use Rattle.propagate.specs.declared.versions.StepVersions.{StepVersions}
 use Rattle.propagate.specs.Consistency.{KnowsEnough, AreFactsOf}
-use Rattle.propagate.specs.Versions.{IsComparable, AreStepsOf, AreFresh}
+use Rattle.propagate.specs.Versions.{AreVersions, IsComparable, AreStepsOf, AreFresh}
 use Rattle.propagate.proofs.KnownPages.{versions-fresh}
 use Rattle.propagate.proofs.round.Round.first_versions.Goals as goal
 
-pub returns-in_ok-versions-in-Some-Some : goal.returns-in_ok-versions-in-Some-Some
-returns-in_ok-versions-in-Some-Some c = λ h is.
+pub returns-in_ok-new-in-Some-Some : goal.returns-in_ok-new-in-Some-Some
+returns-in_ok-new-in-Some-Some c = λ h is.
     let w = c.args.self.now in
     let v = c.in_ok-versions-in-Some-Some.versions in
     let past : w.past ≡ Some (arc_value c.in-Some-Some.history) =
@@ -26,10 +26,11 @@ returns-in_ok-versions-in-Some-Some c = λ h is.
     subst (λ (p : Option History). length (past_records p) ≤ 65536) is facts.of_run.few in
     let steps_is : c.deref-in-Some-Some.result.now ≡ h = c.deref-in-Some-Some.ensures ∙ same in
     let held : v.steps.items ≡ c.in_ok-steps-in-Some-Some.steps.items = c.in_ok-versions-in-Some-Some.ensures.steps in
-    versions-fresh h w v like.valid like.coherent like.fuel like.size
+    subst (AreVersions h w) (sym c.in_ok-new-in-Some-Some.ensures.ok)
+    (versions-fresh h w v like.valid like.coherent like.fuel like.size
     (ap (λ (l : List StepVersions). length l) held ∙ c.in_ok-steps-in-Some-Some.ensures.count
     ∙ ap (λ (x : History). length x.records) steps_is)
     few
     (subst (AreStepsOf h) (sym held) (subst (λ (x : History). AreStepsOf x c.in_ok-steps-in-Some-Some.steps.items) steps_is
     c.in_ok-steps-in-Some-Some.ensures.steps))
-    (subst (λ (n : ℕ). AreFresh n v) c.entries.ensures c.in_ok-versions-in-Some-Some.ensures.fresh)
+    (subst (λ (n : ℕ). AreFresh n v) c.entries.ensures c.in_ok-versions-in-Some-Some.ensures.fresh))

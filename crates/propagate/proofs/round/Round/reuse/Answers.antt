@@ -1,5 +1,5 @@
 -- What is left to prove of `Round::reuse`.
-use Rattle.std.proofs.Common.{◌≡◌, ◌<◌, ◌+◌, ℕ, length, eqb, Bool, true, cond, Option, Some, None, Vec, is_none, is_some, option_map, refl, ap, sym, subst, ◌∙◌, arith}
+use Rattle.std.proofs.Common.{◌≡◌, ◌<◌, ◌+◌, ℕ, length, eqb, Bool, true, cond, Option, Some, None, Box, Vec, is_none, is_some, option_map, refl, ap, sym, subst, ◌∙◌, arith}
 use Rattle.std.proofs.lemmas.Bool.{and_parts}
 use Rattle.std.specs.Arc.{arc_value}
 use Rattle.std.specs.Global.{Global}
@@ -13,7 +13,7 @@ use Rattle.round_spec.specs.Due.{place_in}
 use Rattle.machine_spec.specs.Step.{fits}
 use Rattle.history_spec.specs.History.{History}
 use Rattle.propagate.specs.declared.versions.Versions.{Versions}
-use Rattle.propagate.specs.Versions.{AreRight, MayBeMadeAgain}
+use Rattle.propagate.specs.Versions.{AreRight, MayBeMadeAgain, unboxed}
 use Rattle.propagate.specs.Alike.{IsAsBefore}
 use Rattle.propagate.specs.Consistency.{KnowsEnough}
 use Rattle.propagate.proofs.Alike.{reuse-as-before, at-place}
@@ -54,7 +54,7 @@ there c =
 
 reusable : (c : goal.After-rec-2-1) → Reusable (before c) c.args.t (arc_value c.in_ok-rec-in-Some.rec)
 reusable c =
-    reuse-append (before c) c.self.inside.instructions c.args.t c.self.inside.graph c.self.inside.marks c.self.inside.versions
+    reuse-append (before c) c.self.inside.instructions c.args.t c.self.inside.graph c.self.inside.marks (unboxed c.self.inside.versions)
     (arc_value c.in_ok-rec-in-Some.rec) c.self.invariant (can c) (there c)
 
 pub append-requires-clause-can : goal.append-requires-clause-can
@@ -133,7 +133,7 @@ made c =
 pub invariant_of-self-4 : goal.invariant_of-self-4
 invariant_of-self-4 c =
     reuse-kept (start c) (after c) c.self.inside.instructions c.args.t c.self.inside.graph c.find_facts.new.graph
-    c.self.inside.marks c.marks_if.result c.self.inside.versions c.after_reuse.result (arc_value c.in_ok-rec-in-Some.rec) c.self.invariant (can-2 c) (there-2 c)
+    c.self.inside.marks c.marks_if.result (unboxed c.self.inside.versions) (unboxed c.after_reuse.result) (arc_value c.in_ok-rec-in-Some.rec) c.self.invariant (can-2 c) (there-2 c)
     (made c)
     (subst (IsAsBefore (after c))
     (ap (λ (m : Option (Vec Bool Global)). cond c.is_next-next.result m None) (sym c.take.ensures.value) ∙ sym c.marks_if.ensures)
@@ -155,10 +155,10 @@ invariant_of-self-4 c =
     (knows-reused (start c) (after c) c.self.inside.marks c.self.inside.graph c.find_facts.new.graph
     c.is_next-next.result c.self.invariant.knows c.in_ok-find_facts.ensures.found refl refl))
     (right-reused (start c) (after c) c.place-place.result (c.entries-now.result + 1) (arc_value c.in_ok-rec-in-Some.rec)
-    c.known_or-versions.result c.after_reuse.result
-    (subst (AreRight (start c)) (sym c.known_or-versions.ensures)
+    (unboxed c.known_or-versions.result) (unboxed c.after_reuse.result)
+    (subst (λ o. AreRight (start c) (unboxed o)) (sym c.known_or-versions.ensures)
     (right-either (start c) (is_some c.take-2.result) c.take-2.result c.in_ok-fresh.fresh
-    (subst (AreRight (start c)) (sym c.take-2.ensures.value) c.self.invariant.right) c.in_ok-fresh.ensures))
+    (subst (λ o. AreRight (start c) (unboxed o)) (sym c.take-2.ensures.value) c.self.invariant.right) c.in_ok-fresh.ensures))
     (record {
       past = refl;
       machine = ap (λ (w : RoundState). w.machine) (made c);
@@ -176,14 +176,14 @@ invariant_of-self-4 c =
     (ap (λ (p : Option History). record_for p (start c).machine c.args.t) (sym is) ∙ there-2 c))
     (subst
     (λ (r : Record).
-    MayBeMadeAgain c.known_or-versions.result (after c).machine c.place-place.result r (c.entries-now.result + 1)
-    c.after_reuse.result)
+    MayBeMadeAgain (unboxed c.known_or-versions.result) (after c).machine c.place-place.result r (c.entries-now.result + 1)
+    (unboxed c.after_reuse.result))
     c.deref.ensures c.after_reuse.ensures))
 
 pub returns-clause-ok : goal.returns-clause-ok
 returns-clause-ok c =
     reuse-happens (start c) (after c) c.self.inside.instructions c.args.t c.self.inside.graph c.self.inside.marks
-    c.self.inside.versions (arc_value c.in_ok-rec-in-Some.rec) c.self.invariant (can-2 c) (there-2 c) (made c)
+    (unboxed c.self.inside.versions) (arc_value c.in_ok-rec-in-Some.rec) c.self.invariant (can-2 c) (there-2 c) (made c)
     ∙ ap (λ (w : RoundState). happens w (Reuse c.args.t)) c.self.view_is
 
 pub returns-clause-same : goal.returns-clause-same
@@ -212,9 +212,9 @@ after_reuse-requires-clause-there c =
     ∙ sym c.next_record.ensures
     ∙ ap (option_map (λ r. arc_value r.now)) c.in-Some.is
     ∙ ap (λ (r : Record). Some r) (sym c.in_ok-rec-in-Some.ensures) in
-    subst (λ (k : ℕ). IfSome c.known_or-versions.result (λ (v : Versions). k < length v.steps.items)) (sym place)
+    subst (λ (k : ℕ). IfSome c.known_or-versions.result (λ (v : Box Versions Global). k < length v.value.steps.items)) (sym place)
     (right-there w c.args.t (arc_value c.in_ok-rec-in-Some.rec) c.known_or-versions.result
-    (subst (AreRight w) (sym c.known_or-versions.ensures)
+    (subst (λ o. AreRight w (unboxed o)) (sym c.known_or-versions.ensures)
     (right-either w (is_some c.take-2.result) c.take-2.result c.in_ok-fresh.fresh
-    (subst (AreRight w) (sym c.take-2.ensures.value) c.self.invariant.right) c.in_ok-fresh.ensures))
+    (subst (λ o. AreRight w (unboxed o)) (sym c.take-2.ensures.value) c.self.invariant.right) c.in_ok-fresh.ensures))
     found)

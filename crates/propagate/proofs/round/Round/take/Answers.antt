@@ -7,6 +7,7 @@ use Rattle.round_spec.specs.Rounds.{RoundState, can_take, happens}
 use Rattle.round_spec.proofs.Conditions.{happens-take}
 use Rattle.propagate.proofs.Keeping.{valid_consistent, kept-happens, knows-found}
 use Rattle.propagate.proofs.Alike.{as-before-same}
+use Rattle.propagate.specs.Versions.{unboxed}
 use Rattle.propagate.proofs.KnownPages.{right-same}
 use Rattle.propagate.proofs.round.Round.take.Goals as goal
 
@@ -41,8 +42,9 @@ invariant_of-self-3 c =
     let is : happens w (Take c.args.t) ≡ v =
     happens-take w c.args.t (subst (λ (x : RoundState). can_take x c.args.t ≡ true) (sym c.self.view_is) c.requires)
     ∙ sym (rw (c.from.ensures, c.from-2.ensures, now) refl) in
-    kept-happens w v (Take c.args.t) c.self.inside.instructions c.find_facts.new.graph c.self.inside.marks c.self.inside.versions
-    (valid_consistent w w c.self.inside.instructions c.self.inside.graph c.self.inside.marks c.self.inside.versions refl
+    kept-happens w v (Take c.args.t) c.self.inside.instructions c.find_facts.new.graph c.self.inside.marks
+    (unboxed c.self.inside.versions)
+    (valid_consistent w w c.self.inside.instructions c.self.inside.graph c.self.inside.marks (unboxed c.self.inside.versions) refl
     c.self.invariant)
     c.self.invariant.on_map is refl
     (record { machine = c.self.invariant.applied.machine; can = c.self.invariant.applied.can })
@@ -50,4 +52,4 @@ invariant_of-self-3 c =
     (as-before-same w v c.self.inside.marks c.self.invariant.as_before
     (record { setup = refl; past = refl; machine = refl; schedule = refl; records = refl }))
     (knows-found v c.self.inside.marks w.past c.find_facts.new.graph c.in_ok-find_facts.ensures.found refl)
-    (right-same w v c.self.inside.versions c.self.invariant.right refl refl refl)
+    (right-same w v (unboxed c.self.inside.versions) c.self.invariant.right refl refl refl)
