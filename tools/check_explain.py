@@ -63,7 +63,7 @@ SAID_BY_OTHERS = [
     "tools/explore: 100 tries take some 12 s",
     "build: there is no picolibc (package picolibc-riscv64-unknown-elf)", "ithreads: built in 3 s",
     "build: there is no objdump for --notes (packages binutils-riscv64-unknown-elf, llvm)",
-    "ithreads: proves the program's 40 crates and builds it, which takes 20 to 45 minutes on four processors",
+    "ithreads: proves the program's 40 crates and builds it, which takes 20 to 50 minutes on four processors",
     "ithreads: tools/try runs it before that, without a proof", "trace: proved rv_step (3 of 40, 17 s)",
     "ithreads: 3 of 40 crates proved, 47 s", "ithreads: the sources can't be copied to /tmp/x",
     "ithreads: /usr/lib/ithreads/bin/ithreads_cli isn't there: install ithreads again",
