@@ -1,0 +1,4 @@
+-- The proofs of this crate.
+pub mod Prefixes
+pub mod Appending
+pub mod Issuing

@@ -1,0 +1,3 @@
+-- The files of definitions of this crate.
+pub mod Rules
+pub mod Views

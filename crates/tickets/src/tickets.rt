@@ -1,0 +1,98 @@
+//! Who issues tickets.
+
+ghost use Rattle.std.specs.Prelude.{◌≡◌, true, Some, None, replicate, option_map, slice_get, slice_set, IfSome};
+ghost use Rattle.thunk_run.specs.declared.job.Job.{Job as Issued};
+ghost use Rattle.tickets.specs.Views.{no_numbers, job_of, number_of};
+
+use super::log::{Log, Ticket};
+use guest_call::THREADS;
+use std::marker::Model;
+use thunk_run::Job;
+
+/// Who issues tickets: it keeps the number of the last one of each thread. A clause sees in which book's log its tickets
+/// stand, and for each thread the job of its last ticket, unless none could be issued for its last job.
+#[derive(Drop)]
+pub struct Tickets {
+    log: Log,
+    last: [Option<u64>; THREADS],
+}
+
+impl Model for Tickets {
+    ghost use Rattle.std.specs.Prelude.{map, length};
+    ghost use Rattle.tickets.specs.Views.{TicketsView, AreBelow, job_at};
+
+    ghost Value = { TicketsView };
+
+    ghost view = { λ t. record {
+      book = t.log.book;
+      jobs = map (job_at t.log.jobs) t.last;
+    } };
+
+    ghost invariant = { λ t. AreBelow (length t.log.jobs) t.last };
+}
+
+/// No thread has a ticket.
+#[tactic(auto, unfolding(crate::specs::Views::no_numbers))]
+fn no_numbers() -> [Option<u64>; THREADS]
+    ensures { result ≡ no_numbers }
+{
+    [None; THREADS]
+}
+
+/// The number of a ticket, if there is one.
+fn number_of(ticket: &Option<Ticket>) -> Option<u64>
+    ensures { result ≡ number_of ticket.now }
+{
+    match ticket {
+        Some(ticket) => Some(ticket.number),
+        None => None,
+    }
+}
+
+/// Sets the number of thread `t`, if it is one of the 32.
+#[tactic(auto, using(crate::proofs::Issuing::set_past))]
+fn set(numbers: &mut [Option<u64>; THREADS], t: u8, number: Option<u64>)
+    ensures { numbers.new ≡ slice_set numbers.old t number }
+{
+    if usize::from(t) < THREADS {
+        numbers[usize::from(t)] = number;
+    }
+}
+
+impl Tickets {
+    /// Tickets of which none was issued.
+    pub fn new() -> Tickets
+        ensures { result.jobs ≡ replicate 32 None }
+    {
+        Tickets {
+            log: Log::new(),
+            last: no_numbers(),
+        }
+    }
+
+    /// Issues a ticket for a job, which is the last one of its thread then. There is none after 2 ^ 64 - 1 tickets.
+    pub fn issue(&mut self, job: &Job) -> Option<Ticket>
+        ensures book { self.new.book ≡ self.old.book }
+        ensures named { IfSome result (λ ticket. ticket.book ≡ self.old.book) }
+        ensures job { IfSome result (λ ticket. ticket.job ≡ Some job.now) }
+        ensures last { self.new.jobs ≡ slice_set self.old.jobs job.now.thread (job_of result) }
+    {
+        let Tickets { log, last } = self;
+        let ticket = log.append(job);
+        set(last, job.thread, number_of(&ticket));
+        ticket
+    }
+
+    /// Whether a ticket is the last one of thread `t`.
+    pub fn is_last(&self, ticket: &Ticket, t: u8) -> bool
+        requires book { ticket.now.book ≡ self.now.book }
+        ensures { (job : Issued) → result ≡ true → ticket.now.job ≡ Some job
+            → slice_get self.now.jobs t ≡ Some (Some job) }
+    {
+        self.log.agree(ticket);
+        match self.last.get(usize::from(t)) {
+            Some(Some(number)) => *number == ticket.number,
+            _ => false,
+        }
+    }
+}
