@@ -5,6 +5,7 @@ use Rattle.std.proofs.lemmas.List.{get_or-set_same}
 use Rattle.std.specs.Arc.{arc_value}
 use Rattle.std.specs.declared.alloc.AllocError.{AllocError}
 use Rattle.isa_spec.specs.Registers.{Registers}
+use Rattle.thunk_spec.specs.Thunk.{Frame}
 use Rattle.record_spec.specs.Record.{Record, Kept, kept_thunk}
 use Rattle.machine_spec.specs.Machine.{Machine, hart_of, is_ready}
 use Rattle.machine_spec.specs.Schedule.{record_of}
@@ -37,7 +38,7 @@ use Rattle.thunk_run.specs.Running.{IsRunOf}
 use Rattle.release_core.specs.Jobs.{IsJobOf}
 use Rattle.reach_spec.specs.Working.{ReexecutesLeast}
 use Rattle.reach_spec.proofs.ByWorkers.{reexecutes-alone}
-use Rattle.propagate.specs.Committing.{CanCommit}
+use Rattle.propagate.specs.Committing.{CanCommit, IsOfStep}
 use Rattle.propagate.specs.Executing.{executed_by, Costs, Spares, IsPartWay}
 use Rattle.propagate.proofs.Choosing.{pick-over}
 use Rattle.propagate.proofs.Keeping.{record_count, executed-more}
@@ -342,3 +343,12 @@ alone-reuses setup past w h is there unedited =
     subst (OnlyReuses h)
     (sym (is ∙ ap (lone_round setup) there ∙ ap (λ (s : Setup). lone_round s (Some h)) (sym unedited.same)))
     (unedited-reuses h unedited.honest)
+
+-- what is known of a step that is awaited, and can be committed where the round isn't finished and its thread is in flight
+pub awaited_commits :
+    (w : RoundState) (r : Record) (frame : Frame)
+    → IsInOrder w → frame ≡ w.machine.frame → IsOfStep w r → is_finished w ≡ false → is_in_flight w r.thread ≡ true
+    → CanCommit w frame r
+awaited_commits w r frame kept same own going in_flight =
+    let is = in_flight-commits w r.thread r kept in_flight going (own in_flight) in
+    record { going = is.going; same_frame = same; taken = is.taken; fit = is.fit }

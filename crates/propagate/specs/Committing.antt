@@ -4,6 +4,7 @@ use Rattle.std.specs.Arc.{arc_value}
 use Rattle.thunk_spec.specs.Thunk.{Frame}
 use Rattle.record_spec.specs.Record.{Record}
 use Rattle.machine_spec.specs.Step.{fits}
+use Rattle.machine_spec.specs.Schedule.{record_of}
 use Rattle.thunk_run.specs.declared.job.Run.{Run}
 use Rattle.round_spec.specs.declared.events.Event.TheVariants.{Commit, GiveBack}
 use Rattle.round_spec.specs.Rounds.{RoundState, is_finished, is_in_flight, taken_when, happens}
@@ -17,6 +18,10 @@ pub record CanCommit (w : RoundState) (frame : Frame) (r : Record) : Type 0 wher
   pub same_frame : frame ≡ w.machine.frame
   pub taken : is_in_flight w r.thread ≡ true
   pub fit : fits w.machine r ≡ true
+
+-- A record is the one of its thread's next step, if that step is in flight.
+abbrev pub IsOfStep : RoundState → Record → Type 0
+IsOfStep w r = is_in_flight w r.thread ≡ true → r ≡ record_of w.machine r.thread
 
 -- How long the schedule of a round was when a thread was taken, or is if the thread isn't in flight.
 abbrev pub picked_at : RoundState → ℕ → ℕ

@@ -10,7 +10,7 @@ ghost use Rattle.release_core.specs.Jobs.{IsJobOf};
 ghost use Rattle.round_spec.specs.declared.events.Event.TheVariants as event;
 ghost use Rattle.round_spec.specs.Rounds.{is_in_flight, can_take, can_reuse, happens};
 ghost use Rattle.propagate.specs.Appending.{trail, Appends};
-ghost use Rattle.propagate.specs.Committing.{CanCommit, Commits, GoesOn, entries_of, picked_at};
+ghost use Rattle.propagate.specs.Committing.{CanCommit, Commits, GoesOn, IsOfStep, entries_of, picked_at};
 ghost use Rattle.propagate.specs.Consistency.{IsValid};
 
 use super::marks::{is_in_place, marks_after, marks_if};
@@ -242,7 +242,47 @@ impl Round {
         ensures same { GoesOn (entries_of result) self.old self.new }
         ensures valid { IsValid self.old }
     {
-        if !self.can_commit(&run) {
+        let can = self.can_commit(&run);
+        self.commit_if(can, run)
+    }
+
+    /// Commits an executed step of this round, or says why it can't: the round is finished, or its thread isn't in flight.
+    /// If it is in flight, the record is the one of the step that was taken, so nothing is compared.
+    pub fn commit_taken(&mut self, run: Run) -> Committed
+        requires own { arc_value run.frame ≡ (first self.old.setup).frame }
+        requires of_step { IsOfStep self.old (arc_value run.rec) }
+        ensures does { Commits self.old run result self.new }
+        ensures same { GoesOn (entries_of result) self.old self.new }
+        ensures valid { IsValid self.old }
+    {
+        let can = self.is_awaited(&run);
+        self.commit_if(can, run)
+    }
+
+    /// Whether an executed step of this round can be committed.
+    #[tactic(auto, using(crate::proofs::Keeping::valid_consistent, crate::proofs::Executing::awaited_commits))]
+    fn is_awaited(&self, run: &Run) -> bool
+        requires own { arc_value run.now.frame ≡ (first self.now.setup).frame }
+        requires of_step { IsOfStep self.now (arc_value run.now.rec) }
+        ensures yes { OnTrue result
+            (CanCommit self.now (arc_value run.now.frame) (arc_value run.now.rec)) }
+        ensures no { OnFalse result
+            (CanCommit self.now (arc_value run.now.frame) (arc_value run.now.rec) → ⊥) }
+    {
+        !self.is_finished() && self.is_in_flight(run.rec.thread())
+    }
+
+    /// Commits an executed step that can be committed, and hands back one that can't.
+    fn commit_if(&mut self, can: bool, run: Run) -> Committed
+        requires yes { OnTrue can
+            (CanCommit self.old (arc_value run.frame) (arc_value run.rec)) }
+        requires no { OnFalse can
+            (CanCommit self.old (arc_value run.frame) (arc_value run.rec) → ⊥) }
+        ensures does { Commits self.old run result self.new }
+        ensures same { GoesOn (entries_of result) self.old self.new }
+        ensures valid { IsValid self.old }
+    {
+        if !can {
             self.discard(run.rec.thread());
             return Committed::Stale(run);
         }

@@ -2,4 +2,5 @@
 pub mod Following
 pub mod Made
 pub mod Numbers
+pub mod Issued
 pub mod Under

@@ -2,5 +2,6 @@
 pub mod Following
 pub mod Locking
 pub mod Passes
+pub mod Tickets
 pub mod Watching
 pub mod Making

@@ -17,15 +17,16 @@ ghost use Rattle.round_spec.specs.Unedited.{IsUnedited};
 ghost use Rattle.rerun_workers.specs.declared.locked.Task.TheVariants as task;
 ghost use Rattle.rerun_workers.specs.Making.{IsClosed, ComparesNone};
 ghost use Rattle.rerun_workers.specs.Passes.{held};
+ghost use Rattle.rerun_workers.specs.Tickets.{IsTicketFor, IsTicketed};
 ghost use Rattle.rerun_workers.specs.Locking.{BeginsIn, BeginsNothing, begun_by, IsReady, HandsBack, steps_by};
 
 use super::effort::Effort;
 use super::locked::{CommitOutcome, Locked, Task};
-use super::naming::{Naming, Pass};
+use super::naming::{Blanks, Naming, Pass};
 use super::watching::{Counter, Watch, WatchedRound};
 use propagate::Round;
 use std::alloc::{AllocError, Global};
-use std::sync::ledger::{Blank, Share};
+use std::sync::ledger::Share;
 use std::sync::{Condvar, Mutex, Wait};
 use std::thread::Threads;
 use thunk_run::{Job, Run};
@@ -228,23 +229,24 @@ impl<J: Naming> Board<J> {
         alloc: Global,
         round: Round,
         workers: u32,
-        blank: Blank,
+        blanks: Blanks,
     ) -> Result<(Board<J>, Vec<Pass<J>>), AllocError>
-        requires name { blank.name ≡ J.name }
-        requires parts { (blank.parts ≡ J.parts) × (J.parts ≡ workers) }
+        requires name { (blanks.blank.name ≡ J.name) × (blanks.tickets.book ≡ J.tickets) }
+        requires parts { (blanks.blank.parts ≡ J.parts) × (J.parts ≡ workers) }
         requires workers { workers ≡ J.workers }
         requires unwatched { J.watches ≡ 0 }
         requires opening { round ≡ opening J.setup J.past }
         ensures count { IfOk result (λ made. vec_len made.1 ≡ workers) }
         ensures nothing { IfOk result (λ made. All (λ pass. pass.steps ≡ 0) made.1.items) }
     {
+        let Blanks { blank, tickets } = blanks;
         let (book, all) = blank.open::<J>();
         let Places {
             passes,
             worker_steps,
             numbers,
         } = places_of(rt, alloc, all, workers, 0)?;
-        let locked = Locked::new(round, book, None);
+        let locked = Locked::new(round, book, None, tickets);
         Ok((Board::opened(locked, worker_steps, numbers), passes))
     }
 
@@ -260,10 +262,10 @@ impl<J: Naming> Board<J> {
         watched: WatchedRound,
         workers: u32,
         watches: u32,
-        blank: Blank,
+        blanks: Blanks,
     ) -> Result<(Board<J>, Vec<Pass<J>>, Vec<Watch<J>>), AllocError>
-        requires name { blank.name ≡ J.name }
-        requires parts { (blank.parts ≡ J.parts) × (J.parts ≡ workers) }
+        requires name { (blanks.blank.name ≡ J.name) × (blanks.tickets.book ≡ J.tickets) }
+        requires parts { (blanks.blank.parts ≡ J.parts) × (J.parts ≡ workers) }
         requires workers { (workers ≡ J.workers) × (watches ≡ J.watches) }
         requires table { (watched.counter.writer.table ≡ J.table)
             × (watched.counter.writer.added ≡ 0) }
@@ -273,6 +275,7 @@ impl<J: Naming> Board<J> {
         ensures nothing { IfOk result (λ made. All (λ pass. pass.steps ≡ 0) made.1.items) }
     {
         let WatchedRound { round, mut counter } = watched;
+        let Blanks { blank, tickets } = blanks;
         let (book, all) = blank.open::<J>();
         let (places, seats) = watched_places(rt, alloc, all, &mut counter, workers, watches)?;
         let Places {
@@ -280,7 +283,7 @@ impl<J: Naming> Board<J> {
             worker_steps,
             numbers,
         } = places;
-        let locked = Locked::new(round, book, Some(counter));
+        let locked = Locked::new(round, book, Some(counter), tickets);
         Ok((Board::opened(locked, worker_steps, numbers), passes, seats))
     }
 
@@ -309,8 +312,8 @@ impl<J: Naming> Board<J> {
     }
 
     /// What a worker is to do next, as the round under the lock tells it. Where it is told to hold, it waits until it
-    /// is woken, and asks again. A step to execute has the page map and the fuel of the round's setup. Without an edit
-    /// it is never one.
+    /// is woken, and asks again. A step to execute has the page map and the fuel of the round's setup, and the worker a
+    /// ticket for it. Without an edit it is never one.
     ///
     /// Who is told to begin a step wakes nobody, since a short one is done before another worker could begin what else
     /// there is to do, and whoever has done it asks again. Whose step runs long wakes another worker then, if there is
@@ -326,6 +329,7 @@ impl<J: Naming> Board<J> {
         ensures taken { pass.new.taken.number ≡ pass.old.taken.number + begun_by result }
         ensures ready { IsReady result
             (pass.new.ran.number + held pass.new.begun) pass.new.taken.number }
+        ensures ticket { IsTicketFor pass.new.ticket result }
     {
         let mut locked = self.lock.lock(rt);
         for _ in rt.forever() {
@@ -354,11 +358,25 @@ impl<J: Naming> Board<J> {
         }
     }
 
-    /// Commits a run of one of the round's own steps to the round under the lock, or says why it can't. It ran with the
-    /// round's page map and fuel, so that isn't asked. Who commits asks for the next step then; where memory ran out
-    /// nobody has to ask, and all are woken.
+    /// Commits a run to the round under the lock, or says why it can't. It ran with the round's page map and fuel, so that
+    /// isn't asked.
     pub fn commit<R: Wait>(&self, rt: &R, pass: &mut Pass<J>, run: Run) -> CommitOutcome
         requires own { arc_value run.frame ≡ (first J.setup).frame }
+        ensures back { HandsBack run result }
+        ensures counts { pass.new.steps ≡ pass.old.steps + steps_by result }
+        ensures handed { pass.new.handed.number ≡ pass.old.handed.number + 1 }
+        ensures taken { pass.new.taken.number ≡ pass.old.taken.number }
+    {
+        pass.ticket = None;
+        self.commit_begun(rt, pass, run)
+    }
+
+    /// Commits a run of the last step that this worker was told to begin, as `commit` does. Of a worker that has the step's
+    /// ticket nothing is compared. Who commits asks for the next step then; where memory ran out nobody has to ask, and all
+    /// are woken.
+    pub fn commit_begun<R: Wait>(&self, rt: &R, pass: &mut Pass<J>, run: Run) -> CommitOutcome
+        requires own { arc_value run.frame ≡ (first J.setup).frame }
+        requires ticketed { IsTicketed pass.old.ticket run }
         ensures back { HandsBack run result }
         ensures counts { pass.new.steps ≡ pass.old.steps + steps_by result }
         ensures handed { pass.new.handed.number ≡ pass.old.handed.number + 1 }
@@ -441,6 +459,7 @@ impl<J: Naming> Board<J> {
             round,
             mut book,
             counter,
+            ..
         } = lock.into_inner();
         let (mut all, worker_steps, effort) = gather(passes, worker_steps);
         book.audit(&mut all);

@@ -5,6 +5,7 @@
 //! and one of compared pages, and can't make others.
 #![tactic(auto)]
 
+mod begun;
 mod board;
 mod effort;
 mod locked;
@@ -17,7 +18,7 @@ mod working;
 pub use board::{Board, ClosedRound};
 pub use effort::Effort;
 pub use locked::{CommitOutcome, Locked, Task};
-pub use naming::{Naming, Pass};
+pub use naming::{Blanks, Naming, Pass};
 pub use running::{run_round, run_round_watched};
 pub use watching::{Counter, Watch, WatchedRound};
 pub use working::work;

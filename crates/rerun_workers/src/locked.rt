@@ -12,12 +12,13 @@ ghost use Rattle.round_spec.specs.Rounds.{opening, can_take, can_reuse, happens}
 ghost use Rattle.round_spec.specs.Choice.{pick_of};
 ghost use Rattle.round_spec.specs.Unedited.{IsUnedited};
 ghost use Rattle.propagate.specs.Choosing.{is_something};
-ghost use Rattle.propagate.specs.Committing.{GoesOn};
+ghost use Rattle.propagate.specs.Committing.{Commits, GoesOn, entries_of};
 ghost use Rattle.propagate.specs.Consistency.{IsValid};
 ghost use Rattle.rerun_workers.specs.Following.{FollowsPicks};
 ghost use Rattle.std.proofs.Props.{props};
 ghost use Rattle.rerun_workers.specs.Watching.{IsCounting};
 ghost use Rattle.rerun_workers.specs.Passes.{held};
+ghost use Rattle.rerun_workers.specs.Tickets.{AreIssued, IsLastOf, IsNamed, IsTicketFor, IsTicketed};
 ghost use Rattle.rerun_workers.specs.Locking.{Tells, TellsAfter, BeginsIn, BeginsNothing, begun_by, IsReady, given_up, Lands, HandsBack, steps_by, Counts};
 
 use super::naming::{Naming, Pass};
@@ -27,6 +28,7 @@ use round_spec::Pick;
 use std::alloc::AllocError;
 use std::sync::ledger::Book;
 use thunk_run::{Job, Run};
+use tickets::{Ticket, Tickets};
 
 /// What a worker is to do next.
 #[derive(Drop)]
@@ -56,20 +58,22 @@ pub enum CommitOutcome {
 }
 
 /// The round that workers make together, as it lies under their lock, with the book of the ledger, whose total is the
-/// length of the schedule. Where anybody watches it, a word that he may read without the lock is that length too. It is
-/// of the setup and of the history that its type names, and nothing was begun in it but what was picked: by a sound
+/// length of the schedule, and with who issues tickets for the steps that are taken. Where anybody watches it, a word that
+/// he may read without the lock is that length too. It is of the setup and of the history that its type names, and nothing was begun in it but what was picked: by a sound
 /// history all of it was picked rightly, and without an edit it has done nothing yet but what the history did.
 #[derive(Drop)]
 pub struct Locked<J: Naming> {
     pub(super) round: Round,
     pub(super) book: Book<J>,
     pub(super) counter: Option<Counter>,
+    pub(super) tickets: Tickets,
     ghost counted: { length round.schedule ≡ book.total },
     ghost watched: { IsCounting J.table (length round.schedule) counter } by { Prim.hlevel props },
     ghost counts: { 0 < J.watches → is_some counter ≡ true },
     ghost setup: { round.setup ≡ J.setup },
     ghost past: { round.past ≡ J.past },
     ghost follows: { FollowsPicks J.setup J.past round },
+    ghost issued: { AreIssued J.tickets round tickets },
 }
 
 /// Discards the step of thread `t`, if one is in flight.
@@ -93,6 +97,35 @@ fn give_up(round: &mut Round, t: u8)
     round.stop();
 }
 
+/// Whether a ticket is the last one of thread `t`.
+fn is_last(tickets: &Tickets, ticket: &Option<Ticket>, t: u8) -> bool
+    requires named { IsNamed tickets.now.book ticket.now }
+    ensures { result ≡ true → IsLastOf tickets.now t ticket.now }
+{
+    match ticket {
+        Some(ticket) => tickets.is_last(ticket, t),
+        None => false,
+    }
+}
+
+/// Commits a run to the round for whose steps these tickets are issued. If its ticket is the last one of its thread, nothing
+/// is compared.
+#[tactic(auto, using(crate::proofs::Issued::last_step))]
+fn commit(round: &mut Round, tickets: &Tickets, ticket: Option<Ticket>, run: Run) -> Committed
+    requires own { arc_value run.frame ≡ (first round.old.setup).frame }
+    requires issued { AreIssued tickets.now.book round.old tickets.now }
+    requires named { IsNamed tickets.now.book ticket }
+    requires ticketed { IsTicketed ticket run }
+    ensures does { Commits round.old run result round.new }
+    ensures same { GoesOn (entries_of result) round.old round.new }
+    ensures valid { IsValid round.old }
+{
+    if is_last(tickets, &ticket, run.rec.thread()) {
+        return round.commit_taken(run);
+    }
+    round.commit_own(run)
+}
+
 /// Counts one step more, if anybody may watch.
 fn count(counter: &mut Option<Counter>)
     requires { IfSome counter.old (λ c. c.writer.added < MOST_STEPS) }
@@ -107,19 +140,26 @@ fn count(counter: &mut Option<Counter>)
 }
 
 impl<J: Naming> Locked<J> {
-    /// A round before its first step, with a book that counts nothing, and with a word that doesn't either if anybody
-    /// watches.
+    /// A round before its first step, with a book that counts nothing, with a word that doesn't either if anybody watches,
+    /// and with who issues its tickets.
     #[tactic(auto, using(crate::proofs::Following::follows_opening))]
-    pub(super) fn new(round: Round, book: Book<J>, counter: Option<Counter>) -> Locked<J>
+    pub(super) fn new(
+        round: Round,
+        book: Book<J>,
+        counter: Option<Counter>,
+        tickets: Tickets,
+    ) -> Locked<J>
         requires opening { round ≡ opening J.setup J.past }
         requires empty { book.total ≡ 0 }
         requires watched { IsCounting J.table 0 counter }
         requires counts { 0 < J.watches → is_some counter ≡ true }
+        requires named { tickets.book ≡ J.tickets }
     {
         Locked {
             round,
             book,
             counter,
+            tickets,
         }
     }
 
@@ -139,6 +179,7 @@ impl<J: Naming> Locked<J> {
             round,
             book,
             counter,
+            ..
         } = self;
         let Pass { share, steps, .. } = pass;
         book.audit(share);
@@ -158,8 +199,9 @@ impl<J: Naming> Locked<J> {
         round.stop();
     }
 
-    /// Takes the step that is picked to be executed.
-    fn begin(&mut self, t: u8) -> Task
+    /// Takes the step that is picked to be executed, and issues a ticket for it.
+    fn begin(&mut self, ticket: &mut Option<Ticket>, t: u8) -> Task
+        requires named { IsNamed J.tickets ticket.old }
         requires picked { pick_of self.old.round ≡ pick.Run t }
         requires can { can_take self.old.round t ≡ true }
         ensures does { TellsAfter self.old.round result self.new.round }
@@ -167,10 +209,15 @@ impl<J: Naming> Locked<J> {
         ensures own { BeginsIn (first J.setup).frame result }
         ensures unedited { (h : History) → J.past ≡ Some h → IsUnedited h J.setup
             → BeginsNothing result }
+        ensures named { IsNamed J.tickets ticket.new }
+        ensures ticket { IsTicketFor ticket.new result }
     {
-        let Locked { round, .. } = self;
+        let Locked { round, tickets, .. } = self;
         match round.take(t) {
-            Ok(job) => Task::Begin(job),
+            Ok(job) => {
+                *ticket = tickets.issue(&job);
+                Task::Begin(job)
+            }
             Err(_) => {
                 round.stop();
                 Task::Memory
@@ -181,7 +228,7 @@ impl<J: Naming> Locked<J> {
     /// Reuses records as long as that is picked, each as a step of this worker, and then takes the step
     /// that is picked to be executed, or tells what is picked in its place. Where memory runs out, what
     /// was reused stands, and the round is stopped. A step to execute has the page map and the fuel of the round's
-    /// setup. Without an edit it is never one.
+    /// setup, and the worker has a ticket for it. Without an edit it is never one.
     pub fn next(&mut self, pass: &mut Pass<J>) -> Task
         ensures does { Tells self.old.round result self.new.round }
         ensures own { BeginsIn (first J.setup).frame result }
@@ -193,6 +240,7 @@ impl<J: Naming> Locked<J> {
         ensures taken { pass.new.taken.number ≡ pass.old.taken.number + begun_by result }
         ensures ready { IsReady result
             (pass.new.ran.number + held pass.new.begun) pass.new.taken.number }
+        ensures ticket { IsTicketFor pass.new.ticket result }
     {
         pass.asked.raise(1);
         loop {
@@ -204,7 +252,7 @@ impl<J: Naming> Locked<J> {
                     };
                 }
                 Pick::Run(t) => {
-                    let task = self.begin(t);
+                    let task = self.begin(&mut pass.ticket, t);
                     if matches!(task, Task::Begin(_)) {
                         pass.taken.raise(1);
                     }
@@ -224,9 +272,11 @@ impl<J: Naming> Locked<J> {
     }
 
     /// Commits a run, which had the page map and the fuel of the round's setup, and counts it as a step of this worker;
-    /// or says why it can't.
+    /// or says why it can't. If the worker has a ticket, the run is of its job; if that is the last ticket of its thread, the
+    /// step is the one that was taken, and nothing is compared.
     pub fn commit(&mut self, pass: &mut Pass<J>, run: Run) -> CommitOutcome
         requires own { arc_value run.frame ≡ (first J.setup).frame }
+        requires ticketed { IsTicketed pass.old.ticket run }
         ensures does { Lands self.old.round run result self.new.round }
         ensures back { HandsBack run result }
         ensures made { pass.new.steps ≡ pass.old.steps + steps_by result }
@@ -238,16 +288,18 @@ impl<J: Naming> Locked<J> {
             round,
             book,
             counter,
+            tickets,
         } = self;
         let Pass {
             share,
             steps,
             handed,
+            ticket,
             ..
         } = pass;
         handed.raise(1);
         book.audit(share);
-        match round.commit_own(run) {
+        match commit(round, tickets, ticket.take(), run) {
             Committed::Done => {
                 book.add(share, 1);
                 *steps += 1;

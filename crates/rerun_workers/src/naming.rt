@@ -2,23 +2,28 @@
 
 ghost use Rattle.std.specs.Prelude.{◌≡◌, ◌+◌, ◌≤◌, ℕ, [], Option, None, Some};
 ghost use Rattle.std.specs.Arc.{arc_value};
+ghost use Rattle.std.proofs.Props.{props};
 ghost use Rattle.machine_spec.specs.Setup.{Setup, first};
 ghost use Rattle.history_spec.specs.History.{History};
 ghost use Rattle.round_spec.specs.Unedited.{IsUnedited};
-ghost use Rattle.thunk_run.specs.declared.job.Job.{Job as Begun};
+ghost use Rattle.rerun_workers.specs.declared.begun.Begun.{Begun as StepBegun};
 ghost use Rattle.atomic_table.specs.Seated.{TableId};
+ghost use Rattle.logbook.specs.Pages.{Book};
 ghost use Rattle.progress_word.specs.Views.{no_table};
+ghost use Rattle.tickets.specs.Views.{no_book};
 ghost use Rattle.rerun_workers.specs.Making.{ComparesNone};
 ghost use Rattle.rerun_workers.specs.Passes.{held};
+ghost use Rattle.rerun_workers.specs.Tickets.{IsNamed};
 
+use super::begun::Begun;
 use super::effort::Effort;
 use std::marker::Brand;
-use std::sync::ledger::{Ledger, Share};
-use thunk_run::Job;
+use std::sync::ledger::{Blank, Ledger, Share};
+use tickets::{Ticket, Tickets};
 use turn_count::Tally;
 
-/// What the round of a board started from, what it goes by, how many workers make it, how many watch it, and by which
-/// word. The types of the board, of its passes and of its watches name it, so nobody can put a round of another setup or
+/// What the round of a board started from, what it goes by, how many workers make it, how many watch it, by which word,
+/// and by which tickets it knows its steps. The types of the board, of its passes and of its watches name it, so nobody can put a round of another setup or
 /// of another history in its place, or watch another round.
 pub trait Naming: Ledger {
     ghost setup: { Setup };
@@ -30,6 +35,8 @@ pub trait Naming: Ledger {
     ghost watches: { ℕ };
 
     ghost table: { TableId };
+
+    ghost tickets: { Book };
 }
 
 impl Naming for Brand {
@@ -42,12 +49,36 @@ impl Naming for Brand {
     ghost watches = { 0 };
 
     ghost table = { no_table };
+
+    ghost tickets = { no_book };
+}
+
+/// What a board is made with, beside its round, and its type names: the blank of its ledger, and who issues its tickets.
+#[derive(Drop)]
+pub struct Blanks {
+    /// The blank.
+    pub blank: Blank,
+    /// Who issues the tickets.
+    pub tickets: Tickets,
+}
+
+impl Blanks {
+    /// What a board of so many workers is made with.
+    pub fn new(workers: u32) -> Blanks
+        ensures { result.blank.parts ≡ workers }
+    {
+        Blanks {
+            blank: Blank::new(u64::from(workers)),
+            tickets: Tickets::new(),
+        }
+    }
 }
 
 /// What a worker holds of a board: how many steps of the round it has made, which its share of the ledger counts too; a
-/// step that was begun for it before it set to work, if there is one; and its effort: without an edit it executes no turn
-/// and, by any history that holds together, compares no page. Four tallies count how often it asked what to do, was told
-/// to begin a step, executed one, and handed one in.
+/// step that was begun for it before it set to work, if there is one; the ticket of the last step that it was told to
+/// begin, until it hands that in; and its effort: without an edit it executes no turn and, by any history that holds
+/// together, compares no page. Four tallies count how often it asked what to do, was told to begin a step, executed one,
+/// and handed one in.
 #[derive(Drop)]
 pub struct Pass<J: Naming> {
     pub(super) share: Share<J>,
@@ -57,11 +88,14 @@ pub struct Pass<J: Naming> {
     pub(super) ran: Tally,
     pub(super) handed: Tally,
     pub(super) steps: u64,
-    pub(super) begun: Option<Job>,
+    pub(super) begun: Option<Begun>,
+    pub(super) ticket: Option<Ticket>,
     ghost one: { share.parts ≡ 1 },
     ghost counted: { steps ≡ share.amount },
-    ghost own: { (job : Begun) → begun ≡ Some job → arc_value job.frame ≡ (first J.setup).frame },
-    ghost edited: { (job : Begun) → begun ≡ Some job → (h : History) → J.past ≡ Some h → IsUnedited h J.setup → ⊥ },
+    ghost own: { (b : StepBegun) → begun ≡ Some b → arc_value b.job.frame ≡ (first J.setup).frame },
+    ghost named: { (b : StepBegun) → begun ≡ Some b → IsNamed J.tickets b.ticket } by { Prim.hlevel props },
+    ghost ticketed: { IsNamed J.tickets ticket } by { Prim.hlevel props },
+    ghost edited: { (b : StepBegun) → begun ≡ Some b → (h : History) → J.past ≡ Some h → IsUnedited h J.setup → ⊥ },
     ghost once: { ran.number + held begun ≤ taken.number },
     ghost idle: { (h : History) → J.past ≡ Some h → IsUnedited h J.setup → effort.turns ≡ 0 },
     ghost spares: { ComparesNone J.setup J.past effort.compared },
@@ -84,6 +118,7 @@ impl<J: Naming> Pass<J> {
             handed: Tally::none(),
             steps: 0,
             begun: None,
+            ticket: None,
         }
     }
 

@@ -10,7 +10,7 @@ ghost use Rattle.rerun_workers.specs.Making.{IsRoundBy, IsClosed, IsCostOf, Comp
 
 use super::board::{Board, ClosedRound};
 use super::effort::Effort;
-use super::naming::Naming;
+use super::naming::{Blanks, Naming};
 use super::watched::run_watched;
 use super::watching::{Counter, WatchedRound};
 use super::working::work_together;
@@ -19,7 +19,6 @@ use propagate::{Round, run_alone_shown};
 use release_core::{History, Setup};
 use std::alloc::{AllocError, Global};
 use std::marker::Brand;
-use std::sync::ledger::Blank;
 use std::sync::{Arc, Wait};
 use std::thread::Threads;
 
@@ -107,10 +106,10 @@ fn run_together<J: Naming + Send + Sync, R: Threads + Wait + Sync, G: Gate + Syn
     round: Round,
     workers: u32,
     gate: &G,
-    blank: Blank,
+    blanks: Blanks,
 ) -> Result<ClosedRound, AllocError>
-    requires name { blank.name ≡ J.name }
-    requires parts { (blank.parts ≡ J.parts) × (J.parts ≡ workers) }
+    requires name { (blanks.blank.name ≡ J.name) × (blanks.tickets.book ≡ J.tickets) }
+    requires parts { (blanks.blank.parts ≡ J.parts) × (J.parts ≡ workers) }
     requires workers { (workers ≡ J.workers) × (1 ≤ workers) }
     requires unwatched { J.watches ≡ 0 }
     requires opening { round ≡ opening J.setup J.past }
@@ -119,7 +118,7 @@ fn run_together<J: Naming + Send + Sync, R: Threads + Wait + Sync, G: Gate + Syn
         r.effort.turns r.effort.compared) }
     ensures each { IfOk result (λ r. length r.worker_steps.items ≡ workers) }
 {
-    let (board, mut passes) = Board::<J>::new(rt, alloc, round, workers, blank)?;
+    let (board, mut passes) = Board::<J>::new(rt, alloc, round, workers, blanks)?;
     work_together(rt, alloc, &board, passes.as_mut_slice(), gate);
     Ok(board.close(passes))
 }
@@ -162,7 +161,7 @@ pub fn run_round<R: Threads + Wait + Sync, G: Gate + Sync>(
         opened,
         workers,
         gate,
-        Blank::new(u64::from(workers)),
+        Blanks::new(workers),
     )?;
     if worked.round.end().is_some() {
         return Ok(worked);
@@ -214,7 +213,7 @@ pub fn run_round_watched<R: Threads + Wait + Sync, G: Gate + Sync>(
         },
         workers,
         gate,
-        Blank::new(u64::from(workers)),
+        Blanks::new(workers),
     )?;
     if worked.round.end().is_some() {
         return Ok((worked, numbers));

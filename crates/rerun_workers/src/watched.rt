@@ -9,14 +9,13 @@ ghost use Rattle.round_spec.specs.Rounds.{opening};
 ghost use Rattle.rerun_workers.specs.Making.{IsClosed};
 
 use super::board::{Board, ClosedRound};
-use super::naming::{Naming, Pass};
+use super::naming::{Blanks, Naming, Pass};
 use super::watching::{Watch, WatchedRound, note, watch_round};
 use super::working::work_together;
 use ith_host::Gate;
 use std::alloc::{AllocError, Global};
 use std::sync::Wait;
 use std::sync::atomic::{AtomicBool, Ordering};
-use std::sync::ledger::Blank;
 use std::thread::{Threads, join};
 use worker_spec::MOST_LOOKS;
 
@@ -83,10 +82,10 @@ pub(super) fn run_watched<J: Naming + Send + Sync, R: Threads + Wait + Sync, G: 
     watched: WatchedRound,
     workers: u32,
     gate: &G,
-    blank: Blank,
+    blanks: Blanks,
 ) -> Result<(ClosedRound, Vec<u64>), AllocError>
-    requires name { blank.name ≡ J.name }
-    requires parts { (blank.parts ≡ J.parts) × (J.parts ≡ workers) }
+    requires name { (blanks.blank.name ≡ J.name) × (blanks.tickets.book ≡ J.tickets) }
+    requires parts { (blanks.blank.parts ≡ J.parts) × (J.parts ≡ workers) }
     requires workers { (workers ≡ J.workers) × (1 ≤ workers) }
     requires watches { J.watches ≡ 1 }
     requires table { (watched.counter.writer.table ≡ J.table) × (watched.counter.writer.added ≡ 0) }
@@ -101,7 +100,7 @@ pub(super) fn run_watched<J: Naming + Send + Sync, R: Threads + Wait + Sync, G: 
 {
     let (numbers, mut watches) = room_to_watch(alloc)?;
     let (board, passes, mut seats) = Board::<J>::with_watches(
-        rt, alloc, watched, workers, 1, blank,
+        rt, alloc, watched, workers, 1, blanks,
     )?;
     let seat = seats.remove(0);
     let (seat, mut numbers, passes) = work_watched(rt, &board, passes, gate, seat, numbers);

@@ -8,8 +8,10 @@ ghost use Rattle.round_spec.specs.Unedited.{IsUnedited};
 ghost use Rattle.thunk_run.specs.Running.{IsRunOf};
 ghost use Rattle.rerun_workers.specs.declared.locked.Task.TheVariants as task;
 ghost use Rattle.rerun_workers.specs.Passes.{held};
+ghost use Rattle.rerun_workers.specs.Tickets.{IsTicketFor, IsTicketOf};
 ghost use Rattle.rerun_workers.specs.Locking.{BeginsIn, BeginsNothing, IsReady};
 
+use super::begun::Begun;
 use super::board::Board;
 use super::locked::{CommitOutcome, Task};
 use super::naming::{Naming, Pass};
@@ -47,6 +49,7 @@ fn run_job<J: Naming, W: Watch>(
     ensures cost { IfOk result (λ run. pass.new.effort.turns
         ≡ pass.old.effort.turns + (arc_value run.rec).kept.count) }
     ensures same { pass.new.steps ≡ pass.old.steps }
+    ensures ticket { pass.new.ticket ≡ pass.old.ticket }
 {
     let Pass { effort, ran, .. } = pass;
     ran.raise(1);
@@ -65,12 +68,13 @@ fn make_step<J: Naming, R: Wait, G: Gate>(
     requires own { arc_value job.frame ≡ (first J.setup).frame }
     requires edited { (h : History) → J.past ≡ Some h → IsUnedited h J.setup → ⊥ }
     requires ready { pass.old.ran.number + held pass.old.begun < pass.old.taken.number }
+    requires ticket { IsTicketOf pass.old.ticket job }
     ensures never_lower { pass.old.steps ≤ pass.new.steps }
 {
     gate.enter(job.thread, job.number);
     match run_job(alloc, &job, pass, &Sharing { rt, board }) {
         Ok(run) => {
-            match board.commit(rt, pass, run) {
+            match board.commit_begun(rt, pass, run) {
                 CommitOutcome::Done => {
                     gate.made(1, false);
                     true
@@ -100,6 +104,7 @@ fn next_task<J: Naming, R: Wait, G: Gate>(
         → BeginsNothing result }
     ensures ready { IsReady result
         (pass.new.ran.number + held pass.new.begun) pass.new.taken.number }
+    ensures ticket { IsTicketFor pass.new.ticket result }
 {
     let before = pass.steps();
     let task = board.next(rt, pass);
@@ -127,7 +132,8 @@ pub(super) fn make_unshared<J: Naming, R: Wait, G: Gate>(
             return false;
         };
         if board.has_more(rt) {
-            pass.begun = Some(job);
+            let ticket = pass.ticket.take();
+            pass.begun = Some(Begun { job, ticket });
             return true;
         }
         if !make_step(rt, alloc, board, pass, gate, job) {
@@ -150,7 +156,8 @@ pub fn work<J: Naming, R: Wait, G: Gate>(
 )
     ensures never_lower { pass.old.steps ≤ pass.new.steps }
 {
-    if let Some(job) = pass.begun.take() {
+    if let Some(Begun { job, ticket }) = pass.begun.take() {
+        pass.ticket = ticket;
         if !make_step(rt, alloc, board, pass, gate, job) {
             return;
         }

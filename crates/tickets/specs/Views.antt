@@ -23,6 +23,10 @@ pub record TicketsView : Type 0 where
 abbrev pub head_of : Book → Named
 head_of b = record { tracked = true; key = 0; book = b }
 
+-- The name of no book.
+abbrev pub no_book : Book
+no_book = record { number = 0; log_name = 0; cells_name = 0 }
+
 -- The job at a number in a log, if there is a number.
 abbrev pub job_at : List Job → Option ℕ → Option Job
 job_at jobs None = None
@@ -36,6 +40,10 @@ job_of (Some ticket) = ticket.job
 abbrev pub number_of : Option TicketView → Option ℕ
 number_of None = None
 number_of (Some ticket) = Some ticket.number
+
+-- A ticket is the last one of a thread: there is a job that both are for.
+abbrev pub IsLast : TicketsView → ℕ → TicketView → Type 0
+IsLast tickets t ticket = (job : Job) × (ticket.job ≡ Some job) × (slice_get tickets.jobs t ≡ Some (Some job))
 
 -- No thread has a number.
 unfoldable pub no_numbers : List (Option ℕ)

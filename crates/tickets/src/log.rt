@@ -17,7 +17,7 @@ pub struct Ticket {
 }
 
 impl Model for Ticket {
-    ghost use Rattle.std.specs.Prelude.{slice_get};
+    ghost use Rattle.std.specs.Prelude.{◌≡◌, true, is_some, slice_get};
     ghost use Rattle.tickets.specs.Views.{TicketView};
 
     ghost Value = { TicketView };
@@ -27,6 +27,8 @@ impl Model for Ticket {
       number = t.number;
       job = slice_get t.seen.log t.number;
     } };
+
+    ghost invariant = { λ t. is_some (slice_get t.seen.log t.number) ≡ true };
 }
 
 /// The log, as who alone appends to it sees it.

@@ -1,8 +1,7 @@
 //! Who issues tickets.
 
-ghost use Rattle.std.specs.Prelude.{◌≡◌, true, Some, None, replicate, option_map, slice_get, slice_set, IfSome};
-ghost use Rattle.thunk_run.specs.declared.job.Job.{Job as Issued};
-ghost use Rattle.tickets.specs.Views.{no_numbers, job_of, number_of};
+ghost use Rattle.std.specs.Prelude.{◌≡◌, true, Some, None, replicate, slice_set, IfSome};
+ghost use Rattle.tickets.specs.Views.{no_numbers, job_of, number_of, IsLast};
 
 use super::log::{Log, Ticket};
 use guest_call::THREADS;
@@ -86,8 +85,7 @@ impl Tickets {
     /// Whether a ticket is the last one of thread `t`.
     pub fn is_last(&self, ticket: &Ticket, t: u8) -> bool
         requires book { ticket.now.book ≡ self.now.book }
-        ensures { (job : Issued) → result ≡ true → ticket.now.job ≡ Some job
-            → slice_get self.now.jobs t ≡ Some (Some job) }
+        ensures { result ≡ true → IsLast self.now t ticket.now }
     {
         self.log.agree(ticket);
         match self.last.get(usize::from(t)) {

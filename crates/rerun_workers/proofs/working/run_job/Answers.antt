@@ -8,6 +8,8 @@ invariant_of-pass g c =
       one = c.args.pass.now.one;
       counted = c.args.pass.now.counted;
       own = c.args.pass.now.own;
+      named = c.args.pass.now.named;
+      ticketed = c.args.pass.now.ticketed;
       edited = c.args.pass.now.edited;
       once = let ready = c.requires.ready in let one = c.raise.ensures in omega (arith, ready, one);
       idle = λ h past unedited. absurd (c.requires.edited h past unedited);

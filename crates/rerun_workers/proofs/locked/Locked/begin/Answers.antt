@@ -5,6 +5,7 @@ use Rattle.round_spec.specs.declared.events.Event.TheVariants.{Stop}
 use Rattle.round_spec.specs.Rounds.{RoundState, happens}
 use Rattle.rerun_workers.proofs.Under.{counted_on, watched_on}
 use Rattle.rerun_workers.proofs.Following.{follows-take, follows-stop, never-begins}
+use Rattle.rerun_workers.proofs.Issued.{issued-take, issued-stop}
 use Rattle.rerun_workers.proofs.locked.Locked.begin.Goals as goal
 
 pub invariant_of-self : goal.invariant_of-self
@@ -25,6 +26,10 @@ invariant_of-self g c =
             follows = c.args.self.now.follows;
           })
           c.requires.picked c.in-Ok.ensures.ok;
+      issued =
+          issued-take g.J.Naming.tickets c.args.self.now.round c.take.new.self c.args.t c.in-Ok.job c.issue.result
+          c.args.self.now.tickets c.issue.new.self c.in-Ok.ensures.ok c.in-Ok.ensures.job c.issue.ensures.book
+          c.issue.ensures.job c.issue.ensures.last c.args.self.now.issued;
     }
 
 pub invariant_of-self-in-Err : goal.invariant_of-self-in-Err
@@ -47,6 +52,10 @@ invariant_of-self-in-Err g c =
             follows = c.args.self.now.follows;
           })
           (c.stop.ensures.event ∙ ap (λ (w : RoundState). happens w Stop) c.in-Err.ensures.err);
+      issued =
+          issued-stop g.J.Naming.tickets c.args.self.now.round c.stop.new.self c.args.self.now.tickets
+          c.take.ensures.valid.in_order
+          (c.stop.ensures.event ∙ ap (λ (w : RoundState). happens w Stop) c.in-Err.ensures.err) c.args.self.now.issued;
     }
 
 pub returns-in-Ok-clause-unedited : goal.returns-in-Ok-clause-unedited

@@ -2,6 +2,7 @@
 use Rattle.std.proofs.Common.{◌∙◌}
 use Rattle.rerun_workers.proofs.Under.{counted_on, watched_on}
 use Rattle.rerun_workers.proofs.Following.{follows-given_up}
+use Rattle.rerun_workers.proofs.Issued.{issued-given_up}
 use Rattle.rerun_workers.proofs.locked.Locked.fail.Goals as goal
 
 pub invariant_of-self : goal.invariant_of-self
@@ -22,4 +23,7 @@ invariant_of-self g c =
             follows = c.args.self.now.follows;
           })
           c.give_up.ensures.events;
+      issued =
+          issued-given_up g.J.Naming.tickets c.args.self.now.round c.give_up.new.round c.args.job.now.thread
+          c.args.self.now.tickets c.give_up.ensures.valid.in_order c.give_up.ensures.events c.args.self.now.issued;
     }

@@ -2,6 +2,7 @@
 use Rattle.std.proofs.Common.{rules, ◌∙◌}
 use Rattle.rerun_workers.proofs.Under.{watched_more}
 use Rattle.rerun_workers.proofs.Following.{follows-reuse}
+use Rattle.rerun_workers.proofs.Issued.{issued-reuse}
 use Rattle.rerun_workers.proofs.locked.Locked.reuse.Goals as goal
 
 pub invariant_of-self-2 : goal.invariant_of-self-2
@@ -22,4 +23,7 @@ invariant_of-self-2 g c =
             follows = c.args.self.now.follows;
           })
           c.requires.picked c.in_ok-reuse.ensures.ok;
+      issued =
+          issued-reuse g.J.Naming.tickets c.args.self.now.round c.reuse.new.self c.args.t c.args.self.now.tickets
+          c.reuse.ensures.valid.in_order c.in_ok-reuse.ensures.ok c.args.self.now.issued;
     }

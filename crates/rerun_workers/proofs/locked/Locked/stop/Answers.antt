@@ -2,6 +2,7 @@
 use Rattle.std.proofs.Common.{◌∙◌}
 use Rattle.rerun_workers.proofs.Under.{counted_on, watched_on}
 use Rattle.rerun_workers.proofs.Following.{follows-stop}
+use Rattle.rerun_workers.proofs.Issued.{issued-stop}
 use Rattle.rerun_workers.proofs.locked.Locked.stop.Goals as goal
 
 pub invariant_of-self : goal.invariant_of-self
@@ -22,4 +23,7 @@ invariant_of-self g c =
             follows = c.args.self.now.follows;
           })
           c.stop.ensures.event;
+      issued =
+          issued-stop g.J.Naming.tickets c.args.self.now.round c.stop.new.self c.args.self.now.tickets
+          c.stop.ensures.valid.in_order c.stop.ensures.event c.args.self.now.issued;
     }
