@@ -4,16 +4,17 @@ ghost use Rattle.std.specs.Prelude.{◌≡◌, ◌<◌, IfOk};
 ghost use Rattle.std.specs.Arc.{arc_value};
 ghost use Rattle.machine_spec.specs.Setup.{first};
 ghost use Rattle.round_spec.specs.Rounds.{opening};
+ghost use Rattle.thunk_run.specs.Running.{IsRunOf};
+ghost use Rattle.rerun_workers.specs.Tickets.{IsTicketOf, IsTicketed};
 
 use super::fixtures::{is_round, setup};
 use ith_host::{Gate, OpenGate};
 use propagate::Round;
-use rerun_workers::{Board, ClosedRound, CommitOutcome, Naming, Pass, Task, run_round};
+use rerun_workers::{Blanks, Board, ClosedRound, CommitOutcome, Naming, Pass, Task, run_round};
 use std::alloc::{AllocError, Global};
 use std::marker::Brand;
 use std::process::Abort;
 use std::sync::atomic::{AtomicU64, Ordering};
-use std::sync::ledger::Blank;
 use std::sync::{Arc, Wait};
 use std::test::Fail;
 use std::thread::Threads;
@@ -27,9 +28,10 @@ fn opened(alloc: Global, fuel: u32) -> Result<Round, Fail>
     Ok(Round::new(alloc, setup(alloc, fuel)?, None)?)
 }
 
-/// The step that a worker is told to execute.
+/// The step that a worker is told to execute, for which it has a ticket then.
 fn begun<J: Naming, R: Wait>(rt: &R, board: &Board<J>, pass: &mut Pass<J>) -> Result<Job, Fail>
-    ensures { IfOk result (λ job. arc_value job.frame ≡ (first J.setup).frame) }
+    ensures frame { IfOk result (λ job. arc_value job.frame ≡ (first J.setup).frame) }
+    ensures ticket { IfOk result (λ job. IsTicketOf pass.new.ticket job) }
 {
     match board.next(rt, pass) {
         Task::Begin(job) => Ok(job),
@@ -39,21 +41,22 @@ fn begun<J: Naming, R: Wait>(rt: &R, board: &Board<J>, pass: &mut Pass<J>) -> Re
 
 /// The run of a job, with nobody who looks at the counter.
 fn run_of<R: Threads>(rt: &R, alloc: Global, job: &Job) -> Result<Run, AllocError>
-    ensures { IfOk result (λ run. arc_value run.frame ≡ arc_value job.now.frame) }
+    ensures { IfOk result (λ run. IsRunOf job.now run) }
 {
     execute(alloc, job, &mut Turns::new(rt))
 }
 
-/// Hands in a run of a step of the round, which can be committed.
+/// Hands in a run of the step that a worker was told to execute, which can be committed.
 fn hand_in<J: Naming, R: Wait>(
     rt: &R,
     board: &Board<J>,
     pass: &mut Pass<J>,
     run: Run,
 ) -> Result<(), Fail>
-    requires { arc_value run.frame ≡ (first J.setup).frame }
+    requires own { arc_value run.frame ≡ (first J.setup).frame }
+    requires ticketed { IsTicketed pass.old.ticket run }
 {
-    match board.commit(rt, pass, run) {
+    match board.commit_begun(rt, pass, run) {
         CommitOutcome::Done => Ok(()),
         _ => Err(Fail::new("the run isn't committed")),
     }
@@ -76,14 +79,14 @@ fn handed_in_twice<J: Naming, R: Threads + Wait>(
     rt: &R,
     alloc: Global,
     round: Round,
-    blank: Blank,
+    blanks: Blanks,
 ) -> Result<(Round, Run), Fail>
-    requires name { blank.name ≡ J.name }
-    requires parts { (blank.parts ≡ J.parts) × (J.parts ≡ 1) }
+    requires name { (blanks.blank.name ≡ J.name) × (blanks.tickets.book ≡ J.tickets) }
+    requires parts { (blanks.blank.parts ≡ J.parts) × (J.parts ≡ 1) }
     requires workers { (J.workers ≡ 1) × (J.watches ≡ 0) }
     requires opening { round ≡ opening J.setup J.past }
 {
-    let (board, mut passes) = Board::<J>::new(rt, alloc, round, 1, blank)?;
+    let (board, mut passes) = Board::<J>::new(rt, alloc, round, 1, blanks)?;
     let job = begun(rt, &board, &mut passes[0])?;
     let run = run_of(rt, alloc, &job)?;
     let again = run_of(rt, alloc, &job)?;
@@ -101,7 +104,7 @@ fn a_run_that_is_handed_in_twice_is_stale(rt: HostRuntime) -> Result<(), Fail> {
         &rt,
         alloc,
         opened(alloc, 1_000_000)?,
-        Blank::new(1),
+        Blanks::new(1),
     )?;
     assert!(&rt; back.rec.count() == 5);
     assert!(&rt; round.schedule().len() == 1);
@@ -114,14 +117,14 @@ fn failed<J: Naming, R: Threads + Wait>(
     rt: &R,
     alloc: Global,
     round: Round,
-    blank: Blank,
+    blanks: Blanks,
 ) -> Result<ClosedRound, Fail>
-    requires name { blank.name ≡ J.name }
-    requires parts { (blank.parts ≡ J.parts) × (J.parts ≡ 2) }
+    requires name { (blanks.blank.name ≡ J.name) × (blanks.tickets.book ≡ J.tickets) }
+    requires parts { (blanks.blank.parts ≡ J.parts) × (J.parts ≡ 2) }
     requires workers { (J.workers ≡ 2) × (J.watches ≡ 0) }
     requires opening { round ≡ opening J.setup J.past }
 {
-    let (board, mut passes) = Board::<J>::new(rt, alloc, round, 2, blank)?;
+    let (board, mut passes) = Board::<J>::new(rt, alloc, round, 2, blanks)?;
     make_next(rt, alloc, &board, &mut passes[1])?;
     let job = begun(rt, &board, &mut passes[0])?;
     board.fail(rt, &mut passes[0], job);
@@ -141,7 +144,7 @@ fn a_job_that_fails_ends_the_round(rt: HostRuntime) -> Result<(), Fail> {
         round,
         worker_steps,
         ..
-    } = failed::<Brand, _>(&rt, alloc, opened(alloc, 1_000_000)?, Blank::new(2))?;
+    } = failed::<Brand, _>(&rt, alloc, opened(alloc, 1_000_000)?, Blanks::new(2))?;
     assert!(&rt; round.schedule().len() == 1);
     assert!(&rt; round.discarded() == 1);
     assert!(&rt; round.stopped() && round.end() == None);

@@ -8,11 +8,10 @@ use super::boards::make_next;
 use machine_spec::Limits;
 use propagate::Round;
 use release_core::Setup;
-use rerun_workers::{Board, Counter, Naming, WatchedRound};
+use rerun_workers::{Blanks, Board, Counter, Naming, WatchedRound};
 use std::alloc::Global;
 use std::marker::Brand;
 use std::sync::Wait;
-use std::sync::ledger::Blank;
 use std::test::Fail;
 use std::thread::Threads;
 use worked_guests::file_of;
@@ -43,17 +42,17 @@ fn read<J: Naming, R: Threads + Wait>(
     alloc: Global,
     round: Round,
     counter: Counter,
-    blank: Blank,
+    blanks: Blanks,
 ) -> Result<Vec<u64>, Fail>
-    requires name { blank.name ≡ J.name }
-    requires parts { (blank.parts ≡ J.parts) × (J.parts ≡ 1) }
+    requires name { (blanks.blank.name ≡ J.name) × (blanks.tickets.book ≡ J.tickets) }
+    requires parts { (blanks.blank.parts ≡ J.parts) × (J.parts ≡ 1) }
     requires workers { (J.workers ≡ 1) × (J.watches ≡ 1) }
     requires table { (counter.writer.table ≡ J.table) × (counter.writer.added ≡ 0) }
     requires opening { round ≡ opening J.setup J.past }
 {
     let watched = WatchedRound { round, counter };
     let (board, mut passes, mut watches) = Board::<J>::with_watches(
-        rt, alloc, watched, 1, 1, blank,
+        rt, alloc, watched, 1, 1, blanks,
     )?;
     let mut pass = passes.remove(0);
     let mut watch = watches.remove(0);
@@ -74,7 +73,7 @@ fn read<J: Naming, R: Threads + Wait>(
 fn a_watch_reads_each_step(rt: HostRuntime) -> Result<(), Fail> {
     let alloc = rt.alloc();
     let counter = Counter::new(alloc)?;
-    let numbers = read::<Brand, _>(&rt, alloc, opened(alloc)?, counter, Blank::new(1))?;
+    let numbers = read::<Brand, _>(&rt, alloc, opened(alloc)?, counter, Blanks::new(1))?;
     let wanted = [0, 1, 2, 3, 4, 5, 6, 7, 8, 9, 10, 11, 12, 12];
     assert!(&rt; numbers.as_slice() == wanted.as_slice());
     Ok(())
