@@ -344,11 +344,11 @@ alone-reuses setup past w h is there unedited =
     (sym (is ∙ ap (lone_round setup) there ∙ ap (λ (s : Setup). lone_round s (Some h)) (sym unedited.same)))
     (unedited-reuses h unedited.honest)
 
--- what is known of a step that is awaited, and can be committed where the round isn't finished and its thread is in flight
-pub awaited_commits :
+-- a run of the step that was taken can be committed if the round isn't finished and the thread is in flight
+pub taken_step_commits :
     (w : RoundState) (r : Record) (frame : Frame)
     → IsInOrder w → frame ≡ w.machine.frame → IsOfStep w r → is_finished w ≡ false → is_in_flight w r.thread ≡ true
     → CanCommit w frame r
-awaited_commits w r frame kept same own going in_flight =
+taken_step_commits w r frame kept same own going in_flight =
     let is = in_flight-commits w r.thread r kept in_flight going (own in_flight) in
     record { going = is.going; same_frame = same; taken = is.taken; fit = is.fit }

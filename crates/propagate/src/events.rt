@@ -243,11 +243,11 @@ impl Round {
         ensures valid { IsValid self.old }
     {
         let can = self.can_commit(&run);
-        self.commit_if(can, run)
+        self.commit_or_discard(can, run)
     }
 
-    /// Commits an executed step of this round, or says why it can't: the round is finished, or its thread isn't in flight.
-    /// If it is in flight, the record is the one of the step that was taken, so nothing is compared.
+    /// Commits a run of the step that was taken, or says why it can't: the round is finished, or the thread isn't in flight.
+    /// Its registers and read pages aren't compared, since `of_step` says that its record is the one of that step.
     pub fn commit_taken(&mut self, run: Run) -> Committed
         requires own { arc_value run.frame ≡ (first self.old.setup).frame }
         requires of_step { IsOfStep self.old (arc_value run.rec) }
@@ -255,13 +255,13 @@ impl Round {
         ensures same { GoesOn (entries_of result) self.old self.new }
         ensures valid { IsValid self.old }
     {
-        let can = self.is_awaited(&run);
-        self.commit_if(can, run)
+        let can = self.can_commit_taken(&run);
+        self.commit_or_discard(can, run)
     }
 
-    /// Whether an executed step of this round can be committed.
-    #[tactic(auto, using(crate::proofs::Keeping::valid_consistent, crate::proofs::Executing::awaited_commits))]
-    fn is_awaited(&self, run: &Run) -> bool
+    /// Whether a run of the step that was taken can be committed.
+    #[tactic(auto, using(crate::proofs::Keeping::valid_consistent, crate::proofs::Executing::taken_step_commits))]
+    fn can_commit_taken(&self, run: &Run) -> bool
         requires own { arc_value run.now.frame ≡ (first self.now.setup).frame }
         requires of_step { IsOfStep self.now (arc_value run.now.rec) }
         ensures yes { OnTrue result
@@ -272,8 +272,8 @@ impl Round {
         !self.is_finished() && self.is_in_flight(run.rec.thread())
     }
 
-    /// Commits an executed step that can be committed, and hands back one that can't.
-    fn commit_if(&mut self, can: bool, run: Run) -> Committed
+    /// Commits an executed step if it can be committed. Else its step is discarded, and the run is handed back.
+    fn commit_or_discard(&mut self, can: bool, run: Run) -> Committed
         requires yes { OnTrue can
             (CanCommit self.old (arc_value run.frame) (arc_value run.rec)) }
         requires no { OnFalse can

@@ -6,7 +6,6 @@ use Rattle.std.specs.Prelude.{⊤}
 use Rattle.std.specs.Arc.{arc_value}
 use Rattle.std.specs.List.{slice_get}
 use Rattle.logbook.specs.Pages.{Book}
-use Rattle.thunk_spec.specs.Thunk.{Frame}
 use Rattle.record_spec.specs.Record.{Record}
 use Rattle.machine_spec.specs.Machine.{Hart, Machine, hart_of}
 use Rattle.machine_spec.specs.Step.{can_step}
@@ -14,13 +13,12 @@ use Rattle.machine_spec.specs.Setup.{Setup}
 use Rattle.machine_spec.proofs.Steps.{step-stays}
 use Rattle.history_spec.specs.History.{History}
 use Rattle.history_spec.proofs.Applying.{apply-stays}
-use Rattle.history_spec.proofs.Scratch.{and-left, and-right}
+use Rattle.history_spec.proofs.Scratch.{and-left}
 use Rattle.history_spec.proofs.Truth.{past-of}
 use Rattle.thunk_run.specs.declared.job.Job.{Job}
 use Rattle.thunk_run.specs.declared.job.Run.{Run}
-use Rattle.thunk_run.specs.Running.{IsRunOf}
 use Rattle.release_core.specs.Jobs.{IsJobOf}
-use Rattle.tickets.specs.Views.{TicketView, TicketsView, job_of}
+use Rattle.tickets.specs.Views.{TicketView, IssuerView, job_of}
 use Rattle.round_spec.specs.declared.events.Event.{Event}
 use Rattle.round_spec.specs.declared.events.Event.TheVariants.{Take, Reuse, Commit, GiveBack, Stop}
 use Rattle.round_spec.specs.Marks.{record_for, fits_next}
@@ -32,9 +30,9 @@ use Rattle.propagate.specs.Committing.{IsOfStep}
 use Rattle.propagate.proofs.Entries.{get-same, get-other}
 use Rattle.propagate.proofs.Executing.{run-record}
 use Rattle.rerun_workers.specs.Locking.{given_up}
-use Rattle.rerun_workers.specs.Tickets.{AreIssued, IsLastOf, IsTicketed}
+use Rattle.rerun_workers.specs.Tickets.{AreIssued, IsLastOf, IsRunOfTicket}
 
--- Who is in flight in a later round was in flight before, and has the hart that it had.
+-- A thread that is in flight in `v` is in flight in `w`, with the same hart.
 abbrev Stays : RoundState → RoundState → Type 0
 Stays w v =
     (u : ℕ) → is_in_flight v u ≡ true → (is_in_flight w u ≡ true) × (hart_of v.machine u ≡ hart_of w.machine u)
@@ -85,7 +83,7 @@ give_back-stays : (w : RoundState) (t : ℕ) (in_flight : Bool) → Stays w (con
 give_back-stays w t false = λ u in_flight. (in_flight, refl)
 give_back-stays w t true = given_back-stays w t
 
--- An event that takes nobody.
+-- An event that takes no step.
 abbrev TakesNone : Event → Type 0
 TakesNone (Take t) = ⊥
 TakesNone (Reuse t) = ⊤
@@ -115,7 +113,7 @@ job-stays m n t job frame hart own =
     }
 
 stays :
-    (book : Book) (w v : RoundState) (e : Event) (tickets : TicketsView)
+    (book : Book) (w v : RoundState) (e : Event) (tickets : IssuerView)
     → TakesNone e → IsInOrder w → v ≡ happens w e → AreIssued book w tickets → AreIssued book v tickets
 stays book w v e tickets none kept is issued =
     subst (λ (x : RoundState). AreIssued book x tickets) (sym is) record {
@@ -126,27 +124,27 @@ stays book w v e tickets none kept is issued =
     }
 
 pub issued-reuse :
-    (book : Book) (w v : RoundState) (t : ℕ) (tickets : TicketsView)
+    (book : Book) (w v : RoundState) (t : ℕ) (tickets : IssuerView)
     → IsInOrder w → v ≡ happens w (Reuse t) → AreIssued book w tickets → AreIssued book v tickets
 issued-reuse book w v t tickets = stays book w v (Reuse t) tickets tt
 
 pub issued-commit :
-    (book : Book) (w v : RoundState) (t : ℕ) (tickets : TicketsView)
+    (book : Book) (w v : RoundState) (t : ℕ) (tickets : IssuerView)
     → IsInOrder w → v ≡ happens w (Commit t) → AreIssued book w tickets → AreIssued book v tickets
 issued-commit book w v t tickets = stays book w v (Commit t) tickets tt
 
 pub issued-give_back :
-    (book : Book) (w v : RoundState) (t : ℕ) (tickets : TicketsView)
+    (book : Book) (w v : RoundState) (t : ℕ) (tickets : IssuerView)
     → IsInOrder w → v ≡ happens w (GiveBack t) → AreIssued book w tickets → AreIssued book v tickets
 issued-give_back book w v t tickets = stays book w v (GiveBack t) tickets tt
 
 pub issued-stop :
-    (book : Book) (w v : RoundState) (tickets : TicketsView)
+    (book : Book) (w v : RoundState) (tickets : IssuerView)
     → IsInOrder w → v ≡ happens w Stop → AreIssued book w tickets → AreIssued book v tickets
 issued-stop book w v tickets = stays book w v Stop tickets tt
 
 pub issued-given_up :
-    (book : Book) (w v : RoundState) (t : ℕ) (tickets : TicketsView)
+    (book : Book) (w v : RoundState) (t : ℕ) (tickets : IssuerView)
     → IsInOrder w → v ≡ given_up w t → AreIssued book w tickets → AreIssued book v tickets
 issued-given_up book w v t tickets kept is issued =
     issued-stop book (happens w (GiveBack t)) v tickets (happens-kept w (GiveBack t) kept) is
@@ -154,7 +152,7 @@ issued-given_up book w v t tickets kept is issued =
 
 -- Nobody is in flight at the start.
 pub issued_opening :
-    (book : Book) (w : RoundState) (setup : Setup) (past : Option History) (tickets : TicketsView)
+    (book : Book) (w : RoundState) (setup : Setup) (past : Option History) (tickets : IssuerView)
     → w ≡ opening setup past → tickets.book ≡ book → AreIssued book w tickets
 issued_opening book w setup past tickets is named =
     subst (λ (x : RoundState). AreIssued book x tickets) (sym is) record {
@@ -195,7 +193,7 @@ take-last w t b job jobs o before own is u j in_flight at =
     ]
 
 pub issued-take :
-    (book : Book) (w v : RoundState) (t : ℕ) (job : Job) (ticket : Option TicketView) (old new : TicketsView)
+    (book : Book) (w v : RoundState) (t : ℕ) (job : Job) (ticket : Option TicketView) (old new : IssuerView)
     → v ≡ happens w (Take t) → IsJobOf w.machine t job → new.book ≡ old.book
     → IfSome ticket (λ (k : TicketView). k.job ≡ Some job) → new.jobs ≡ set old.jobs job.thread (job_of ticket)
     → AreIssued book w old → AreIssued book v new
@@ -217,8 +215,8 @@ issued-take book w v t job ticket old new is own same of jobs issued =
 
 -- A run of the job of a thread's last ticket is of the step that is in flight.
 pub last_step :
-    (w : RoundState) (tickets : TicketsView) (ticket : Option TicketView) (run : Run)
-    → AreIssued tickets.book w tickets → IsLastOf tickets (arc_value run.rec).thread ticket → IsTicketed ticket run
+    (w : RoundState) (tickets : IssuerView) (ticket : Option TicketView) (run : Run)
+    → AreIssued tickets.book w tickets → IsLastOf tickets (arc_value run.rec).thread ticket → IsRunOfTicket ticket run
     → IsOfStep w (arc_value run.rec)
 last_step w tickets None run issued last ran in_flight = absurd last
 last_step w tickets (Some k) run issued last ran in_flight =

@@ -17,7 +17,7 @@ ghost use Rattle.round_spec.specs.Unedited.{IsUnedited};
 ghost use Rattle.rerun_workers.specs.declared.locked.Task.TheVariants as task;
 ghost use Rattle.rerun_workers.specs.Making.{IsClosed, ComparesNone};
 ghost use Rattle.rerun_workers.specs.Passes.{held};
-ghost use Rattle.rerun_workers.specs.Tickets.{IsTicketFor, IsTicketed};
+ghost use Rattle.rerun_workers.specs.Tickets.{IsTicketFor, IsRunOfTicket};
 ghost use Rattle.rerun_workers.specs.Locking.{BeginsIn, BeginsNothing, begun_by, IsReady, HandsBack, steps_by};
 
 use super::effort::Effort;
@@ -231,22 +231,22 @@ impl<J: Naming> Board<J> {
         workers: u32,
         blanks: Blanks,
     ) -> Result<(Board<J>, Vec<Pass<J>>), AllocError>
-        requires name { (blanks.blank.name ≡ J.name) × (blanks.tickets.book ≡ J.tickets) }
-        requires parts { (blanks.blank.parts ≡ J.parts) × (J.parts ≡ workers) }
+        requires name { (blanks.ledger.name ≡ J.name) × (blanks.issuer.book ≡ J.tickets) }
+        requires parts { (blanks.ledger.parts ≡ J.parts) × (J.parts ≡ workers) }
         requires workers { workers ≡ J.workers }
         requires unwatched { J.watches ≡ 0 }
         requires opening { round ≡ opening J.setup J.past }
         ensures count { IfOk result (λ made. vec_len made.1 ≡ workers) }
         ensures nothing { IfOk result (λ made. All (λ pass. pass.steps ≡ 0) made.1.items) }
     {
-        let Blanks { blank, tickets } = blanks;
-        let (book, all) = blank.open::<J>();
+        let Blanks { ledger, issuer } = blanks;
+        let (book, all) = ledger.open::<J>();
         let Places {
             passes,
             worker_steps,
             numbers,
         } = places_of(rt, alloc, all, workers, 0)?;
-        let locked = Locked::new(round, book, None, tickets);
+        let locked = Locked::new(round, book, None, issuer);
         Ok((Board::opened(locked, worker_steps, numbers), passes))
     }
 
@@ -264,8 +264,8 @@ impl<J: Naming> Board<J> {
         watches: u32,
         blanks: Blanks,
     ) -> Result<(Board<J>, Vec<Pass<J>>, Vec<Watch<J>>), AllocError>
-        requires name { (blanks.blank.name ≡ J.name) × (blanks.tickets.book ≡ J.tickets) }
-        requires parts { (blanks.blank.parts ≡ J.parts) × (J.parts ≡ workers) }
+        requires name { (blanks.ledger.name ≡ J.name) × (blanks.issuer.book ≡ J.tickets) }
+        requires parts { (blanks.ledger.parts ≡ J.parts) × (J.parts ≡ workers) }
         requires workers { (workers ≡ J.workers) × (watches ≡ J.watches) }
         requires table { (watched.counter.writer.table ≡ J.table)
             × (watched.counter.writer.added ≡ 0) }
@@ -275,15 +275,15 @@ impl<J: Naming> Board<J> {
         ensures nothing { IfOk result (λ made. All (λ pass. pass.steps ≡ 0) made.1.items) }
     {
         let WatchedRound { round, mut counter } = watched;
-        let Blanks { blank, tickets } = blanks;
-        let (book, all) = blank.open::<J>();
+        let Blanks { ledger, issuer } = blanks;
+        let (book, all) = ledger.open::<J>();
         let (places, seats) = watched_places(rt, alloc, all, &mut counter, workers, watches)?;
         let Places {
             passes,
             worker_steps,
             numbers,
         } = places;
-        let locked = Locked::new(round, book, Some(counter), tickets);
+        let locked = Locked::new(round, book, Some(counter), issuer);
         Ok((Board::opened(locked, worker_steps, numbers), passes, seats))
     }
 
@@ -312,8 +312,8 @@ impl<J: Naming> Board<J> {
     }
 
     /// What a worker is to do next, as the round under the lock tells it. Where it is told to hold, it waits until it
-    /// is woken, and asks again. A step to execute has the page map and the fuel of the round's setup, and the worker a
-    /// ticket for it. Without an edit it is never one.
+    /// is woken, and asks again. A step to execute has the page map and the fuel of the round's setup, and if a ticket could
+    /// be issued for it, the pass holds it. Without an edit it is never one.
     ///
     /// Who is told to begin a step wakes nobody, since a short one is done before another worker could begin what else
     /// there is to do, and whoever has done it asks again. Whose step runs long wakes another worker then, if there is
@@ -358,8 +358,8 @@ impl<J: Naming> Board<J> {
         }
     }
 
-    /// Commits a run to the round under the lock, or says why it can't. It ran with the round's page map and fuel, so that
-    /// isn't asked.
+    /// Commits any run of the round's page map and fuel, or says why it can't. It drops the pass's ticket, so the run's
+    /// registers and read pages are compared.
     pub fn commit<R: Wait>(&self, rt: &R, pass: &mut Pass<J>, run: Run) -> CommitOutcome
         requires own { arc_value run.frame ≡ (first J.setup).frame }
         ensures back { HandsBack run result }
@@ -367,26 +367,32 @@ impl<J: Naming> Board<J> {
         ensures handed { pass.new.handed.number ≡ pass.old.handed.number + 1 }
         ensures taken { pass.new.taken.number ≡ pass.old.taken.number }
     {
-        pass.ticket = None;
-        self.commit_begun(rt, pass, run)
+        let outcome = self.lock.lock(rt).commit(pass, run);
+        self.wake_without_memory(&outcome);
+        outcome
     }
 
-    /// Commits a run of the last step that this worker was told to begin, as `commit` does. Of a worker that has the step's
-    /// ticket nothing is compared. Who commits asks for the next step then; where memory ran out nobody has to ask, and all
-    /// are woken.
-    pub fn commit_begun<R: Wait>(&self, rt: &R, pass: &mut Pass<J>, run: Run) -> CommitOutcome
+    /// Commits a run of the step that the worker was last assigned, or says why it can't. If the pass has that step's ticket,
+    /// the run's registers and read pages aren't compared. Who commits asks for its next step then; if memory ran out,
+    /// nobody has to ask, and all are woken.
+    pub fn commit_taken<R: Wait>(&self, rt: &R, pass: &mut Pass<J>, run: Run) -> CommitOutcome
         requires own { arc_value run.frame ≡ (first J.setup).frame }
-        requires ticketed { IsTicketed pass.old.ticket run }
+        requires ticket { IsRunOfTicket pass.old.ticket run }
         ensures back { HandsBack run result }
         ensures counts { pass.new.steps ≡ pass.old.steps + steps_by result }
         ensures handed { pass.new.handed.number ≡ pass.old.handed.number + 1 }
         ensures taken { pass.new.taken.number ≡ pass.old.taken.number }
     {
-        let outcome = self.lock.lock(rt).commit(pass, run);
+        let outcome = self.lock.lock(rt).commit_taken(pass, run);
+        self.wake_without_memory(&outcome);
+        outcome
+    }
+
+    /// Wakes all if memory ran out when a run was committed.
+    fn wake_without_memory(&self, outcome: &CommitOutcome) {
         if matches!(outcome, CommitOutcome::Memory(_)) {
             self.changed.notify_all();
         }
-        outcome
     }
 
     /// Discards the step of a job that couldn't be executed, and stops the round under the lock.

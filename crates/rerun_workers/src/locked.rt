@@ -18,7 +18,7 @@ ghost use Rattle.rerun_workers.specs.Following.{FollowsPicks};
 ghost use Rattle.std.proofs.Props.{props};
 ghost use Rattle.rerun_workers.specs.Watching.{IsCounting};
 ghost use Rattle.rerun_workers.specs.Passes.{held};
-ghost use Rattle.rerun_workers.specs.Tickets.{AreIssued, IsLastOf, IsNamed, IsTicketFor, IsTicketed};
+ghost use Rattle.rerun_workers.specs.Tickets.{AreIssued, IsLastOf, IsNamed, IsTicketFor, IsRunOfTicket};
 ghost use Rattle.rerun_workers.specs.Locking.{Tells, TellsAfter, BeginsIn, BeginsNothing, begun_by, IsReady, given_up, Lands, HandsBack, steps_by, Counts};
 
 use super::naming::{Naming, Pass};
@@ -28,7 +28,7 @@ use round_spec::Pick;
 use std::alloc::AllocError;
 use std::sync::ledger::Book;
 use thunk_run::{Job, Run};
-use tickets::{Ticket, Tickets};
+use tickets::{Issuer, Ticket};
 
 /// What a worker is to do next.
 #[derive(Drop)]
@@ -57,23 +57,24 @@ pub enum CommitOutcome {
     Memory(Run),
 }
 
-/// The round that workers make together, as it lies under their lock, with the book of the ledger, whose total is the
-/// length of the schedule, and with who issues tickets for the steps that are taken. Where anybody watches it, a word that
-/// he may read without the lock is that length too. It is of the setup and of the history that its type names, and nothing was begun in it but what was picked: by a sound
-/// history all of it was picked rightly, and without an edit it has done nothing yet but what the history did.
+/// The round that workers make together, under their lock. The total of the ledger's book is the length of the schedule;
+/// so is a word that can be read without the lock, if anybody watches. The issuer issues a ticket for each step that is
+/// taken. The round is of the setup and of the history that its type names, and nothing was begun in it but what was
+/// picked: by a sound history all of it was picked rightly, and without an edit it has done nothing yet but what the
+/// history did.
 #[derive(Drop)]
 pub struct Locked<J: Naming> {
     pub(super) round: Round,
     pub(super) book: Book<J>,
     pub(super) counter: Option<Counter>,
-    pub(super) tickets: Tickets,
+    pub(super) issuer: Issuer,
     ghost counted: { length round.schedule ≡ book.total },
     ghost watched: { IsCounting J.table (length round.schedule) counter } by { Prim.hlevel props },
     ghost counts: { 0 < J.watches → is_some counter ≡ true },
     ghost setup: { round.setup ≡ J.setup },
     ghost past: { round.past ≡ J.past },
     ghost follows: { FollowsPicks J.setup J.past round },
-    ghost issued: { AreIssued J.tickets round tickets },
+    ghost issued: { AreIssued J.tickets round issuer },
 }
 
 /// Discards the step of thread `t`, if one is in flight.
@@ -97,30 +98,30 @@ fn give_up(round: &mut Round, t: u8)
     round.stop();
 }
 
-/// Whether a ticket is the last one of thread `t`.
-fn is_last(tickets: &Tickets, ticket: &Option<Ticket>, t: u8) -> bool
-    requires named { IsNamed tickets.now.book ticket.now }
-    ensures { result ≡ true → IsLastOf tickets.now t ticket.now }
+/// Whether there is a ticket, and it is the last one of thread `t`.
+fn is_last(issuer: &Issuer, ticket: &Option<Ticket>, t: u8) -> bool
+    requires named { IsNamed issuer.now.book ticket.now }
+    ensures { result ≡ true → IsLastOf issuer.now t ticket.now }
 {
     match ticket {
-        Some(ticket) => tickets.is_last(ticket, t),
+        Some(ticket) => issuer.is_last(ticket, t),
         None => false,
     }
 }
 
-/// Commits a run to the round for whose steps these tickets are issued. If its ticket is the last one of its thread, nothing
-/// is compared.
+/// Commits a run to the round whose tickets this issuer issues. If it has the last ticket of its thread, its registers and
+/// read pages aren't compared.
 #[tactic(auto, using(crate::proofs::Issued::last_step))]
-fn commit(round: &mut Round, tickets: &Tickets, ticket: Option<Ticket>, run: Run) -> Committed
+fn commit_run(round: &mut Round, issuer: &Issuer, ticket: Option<Ticket>, run: Run) -> Committed
     requires own { arc_value run.frame ≡ (first round.old.setup).frame }
-    requires issued { AreIssued tickets.now.book round.old tickets.now }
-    requires named { IsNamed tickets.now.book ticket }
-    requires ticketed { IsTicketed ticket run }
+    requires issued { AreIssued issuer.now.book round.old issuer.now }
+    requires named { IsNamed issuer.now.book ticket }
+    requires ticket { IsRunOfTicket ticket run }
     ensures does { Commits round.old run result round.new }
     ensures same { GoesOn (entries_of result) round.old round.new }
     ensures valid { IsValid round.old }
 {
-    if is_last(tickets, &ticket, run.rec.thread()) {
+    if is_last(issuer, &ticket, run.rec.thread()) {
         return round.commit_taken(run);
     }
     round.commit_own(run)
@@ -141,25 +142,25 @@ fn count(counter: &mut Option<Counter>)
 
 impl<J: Naming> Locked<J> {
     /// A round before its first step, with a book that counts nothing, with a word that doesn't either if anybody watches,
-    /// and with who issues its tickets.
+    /// and with the issuer of its tickets.
     #[tactic(auto, using(crate::proofs::Following::follows_opening))]
     pub(super) fn new(
         round: Round,
         book: Book<J>,
         counter: Option<Counter>,
-        tickets: Tickets,
+        issuer: Issuer,
     ) -> Locked<J>
         requires opening { round ≡ opening J.setup J.past }
         requires empty { book.total ≡ 0 }
         requires watched { IsCounting J.table 0 counter }
         requires counts { 0 < J.watches → is_some counter ≡ true }
-        requires named { tickets.book ≡ J.tickets }
+        requires named { issuer.book ≡ J.tickets }
     {
         Locked {
             round,
             book,
             counter,
-            tickets,
+            issuer,
         }
     }
 
@@ -212,10 +213,10 @@ impl<J: Naming> Locked<J> {
         ensures named { IsNamed J.tickets ticket.new }
         ensures ticket { IsTicketFor ticket.new result }
     {
-        let Locked { round, tickets, .. } = self;
+        let Locked { round, issuer, .. } = self;
         match round.take(t) {
             Ok(job) => {
-                *ticket = tickets.issue(&job);
+                *ticket = issuer.issue(&job);
                 Task::Begin(job)
             }
             Err(_) => {
@@ -228,7 +229,7 @@ impl<J: Naming> Locked<J> {
     /// Reuses records as long as that is picked, each as a step of this worker, and then takes the step
     /// that is picked to be executed, or tells what is picked in its place. Where memory runs out, what
     /// was reused stands, and the round is stopped. A step to execute has the page map and the fuel of the round's
-    /// setup, and the worker has a ticket for it. Without an edit it is never one.
+    /// setup, and if a ticket could be issued for it, the pass holds it. Without an edit it is never one.
     pub fn next(&mut self, pass: &mut Pass<J>) -> Task
         ensures does { Tells self.old.round result self.new.round }
         ensures own { BeginsIn (first J.setup).frame result }
@@ -272,11 +273,25 @@ impl<J: Naming> Locked<J> {
     }
 
     /// Commits a run, which had the page map and the fuel of the round's setup, and counts it as a step of this worker;
-    /// or says why it can't. If the worker has a ticket, the run is of its job; if that is the last ticket of its thread, the
-    /// step is the one that was taken, and nothing is compared.
+    /// or says why it can't. It drops the pass's ticket, so the run's registers and read pages are compared.
     pub fn commit(&mut self, pass: &mut Pass<J>, run: Run) -> CommitOutcome
         requires own { arc_value run.frame ≡ (first J.setup).frame }
-        requires ticketed { IsTicketed pass.old.ticket run }
+        ensures does { Lands self.old.round run result self.new.round }
+        ensures back { HandsBack run result }
+        ensures made { pass.new.steps ≡ pass.old.steps + steps_by result }
+        ensures handed { pass.new.handed.number ≡ pass.old.handed.number + 1 }
+        ensures taken { pass.new.taken.number ≡ pass.old.taken.number }
+        ensures counts { Counts pass.old.steps self.old.round pass.new.steps self.new.round }
+    {
+        pass.ticket = None;
+        self.commit_taken(pass, run)
+    }
+
+    /// The same of a run of the job that the pass's ticket is for, if it has one. If that is the last ticket of its thread,
+    /// the run's registers and read pages aren't compared.
+    pub fn commit_taken(&mut self, pass: &mut Pass<J>, run: Run) -> CommitOutcome
+        requires own { arc_value run.frame ≡ (first J.setup).frame }
+        requires ticket { IsRunOfTicket pass.old.ticket run }
         ensures does { Lands self.old.round run result self.new.round }
         ensures back { HandsBack run result }
         ensures made { pass.new.steps ≡ pass.old.steps + steps_by result }
@@ -288,7 +303,7 @@ impl<J: Naming> Locked<J> {
             round,
             book,
             counter,
-            tickets,
+            issuer,
         } = self;
         let Pass {
             share,
@@ -299,7 +314,7 @@ impl<J: Naming> Locked<J> {
         } = pass;
         handed.raise(1);
         book.audit(share);
-        match commit(round, tickets, ticket.take(), run) {
+        match commit_run(round, issuer, ticket.take(), run) {
             Committed::Done => {
                 book.add(share, 1);
                 *steps += 1;

@@ -19,12 +19,12 @@ use super::begun::Begun;
 use super::effort::Effort;
 use std::marker::Brand;
 use std::sync::ledger::{Blank, Ledger, Share};
-use tickets::{Ticket, Tickets};
+use tickets::{Issuer, Ticket};
 use turn_count::Tally;
 
-/// What the round of a board started from, what it goes by, how many workers make it, how many watch it, by which word,
-/// and by which tickets it knows its steps. The types of the board, of its passes and of its watches name it, so nobody can put a round of another setup or
-/// of another history in its place, or watch another round.
+/// What the round of a board starts from, the history that it uses, its numbers of workers and of watches, the word that
+/// watches read, and the book of its tickets. The types of the board, of its passes and of its watches name all of these,
+/// so nobody can put a round of another setup or of another history in its place, or watch another round.
 pub trait Naming: Ledger {
     ghost setup: { Setup };
 
@@ -53,31 +53,31 @@ impl Naming for Brand {
     ghost tickets = { no_book };
 }
 
-/// What a board is made with, beside its round, and its type names: the blank of its ledger, and who issues its tickets.
+/// A blank ledger, and an issuer that has issued no ticket, from which a board is made. The board's type names both.
 #[derive(Drop)]
 pub struct Blanks {
-    /// The blank.
-    pub blank: Blank,
-    /// Who issues the tickets.
-    pub tickets: Tickets,
+    /// The ledger.
+    pub ledger: Blank,
+    /// The issuer.
+    pub issuer: Issuer,
 }
 
 impl Blanks {
-    /// What a board of so many workers is made with.
+    /// What a board of so many workers is made from.
     pub fn new(workers: u32) -> Blanks
-        ensures { result.blank.parts ≡ workers }
+        ensures { result.ledger.parts ≡ workers }
     {
         Blanks {
-            blank: Blank::new(u64::from(workers)),
-            tickets: Tickets::new(),
+            ledger: Blank::new(u64::from(workers)),
+            issuer: Issuer::new(),
         }
     }
 }
 
 /// What a worker holds of a board: how many steps of the round it has made, which its share of the ledger counts too; a
-/// step that was begun for it before it set to work, if there is one; the ticket of the last step that it was told to
-/// begin, until it hands that in; and its effort: without an edit it executes no turn and, by any history that holds
-/// together, compares no page. Four tallies count how often it asked what to do, was told to begin a step, executed one,
+/// step that was begun for it before it set to work, if there is one; the ticket of the step that it was last told to
+/// begin, until it commits a run or sets that step aside; and its effort: without an edit it executes no turn and, by any
+/// history that holds together, compares no page. Four tallies count how often it asked what to do, was told to begin a step, executed one,
 /// and handed one in.
 #[derive(Drop)]
 pub struct Pass<J: Naming> {

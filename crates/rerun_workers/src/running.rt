@@ -108,8 +108,8 @@ fn run_together<J: Naming + Send + Sync, R: Threads + Wait + Sync, G: Gate + Syn
     gate: &G,
     blanks: Blanks,
 ) -> Result<ClosedRound, AllocError>
-    requires name { (blanks.blank.name ≡ J.name) × (blanks.tickets.book ≡ J.tickets) }
-    requires parts { (blanks.blank.parts ≡ J.parts) × (J.parts ≡ workers) }
+    requires name { (blanks.ledger.name ≡ J.name) × (blanks.issuer.book ≡ J.tickets) }
+    requires parts { (blanks.ledger.parts ≡ J.parts) × (J.parts ≡ workers) }
     requires workers { (workers ≡ J.workers) × (1 ≤ workers) }
     requires unwatched { J.watches ≡ 0 }
     requires opening { round ≡ opening J.setup J.past }

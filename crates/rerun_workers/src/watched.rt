@@ -84,8 +84,8 @@ pub(super) fn run_watched<J: Naming + Send + Sync, R: Threads + Wait + Sync, G: 
     gate: &G,
     blanks: Blanks,
 ) -> Result<(ClosedRound, Vec<u64>), AllocError>
-    requires name { (blanks.blank.name ≡ J.name) × (blanks.tickets.book ≡ J.tickets) }
-    requires parts { (blanks.blank.parts ≡ J.parts) × (J.parts ≡ workers) }
+    requires name { (blanks.ledger.name ≡ J.name) × (blanks.issuer.book ≡ J.tickets) }
+    requires parts { (blanks.ledger.parts ≡ J.parts) × (J.parts ≡ workers) }
     requires workers { (workers ≡ J.workers) × (1 ≤ workers) }
     requires watches { J.watches ≡ 1 }
     requires table { (watched.counter.writer.table ≡ J.table) × (watched.counter.writer.added ≡ 0) }

@@ -74,7 +74,7 @@ fn make_step<J: Naming, R: Wait, G: Gate>(
     gate.enter(job.thread, job.number);
     match run_job(alloc, &job, pass, &Sharing { rt, board }) {
         Ok(run) => {
-            match board.commit_begun(rt, pass, run) {
+            match board.commit_taken(rt, pass, run) {
                 CommitOutcome::Done => {
                     gate.made(1, false);
                     true

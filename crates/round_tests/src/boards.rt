@@ -5,7 +5,7 @@ ghost use Rattle.std.specs.Arc.{arc_value};
 ghost use Rattle.machine_spec.specs.Setup.{first};
 ghost use Rattle.round_spec.specs.Rounds.{opening};
 ghost use Rattle.thunk_run.specs.Running.{IsRunOf};
-ghost use Rattle.rerun_workers.specs.Tickets.{IsTicketOf, IsTicketed};
+ghost use Rattle.rerun_workers.specs.Tickets.{IsTicketOf, IsRunOfTicket};
 
 use super::fixtures::{is_round, setup};
 use ith_host::{Gate, OpenGate};
@@ -28,7 +28,7 @@ fn opened(alloc: Global, fuel: u32) -> Result<Round, Fail>
     Ok(Round::new(alloc, setup(alloc, fuel)?, None)?)
 }
 
-/// The step that a worker is told to execute, for which it has a ticket then.
+/// The step that a worker is assigned. Its pass holds the ticket afterwards, if there is one.
 fn begun<J: Naming, R: Wait>(rt: &R, board: &Board<J>, pass: &mut Pass<J>) -> Result<Job, Fail>
     ensures frame { IfOk result (λ job. arc_value job.frame ≡ (first J.setup).frame) }
     ensures ticket { IfOk result (λ job. IsTicketOf pass.new.ticket job) }
@@ -46,7 +46,7 @@ fn run_of<R: Threads>(rt: &R, alloc: Global, job: &Job) -> Result<Run, AllocErro
     execute(alloc, job, &mut Turns::new(rt))
 }
 
-/// Hands in a run of the step that a worker was told to execute, which can be committed.
+/// Hands in a run of the step that a worker was assigned, which can be committed.
 fn hand_in<J: Naming, R: Wait>(
     rt: &R,
     board: &Board<J>,
@@ -54,9 +54,9 @@ fn hand_in<J: Naming, R: Wait>(
     run: Run,
 ) -> Result<(), Fail>
     requires own { arc_value run.frame ≡ (first J.setup).frame }
-    requires ticketed { IsTicketed pass.old.ticket run }
+    requires ticketed { IsRunOfTicket pass.old.ticket run }
 {
-    match board.commit_begun(rt, pass, run) {
+    match board.commit_taken(rt, pass, run) {
         CommitOutcome::Done => Ok(()),
         _ => Err(Fail::new("the run isn't committed")),
     }
@@ -81,8 +81,8 @@ fn handed_in_twice<J: Naming, R: Threads + Wait>(
     round: Round,
     blanks: Blanks,
 ) -> Result<(Round, Run), Fail>
-    requires name { (blanks.blank.name ≡ J.name) × (blanks.tickets.book ≡ J.tickets) }
-    requires parts { (blanks.blank.parts ≡ J.parts) × (J.parts ≡ 1) }
+    requires name { (blanks.ledger.name ≡ J.name) × (blanks.issuer.book ≡ J.tickets) }
+    requires parts { (blanks.ledger.parts ≡ J.parts) × (J.parts ≡ 1) }
     requires workers { (J.workers ≡ 1) × (J.watches ≡ 0) }
     requires opening { round ≡ opening J.setup J.past }
 {
@@ -119,8 +119,8 @@ fn failed<J: Naming, R: Threads + Wait>(
     round: Round,
     blanks: Blanks,
 ) -> Result<ClosedRound, Fail>
-    requires name { (blanks.blank.name ≡ J.name) × (blanks.tickets.book ≡ J.tickets) }
-    requires parts { (blanks.blank.parts ≡ J.parts) × (J.parts ≡ 2) }
+    requires name { (blanks.ledger.name ≡ J.name) × (blanks.issuer.book ≡ J.tickets) }
+    requires parts { (blanks.ledger.parts ≡ J.parts) × (J.parts ≡ 2) }
     requires workers { (J.workers ≡ 2) × (J.watches ≡ 0) }
     requires opening { round ≡ opening J.setup J.past }
 {

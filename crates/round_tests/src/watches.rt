@@ -44,8 +44,8 @@ fn read<J: Naming, R: Threads + Wait>(
     counter: Counter,
     blanks: Blanks,
 ) -> Result<Vec<u64>, Fail>
-    requires name { (blanks.blank.name ≡ J.name) × (blanks.tickets.book ≡ J.tickets) }
-    requires parts { (blanks.blank.parts ≡ J.parts) × (J.parts ≡ 1) }
+    requires name { (blanks.ledger.name ≡ J.name) × (blanks.issuer.book ≡ J.tickets) }
+    requires parts { (blanks.ledger.parts ≡ J.parts) × (J.parts ≡ 1) }
     requires workers { (J.workers ≡ 1) × (J.watches ≡ 1) }
     requires table { (counter.writer.table ≡ J.table) × (counter.writer.added ≡ 0) }
     requires opening { round ≡ opening J.setup J.past }

@@ -66,7 +66,7 @@ jobs_longer jobs more (Some n ∷ last) below =
 at_same : {m n : ℕ} → Some m ≡ Some n → n ≡ m
 at_same same = cc (same)
 
--- After a ticket was issued, or none could be.
+-- Numbers stay below the length of the log if a ticket is issued, or none can be.
 pub issued_below :
     (log new : LogView) (last : List (Option ℕ)) (t : ℕ) (job : Job) (ticket : Option TicketView)
     → AreBelow (length log.jobs) last → Appended log new job ticket

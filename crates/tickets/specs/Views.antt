@@ -1,4 +1,4 @@
--- What contracts see of tickets, of their log, and of who issues them.
+-- What contracts see of tickets, of their log, and of an issuer.
 use Rattle.std.specs.Prelude.{ℕ, ◌≡◌, ◌<◌, true, List, [], ◌∷◌, ◌++◌, length, Option, Some, None, replicate, slice_get}
 use Rattle.logbook.specs.Pages.{Book, Named}
 use Rattle.thunk_run.specs.declared.job.Job.{Job}
@@ -14,8 +14,8 @@ pub record LogView : Type 0 where
   pub book : Book
   pub jobs : List Job
 
--- Who issues tickets: the book in whose log their jobs stand, and the job of the last ticket of each of the 32 threads.
-pub record TicketsView : Type 0 where
+-- An issuer: the book of its log, and the job of the last ticket of each of the 32 threads, if it has one.
+pub record IssuerView : Type 0 where
   pub book : Book
   pub jobs : List (Option Job)
 
@@ -41,9 +41,10 @@ abbrev pub number_of : Option TicketView → Option ℕ
 number_of None = None
 number_of (Some ticket) = Some ticket.number
 
--- A ticket is the last one of a thread: there is a job that both are for.
-abbrev pub IsLast : TicketsView → ℕ → TicketView → Type 0
-IsLast tickets t ticket = (job : Job) × (ticket.job ≡ Some job) × (slice_get tickets.jobs t ≡ Some (Some job))
+-- A ticket is for the job of the last ticket of a thread.
+abbrev pub IsForLastJob : IssuerView → ℕ → TicketView → Type 0
+IsForLastJob issuer t ticket =
+    (job : Job) × (ticket.job ≡ Some job) × (slice_get issuer.jobs t ≡ Some (Some job))
 
 -- No thread has a number.
 unfoldable pub no_numbers : List (Option ℕ)

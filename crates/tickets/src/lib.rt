@@ -1,10 +1,10 @@
-//! Tickets for steps that are in flight. Who issues them knows of a ticket that is the last one of a thread for which step
-//! it was issued, and compares nothing to know it.
+//! Tickets for steps in flight. An [`Issuer`] issues one for each step that is taken. If a ticket comes back and has the
+//! number of its thread's last one, its job is that one's, and no job is compared.
 #![tactic(auto)]
 
+mod issuer;
 mod log;
 mod rule;
-mod tickets;
 
+pub use issuer::Issuer;
 pub use log::Ticket;
-pub use tickets::Tickets;

@@ -9,7 +9,7 @@ use logbook::{Offer, Seen, Start, Word};
 use std::marker::Model;
 use thunk_run::Job;
 
-/// A ticket. A clause sees in which book's log its job stands, at which number, and the job.
+/// A ticket. Clauses see the book of its log, its number there, and its job.
 #[derive(Drop)]
 pub struct Ticket {
     pub(super) number: u64,
@@ -31,7 +31,7 @@ impl Model for Ticket {
     ghost invariant = { λ t. is_some (slice_get t.seen.log t.number) ≡ true };
 }
 
-/// The log, as who alone appends to it sees it.
+/// The log, as its only writer sees it.
 #[derive(Drop)]
 pub(super) struct Log {
     word: Word<Job, u64, Counts>,
@@ -66,7 +66,7 @@ impl Log {
         }
     }
 
-    /// Appends a job, and gives a ticket for it. There is none after 2 ^ 64 - 1 jobs.
+    /// Appends a job, and returns a ticket for it. After 2 ^ 64 - 1 jobs there is none.
     pub(super) fn append(&mut self, job: &Job) -> Option<Ticket>
         ensures book { self.new.book ≡ self.old.book }
         ensures named { IfSome result (λ ticket. ticket.book ≡ self.old.book) }
@@ -96,7 +96,7 @@ impl Log {
         Some(Ticket { number, seen })
     }
 
-    /// Both logs are the beginning of one: the job of the ticket is the one that stands at its number.
+    /// If this log has a job at the ticket's number, it is the ticket's job, since both logs are prefixes of one.
     #[tactic(auto, using(crate::proofs::Prefixes::same_at))]
     pub(super) fn agree(&self, ticket: &Ticket)
         requires book { ticket.now.book ≡ self.now.book }

@@ -24,7 +24,7 @@ impl Rule<Job, u64> for Counts {
     ghost moves = { λ ask before after answer. Unit {0} };
 }
 
-/// Who issues a ticket trades nothing.
+/// Issuing a ticket trades nothing.
 pub(super) struct Nothing;
 
 impl Gain<Job, u64> for Nothing {

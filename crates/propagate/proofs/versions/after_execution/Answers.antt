@@ -1,5 +1,5 @@
 -- What is left to prove of `after_execution`.
-use Rattle.std.proofs.Common.{Option, Some, ℕ, sym, subst}
+use Rattle.std.proofs.Common.{Some, ℕ, sym, subst}
 use Rattle.propagate.specs.declared.versions.Versions.{Versions}
 use Rattle.propagate.specs.Versions.{AreExecuted, AreGiven, MayBeMadeAnew, unboxed}
 use Rattle.propagate.proofs.versions.after_execution.Goals as goal

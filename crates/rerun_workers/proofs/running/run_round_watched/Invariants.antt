@@ -2,7 +2,7 @@
 use Rattle.rerun_workers.proofs.running.run_round_watched.Given as goal
 
 abbrev pub ghosts-run_watched-J-Ledger : goal.ghosts-run_watched-J-Ledger
-ghosts-run_watched-J-Ledger g a = record { name = a.blanks.blank.name; parts = a.blanks.blank.parts }
+ghosts-run_watched-J-Ledger g a = record { name = a.blanks.ledger.name; parts = a.blanks.ledger.parts }
 
 abbrev pub ghosts-run_watched-J-Naming : goal.ghosts-run_watched-J-Naming
 ghosts-run_watched-J-Naming g a =
@@ -12,5 +12,5 @@ ghosts-run_watched-J-Naming g a =
       workers = a.workers;
       watches = 1;
       table = a.watched.counter.writer.table;
-      tickets = a.blanks.tickets.book;
+      tickets = a.blanks.issuer.book;
     }

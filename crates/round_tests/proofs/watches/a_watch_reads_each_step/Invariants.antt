@@ -2,7 +2,7 @@
 use Rattle.round_tests.proofs.watches.a_watch_reads_each_step.Given as goal
 
 abbrev pub ghosts-read-J-Ledger : goal.ghosts-read-J-Ledger
-ghosts-read-J-Ledger g a = record { name = a.blanks.blank.name; parts = a.blanks.blank.parts }
+ghosts-read-J-Ledger g a = record { name = a.blanks.ledger.name; parts = a.blanks.ledger.parts }
 
 abbrev pub ghosts-read-J-Naming : goal.ghosts-read-J-Naming
 ghosts-read-J-Naming g a =
@@ -12,5 +12,5 @@ ghosts-read-J-Naming g a =
       workers = 1;
       watches = 1;
       table = a.counter.writer.table;
-      tickets = a.blanks.tickets.book;
+      tickets = a.blanks.issuer.book;
     }

@@ -28,7 +28,7 @@ invariant_of-self g c =
           c.requires.picked c.in-Ok.ensures.ok;
       issued =
           issued-take g.J.Naming.tickets c.args.self.now.round c.take.new.self c.args.t c.in-Ok.job c.issue.result
-          c.args.self.now.tickets c.issue.new.self c.in-Ok.ensures.ok c.in-Ok.ensures.job c.issue.ensures.book
+          c.args.self.now.issuer c.issue.new.self c.in-Ok.ensures.ok c.in-Ok.ensures.job c.issue.ensures.book
           c.issue.ensures.job c.issue.ensures.last c.args.self.now.issued;
     }
 
@@ -53,7 +53,7 @@ invariant_of-self-in-Err g c =
           })
           (c.stop.ensures.event ∙ ap (λ (w : RoundState). happens w Stop) c.in-Err.ensures.err);
       issued =
-          issued-stop g.J.Naming.tickets c.args.self.now.round c.stop.new.self c.args.self.now.tickets
+          issued-stop g.J.Naming.tickets c.args.self.now.round c.stop.new.self c.args.self.now.issuer
           c.take.ensures.valid.in_order
           (c.stop.ensures.event ∙ ap (λ (w : RoundState). happens w Stop) c.in-Err.ensures.err) c.args.self.now.issued;
     }

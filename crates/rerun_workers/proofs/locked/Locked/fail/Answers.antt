@@ -25,5 +25,5 @@ invariant_of-self g c =
           c.give_up.ensures.events;
       issued =
           issued-given_up g.J.Naming.tickets c.args.self.now.round c.give_up.new.round c.args.job.now.thread
-          c.args.self.now.tickets c.give_up.ensures.valid.in_order c.give_up.ensures.events c.args.self.now.issued;
+          c.args.self.now.issuer c.give_up.ensures.valid.in_order c.give_up.ensures.events c.args.self.now.issued;
     }

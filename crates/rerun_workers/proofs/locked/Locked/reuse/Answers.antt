@@ -24,6 +24,6 @@ invariant_of-self-2 g c =
           })
           c.requires.picked c.in_ok-reuse.ensures.ok;
       issued =
-          issued-reuse g.J.Naming.tickets c.args.self.now.round c.reuse.new.self c.args.t c.args.self.now.tickets
+          issued-reuse g.J.Naming.tickets c.args.self.now.round c.reuse.new.self c.args.t c.args.self.now.issuer
           c.reuse.ensures.valid.in_order c.in_ok-reuse.ensures.ok c.args.self.now.issued;
     }

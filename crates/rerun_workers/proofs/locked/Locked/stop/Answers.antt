@@ -24,6 +24,6 @@ invariant_of-self g c =
           })
           c.stop.ensures.event;
       issued =
-          issued-stop g.J.Naming.tickets c.args.self.now.round c.stop.new.self c.args.self.now.tickets
+          issued-stop g.J.Naming.tickets c.args.self.now.round c.stop.new.self c.args.self.now.issuer
           c.stop.ensures.valid.in_order c.stop.ensures.event c.args.self.now.issued;
     }

@@ -2,7 +2,7 @@
 use Rattle.std.proofs.Common.{◌∙◌, ap, sym, subst, length, map}
 use Rattle.tickets.specs.Views.{AreBelow, job_at}
 use Rattle.tickets.proofs.Issuing.{none_below, no_jobs}
-use Rattle.tickets.proofs.tickets.Tickets.new.Goals as goal
+use Rattle.tickets.proofs.issuer.Issuer.new.Goals as goal
 
 pub invariant_of-result : goal.invariant_of-result
 invariant_of-result c =

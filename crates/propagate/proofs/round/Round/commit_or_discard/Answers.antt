@@ -1,4 +1,4 @@
--- What is left to prove of `Round::commit_if`.
+-- What is left to prove of `Round::commit_or_discard`.
 use Rattle.std.proofs.Common.{ap, sym, subst, ◌∙◌}
 use Rattle.std.specs.Arc.{arc_value}
 use Rattle.std.specs.Bool.{OnTrue}
@@ -6,7 +6,7 @@ use Rattle.round_spec.specs.declared.events.Event.TheVariants.{Commit}
 use Rattle.round_spec.specs.Rounds.{RoundState, happens}
 use Rattle.propagate.specs.Committing.{CanCommit}
 use Rattle.propagate.proofs.Making.{begun-in_flight}
-use Rattle.propagate.proofs.round.Round.commit_if.Goals as goal
+use Rattle.propagate.proofs.round.Round.commit_or_discard.Goals as goal
 
 pub commit_executed-requires : goal.commit_executed-requires
 commit_executed-requires c =

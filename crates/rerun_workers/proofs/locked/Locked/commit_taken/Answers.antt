@@ -1,4 +1,4 @@
--- What is left to prove of `Locked::commit`.
+-- What is left to prove of `Locked::commit_taken`.
 use Rattle.std.proofs.Common.{rules, ap, sym, subst, ◌∙◌, Option}
 use Rattle.std.specs.Arc.{arc_value}
 use Rattle.machine_spec.specs.Setup.{Setup, first}
@@ -8,22 +8,22 @@ use Rattle.logbook.specs.Pages.{Book}
 use Rattle.tickets.specs.Views.{TicketView}
 use Rattle.round_spec.specs.Rounds.{RoundState}
 use Rattle.round_spec.specs.Keeping.{IsInOrder}
-use Rattle.rerun_workers.specs.Tickets.{AreIssued, IsNamed, IsTicketed}
+use Rattle.rerun_workers.specs.Tickets.{AreIssued, IsNamed, IsRunOfTicket}
 use Rattle.rerun_workers.proofs.Issued.{issued-commit, issued-give_back, issued-given_up}
-use Rattle.rerun_workers.proofs.locked.Locked.commit.Goals as goal
+use Rattle.rerun_workers.proofs.locked.Locked.commit_taken.Goals as goal
 
-pub commit-requires : goal.commit-requires
-commit-requires g c =
+pub commit_run-requires : goal.commit_run-requires
+commit_run-requires g c =
     let named = c.args.self.now.issued.named in
     record {
       own = c.requires.own ∙ ap (λ (s : Setup). (first s).frame) (sym c.args.self.now.setup);
-      issued = subst (λ (book : Book). AreIssued book c.args.self.now.round c.args.self.now.tickets) (sym named) c.args.self.now.issued;
+      issued = subst (λ (book : Book). AreIssued book c.args.self.now.round c.args.self.now.issuer) (sym named) c.args.self.now.issued;
       named =
-          subst (IsNamed c.args.self.now.tickets.book) (sym c.take.ensures.value)
+          subst (IsNamed c.args.self.now.issuer.book) (sym c.take.ensures.value)
           (subst (λ (book : Book). IsNamed book c.args.pass.now.ticket) (sym named) c.args.pass.now.ticketed);
-      ticketed =
-          subst (λ (ticket : Option TicketView). IsTicketed ticket c.args.run) (sym c.take.ensures.value)
-          c.requires.ticketed;
+      ticket =
+          subst (λ (ticket : Option TicketView). IsRunOfTicket ticket c.args.run) (sym c.take.ensures.value)
+          c.requires.ticket;
     }
 
 pub invariant_of-self : goal.invariant_of-self
@@ -35,19 +35,19 @@ invariant_of-self g c =
       watched = watched_more c.args.self.now.round _ _ _ _ c.in-Done.ensures.same c.count.ensures.counts c.args.self.now.watched;
       counts = λ some. c.count.ensures.some ∙ c.args.self.now.counts some;
       follows =
-          follows-commit g.J.Naming.setup g.J.Naming.past c.args.self.now.round c.commit.new.round
+          follows-commit g.J.Naming.setup g.J.Naming.past c.args.self.now.round c.commit_run.new.round
           (arc_value c.args.run.rec).thread
           (record {
             setup_is = c.args.self.now.setup;
             past_is = c.args.self.now.past;
-            valid = c.commit.ensures.valid.setup;
-            in_order = c.commit.ensures.valid.in_order;
+            valid = c.commit_run.ensures.valid.setup;
+            in_order = c.commit_run.ensures.valid.in_order;
             follows = c.args.self.now.follows;
           })
           c.in-Done.ensures.does.1;
       issued =
-          issued-commit g.J.Naming.tickets c.args.self.now.round c.commit.new.round (arc_value c.args.run.rec).thread
-          c.args.self.now.tickets c.commit.ensures.valid.in_order c.in-Done.ensures.does.1 c.args.self.now.issued;
+          issued-commit g.J.Naming.tickets c.args.self.now.round c.commit_run.new.round (arc_value c.args.run.rec).thread
+          c.args.self.now.issuer c.commit_run.ensures.valid.in_order c.in-Done.ensures.does.1 c.args.self.now.issued;
     }
 
 pub invariant_of-self-in-Stale-1 : goal.invariant_of-self-in-Stale-1
@@ -59,19 +59,19 @@ invariant_of-self-in-Stale-1 g c =
       watched = watched_on c.args.self.now.round _ _ _ c.in-Stale.ensures.same c.args.self.now.watched;
       counts = c.args.self.now.counts;
       follows =
-          follows-give_back g.J.Naming.setup g.J.Naming.past c.args.self.now.round c.commit.new.round
+          follows-give_back g.J.Naming.setup g.J.Naming.past c.args.self.now.round c.commit_run.new.round
           (arc_value c.args.run.rec).thread
           (record {
             setup_is = c.args.self.now.setup;
             past_is = c.args.self.now.past;
-            valid = c.commit.ensures.valid.setup;
-            in_order = c.commit.ensures.valid.in_order;
+            valid = c.commit_run.ensures.valid.setup;
+            in_order = c.commit_run.ensures.valid.in_order;
             follows = c.args.self.now.follows;
           })
           c.in-Stale.ensures.does.2;
       issued =
-          issued-give_back g.J.Naming.tickets c.args.self.now.round c.commit.new.round (arc_value c.args.run.rec).thread
-          c.args.self.now.tickets c.commit.ensures.valid.in_order c.in-Stale.ensures.does.2 c.args.self.now.issued;
+          issued-give_back g.J.Naming.tickets c.args.self.now.round c.commit_run.new.round (arc_value c.args.run.rec).thread
+          c.args.self.now.issuer c.commit_run.ensures.valid.in_order c.in-Stale.ensures.does.2 c.args.self.now.issued;
     }
 
 pub invariant_of-self-in-Memory : goal.invariant_of-self-in-Memory
@@ -80,23 +80,23 @@ invariant_of-self-in-Memory g c =
       counted = search rules;
       setup = c.give_up.ensures.same.setup ∙ c.in-Memory.ensures.same.setup ∙ c.args.self.now.setup;
       past = c.give_up.ensures.same.past ∙ c.in-Memory.ensures.same.past ∙ c.args.self.now.past;
-      watched = watched_on c.commit.new.round _ _ _ c.give_up.ensures.same
+      watched = watched_on c.commit_run.new.round _ _ _ c.give_up.ensures.same
           (watched_on c.args.self.now.round _ _ _ c.in-Memory.ensures.same c.args.self.now.watched);
       counts = c.args.self.now.counts;
       follows =
-          follows-given_up g.J.Naming.setup g.J.Naming.past c.commit.new.round c.give_up.new.round _
+          follows-given_up g.J.Naming.setup g.J.Naming.past c.commit_run.new.round c.give_up.new.round _
           (subst (IsUnder g.J.Naming.setup g.J.Naming.past) (sym c.in-Memory.ensures.does.2)
           (record {
             setup_is = c.args.self.now.setup;
             past_is = c.args.self.now.past;
-            valid = c.commit.ensures.valid.setup;
-            in_order = c.commit.ensures.valid.in_order;
+            valid = c.commit_run.ensures.valid.setup;
+            in_order = c.commit_run.ensures.valid.in_order;
             follows = c.args.self.now.follows;
           }))
           c.give_up.ensures.events;
       issued =
           let same = sym c.in-Memory.ensures.does.2 in
-          issued-given_up g.J.Naming.tickets c.commit.new.round c.give_up.new.round _ c.args.self.now.tickets
-          (subst IsInOrder same c.commit.ensures.valid.in_order) c.give_up.ensures.events
-          (subst (λ (w : RoundState). AreIssued g.J.Naming.tickets w c.args.self.now.tickets) same c.args.self.now.issued);
+          issued-given_up g.J.Naming.tickets c.commit_run.new.round c.give_up.new.round _ c.args.self.now.issuer
+          (subst IsInOrder same c.commit_run.ensures.valid.in_order) c.give_up.ensures.events
+          (subst (λ (w : RoundState). AreIssued g.J.Naming.tickets w c.args.self.now.issuer) same c.args.self.now.issued);
     }

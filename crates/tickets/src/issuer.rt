@@ -1,26 +1,26 @@
-//! Who issues tickets.
+//! The issuer of tickets.
 
 ghost use Rattle.std.specs.Prelude.{◌≡◌, true, Some, None, replicate, slice_set, IfSome};
-ghost use Rattle.tickets.specs.Views.{no_numbers, job_of, number_of, IsLast};
+ghost use Rattle.tickets.specs.Views.{no_numbers, job_of, number_of, IsForLastJob};
 
 use super::log::{Log, Ticket};
 use guest_call::THREADS;
 use std::marker::Model;
 use thunk_run::Job;
 
-/// Who issues tickets: it keeps the number of the last one of each thread. A clause sees in which book's log its tickets
-/// stand, and for each thread the job of its last ticket, unless none could be issued for its last job.
+/// Issues tickets, and keeps the number of each thread's last one. Clauses see the book of their log, and the job of each
+/// thread's last ticket, or none if none could be issued.
 #[derive(Drop)]
-pub struct Tickets {
+pub struct Issuer {
     log: Log,
     last: [Option<u64>; THREADS],
 }
 
-impl Model for Tickets {
+impl Model for Issuer {
     ghost use Rattle.std.specs.Prelude.{map, length};
-    ghost use Rattle.tickets.specs.Views.{TicketsView, AreBelow, job_at};
+    ghost use Rattle.tickets.specs.Views.{IssuerView, AreBelow, job_at};
 
-    ghost Value = { TicketsView };
+    ghost Value = { IssuerView };
 
     ghost view = { λ t. record {
       book = t.log.book;
@@ -30,7 +30,7 @@ impl Model for Tickets {
     ghost invariant = { λ t. AreBelow (length t.log.jobs) t.last };
 }
 
-/// No thread has a ticket.
+/// The numbers before any ticket is issued: none for each thread.
 #[tactic(auto, unfolding(crate::specs::Views::no_numbers))]
 fn no_numbers() -> [Option<u64>; THREADS]
     ensures { result ≡ no_numbers }
@@ -58,25 +58,25 @@ fn set(numbers: &mut [Option<u64>; THREADS], t: u8, number: Option<u64>)
     }
 }
 
-impl Tickets {
-    /// Tickets of which none was issued.
-    pub fn new() -> Tickets
+impl Issuer {
+    /// An issuer that has issued no ticket.
+    pub fn new() -> Issuer
         ensures { result.jobs ≡ replicate 32 None }
     {
-        Tickets {
+        Issuer {
             log: Log::new(),
             last: no_numbers(),
         }
     }
 
-    /// Issues a ticket for a job, which is the last one of its thread then. There is none after 2 ^ 64 - 1 tickets.
+    /// Issues a ticket for a job. It becomes the last one of the job's thread. After 2 ^ 64 - 1 tickets there is none.
     pub fn issue(&mut self, job: &Job) -> Option<Ticket>
         ensures book { self.new.book ≡ self.old.book }
         ensures named { IfSome result (λ ticket. ticket.book ≡ self.old.book) }
         ensures job { IfSome result (λ ticket. ticket.job ≡ Some job.now) }
         ensures last { self.new.jobs ≡ slice_set self.old.jobs job.now.thread (job_of result) }
     {
-        let Tickets { log, last } = self;
+        let Issuer { log, last } = self;
         let ticket = log.append(job);
         set(last, job.thread, number_of(&ticket));
         ticket
@@ -85,7 +85,7 @@ impl Tickets {
     /// Whether a ticket is the last one of thread `t`.
     pub fn is_last(&self, ticket: &Ticket, t: u8) -> bool
         requires book { ticket.now.book ≡ self.now.book }
-        ensures { result ≡ true → IsLast self.now t ticket.now }
+        ensures { result ≡ true → IsForLastJob self.now t ticket.now }
     {
         self.log.agree(ticket);
         match self.last.get(usize::from(t)) {

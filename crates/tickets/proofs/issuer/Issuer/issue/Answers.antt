@@ -2,7 +2,7 @@
 use Rattle.std.proofs.Common.{◌∙◌, ap, subst, length, set, map, sym}
 use Rattle.tickets.specs.Views.{AreBelow, job_at, job_of}
 use Rattle.tickets.proofs.Issuing.{issued_below, issued_jobs}
-use Rattle.tickets.proofs.tickets.Tickets.issue.Goals as goal
+use Rattle.tickets.proofs.issuer.Issuer.issue.Goals as goal
 
 pub invariant_of-self : goal.invariant_of-self
 invariant_of-self c =

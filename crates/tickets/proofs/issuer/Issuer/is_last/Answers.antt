@@ -4,7 +4,7 @@ use Rattle.std.proofs.lemmas.Bool.{eqb-true}
 use Rattle.std.proofs.lemmas.Option.{slice_get-get_or}
 use Rattle.thunk_run.specs.declared.job.Job.{Job}
 use Rattle.tickets.proofs.Issuing.{last_job}
-use Rattle.tickets.proofs.tickets.Tickets.is_last.Goals as goal
+use Rattle.tickets.proofs.issuer.Issuer.is_last.Goals as goal
 
 there_is : (o : Option Job) → is_some o ≡ true → (job : Job) × (o ≡ Some job)
 there_is None some = cc
