@@ -1,4 +1,4 @@
-//! The loader, decoded pages and the loop of turns, tried through their public calls.
+//! The loader, decoded pages, the loop of turns and tickets, tried through their public calls.
 #![tactic(auto)]
 
 #[cfg(test)]
@@ -9,3 +9,5 @@ mod fixtures;
 mod operations;
 #[cfg(test)]
 mod thunks;
+#[cfg(test)]
+mod tickets;

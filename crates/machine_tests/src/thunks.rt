@@ -24,10 +24,10 @@ const SELF: [u8; 28] = [
 ];
 
 /// jal x0,0: a loop of one instruction.
-const LOOP: [u8; 4] = [0x6f, 0x00, 0x00, 0x00];
+pub(super) const LOOP: [u8; 4] = [0x6f, 0x00, 0x00, 0x00];
 
 /// The first thunk of a guest with this code at 0x10000 and a page of zeros behind it.
-fn job_of(alloc: Global, code: &[u8], fuel: u32) -> Result<Job, AllocError> {
+pub(super) fn job_of(alloc: Global, code: &[u8], fuel: u32) -> Result<Job, AllocError> {
     let mut bytes = [0; 4096];
     for (place, byte) in bytes.iter_mut().zip(code.iter()) {
         *place = *byte;
