@@ -6,8 +6,8 @@ mod executables;
 #[cfg(test)]
 mod fixtures;
 #[cfg(test)]
+mod issuers;
+#[cfg(test)]
 mod operations;
 #[cfg(test)]
 mod thunks;
-#[cfg(test)]
-mod tickets;

@@ -5,8 +5,8 @@ use std::alloc::AllocError;
 use thunk_run::Job;
 use tickets::Issuer;
 
-/// Whether a first ticket for a job is the last one of thread 3, and of thread 2; and once a second one is issued, whether
-/// the first one is the last of thread 3, and the second one.
+/// Whether a first ticket for a job is the last one of thread 3, and of thread 2; and after a second one was issued,
+/// whether the first one is the last of thread 3, and whether the second one is.
 fn are_last(job: &Job) -> Option<[bool; 4]> {
     let mut issuer = Issuer::new();
     let first = issuer.issue(job)?;
