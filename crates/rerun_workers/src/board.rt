@@ -113,7 +113,8 @@ fn places_of<J: Naming, R: Threads>(
     })
 }
 
-/// All shares as one, the steps of each pass in their order, and their effort as one, of which there is none without an edit.
+/// All shares as one, the steps of each pass in their order, and their effort as one, of which there is none without an
+/// edit.
 fn gather<J: Naming>(
     mut passes: Vec<Pass<J>>,
     mut worker_steps: Vec<u64>,
@@ -194,8 +195,8 @@ fn watched_places<J: Naming, R: Threads>(
     Ok((places, seats))
 }
 
-/// Takes all watches back. What each of them has seen, the last look at the word sees too, and it stands in the list once
-/// for each.
+/// Takes all watches back. What each of them has seen, the last look at the word sees too, and it stands in the list
+/// once for each.
 fn last_numbers<J: Naming>(
     mut counter: Counter,
     mut watches: Vec<Watch<J>>,
@@ -312,8 +313,8 @@ impl<J: Naming> Board<J> {
     }
 
     /// What a worker is to do next, as the round under the lock tells it. Where it is told to hold, it waits until it
-    /// is woken, and asks again. A step to execute has the page map and the fuel of the round's setup, and if a ticket could
-    /// be issued for it, the pass holds it. Without an edit it is never one.
+    /// is woken, and asks again. A step to execute has the page map and the fuel of the round's setup, and if a ticket
+    /// could be issued for it, the pass holds it. Without an edit it is never one.
     ///
     /// Who is told to begin a step wakes nobody, since a short one is done before another worker could begin what else
     /// there is to do, and whoever has done it asks again. Whose step runs long wakes another worker then, if there is
@@ -372,9 +373,9 @@ impl<J: Naming> Board<J> {
         outcome
     }
 
-    /// Commits a run of the step that the worker was last assigned, or says why it can't. If the pass has that step's ticket,
-    /// the run's registers and read pages aren't compared. Who commits asks for its next step then; if memory ran out,
-    /// nobody has to ask, and all are woken.
+    /// Commits a run of the step that the worker was last assigned, or says why it can't. If the pass has that step's
+    /// ticket, the run's registers and read pages aren't compared. Who commits asks for its next step then; if memory
+    /// ran out, nobody has to ask, and all are woken.
     pub fn commit_taken<R: Wait>(&self, rt: &R, pass: &mut Pass<J>, run: Run) -> CommitOutcome
         requires own { arc_value run.frame ≡ (first J.setup).frame }
         requires ticket { IsRunOfTicket pass.old.ticket run }

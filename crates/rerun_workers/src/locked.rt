@@ -57,11 +57,11 @@ pub enum CommitOutcome {
     Memory(Run),
 }
 
-/// The round that workers make together, under their lock. The total of the ledger's book is the length of the schedule;
-/// so is a word that can be read without the lock, if anybody watches. The issuer issues a ticket for each step that is
-/// taken. The round is of the setup and of the history that its type names, and nothing was begun in it but what was
-/// picked: by a sound history all of it was picked rightly, and without an edit it has done nothing yet but what the
-/// history did.
+/// The round that workers make together, under their lock. The total of the ledger's book is the length of the
+/// schedule; so is a word that can be read without the lock, if anybody watches. The issuer issues a ticket for each
+/// step that is taken. The round is of the setup and of the history that its type names, and nothing was begun in it
+/// but what was picked: by a sound history all of it was picked rightly, and without an edit it has done nothing yet
+/// but what the history did.
 #[derive(Drop)]
 pub struct Locked<J: Naming> {
     pub(super) round: Round,
@@ -109,8 +109,8 @@ fn is_last(issuer: &Issuer, ticket: &Option<Ticket>, t: u8) -> bool
     }
 }
 
-/// Commits a run to the round whose tickets this issuer issues. If it has the last ticket of its thread, its registers and
-/// read pages aren't compared.
+/// Commits a run to the round whose tickets this issuer issues. If it has the last ticket of its thread, its registers
+/// and read pages aren't compared.
 #[tactic(auto, using(crate::proofs::Issued::last_step))]
 fn commit_run(round: &mut Round, issuer: &Issuer, ticket: Option<Ticket>, run: Run) -> Committed
     requires own { arc_value run.frame ≡ (first round.old.setup).frame }
@@ -141,8 +141,8 @@ fn count(counter: &mut Option<Counter>)
 }
 
 impl<J: Naming> Locked<J> {
-    /// A round before its first step, with a book that counts nothing, with a word that doesn't either if anybody watches,
-    /// and with the issuer of its tickets.
+    /// A round before its first step, with a book that counts nothing, with a word that doesn't either if anybody
+    /// watches, and with the issuer of its tickets.
     #[tactic(auto, using(crate::proofs::Following::follows_opening))]
     pub(super) fn new(
         round: Round,
@@ -287,8 +287,8 @@ impl<J: Naming> Locked<J> {
         self.commit_taken(pass, run)
     }
 
-    /// The same of a run of the job that the pass's ticket is for, if it has one. If that is the last ticket of its thread,
-    /// the run's registers and read pages aren't compared.
+    /// The same of a run of the job that the pass's ticket is for, if it has one. If that is the last ticket of its
+    /// thread, the run's registers and read pages aren't compared.
     pub fn commit_taken(&mut self, pass: &mut Pass<J>, run: Run) -> CommitOutcome
         requires own { arc_value run.frame ≡ (first J.setup).frame }
         requires ticket { IsRunOfTicket pass.old.ticket run }

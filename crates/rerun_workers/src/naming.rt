@@ -22,9 +22,9 @@ use std::sync::ledger::{Blank, Ledger, Share};
 use tickets::{Issuer, Ticket};
 use turn_count::Tally;
 
-/// What the round of a board starts from, the history that it uses, its numbers of workers and of watches, the word that
-/// watches read, and the book of its tickets. The types of the board, of its passes and of its watches name all of these,
-/// so nobody can put a round of another setup or of another history in its place, or watch another round.
+/// What the round of a board starts from, the history that it uses, its numbers of workers and of watches, the word
+/// that watches read, and the book of its tickets. The types of the board, of its passes and of its watches name all of
+/// these, so nobody can put a round of another setup or of another history in its place, or watch another round.
 pub trait Naming: Ledger {
     ghost setup: { Setup };
 
@@ -76,9 +76,9 @@ impl Blanks {
 
 /// What a worker holds of a board: how many steps of the round it has made, which its share of the ledger counts too; a
 /// step that was begun for it before it set to work, if there is one; the ticket of the step that it was last told to
-/// begin, until it commits a run or sets that step aside; and its effort: without an edit it executes no turn and, by any
-/// history that holds together, compares no page. Four tallies count how often it asked what to do, was told to begin a step, executed one,
-/// and handed one in.
+/// begin, until it commits a run or sets that step aside; and its effort: without an edit it executes no turn and, by
+/// any history that holds together, compares no page. Four tallies count how often it asked what to do, was told to
+/// begin a step, executed one, and handed one in.
 #[derive(Drop)]
 pub struct Pass<J: Naming> {
     pub(super) share: Share<J>,

@@ -33,8 +33,8 @@ fn first_makes(alloc: Global, steps: u64, workers: u32) -> Result<Vec<u64>, Allo
     Ok(worker_steps)
 }
 
-/// A round of which the first of so many workers makes all steps. What that takes is added to the effort, of which there
-/// is none before, if there is one worker or no edit.
+/// A round of which the first of so many workers makes all steps. What that takes is added to the effort, of which
+/// there is none before, if there is one worker or no edit.
 fn run_by_first<G: Gate>(
     alloc: Global,
     setup: Setup,
@@ -126,9 +126,9 @@ fn run_together<J: Naming + Send + Sync, R: Threads + Wait + Sync, G: Gate + Syn
 /// A round that so many workers make, and how many of its steps each of them made, in their order. It has an end. One
 /// worker makes it without a lock and without the gate, and discards nothing. By a sound history each entry was picked
 /// rightly: its thread was due, or nobody was. However many the workers are, they execute again no more than they must;
-/// and without an edit it is all reuse of the history, and nothing is discarded. The counter of turns that comes with it has
-/// those of the executed steps if there is one worker, and 0 without an edit; and without an edit since a history that
-/// holds together, honest or not, no page was compared.
+/// and without an edit it is all reuse of the history, and nothing is discarded. The counter of turns that comes with
+/// it has those of the executed steps if there is one worker, and 0 without an edit; and without an edit since a
+/// history that holds together, honest or not, no page was compared.
 ///
 /// # Errors
 ///

@@ -30,8 +30,8 @@ fn room_to_watch<J: Naming>(alloc: Global) -> Result<(Vec<u64>, Vec<Watch<J>>), 
     Ok((numbers, watches))
 }
 
-/// Workers make the round on the board, of which each has one of the passes, and a watcher looks meanwhile how many steps
-/// it has. His watch comes back with the numbers that he read, and so do the passes.
+/// Workers make the round on the board, of which each has one of the passes, and a watcher looks meanwhile how many
+/// steps it has. His watch comes back with the numbers that he read, and so do the passes.
 fn work_watched<J: Naming + Send + Sync, R: Threads + Wait + Sync, G: Gate + Sync>(
     rt: &R,
     board: &Board<J>,

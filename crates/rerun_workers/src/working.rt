@@ -172,8 +172,8 @@ pub fn work<J: Naming, R: Wait, G: Gate>(
     }
 }
 
-/// So many workers make the round on the board, of which each has one of the passes. As long as there is nothing to share
-/// no thread is started: never, if a round only reuses.
+/// So many workers make the round on the board, of which each has one of the passes. As long as there is nothing to
+/// share no thread is started: never, if a round only reuses.
 pub(super) fn work_together<J: Naming + Send + Sync, R: Threads + Wait + Sync, G: Gate + Sync>(
     rt: &R,
     alloc: Global,

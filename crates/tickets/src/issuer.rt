@@ -8,8 +8,8 @@ use guest_call::THREADS;
 use std::marker::Model;
 use thunk_run::Job;
 
-/// Issues tickets, and keeps the number of each thread's last one. Clauses see the book of their log, and the job of each
-/// thread's last ticket, or none if none could be issued.
+/// Issues tickets, and keeps the number of each thread's last one. Clauses see the book of their log, and the job of
+/// each thread's last ticket, or none if none could be issued.
 #[derive(Drop)]
 pub struct Issuer {
     log: Log,
