@@ -1,14 +1,14 @@
 -- The touched slots, after one of them changed or one more was touched.
-use Rattle.std.proofs.Common.{◌≡◌, ℕ, ◌<◌, ◌⊎◌, Bool, true, false, IsTrue, IsFalse, List, [], ◌∷◌, ◌++◌, length, get_or, set, replicate, inl, inr, Option, Some, None, Result, Ok, Err, MatchResult, Vec, refl, ap, sym, subst, ◌∙◌, arith}
+use Rattle.std.proofs.Common.{◌≡◌, ℕ, ◌<◌, ◌≤◌, ◌^◌, suc, ◌⊎◌, Bool, true, false, IsTrue, IsFalse, List, [], ◌∷◌, ◌++◌, length, get_or, set, replicate, inl, inr, Option, Some, None, Result, Ok, Err, MatchResult, Vec, refl, ap, sym, subst, ◌∙◌, arith}
 use Rattle.std.proofs.lemmas.Bool.{cases_eq, cases_lt}
-use Rattle.std.proofs.lemmas.List.{get_or-map, get_or-set_same, get_or-set_other, get_or_append_left, get_or_past, get_or_default, set-get_or, ext_get_or, length-map, length-set, with_items_is}
+use Rattle.std.proofs.lemmas.List.{get_or-map, get_or-set_same, get_or-set_other, get_or_append_left, get_or_past, get_or_default, set-get_or, ext_get_or, length-map, length-set, length-append, with_items_is}
 use Rattle.std.proofs.Math.Seq.{get_or-append_seam}
 use Rattle.std.specs.Vec.{with_items}
 use Rattle.memory_spec.specs.Pages.{Memory, page_of}
 use Rattle.priv_space.specs.declared.slot.Slot.{Slot}
 use Rattle.priv_space.specs.declared.slot.Access.{Access}
 use Rattle.priv_space.specs.Slots.{untouched, SharesPage, IsPermitted, IsOver}
-use Rattle.priv_space.specs.Held.{held_at, all_held, IsHeld, PlacesSlot, FindsNext}
+use Rattle.priv_space.specs.Held.{held_at, all_held, IsHeld, PlacesSlot, FindsNext, FindsLeast}
 use Rattle.priv_space.specs.Changes.{OnSlot, StoresAgain}
 use Rattle.priv_space.proofs.Views.{map-replicate}
 
@@ -23,7 +23,7 @@ get_or-all_held places held i lt = get_or-map (held_at held) places i 0 untouche
 
 -- a slot without a place wasn't touched
 pub untouched-held :
-    (places : List ℕ) (held : List Slot) (i : ℕ) → IsHeld places held → get_or places i 0 ≡ 0
+    {listed : List ℕ} (places : List ℕ) (held : List Slot) (i : ℕ) → IsHeld listed places held → get_or places i 0 ≡ 0
     → get_or (all_held places held) i untouched ≡ untouched
 untouched-held places held i h free =
     elim (cases_lt i (length places)) [
@@ -61,7 +61,7 @@ at_set xs i j v d lt =
 
 -- what a place of one's own holds changes one slot; that of place 0 stays untouched
 pub all_held-set :
-    (places : List ℕ) (held : List Slot) (i k : ℕ) (s : Slot) → IsHeld places held → i < length places
+    {listed : List ℕ} (places : List ℕ) (held : List Slot) (i k : ℕ) (s : Slot) → IsHeld listed places held → i < length places
     → k ≡ get_or places i 0 → (k ≡ 0 → s ≡ untouched)
     → all_held places (set held k s) ≡ set (all_held places held) i s
 all_held-set places held i k s h lt k_is none =
@@ -91,8 +91,8 @@ all_held-set places held i k s h lt k_is none =
     ])
 
 is_held-set :
-    (places : List ℕ) (held : List Slot) (k : ℕ) (s : Slot) → IsHeld places held → k < length held
-    → (k ≡ 0 → s ≡ untouched) → IsHeld places (set held k s)
+    {listed : List ℕ} (places : List ℕ) (held : List Slot) (k : ℕ) (s : Slot) → IsHeld listed places held → k < length held
+    → (k ≡ 0 → s ≡ untouched) → IsHeld listed places (set held k s)
 is_held-set places held k s h under none = record {
   first =
       elim (at_set held k 0 s untouched under) [
@@ -102,11 +102,14 @@ is_held-set places held k s h under none = record {
   some = omega (arith, h.some, length-set held k s);
   inside = λ slot. omega (arith, h.inside slot, length-set held k s);
   apart = h.apart;
+  room = h.room;
+  names = h.names;
+  mapped = λ place some below. h.mapped place some (omega (arith, below, length-set held k s));
 }
 
 -- a slot that gets the next place, where nothing was touched, is as before
 pub all_held-more :
-    (places : List ℕ) (held : List Slot) (i : ℕ) → IsHeld places held → i < length places → get_or places i 0 ≡ 0
+    {listed : List ℕ} (places : List ℕ) (held : List Slot) (i : ℕ) → IsHeld listed places held → i < length places → get_or places i 0 ≡ 0
     → all_held (set places i (length held)) (held ++ untouched ∷ []) ≡ all_held places held
 all_held-more places held i h lt free =
     let places' = set places i (length held) in
@@ -128,26 +131,120 @@ all_held-more places held i h lt free =
           ∙ sym was
     ])
 
+-- so the places and their list are still such ones
+pub is_held-more :
+    (listed places : List ℕ) (held : List Slot) (i : ℕ) → IsHeld listed places held → i < length places
+    → get_or places i 0 ≡ 0
+    → IsHeld (set listed (length held) i) (set places i (length held)) (held ++ untouched ∷ [])
+is_held-more listed places held i h lt free =
+    let n = length held in
+    let places' = set places i n in
+    let listed' = set listed n i in
+    let whole : length places' ≡ length places = length-set places i n in
+    let many : length listed' ≡ length listed = length-set listed n i in
+    let more : length (held ++ untouched ∷ []) ≡ suc n =
+    omega (arith, length-append held (untouched ∷ [])) in
+    record {
+      first = get_or_append_left held (untouched ∷ []) untouched 0 h.some ∙ h.first;
+      some = omega (arith, more);
+      inside = λ slot.
+          elim (at_set places i slot n 0 lt) [
+            | inl new ↦ omega (arith, new.1, more)
+            | inr other ↦ omega (arith, other.1, h.inside slot, more)
+          ];
+      apart = λ a b same some.
+          elim (at_set places i a n 0 lt) [
+            | inl new ↦ elim (at_set places i b n 0 lt) [
+              | inl new' ↦ new.0 ∙ sym new'.0
+              | inr other' ↦ absurd (omega (arith, new.1, other'.1, h.inside b))
+            ]
+            | inr other ↦ elim (at_set places i b n 0 lt) [
+              | inl new' ↦ absurd (omega (arith, new'.1, other.1, h.inside a))
+              | inr other' ↦ h.apart a b (sym other.1 ∙ same ∙ other'.1) (omega (arith, other.1))
+            ]
+          ];
+      room = many ∙ h.room;
+      names = λ slot some below.
+          elim (at_set places i slot n 0 lt) [
+            | inl new ↦
+                ap (λ p. get_or listed' p 0) new.1
+                ∙ get_or-set_same listed n i 0 (omega (arith, new.1, many))
+                ∙ sym new.0
+            | inr other ↦
+                ap (λ p. get_or listed' p 0) other.1
+                ∙ get_or-set_other listed n (get_or places slot 0) i 0 (λ is. absurd (omega (arith, h.inside slot, is)))
+                ∙ h.names slot (omega (arith, other.1)) (omega (arith, other.1, many))
+          ];
+      mapped = λ place some below listed_is.
+          elim (cases_eq place n) [
+            | inl is ↦
+                omega (arith, ap (λ p. get_or listed' p 0) is, get_or-set_same listed n i 0 (omega (arith, many)), whole)
+            | inr other ↦
+                omega (
+                  arith,
+                  get_or-set_other listed n place i 0 other,
+                  whole,
+                  h.mapped place some (omega (arith, more)) (omega (arith, many)),
+                )
+          ];
+    }
+
+-- the least listed slot is the next one that has a place, where all that are held are listed
+pub next-listed :
+    (listed places : List ℕ) (held : List Slot) (from count : ℕ) (found : Option ℕ) → IsHeld listed places held
+    → count ≡ length held → count ≤ length listed → length places < 2 ^ 64 → FindsLeast listed count from found
+    → FindsNext (λ k. get_or places k 0 ≡ 0) from (length places) found
+next-listed listed places held from count (Some slot) h is all fits least =
+    let within : slot < length places =
+    omega (
+      arith,
+      least.is,
+      h.mapped least.place least.inside.0 (omega (arith, least.inside.1)) (omega (arith, least.inside.1)),
+    ) in
+    record {
+      above = least.above;
+      within = within;
+      fits = omega (arith, within, fits);
+      before = λ k above below.
+          elim (cases_lt 0 (get_or places k 0)) [
+            | inl some ↦
+                let here = h.names k some (omega (arith, h.inside k)) in
+                absurd (omega (arith, least.least (get_or places k 0) some (omega (arith, h.inside k)) (omega (arith, here)), here))
+            | inr low ↦ omega arith
+          ];
+    }
+next-listed listed places held from count None h is all fits none = λ k above.
+    elim (cases_lt 0 (get_or places k 0)) [
+      | inl some ↦
+          absurd (
+          omega (
+            arith,
+            h.names k some (omega (arith, h.inside k)),
+            none (get_or places k 0) some (omega (arith, h.inside k)),
+          ))
+      | inr low ↦ omega arith
+    ]
+
 -- One slot is put in its place after another, and no other slot changes.
-pub record IsPut (slots : List Slot) (places : List ℕ) (held : List Slot) (i : ℕ) (old new : Slot) : Type 0 where
-  pub each : IsHeld places held
+pub record IsPut (slots : List Slot) (listed places : List ℕ) (held : List Slot) (i : ℕ) (old new : Slot) : Type 0 where
+  pub each : IsHeld listed places held
   pub all : all_held places held ≡ set slots i new
   pub within : i < length slots
   pub was : old ≡ get_or slots i untouched
 
 -- so it is where what a place holds changes; only what wasn't touched is put in place 0
 pub put-slot :
-    {slots held : List Slot} {places places' : List ℕ} {i k : ℕ} {x : Slot} (s : Slot)
-    → all_held places held ≡ slots → IsHeld places held → i < length slots → k ≡ get_or places i 0
+    {slots held : List Slot} {listed places places' : List ℕ} {i k : ℕ} {x : Slot} (s : Slot)
+    → all_held places held ≡ slots → IsHeld listed places held → i < length slots → k ≡ get_or places i 0
     → x ≡ get_or held k x → places' ≡ places → (k ≡ 0 → x ≡ untouched → s ≡ untouched)
-    → IsPut slots places' (set held k s) i x s
-put-slot {slots} {held} {places} {places'} {i} {k} {x} s all each within place x_is same none =
+    → IsPut slots listed places' (set held k s) i x s
+put-slot {slots} {held} {listed} {places} {places'} {i} {k} {x} s all each within place x_is same none =
     let inside : i < length places = omega (arith, ap length all, length-all_held places held) in
     let under : k < length held = omega (arith, each.inside i) in
     let here : x ≡ held_at held k = x_is ∙ get_or_default held k x untouched under in
     let first : k ≡ 0 → s ≡ untouched = λ free. none free (here ∙ ap (held_at held) free ∙ each.first) in
     record {
-      each = subst (λ q. IsHeld q (set held k s)) (sym same) (is_held-set places held k s each under first);
+      each = subst (λ q. IsHeld listed q (set held k s)) (sym same) (is_held-set places held k s each under first);
       all =
           ap (λ q. all_held q (set held k s)) same
           ∙ all_held-set places held i k s each inside place first
@@ -162,25 +259,25 @@ put-slot {slots} {held} {places} {places'} {i} {k} {x} s all each within place x
 
 -- and in the place that a slot got to be touched
 pub put-touched :
-    {X : Type 0} {slots old held : List Slot} {before places : List ℕ} {i k : ℕ} {x : Slot} (s : Slot) (v : Vec ℕ X)
-    → all_held v.items old ≡ slots → before ≡ v.items → PlacesSlot i before places old held (Ok k)
+    {X : Type 0} {slots old held : List Slot} {listed before places : List ℕ} {i k : ℕ} {x : Slot} (s : Slot) (v : Vec ℕ X)
+    → all_held v.items old ≡ slots → before ≡ v.items → PlacesSlot i listed before places old held (Ok k)
     → i < length slots → x ≡ get_or held k x → length places ≡ v.len
-    → IsPut slots (with_items v places).items (set held k s) i x s
+    → IsPut slots listed (with_items v places).items (set held k s) i x s
 put-touched {old = old} {places = places} s v was seen placed within x_is fits =
     put-slot s (placed.same ∙ ap (λ p. all_held p old) seen ∙ was) placed.each within placed.place.0 x_is
     (with_items_is v places fits) (λ free. absurd (omega (arith, placed.place.1)))
 
 -- what was put has its share of the view's page
 pub shared-put :
-    {slots held : List Slot} {places : List ℕ} {i : ℕ} {x s : Slot} (view : Memory)
-    → IsPut slots places held i x s → IsOver view slots → SharesPage (page_of view i) x
+    {slots held : List Slot} {listed places : List ℕ} {i : ℕ} {x s : Slot} (view : Memory)
+    → IsPut slots listed places held i x s → IsOver view slots → SharesPage (page_of view i) x
 shared-put {i = i} view p over = rw p.was (over.shared i)
 
 -- so its change is that change of the slot
 pub change-put :
-    (Change : Slot → Slot → Type 0) {slots held : List Slot} {places : List ℕ} {i : ℕ} {x s : Slot}
-    → IsPut slots places held i x s → Change x s → OnSlot i Change slots (all_held places held)
-change-put Change {slots} {held} {places} {i} {x} {s} p change =
+    (Change : Slot → Slot → Type 0) {slots held : List Slot} {listed places : List ℕ} {i : ℕ} {x s : Slot}
+    → IsPut slots listed places held i x s → Change x s → OnSlot i Change slots (all_held places held)
+change-put Change {slots} {held} {listed} {places} {i} {x} {s} p change =
     let now : get_or (all_held places held) i untouched ≡ s =
     ap (λ xs. get_or xs i untouched) p.all ∙ get_or-set_same slots i s untouched p.within in
     record {
@@ -191,8 +288,8 @@ change-put Change {slots} {held} {places} {i} {x} {s} p change =
 
 -- and of a call that may fail, which then changes nothing
 pub outcome-put :
-    {T E : Type 0} (Change : T → Slot → Slot → Type 0) {slots held : List Slot} {places : List ℕ} {i : ℕ} {x s : Slot}
-    (r : Result T E) → IsPut slots places held i x s → MatchResult r (λ value. Change value x s) (λ error. s ≡ x)
+    {T E : Type 0} (Change : T → Slot → Slot → Type 0) {slots held : List Slot} {listed places : List ℕ} {i : ℕ} {x s : Slot}
+    (r : Result T E) → IsPut slots listed places held i x s → MatchResult r (λ value. Change value x s) (λ error. s ≡ x)
     → MatchResult r (λ value. OnSlot i (Change value) slots (all_held places held)) (λ error. all_held places held ≡ slots)
 outcome-put Change (Ok value) p done = change-put (Change value) p done
 outcome-put Change {slots} {i = i} (Err error) p stays =

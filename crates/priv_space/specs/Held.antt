@@ -13,22 +13,27 @@ abbrev pub all_held : List ℕ → List Slot → List Slot
 all_held places held = map (held_at held) places
 
 -- Each slot has its place among those that are held, no two have the same but place 0, and what stands there wasn't
--- touched.
-pub record IsHeld (places : List ℕ) (held : List Slot) : Type 0 where
+-- touched. The first places list whose they are.
+pub record IsHeld (listed places : List ℕ) (held : List Slot) : Type 0 where
   pub first : held_at held 0 ≡ untouched
   pub some : 0 < length held
   pub inside : (slot : ℕ) → slice_index places slot < length held
   pub apart : (a b : ℕ) → slice_index places a ≡ slice_index places b → 0 < slice_index places a → a ≡ b
+  pub room : length listed ≡ 16
+  pub names : (slot : ℕ) → 0 < slice_index places slot → slice_index places slot < length listed
+      → slice_index listed (slice_index places slot) ≡ slot
+  pub mapped : (place : ℕ) → 0 < place → place < length held → place < length listed
+      → slice_index listed place < length places
 
 -- A slot of a table of places and of what they hold.
-pub record HoldsSlot (slot : ℕ) (places : List ℕ) (held : List Slot) : Type 0 where
-  pub each : IsHeld places held
+pub record HoldsSlot (slot : ℕ) (listed places : List ℕ) (held : List Slot) : Type 0 where
+  pub each : IsHeld listed places held
   pub within : slot < length places
 
 -- The slot got a place of its own, unless the host's memory ran out. All slots are as before.
-pub record PlacesSlot (slot : ℕ) (places places' : List ℕ) (held held' : List Slot) (result : Result ℕ AllocError)
-    : Type 0 where
-  pub each : IsHeld places' held'
+pub record PlacesSlot (slot : ℕ) (listed' places places' : List ℕ) (held held' : List Slot)
+    (result : Result ℕ AllocError) : Type 0 where
+  pub each : IsHeld listed' places' held'
   pub same : all_held places' held' ≡ all_held places held
   pub place : IfOk result (λ place. (place ≡ slice_index places' slot) × (0 < place))
 
@@ -43,3 +48,16 @@ pub record IsNext (IsFree : ℕ → Type 0) (from count slot : ℕ) : Type 0 whe
 abbrev pub FindsNext : (ℕ → Type 0) → ℕ → ℕ → Option ℕ → Type 0
 FindsNext IsFree from count (Some slot) = IsNext IsFree from count slot
 FindsNext IsFree from count None = (k : ℕ) → from ≤ k → IsFree k
+
+-- The least slot that isn't below this one among those of the places from 1 up to a count.
+pub record IsLeast (listed : List ℕ) (count from slot : ℕ) : Type 0 where
+  pub place : ℕ
+  pub inside : (0 < place) × (place < count)
+  pub is : slot ≡ slice_index listed place
+  pub above : from ≤ slot
+  pub least : (other : ℕ) → 0 < other → other < count → from ≤ slice_index listed other → slot ≤ slice_index listed other
+
+-- The least of them, or none if all are below.
+abbrev pub FindsLeast : List ℕ → ℕ → ℕ → Option ℕ → Type 0
+FindsLeast listed count from (Some slot) = IsLeast listed count from slot
+FindsLeast listed count from None = (place : ℕ) → 0 < place → place < count → slice_index listed place < from

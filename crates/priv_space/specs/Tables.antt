@@ -10,4 +10,4 @@ slots_of table = all_held table.places.items table.held.items
 
 -- A table of slots.
 abbrev pub IsTable : Inside → Type 0
-IsTable table = IsHeld table.places.items table.held.items
+IsTable table = IsHeld table.listed table.places.items table.held.items

@@ -1,6 +1,6 @@
 //! The pages of a thread's memory, by slot.
 
-ghost use Rattle.std.specs.Prelude.{◌≡◌, ℕ, ◌+◌, ◌*◌, ◌^◌, ◌<◌, ◌≤◌, ◌++◌, true, List, length, map, slice_index, slice_index_or, slice_set, replicate, IfOk, IfSome, IfNone, OnOk, OnErr, IsTrue, IsFalse, MatchResult};
+ghost use Rattle.std.specs.Prelude.{◌≡◌, ℕ, ◌+◌, ◌*◌, ◌^◌, ◌<◌, ◌≤◌, ◌++◌, true, List, length, map, slice_index, slice_index_or, slice_set, replicate, Decides, IfOk, IfSome, IfNone, OnOk, OnErr, IsTrue, IsFalse, MatchResult};
 ghost use Rattle.memory_spec.specs.Access.{byte_count, number_in};
 ghost use Rattle.memory_spec.specs.Pages.{Mapped, Memory, page_of, allows, read_right, write_right, unmapped};
 ghost use Rattle.memory_spec.specs.Workspace.{mask_of};
@@ -8,7 +8,7 @@ ghost use Rattle.priv_space.specs.Written.{with_number, with_marks};
 ghost use Rattle.priv_space.specs.Slots.{on_view, untouched, slot_shared, slot_bytes, slot_marks, slot_taken, IsOver};
 ghost use Rattle.priv_space.specs.Changes.{IsWithin, any, HasNumber, TakesNumber, EntersPage, StoresNumber, StoresAgain, OnSlot};
 ghost use Rattle.priv_space.specs.Parts.{read_part, delta_part};
-ghost use Rattle.priv_space.specs.Held.{HoldsSlot, PlacesSlot, FindsNext};
+ghost use Rattle.priv_space.specs.Held.{HoldsSlot, PlacesSlot, FindsNext, FindsLeast};
 
 use super::slot::{Access, Slot};
 use memory_spec::PAGE_SIZE;
@@ -24,6 +24,9 @@ const BLOCK: usize = 32;
 /// For how many touched slots there is room at first.
 const ROOM: usize = 16;
 
+/// For how many places it is listed whose they are.
+const LISTED: usize = 16;
+
 /// The slots of a thread's memory. A thread touches few pages, and only what it touched is kept. A clause sees the list
 /// of all slots.
 #[derive(Drop)]
@@ -32,6 +35,8 @@ pub(super) struct Slots {
     places: Vec<u16>,
     /// The touched slots; at place 0 one that wasn't touched, which stands for all others.
     held: Vec<Slot>,
+    /// The slot of each of the first places, so that a thread that touched few needs no search.
+    listed: [usize; LISTED],
 }
 
 impl Model for Slots {
@@ -78,6 +83,32 @@ fn next_place(places: &[u16], from: usize) -> Option<usize>
     None
 }
 
+/// Whether a slot comes before the one that was found, if any was.
+#[inline(always)]
+fn is_before(slot: usize, found: Option<usize>) -> bool
+    ensures { Decides result (IfSome found (λ other. slot < other)) }
+{
+    match found {
+        Some(other) => slot < other,
+        None => true,
+    }
+}
+
+/// The least slot from this one on among those of the places from 1 up to a count.
+fn least_listed(listed: &[usize; LISTED], count: usize, from: usize) -> Option<usize>
+    requires { (0 < count) × (count ≤ LISTED) }
+    ensures { FindsLeast listed.now count from result }
+{
+    let mut least = None;
+    for place in 1..count {
+        let slot = listed[place];
+        if slot >= from && is_before(slot, least) {
+            least = Some(slot);
+        }
+    }
+    least
+}
+
 /// The place of a slot.
 #[inline(always)]
 fn place_of(places: &[u16], slot: usize) -> usize
@@ -87,6 +118,16 @@ fn place_of(places: &[u16], slot: usize) -> usize
     usize::from(places[slot])
 }
 
+/// Lists whose place it is, if it is one of the first.
+#[inline(always)]
+fn list(listed: &mut [usize; LISTED], place: usize, slot: usize)
+    ensures { listed.new ≡ slice_set listed.old place slot }
+{
+    if place < LISTED {
+        listed[place] = slot;
+    }
+}
+
 /// Makes a place for a slot that wasn't touched.
 ///
 /// # Errors
@@ -94,10 +135,15 @@ fn place_of(places: &[u16], slot: usize) -> usize
 /// An error where the host's memory ran out, or 65,535 slots were touched.
 #[cold]
 #[inline(never)]
-fn make_place(places: &mut [u16], held: &mut Vec<Slot>, slot: usize) -> Result<usize, AllocError>
-    requires within { HoldsSlot slot places.old held.old.items }
+fn make_place(
+    places: &mut [u16],
+    listed: &mut [usize; LISTED],
+    held: &mut Vec<Slot>,
+    slot: usize,
+) -> Result<usize, AllocError>
+    requires within { HoldsSlot slot listed.old places.old held.old.items }
     requires free { slice_index places.old slot ≡ 0 }
-    ensures { PlacesSlot slot places.old places.new held.old.items held.new.items result }
+    ensures { PlacesSlot slot listed.new places.old places.new held.old.items held.new.items result }
 {
     let place = held.len();
     if place > usize::from(u16::MAX) {
@@ -105,6 +151,7 @@ fn make_place(places: &mut [u16], held: &mut Vec<Slot>, slot: usize) -> Result<u
     }
     held.push(Slot::new())?;
     places[slot] = place as u16;
+    list(listed, place, slot);
     Ok(place)
 }
 
@@ -114,15 +161,20 @@ fn make_place(places: &mut [u16], held: &mut Vec<Slot>, slot: usize) -> Result<u
 ///
 /// An error where the host's memory ran out.
 #[inline(always)]
-fn place_for(places: &mut [u16], held: &mut Vec<Slot>, slot: usize) -> Result<usize, AllocError>
-    requires { HoldsSlot slot places.old held.old.items }
-    ensures { PlacesSlot slot places.old places.new held.old.items held.new.items result }
+fn place_for(
+    places: &mut [u16],
+    listed: &mut [usize; LISTED],
+    held: &mut Vec<Slot>,
+    slot: usize,
+) -> Result<usize, AllocError>
+    requires { HoldsSlot slot listed.old places.old held.old.items }
+    ensures { PlacesSlot slot listed.new places.old places.new held.old.items held.new.items result }
 {
     let place = place_of(places, slot);
     if place != 0 {
         return Ok(place);
     }
-    make_place(places, held, slot)
+    make_place(places, listed, held, slot)
 }
 
 impl Slots {
@@ -137,7 +189,11 @@ impl Slots {
         let places = vec![in alloc; 0; count]?;
         let mut held = Vec::with_capacity(alloc, ROOM)?;
         held.push(Slot::new())?;
-        Ok(Slots { places, held })
+        Ok(Slots {
+            places,
+            held,
+            listed: [0; LISTED],
+        })
     }
 
     /// A slot.
@@ -154,7 +210,12 @@ impl Slots {
         ensures { FindsNext (λ k. slice_index_or self.now k untouched ≡ untouched) from
             (length self.now) result }
     {
-        next_place(&self.places, from)
+        let places: &[u16] = &self.places;
+        let count = self.held.len();
+        if count <= LISTED {
+            return least_listed(&self.listed, count, from);
+        }
+        next_place(places, from)
     }
 
     /// Adds the view's page in a slot to the read pages, if a byte was taken.
@@ -220,7 +281,12 @@ pub(super) fn take(view: &PageTable, slots: &mut Slots, access: Access) -> Resul
         slots.old slots.new)
         (λ error. slots.new ≡ slots.old) }
 {
-    let place = place_for(&mut slots.places, &mut slots.held, access.slot)?;
+    let place = place_for(
+        &mut slots.places,
+        &mut slots.listed,
+        &mut slots.held,
+        access.slot,
+    )?;
     slots.held[place].take(view, access)
 }
 
@@ -237,7 +303,12 @@ pub(super) fn fetch(view: &PageTable, slots: &mut Slots, access: Access) -> Resu
         (TakesNumber any (page_of view.now access.slot) access number) slots.old slots.new)
         (λ error. slots.new ≡ slots.old) }
 {
-    let place = place_for(&mut slots.places, &mut slots.held, access.slot)?;
+    let place = place_for(
+        &mut slots.places,
+        &mut slots.listed,
+        &mut slots.held,
+        access.slot,
+    )?;
     Ok(slots.held[place].fetch(view, access))
 }
 
@@ -273,7 +344,12 @@ pub(super) fn store(
         (StoresNumber (page_of view.now access.slot) access value) slots.old slots.new)
         (λ error. slots.new ≡ slots.old) }
 {
-    let place = place_for(&mut slots.places, &mut slots.held, access.slot)?;
+    let place = place_for(
+        &mut slots.places,
+        &mut slots.listed,
+        &mut slots.held,
+        access.slot,
+    )?;
     slots.held[place].store(alloc, view, access, value)
 }
 
@@ -285,7 +361,7 @@ pub(super) fn enter(slots: &mut Slots, slot: usize) -> bool
     ensures entered { IsTrue result → OnSlot slot EntersPage slots.old slots.new }
     ensures stays { IsFalse result → slots.new ≡ slots.old }
 {
-    let Ok(place) = place_for(&mut slots.places, &mut slots.held, slot) else {
+    let Ok(place) = place_for(&mut slots.places, &mut slots.listed, &mut slots.held, slot) else {
         return false;
     };
     slots.held[place].enter()
