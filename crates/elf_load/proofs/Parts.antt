@@ -206,8 +206,8 @@ not_behind :
 not_behind segment number end k to inside above =
     and_right _ _ (le-ltb (4096 * number + k) (segment.vaddr + segment.memsz) (omega (arith, to, inside, above)))
 
--- a page over which a segment was laid: its part of the file, and zeros behind it
-pub laid_over :
+-- a page into which a segment was written: its part of the file, and zeros behind it
+pub written_segment :
     (bytes page part copied cleared : List ℕ) (segment : ProgramHeader) (number start end k : ℕ)
     → start ≡ offset_on number segment.vaddr → end ≡ offset_on number (segment.vaddr + segment.memsz)
     → start + length part ≤ end
@@ -221,7 +221,7 @@ pub laid_over :
     (put_mid start (start + length part - start) page copied) cleared) k 0
     ≡ cond (has_address segment (4096 * number + k)) (segment_byte bytes (Some segment) (4096 * number + k))
     (get_or page k 0)
-laid_over bytes page part copied cleared segment number start end k from to fits each whole first second inside =
+written_segment bytes page part copied cleared segment number start end k from to fits each whole first second inside =
     elim (cases_lt k start) [
       | inl before ↦
           written_before stop (end - stop) k middle cleared rest zeros (omega (arith, before))
@@ -298,8 +298,8 @@ chosen bytes header headers address byte is =
       | inr not ↦ rw not is
     ]
 
--- one segment more is laid over a page
-pub laid_more :
+-- one segment more is written into a page
+pub written_more :
     (bytes page after : List ℕ) (so_far : List (Bor Header)) (header : Bor Header) (number k : ℕ)
     → get_or after k 0
     ≡ cond (has_address (header_of header.now) (4096 * number + k))
@@ -307,7 +307,7 @@ pub laid_more :
     → get_or page k 0 ≡ first_byte bytes (reverse (map (λ (y : Bor Header). y.now) so_far)) (4096 * number + k)
     → get_or after k 0
     ≡ first_byte bytes (reverse (map (λ (y : Bor Header). y.now) (so_far ++ header ∷ []))) (4096 * number + k)
-laid_more bytes page after so_far header number k is before =
+written_more bytes page after so_far header number k is before =
     let address : ℕ = 4096 * number + k in
     let now : Bor Header → Header = λ y. y.now in
     let turned : reverse (map now (so_far ++ header ∷ [])) ≡ header.now ∷ reverse (map now so_far) =

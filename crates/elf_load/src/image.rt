@@ -108,8 +108,8 @@ pub fn is_blank(bytes: &[u8], near: &[Header], number: u32) -> bool
         .all(|header| part_on(bytes, *header, number).is_empty())
 }
 
-/// Lays a segment over the page of a number: its bytes of the file there, and zeros behind them.
-fn lay_over(page: &mut [u8; PAGE_SIZE], bytes: &[u8], header: Header, number: u32)
+/// Writes a segment into the page of a number: its bytes of the file there, and zeros behind them.
+fn write_segment(page: &mut [u8; PAGE_SIZE], bytes: &[u8], header: Header, number: u32)
     ensures { (k : ℕ) → k < segment.page_size
         → slice_index page.new k
         ≡ (if segment.has_address (header_of header) (segment.page_size * number + k)
@@ -129,9 +129,9 @@ pub fn page_bytes(bytes: &[u8], near: &[Header], number: u32) -> [u8; PAGE_SIZE]
     ensures { result ≡ image_page bytes.now number }
 {
     let mut page = [0; PAGE_SIZE];
-    // An address has the byte of the first segment that has it, so the first is laid over the others.
+    // An address has the byte of the first segment that has it, so the first is written last.
     for header in near.iter().rev() {
-        lay_over(&mut page, bytes, *header, number);
+        write_segment(&mut page, bytes, *header, number);
     }
     page
 }
