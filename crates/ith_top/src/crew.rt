@@ -92,8 +92,8 @@ impl<'a, R: Threads + Wait + Sync, G: Gate + Sync> Crew<'a, R, G> {
         }
     }
 
-    /// Makes the round of this number, which is shown, and watched if that is asked for. The round is counted also if the
-    /// host's memory ran out, its turns only if it was made.
+    /// Makes the round of this number, which is shown, and watched if that is asked for. The round is counted also if
+    /// the host's memory ran out, its turns only if it was made.
     ///
     /// # Errors
     ///

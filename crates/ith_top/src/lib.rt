@@ -32,22 +32,22 @@ pub use status::Status;
 
 /// Does what the words ask for, and gives the exit status. The words begin with the program's name.
 ///
-/// `run ELF INPUT [EDITS].. --workers W --fuel F --steps S --memo FILE --reach --progress` runs the executable on the input
-/// from scratch, and then once for each edit list, on the input of the round before after the list's edits.
+/// `run ELF INPUT [EDITS].. --workers W --fuel F --steps S --memo FILE --reach --progress` runs the executable on the
+/// input from scratch, and then once for each edit list, on the input of the round before after the list's edits.
 ///
-/// `rerun MEMO [EDITS].. --workers W --fuel F --steps S --memo FILE --reach --progress` goes on from the round that a memo
-/// holds: once for each edit list, or once without an edit; with the memo's fuel and step limit where the line names
-/// none.
+/// `rerun MEMO [EDITS].. --workers W --fuel F --steps S --memo FILE --reach --progress` goes on from the round that a
+/// memo holds: once for each edit list, or once without an edit; with the memo's fuel and step limit where the line
+/// names none.
 ///
-/// The line's workers make each round together: it takes from the round before it the steps whose records fit, and
-/// they execute the others; each of several comes to the gate before it executes a thunk. The report of each round tells the
+/// The line's workers make each round together: it takes from the round before it the steps whose records fit, and they
+/// execute the others; each of several comes to the gate before it executes a thunk. The report of each round tells the
 /// schedule that they found and how many steps each of them made, with `--reach` how many steps of the round before its
 /// edit reaches, and with `--progress` how many steps were made as often as somebody looked. It is printed before the
 /// next round begins; after the last one the memo of what it leaves is written, where the line names one. The options
 /// may be left out.
 ///
-/// `replay ELF INPUT SCHEDULE --fuel F --steps S` executes each instruction of the executable on the input, in the order
-/// of the schedule, from scratch, by a machine that knows no reuse and no workers, and tells what it comes to.
+/// `replay ELF INPUT SCHEDULE --fuel F --steps S` executes each instruction of the executable on the input, in the
+/// order of the schedule, from scratch, by a machine that knows no reuse and no workers, and tells what it comes to.
 ///
 /// `show MEMO` lists a memo.
 ///

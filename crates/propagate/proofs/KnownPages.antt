@@ -52,16 +52,12 @@ use Rattle.propagate.proofs.Passing.{IsBy, by-some, AreGivenBy, times-apply, app
 -- nothing is known yet
 pub versions-fresh :
     (h : History) (w : RoundState) (v : Versions)
-    → IsSetup h.setup → is_coherent h ≡ true → w.machine.frame.fuel ≡ h.setup.fuel
-    → length w.machine.memory ≡ length (first h.setup).memory → length v.steps.items ≡ length h.records
+    → IsComparable w h → length v.steps.items ≡ length h.records
     → length h.records ≤ 65536 → AreStepsOf h v.steps.items → AreFresh (length w.schedule) v
     → AreVersions h w v
-versions-fresh h w v valid coherent fuel size count few steps fresh =
+versions-fresh h w v comparable count few steps fresh =
     record {
-      valid = valid;
-      coherent = coherent;
-      fuel = fuel;
-      size = size;
+      comparable = comparable;
       count = count;
       few = omega arith;
       steps = steps;
@@ -92,10 +88,12 @@ right-same w v None were past machine schedule = tt
 right-same w v (Some vs) were past machine schedule = λ h is.
     let old : AreVersions h w vs = were h (sym past ∙ is) in
     record {
-      valid = old.valid;
-      coherent = old.coherent;
-      fuel = ap (λ (m : Machine). m.frame.fuel) machine ∙ old.fuel;
-      size = ap (λ (m : Machine). length m.memory) machine ∙ old.size;
+      comparable = record {
+        valid = old.comparable.valid;
+        coherent = old.comparable.coherent;
+        fuel = ap (λ (m : Machine). m.frame.fuel) machine ∙ old.comparable.fuel;
+        size = ap (λ (m : Machine). length m.memory) machine ∙ old.comparable.size;
+      };
       count = old.count;
       few = old.few;
       steps = old.steps;
@@ -173,7 +171,7 @@ read-next w h v t r versions past none ready there read =
     own = (past-of w.past t (hart_of w.machine t).number r there).0
 
     can : (is_none (machine_at h k).ending ≡ true) × (fits (machine_at h k) r ≡ true)
-    can = and_parts (is_none (machine_at h k).ending) (fits (machine_at h k) r) (coherent-can h k r versions.coherent at)
+    can = and_parts (is_none (machine_at h k).ending) (fits (machine_at h k) r) (coherent-can h k r versions.comparable.coherent at)
 
     old : IsFitting (machine_at h k) r
     old = fits-parts (machine_at h k) r can.1
@@ -203,7 +201,7 @@ read-next w h v t r versions past none ready there read =
     fuel_at = frame-fuel h k
 
     ends : may_end w.machine.frame.fuel r.kept.end r.kept.count ≡ true
-    ends = ap (λ (n : ℕ). may_end n r.kept.end r.kept.count) (versions.fuel ∙ sym fuel_at) ∙ old.ends
+    ends = ap (λ (n : ℕ). may_end n r.kept.end r.kept.count) (versions.comparable.fuel ∙ sym fuel_at) ∙ old.ends
 
     number : r.number ≡ (hart_of w.machine r.thread).number
     number =
@@ -562,6 +560,18 @@ comparable w h marks was past whole framed fuel map =
           ∙ ap (λ (m : Memory). length m) (sym (first-memory h.setup));
     }
 
+-- a round with one step more can still be compared
+comparable-longer :
+    (h : History) (w v : RoundState) (r : Record) → IsComparable w h → IsLonger w v r → IsComparable v h
+comparable-longer h w v r were longer = record {
+  valid = were.valid;
+  coherent = were.coherent;
+  fuel =
+      ap (λ (m : Machine). m.frame.fuel) longer.machine ∙ ap (λ (f : Frame). f.fuel) (apply-frame w.machine r)
+      ∙ were.fuel;
+  size = longer-size w v r longer ∙ were.size;
+}
+
 -- a record that was reused
 pub reused-versions :
     (h : History) (w v : RoundState) (k now : ℕ) (r : Record) (old made new : Versions)
@@ -571,10 +581,7 @@ pub reused-versions :
     → AreVersions h v new
 reused-versions h w v k now r old made new were longer is_now at reused given =
     record {
-      valid = were.valid;
-      coherent = were.coherent;
-      fuel = ap (λ (m : Machine). m.frame.fuel) longer.machine ∙ ap (λ (f : Frame). f.fuel) (apply-frame w.machine r) ∙ were.fuel;
-      size = longer-size w v r longer ∙ were.size;
+      comparable = comparable-longer h w v r were.comparable longer;
       count = ap (λ (l : List StepVersions). length l) (given.steps ∙ reused.steps) ∙ were.count;
       few = subst (λ (l : List StepVersions). length l ≤ 65536) (sym (given.steps ∙ reused.steps)) were.few;
       steps = subst (AreStepsOf h) (sym (given.steps ∙ reused.steps)) were.steps;
@@ -593,14 +600,14 @@ reused-versions h w v k now r old made new were longer is_now at reused given =
           (subst (λ (m : Machine). AreOldPages h m (rewritten known (suc k) (versions_of step.stored r.kept.delta)))
           (sym longer.machine)
           (rewritten-right h k r w.machine known step.stored at known_right step.memory
-          (were.size ∙ sym (applied-size (first h.setup) h.records k))));
+          (were.comparable.size ∙ sym (applied-size (first h.setup) h.records k))));
     }
   where
     step : IsStepOf h k r reused.step
     step = were.steps.each k r reused.step at reused.there
 
     can : (is_none (machine_at h k).ending ≡ true) × (fits (machine_at h k) r ≡ true)
-    can = and_parts (is_none (machine_at h k).ending) (fits (machine_at h k) r) (coherent-can h k r were.coherent at)
+    can = and_parts (is_none (machine_at h k).ending) (fits (machine_at h k) r) (coherent-can h k r were.comparable.coherent at)
 
     known : List (Option ℕ)
     known =
@@ -633,10 +640,7 @@ pub executed-versions :
     → AreVersions h v new
 executed-versions h w v now r old made new were longer is_now executed given =
     record {
-      valid = were.valid;
-      coherent = were.coherent;
-      fuel = ap (λ (m : Machine). m.frame.fuel) longer.machine ∙ ap (λ (f : Frame). f.fuel) (apply-frame w.machine r) ∙ were.fuel;
-      size = longer-size w v r longer ∙ were.size;
+      comparable = comparable-longer h w v r were.comparable longer;
       count = ap (λ (l : List StepVersions). length l) (given.steps ∙ executed.steps) ∙ were.count;
       few = subst (λ (l : List StepVersions). length l ≤ 65536) (sym (given.steps ∙ executed.steps)) were.few;
       steps = subst (AreStepsOf h) (sym (given.steps ∙ executed.steps)) were.steps;

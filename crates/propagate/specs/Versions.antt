@@ -189,13 +189,9 @@ pub record IsComparable (w : RoundState) (h : History) : Type 0 where
   pub fuel : w.machine.frame.fuel ≡ h.setup.fuel
   pub size : length w.machine.memory ≡ length (first h.setup).memory
 
--- What is known of versions is right: of a history that may be run and holds together, on a machine of the same fuel with
--- as many pages.
+-- What is known of versions is right.
 pub record AreVersions (h : History) (w : RoundState) (v : Versions) : Type 0 where
-  pub valid : IsSetup h.setup
-  pub coherent : is_coherent h ≡ true
-  pub fuel : w.machine.frame.fuel ≡ h.setup.fuel
-  pub size : length w.machine.memory ≡ length (first h.setup).memory
+  pub comparable : IsComparable w h
   pub count : length v.steps.items ≡ length h.records
   pub few : length v.steps.items ≤ MOST_STEPS
   pub steps : AreStepsOf h v.steps.items

@@ -95,8 +95,8 @@ fn follow_picks<G: Gate>(
     Ok(())
 }
 
-/// The round of one worker, pick after pick until nothing is picked, of which each step is shown. It passes no gate before
-/// it executes a thunk. What `run_alone` promises of the round follows from its one clause on it.
+/// The round of one worker, pick after pick until nothing is picked, of which each step is shown. It passes no gate
+/// before it executes a thunk. What `run_alone` promises of the round follows from its one clause on it.
 ///
 /// # Errors
 ///

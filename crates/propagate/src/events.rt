@@ -179,8 +179,8 @@ impl Round {
         self.core.start_of(t)
     }
 
-    /// Makes an executed step that can be committed an entry of the schedule. If its thread isn't in flight, the step is
-    /// taken and committed in one.
+    /// Makes an executed step that can be committed an entry of the schedule. If its thread isn't in flight, the step
+    /// is taken and committed in one.
     ///
     /// # Errors
     ///
@@ -246,8 +246,9 @@ impl Round {
         self.commit_or_discard(can, run)
     }
 
-    /// Commits a run of the step that was taken, or says why it can't: the round is finished, or the thread isn't in flight.
-    /// Its registers and read pages aren't compared, since `of_step` says that its record is the one of that step.
+    /// Commits a run of the step that was taken, or says why it can't: the round is finished, or the thread isn't in
+    /// flight. Its registers and read pages aren't compared, since `of_step` says that its record is the one of that
+    /// step.
     pub fn commit_taken(&mut self, run: Run) -> Committed
         requires own { arc_value run.frame ≡ (first self.old.setup).frame }
         requires of_step { IsOfStep self.old (arc_value run.rec) }

@@ -1,4 +1,5 @@
-//! Marks on the pages that differ in the start memories of two inputs: those of the input and of its header, by its bytes.
+//! Marks on the pages that differ in the start memories of two inputs: those of the input and of its header, by its
+//! bytes.
 
 ghost use Rattle.std.specs.Prelude.{◌≡◌, ◌<◌, ◌≤◌, ◌+◌, ℕ, false, length};
 ghost use Rattle.machine_spec.specs.Setup.{input_page};

@@ -65,8 +65,8 @@ pub fn all_unmarked(marks: &[bool], reads: &[ReadPage]) -> bool
     true
 }
 
-/// The marks with more pages marked: that of the input's header, which has this slot, if a second input has another length,
-/// and each page of the input, behind it, that is another one in the second input.
+/// The marks with more pages marked: that of the input's header, which has this slot, if a second input has another
+/// length, and each page of the input, behind it, that is another one in the second input.
 fn with_input(marks: Vec<bool>, header: usize, old: &[u8], new: &[u8]) -> Vec<bool>
     requires { header + 1 + INPUT_PAGES ≤ length marks.items }
     ensures count { length result.items ≡ length marks.items }
@@ -82,8 +82,8 @@ fn with_input(marks: Vec<bool>, header: usize, old: &[u8], new: &[u8]) -> Vec<bo
     marks
 }
 
-/// Marks on the pages that differ between the start memories of two setups of one program: on the input's header and pages,
-/// whose bytes are compared only if the inputs differ.
+/// Marks on the pages that differ between the start memories of two setups of one program: on the input's header and
+/// pages, whose bytes are compared only if the inputs differ.
 fn marks_between(
     alloc: Global,
     old: &Setup,
@@ -114,8 +114,9 @@ fn is_same_program(old: &Setup, new: &Setup) -> bool
     old.fuel() == new.fuel() && old.elf() == new.elf()
 }
 
-/// Marks for a round of a setup that starts with this memory and goes by a history, which is coherent if it holds together;
-/// none where it can't go on as that did: the history doesn't hold together, or is of another program or fuel.
+/// Marks for a round of a setup that starts with this memory and goes by a history, which is coherent if it holds
+/// together; none where it can't go on as that did: the history doesn't hold together, or is of another program or
+/// fuel.
 pub fn marks_at_start(
     alloc: Global,
     past: &Option<Arc<History>>,
@@ -169,8 +170,8 @@ pub fn marks_if(marks: Option<Vec<bool>>, holds: bool) -> Option<Vec<bool>>
     if holds { marks } else { None }
 }
 
-/// Whether a round that keeps marks goes on as its history did with an executed step: the record in the step's place is of
-/// the same thread, and asks for the same.
+/// Whether a round that keeps marks goes on as its history did with an executed step: the record in the step's place is
+/// of the same thread, and asks for the same.
 pub fn is_in_place(
     marks: &Option<Vec<bool>>,
     past: &Option<Arc<History>>,
@@ -210,8 +211,8 @@ fn with_old(marks: Vec<bool>, past: &Option<Arc<History>>, place: usize) -> Vec<
     }
 }
 
-/// The marks after an executed step: if it is in the place of a history's record, with the pages that either writes, and
-/// else none.
+/// The marks after an executed step: if it is in the place of a history's record, with the pages that either writes,
+/// and else none.
 pub fn marks_after(
     marks: Option<Vec<bool>>,
     past: &Option<Arc<History>>,

@@ -132,9 +132,9 @@ impl Round {
         self.place(t) == self.schedule.len()
     }
 
-    /// Whether the record of the next step of thread `t`, which can be begun, fits where its registers are the thread's: the
-    /// round goes on as its history did, it comes next, and no page is marked that it read; or each page that it read is
-    /// known to be what it read.
+    /// Whether the record of the next step of thread `t`, which can be begun, fits where its registers are the
+    /// thread's: the round goes on as its history did, it comes next, and no page is marked that it read; or each page
+    /// that it read is known to be what it read.
     fn has_same_pages(&self, t: u8, rec: &Record) -> bool
         requires begins { can_begin self.now t ≡ true }
         requires exists { t < length self.now.machine.harts }
@@ -148,7 +148,8 @@ impl Round {
         }
     }
 
-    /// Whether each page that the record of the next step of thread `t`, which exists, read is known to be what it read.
+    /// Whether each page that the record of the next step of thread `t`, which exists, read is known to be what it
+    /// read.
     fn has_known_pages(&self, t: u8) -> bool
         requires { t < length self.now.machine.harts }
         ensures { (r : OldRecord) → can_begin self.now t ≡ true
@@ -361,8 +362,8 @@ impl Round {
         }
     }
 
-    /// The thread that is chosen, if one is. No thread is looked at while the round goes on as its history did with nobody
-    /// in flight: the history's next step is due then, and comes first.
+    /// The thread that is chosen, if one is. No thread is looked at while the round goes on as its history did with
+    /// nobody in flight: the history's next step is due then, and comes first.
     fn choice(&self) -> Option<u8>
         requires going { is_finished self.now ≡ false }
         ensures { result ≡ choice_by self.now.past self.now.machine self.now.in_flight }
@@ -383,8 +384,8 @@ impl Round {
         !self.is_finished() && self.choice().is_some()
     }
 
-    /// What a worker may do next. Takes no memory, and compares the pages of one record at most: of none while the round
-    /// replays a history that holds together.
+    /// What a worker may do next. Takes no memory, and compares the pages of one record at most: of none while the
+    /// round replays a history that holds together.
     pub fn pick(&self, compared: &mut Compared) -> Pick
         ensures pick { result ≡ pick_of self.now }
         ensures stopped { self.now.stopped ≡ true → result ≡ pick.Over }

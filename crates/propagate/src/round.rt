@@ -25,11 +25,11 @@ use std::marker::Model;
 use std::sync::Arc;
 use thunk_record::Record;
 
-/// A round as it stands: what it started from and goes by, the machine, the steps so far with their
-/// records and with when each was picked, who is in flight and since when, and what was discarded. A clause
-/// sees a `RoundState` of `round_spec`. Beside it stand, while the round goes on as the history did, by slot, marks on the
-/// pages that may differ: records of other pages fit without a comparison; after that, which versions of the history's pages
-/// its own are, as far as that is known; and which steps of the history depend on which, unless the round goes on as the
+/// A round as it stands: what it started from and goes by, the machine, the steps so far with their records and with
+/// when each was picked, who is in flight and since when, and what was discarded. A clause sees a `RoundState` of
+/// `round_spec`. Beside it stand, while the round goes on as the history did, by slot, marks on the pages that may
+/// differ: records of other pages fit without a comparison; after that, which versions of the history's pages its own
+/// are, as far as that is known; and which steps of the history depend on which, unless the round goes on as the
 /// history did with nobody in flight: then the history's next step is due.
 #[derive(Drop)]
 pub struct Round {
@@ -117,8 +117,8 @@ pub(super) fn find_facts(
     Ok(())
 }
 
-/// Whether a history holds together, if there is one, and which of its steps depend on which, unless the former is known
-/// without the latter.
+/// Whether a history holds together, if there is one, and which of its steps depend on which, unless the former is
+/// known without the latter.
 fn first_look(
     alloc: Global,
     past: &Option<Arc<History>>,
@@ -297,8 +297,8 @@ impl Round {
         }
     }
 
-    /// Whether versions can be found: the round went on as its history did, which has its page map and its fuel, and none are
-    /// known.
+    /// Whether versions can be found: the round went on as its history did, which has its page map and its fuel, and
+    /// none are known.
     fn can_find_versions(&self, history: &History) -> bool
         requires { self.now.past ≡ Some history.now }
         ensures { result ≡ true → IsComparable self.now history.now }

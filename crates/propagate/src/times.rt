@@ -1,6 +1,6 @@
 //! When pages were last written, and when threads were given their views.
 
-ghost use Rattle.std.specs.Prelude.{◌≡◌, ◌<◌, ◌≤◌, ◌∷◌, [], ℕ, length, replicate, slice_index, IfOk};
+ghost use Rattle.std.specs.Prelude.{◌≡◌, ◌<◌, ◌≤◌, ℕ, length, replicate, slice_index, slice_set, IfOk};
 ghost use Rattle.order_spec.specs.Facts.{written_slots};
 ghost use Rattle.propagate.specs.Versions as versions;
 ghost use Rattle.propagate.specs.Versions.{with_each, viewed_after, stored_version, seen_version};
@@ -12,27 +12,27 @@ use std::alloc::{AllocError, Global};
 use std::array;
 use thunk_record::Record;
 
-/// A page that a step reads or writes, and which version of it the step finds, if that is known. Version n is the page as the
-/// first n steps of the history leave it.
+/// A page that a step reads or writes, and which version of it the step finds, if that is known. Version n is the page
+/// as the first n steps of the history leave it.
 #[derive(Clone, Copy)]
 pub struct PageVersion {
     pub slot: usize,
     pub version: Option<u32>,
 }
 
-/// When pages were written, and threads given their views. A page that wasn't written since a thread was given its view is
-/// the same in that view as in shared memory.
+/// When pages were written, and threads given their views. A page that wasn't written since a thread was given its view
+/// is the same in that view as in shared memory.
 #[derive(Drop)]
 pub struct Times {
     /// By slot, after how many steps the page was last written.
     pub written: Vec<u32>,
-    /// By thread, after how many steps it was given its view; of a thread that isn't ready, after how many it can be given its
-    /// next one.
+    /// By thread, after how many steps it was given its view; of a thread that isn't ready, after how many it can be
+    /// given its next one.
     pub viewed: [u32; THREADS],
 }
 
-/// The entry in `viewed` of thread `u`, which exists or is the next to be created, after a step of thread `t` that left this
-/// machine: `now` if it is `t` and ready, `now + 1` if it isn't ready, and else as before.
+/// The entry in `viewed` of thread `u`, which exists or is the next to be created, after a step of thread `t` that left
+/// this machine: `now` if it is `t` and ready, `now + 1` if it isn't ready, and else as before.
 fn viewed_at(core: &Core, t: u8, u: u8, before: u32, now: u32) -> u32
     requires now { now ≤ MOST_STEPS }
     requires there { u ≤ length core.now.harts }
@@ -136,9 +136,9 @@ impl Times {
     }
 }
 
-/// Sets the entry of an index, if there is one.
-fn set(entries: &mut [u32], at: usize, entry: u32)
-    ensures { entries.new ≡ with_each entries.old (at ∷ []) entry }
+/// Sets the entry at an index, if there is one.
+pub(super) fn set<T: Copy>(entries: &mut [T], at: usize, entry: T)
+    ensures { entries.new ≡ slice_set entries.old at entry }
 {
     if at < entries.len() {
         entries[at] = entry;

@@ -1,5 +1,5 @@
-//! Which versions of its history's pages the pages of a round are. Where the pages that a record read are known to be of the
-//! versions that it read, the record fits without a comparison, in whatever order the steps come.
+//! Which versions of its history's pages the pages of a round are. Where the pages that a record read are known to be
+//! of the versions that it read, the record fits without a comparison, in whatever order the steps come.
 
 ghost use Rattle.std.specs.Prelude.{◌≡◌, ◌<◌, ◌≤◌, ◌+◌, ◌∷◌, [], ℕ, true, map, length, slice_get, slice_set, None, is_some, if◌then◌else◌, IfOk, IfSome};
 ghost use Rattle.order_spec.specs.Facts.{written_slots, facts};
@@ -10,7 +10,7 @@ ghost use Rattle.history_spec.specs.History.{is_coherent};
 ghost use Rattle.propagate.specs.Versions as versions;
 ghost use Rattle.propagate.specs.Versions.{with_each, stored_version, seen_version, learned, rewritten, is_of_version, all_known, AreStepsOf, AreFresh, AreReused, AreExecuted, AreGiven, MayBeMadeAgain, MayBeMadeAnew, HasRead, unboxed};
 
-use super::times::{PageVersion, Times};
+use super::times::{PageVersion, Times, set};
 use depend_graph::Graph;
 use machine_spec::MOST_STEPS;
 use release_core::{Core, History};
@@ -25,8 +25,9 @@ pub struct StepVersions {
     pub written: Vec<PageVersion>,
 }
 
-/// What a round knows of the versions of its history's pages: which of them each step of the history reads and writes; when
-/// the round's pages were written, and its threads given their views; and by slot which version each page is, if known.
+/// What a round knows of the versions of its history's pages: which of them each step of the history reads and writes;
+/// when the round's pages were written, and its threads given their views; and by slot which version each page is, if
+/// known.
 #[derive(Drop)]
 pub struct Versions {
     pub steps: Vec<StepVersions>,
@@ -118,15 +119,6 @@ fn is_of(pages: &[Option<u32>], slot: usize, version: Option<u32>) -> bool
     }
 }
 
-/// The page in a slot, if there is one, is of this version, or it isn't known of which.
-fn set(pages: &mut [Option<u32>], slot: usize, version: Option<u32>)
-    ensures { pages.new ≡ slice_set pages.old slot version }
-{
-    if slot < pages.len() {
-        pages[slot] = version;
-    }
-}
-
 /// Notes the versions of the pages that a record which fits read, as far as they are current in its thread's view.
 fn learn(pages: &mut [Option<u32>], times: &Times, t: u8, read: &[PageVersion])
     ensures { pages.new
@@ -187,14 +179,16 @@ impl Versions {
         })
     }
 
-    /// Whether each page that the history's step at a place read is known to be what it read, in the view of thread `t`.
+    /// Whether each page that the history's step at a place read is known to be what it read, in the view of thread
+    /// `t`.
     pub fn has_read(&self, place: usize, t: u8) -> bool
         ensures { result ≡ true → HasRead self.now place t }
     {
         place < self.steps.len() && self.are_known(t, self.steps[place].read.as_slice())
     }
 
-    /// Whether each of some pages is current in the view of thread `t`, and known to be of the version that a step finds.
+    /// Whether each of some pages is current in the view of thread `t`, and known to be of the version that a step
+    /// finds.
     fn are_known(&self, t: u8, read: &[PageVersion]) -> bool
         ensures { result ≡ all_known self.now.times.written.items self.now.times.viewed
             self.now.pages.items t read.now }
@@ -258,8 +252,8 @@ pub fn known_or(known: Option<Box<Versions>>, fresh: Option<Box<Versions>>) -> O
     }
 }
 
-/// What is known of versions after the record at a place of the history was reused, which left this machine after so many
-/// steps.
+/// What is known of versions after the record at a place of the history was reused, which left this machine after so
+/// many steps.
 pub fn after_reuse(
     versions: Option<Box<Versions>>,
     core: &Core,

@@ -23,9 +23,9 @@ fn none_past(alloc: Global, pages: usize) -> Result<Vec<PagePast>, AllocError>
     Ok(past)
 }
 
-/// The races of a history: pairs of steps of different threads that touch one page, of which one writes it, and of which
-/// the earlier one doesn't come before the later one's thunk by threads and objects. The first `most` of them are listed,
-/// by the earlier step, then by the later one, then by the page.
+/// The races of a history: pairs of steps of different threads that touch one page, of which one writes it, and of
+/// which the earlier one doesn't come before the later one's thunk by threads and objects. The first `most` of them are
+/// listed, by the earlier step, then by the later one, then by the page.
 ///
 /// # Errors
 ///

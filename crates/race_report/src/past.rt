@@ -86,8 +86,8 @@ impl ThreadPast {
         }
     }
 
-    /// The accesses that race with one of a later step, by whether that one writes. What the later step's thunk has seen
-    /// of the thread are its first steps, so these are the last ones.
+    /// The accesses that race with one of a later step, by whether that one writes. What the later step's thunk has
+    /// seen of the thread are its first steps, so these are the last ones.
     pub fn racing(&self, step: &Step, writes: bool) -> &[Access]
         requires { IsThreadPast self.now }
         ensures { result.now ≡ filter (races_with step.now writes) self.now.all.items }

@@ -69,7 +69,8 @@ fn race_with(access: Access, later: usize, touch: Touch) -> Race
     }
 }
 
-/// The races of the first steps with later ones so far: a row for each step, as far as the rows before don't have enough.
+/// The races of the first steps with later ones so far: a row for each step, as far as the rows before don't have
+/// enough.
 #[derive(Drop)]
 pub struct FirstRaces {
     /// How many races are wanted at most.
@@ -138,8 +139,8 @@ impl FirstRaces {
         Ok(())
     }
 
-    /// The races of the accesses to a page with a later step that touches it. The result is how many there are, those of
-    /// steps without a row too.
+    /// The races of the accesses to a page with a later step that touches it. The result is how many there are, those
+    /// of steps without a row too.
     pub fn add(
         &mut self,
         page: &PagePast,

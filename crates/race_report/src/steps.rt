@@ -37,8 +37,8 @@ fn has_thread(threads: &[u8], t: u8) -> bool
     threads.iter().any(|other| *other == t)
 }
 
-/// One more than the place of the step that gave the thunk at place `i` its view, and 0 where the start did. It is looked
-/// for no further back than the step of the same thread before.
+/// One more than the place of the step that gave the thunk at place `i` its view, and 0 where the start did. It is
+/// looked for no further back than the step of the same thread before.
 fn giver_end(facts: &[Fact], i: usize) -> usize
     requires { i < length facts.now }
     ensures end { result ≡ reach.giver_end facts.now i }

@@ -71,8 +71,8 @@ fn text(alloc: Global, addresses: &[u32], races: &Races) -> Result<Vec<u8>, Allo
     Ok(text)
 }
 
-/// The races of a history as text: how many there are, and a line for each of the first `most`, by the earlier step, then
-/// by the later one, then by the page.
+/// The races of a history as text: how many there are, and a line for each of the first `most`, by the earlier step,
+/// then by the later one, then by the page.
 ///
 /// # Errors
 ///

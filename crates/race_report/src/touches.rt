@@ -74,8 +74,8 @@ fn merged(
     Ok(touches)
 }
 
-/// The pages that the step of a record touches: it writes them, or its own thunk has read them. They ascend, and each is
-/// there once.
+/// The pages that the step of a record touches: it writes them, or its own thunk has read them. They ascend, and each
+/// is there once.
 ///
 /// # Errors
 ///

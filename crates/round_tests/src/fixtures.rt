@@ -133,8 +133,8 @@ pub(super) fn history_of(
     Ok(History::new(setup, records))
 }
 
-/// Whether a round ended, whose steps are all of thread 0 and have these marks, with so many instructions that it executed
-/// and steps that it discarded.
+/// Whether a round ended, whose steps are all of thread 0 and have these marks, with so many instructions that it
+/// executed and steps that it discarded.
 pub(super) fn is_round(round: &Round, marks: &[bool], instructions: u64, discarded: u64) -> bool {
     are_marks(round.schedule(), marks)
         && round.instructions() == instructions

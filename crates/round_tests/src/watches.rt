@@ -1,5 +1,5 @@
-//! What a watch reads of a round that one worker makes, step by step: after each of the twelve steps of a guest how many
-//! there are.
+//! What a watch reads of a round that one worker makes, step by step: after each of the twelve steps of a guest how
+//! many there are.
 
 ghost use Rattle.std.specs.Prelude.{◌≡◌, IfOk};
 ghost use Rattle.round_spec.specs.Rounds.{opening};

@@ -14,11 +14,13 @@ use rv_alu::Regs;
 use store_mask::ReadPage;
 use thunk_spec::ThunkEnd;
 
-/// Whether a view has the bytes of a read page. One past its end it hasn't.
+/// Whether a view has the bytes of a read page, which are compared. One past its end it hasn't.
 #[tactic(auto, using(crate::proofs::Past::no_bytes))]
-fn has_page(table: &PageTable, read: &ReadPage) -> bool
-    ensures { result ≡ bytes_eq (page_of table.now read.now.slot) read.now.bytes }
+pub fn has_read(table: &PageTable, read: &ReadPage, compared: &mut Compared) -> bool
+    ensures has { result ≡ bytes_eq (page_of table.now read.now.slot) read.now.bytes }
+    ensures compared { compared.new ≡ compared.old + 1 }
 {
+    compared.count();
     let bytes = read.page().bytes();
     if read.slot() < table.len() {
         table.page(read.slot()).bytes() == bytes
@@ -33,8 +35,7 @@ fn has_pages(table: &PageTable, reads: &[ReadPage], compared: &mut Compared) -> 
     ensures compared { compared.new ≡ compared.old + compared_in table.now reads.now }
 {
     for read in reads {
-        compared.count();
-        if !has_page(table, read) {
+        if !has_read(table, read, compared) {
             return false;
         }
     }

@@ -7,6 +7,6 @@ mod frame;
 mod kept;
 
 pub use compared::Compared;
-pub use fit::{fits, fits_counted};
+pub use fit::{fits, fits_counted, has_read};
 pub use frame::Frame;
 pub use kept::{Kept, Record};

@@ -1,5 +1,6 @@
-//! Worked runs: small guests whose runs follow from the rules by hand, where no line of the program shows it: under orders
-//! and schedules that are handed in, by workers whose steps are counted or held, and at hosts of which a call fails.
+//! Worked runs: small guests whose runs follow from the rules by hand, where no line of the program shows it: under
+//! orders and schedules that are handed in, by workers whose steps are counted or held, and at hosts of which a call
+//! fails.
 #![tactic(auto)]
 
 #[cfg(test)]

@@ -27,7 +27,7 @@ returns-in_ok-new-in-Some-Some c = λ h is.
     let steps_is : c.deref-in-Some-Some.result.now ≡ h = c.deref-in-Some-Some.ensures ∙ same in
     let held : v.steps.items ≡ c.in_ok-steps-in-Some-Some.steps.items = c.in_ok-versions-in-Some-Some.ensures.steps in
     subst (AreVersions h w) (sym c.in_ok-new-in-Some-Some.ensures.ok)
-    (versions-fresh h w v like.valid like.coherent like.fuel like.size
+    (versions-fresh h w v like
     (ap (λ (l : List StepVersions). length l) held ∙ c.in_ok-steps-in-Some-Some.ensures.count
     ∙ ap (λ (x : History). length x.records) steps_is)
     few
