@@ -1,9 +1,9 @@
 -- Versions of pages that a round is known to have.
-use Rattle.std.proofs.Common.{leb, ◌≡◌, ◌≢◌, ◌<◌, ◌≤◌, ◌+◌, ℕ, suc, Bool, true, false, ◌&&◌, ◌||◌, eqb, cond, List, [], ◌∷◌, length, map, set, slice_index, Option, Box, Vec, Some, None, is_none, refl, ap, ap₂, sym, ◌∙◌, subst, inl, inr, ◌⊎◌, arith}
+use Rattle.std.proofs.Common.{leb, ◌≡◌, ◌≢◌, ◌<◌, ◌≤◌, ◌+◌, ℕ, suc, Bool, true, false, ◌&&◌, ◌||◌, eqb, cond, List, [], ◌∷◌, drop, length, map, set, slice_index, zero, Option, option_map, Box, Vec, Some, None, is_none, refl, ap, ap₂, sym, ◌∙◌, subst, inl, inr, ◌⊎◌, arith}
 use Rattle.std.proofs.lemmas.Bool.{and_parts, cases_eq, cases_lt, eq-eqb, eqb-true}
 use Rattle.std.proofs.lemmas.Bool.Decides.{nat_tests}
 use Rattle.std.proofs.lemmas.List.{length-set, get_or_past}
-use Rattle.std.proofs.lemmas.Option.{slice_get_within}
+use Rattle.std.proofs.lemmas.Option.{slice_get_within, slice_get-map}
 use Rattle.std.proofs.lemmas.Slice.Eq.{bytes_eq-Decides}
 use Rattle.std.specs.Prelude.{IfSome}
 use Rattle.std.specs.Global.{Global}
@@ -16,12 +16,12 @@ use Rattle.record_spec.specs.Reads.{ReadPage, has}
 use Rattle.record_spec.specs.Record.{Record, may_end}
 use Rattle.thunk_spec.specs.Thunk.{Frame}
 use Rattle.machine_spec.specs.Machine.{Machine, hart_of, is_ready}
-use Rattle.machine_spec.specs.Setup.{Setup, IsSetup, first, map_of}
+use Rattle.machine_spec.specs.Setup.{Setup, first, map_of}
 use Rattle.machine_spec.proofs.Beginning.{IsMemory-start}
 use Rattle.machine_spec.specs.Step.{apply, fits}
 use Rattle.machine_spec.specs.Whole.{IsWhole}
 use Rattle.machine_spec.proofs.Harts.{ready-below}
-use Rattle.history_spec.specs.History.{History, is_coherent}
+use Rattle.history_spec.specs.History.{History}
 use Rattle.history_spec.proofs.Applying.{apply-frame, apply-whole, fits-can_step}
 use Rattle.history_spec.proofs.Truth.{past-of}
 use Rattle.order_spec.specs.Facts.{effect_of, written_slots}
@@ -32,18 +32,18 @@ use Rattle.order_spec.proofs.After.{apply-memory}
 use Rattle.order_spec.proofs.Alike.{touched, IsFitting, fits-parts, fits-from}
 use Rattle.history_facts.specs.Outlining.{machine_at}
 use Rattle.history_facts.proofs.Outlining.{machine-more, coherent-can}
-use Rattle.round_spec.specs.Marks.{record_for, is_fitting}
+use Rattle.round_spec.specs.Marks.{record_for, is_fitting, fits_next}
 use Rattle.round_spec.specs.Due.{place_in}
 use Rattle.round_spec.specs.Rounds.{RoundState, can_begin}
 use Rattle.round_spec.proofs.Happening.{CanBegin, can_begin-parts}
 use Rattle.propagate.specs.Consistency.{IsOfMap}
-use Rattle.propagate.specs.Alike.{GoesOnAs, IsAsMarked, IsNext}
+use Rattle.propagate.specs.Alike.{GoesOnAs, IsAsMarked}
 use Rattle.propagate.proofs.Alike.{at-place, first-memory}
 use Rattle.propagate.proofs.Appending.{below-32}
 use Rattle.propagate.specs.declared.times.PageVersion.{PageVersion}
 use Rattle.propagate.specs.declared.versions.StepVersions.{StepVersions}
 use Rattle.propagate.specs.declared.versions.Versions.{Versions}
-use Rattle.propagate.specs.Versions.{with_each, is_current, viewed_after, AreTimes, IsStepOf, AreStepsOf, AreOldPages, is_of_version, all_known, with_known, learned, rewritten, AreReused, AreExecuted, AreGiven, MayBeMadeAgain, MayBeMadeAnew, IsComparable, AreVersions, AreRight, AreFresh, HasRead, unboxed}
+use Rattle.propagate.specs.Versions.{with_each, is_current, viewed_after, AreTimes, IsStepOf, AreStepsOf, AreOldPages, is_of_version, with_known, learned, rewritten, AreReused, AreExecuted, AreGiven, MayBeMadeAgain, MayBeMadeAnew, IsComparable, AreVersions, AreRight, AreFresh, is_known, read_version, knows_read, HasKnown, unknown_in, unboxed}
 use Rattle.propagate.proofs.Entries.{get-same, get-other, each-other, each-in, index-zeros}
 use Rattle.propagate.proofs.Passing.{IsBy, by-some, AreGivenBy, times-apply, applied-size, first-fuel, frame-fuel}
 
@@ -117,44 +117,68 @@ of-version (Some x) (Some None) h = cc
 of-version (Some x) (Some (Some y)) h =
     record { number = x; found = refl; page_is = ap (λ (n : ℕ). Some (Some n)) (sym (eqb-true x y h)) }
 
--- pages that are known need no comparison
-known-has :
-    (reads : List ReadPage) (old new : Memory) (seen : ℕ → Option ℕ) (written viewed : List ℕ) (pages : List (Option ℕ))
-    (t : ℕ)
-    → ((p x : ℕ) → is_current written viewed t p ≡ true → seen p ≡ Some x → slice_get pages p ≡ Some (Some x)
-    → page_of new p ≡ page_of old p)
-    → has old reads ≡ true
-    → all_known written viewed pages t (map (λ (r : ReadPage). record { slot = r.slot; version = seen r.slot }) reads) ≡ true
-    → has new reads ≡ true
-known-has [] old new seen written viewed pages t same fit known = refl
-known-has (r ∷ reads) old new seen written viewed pages t same fit known =
-    let fit_both = and_parts (bytes_eq (page_of old r.slot) r.bytes) (has old reads) fit in
-    let both =
-    and_parts (is_current written viewed t r.slot && is_of_version (seen r.slot) (slice_get pages r.slot))
-    (all_known written viewed pages t
-    (map (λ (q : ReadPage). record { slot = q.slot; version = seen q.slot }) reads)) known in
-    let own =
-    and_parts (is_current written viewed t r.slot) (is_of_version (seen r.slot) (slice_get pages r.slot)) both.0 in
-    let of : IsOfVersion (seen r.slot) (slice_get pages r.slot) =
-    of-version (seen r.slot) (slice_get pages r.slot) own.1 in
-    let here : bytes_eq (page_of new r.slot) r.bytes ≡ true =
-    ap (λ (page : List ℕ). bytes_eq page r.bytes) (same r.slot of.number own.0 of.found of.page_is) ∙ fit_both.0 in
-    let rest : has new reads ≡ true =
-    known-has reads old new seen written viewed pages t same fit_both.1 both.1 in
-    rw (here, rest) refl
+-- each of the read pages that a view has
+has-at :
+    (view : Memory) (reads : List ReadPage) (k : ℕ) (r : ReadPage)
+    → has view reads ≡ true → slice_get reads k ≡ Some r → bytes_eq (page_of view r.slot) r.bytes ≡ true
+has-at view [] k r fit at = absurd cc
+has-at view (q ∷ reads) zero r fit at =
+    let both = and_parts (bytes_eq (page_of view q.slot) q.bytes) (has view reads) fit in
+    let same : q ≡ r = cc at in
+    subst (λ (x : ReadPage). bytes_eq (page_of view x.slot) x.bytes ≡ true) same both.0
+has-at view (q ∷ reads) (suc k) r fit at =
+    has-at view reads k r (and_parts (bytes_eq (page_of view q.slot) q.bytes) (has view reads) fit).1 at
 
--- a record whose pages are known fits if its registers do
-pub read-next :
+-- a read page more is in the view, or the first that isn't
+pub has-more :
+    (view : Memory) (reads : List ReadPage) (k : ℕ) (r : ReadPage) → slice_get reads k ≡ Some r
+    → has view (drop k reads) ≡ (bytes_eq (page_of view r.slot) r.bytes && has view (drop (suc k) reads))
+has-more view [] k r at = absurd cc
+has-more view (q ∷ reads) zero r at =
+    let same : q ≡ r = cc at in
+    ap (λ (x : ReadPage). bytes_eq (page_of view x.slot) x.bytes && has view reads) same
+has-more view (q ∷ reads) (suc k) r at = has-more view reads k r at
+
+pub unknown-more :
+    (known : ℕ → Bool) (j : ℕ) (view : Memory) (reads : List ReadPage) (k : ℕ) (r : ReadPage)
+    → slice_get reads k ≡ Some r
+    → unknown_in known j view (drop k reads)
+    ≡ cond (known j) (unknown_in known (suc j) view (drop (suc k) reads))
+    (1 + cond (bytes_eq (page_of view r.slot) r.bytes) (unknown_in known (suc j) view (drop (suc k) reads)) 0)
+unknown-more known j view [] k r at = absurd cc
+unknown-more known j view (q ∷ reads) zero r at =
+    let same : q ≡ r = cc at in
+    ap
+    (λ (x : ReadPage). cond (known j) (unknown_in known (suc j) view reads)
+    (1 + cond (bytes_eq (page_of view x.slot) x.bytes) (unknown_in known (suc j) view reads) 0))
+    same
+unknown-more known j view (q ∷ reads) (suc k) r at = unknown-more known j view reads k r at
+
+-- A record of a thread's next step fits if its registers do and the view has its pages, and the view has those of them that
+-- are known.
+pub record IsKnownNext (w : RoundState) (v : Versions) (t : ℕ) (r : Record) : Type 0 where
+  pub ready : is_ready (hart_of w.machine t).status ≡ true
+  pub fit :
+      fits_next w.past w.machine t
+      ≡ (same_registers r.start (hart_of w.machine t).regs && has (hart_of w.machine t).view r.kept.reads)
+  pub known : HasKnown v (place_in w.past w.machine t) t (hart_of w.machine t).view r.kept.reads
+
+known-next :
     (w : RoundState) (h : History) (v : Versions) (t : ℕ) (r : Record)
     → AreVersions h w v → w.past ≡ Some h → is_none w.machine.ending ≡ true → is_ready (hart_of w.machine t).status ≡ true
-    → record_for w.past w.machine t ≡ Some r → HasRead v (place_in w.past w.machine t) t
-    → IsNext w t r
-read-next w h v t r versions past none ready there read =
+    → record_for w.past w.machine t ≡ Some r
+    → IsKnownNext w v t r
+known-next w h v t r versions past none ready there =
     record {
       ready = ready;
       fit =
           ap (is_fitting w.machine) there ∙ fit
-          ∙ ap (λ (u : ℕ). same_registers r.start (hart_of w.machine u).regs) own;
+          ∙ ap
+          (λ (u : ℕ). same_registers r.start (hart_of w.machine u).regs && has (hart_of w.machine u).view r.kept.reads)
+          own;
+      known = λ i q at knows.
+          subst (λ (u : ℕ). bytes_eq (page_of (hart_of w.machine u).view q.slot) q.bytes ≡ true) own
+          (known-page i q at knows);
     }
   where
     k : ℕ
@@ -163,15 +187,17 @@ read-next w h v t r versions past none ready there read =
     here : record_for (Some h) w.machine t ≡ Some r
     here = ap (λ (p : Option History). record_for p w.machine t) (sym past) ∙ there
 
-    at : slice_get h.records (place_in w.past w.machine t) ≡ Some r
-    at =
+    at_place : slice_get h.records (place_in w.past w.machine t) ≡ Some r
+    at_place =
         ap (λ (p : Option History). slice_get h.records (place_in p w.machine t)) past ∙ at-place h w.machine t r here
 
     own : r.thread ≡ t
     own = (past-of w.past t (hart_of w.machine t).number r there).0
 
     can : (is_none (machine_at h k).ending ≡ true) × (fits (machine_at h k) r ≡ true)
-    can = and_parts (is_none (machine_at h k).ending) (fits (machine_at h k) r) (coherent-can h k r versions.comparable.coherent at)
+    can =
+        and_parts (is_none (machine_at h k).ending) (fits (machine_at h k) r)
+        (coherent-can h k r versions.comparable.coherent at_place)
 
     old : IsFitting (machine_at h k) r
     old = fits-parts (machine_at h k) r can.1
@@ -179,62 +205,82 @@ read-next w h v t r versions past none ready there read =
     ready_r : is_ready (hart_of w.machine r.thread).status ≡ true
     ready_r = ap (λ (u : ℕ). is_ready (hart_of w.machine u).status) own ∙ ready
 
-    step : IsStepOf h k r read.step
-    step = versions.steps.each k r read.step at read.there
+    known-page :
+        (i : ℕ) (q : ReadPage) → slice_get r.kept.reads i ≡ Some q → knows_read v k t i ≡ true
+        → bytes_eq (page_of (hart_of w.machine r.thread).view q.slot) q.bytes ≡ true
+    known-page i q at knows = by-step (slice_get v.steps.items k) refl knows
+      where
+        old_has : bytes_eq (page_of (hart_of (machine_at h k) r.thread).view q.slot) q.bytes ≡ true
+        old_has = has-at (hart_of (machine_at h k) r.thread).view r.kept.reads i q old.reads at
 
-    same :
-        (p x : ℕ) → is_current v.times.written.items v.times.viewed t p ≡ true → step.seen p ≡ Some x
-        → slice_get v.pages.items p ≡ Some (Some x)
-        → page_of (hart_of w.machine r.thread).view p ≡ page_of (hart_of (machine_at h k) r.thread).view p
-    same p x cur seen known =
-        ap (λ (u : ℕ). page_of (hart_of w.machine u).view p) own
-        ∙ versions.times.current t p none ready cur ∙ versions.pages p x known ∙ sym (step.views p x seen)
-
-    reads : has (hart_of w.machine r.thread).view r.kept.reads ≡ true
-    reads =
-        known-has r.kept.reads (hart_of (machine_at h k) r.thread).view (hart_of w.machine r.thread).view step.seen
-        v.times.written.items v.times.viewed v.pages.items t same old.reads
-        (ap (λ (vs : List PageVersion). all_known v.times.written.items v.times.viewed v.pages.items t vs) (sym step.read)
-        ∙ read.known)
+        by-step :
+            (o : Option StepVersions) → slice_get v.steps.items k ≡ o → is_known v t (read_version o i) ≡ true
+            → bytes_eq (page_of (hart_of w.machine r.thread).view q.slot) q.bytes ≡ true
+        by-step None is known = absurd cc
+        by-step (Some s) is known =
+            let step : IsStepOf h k r s = versions.steps.each k r s at_place is in
+            let f : ReadPage → PageVersion = λ (p : ReadPage). record { slot = p.slot; version = step.seen p.slot } in
+            let page : slice_get s.read.items i ≡ Some (f q) =
+            ap (λ (l : List PageVersion). slice_get l i) step.read ∙ slice_get-map f r.kept.reads i ∙ ap (option_map f) at in
+            let both =
+            and_parts (is_current v.times.written.items v.times.viewed t q.slot)
+            (is_of_version (step.seen q.slot) (slice_get v.pages.items q.slot))
+            (subst (λ (p : Option PageVersion). is_known v t p ≡ true) page known) in
+            let of : IsOfVersion (step.seen q.slot) (slice_get v.pages.items q.slot) =
+            of-version (step.seen q.slot) (slice_get v.pages.items q.slot) both.1 in
+            let same :
+            page_of (hart_of w.machine r.thread).view q.slot
+            ≡ page_of (hart_of (machine_at h k) r.thread).view q.slot =
+            ap (λ (u : ℕ). page_of (hart_of w.machine u).view q.slot) own
+            ∙ versions.times.current t q.slot none ready both.0 ∙ versions.pages q.slot of.number of.page_is
+            ∙ sym (step.views q.slot of.number of.found) in
+            ap (λ (page : List ℕ). bytes_eq page q.bytes) same ∙ old_has
 
     fuel_at : (machine_at h k).frame.fuel ≡ h.setup.fuel
     fuel_at = frame-fuel h k
 
     ends : may_end w.machine.frame.fuel r.kept.end r.kept.count ≡ true
-    ends = ap (λ (n : ℕ). may_end n r.kept.end r.kept.count) (versions.comparable.fuel ∙ sym fuel_at) ∙ old.ends
+    ends =
+        ap (λ (n : ℕ). may_end n r.kept.end r.kept.count) (versions.comparable.fuel ∙ sym fuel_at) ∙ old.ends
 
     number : r.number ≡ (hart_of w.machine r.thread).number
     number =
         (past-of w.past t (hart_of w.machine t).number r there).1 ∙ ap (λ (u : ℕ). (hart_of w.machine u).number) (sym own)
 
-    fit : fits w.machine r ≡ same_registers r.start (hart_of w.machine r.thread).regs
+    fit :
+        fits w.machine r
+        ≡ (same_registers r.start (hart_of w.machine r.thread).regs && has (hart_of w.machine r.thread).view r.kept.reads)
     fit =
-        elim (is_or_not (same_registers r.start (hart_of w.machine r.thread).regs)) [
-          | inl is ↦
-              fits-from w.machine r
-              (record { ready = ready_r; number = number; start = is; reads = reads; ends = ends })
-              ∙ sym is
-          | inr isnt ↦
-              elim (is_or_not (fits w.machine r)) [
-                | inl fits_so ↦ absurd (let start = (fits-parts w.machine r fits_so).start in cc)
-                | inr unfit ↦ unfit ∙ sym isnt
+        elim (is_or_not (fits w.machine r)) [
+          | inl so ↦ let parts = fits-parts w.machine r so in rw (so, parts.start, parts.reads) refl
+          | inr unfit ↦
+              elim (is_or_not (same_registers r.start (hart_of w.machine r.thread).regs)) [
+                | inr other ↦ rw (unfit, other) refl
+                | inl start ↦
+                    elim (is_or_not (has (hart_of w.machine r.thread).view r.kept.reads)) [
+                      | inr other ↦ rw (unfit, start, other) refl
+                      | inl reads ↦
+                          absurd (
+                          let so =
+                          fits-from w.machine r
+                          (record { ready = ready_r; number = number; start = start; reads = reads; ends = ends }) in
+                          cc)
+                    ]
               ]
         ]
 
 -- the same of the history that a round goes by
-pub read-next-of :
+pub known-next-of :
     (w : RoundState) (v : Versions) (t : ℕ) (r : Record)
-    → AreRight w (Some v) → can_begin w t ≡ true → record_for w.past w.machine t ≡ Some r
-    → HasRead v (place_in w.past w.machine t) t
-    → IsNext w t r
-read-next-of w v t r were begins there read = of w.past refl
+    → AreRight w (Some v) → can_begin w t ≡ true → record_for w.past w.machine t ≡ Some r → IsKnownNext w v t r
+known-next-of w v t r were begins there = of w.past refl
   where
     can : CanBegin w t
     can = can_begin-parts w t begins
 
-    of : (past : Option History) → w.past ≡ past → IsNext w t r
+    of : (past : Option History) → w.past ≡ past → IsKnownNext w v t r
     of None is = absurd (let none = sym there ∙ ap (λ (p : Option History). record_for p w.machine t) is in cc)
-    of (Some h) is = read-next w h v t r (were h is) is can.none can.ready there read
+    of (Some h) is = known-next w h v t r (were h is) is can.none can.ready there
 
 -- ---- a record that is reused
 

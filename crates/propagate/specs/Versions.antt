@@ -1,9 +1,10 @@
 -- Which versions of its history's pages the pages of a round are. Version n of a page is the page as the first n steps of
 -- the history leave it.
-use Rattle.std.specs.Prelude.{◌≡◌, ◌≤◌, ◌<◌, ℕ, suc, ⊤, Bool, true, false, ◌&&◌, ◌==◌, nat_le, if◌then◌else◌, List, [], ◌∷◌, length, map, replicate, Option, Some, None, is_none, slice_get, slice_set, slice_index, Box}
+use Rattle.std.specs.Prelude.{◌≡◌, ◌≤◌, ◌<◌, ℕ, suc, ◌+◌, ⊤, Bool, true, false, ◌&&◌, ◌==◌, nat_le, if◌then◌else◌, List, [], ◌∷◌, length, map, replicate, Option, Some, None, is_none, slice_get, slice_set, slice_index, Box}
 use Rattle.std.specs.Global.{Global}
 use Rattle.guest_call.specs.declared.thread_number.TheConstants.{THREADS}
-use Rattle.memory_spec.specs.Pages.{page_of}
+use Rattle.std.specs.Str.{bytes_eq}
+use Rattle.memory_spec.specs.Pages.{Memory, page_of}
 use Rattle.machine_spec.specs.declared.TheConstants.{MOST_STEPS}
 use Rattle.record_spec.specs.Delta.{PageDelta}
 use Rattle.record_spec.specs.Reads.{ReadPage}
@@ -96,13 +97,6 @@ is_of_version (Some x) (Some (Some y)) = x == y
 is_of_version (Some x) (Some None) = false
 is_of_version (Some x) None = false
 is_of_version None page = false
-
--- Whether each of some pages is current in the view of a thread, and known to be of the version that a step finds.
-abbrev pub all_known : List ℕ → List ℕ → List (Option ℕ) → ℕ → List PageVersion → Bool
-all_known written viewed pages t [] = true
-all_known written viewed pages t (v ∷ read) =
-    (is_current written viewed t v.slot && is_of_version v.version (slice_get pages v.slot))
-    && all_known written viewed pages t read
 
 -- The versions of pages with that of one set, if there is any.
 abbrev pub with_known : List (Option ℕ) → ℕ → Option ℕ → List (Option ℕ)
@@ -209,8 +203,33 @@ pub record AreFresh (now : ℕ) (v : Versions) : Type 0 where
   pub viewed : v.times.viewed ≡ replicate THREADS 0
   pub pages : (p x : ℕ) → slice_get v.pages.items p ≡ Some (Some x) → ⊥
 
--- Each page that the history's step at a place read is known to be what it read, in the view of a thread.
-pub record HasRead (v : Versions) (place t : ℕ) : Type 0 where
-  pub step : StepVersions
-  pub there : slice_get v.steps.items place ≡ Some step
-  pub known : all_known v.times.written.items v.times.viewed v.pages.items t step.read.items ≡ true
+-- Whether a page is known to be of the version that a step finds, in the view of a thread.
+abbrev pub is_known : Versions → ℕ → Option PageVersion → Bool
+is_known v t None = false
+is_known v t (Some page) =
+    is_current v.times.written.items v.times.viewed t page.slot
+    && is_of_version page.version (slice_get v.pages.items page.slot)
+
+-- The version that a step finds of the page at a place of those that it reads.
+abbrev pub read_version : Option StepVersions → ℕ → Option PageVersion
+read_version None k = None
+read_version (Some step) k = slice_get step.read.items k
+
+-- Whether the page at a place of those that the history's step at a place read is known to be what it read, in the view of
+-- a thread.
+abbrev pub knows_read : Versions → ℕ → ℕ → ℕ → Bool
+knows_read v place t k = is_known v t (read_version (slice_get v.steps.items place) k)
+
+-- A view has those of the pages that the history's step at a place read that are known to be what it read.
+abbrev pub HasKnown : Versions → ℕ → ℕ → Memory → List ReadPage → Type 0
+HasKnown v place t view reads =
+    (k : ℕ) → (r : ReadPage) → slice_get reads k ≡ Some r → knows_read v place t k ≡ true
+    → bytes_eq (page_of view r.slot) r.bytes ≡ true
+
+-- How many of some read pages, from a place on, aren't known: of those up to the first that differs, with it.
+abbrev pub unknown_in : (ℕ → Bool) → ℕ → Memory → List ReadPage → ℕ
+unknown_in known k view [] = 0
+unknown_in known k view (r ∷ reads) =
+    if known k
+    then unknown_in known (suc k) view reads
+    else 1 + (if bytes_eq (page_of view r.slot) r.bytes then unknown_in known (suc k) view reads else 0)

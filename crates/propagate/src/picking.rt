@@ -133,9 +133,8 @@ impl Round {
     }
 
     /// Whether the record of the next step of thread `t`, which can be begun, fits where its registers are the
-    /// thread's: the round goes on as its history did, it comes next, and no page is marked that it read; or each page
-    /// that it read is known to be what it read.
-    fn has_same_pages(&self, t: u8, rec: &Record) -> bool
+    /// thread's: the round goes on as its history did, it comes next, and no page is marked that it read.
+    fn has_unmarked_pages(&self, t: u8, rec: &Record) -> bool
         requires begins { can_begin self.now t ≡ true }
         requires exists { t < length self.now.machine.harts }
         requires record { record_for self.now.past self.now.machine t ≡ Some rec.now }
@@ -144,21 +143,31 @@ impl Round {
     {
         match &self.marks {
             Some(marks) => self.is_next(t) && all_unmarked(marks, rec.reads().pages()),
-            None => self.has_known_pages(t),
+            None => false,
         }
     }
 
-    /// Whether each page that the record of the next step of thread `t`, which exists, read is known to be what it
-    /// read.
-    fn has_known_pages(&self, t: u8) -> bool
-        requires { t < length self.now.machine.harts }
-        ensures { (r : OldRecord) → can_begin self.now t ≡ true
-            → record_for self.now.past self.now.machine t ≡ Some r
-            → result ≡ true → IsNext self.now t r }
+    /// Whether the record of the next step of thread `t`, which can be begun, fits. Of its pages only those are compared
+    /// that aren't known to be what it read.
+    fn fits_by_versions(&self, t: u8, rec: &Record, compared: &mut Compared) -> bool
+        requires begins { can_begin self.now t ≡ true }
+        requires exists { t < length self.now.machine.harts }
+        requires record { record_for self.now.past self.now.machine t ≡ Some rec.now }
+        ensures fits { result ≡ fits_next self.now.past self.now.machine t }
+        ensures never_lower { compared.old ≤ compared.new }
     {
         match &self.versions {
-            Some(versions) => versions.has_read(self.place(t), t),
-            None => false,
+            Some(versions) => {
+                rec.start() == self.core.regs(t)
+                    && versions.has_reads(
+                        self.place(t),
+                        t,
+                        self.core.view(t),
+                        rec.reads().pages(),
+                        compared,
+                    )
+            }
+            None => self.core.fits_counted(rec, compared),
         }
     }
 
@@ -172,8 +181,8 @@ impl Round {
         ensures never_lower { compared.old ≤ compared.new }
     {
         match self.next_record(t) {
-            Some(rec) if self.has_same_pages(t, rec) => rec.start() == self.core.regs(t),
-            Some(rec) => self.core.fits_counted(rec, compared),
+            Some(rec) if self.has_unmarked_pages(t, rec) => rec.start() == self.core.regs(t),
+            Some(rec) => self.fits_by_versions(t, rec, compared),
             None => false,
         }
     }

@@ -4,19 +4,20 @@
 ghost use Rattle.std.specs.Prelude.{◌≡◌, ◌<◌, ◌≤◌, ◌+◌, ◌∷◌, [], ℕ, true, map, length, slice_get, slice_set, None, is_some, if◌then◌else◌, IfOk, IfSome};
 ghost use Rattle.order_spec.specs.Facts.{written_slots, facts};
 ghost use Rattle.record_spec.specs.Delta.{PageDelta};
-ghost use Rattle.record_spec.specs.Reads.{ReadPage as Read};
+ghost use Rattle.record_spec.specs.Reads.{ReadPage as Read, has};
 ghost use Rattle.machine_spec.specs.Setup.{IsSetup};
 ghost use Rattle.history_spec.specs.History.{is_coherent};
 ghost use Rattle.propagate.specs.Versions as versions;
-ghost use Rattle.propagate.specs.Versions.{with_each, stored_version, seen_version, learned, rewritten, is_of_version, all_known, AreStepsOf, AreFresh, AreReused, AreExecuted, AreGiven, MayBeMadeAgain, MayBeMadeAnew, HasRead, unboxed};
+ghost use Rattle.propagate.specs.Versions.{with_each, stored_version, seen_version, learned, rewritten, is_of_version, AreStepsOf, AreFresh, AreReused, AreExecuted, AreGiven, MayBeMadeAgain, MayBeMadeAnew, HasKnown, unknown_in, unboxed};
 
 use super::times::{PageVersion, Times, set};
 use depend_graph::Graph;
 use machine_spec::MOST_STEPS;
+use page_store::PageTable;
 use release_core::{Core, History};
 use std::alloc::{AllocError, Global};
 use store_mask::ReadPage;
-use thunk_record::Record;
+use thunk_record::{Compared, Record, has_read};
 
 /// Which versions of pages a step of a history reads and writes.
 #[derive(Drop)]
@@ -179,24 +180,43 @@ impl Versions {
         })
     }
 
-    /// Whether each page that the history's step at a place read is known to be what it read, in the view of thread
-    /// `t`.
-    pub fn has_read(&self, place: usize, t: u8) -> bool
-        ensures { result ≡ true → HasRead self.now place t }
+    /// Whether the page at place `k` of those that the history's step at a place read is known to be what it read, in
+    /// the view of thread `t`.
+    fn knows_read(&self, place: usize, t: u8, k: usize) -> bool
+        ensures { result ≡ versions.knows_read self.now place t k }
     {
-        place < self.steps.len() && self.are_known(t, self.steps[place].read.as_slice())
+        let Some(step) = self.steps.get(place) else {
+            return false;
+        };
+        match step.read.get(k) {
+            Some(page) => {
+                self.times.is_current(t, page.slot)
+                    && is_of(self.pages.as_slice(), page.slot, page.version)
+            }
+            None => false,
+        }
     }
 
-    /// Whether each of some pages is current in the view of thread `t`, and known to be of the version that a step
-    /// finds.
-    fn are_known(&self, t: u8, read: &[PageVersion]) -> bool
-        ensures { result ≡ all_known self.now.times.written.items self.now.times.viewed
-            self.now.pages.items t read.now }
+    /// Whether a view of thread `t` has the pages that the history's step at a place read. Those that are known to be
+    /// what it read aren't compared.
+    pub fn has_reads(
+        &self,
+        place: usize,
+        t: u8,
+        view: &PageTable,
+        reads: &[ReadPage],
+        compared: &mut Compared,
+    ) -> bool
+        requires known { HasKnown self.now place t view.now reads.now }
+        ensures has { result ≡ has view.now reads.now }
+        ensures compared { compared.new ≡ compared.old
+            + unknown_in (versions.knows_read self.now place t) 0 view.now reads.now }
     {
-        for page in read {
-            if !(self.times.is_current(t, page.slot)
-                && is_of(self.pages.as_slice(), page.slot, page.version))
-            {
+        for (k, read) in reads.iter().enumerate() {
+            if self.knows_read(place, t, k) {
+                continue;
+            }
+            if !has_read(view, read, compared) {
                 return false;
             }
         }

@@ -1,0 +1,14 @@
+-- What holds at the loop of `Versions::has_reads`.
+use Rattle.std.proofs.Common.{◌≡◌, ◌+◌, drop}
+use Rattle.record_spec.specs.Reads.{has}
+use Rattle.propagate.specs.Versions.{knows_read, unknown_in}
+use Rattle.propagate.proofs.versions.Versions.has_reads.Given as goal
+
+-- the pages so far are in the view, and as many are counted as aren't known of those that are left
+abbrev pub invariant-loop-k : goal.invariant-loop-k
+invariant-loop-k l = record {
+  has : has l.view (drop l.k l.reads) ≡ has l.view l.reads;
+  counted :
+      l.compared + unknown_in (knows_read l.self l.place l.t) l.k l.view (drop l.k l.reads)
+      ≡ l.fn.compared + unknown_in (knows_read l.self l.place l.t) 0 l.view l.reads;
+}
