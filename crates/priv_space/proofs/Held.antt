@@ -7,6 +7,7 @@ use Rattle.std.specs.Vec.{with_items}
 use Rattle.memory_spec.specs.Pages.{Memory, page_of}
 use Rattle.priv_space.specs.declared.slot.Slot.{Slot}
 use Rattle.priv_space.specs.declared.slot.Access.{Access}
+use Rattle.priv_space.specs.declared.slots.TheConstants.{LISTED}
 use Rattle.priv_space.specs.Slots.{untouched, SharesPage, IsPermitted, IsOver}
 use Rattle.priv_space.specs.Held.{held_at, all_held, IsHeld, PlacesSlot, FindsNext, FindsLeast}
 use Rattle.priv_space.specs.Changes.{OnSlot, StoresAgain}
@@ -103,8 +104,7 @@ is_held-set places held k s h under none = record {
   inside = λ slot. omega (arith, h.inside slot, length-set held k s);
   apart = h.apart;
   room = h.room;
-  names = h.names;
-  mapped = λ place some below. h.mapped place some (omega (arith, below, length-set held k s));
+  owned = λ place some below. h.owned place some (omega (arith, below, length-set held k s));
 }
 
 -- a slot that gets the next place, where nothing was touched, is as before
@@ -164,42 +164,52 @@ is_held-more listed places held i h lt free =
             ]
           ];
       room = many ∙ h.room;
-      names = λ slot some below.
-          elim (at_set places i slot n 0 lt) [
-            | inl new ↦
-                ap (λ p. get_or listed' p 0) new.1
-                ∙ get_or-set_same listed n i 0 (omega (arith, new.1, many))
-                ∙ sym new.0
-            | inr other ↦
-                ap (λ p. get_or listed' p 0) other.1
-                ∙ get_or-set_other listed n (get_or places slot 0) i 0 (λ is. absurd (omega (arith, h.inside slot, is)))
-                ∙ h.names slot (omega (arith, other.1)) (omega (arith, other.1, many))
-          ];
-      mapped = λ place some below listed_is.
+      owned = λ place some below first.
           elim (cases_eq place n) [
             | inl is ↦
-                omega (arith, ap (λ p. get_or listed' p 0) is, get_or-set_same listed n i 0 (omega (arith, many)), whole)
+                ap (λ p. get_or places' (get_or listed' p 0) 0) is
+                ∙ ap (λ slot. get_or places' slot 0) (get_or-set_same listed n i 0 (omega (arith, is, h.room)))
+                ∙ get_or-set_same places i n 0 lt
+                ∙ sym is
             | inr other ↦
-                omega (
-                  arith,
-                  get_or-set_other listed n place i 0 other,
-                  whole,
-                  h.mapped place some (omega (arith, more)) (omega (arith, many)),
-                )
+                let was = h.owned place some (omega (arith, more)) first in
+                ap (λ slot. get_or places' slot 0) (get_or-set_other listed n place i 0 other)
+                ∙ get_or-set_other places i (get_or listed place 0) n 0
+                (λ is. absurd (omega (arith, was, free, ap (λ slot. get_or places slot 0) is)))
+                ∙ was
           ];
     }
+
+-- a slot that has one of the first places is listed there
+listed-slot :
+    (listed places : List ℕ) (held : List Slot) (slot : ℕ) → IsHeld listed places held → 0 < get_or places slot 0
+    → get_or places slot 0 < LISTED → get_or listed (get_or places slot 0) 0 ≡ slot
+listed-slot listed places held slot h some below =
+    let own = h.owned (get_or places slot 0) some (h.inside slot) below in
+    h.apart (get_or listed (get_or places slot 0) 0) slot own (omega (arith, own))
+
+-- and what is listed is one of the slots
+listed-within :
+    (listed places : List ℕ) (held : List Slot) (place : ℕ) → IsHeld listed places held → 0 < place
+    → place < length held → place < LISTED → get_or listed place 0 < length places
+listed-within listed places held place h some below first =
+    elim (cases_lt (get_or listed place 0) (length places)) [
+      | inl lt ↦ lt
+      | inr le ↦ absurd (omega (arith, h.owned place some below first, get_or_past places (get_or listed place 0) 0 le))
+    ]
 
 -- the least listed slot is the next one that has a place, where all that are held are listed
 pub next-listed :
     (listed places : List ℕ) (held : List Slot) (from count : ℕ) (found : Option ℕ) → IsHeld listed places held
-    → count ≡ length held → count ≤ length listed → length places < 2 ^ 64 → FindsLeast listed count from found
+    → count ≡ length held → count ≤ LISTED → length places < 2 ^ 64 → FindsLeast listed count from found
     → FindsNext (λ k. get_or places k 0 ≡ 0) from (length places) found
 next-listed listed places held from count (Some slot) h is all fits least =
     let within : slot < length places =
     omega (
       arith,
       least.is,
-      h.mapped least.place least.inside.0 (omega (arith, least.inside.1)) (omega (arith, least.inside.1)),
+      listed-within listed places held least.place h least.inside.0 (omega (arith, least.inside.1))
+          (omega (arith, least.inside.1)),
     ) in
     record {
       above = least.above;
@@ -208,7 +218,7 @@ next-listed listed places held from count (Some slot) h is all fits least =
       before = λ k above below.
           elim (cases_lt 0 (get_or places k 0)) [
             | inl some ↦
-                let here = h.names k some (omega (arith, h.inside k)) in
+                let here = listed-slot listed places held k h some (omega (arith, h.inside k)) in
                 absurd (omega (arith, least.least (get_or places k 0) some (omega (arith, h.inside k)) (omega (arith, here)), here))
             | inr low ↦ omega arith
           ];
@@ -219,7 +229,7 @@ next-listed listed places held from count None h is all fits none = λ k above.
           absurd (
           omega (
             arith,
-            h.names k some (omega (arith, h.inside k)),
+            listed-slot listed places held k h some (omega (arith, h.inside k)),
             none (get_or places k 0) some (omega (arith, h.inside k)),
           ))
       | inr low ↦ omega arith

@@ -2,6 +2,7 @@
 use Rattle.std.specs.Prelude.{◌≡◌, ◌<◌, ◌≤◌, ◌+◌, ◌^◌, ℕ, List, length, map, slice_index, slice_index_or, Option, Some, None, Result, IfOk}
 use Rattle.std.specs.declared.alloc.AllocError.{AllocError}
 use Rattle.priv_space.specs.declared.slot.Slot.{Slot}
+use Rattle.priv_space.specs.declared.slots.TheConstants.{LISTED}
 use Rattle.priv_space.specs.Slots.{untouched}
 
 -- The slot in a place.
@@ -13,17 +14,15 @@ abbrev pub all_held : List ℕ → List Slot → List Slot
 all_held places held = map (held_at held) places
 
 -- Each slot has its place among those that are held, no two have the same but place 0, and what stands there wasn't
--- touched. The first places list whose they are.
+-- touched. Of the first places but place 0 it is listed which slot has them.
 pub record IsHeld (listed places : List ℕ) (held : List Slot) : Type 0 where
   pub first : held_at held 0 ≡ untouched
   pub some : 0 < length held
   pub inside : (slot : ℕ) → slice_index places slot < length held
   pub apart : (a b : ℕ) → slice_index places a ≡ slice_index places b → 0 < slice_index places a → a ≡ b
-  pub room : length listed ≡ 16
-  pub names : (slot : ℕ) → 0 < slice_index places slot → slice_index places slot < length listed
-      → slice_index listed (slice_index places slot) ≡ slot
-  pub mapped : (place : ℕ) → 0 < place → place < length held → place < length listed
-      → slice_index listed place < length places
+  pub room : length listed ≡ LISTED
+  pub owned : (place : ℕ) → 0 < place → place < length held → place < LISTED
+      → slice_index places (slice_index listed place) ≡ place
 
 -- A slot of a table of places and of what they hold.
 pub record HoldsSlot (slot : ℕ) (listed places : List ℕ) (held : List Slot) : Type 0 where
@@ -44,12 +43,12 @@ pub record IsNext (IsFree : ℕ → Type 0) (from count slot : ℕ) : Type 0 whe
   pub fits : slot + 1 < 2 ^ 64
   pub before : (k : ℕ) → from ≤ k → k < slot → IsFree k
 
--- The first slot from this one on that isn't free, or none if all are free.
+-- A slot from this one on before which all are free, or none if all are free.
 abbrev pub FindsNext : (ℕ → Type 0) → ℕ → ℕ → Option ℕ → Type 0
 FindsNext IsFree from count (Some slot) = IsNext IsFree from count slot
 FindsNext IsFree from count None = (k : ℕ) → from ≤ k → IsFree k
 
--- The least slot that isn't below this one among those of the places from 1 up to a count.
+-- The least slot from this one on among those of the places from 1 on below a count.
 pub record IsLeast (listed : List ℕ) (count from slot : ℕ) : Type 0 where
   pub place : ℕ
   pub inside : (0 < place) × (place < count)
@@ -57,7 +56,7 @@ pub record IsLeast (listed : List ℕ) (count from slot : ℕ) : Type 0 where
   pub above : from ≤ slot
   pub least : (other : ℕ) → 0 < other → other < count → from ≤ slice_index listed other → slot ≤ slice_index listed other
 
--- The least of them, or none if all are below.
+-- The least of them, or none if there is none from this one on.
 abbrev pub FindsLeast : List ℕ → ℕ → ℕ → Option ℕ → Type 0
 FindsLeast listed count from (Some slot) = IsLeast listed count from slot
 FindsLeast listed count from None = (place : ℕ) → 0 < place → place < count → slice_index listed place < from

@@ -24,7 +24,7 @@ const BLOCK: usize = 32;
 /// For how many touched slots there is room at first.
 const ROOM: usize = 16;
 
-/// For how many places it is listed whose they are.
+/// For how many of the first places their slot is listed.
 const LISTED: usize = 16;
 
 /// The slots of a thread's memory. A thread touches few pages, and only what it touched is kept. A clause sees the list
@@ -35,7 +35,7 @@ pub(super) struct Slots {
     places: Vec<u16>,
     /// The touched slots; at place 0 one that wasn't touched, which stands for all others.
     held: Vec<Slot>,
-    /// The slot of each of the first places, so that a thread that touched few needs no search.
+    /// The slot of each of the first places but place 0, so that not all slots are looked at if few were touched.
     listed: [usize; LISTED],
 }
 
@@ -94,7 +94,7 @@ fn is_before(slot: usize, found: Option<usize>) -> bool
     }
 }
 
-/// The least slot from this one on among those of the places from 1 up to a count.
+/// The least slot from this one on among those of the places from 1 on below a count.
 fn least_listed(listed: &[usize; LISTED], count: usize, from: usize) -> Option<usize>
     requires { (0 < count) × (count ≤ LISTED) }
     ensures { FindsLeast listed.now count from result }
@@ -118,7 +118,7 @@ fn place_of(places: &[u16], slot: usize) -> usize
     usize::from(places[slot])
 }
 
-/// Lists whose place it is, if it is one of the first.
+/// Lists the slot of a place, if that is one of the first.
 #[inline(always)]
 fn list(listed: &mut [usize; LISTED], place: usize, slot: usize)
     ensures { listed.new ≡ slice_set listed.old place slot }
@@ -210,12 +210,12 @@ impl Slots {
         ensures { FindsNext (λ k. slice_index_or self.now k untouched ≡ untouched) from
             (length self.now) result }
     {
-        let places: &[u16] = &self.places;
         let count = self.held.len();
         if count <= LISTED {
-            return least_listed(&self.listed, count, from);
+            least_listed(&self.listed, count, from)
+        } else {
+            next_place(&self.places, from)
         }
-        next_place(places, from)
     }
 
     /// Adds the view's page in a slot to the read pages, if a byte was taken.

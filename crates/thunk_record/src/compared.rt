@@ -6,9 +6,9 @@ use std::marker::Model;
 use std::thread::Threads;
 use turn_count::Tally;
 
-/// How many read pages were compared with those of a view. Only `has_read` raises it, and what calls it. Outside of
-/// this crate nothing that isn't lent the runtime can make one. A clause sees a number; at run time it takes no bytes,
-/// and a program can't read it.
+/// How many read pages were compared with those of a view. Only `has_read` raises it, by one, and `merge`, by what
+/// another one counts. Outside of this crate nothing that isn't lent the runtime can make one. A clause sees a number;
+/// at run time it takes no bytes, and a program can't read it.
 #[derive(Drop)]
 pub struct Compared {
     tally: Tally,

@@ -14,7 +14,7 @@ use rv_alu::Regs;
 use store_mask::ReadPage;
 use thunk_spec::ThunkEnd;
 
-/// Whether a view has the bytes of a read page, which are compared. One past its end it hasn't.
+/// Whether a view has the bytes of a read page. One past its end it hasn't. Either counts as a page that is compared.
 #[tactic(auto, using(crate::proofs::Past::no_bytes))]
 pub fn has_read(table: &PageTable, read: &ReadPage, compared: &mut Compared) -> bool
     ensures has { result ≡ bytes_eq (page_of table.now read.now.slot) read.now.bytes }

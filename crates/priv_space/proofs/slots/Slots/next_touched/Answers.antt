@@ -10,21 +10,20 @@ returns-then-count-le-LISTED c =
     let held = c.self.inside.held.items in
     let count : length places ≡ length c.args.self.now =
     sym (length-all_held places held) ∙ ap length c.self.view_is in
-    let fits : length c.deref-places.result.now ≡ length places = ap length c.deref-places.ensures.value in
     next-free c.args.from _ _ c.least_listed.result
     (λ k free. ap (λ slots. get_or slots k untouched) (sym c.self.view_is)
     ∙ untouched-held places held k c.self.invariant free)
     count
     (next-listed c.self.inside.listed places held c.args.from c.len-count.result c.least_listed.result c.self.invariant
-    (omega arith) (omega (arith, c.self.invariant.room)) (omega (arith, fits)) c.least_listed.ensures)
+    (omega arith) (omega arith) (omega (arith, c.self.inside.places.ok)) c.least_listed.ensures)
 
-pub returns : goal.returns
-returns c =
+pub returns-else-count-le-LISTED : goal.returns-else-count-le-LISTED
+returns-else-count-le-LISTED c =
     let places = c.self.inside.places.items in
     let held = c.self.inside.held.items in
-    let count : length c.deref-places.result.now ≡ length c.args.self.now =
-    ap length c.deref-places.ensures.value ∙ sym (length-all_held places held) ∙ ap length c.self.view_is in
+    let count : length c.deref.result.now ≡ length c.args.self.now =
+    ap length c.deref.ensures.value ∙ sym (length-all_held places held) ∙ ap length c.self.view_is in
     next-free c.args.from _ _ c.next_place.result
     (λ k free. ap (λ slots. get_or slots k untouched) (sym c.self.view_is)
-    ∙ untouched-held places held k c.self.invariant (ap (λ p. get_or p k 0) (sym c.deref-places.ensures.value) ∙ free))
+    ∙ untouched-held places held k c.self.invariant (ap (λ p. get_or p k 0) (sym c.deref.ensures.value) ∙ free))
     count c.next_place.ensures
