@@ -154,10 +154,9 @@ unknown-more known j view (q ∷ reads) zero r at =
     same
 unknown-more known j view (q ∷ reads) (suc k) r at = unknown-more known j view reads k r at
 
--- A record of a thread's next step fits if its registers do and the view has its pages, and the view has those of them that
--- are known.
+-- A record of a thread's next step fits if its registers do and the view has its pages, and the view has those of them
+-- that are known.
 pub record IsKnownNext (w : RoundState) (v : Versions) (t : ℕ) (r : Record) : Type 0 where
-  pub ready : is_ready (hart_of w.machine t).status ≡ true
   pub fit :
       fits_next w.past w.machine t
       ≡ (same_registers r.start (hart_of w.machine t).regs && has (hart_of w.machine t).view r.kept.reads)
@@ -170,7 +169,6 @@ known-next :
     → IsKnownNext w v t r
 known-next w h v t r versions past none ready there =
     record {
-      ready = ready;
       fit =
           ap (is_fitting w.machine) there ∙ fit
           ∙ ap

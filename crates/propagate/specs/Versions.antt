@@ -215,8 +215,8 @@ abbrev pub read_version : Option StepVersions → ℕ → Option PageVersion
 read_version None k = None
 read_version (Some step) k = slice_get step.read.items k
 
--- Whether the page at a place of those that the history's step at a place read is known to be what it read, in the view of
--- a thread.
+-- Whether the page at a place of those that the history's step at a place read is known to be what it read, in the view
+-- of a thread.
 abbrev pub knows_read : Versions → ℕ → ℕ → ℕ → Bool
 knows_read v place t k = is_known v t (read_version (slice_get v.steps.items place) k)
 
@@ -226,7 +226,8 @@ HasKnown v place t view reads =
     (k : ℕ) → (r : ReadPage) → slice_get reads k ≡ Some r → knows_read v place t k ≡ true
     → bytes_eq (page_of view r.slot) r.bytes ≡ true
 
--- How many of some read pages, from a place on, aren't known: of those up to the first that differs, with it.
+-- How many of some read pages, of which the first has this place, aren't known: of those up to the first of these that
+-- differs, with it.
 abbrev pub unknown_in : (ℕ → Bool) → ℕ → Memory → List ReadPage → ℕ
 unknown_in known k view [] = 0
 unknown_in known k view (r ∷ reads) =

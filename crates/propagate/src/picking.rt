@@ -134,7 +134,7 @@ impl Round {
 
     /// Whether the record of the next step of thread `t`, which can be begun, fits where its registers are the
     /// thread's: the round goes on as its history did, it comes next, and no page is marked that it read.
-    fn has_unmarked_pages(&self, t: u8, rec: &Record) -> bool
+    fn reads_no_marked_page(&self, t: u8, rec: &Record) -> bool
         requires begins { can_begin self.now t ≡ true }
         requires exists { t < length self.now.machine.harts }
         requires record { record_for self.now.past self.now.machine t ≡ Some rec.now }
@@ -147,8 +147,8 @@ impl Round {
         }
     }
 
-    /// Whether the record of the next step of thread `t`, which can be begun, fits. Of its pages only those are compared
-    /// that aren't known to be what it read.
+    /// Whether the record of the next step of thread `t`, which can be begun, fits. Of its pages only those are
+    /// compared that aren't known to be what it read.
     fn fits_by_versions(&self, t: u8, rec: &Record, compared: &mut Compared) -> bool
         requires begins { can_begin self.now t ≡ true }
         requires exists { t < length self.now.machine.harts }
@@ -171,8 +171,8 @@ impl Round {
         }
     }
 
-    /// Whether the record of the next step of thread `t`, which can be begun, fits. Pages are compared only if they may
-    /// differ: none while the round repeats its history.
+    /// Whether the record of the next step of thread `t`, which can be begun, fits. Pages are compared only if one of
+    /// them may differ: none while the round repeats its history.
     fn has_fitting(&self, t: u8, compared: &mut Compared) -> bool
         requires begins { can_begin self.now t ≡ true }
         requires exists { t < length self.now.machine.harts }
@@ -181,7 +181,7 @@ impl Round {
         ensures never_lower { compared.old ≤ compared.new }
     {
         match self.next_record(t) {
-            Some(rec) if self.has_unmarked_pages(t, rec) => rec.start() == self.core.regs(t),
+            Some(rec) if self.reads_no_marked_page(t, rec) => rec.start() == self.core.regs(t),
             Some(rec) => self.fits_by_versions(t, rec, compared),
             None => false,
         }

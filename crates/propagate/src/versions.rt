@@ -1,7 +1,7 @@
-//! Which versions of its history's pages the pages of a round are. Where the pages that a record read are known to be
-//! of the versions that it read, the record fits without a comparison, in whatever order the steps come.
+//! Which versions of its history's pages the pages of a round are. A page that a record read isn't compared if it is
+//! known to be of the version that the record read, in whatever order the steps come.
 
-ghost use Rattle.std.specs.Prelude.{◌≡◌, ◌<◌, ◌≤◌, ◌+◌, ◌∷◌, [], ℕ, true, map, length, slice_get, slice_set, None, is_some, if◌then◌else◌, IfOk, IfSome};
+ghost use Rattle.std.specs.Prelude.{◌≡◌, ◌<◌, ◌≤◌, ◌+◌, ◌∷◌, [], ℕ, true, map, length, slice_get, None, is_some, if◌then◌else◌, IfOk, IfSome};
 ghost use Rattle.order_spec.specs.Facts.{written_slots, facts};
 ghost use Rattle.record_spec.specs.Delta.{PageDelta};
 ghost use Rattle.record_spec.specs.Reads.{ReadPage as Read, has};
@@ -197,8 +197,8 @@ impl Versions {
         }
     }
 
-    /// Whether a view of thread `t` has the pages that the history's step at a place read. Those that are known to be
-    /// what it read aren't compared.
+    /// Whether the view of thread `t` has these pages, which the history's step at a place read. Those that are known to
+    /// be what it read aren't compared.
     pub fn has_reads(
         &self,
         place: usize,

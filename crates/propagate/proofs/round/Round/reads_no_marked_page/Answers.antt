@@ -1,4 +1,4 @@
--- What is left to prove of `Round::has_unmarked_pages`.
+-- What is left to prove of `Round::reads_no_marked_page`.
 use Rattle.std.proofs.Common.{◌≡◌, Bool, List, length, ap, sym, subst, ◌∙◌}
 use Rattle.std.proofs.lemmas.Bool.{eqb-true}
 use Rattle.round_spec.specs.Rounds.{RoundState}
@@ -6,7 +6,7 @@ use Rattle.round_spec.specs.Due.{place_in}
 use Rattle.propagate.specs.Alike.{IsAsMarked, IsAsBefore, AreClean, IsClean, all_unmarked}
 use Rattle.propagate.proofs.Keeping.{record_count}
 use Rattle.propagate.proofs.Alike.{next-fits-of, clean-unmarked}
-use Rattle.propagate.proofs.round.Round.has_unmarked_pages.Goals as goal
+use Rattle.propagate.proofs.round.Round.reads_no_marked_page.Goals as goal
 
 pub returns-then-is_next-clause-next : goal.returns-then-is_next-clause-next
 returns-then-is_next-clause-next c =
