@@ -9,10 +9,10 @@ use Rattle.order_spec.specs.Before.{is_in, meets, fact_at, all_below}
 use Rattle.order_spec.specs.Ancestors.{any_below}
 use Rattle.order_spec.proofs.Lists.{and-left, and-right, or-in_left, or-in_right, is_or_not}
 use Rattle.order_spec.proofs.Clocks.{some-below, below-some}
-use Rattle.reach_spec.specs.Reach.{read_at, leads_to, comes_to, gave_at, giver_end, is_reached, last_below}
-use Rattle.reach_spec.proofs.Least.{any-like, both-ways, reached-pass}
-use Rattle.reach_spec.proofs.Givers.{last-tells}
-use Rattle.reach_spec.proofs.Spread.{meets-of}
+use Rattle.round_spec.specs.Reach.{read_at, leads_to, comes_to, gave_at, giver_end, is_reached, last_below}
+use Rattle.round_spec.proofs.Least.{any-like, both-ways, reached-pass}
+use Rattle.round_spec.proofs.Givers.{last-tells}
+use Rattle.round_spec.proofs.Spread.{meets-of}
 use Rattle.depend_graph.specs.Past.{is_of, writes, gives}
 use Rattle.depend_graph.specs.declared.reaching.Reached.{Reached}
 use Rattle.depend_graph.specs.Reaching.{shows, led_of, end_of, is_last, IsStepMore, IsReachedPast}

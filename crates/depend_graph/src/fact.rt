@@ -1,7 +1,7 @@
 //! What a step does, as far as other steps can depend on it.
 
 ghost use Rattle.std.specs.Prelude.{◌≡◌, IfOk};
-ghost use Rattle.race_spec.specs.Sync.{sync_fact};
+ghost use Rattle.round_spec.specs.Sync.{sync_fact};
 
 use std::alloc::{AllocError, Global};
 use std::marker::Model;

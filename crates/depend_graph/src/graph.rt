@@ -3,8 +3,8 @@
 ghost use Rattle.std.specs.Prelude.{◌≡◌, ℕ, ◌<◌, ◌≤◌, All, Some, length, slice_get, slice_index, IfOk};
 ghost use Rattle.order_spec.specs.Facts.{Fact as StepFact};
 ghost use Rattle.order_spec.specs.Ancestors.{clock_at, edges_at};
-ghost use Rattle.reach_spec.specs.Reach.{reach as reached_by};
-ghost use Rattle.race_spec.specs.Sync.{sync_facts};
+ghost use Rattle.round_spec.specs.Reach.{reach as reached_by};
+ghost use Rattle.round_spec.specs.Sync.{sync_facts};
 ghost use Rattle.depend_graph.specs.Reaching.{slots_of_each};
 
 use super::before::is_before;

@@ -4,7 +4,7 @@ ghost use Rattle.std.specs.Prelude.{◌≡◌, ◌≢◌, ◌<◌, ◌≤◌, �
 ghost use Rattle.std.specs.List.{list_any};
 ghost use Rattle.order_spec.specs.Facts.{Fact as StepFact};
 ghost use Rattle.order_spec.specs.Before.{is_in};
-ghost use Rattle.reach_spec.specs.Reach.{reach};
+ghost use Rattle.round_spec.specs.Reach.{reach};
 ghost use Rattle.depend_graph.specs.Reaching.{slots_of_each, shows, led_of, end_of, IsStepMore};
 
 use super::fact::Fact;

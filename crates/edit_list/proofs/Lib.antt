@@ -6,3 +6,5 @@ pub mod Parsing
 pub mod Lengths
 pub mod Showing
 pub mod Going
+pub mod Leading
+pub mod GoingOn

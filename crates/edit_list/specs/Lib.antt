@@ -5,3 +5,6 @@ pub mod Refusals
 pub mod Adding
 pub mod Lengths
 pub mod Showing
+pub mod Lists
+pub mod Pending
+pub mod NoInputs

@@ -3,9 +3,9 @@
 use crate::calls::{Answer, Named, cause_name};
 use crate::refusal::{Refusal, Why};
 use crate::waits::{Wait, Waits};
-use call_effect::Effect;
 use guest_call::{Fate, THREADS};
 use machine_spec::{Asked, End, Status};
+use object_table::Effect;
 use plain_machine::{PlainMachine, StepResult};
 use release_core::Setup;
 use std::alloc::Global;

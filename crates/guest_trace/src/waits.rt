@@ -1,7 +1,7 @@
 //! Who holds which mutex and which reader-writer lock, and who waits for what, as the calls so far tell.
 
-use call_effect::Effect;
 use guest_call::{Call, Fate, OBJECTS, THREADS};
+use object_table::Effect;
 use std::fmt;
 
 /// What a thread waits for.

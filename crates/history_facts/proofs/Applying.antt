@@ -7,7 +7,7 @@ use Rattle.thunk_spec.specs.Put.{is_readable}
 use Rattle.guest_call.specs.declared.Call.{Call}
 use Rattle.guest_call.specs.Effect.{Effect}
 use Rattle.guest_call.specs.Objects.{Objects, act, waits_at}
-use Rattle.record_spec.specs.Record.{Record}
+use Rattle.thunk_spec.specs.Record.{Record}
 use Rattle.machine_spec.specs.declared.states.Asked.{Asked}
 use Rattle.machine_spec.specs.declared.states.Asked.TheVariants.{Asks, Stops}
 use Rattle.machine_spec.specs.Machine.{Machine, hart_of, is_ready}

@@ -8,7 +8,7 @@ use Rattle.std.specs.Prelude.{◌&&◌}
 use Rattle.memory_spec.specs.Pages.{Mapped}
 use Rattle.guest_call.specs.declared.Object.{Object}
 use Rattle.guest_call.specs.Objects.{Objects, opening, created_count}
-use Rattle.record_spec.specs.Record.{Record}
+use Rattle.thunk_spec.specs.Record.{Record}
 use Rattle.machine_spec.specs.declared.states.End.{End}
 use Rattle.machine_spec.specs.Machine.{Machine, hart_of, is_ready}
 use Rattle.machine_spec.specs.Whole.{IsWhole}

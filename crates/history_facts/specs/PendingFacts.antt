@@ -1,6 +1,6 @@
 -- The facts that are still to come where records are applied one after the other.
 use Rattle.std.specs.Prelude.{ℕ, Bool, true, false, List, map}
-use Rattle.record_spec.specs.Record.{Record}
+use Rattle.thunk_spec.specs.Record.{Record}
 use Rattle.machine_spec.specs.Machine.{Machine}
 use Rattle.order_spec.specs.Facts.{Fact, facts_from, bare_fact}
 

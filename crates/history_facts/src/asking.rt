@@ -7,8 +7,8 @@ ghost use Rattle.sync_objects.specs.Acting.{objects_in};
 ghost use Rattle.order_spec.specs.Facts as order;
 ghost use Rattle.history_facts.specs.Asking.{call_in};
 
-use call_effect::Effect;
 use guest_call::{Call, Object};
+use object_table::Effect;
 use page_map::PageMap;
 use sync_objects::{ActedOn, Objects};
 use thunk_record::Record;

@@ -11,10 +11,10 @@ ghost use Rattle.history_facts.specs.Outlining.{numbered, IsOutlineOf, MayBeAppl
 use super::asking::{CallResult, act, call_of};
 use super::serving::served;
 use super::slots::{push_read, written};
-use call_effect::Effect;
 use depend_graph::Fact;
 use guest_call::THREADS;
 use machine_spec::MOST_STEPS;
+use object_table::Effect;
 use page_map::PageMap;
 use release_core::{Records, Setup};
 use std::alloc::{AllocError, Global};

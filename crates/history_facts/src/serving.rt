@@ -3,8 +3,8 @@
 ghost use Rattle.std.specs.Prelude.{◌≡◌, IfOk};
 ghost use Rattle.order_spec.specs.Facts as order;
 
-use call_effect::Effect;
 use guest_call::Fate;
+use object_table::Effect;
 use std::alloc::{AllocError, Global};
 
 /// The threads to which an effect of a call of thread `t` gives a view: the caller, where its call returns, those that

@@ -4,8 +4,8 @@ use Rattle.std.proofs.lemmas.List.{length-set}
 use Rattle.std.proofs.lemmas.List.Elements.{recursion_from_All, All-from_recursion}
 use Rattle.std.specs.List.{AllByRecursion}
 use Rattle.memory_spec.specs.Pages.{Mapped, Memory, IsMemory, page_of}
-use Rattle.record_spec.specs.Delta.{PageDelta, spread, masked}
-use Rattle.record_spec.specs.Record.{Record, put_of, fits_at}
+use Rattle.thunk_spec.specs.Delta.{PageDelta, spread, masked}
+use Rattle.thunk_spec.specs.Record.{Record, put_of, fits_at}
 use Rattle.machine_spec.specs.Machine.{Machine, hart_of, is_ready}
 use Rattle.machine_spec.specs.Step.{apply, fits, can_step}
 use Rattle.machine_spec.specs.Whole.{IsWhole}

@@ -3,9 +3,9 @@ use Rattle.std.proofs.Common.{◌≡◌, ◌<◌, ℕ, Bool, true, false, ◌&&�
 use Rattle.std.proofs.lemmas.List.Elements.{recursion_from_All, All-from_recursion}
 use Rattle.elf_spec.proofs.Examples.{hi_elf, hi_is_accepted}
 use Rattle.thunk_spec.specs.declared.ends.ThunkEnd.TheVariants.{Fuel}
-use Rattle.record_spec.specs.Delta.{PageDelta}
-use Rattle.record_spec.specs.Reads.{ReadPage}
-use Rattle.record_spec.specs.Record.{Record, may_end}
+use Rattle.thunk_spec.specs.Delta.{PageDelta}
+use Rattle.thunk_spec.specs.Reads.{ReadPage}
+use Rattle.thunk_spec.specs.Record.{Record, may_end}
 use Rattle.machine_spec.specs.declared.states.End.{End}
 use Rattle.machine_spec.specs.Machine.{Machine}
 use Rattle.machine_spec.specs.Step.{step, apply, fits, can_step}

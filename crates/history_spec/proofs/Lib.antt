@@ -5,3 +5,4 @@ pub mod Truth
 pub mod Numbers
 pub mod Mapped
 pub mod Examples
+pub mod Making

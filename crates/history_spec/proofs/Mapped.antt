@@ -8,10 +8,10 @@ use Rattle.memory_spec.specs.Pages.{Mapped, Memory, slot_of, on_each, zero_page}
 use Rattle.memory_spec.specs.Stores.{StoredByte, laid}
 use Rattle.memory_spec.specs.Workspace.{Masks, no_marks, mask_of, with_mark, marked, taken_at}
 use Rattle.thunk_spec.specs.Thunk.{Frame, thunk}
-use Rattle.record_spec.specs.Delta.{PageDelta, is_stored, chosen, delta_from, delta_of}
-use Rattle.record_spec.specs.Reads.{ReadPage, reads_from, reads_of}
-use Rattle.record_spec.specs.Record.{Record, Kept, kept_thunk}
-use Rattle.record_spec.proofs.Truth.{length-on_each}
+use Rattle.thunk_spec.specs.Delta.{PageDelta, is_stored, chosen, delta_from, delta_of}
+use Rattle.thunk_spec.specs.Reads.{ReadPage, reads_from, reads_of}
+use Rattle.thunk_spec.specs.Record.{Record, Kept, kept_thunk}
+use Rattle.thunk_spec.proofs.Truth.{length-on_each}
 use Rattle.machine_spec.specs.Machine.{Machine, hart_of}
 use Rattle.machine_spec.specs.Step.{step}
 use Rattle.machine_spec.specs.Schedule.{record_of, records_from}

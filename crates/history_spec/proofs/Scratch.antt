@@ -5,7 +5,7 @@ use Rattle.std.specs.List.{list_any}
 use Rattle.isa_spec.specs.Registers.{Registers}
 use Rattle.memory_spec.specs.Pages.{Memory}
 use Rattle.thunk_spec.specs.declared.ends.ThunkEnd.{ThunkEnd}
-use Rattle.record_spec.specs.Record.{Record}
+use Rattle.thunk_spec.specs.Record.{Record}
 use Rattle.machine_spec.specs.declared.states.Asked.{Asked}
 use Rattle.machine_spec.specs.declared.states.Asked.TheVariants.{Asks, Stops}
 use Rattle.machine_spec.specs.Machine.{Hart, Machine, hart_of, is_ready}

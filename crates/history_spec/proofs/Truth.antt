@@ -8,10 +8,10 @@ use Rattle.isa_spec.specs.Registers.{Registers, same_registers}
 use Rattle.isa_spec.proofs.Equality.{same_registers-true, same_registers-refl}
 use Rattle.memory_spec.specs.Pages.{IsMemory}
 use Rattle.thunk_spec.specs.Thunk.{Frame}
-use Rattle.record_spec.specs.Reads.{has}
-use Rattle.record_spec.specs.Record.{Kept, Record, IsTrue, kept_thunk, may_end, fits_at}
-use Rattle.record_spec.proofs.Truth.{has-kept, IsTrue-kept}
-use Rattle.record_spec.proofs.Fuel.{IsTrue-within, kept-within}
+use Rattle.thunk_spec.specs.Reads.{has}
+use Rattle.thunk_spec.specs.Record.{Kept, Record, IsTrue, kept_thunk, may_end, fits_at}
+use Rattle.thunk_spec.proofs.Truth.{has-kept, IsTrue-kept}
+use Rattle.thunk_spec.proofs.Fuel.{IsTrue-within, kept-within}
 use Rattle.machine_spec.specs.Machine.{Hart, Machine, hart_of, is_ready}
 use Rattle.machine_spec.specs.Step.{step, apply, fits, can_step}
 use Rattle.machine_spec.specs.Schedule.{scratch_from, is_permitted_from, record_of, records_from}

@@ -1,8 +1,8 @@
 -- Histories: what is kept of a finished run, when it is honest or coherent, and when a new run may go by it.
 use Rattle.std.specs.Prelude.{◌≡◌, ◌<◌, ℕ, Bool, true, ◌&&◌, ◌==◌, List, [], ◌∷◌, ◌++◌, All, length, map, find, count_by, Option, Some, None, is_none, is_some, ⊤}
-use Rattle.record_spec.specs.Delta.{PageDelta}
-use Rattle.record_spec.specs.Reads.{ReadPage}
-use Rattle.record_spec.specs.Record.{Record}
+use Rattle.thunk_spec.specs.Delta.{PageDelta}
+use Rattle.thunk_spec.specs.Reads.{ReadPage}
+use Rattle.thunk_spec.specs.Record.{Record}
 use Rattle.machine_spec.specs.Machine.{Machine}
 use Rattle.machine_spec.specs.Step.{apply, fits}
 use Rattle.machine_spec.specs.Setup.{Setup, IsSetup, first, map_of, is_permitted, is_complete, records}

@@ -1,2 +1,3 @@
 -- The files of definitions of this crate.
 pub mod History
+pub mod Audit

@@ -1,19 +1,20 @@
-//! Histories of finished runs, as definitions: when a history is honest, when it is coherent, when a
-//! new run may go by it, and which of its records stands for a step; with the laws that each record
-//! of an honest history is true, that to apply one that fits is the step of its thread, that an honest
-//! history is coherent, that a ready thread's view is fixed until it makes its step, and that records
-//! have their slots in the page map. No code.
+//! Histories of finished runs, as definitions: when a history is honest, which of its records is the first false one,
+//! when it is coherent, when a new run may go by it, and which of its records stands for a step; with the laws that
+//! each record of an honest history is true, that to apply one that fits is the step of its thread, that an honest
+//! history is coherent and is exactly one without a false record, that a ready thread's view is fixed until it makes
+//! its step, and that records have their slots in the page map. No code.
 #![tactic(auto)]
 
-ghost use Rattle.std.specs.Prelude.{◌≡◌, ℕ, List, All, length, Option, count_by, Some, true, false, ◌==◌};
+ghost use Rattle.std.specs.Prelude.{◌≡◌, ℕ, List, All, length, Option, count_by, Some, true, false, ◌==◌, None};
 ghost use Rattle.std.specs.List.{list_any};
-ghost use Rattle.record_spec.specs.Record.{Record, IsTrue};
+ghost use Rattle.thunk_spec.specs.Record.{Record, IsTrue};
 ghost use Rattle.machine_spec.specs.Machine.{Machine, hart_of, is_ready};
 ghost use Rattle.machine_spec.specs.Step.{step, apply, fits};
 ghost use Rattle.machine_spec.specs.Schedule.{scratch_from, is_permitted_from, record_of};
 ghost use Rattle.machine_spec.specs.Setup.{Setup, IsSetup, first, map_of, is_permitted, records, scratch};
 ghost use Rattle.machine_spec.specs.Whole.{IsWhole};
 ghost use Rattle.history_spec.specs.History.{History, IsHonest, IsSameProgram, CanGoBy, IsMappedIn, IsMapped, is_coherent, found, is_numbered};
+ghost use Rattle.history_spec.specs.Audit.{IsFirstFalse, IsVerdict};
 
 /// The record of each step of a permitted schedule is true.
 pub fn records_are_true()
@@ -93,4 +94,23 @@ pub fn records_are_mapped()
     ensures scratch { (setup : Setup) (schedule : List ℕ)
         → All (IsMappedIn (length (map_of setup))) (records setup schedule) }
     ensures honest { (h : History) → IsHonest h → IsMapped h }
+{}
+
+/// A history whose setup may be run is honest exactly where none of its records is the first false one. Nothing else is
+/// asked of it: not that it holds together.
+pub fn honest_has_no_false_record()
+    ensures only { (h : History) → IsSetup h.setup → IsFirstFalse h None → IsHonest h }
+    ensures always { (h : History) → IsHonest h → IsFirstFalse h None }
+{}
+
+/// Of a history that holds together the first false record tells whether it is honest; and where it isn't, it is one of
+/// its records.
+pub fn first_false_record_is_the_verdict()
+    ensures { (h : History) (place : Option ℕ)
+        → IsSetup h.setup → is_coherent h ≡ true → IsFirstFalse h place → IsVerdict h place }
+{}
+
+/// Two audits of a history find the same.
+pub fn audits_agree()
+    ensures { (h : History) (a b : Option ℕ) → IsFirstFalse h a → IsFirstFalse h b → a ≡ b }
 {}

@@ -1,7 +1,7 @@
 -- A round as its workers made it, and the page map of what it goes by and leaves.
 use Rattle.std.proofs.Common.{◌≡◌, ◌+◌, ℕ, Bool, true, List, length, Option, Some, None, ap, sym, ◌∙◌, subst}
 use Rattle.elf_spec.specs.Image.{image_pages}
-use Rattle.record_spec.specs.Record.{Record}
+use Rattle.thunk_spec.specs.Record.{Record}
 use Rattle.machine_spec.specs.Machine.{Machine}
 use Rattle.machine_spec.specs.Setup.{Setup}
 use Rattle.history_spec.specs.History.{History}
@@ -11,8 +11,8 @@ use Rattle.round_spec.specs.Rounds.{RoundState, history_of}
 use Rattle.round_spec.specs.Instructions.{executed_instructions}
 use Rattle.round_spec.specs.Schedules.{IsBySchedule, events_in, round_by}
 use Rattle.round_spec.proofs.Leaving.{round-past}
-use Rattle.worker_spec.specs.Workers.{IsMadeBy}
-use Rattle.worker_spec.specs.Watching.{IsProgress}
+use Rattle.round_spec.specs.Workers.{IsMadeBy}
+use Rattle.round_spec.specs.Watching.{IsProgress}
 use Rattle.propagate.specs.Consistency.{IsOfMap}
 use Rattle.propagate.proofs.Mapped.{same_image}
 use Rattle.rerun_spec.specs.Rounds.{Found, Round, Beginning, made, left_by, round_on, with_input}

@@ -1,7 +1,7 @@
 -- How a line ends of which one text is printed.
 use Rattle.std.proofs.Common.{ℕ, List, Option, ◌⊎◌, ◌∙◌, inl, inr}
 use Rattle.history_spec.specs.History.{History}
-use Rattle.audit_spec.specs.Audit.{IsVerdict}
+use Rattle.history_spec.specs.Audit.{IsVerdict}
 use Rattle.ith_host.specs.World.{World, AsksNothing}
 use Rattle.ith_words.specs.Words.{Text, Line}
 use Rattle.ith_top.specs.declared.status.Status.{Status}

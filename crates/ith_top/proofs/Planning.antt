@@ -15,13 +15,13 @@ use Rattle.rerun_spec.specs.Rounds.{Beginning, asked_by, from_scratch, after_mem
 use Rattle.rerun_spec.specs.declared.Asked.{Asked}
 use Rattle.rerun_spec.proofs.Inputs.{inputs-count, inputs-short, rerun-count, rerun-short}
 use Rattle.rerun_spec.proofs.Rounds.{with-limits}
-use Rattle.round_inputs.specs.Lists.{bytes_of_each}
+use Rattle.edit_list.specs.Lists.{bytes_of_each}
 use Rattle.ith_host.specs.World.{World}
 use Rattle.ith_words.specs.Words.{RunLine, RerunLine}
 use Rattle.ith_top.specs.Contents.{Contents, AreLists, AreContents, IsMemoContent, IsMemoOf, Plan, IsRunPlan, IsRerunPlan, setup_of, limits_for}
 use Rattle.propagate.specs.Consistency.{IsOfMap}
 use Rattle.propagate.proofs.Mapped.{same_image}
-use Rattle.round_memo_spec.specs.Encoded.{IsEncodedPast}
+use Rattle.rerun_spec.specs.Encoded.{IsEncodedPast}
 use Rattle.ith_top.specs.Playing.{CanBePlayed, CanBeEncoded}
 
 -- inputs that edit lists make of bytes are bytes

@@ -9,8 +9,8 @@ use Rattle.history_spec.specs.History.{History, IsHonest, IsSameProgram}
 use Rattle.memo_spec.specs.Encoding.{AreBytes, IsEncodable}
 use Rattle.round_spec.specs.Rounds.{RoundState}
 use Rattle.round_spec.specs.Schedules.{events_in}
-use Rattle.worker_spec.proofs.Workers.{workers-permitted, workers-complete}
-use Rattle.reach_spec.proofs.ByWorkers.{reexecutes-made}
+use Rattle.round_spec.proofs.Workers.{workers-permitted, workers-complete}
+use Rattle.round_spec.proofs.ByWorkers.{reexecutes-made}
 use Rattle.rerun_spec.specs.Inputs.{AreShort}
 use Rattle.rerun_spec.specs.declared.Asked.{Asked}
 use Rattle.rerun_spec.specs.Rounds.{Found, Round, Beginning, IsMade, left_by, limits_of, with_input, with_limits, asked_by, nothing_asked, from_scratch, after_memo, CanBegin, round_on, after_round, rounds_after, last_left, IsUneditedRerun}
@@ -18,8 +18,8 @@ use Rattle.rerun_spec.proofs.Rounds.{IsSoundlyMade, each-round, each-made, each-
 use Rattle.rerun_spec.proofs.Repeating.{IsAgain, repeated-after, rerun-again, again-reuses, again-instructions, after-schedule, after-machine}
 use Rattle.rerun_spec.proofs.Reports.{reports-made, exits-made}
 use Rattle.rerun_spec.proofs.Ending.{left-own}
-use Rattle.round_memo_spec.specs.Encoded.{IsEncodedPast}
-use Rattle.round_memo_spec.proofs.Events.{round-encoded}
+use Rattle.rerun_spec.specs.Encoded.{IsEncodedPast}
+use Rattle.rerun_spec.proofs.Events.{round-encoded}
 use Rattle.ith_host.specs.World.{World}
 use Rattle.ith_words.specs.Words.{Line, Runs, Reruns, Replays, Shows, Explains, FindsRaces, Audits, Generates, RerunLine}
 use Rattle.ith_top.specs.Contents.{Plan, IsRerunPlan, IsPlan, setup_of, as_rerun, workers_of, limits_for}

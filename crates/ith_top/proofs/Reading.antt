@@ -4,7 +4,7 @@ use Rattle.std.specs.Global.{Global}
 use Rattle.std.proofs.lemmas.List.{append-nil, map_push, map-append, length-map, take_all, take_more, get_or-map}
 use Rattle.std.proofs.lemmas.List.Elements.{all_zip_more}
 use Rattle.edit_spec.specs.declared.TheConstants.{MOST_LIST_BYTES}
-use Rattle.round_inputs.specs.Lists.{bytes_of_each}
+use Rattle.edit_list.specs.Lists.{bytes_of_each}
 use Rattle.ith_host.specs.World.{World, NoneFell, Stays, AsksFor, IsContent}
 use Rattle.ith_top.specs.declared.status.Status.{Status}
 use Rattle.ith_top.specs.declared.status.Status.TheVariants as status

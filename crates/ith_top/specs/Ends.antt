@@ -10,7 +10,7 @@ use Rattle.memo_spec.specs.declared.Refusal.{Refusal as MemoRefusal}
 use Rattle.memo_spec.specs.declared.TheConstants.{MOST_MEMO_BYTES}
 use Rattle.memo_spec.specs.Encoding.{memo}
 use Rattle.memo_spec.specs.Reading.{reading}
-use Rattle.audit_spec.specs.Audit.{IsVerdict, turns_of}
+use Rattle.history_spec.specs.Audit.{IsVerdict, turns_of}
 use Rattle.memo_audit.specs.Text.{audit_text}
 use Rattle.memo_listing.specs.Listing.{listing}
 use Rattle.race_report.specs.Text.{races_listing}

@@ -7,7 +7,7 @@ use Rattle.history_spec.specs.History.{History, IsSound}
 use Rattle.why_report.specs.declared.reason.Reason.{Reason}
 use Rattle.why_report.specs.Reasons.{reasons_of, reasons_by, scratch_before, executed_places, GoesByOldRun}
 use Rattle.memo_spec.specs.Encoding.{AreBytes, memo}
-use Rattle.round_memo_spec.specs.Encoded.{IsEncodedPast}
+use Rattle.rerun_spec.specs.Encoded.{IsEncodedPast}
 use Rattle.propagate.specs.Consistency.{IsOfMap}
 use Rattle.report_spec.specs.declared.Entry.{Entry}
 use Rattle.report_spec.specs.Report.{ReportData, no_extras, report_text}

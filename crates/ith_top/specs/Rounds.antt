@@ -4,7 +4,7 @@ use Rattle.machine_spec.specs.Setup.{is_permitted, is_complete, records}
 use Rattle.history_spec.specs.History.{History, IsHonest}
 use Rattle.memo_spec.specs.Encoding.{IsEncodable}
 use Rattle.round_spec.specs.Alone.{one_worker}
-use Rattle.reach_spec.specs.Working.{ReexecutesLeast}
+use Rattle.round_spec.specs.Working.{ReexecutesLeast}
 use Rattle.rerun_spec.specs.Rounds.{Found, Round, Beginning, made, IsPickedRightly, left_by, schedule_in, entries_of, rounds_after, IsRepeated}
 use Rattle.rerun_spec.specs.Making.{OnlyRepeats, Repeats}
 use Rattle.rerun_spec.specs.Reports.{reports_of, made_reports, all_exit, all_made_exit}

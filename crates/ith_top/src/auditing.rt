@@ -2,7 +2,7 @@
 
 ghost use Rattle.std.specs.Prelude.{◌≡◌, true, IfOk, Some};
 ghost use Rattle.history_spec.specs.History.{is_coherent};
-ghost use Rattle.audit_spec.specs.Audit.{IsVerdict};
+ghost use Rattle.history_spec.specs.Audit.{IsVerdict};
 ghost use Rattle.ith_words.specs.Words.{Audits};
 ghost use Rattle.ith_words.specs.Said.{audit_said};
 ghost use Rattle.ith_top.specs.Statuses.{status_in};
@@ -30,7 +30,7 @@ fn verdict_of<R: Threads + Sync>(
     ensures verdict { IfOk result (λ r. IsVerdict history.now r.0.first) }
     ensures text { IfOk result (λ r. r.1.items ≡ audit_of history.now r.0.first) }
 {
-    audit_spec::first_false_record_is_the_verdict();
+    history_spec::first_false_record_is_the_verdict();
     let verdict = memo_audit::audit(rt, alloc, history, workers)?;
     let text = memo_audit::text(alloc, history.records().len() as u64, verdict)?;
     Ok((verdict, text))

@@ -1,9 +1,9 @@
 //! The lines that go to the standard error. Nothing rests on them, so a line that finds no memory is cut short.
 
+use edit_list::Why;
 use elf_spec::Refusal;
 use ith_text::decimal;
 use memo_spec::{Limit, Refusal as MemoRefusal};
-use round_inputs::Why;
 use std::alloc::{AllocError, Global};
 
 /// What there is to say where the host's memory ran out.

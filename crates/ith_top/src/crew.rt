@@ -3,8 +3,8 @@
 ghost use Rattle.std.specs.Prelude.{◌≡◌, ◌+◌, ◌≤◌, true, length, option_map, IfOk};
 ghost use Rattle.std.specs.Arc.{arc_value};
 ghost use Rattle.round_spec.specs.Schedules.{IsBySchedule};
-ghost use Rattle.worker_spec.specs.Workers.{IsMadeBy};
-ghost use Rattle.worker_spec.specs.Watching.{IsProgress};
+ghost use Rattle.round_spec.specs.Workers.{IsMadeBy};
+ghost use Rattle.round_spec.specs.Watching.{IsProgress};
 ghost use Rattle.rerun_workers.specs.Making.{IsRoundBy, IsCostOf};
 ghost use Rattle.ith_top.specs.Counting.{Spends};
 

@@ -2,7 +2,7 @@
 
 ghost use Rattle.std.specs.Prelude.{◌≤◌, ◌∷◌, [], length, map, IfOk, IfErr};
 ghost use Rattle.ith_host.specs.World.{IsContent};
-ghost use Rattle.round_inputs.specs.Lists.{bytes_of_each};
+ghost use Rattle.edit_list.specs.Lists.{bytes_of_each};
 ghost use Rattle.ith_words.specs.Words.{Runs, Reruns, Replays};
 ghost use Rattle.ith_words.specs.Said.{run_said, rerun_said, replay_said};
 ghost use Rattle.ith_top.specs.Files.{elf_named, input_named, lists_named, files_named, memo_named, Reads};

@@ -1,5 +1,5 @@
 //! What no clause says: that lists are done with ample memory. The inputs that are wanted are written down by hand.
-use round_inputs::*;
+use edit_list::*;
 use std::alloc::{AllocError, Global};
 
 /// Lists of these texts.

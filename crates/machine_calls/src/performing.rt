@@ -10,9 +10,9 @@ ghost use Rattle.machine_calls.specs.Views as views;
 
 use super::hart::Hart;
 use super::view::View;
-use call_effect::Effect;
 use guest_call::{Call, Fate, THREADS};
 use machine_spec::{Asked, Status};
+use object_table::Effect;
 use rv_alu::Regs;
 use std::alloc::AllocError;
 use wait_queue::Queue;

@@ -21,10 +21,10 @@ use Rattle.guest_call.specs.Objects.{Objects, act}
 use Rattle.thunk_spec.specs.declared.ends.ThunkEnd.{ThunkEnd}
 use Rattle.thunk_spec.specs.Put.{is_readable}
 use Rattle.thunk_spec.specs.Thunk.{Thunk, thunk}
-use Rattle.record_spec.specs.Delta.{masked}
-use Rattle.record_spec.specs.Reads.{has}
-use Rattle.record_spec.specs.Record.{Kept, Record, IsTrue, StandsFor, put_of, fits_at}
-use Rattle.record_spec.proofs.Truth.{StandsFor-true}
+use Rattle.thunk_spec.specs.Delta.{masked}
+use Rattle.thunk_spec.specs.Reads.{has}
+use Rattle.thunk_spec.specs.Record.{Kept, Record, IsTrue, StandsFor, put_of, fits_at}
+use Rattle.thunk_spec.proofs.Truth.{StandsFor-true}
 use Rattle.machine_spec.specs.declared.states.Status.{Status}
 use Rattle.machine_spec.specs.declared.states.End.{End}
 use Rattle.machine_spec.specs.Limits.{AreLimits}

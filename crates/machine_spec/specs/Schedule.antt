@@ -1,6 +1,6 @@
 -- Whole schedules, a schedule being the list of its steps' threads.
 use Rattle.std.specs.Prelude.{ℕ, Bool, true, ◌&&◌, List, [], ◌∷◌, is_some}
-use Rattle.record_spec.specs.Record.{Record, kept_thunk}
+use Rattle.thunk_spec.specs.Record.{Record, kept_thunk}
 use Rattle.machine_spec.specs.Machine.{Machine, hart_of}
 use Rattle.machine_spec.specs.Step.{step, can_step}
 

@@ -5,7 +5,7 @@ use Rattle.std.specs.Int.{to_le_bytes, w32}
 use Rattle.memory_spec.specs.Pages.{Mapped, Memory, zero_page}
 use Rattle.elf_spec.specs.declared.TheConstants.{MOST_ELF_BYTES}
 use Rattle.elf_spec.specs.Image.{image_pages, image_memory, entry_of, is_image}
-use Rattle.record_spec.specs.Record.{Record}
+use Rattle.thunk_spec.specs.Record.{Record}
 use Rattle.guest_call.specs.Objects.{opening}
 use Rattle.machine_spec.specs.declared.TheConstants.{MOST_INPUT_BYTES, HEADER, HEADER_PAGE, INPUT_PAGE, INPUT_PAGES, STACK_PAGE, STACK_PAGES}
 use Rattle.machine_spec.specs.Limits.{AreLimits}

@@ -14,8 +14,8 @@ use Rattle.thunk_spec.specs.declared.ends.ThunkEnd.{ThunkEnd}
 use Rattle.thunk_spec.specs.declared.ends.ThunkEnd.TheVariants as thunk_end
 use Rattle.thunk_spec.specs.Put.{call_at, is_readable}
 use Rattle.thunk_spec.specs.Thunk.{Thunk, thunk}
-use Rattle.record_spec.specs.Delta.{masked}
-use Rattle.record_spec.specs.Record.{Record, put_of, fits_at}
+use Rattle.thunk_spec.specs.Delta.{masked}
+use Rattle.thunk_spec.specs.Record.{Record, put_of, fits_at}
 pub use Rattle.machine_spec.specs.declared.states.Asked.{Asked}
 pub use Rattle.machine_spec.specs.declared.states.Asked.TheVariants.{Asks, Stops}
 use Rattle.machine_spec.specs.declared.states.End.{End}

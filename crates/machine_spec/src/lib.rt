@@ -6,7 +6,7 @@
 
 ghost use Rattle.std.specs.Prelude.{◌≡◌, ◌≢◌, ℕ, true};
 ghost use Rattle.memory_spec.specs.Pages.{ascends_above};
-ghost use Rattle.record_spec.specs.Record.{Record, IsTrue};
+ghost use Rattle.thunk_spec.specs.Record.{Record, IsTrue};
 ghost use Rattle.machine_spec.specs.Machine.{Machine, hart_of, is_ready};
 ghost use Rattle.machine_spec.specs.Step.{step, apply, fits, can_step};
 ghost use Rattle.machine_spec.specs.Setup.{Setup, IsSetup, first, map_of, is_permitted, is_complete};

@@ -2,13 +2,13 @@
 use Rattle.std.proofs.Common.{◌≡◌, ℕ, zero, suc, ◌+◌, ◌*◌, ◌^◌, ◌<◌, ◌≤◌, Bool, false, cond, List, [], ◌∷◌, length, drop, Option, Some, None, is_none, refl, sym, ap, ◌∙◌, subst, arith}
 use Rattle.std.specs.Prelude.{slice_get}
 use Rattle.std.proofs.Math.ListN.{drop_of_length-le}
-use Rattle.record_spec.specs.Record.{Record}
+use Rattle.thunk_spec.specs.Record.{Record}
 use Rattle.machine_spec.specs.Machine.{Machine}
 use Rattle.machine_spec.specs.declared.states.End.{End}
 use Rattle.machine_spec.specs.Schedule.{record_of}
 use Rattle.machine_spec.specs.Step.{apply}
 use Rattle.release_core.specs.Applying.{can_apply}
-use Rattle.audit_spec.specs.Audit.{IsFirstFalseFrom, turns_from}
+use Rattle.history_spec.specs.Audit.{IsFirstFalseFrom, turns_from}
 use Rattle.memo_audit.specs.declared.claims.Claim.{Claim}
 use Rattle.memo_audit.specs.declared.verdict.Verdict.{Verdict}
 use Rattle.memo_audit.specs.Claims.{AreClaims, IsFoundIn, turns_in, first_of_both}

@@ -1,6 +1,6 @@
 -- Stored bytes compared by writing the one's over the other's.
 use Rattle.std.proofs.Common.{◌≡◌, ℕ, ◌≤◌, Bool, true, false, List, [], ◌∷◌, length, Decides, refl, sym, ap, ◌∙◌, arith}
-use Rattle.record_spec.specs.Delta.{PageDelta, chosen, spread}
+use Rattle.thunk_spec.specs.Delta.{PageDelta, chosen, spread}
 
 -- what was written at the places of a mask stands there
 pub chosen-spread : (m : List Bool) (p q : List ℕ) → length m ≤ length p → length p ≡ length q

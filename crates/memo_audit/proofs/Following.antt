@@ -1,7 +1,7 @@
 -- What is found in the claims of the first of some records, as far as it tells of all of them.
 use Rattle.std.proofs.Common.{◌≡◌, ℕ, zero, suc, ◌+◌, ◌<◌, ◌≤◌, Bool, true, false, cond, List, [], ◌∷◌, ◌++◌, length, drop, Option, Some, None, is_none, refl, sym, ap, ◌∙◌, subst, arith}
 use Rattle.std.specs.Prelude.{slice_get}
-use Rattle.record_spec.specs.Record.{Record}
+use Rattle.thunk_spec.specs.Record.{Record}
 use Rattle.machine_spec.specs.Machine.{Machine, hart_of, is_ready}
 use Rattle.machine_spec.specs.Step.{apply, fits, can_step}
 use Rattle.machine_spec.specs.Schedule.{record_of}
@@ -9,7 +9,7 @@ use Rattle.history_spec.proofs.Scratch.{and-left, and-right}
 use Rattle.history_spec.proofs.Applying.{fits-can_step}
 use Rattle.history_spec.proofs.Truth.{record-fits}
 use Rattle.release_core.specs.Applying.{can_apply}
-use Rattle.audit_spec.specs.Audit.{IsMade, IsFirstFalseFrom, turns_from}
+use Rattle.history_spec.specs.Audit.{IsMade, IsFirstFalseFrom, turns_from}
 use Rattle.memo_audit.specs.declared.claims.Claim.{Claim}
 use Rattle.memo_audit.specs.Claims.{IsTrueClaim, made_by, turns_in, IsFirstIn, IsClaimOf, AreClaims, first_of_both}
 

@@ -1,7 +1,7 @@
 -- Records that are applied, each with the job that should make it, and what is found where these jobs are executed.
 use Rattle.std.specs.Prelude.{◌≡◌, ℕ, zero, suc, ◌+◌, ◌*◌, ◌^◌, ◌≤◌, true, List, [], ◌∷◌, length, Option, Some, None}
 use Rattle.std.specs.Arc.{arc_value}
-use Rattle.record_spec.specs.Record.{Record, kept_thunk}
+use Rattle.thunk_spec.specs.Record.{Record, kept_thunk}
 use Rattle.machine_spec.specs.Machine.{Machine}
 use Rattle.machine_spec.specs.Step.{apply}
 use Rattle.machine_spec.specs.Schedule.{record_of}

@@ -3,7 +3,7 @@
 ghost use Rattle.std.specs.Prelude.{◌≡◌, None, IfOk};
 ghost use Rattle.machine_spec.specs.Setup.{IsSetup};
 ghost use Rattle.history_spec.specs.History.{IsHonest};
-ghost use Rattle.audit_spec.specs.Audit.{IsFirstFalse, IsFirstFalseFrom, turns_of, turns_from};
+ghost use Rattle.history_spec.specs.Audit.{IsFirstFalse, IsFirstFalseFrom, turns_of, turns_from};
 
 use super::claims::claims_from;
 use super::executing::audit_together;
@@ -58,8 +58,8 @@ pub fn audit<R: Threads + Sync>(
     ensures instructions { IfOk result (λ verdict. verdict.instructions ≡ turns_of history.now) }
     ensures sound { IfOk result (λ _. IsSetup history.now.setup) }
 {
-    audit_spec::honest_has_no_false_record();
-    audit_spec::audits_agree();
+    history_spec::honest_has_no_false_record();
+    history_spec::audits_agree();
     let mut core = Core::new(alloc, history.setup())?;
     verdict_from(rt, alloc, &mut core, history.records(), workers)
 }

@@ -2,7 +2,7 @@
 
 ghost use Rattle.std.specs.Prelude.{◌≡◌, ◌≤◌, ◌+◌, true, false, [], length, drop, slice_get, Some, IfOk, OnOk};
 ghost use Rattle.std.specs.Arc.{arc_value};
-ghost use Rattle.record_spec.specs.Record.{Record as Recorded};
+ghost use Rattle.thunk_spec.specs.Record.{Record as Recorded};
 ghost use Rattle.machine_spec.specs.Step as step;
 ghost use Rattle.release_core.specs.Applying.{can_apply};
 ghost use Rattle.memo_audit.specs.Claims.{IsClaimOf, AreClaims};

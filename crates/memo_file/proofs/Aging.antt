@@ -8,8 +8,8 @@ use Rattle.std.proofs.lemmas.List.Sums.{sum_by-cons}
 use Rattle.std.proofs.lemmas.Option.{slice_get-get_or}
 use Rattle.memory_spec.specs.Pages.{Mapped, slot_of, AreAddressable}
 use Rattle.memory_spec.specs.declared.TheConstants.{PAGE_NUMBERS}
-use Rattle.record_spec.specs.Delta.{PageDelta, chosen}
-use Rattle.record_spec.specs.Record.{Record}
+use Rattle.thunk_spec.specs.Delta.{PageDelta, chosen}
+use Rattle.thunk_spec.specs.Record.{Record}
 use Rattle.history_spec.specs.History.{History}
 use Rattle.machine_spec.specs.Setup.{map_of}
 use Rattle.store_mask.specs.Stored.{delta_in}

@@ -6,9 +6,9 @@ use Rattle.std.specs.List.{count_by}
 use Rattle.std.specs.Cmp.Derive.{both_true}
 use Rattle.std.proofs.lemmas.Bool.{and_parts}
 use Rattle.memory_spec.specs.Pages.{Mapped}
-use Rattle.record_spec.specs.Delta.{PageDelta}
-use Rattle.record_spec.specs.Reads.{ReadPage}
-use Rattle.record_spec.specs.Ascending.{reads_ascend, deltas_ascend}
+use Rattle.thunk_spec.specs.Delta.{PageDelta}
+use Rattle.thunk_spec.specs.Reads.{ReadPage}
+use Rattle.thunk_spec.specs.Ascending.{reads_ascend, deltas_ascend}
 use Rattle.ith_fields.specs.Place.{Place}
 use Rattle.memo_spec.specs.declared.Refusal.TheVariants.{Field}
 use Rattle.memo_spec.specs.Reader.{Reader, ◌>>=◌, done, bytes_at, number_at, ruled, tested, chain}

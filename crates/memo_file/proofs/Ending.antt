@@ -3,7 +3,7 @@ use Rattle.std.proofs.Common.{◌≡◌, ◌≢◌, ◌+◌, ◌^◌, ◌<◌, �
 use Rattle.std.proofs.lemmas.Bool.{ne_eqb}
 use Rattle.std.proofs.lemmas.List.{get_or-drop, drop_at}
 use Rattle.memory_spec.specs.Pages.{Mapped}
-use Rattle.record_spec.specs.Record.{Record}
+use Rattle.thunk_spec.specs.Record.{Record}
 use Rattle.machine_spec.specs.Setup.{Setup, first, map_of}
 use Rattle.machine_spec.specs.Machine.{Machine}
 use Rattle.history_spec.specs.History.{History, is_coherent}

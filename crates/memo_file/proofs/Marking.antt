@@ -11,7 +11,7 @@ use Rattle.std.proofs.lemmas.Nat.Bits.{bit_at-zero, shr_and_one}
 use Rattle.std.proofs.lemmas.List.{take_more, take_all, length-set, length-replicate}
 use Rattle.std.proofs.lemmas.List.Sums.{count_by_more_yes, count_by_more_no, count_by-le-length, sum_by-append, sum_by-take-le}
 use Rattle.memory_spec.specs.Workspace.{no_marks}
-use Rattle.record_spec.specs.Delta.{chosen}
+use Rattle.thunk_spec.specs.Delta.{chosen}
 use Rattle.memo_spec.specs.Reading.{marks_of}
 use Rattle.memo_spec.proofs.Masks.{length_marks}
 use Rattle.memo_file.specs.Filling.{filled, Filled}

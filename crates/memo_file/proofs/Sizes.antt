@@ -7,9 +7,9 @@ use Rattle.memory_spec.specs.Pages.{Mapped, AreAddressable}
 use Rattle.memory_spec.specs.declared.TheConstants.{PAGE_NUMBERS}
 use Rattle.elf_spec.specs.Image.{image_pages}
 use Rattle.elf_spec.proofs.Touched.{pages_inside}
-use Rattle.record_spec.specs.Record.{Record}
-use Rattle.record_spec.specs.Reads.{ReadPage}
-use Rattle.record_spec.specs.Delta.{PageDelta}
+use Rattle.thunk_spec.specs.Record.{Record}
+use Rattle.thunk_spec.specs.Reads.{ReadPage}
+use Rattle.thunk_spec.specs.Delta.{PageDelta}
 use Rattle.machine_spec.specs.Setup.{Setup, IsSetup, map_of, data_pages}
 use Rattle.history_spec.specs.History.{History, IsMappedIn, IsMapped}
 use Rattle.ith_fields.specs.Place.{Place}

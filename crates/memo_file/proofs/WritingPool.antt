@@ -8,8 +8,8 @@ use Rattle.std.proofs.lemmas.Bool.{ltb-true, lt-ltb}
 use Rattle.std.proofs.Math.ListN.{drop_of_length-le}
 use Rattle.std.proofs.Math.Seq.{drop-cons}
 use Rattle.std.proofs.lemmas.List.{append-nil, length-append, length-map}
-use Rattle.record_spec.specs.Record.{Record}
-use Rattle.record_spec.specs.Reads.{ReadPage}
+use Rattle.thunk_spec.specs.Record.{Record}
+use Rattle.thunk_spec.specs.Reads.{ReadPage}
 use Rattle.history_spec.specs.History.{History}
 use Rattle.memo_spec.specs.Encoding.{has_page, with_page, index_in, pages_read, pool_of}
 use Rattle.memo_spec.proofs.Order.{Pages, has_in_front, index_push, index_new, fold_front, fold_append, write_step}

@@ -7,8 +7,8 @@ use Rattle.std.proofs.lemmas.List.{append-nil, get_or-drop, drop-drop, length-ap
 use Rattle.std.proofs.lemmas.List.Elements.{All-get_or}
 use Rattle.std.proofs.lemmas.Option.{get_or_from_slice_get, slice_get_within}
 use Rattle.memory_spec.specs.Pages.{Mapped}
-use Rattle.record_spec.specs.Record.{Record}
-use Rattle.record_spec.specs.Reads.{ReadPage}
+use Rattle.thunk_spec.specs.Record.{Record}
+use Rattle.thunk_spec.specs.Reads.{ReadPage}
 use Rattle.history_spec.specs.History.{IsMappedIn}
 use Rattle.memo_spec.specs.Encoding.{word, page_number, index_in, read_page, pages_read}
 use Rattle.memo_file.specs.WritingPool.{bytes_read, ArePlaced}

@@ -1,7 +1,7 @@
 -- A page that is filled with bytes at marked places, so far.
 use Rattle.std.specs.Prelude.{◌≡◌, ℕ, zero, suc, ◌≤◌, Bool, false, List, [], ◌∷◌, length, take}
 use Rattle.std.specs.List.{count_by}
-use Rattle.record_spec.specs.Delta.{chosen}
+use Rattle.thunk_spec.specs.Delta.{chosen}
 
 -- The marks before a place, and none from it on.
 abbrev pub filled : ℕ → List Bool → List Bool

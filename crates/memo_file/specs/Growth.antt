@@ -2,7 +2,7 @@
 use Rattle.std.specs.Prelude.{◌≡◌, ◌<◌, ◌==◌, ℕ, List, slice_index}
 use Rattle.std.specs.List.{count_by}
 use Rattle.guest_call.specs.declared.thread_number.TheConstants.{THREADS}
-use Rattle.record_spec.specs.Record.{Record}
+use Rattle.thunk_spec.specs.Record.{Record}
 use Rattle.history_spec.specs.History.{threads_of_records}
 use Rattle.memo_spec.specs.Reading.{RecordState}
 

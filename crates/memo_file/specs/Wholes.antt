@@ -1,6 +1,6 @@
 -- A pool of which all is used.
 use Rattle.std.specs.Prelude.{ℕ, ◌==◌, Bool, List, length}
-use Rattle.record_spec.specs.Record.{Record}
+use Rattle.thunk_spec.specs.Record.{Record}
 use Rattle.memo_spec.specs.Reading.{RecordState}
 
 -- Whether the records use each page of the pool.

@@ -4,7 +4,7 @@ use Rattle.std.specs.Ordering.{nat_cmp}
 use Rattle.std.specs.BTreeMap.{BTreeMap, get_by}
 use Rattle.std.specs.Borrow.{Bor}
 use Rattle.std.specs.Cmp.Lexicographic.{slice_cmp}
-use Rattle.record_spec.specs.Reads.{ReadPage}
+use Rattle.thunk_spec.specs.Reads.{ReadPage}
 use Rattle.history_spec.specs.History.{History}
 use Rattle.memo_spec.specs.Encoding.{has_page, with_page, index_in, pages_read, pool_of}
 

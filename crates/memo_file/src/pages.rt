@@ -3,7 +3,7 @@
 ghost use Rattle.std.specs.Prelude.{◌≡◌, ◌≢◌, ◌<◌, ◌^◌, true, suc, length, map, IfOk, IfErr};
 ghost use Rattle.std.specs.Arc.{arc_value};
 ghost use Rattle.memory_spec.specs.Pages.{slot_of, AreAddressable};
-ghost use Rattle.record_spec.specs.Ascending.{reads_ascend};
+ghost use Rattle.thunk_spec.specs.Ascending.{reads_ascend};
 ghost use Rattle.memo_spec.specs.Reader.{chain};
 ghost use Rattle.memo_spec.specs.Reading.{slot_at, read_page_at};
 ghost use Rattle.memo_file.specs.declared.error.ReadError.TheVariants as errors;

@@ -4,8 +4,8 @@ ghost use Rattle.std.specs.Prelude.{◌≡◌, ◌==◌, ◌+◌, ◌*◌, ◌^�
 ghost use Rattle.std.specs.List.{count_by, list_any};
 ghost use Rattle.memory_spec.specs.Pages.{zero_page, AreAddressable};
 ghost use Rattle.memory_spec.specs.Workspace.{no_marks};
-ghost use Rattle.record_spec.specs.Delta.{chosen, is_stored};
-ghost use Rattle.record_spec.specs.Ascending.{deltas_ascend};
+ghost use Rattle.thunk_spec.specs.Delta.{chosen, is_stored};
+ghost use Rattle.thunk_spec.specs.Ascending.{deltas_ascend};
 ghost use Rattle.memo_spec.specs.Reader.{chain};
 ghost use Rattle.memo_spec.specs.Reading.{marks_of, mask_at, stored_page_at};
 ghost use Rattle.memo_file.specs.Filling.{Filled};

@@ -8,9 +8,9 @@ use Rattle.memory_spec.specs.declared.TheConstants.{PAGE_SIZE}
 use Rattle.memory_spec.specs.Pages.{Mapped}
 use Rattle.thunk_spec.specs.declared.ends.ThunkEnd.{ThunkEnd}
 use Rattle.thunk_spec.specs.declared.ends.ThunkEnd.TheVariants.{Call, Trap, Fuel}
-use Rattle.record_spec.specs.Delta.{PageDelta}
-use Rattle.record_spec.specs.Reads.{ReadPage}
-use Rattle.record_spec.specs.Record.{Record}
+use Rattle.thunk_spec.specs.Delta.{PageDelta}
+use Rattle.thunk_spec.specs.Reads.{ReadPage}
+use Rattle.thunk_spec.specs.Record.{Record}
 use Rattle.machine_spec.specs.Setup.{Setup, map_of}
 use Rattle.history_spec.specs.History.{History}
 use Rattle.report_spec.specs.Text.{newline, line, hex8}

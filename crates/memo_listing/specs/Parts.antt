@@ -1,7 +1,7 @@
 -- The line of a record in two parts.
 use Rattle.std.specs.Prelude.{ℕ, List, ◌++◌, codes, decimal}
 use Rattle.isa_spec.specs.Registers.{register}
-use Rattle.record_spec.specs.Record.{Record}
+use Rattle.thunk_spec.specs.Record.{Record}
 use Rattle.memo_listing.specs.Listing.{end_text, reads_text, writes_text}
 
 -- Which step it is, how its thunk ended, and after how many turns.

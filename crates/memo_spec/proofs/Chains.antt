@@ -5,10 +5,10 @@ use Rattle.std.specs.List.{AllByRecursion, fold}
 use Rattle.std.specs.Cmp.Derive.{both_true}
 use Rattle.std.proofs.lemmas.Bool.{and_parts, leb-true, le-leb, eqb-true}
 use Rattle.memory_spec.specs.Pages.{Mapped}
-use Rattle.record_spec.specs.Delta.{PageDelta}
-use Rattle.record_spec.specs.Reads.{ReadPage}
-use Rattle.record_spec.specs.Record.{Record}
-use Rattle.record_spec.specs.Ascending.{reads_ascend, deltas_ascend}
+use Rattle.thunk_spec.specs.Delta.{PageDelta}
+use Rattle.thunk_spec.specs.Reads.{ReadPage}
+use Rattle.thunk_spec.specs.Record.{Record}
+use Rattle.thunk_spec.specs.Ascending.{reads_ascend, deltas_ascend}
 use Rattle.history_spec.specs.History.{is_numbered_after}
 use Rattle.memo_spec.specs.Encoding.{with_page, has_page, index_in, IsReadPage, IsStoredPage, IsRecord, pages_read}
 use Rattle.memo_spec.specs.Reading.{ReadState, RecordState, used_after}

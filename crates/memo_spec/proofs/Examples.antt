@@ -6,9 +6,9 @@ use Rattle.isa_spec.specs.declared.Cause.TheVariants as cause
 use Rattle.memory_spec.specs.Pages.{Mapped}
 use Rattle.thunk_spec.specs.declared.ends.ThunkEnd.TheVariants.{Call, Trap, Fuel}
 use Rattle.thunk_spec.specs.declared.ends.ThunkEnd.{ThunkEnd}
-use Rattle.record_spec.specs.Delta.{PageDelta}
-use Rattle.record_spec.specs.Reads.{ReadPage}
-use Rattle.record_spec.specs.Record.{Record}
+use Rattle.thunk_spec.specs.Delta.{PageDelta}
+use Rattle.thunk_spec.specs.Reads.{ReadPage}
+use Rattle.thunk_spec.specs.Record.{Record}
 use Rattle.machine_spec.specs.Setup.{first}
 use Rattle.machine_spec.specs.Step.{apply}
 use Rattle.history_spec.specs.History.{History}

@@ -8,7 +8,7 @@ use Rattle.std.proofs.lemmas.List.{append-nil}
 use Rattle.std.specs.Cmp.Derive.{both_true}
 use Rattle.isa_spec.specs.Registers.{Registers}
 use Rattle.memory_spec.specs.Pages.{Mapped}
-use Rattle.record_spec.specs.Delta.{is_stored}
+use Rattle.thunk_spec.specs.Delta.{is_stored}
 use Rattle.memo_spec.specs.Encoding.{AreBytes, AreRegisters, word, registers, page_number, mask}
 use Rattle.memo_spec.specs.Reader.{◌>>=◌, done, bytes_at, number_at, ruled, each}
 use Rattle.memo_spec.specs.Reading.{registers_at, slot_of_number, slot_at, marks_of, mask_at}

@@ -7,8 +7,8 @@ use Rattle.std.specs.Cmp.Derive.{both_true}
 use Rattle.std.proofs.lemmas.Bool.{and_parts, ltb-true, lt-ltb, leb-true, le-leb}
 use Rattle.std.proofs.lemmas.List.{append-nil}
 use Rattle.memory_spec.specs.Pages.{Mapped}
-use Rattle.record_spec.specs.Delta.{PageDelta, is_stored}
-use Rattle.record_spec.specs.Reads.{ReadPage}
+use Rattle.thunk_spec.specs.Delta.{PageDelta, is_stored}
+use Rattle.thunk_spec.specs.Reads.{ReadPage}
 use Rattle.memo_spec.specs.Encoding.{AreBytes, word, page_number, index_in, mask, read_page, stored_page, IsStoredPage}
 use Rattle.memo_spec.specs.Reader.{◌>>=◌, done, bytes_at, number_at, ruled}
 use Rattle.memo_spec.specs.Reading.{ReadState, slot_at, used_after, read_page_at, mask_at, stored_page_at}

@@ -8,9 +8,9 @@ use Rattle.std.proofs.lemmas.Bool.{and_parts, ltb-true, lt-ltb, leb-true, le-leb
 use Rattle.std.proofs.lemmas.List.{append-nil}
 use Rattle.isa_spec.specs.Registers.{Registers}
 use Rattle.memory_spec.specs.Pages.{Mapped}
-use Rattle.record_spec.specs.Delta.{PageDelta}
-use Rattle.record_spec.specs.Reads.{ReadPage}
-use Rattle.record_spec.specs.Record.{Record}
+use Rattle.thunk_spec.specs.Delta.{PageDelta}
+use Rattle.thunk_spec.specs.Reads.{ReadPage}
+use Rattle.thunk_spec.specs.Record.{Record}
 use Rattle.memo_spec.specs.Encoding.{AreRegisters, IsEnd, byte, half, word, registers, end_number, read_page, stored_page, record_bytes}
 use Rattle.memo_spec.specs.Reader.{Reader, ◌>>=◌, done, number_at, ruled, chain}
 use Rattle.memo_spec.specs.Reading.{ReadState, RecordState, is_within, end_of, registers_at, read_page_at, stored_page_at, record_at}

@@ -4,7 +4,7 @@ use Rattle.std.specs.List.{AllByRecursion, flat_map}
 use Rattle.std.specs.Int.{w32}
 use Rattle.std.proofs.lemmas.Bool.{le-ltb}
 use Rattle.std.proofs.lemmas.List.{append-nil, length-append}
-use Rattle.record_spec.specs.Record.{Record}
+use Rattle.thunk_spec.specs.Record.{Record}
 use Rattle.machine_spec.specs.Setup.{Setup, map_of}
 use Rattle.memo_spec.specs.Encoding.{word, has_page, index_in, record_bytes}
 use Rattle.memo_spec.specs.Reader.{◌>>=◌, done, bytes_at, number_at, ruled, chain}

@@ -8,8 +8,8 @@ use Rattle.memory_spec.specs.Pages.{Mapped}
 use Rattle.elf_spec.specs.Image.{image_pages, is_image}
 use Rattle.elf_spec.proofs.Rows as image_rows
 use Rattle.elf_spec.proofs.Touched.{pages_inside}
-use Rattle.record_spec.specs.Record.{Record}
-use Rattle.record_spec.specs.Reads.{ReadPage}
+use Rattle.thunk_spec.specs.Record.{Record}
+use Rattle.thunk_spec.specs.Reads.{ReadPage}
 use Rattle.machine_spec.specs.Setup.{Setup, IsSetup, map_of, data_pages}
 use Rattle.machine_spec.proofs.Beginning.{ascends-map_of}
 use Rattle.memo_spec.specs.Encoding.{has_page, with_page, pages_read, IsReadPage, IsRecord}

@@ -9,10 +9,10 @@ use Rattle.memory_spec.specs.Pages.{Mapped, unmapped}
 use Rattle.memory_spec.specs.declared.TheConstants.{PAGE_SIZE}
 use Rattle.thunk_spec.specs.declared.ends.ThunkEnd.{ThunkEnd}
 use Rattle.thunk_spec.specs.declared.ends.ThunkEnd.TheVariants.{Call, Trap, Fuel}
-use Rattle.record_spec.specs.Delta.{PageDelta, is_stored}
-use Rattle.record_spec.specs.Reads.{ReadPage}
-use Rattle.record_spec.specs.Record.{Record}
-use Rattle.record_spec.specs.Ascending.{reads_ascend, deltas_ascend}
+use Rattle.thunk_spec.specs.Delta.{PageDelta, is_stored}
+use Rattle.thunk_spec.specs.Reads.{ReadPage}
+use Rattle.thunk_spec.specs.Record.{Record}
+use Rattle.thunk_spec.specs.Ascending.{reads_ascend, deltas_ascend}
 use Rattle.guest_call.specs.declared.thread_number.TheConstants.{THREADS}
 use Rattle.machine_spec.specs.Setup.{IsSetup, map_of}
 use Rattle.history_spec.specs.History.{History, is_numbered}

@@ -9,9 +9,9 @@ use Rattle.memory_spec.specs.Pages.{Mapped, slot_of}
 use Rattle.memory_spec.specs.declared.TheConstants.{PAGE_SIZE}
 use Rattle.thunk_spec.specs.declared.ends.ThunkEnd.{ThunkEnd}
 use Rattle.thunk_spec.specs.declared.ends.ThunkEnd.TheVariants.{Call, Trap}
-use Rattle.record_spec.specs.Delta.{PageDelta}
-use Rattle.record_spec.specs.Reads.{ReadPage}
-use Rattle.record_spec.specs.Record.{Kept, Record}
+use Rattle.thunk_spec.specs.Delta.{PageDelta}
+use Rattle.thunk_spec.specs.Reads.{ReadPage}
+use Rattle.thunk_spec.specs.Record.{Kept, Record}
 use Rattle.machine_spec.specs.Setup.{map_of}
 use Rattle.history_spec.specs.History.{History}
 

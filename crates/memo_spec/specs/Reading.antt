@@ -9,9 +9,9 @@ use Rattle.memory_spec.specs.Pages.{Mapped}
 use Rattle.memory_spec.specs.declared.TheConstants.{PAGE_SIZE}
 use Rattle.thunk_spec.specs.declared.ends.ThunkEnd.{ThunkEnd}
 use Rattle.thunk_spec.specs.declared.ends.ThunkEnd.TheVariants as ends
-use Rattle.record_spec.specs.Delta.{PageDelta}
-use Rattle.record_spec.specs.Reads.{ReadPage}
-use Rattle.record_spec.specs.Record.{Kept, Record}
+use Rattle.thunk_spec.specs.Delta.{PageDelta}
+use Rattle.thunk_spec.specs.Reads.{ReadPage}
+use Rattle.thunk_spec.specs.Record.{Kept, Record}
 use Rattle.elf_spec.specs.declared.Refusal as elf
 use Rattle.elf_spec.specs.Refusals.{refusal_of}
 use Rattle.elf_spec.specs.declared.TheConstants.{MOST_ELF_BYTES}

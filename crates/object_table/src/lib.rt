@@ -1,4 +1,5 @@
-//! The 64 objects of one kind, and a row done at the object of a number. No call takes memory.
+//! The 64 objects of one kind, a row done at the object of a number, and what a call does to the threads. No call takes
+//! memory.
 #![tactic(auto)]
 
 ghost use Rattle.std.specs.Prelude.{◌≡◌, ◌<◌, replicate, slice_index_or};
@@ -7,7 +8,10 @@ ghost use Rattle.guest_call.specs.Effect as spec;
 ghost use Rattle.guest_call.specs.Tables as tables;
 ghost use Rattle.object_table.specs.Rows as rows;
 
-use call_effect::Effect;
+mod effect;
+
+pub use effect::Effect;
+
 use guest_call::{EINVAL, OBJECTS};
 use std::array;
 

@@ -7,8 +7,8 @@ ghost use Rattle.guest_call.specs.Objects.{waits_at, IsKept};
 ghost use Rattle.object_tests.specs.Crowds.{AreIdle};
 ghost use Rattle.sync_objects.specs.Puts.{is_put};
 
-use call_effect::Effect;
 use guest_call::{Call, Fate, THREADS, threads_are_few};
+use object_table::Effect;
 use std::alloc::{AllocError, Global};
 use std::process::Abort;
 use sync_objects::Objects;

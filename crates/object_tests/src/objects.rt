@@ -4,8 +4,8 @@ ghost use Rattle.std.specs.Prelude.{◌≡◌, false};
 ghost use Rattle.sync_objects.specs.Puts.{is_put};
 
 use super::fixtures::{assert_returns, negated};
-use call_effect::Effect;
 use guest_call::{Call, Fate, Object};
+use object_table::Effect;
 use std::alloc::{AllocError, Global};
 use sync_objects::{ActedOn, Objects};
 

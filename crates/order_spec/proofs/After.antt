@@ -10,8 +10,8 @@ use Rattle.guest_call.specs.Objects.{Objects, act, waits_at, created_count}
 use Rattle.guest_call.proofs.Counting.{entering-other, entering-exits, places-nil}
 use Rattle.guest_call.proofs.Conservation.{act_keeps}
 use Rattle.thunk_spec.specs.Put.{is_readable}
-use Rattle.record_spec.specs.Delta.{masked}
-use Rattle.record_spec.specs.Record.{Record, put_of}
+use Rattle.thunk_spec.specs.Delta.{masked}
+use Rattle.thunk_spec.specs.Record.{Record, put_of}
 use Rattle.machine_spec.specs.declared.states.Asked.{Asked}
 use Rattle.machine_spec.specs.declared.states.Asked.TheVariants.{Asks, Stops}
 use Rattle.machine_spec.specs.declared.states.End.{End}

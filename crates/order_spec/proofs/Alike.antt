@@ -11,9 +11,9 @@ use Rattle.guest_call.specs.declared.Fate.TheVariants.{Returns, Blocks, Ends, Ex
 use Rattle.guest_call.specs.Effect.{Effect}
 use Rattle.thunk_spec.specs.Thunk.{Frame, Thunk, thunk}
 use Rattle.thunk_spec.proofs.ThunkLocality.{thunk-same}
-use Rattle.record_spec.specs.Reads.{ReadPage, reads_of, has}
-use Rattle.record_spec.specs.Record.{Record, Kept, kept_thunk, put_of, IsTrue, fits_at, may_end}
-use Rattle.record_spec.proofs.Truth.{agree-has, StandsFor-true}
+use Rattle.thunk_spec.specs.Reads.{ReadPage, reads_of, has}
+use Rattle.thunk_spec.specs.Record.{Record, Kept, kept_thunk, put_of, IsTrue, fits_at, may_end}
+use Rattle.thunk_spec.proofs.Truth.{agree-has, StandsFor-true}
 use Rattle.machine_spec.specs.declared.states.Status.{Status}
 use Rattle.machine_spec.specs.declared.states.End.{End}
 use Rattle.machine_spec.specs.Machine.{Hart, Machine, hart_of, hart_in, is_ready, is_ended}

@@ -22,7 +22,7 @@ use Rattle.thunk_spec.specs.declared.ends.ThunkEnd.{ThunkEnd}
 use Rattle.thunk_spec.specs.declared.ends.ThunkEnd.TheVariants as thunk_end
 use Rattle.thunk_spec.specs.Put.{is_readable, call_at, appended_by, put_addresses}
 use Rattle.thunk_spec.specs.Thunk.{Frame}
-use Rattle.record_spec.specs.Record.{Record, put_of}
+use Rattle.thunk_spec.specs.Record.{Record, put_of}
 use Rattle.machine_spec.specs.declared.states.Asked.{Asked}
 use Rattle.machine_spec.specs.declared.states.Asked.TheVariants.{Asks, Stops}
 use Rattle.machine_spec.specs.declared.states.End.{End}

@@ -10,8 +10,8 @@ use Rattle.guest_call.specs.declared.Fate.TheVariants.{Returns, Blocks, Ends, Ex
 use Rattle.guest_call.specs.Effect.{Effect}
 use Rattle.guest_call.specs.Objects.{Objects, created_count}
 use Rattle.thunk_spec.specs.Thunk.{Frame}
-use Rattle.record_spec.specs.Delta.{masked}
-use Rattle.record_spec.specs.Record.{Record, Kept, may_end}
+use Rattle.thunk_spec.specs.Delta.{masked}
+use Rattle.thunk_spec.specs.Record.{Record, Kept, may_end}
 use Rattle.machine_spec.specs.Machine.{Hart, Machine, hart_of, is_ready}
 use Rattle.machine_spec.specs.Performing.{returned, fated, first_hart}
 use Rattle.machine_spec.specs.Step.{apply, fits, fate_end}

@@ -6,9 +6,9 @@ use Rattle.guest_call.specs.Effect.{Effect}
 use Rattle.guest_call.specs.Objects.{Objects}
 use Rattle.guest_call.specs.declared.Object.{Object}
 use Rattle.thunk_spec.specs.Thunk.{Frame}
-use Rattle.record_spec.specs.Delta.{masked}
+use Rattle.thunk_spec.specs.Delta.{masked}
 use Rattle.isa_spec.specs.Registers.{same_registers}
-use Rattle.record_spec.specs.Record.{Record, put_of, may_end}
+use Rattle.thunk_spec.specs.Record.{Record, put_of, may_end}
 use Rattle.machine_spec.specs.declared.states.Asked.{Asked}
 use Rattle.machine_spec.specs.declared.states.Asked.TheVariants.{Asks, Stops}
 use Rattle.machine_spec.specs.declared.states.End.{End}

@@ -12,8 +12,8 @@ use Rattle.guest_call.specs.Objects.{Objects, waits_at, created_count}
 use Rattle.guest_call.specs.Locality.{part_of, is_among}
 use Rattle.guest_call.proofs.Counting.{entering-other}
 use Rattle.thunk_spec.specs.Thunk.{Frame}
-use Rattle.record_spec.specs.Delta.{masked}
-use Rattle.record_spec.specs.Record.{Record, put_of}
+use Rattle.thunk_spec.specs.Delta.{masked}
+use Rattle.thunk_spec.specs.Record.{Record, put_of}
 use Rattle.machine_spec.specs.declared.states.End.{End}
 use Rattle.machine_spec.specs.declared.states.Status.{Status}
 use Rattle.machine_spec.specs.declared.states.Status.TheVariants.{Ready, Blocked, Ended}

@@ -6,9 +6,9 @@ use Rattle.guest_call.specs.declared.Fate.TheVariants.{Returns, Blocks, Ends, Ex
 use Rattle.guest_call.specs.Effect.{Effect, exits}
 use Rattle.guest_call.specs.Objects.{Objects, act, acts_on}
 use Rattle.thunk_spec.specs.Put.{is_readable}
-use Rattle.record_spec.specs.Delta.{PageDelta}
-use Rattle.record_spec.specs.Reads.{ReadPage}
-use Rattle.record_spec.specs.Record.{Record}
+use Rattle.thunk_spec.specs.Delta.{PageDelta}
+use Rattle.thunk_spec.specs.Reads.{ReadPage}
+use Rattle.thunk_spec.specs.Record.{Record}
 use Rattle.machine_spec.specs.declared.states.Asked.{Asked}
 use Rattle.machine_spec.specs.declared.states.Asked.TheVariants.{Asks, Stops}
 use Rattle.machine_spec.specs.Machine.{Machine, hart_of}

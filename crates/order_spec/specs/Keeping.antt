@@ -1,6 +1,6 @@
 -- Other orders of the steps of a history in which each comes after all that must come before it.
 use Rattle.std.specs.Prelude.{ℕ, ◌==◌, ◌&&◌, ◌||◌, not, Bool, true, false, List, [], ◌∷◌, if◌then◌else◌}
-use Rattle.record_spec.specs.Record.{Record}
+use Rattle.thunk_spec.specs.Record.{Record}
 use Rattle.order_spec.specs.Facts.{Fact}
 use Rattle.order_spec.specs.Before.{before}
 

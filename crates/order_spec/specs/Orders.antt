@@ -1,6 +1,6 @@
 -- Reorderings of a history, as lists of its places, and what it is that records lead to the same as it.
 use Rattle.std.specs.Prelude.{◌≡◌, ℕ, ◌&&◌, ◌||◌, not, nat_lt, Bool, true, List, [], ◌∷◌, length, map, filter_map, slice_get}
-use Rattle.record_spec.specs.Record.{Record}
+use Rattle.thunk_spec.specs.Record.{Record}
 use Rattle.machine_spec.specs.Setup.{first, scratch}
 use Rattle.history_spec.specs.History.{History, schedule_of, applied_from, can_apply_from}
 use Rattle.order_spec.specs.Facts.{Fact}

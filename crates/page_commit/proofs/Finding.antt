@@ -3,8 +3,8 @@ use Rattle.std.proofs.Common.{◌≡◌, ◌≢◌, ℕ, ◌<◌, ◌≤◌, zer
 use Rattle.std.proofs.lemmas.Bool.{and_parts, cases_eq, leb-true}
 use Rattle.std.proofs.lemmas.List.{length-set, get_or-set_same, get_or-set_other}
 use Rattle.memory_spec.specs.Pages.{Memory, page_of}
-use Rattle.record_spec.specs.Delta.{PageDelta, spread, masked}
-use Rattle.record_spec.specs.Ascending.{deltas_ascend}
+use Rattle.thunk_spec.specs.Delta.{PageDelta, spread, masked}
+use Rattle.thunk_spec.specs.Ascending.{deltas_ascend}
 
 -- the memory after one delta
 abbrev with_delta : Memory → PageDelta → Memory

@@ -1,8 +1,8 @@
 -- The bytes at the marked places are those that the stores leave.
 use Rattle.std.proofs.Common.{◌≡◌, List, ap, ◌∙◌}
 use Rattle.memory_spec.specs.Pages.{Memory}
-use Rattle.record_spec.specs.Delta.{PageDelta, masked}
-use Rattle.record_spec.proofs.Merging.{masked-delta_of}
+use Rattle.thunk_spec.specs.Delta.{PageDelta, masked}
+use Rattle.thunk_spec.proofs.Merging.{masked-delta_of}
 use Rattle.page_commit.specs.Stores.{WritesStores}
 
 pub writes_stores :

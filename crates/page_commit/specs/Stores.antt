@@ -2,7 +2,7 @@
 use Rattle.std.specs.Prelude.{◌≡◌, List}
 use Rattle.memory_spec.specs.Pages.{Mapped, Memory, IsMemory}
 use Rattle.memory_spec.specs.Stores.{StoredByte, laid}
-use Rattle.record_spec.specs.Delta.{PageDelta, delta_of}
+use Rattle.thunk_spec.specs.Delta.{PageDelta, delta_of}
 
 -- The memory after it is the one before with these stores, in order, for all stores from which the delta came.
 pub record WritesStores (before : Memory) (delta : List PageDelta) (after : Memory) : Type 0 where

@@ -3,7 +3,7 @@
 
 ghost use Rattle.std.specs.Prelude.{◌≡◌, ◌<◌, length, IfOk, OnOk, OnErr};
 ghost use Rattle.memory_spec.specs.Pages.{page_of};
-ghost use Rattle.record_spec.specs.Delta.{masked};
+ghost use Rattle.thunk_spec.specs.Delta.{masked};
 ghost use Rattle.page_commit.specs.Stores.{WritesStores};
 
 use page_store::{Page, PageTable};

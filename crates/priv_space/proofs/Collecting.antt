@@ -6,10 +6,10 @@ use Rattle.std.proofs.lemmas.List.{drop_all, append-nil, length-map, map-set, dr
 use Rattle.memory_spec.specs.Pages.{Mapped, Memory, page_of, on_each, zero_page, IsMemory}
 use Rattle.memory_spec.specs.Stores.{StoredByte, laid}
 use Rattle.memory_spec.specs.Workspace.{Masks, no_marks, marked}
-use Rattle.record_spec.specs.Delta.{PageDelta, chosen, is_stored, delta_from, delta_of}
-use Rattle.record_spec.specs.Reads.{ReadPage, reads_from}
-use Rattle.record_spec.proofs.Merging.{merged, merged_all, Shaped, shaped-laid, shaped-fresh, merged_all-laid, merged_all-no_marks}
-use Rattle.record_spec.specs.Ascending.{deltas_ascend, reads_ascend}
+use Rattle.thunk_spec.specs.Delta.{PageDelta, chosen, is_stored, delta_from, delta_of}
+use Rattle.thunk_spec.specs.Reads.{ReadPage, reads_from}
+use Rattle.thunk_spec.proofs.Merging.{merged, merged_all, Shaped, shaped-laid, shaped-fresh, merged_all-laid, merged_all-no_marks}
+use Rattle.thunk_spec.specs.Ascending.{deltas_ascend, reads_ascend}
 use Rattle.priv_space.specs.declared.slot.Slot.{Slot}
 use Rattle.priv_space.specs.Slots.{on_view, untouched, slot_bytes, slot_marks, slot_taken}
 use Rattle.priv_space.specs.Parts.{read_part, delta_part}

@@ -1,7 +1,7 @@
 -- What one slot adds to the read pages and to the stored bytes.
 use Rattle.std.specs.Prelude.{ℕ, Bool, if◌then◌else◌, List, [], ◌∷◌}
-use Rattle.record_spec.specs.Delta.{PageDelta, chosen, is_stored}
-use Rattle.record_spec.specs.Reads.{ReadPage}
+use Rattle.thunk_spec.specs.Delta.{PageDelta, chosen, is_stored}
+use Rattle.thunk_spec.specs.Reads.{ReadPage}
 
 -- The read page of a slot, if a byte was taken from it.
 abbrev pub read_part : ℕ → Bool → List ℕ → List ReadPage

@@ -6,7 +6,7 @@ ghost use Rattle.std.specs.Prelude.{◌≡◌, List};
 ghost use Rattle.memory_spec.specs.Pages.{Mapped, Memory, IsMemory, on_each};
 ghost use Rattle.memory_spec.specs.Stores.{StoredByte, laid};
 ghost use Rattle.memory_spec.specs.Workspace.{no_marks, marked};
-ghost use Rattle.record_spec.specs.Delta.{delta_from, delta_of};
+ghost use Rattle.thunk_spec.specs.Delta.{delta_from, delta_of};
 
 mod slot;
 mod slots;

@@ -5,8 +5,8 @@ ghost use Rattle.std.specs.Arc.{arc_value};
 ghost use Rattle.memory_spec.specs.Access.{byte_count, loaded};
 ghost use Rattle.memory_spec.specs.Pages.{slot_of, permission_at};
 ghost use Rattle.memory_spec.specs.Workspace.{fresh, Takes, Stores};
-ghost use Rattle.record_spec.specs.Delta.{delta_from};
-ghost use Rattle.record_spec.specs.Reads.{reads_from};
+ghost use Rattle.thunk_spec.specs.Delta.{delta_from};
+ghost use Rattle.thunk_spec.specs.Reads.{reads_from};
 
 use super::slot::Access;
 use super::slots::{self, Slots};

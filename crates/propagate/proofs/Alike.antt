@@ -10,9 +10,9 @@ use Rattle.isa_spec.specs.Registers.{Registers, same_registers}
 use Rattle.memory_spec.specs.Pages.{Memory, page_of}
 use Rattle.guest_call.specs.Effect.{Effect}
 use Rattle.guest_call.specs.Objects.{Objects, created_count}
-use Rattle.record_spec.specs.Delta.{masked}
-use Rattle.record_spec.specs.Reads.{ReadPage, has}
-use Rattle.record_spec.specs.Record.{Record, Kept, may_end}
+use Rattle.thunk_spec.specs.Delta.{masked}
+use Rattle.thunk_spec.specs.Reads.{ReadPage, has}
+use Rattle.thunk_spec.specs.Record.{Record, Kept, may_end}
 use Rattle.guest_call.specs.declared.Call.{Call}
 use Rattle.thunk_spec.specs.declared.ends.ThunkEnd.{ThunkEnd}
 use Rattle.thunk_spec.specs.declared.ends.ThunkEnd.TheVariants as thunk_end
@@ -37,7 +37,7 @@ use Rattle.order_spec.proofs.Local.{acted-like}
 use Rattle.order_spec.proofs.Alike.{touched, untouched-after, touched-served, has-like, fits-parts, fits-from}
 use Rattle.order_spec.proofs.Simulate.{none-is, end_after-none, fate-none}
 use Rattle.order_spec.proofs.Near.{plain, other_record, plain-after}
-use Rattle.reach_spec.proofs.Starts.{near-first}
+use Rattle.round_spec.proofs.Starts.{near-first}
 use Rattle.history_facts.specs.Outlining.{machine_at}
 use Rattle.history_facts.proofs.Outlining.{machine-more, coherent-can}
 use Rattle.round_spec.specs.Marks.{record_for, is_fitting}
@@ -45,8 +45,8 @@ use Rattle.round_spec.specs.Due.{place_in}
 use Rattle.round_spec.specs.Rounds.{RoundState, opening, can_reuse}
 use Rattle.round_spec.specs.Unedited.{all_reused_of}
 use Rattle.report_spec.specs.declared.Entry.{Entry}
-use Rattle.worker_spec.specs.Replaying.{HasReused}
-use Rattle.worker_spec.proofs.Replay.{reused-placed}
+use Rattle.round_spec.specs.Replaying.{HasReused}
+use Rattle.round_spec.proofs.Replay.{reused-placed}
 use Rattle.propagate.specs.Consistency.{IsApplied}
 use Rattle.propagate.proofs.Appending.{reuse-can}
 use Rattle.propagate.specs.Alike.{is_marked, IsLike, GoesOnAs, IsAsMarked, IsClean, AreClean, IsAsBefore, AreMarksOn, MayBeMarks, marked, all_unmarked, IsNext}

@@ -8,7 +8,7 @@ use Rattle.machine_spec.specs.Choice.{least}
 use Rattle.history_spec.specs.History.{History}
 use Rattle.round_spec.specs.Due.{place_in}
 use Rattle.round_spec.specs.Choice.{first_of, least_by, best}
-use Rattle.worker_spec.proofs.Lists.{first-all, all-filter, all-pass, least-under, some-least_by}
+use Rattle.round_spec.proofs.Lists.{first-all, all-filter, all-pass, least-under, some-least_by}
 
 -- lists
 

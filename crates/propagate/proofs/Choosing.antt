@@ -11,8 +11,8 @@ use Rattle.round_spec.specs.Marks.{fits_next}
 use Rattle.round_spec.specs.Rounds.{RoundState, is_finished, is_free_in, can_take, can_reuse}
 use Rattle.round_spec.specs.Due.{place_in, is_due}
 use Rattle.round_spec.specs.Choice.{free_threads, is_any_in_flight, eligible, choice_by, best, with_choice, pick_of}
-use Rattle.worker_spec.proofs.Choosing.{choice_by-none}
-use Rattle.worker_spec.proofs.Lists.{all-filter, all-pass}
+use Rattle.round_spec.proofs.Choosing.{choice_by-none}
+use Rattle.round_spec.proofs.Lists.{all-filter, all-pass}
 use Rattle.propagate.specs.declared.picking.Candidate.{Candidate}
 use Rattle.propagate.specs.declared.picking.Leaders.{Leaders}
 use Rattle.propagate.specs.Choosing.{candidate_of, free_below, due_below, leader_of, AreLeadersBelow, comes_before, leads, better, is_something}

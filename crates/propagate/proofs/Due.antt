@@ -4,7 +4,7 @@ use Rattle.std.specs.Bool.{Decides}
 use Rattle.std.specs.List.{AllByRecursion, list_all, position_or_len}
 use Rattle.std.proofs.lemmas.Bool.{cases_lt, and_parts, ltb-true, leb-true, le-leb, or_cases, or_left, or_right, ne_eqb, and_left}
 use Rattle.std.proofs.lemmas.List.Elements.{All-from_recursion}
-use Rattle.record_spec.specs.Record.{Record}
+use Rattle.thunk_spec.specs.Record.{Record}
 use Rattle.machine_spec.specs.Machine.{Machine, hart_of}
 use Rattle.history_spec.specs.History.{History, past_records, threads_of_records, is_of}
 use Rattle.release_core.specs.Records.{HaveThreads, AreOfRun}

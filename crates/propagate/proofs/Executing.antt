@@ -6,7 +6,7 @@ use Rattle.std.specs.Arc.{arc_value}
 use Rattle.std.specs.declared.alloc.AllocError.{AllocError}
 use Rattle.isa_spec.specs.Registers.{Registers}
 use Rattle.thunk_spec.specs.Thunk.{Frame}
-use Rattle.record_spec.specs.Record.{Record, Kept, kept_thunk}
+use Rattle.thunk_spec.specs.Record.{Record, Kept, kept_thunk}
 use Rattle.machine_spec.specs.Machine.{Machine, hart_of, is_ready}
 use Rattle.machine_spec.specs.Schedule.{record_of}
 use Rattle.machine_spec.specs.Setup.{Setup, IsSetup, is_permitted, is_complete}
@@ -26,18 +26,18 @@ use Rattle.round_spec.specs.Keeping.{IsInOrder, IsCounted, IsHeld, IsFromScratch
 use Rattle.round_spec.specs.Picking.{ArePicked}
 use Rattle.round_spec.specs.Unedited.{IsUnedited, OnlyReuses}
 use Rattle.round_spec.proofs.Conditions.{happens-take, happens-commit}
-use Rattle.worker_spec.proofs.Lone.{one_worker-permitted, one_worker-complete, lone-threads, lone-scratch}
-use Rattle.worker_spec.proofs.Picked.{lone-all_picked}
-use Rattle.worker_spec.proofs.Ending.{lone-ends, lone-discarded}
-use Rattle.worker_spec.proofs.Unedited.{unedited-reuses}
-use Rattle.worker_spec.specs.Replaying.{Repeats, IsReplaying, goes_on_by}
-use Rattle.worker_spec.proofs.Replay.{replays-start, replays-on, replays-next}
+use Rattle.round_spec.proofs.Lone.{one_worker-permitted, one_worker-complete, lone-threads, lone-scratch}
+use Rattle.round_spec.proofs.Picked.{lone-all_picked}
+use Rattle.round_spec.proofs.Ending.{lone-ends, lone-discarded}
+use Rattle.round_spec.proofs.Unedited.{unedited-reuses}
+use Rattle.round_spec.specs.Replaying.{Repeats, IsReplaying, goes_on_by}
+use Rattle.round_spec.proofs.Replay.{replays-start, replays-on, replays-next}
 use Rattle.thunk_run.specs.declared.job.Job.{Job}
 use Rattle.thunk_run.specs.declared.job.Run.{Run}
 use Rattle.thunk_run.specs.Running.{IsRunOf}
 use Rattle.release_core.specs.Jobs.{IsJobOf}
-use Rattle.reach_spec.specs.Working.{ReexecutesLeast}
-use Rattle.reach_spec.proofs.ByWorkers.{reexecutes-alone}
+use Rattle.round_spec.specs.Working.{ReexecutesLeast}
+use Rattle.round_spec.proofs.ByWorkers.{reexecutes-alone}
 use Rattle.propagate.specs.Committing.{CanCommit, IsOfStep}
 use Rattle.propagate.specs.Executing.{executed_by, Costs, Spares, IsPartWay}
 use Rattle.propagate.proofs.Choosing.{pick-over}

@@ -5,7 +5,7 @@ use Rattle.std.proofs.lemmas.List.{take_all}
 use Rattle.std.specs.Prelude.{option_map}
 use Rattle.std.specs.List.{slice_get}
 use Rattle.std.specs.Global.{Global}
-use Rattle.record_spec.specs.Record.{Record}
+use Rattle.thunk_spec.specs.Record.{Record}
 use Rattle.machine_spec.specs.Machine.{Machine, hart_of, is_ready}
 use Rattle.machine_spec.specs.Setup.{first}
 use Rattle.machine_spec.specs.Step.{fits, can_step}
@@ -18,9 +18,9 @@ use Rattle.round_spec.specs.Rounds.{RoundState, is_finished, none_in_flight}
 use Rattle.round_spec.specs.Due.{place_in, is_due}
 use Rattle.round_spec.specs.Choice.{is_any_in_flight, choice_by}
 use Rattle.round_spec.proofs.Placed.{absent-due}
-use Rattle.worker_spec.proofs.Choosing.{any-nobody}
-use Rattle.worker_spec.proofs.Coherent.{coherent-next, coherent-next-on, coherent-over}
-use Rattle.worker_spec.proofs.Following.{next-chosen}
+use Rattle.round_spec.proofs.Choosing.{any-nobody}
+use Rattle.round_spec.proofs.Coherent.{coherent-next, coherent-next-on, coherent-over}
+use Rattle.round_spec.proofs.Following.{next-chosen}
 use Rattle.propagate.specs.declared.picking.Candidate.{Candidate}
 use Rattle.propagate.specs.Alike.{IsLike, GoesOnAs, IsAsMarked}
 use Rattle.propagate.specs.Choosing.{leader_of, free_below}

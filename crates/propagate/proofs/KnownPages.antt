@@ -11,9 +11,9 @@ use Rattle.std.specs.List.{slice_get}
 use Rattle.std.specs.Str.{bytes_eq}
 use Rattle.isa_spec.specs.Registers.{same_registers}
 use Rattle.memory_spec.specs.Pages.{Memory, page_of}
-use Rattle.record_spec.specs.Delta.{PageDelta}
-use Rattle.record_spec.specs.Reads.{ReadPage, has}
-use Rattle.record_spec.specs.Record.{Record, may_end}
+use Rattle.thunk_spec.specs.Delta.{PageDelta}
+use Rattle.thunk_spec.specs.Reads.{ReadPage, has}
+use Rattle.thunk_spec.specs.Record.{Record, may_end}
 use Rattle.thunk_spec.specs.Thunk.{Frame}
 use Rattle.machine_spec.specs.Machine.{Machine, hart_of, is_ready}
 use Rattle.machine_spec.specs.Setup.{Setup, first, map_of}

@@ -5,7 +5,7 @@ use Rattle.std.proofs.lemmas.List.{length-append, get_or-set_same, set-set}
 use Rattle.std.specs.Global.{Global}
 use Rattle.report_spec.specs.declared.Entry.{Entry}
 use Rattle.thunk_spec.specs.Thunk.{Frame}
-use Rattle.record_spec.specs.Record.{Record, IsTrue}
+use Rattle.thunk_spec.specs.Record.{Record, IsTrue}
 use Rattle.machine_spec.specs.Machine.{Machine}
 use Rattle.machine_spec.specs.Step.{apply, fits}
 use Rattle.order_spec.specs.Facts.{Fact}

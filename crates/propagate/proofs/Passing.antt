@@ -4,9 +4,9 @@ use Rattle.std.proofs.lemmas.Bool.{and_parts, cases_lt}
 use Rattle.std.proofs.lemmas.Bool.Decides.{nat_tests}
 use Rattle.std.specs.List.{slice_get}
 use Rattle.memory_spec.specs.Pages.{Memory, page_of}
-use Rattle.record_spec.specs.Delta.{PageDelta, masked}
-use Rattle.record_spec.specs.Reads.{ReadPage}
-use Rattle.record_spec.specs.Record.{Record}
+use Rattle.thunk_spec.specs.Delta.{PageDelta, masked}
+use Rattle.thunk_spec.specs.Reads.{ReadPage}
+use Rattle.thunk_spec.specs.Record.{Record}
 use Rattle.thunk_spec.specs.Thunk.{Frame}
 use Rattle.machine_spec.specs.Machine.{Hart, Machine, hart_of, is_ready}
 use Rattle.machine_spec.specs.Setup.{Setup, IsSetup, first}

@@ -3,8 +3,8 @@ use Rattle.std.specs.Prelude.{◌≡◌, ℕ, ⊤, Bool, true, false, not, ◌&&
 use Rattle.std.specs.Global.{Global}
 use Rattle.isa_spec.specs.Registers.{same_registers}
 use Rattle.memory_spec.specs.Pages.{Memory, page_of}
-use Rattle.record_spec.specs.Reads.{ReadPage}
-use Rattle.record_spec.specs.Record.{Record}
+use Rattle.thunk_spec.specs.Reads.{ReadPage}
+use Rattle.thunk_spec.specs.Record.{Record}
 use Rattle.machine_spec.specs.Machine.{Machine, hart_of, is_ready}
 use Rattle.machine_spec.specs.Setup.{IsSetup}
 use Rattle.history_spec.specs.History.{History, is_coherent}
@@ -13,7 +13,7 @@ use Rattle.history_facts.specs.Outlining.{machine_at}
 use Rattle.round_spec.specs.Marks.{fits_next}
 use Rattle.round_spec.specs.Rounds.{RoundState}
 use Rattle.round_spec.specs.Due.{place_in}
-use Rattle.worker_spec.specs.Replaying.{HasReused}
+use Rattle.round_spec.specs.Replaying.{HasReused}
 
 -- Whether the page in a slot is marked.
 abbrev pub is_marked : List Bool → ℕ → Bool

@@ -1,6 +1,6 @@
 -- What it is for a record to be applied, and its entry appended with it.
 use Rattle.std.specs.Prelude.{◌≡◌, Bool, List, [], ◌∷◌, ◌++◌}
-use Rattle.record_spec.specs.Record.{Record}
+use Rattle.thunk_spec.specs.Record.{Record}
 use Rattle.machine_spec.specs.Machine.{Machine}
 use Rattle.machine_spec.specs.Step.{apply}
 use Rattle.report_spec.specs.declared.Entry.{Entry}

@@ -4,7 +4,7 @@ use Rattle.history_spec.specs.History.{History, is_coherent}
 use Rattle.round_spec.specs.Rounds.{RoundState}
 use Rattle.round_spec.specs.Alone.{after_picks}
 use Rattle.round_spec.specs.Instructions.{executed_instructions}
-use Rattle.worker_spec.specs.Replaying.{IsReplaying}
+use Rattle.round_spec.specs.Replaying.{IsReplaying}
 
 -- How many instructions the executed entries of a round made.
 abbrev pub executed_by : RoundState → ℕ

@@ -6,9 +6,9 @@ use Rattle.guest_call.specs.declared.thread_number.TheConstants.{THREADS}
 use Rattle.std.specs.Str.{bytes_eq}
 use Rattle.memory_spec.specs.Pages.{Memory, page_of}
 use Rattle.machine_spec.specs.declared.TheConstants.{MOST_STEPS}
-use Rattle.record_spec.specs.Delta.{PageDelta}
-use Rattle.record_spec.specs.Reads.{ReadPage}
-use Rattle.record_spec.specs.Record.{Record}
+use Rattle.thunk_spec.specs.Delta.{PageDelta}
+use Rattle.thunk_spec.specs.Reads.{ReadPage}
+use Rattle.thunk_spec.specs.Record.{Record}
 use Rattle.machine_spec.specs.Machine.{Machine, hart_of, is_ready}
 use Rattle.machine_spec.specs.Setup.{IsSetup, first}
 use Rattle.history_spec.specs.History.{History, is_coherent}

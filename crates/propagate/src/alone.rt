@@ -12,8 +12,8 @@ ghost use Rattle.round_spec.specs.Alone.{one_worker, after_pick, after_picks, lo
 ghost use Rattle.round_spec.specs.Keeping.{IsFromScratch};
 ghost use Rattle.round_spec.specs.Picking.{ArePicked};
 ghost use Rattle.round_spec.specs.Unedited.{IsUnedited, OnlyReuses};
-ghost use Rattle.worker_spec.specs.Replaying.{Repeats};
-ghost use Rattle.reach_spec.specs.Working.{ReexecutesLeast};
+ghost use Rattle.round_spec.specs.Replaying.{Repeats};
+ghost use Rattle.round_spec.specs.Working.{ReexecutesLeast};
 ghost use Rattle.propagate.specs.Executing.{executed_by, Costs, Spares};
 
 use super::round::Round;

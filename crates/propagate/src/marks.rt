@@ -3,7 +3,7 @@
 ghost use Rattle.std.specs.Prelude.{◌≡◌, ◌<◌, ◌≤◌, ◌+◌, ℕ, true, false, is_some, Some, None, option_map, length, slice_get, slice_set, if◌then◌else◌, IfOk};
 ghost use Rattle.std.specs.Arc.{arc_value};
 ghost use Rattle.thunk_spec.specs.Put.{call_at};
-ghost use Rattle.record_spec.specs.Record.{Record as OldRecord};
+ghost use Rattle.thunk_spec.specs.Record.{Record as OldRecord};
 ghost use Rattle.machine_spec.specs.Setup.{IsSetup, first, input_page};
 ghost use Rattle.history_spec.specs.History.{History as OldHistory, IsSameProgram, is_coherent};
 ghost use Rattle.order_spec.specs.Facts.{written_slots};

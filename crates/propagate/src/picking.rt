@@ -2,14 +2,14 @@
 
 ghost use Rattle.std.specs.Prelude.{◌≡◌, ◌<◌, ◌≤◌, ◌+◌, ◌==◌, ℕ, true, false, length, slice_get, slice_index, nat_le, option_map, Some, Decides};
 ghost use Rattle.std.specs.Arc.{arc_value};
-ghost use Rattle.record_spec.specs.Record.{Record as OldRecord};
+ghost use Rattle.thunk_spec.specs.Record.{Record as OldRecord};
 ghost use Rattle.history_spec.specs.History.{History as OldHistory, is_coherent, past_records};
 ghost use Rattle.round_spec.specs.declared.events.Pick.TheVariants as pick;
 ghost use Rattle.round_spec.specs.Marks.{record_for, fits_next};
 ghost use Rattle.round_spec.specs.Rounds.{is_finished, is_free_in, can_begin, can_take, can_reuse};
 ghost use Rattle.round_spec.specs.Due.{is_due, place_in};
 ghost use Rattle.round_spec.specs.Choice.{is_any_in_flight, choice_by, pick_of};
-ghost use Rattle.worker_spec.specs.Replaying.{IsReplaying};
+ghost use Rattle.round_spec.specs.Replaying.{IsReplaying};
 ghost use Rattle.propagate.specs.Alike.{IsNext, IsRepeated};
 ghost use Rattle.propagate.specs.Choosing as choosing;
 ghost use Rattle.propagate.specs.Consistency.{IsValid, AreFactsOf};

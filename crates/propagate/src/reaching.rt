@@ -4,7 +4,7 @@ ghost use Rattle.std.specs.Prelude.{◌≡◌, ◌<◌, ◌≤◌, Bool, not, le
 ghost use Rattle.std.specs.Str.{bytes_eq};
 ghost use Rattle.memory_spec.specs.Pages.{page_of};
 ghost use Rattle.order_spec.specs.Facts.{facts, read_slots as slots_read};
-ghost use Rattle.reach_spec.specs.Reach.{reads_of, changed_slots, changed, reached_count};
+ghost use Rattle.round_spec.specs.Reach.{reads_of, changed_slots, changed, reached_count};
 ghost use Rattle.release_core.specs.Records.{AreOfRun};
 ghost use Rattle.depend_graph.specs.Reaching.{slots_of_each};
 
@@ -62,7 +62,7 @@ fn slots_that_differ(
 }
 
 /// The slots of the pages where the start memories of two setups differ.
-#[tactic(auto, unfolding(reach_spec::specs::Reach::changed, machine_spec::specs::Setup::first))]
+#[tactic(auto, unfolding(round_spec::specs::Reach::changed, machine_spec::specs::Setup::first))]
 fn slots_changed(alloc: Global, old: &Setup, new: &Setup) -> Result<Vec<usize>, AllocError>
     ensures { IfOk result (λ slots. slots.items ≡ changed old.now new.now) }
 {

@@ -3,8 +3,8 @@
 
 ghost use Rattle.std.specs.Prelude.{◌≡◌, ◌<◌, ◌≤◌, ◌+◌, ◌∷◌, [], ℕ, true, map, length, slice_get, None, is_some, if◌then◌else◌, IfOk, IfSome};
 ghost use Rattle.order_spec.specs.Facts.{written_slots, facts};
-ghost use Rattle.record_spec.specs.Delta.{PageDelta};
-ghost use Rattle.record_spec.specs.Reads.{ReadPage as Read, has};
+ghost use Rattle.thunk_spec.specs.Delta.{PageDelta};
+ghost use Rattle.thunk_spec.specs.Reads.{ReadPage as Read, has};
 ghost use Rattle.machine_spec.specs.Setup.{IsSetup};
 ghost use Rattle.history_spec.specs.History.{is_coherent};
 ghost use Rattle.propagate.specs.Versions as versions;

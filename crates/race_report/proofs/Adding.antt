@@ -6,9 +6,9 @@ use Rattle.std.proofs.lemmas.List.{length-append, length-take, length_push, get_
 use Rattle.std.proofs.lemmas.Nat.{mul-le}
 use Rattle.order_spec.specs.Facts.{Fact}
 use Rattle.order_spec.specs.Before.{fact_at}
-use Rattle.reach_spec.specs.Reach.{read_at}
-use Rattle.race_spec.specs.declared.Race.{Race}
-use Rattle.race_spec.specs.Races.{is_race, race_at, races_between, races_from}
+use Rattle.round_spec.specs.Reach.{read_at}
+use Rattle.round_spec.specs.declared.Race.{Race}
+use Rattle.round_spec.specs.Races.{is_race, race_at, races_between, races_from}
 use Rattle.race_report.specs.declared.touches.Touch.{Touch}
 use Rattle.race_report.specs.declared.steps.Step.{Step}
 use Rattle.race_report.specs.declared.past.Access.{Access}

@@ -8,10 +8,10 @@ use Rattle.std.proofs.lemmas.List.Elements.{filter-append, All-from_recursion}
 use Rattle.order_spec.specs.Facts.{Fact}
 use Rattle.order_spec.specs.Before.{is_in, fact_at}
 use Rattle.order_spec.proofs.Lists.{is_or_not}
-use Rattle.reach_spec.specs.Reach.{read_at}
-use Rattle.race_spec.specs.declared.Race.{Race}
-use Rattle.race_spec.specs.Sync.{is_ordered}
-use Rattle.race_spec.specs.Races.{writes_at, touches_at, is_race, race_at, races_between}
+use Rattle.round_spec.specs.Reach.{read_at}
+use Rattle.round_spec.specs.declared.Race.{Race}
+use Rattle.round_spec.specs.Sync.{is_ordered}
+use Rattle.round_spec.specs.Races.{writes_at, touches_at, is_race, race_at, races_between}
 use Rattle.race_report.specs.declared.touches.Touch.{Touch}
 use Rattle.race_report.specs.declared.steps.Step.{Step}
 use Rattle.race_report.specs.Touches.{touch_in, touches_in}

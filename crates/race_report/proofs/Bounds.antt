@@ -11,12 +11,12 @@ use Rattle.machine_spec.specs.Setup.{Setup, IsSetup, map_of}
 use Rattle.history_spec.specs.History.{History}
 use Rattle.order_spec.specs.Facts.{Fact, facts}
 use Rattle.order_spec.specs.Before.{is_in}
-use Rattle.reach_spec.specs.Reach.{reads_of}
+use Rattle.round_spec.specs.Reach.{reads_of}
 use Rattle.memo_listing.proofs.Addresses.{word_address}
 use Rattle.race_report.specs.Touches.{touch_in, touches_in}
 use Rattle.race_report.proofs.Facts.{pages-few}
 use Rattle.race_report.proofs.Tally.{sum_below, sum-same, sum-exchanged, rows-length}
-use Rattle.race_spec.specs.Races.{is_race, race_at, races_between, races_from, races_of}
+use Rattle.round_spec.specs.Races.{is_race, race_at, races_between, races_from, races_of}
 use Rattle.race_report.proofs.Filters.{filter-none}
 
 pub filter-short : {A : Type 0} (q : A → Bool) (xs : List A) → length (filter q xs) ≤ length xs

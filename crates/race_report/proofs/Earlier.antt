@@ -8,11 +8,11 @@ use Rattle.std.proofs.lemmas.List.Sums.{sum_by_more, count_by-le-length}
 use Rattle.order_spec.specs.Facts.{Fact}
 use Rattle.order_spec.specs.Before.{fact_at}
 use Rattle.order_spec.specs.Ancestors.{count_below, number_at}
-use Rattle.reach_spec.specs.Reach.{read_at}
-use Rattle.race_spec.specs.declared.Race.{Race}
-use Rattle.race_spec.specs.Sync.{is_ordered, seen_at}
-use Rattle.race_spec.specs.Races.{writes_at, touches_at, is_race, race_at}
-use Rattle.race_spec.proofs.Sync.{ordered-tells}
+use Rattle.round_spec.specs.Reach.{read_at}
+use Rattle.round_spec.specs.declared.Race.{Race}
+use Rattle.round_spec.specs.Sync.{is_ordered, seen_at}
+use Rattle.round_spec.specs.Races.{writes_at, touches_at, is_race, race_at}
+use Rattle.round_spec.proofs.Sync.{ordered-tells}
 use Rattle.race_report.specs.declared.touches.Touch.{Touch}
 use Rattle.race_report.specs.declared.steps.Step.{Step}
 use Rattle.race_report.specs.declared.past.Access.{Access}

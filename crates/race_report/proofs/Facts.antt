@@ -5,14 +5,14 @@ use Rattle.std.proofs.lemmas.Bool.{and_parts, ltb-true}
 use Rattle.std.proofs.lemmas.List.{length-map}
 use Rattle.std.proofs.lemmas.List.Elements.{All-from_recursion}
 use Rattle.memory_spec.specs.Pages.{Mapped, ascends_above}
-use Rattle.record_spec.specs.Record.{Record}
+use Rattle.thunk_spec.specs.Record.{Record}
 use Rattle.machine_spec.specs.Machine.{Machine}
 use Rattle.machine_spec.specs.Setup.{first}
 use Rattle.machine_spec.specs.Step.{apply, fits}
 use Rattle.history_spec.specs.History.{History}
 use Rattle.order_spec.specs.Facts.{Fact, fact_of, bare_fact, facts_from, facts, reads_in, read_slots, written_slots}
 use Rattle.order_spec.specs.Before.{fact_at, no_fact}
-use Rattle.reach_spec.specs.Reach.{read_at, reads_of}
+use Rattle.round_spec.specs.Reach.{read_at, reads_of}
 use Rattle.release_core.specs.Records.{HaveThreads}
 
 -- what fact and record of a step have in common

@@ -6,7 +6,7 @@ use Rattle.std.proofs.lemmas.Bool.{cases_eq, eq-eqb, ne_eqb}
 use Rattle.std.proofs.lemmas.Bool.Decides.{nat_tests}
 use Rattle.std.proofs.lemmas.List.{take-append-drop, take_more, map-append, get_or-drop, get_or-set_same, get_or-set_other}
 use Rattle.std.proofs.lemmas.List.Elements.{filter-append}
-use Rattle.race_spec.specs.declared.Race.{Race}
+use Rattle.round_spec.specs.declared.Race.{Race}
 use Rattle.race_report.specs.declared.touches.Touch.{Touch}
 use Rattle.race_report.specs.declared.past.Access.{Access}
 use Rattle.race_report.specs.Rows.{race_with, races_in}

@@ -5,7 +5,7 @@ use Rattle.std.proofs.lemmas.Bool.Decides.{nat_tests}
 use Rattle.order_spec.specs.Facts.{Fact}
 use Rattle.order_spec.specs.Before.{is_in, fact_at, all_below, is_next_at}
 use Rattle.order_spec.proofs.Lists.{or-in_left, or-in_right}
-use Rattle.reach_spec.specs.Reach.{gave_at, giver_end, last_below}
+use Rattle.round_spec.specs.Reach.{gave_at, giver_end, last_below}
 
 all-pass : (test : ℕ → Bool) (n : ℕ) → ((k : ℕ) → k < n → test k ≡ true) → all_below test n ≡ true
 all-pass test zero each = refl

@@ -1,7 +1,7 @@
 -- The first races, row by row.
 use Rattle.std.specs.Prelude.{◌≡◌, ◌==◌, ℕ, List, length, map}
 use Rattle.std.specs.List.{filter, flat_map}
-use Rattle.race_spec.specs.declared.Race.{Race}
+use Rattle.round_spec.specs.declared.Race.{Race}
 use Rattle.race_report.specs.declared.touches.Touch.{Touch}
 use Rattle.race_report.specs.declared.past.Access.{Access}
 use Rattle.race_report.specs.declared.rows.FirstRaces.{FirstRaces}

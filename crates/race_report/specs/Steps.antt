@@ -4,8 +4,8 @@ use Rattle.guest_call.specs.declared.thread_number.TheConstants.{THREADS}
 use Rattle.order_spec.specs.Facts.{Fact}
 use Rattle.order_spec.specs.Before.{fact_at}
 use Rattle.order_spec.specs.Ancestors.{number_at}
-use Rattle.reach_spec.specs.Reach.{read_at}
-use Rattle.race_spec.specs.Sync.{seen_at}
+use Rattle.round_spec.specs.Reach.{read_at}
+use Rattle.round_spec.specs.Sync.{seen_at}
 use Rattle.race_report.specs.declared.steps.Step.{Step}
 use Rattle.race_report.specs.Touches.{touches_in}
 

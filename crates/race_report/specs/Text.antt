@@ -4,8 +4,8 @@ use Rattle.std.specs.List.{flat_map}
 use Rattle.report_spec.specs.Text.{newline, line}
 use Rattle.history_spec.specs.History.{History}
 use Rattle.memo_listing.specs.Listing.{addresses_of, address_text}
-use Rattle.race_spec.specs.declared.Race.{Race}
-use Rattle.race_spec.specs.Races.{races_of}
+use Rattle.round_spec.specs.declared.Race.{Race}
+use Rattle.round_spec.specs.Races.{races_of}
 
 -- The letter of a step by whether it writes the page: w where it does, and else r.
 abbrev pub access_text : Bool → List ℕ

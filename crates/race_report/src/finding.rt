@@ -1,7 +1,7 @@
 //! The races of a history.
 
 ghost use Rattle.std.specs.Prelude.{◌≡◌, [], All, length, take, IfOk};
-ghost use Rattle.race_spec.specs.Races.{races_of};
+ghost use Rattle.round_spec.specs.Races.{races_of};
 ghost use Rattle.race_report.specs.declared.past.PagePast.{PagePast as Past};
 
 use super::list::{RaceList, Races};

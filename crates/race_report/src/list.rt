@@ -2,7 +2,7 @@
 
 ghost use Rattle.std.specs.Prelude.{◌≡◌};
 
-use race_spec::Race;
+use round_spec::Race;
 use std::marker::Model;
 
 /// Races in order. A clause sees the list of them.
@@ -13,7 +13,7 @@ pub struct RaceList {
 
 impl Model for RaceList {
     ghost use Rattle.std.specs.Prelude.{List};
-    ghost use Rattle.race_spec.specs.declared.Race.{Race};
+    ghost use Rattle.round_spec.specs.declared.Race.{Race};
 
     ghost Value = { List Race };
 

@@ -3,7 +3,7 @@
 ghost use Rattle.std.specs.Prelude.{◌≡◌, ◌<◌, ◌≤◌, ◌+◌, ◌^◌, ◌==◌, ◌⊎◌, ℕ, List, [], ◌∷◌, ◌++◌, length, take, count_by, slice_index_or, slice_set, IfOk, OnOk, if◌then◌else◌};
 ghost use Rattle.std.specs.List.{filter, flat_map};
 ghost use Rattle.std.specs.List.Sorted.{IsNonDecreasingBy};
-ghost use Rattle.race_spec.specs.declared.Race.{Race as RaceOf};
+ghost use Rattle.round_spec.specs.declared.Race.{Race as RaceOf};
 ghost use Rattle.race_report.specs.Past.{IsPagePast, accesses_of, races_with};
 ghost use Rattle.race_report.specs.declared.past.Access.{Access as Used};
 ghost use Rattle.race_report.specs.Rows.{race_with as race_of, IsCounted, races_in};
@@ -11,7 +11,7 @@ ghost use Rattle.race_report.specs.Rows.{race_with as race_of, IsCounted, races_
 use super::past::{Access, PagePast};
 use super::steps::Step;
 use super::touches::Touch;
-use race_spec::Race;
+use round_spec::Race;
 use std::alloc::{AllocError, Global};
 use std::marker::Model;
 
@@ -23,7 +23,7 @@ struct Row {
 
 impl Model for Row {
     ghost use Rattle.std.specs.Prelude.{List};
-    ghost use Rattle.race_spec.specs.declared.Race.{Race};
+    ghost use Rattle.round_spec.specs.declared.Race.{Race};
 
     ghost Value = { List Race };
 

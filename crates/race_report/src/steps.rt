@@ -4,9 +4,9 @@ ghost use Rattle.std.specs.Prelude.{◌≡◌, ◌<◌, ◌≤◌, ℕ, length, 
 ghost use Rattle.machine_spec.specs.Setup.{map_of};
 ghost use Rattle.order_spec.specs.Facts.{Fact as StepFact, facts as facts_of};
 ghost use Rattle.order_spec.specs.Before.{is_in};
-ghost use Rattle.reach_spec.specs.Reach as reach;
+ghost use Rattle.round_spec.specs.Reach as reach;
 ghost use Rattle.release_core.specs.Records.{AreOfRun};
-ghost use Rattle.race_spec.specs.Sync.{sync_facts, seen_at};
+ghost use Rattle.round_spec.specs.Sync.{sync_facts, seen_at};
 ghost use Rattle.race_report.specs.Steps.{AreSteps};
 
 use super::touches::{Touch, touches_of};

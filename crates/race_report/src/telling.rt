@@ -8,8 +8,8 @@ use super::finding::races;
 use super::list::Races;
 use ith_text::{decimal, hex8};
 use memo_listing::addresses_of;
-use race_spec::Race;
 use release_core::History;
+use round_spec::Race;
 use std::alloc::{AllocError, Global};
 
 /// Appends a text, and a number in decimal.

@@ -4,8 +4,8 @@ use Rattle.std.proofs.lemmas.Bool.{and_parts}
 use Rattle.std.proofs.lemmas.List.{length-set, get_or_past}
 use Rattle.memory_spec.specs.Pages.{Mapped, Memory, page_of, slot_of}
 use Rattle.thunk_spec.specs.Put.{byte_at}
-use Rattle.record_spec.specs.Delta.{PageDelta, spread, masked}
-use Rattle.record_spec.specs.Record.{Record, put_of}
+use Rattle.thunk_spec.specs.Delta.{PageDelta, spread, masked}
+use Rattle.thunk_spec.specs.Record.{Record, put_of}
 use Rattle.guest_call.specs.Objects.{Objects}
 use Rattle.machine_spec.specs.declared.states.End.{End}
 use Rattle.machine_spec.specs.Machine.{Machine, Hart, hart_of, is_ready}

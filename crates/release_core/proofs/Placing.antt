@@ -8,7 +8,7 @@ use Rattle.std.proofs.lemmas.List.Folds.{find_at}
 use Rattle.std.specs.List.{find, position_or_len}
 use Rattle.guest_call.specs.declared.thread_number.TheConstants.{THREADS}
 use Rattle.machine_spec.specs.declared.TheConstants.{MOST_STEPS}
-use Rattle.record_spec.specs.Record.{Record}
+use Rattle.thunk_spec.specs.Record.{Record}
 use Rattle.history_spec.specs.History.{is_of, is_numbered_after, threads_of_records}
 use Rattle.history_spec.proofs.Numbers.{numbered-more}
 use Rattle.release_core.specs.Records.{places_from, IsIndexed, HaveThreads}

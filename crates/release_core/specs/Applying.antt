@@ -1,6 +1,6 @@
 -- When a record may be applied to a machine, why it wasn't, and what is compared to find that.
 use Rattle.std.specs.Prelude.{◌≡◌, ℕ, Bool, true, false, ◌&&◌, if◌then◌else◌, is_none}
-use Rattle.record_spec.specs.Record.{Record}
+use Rattle.thunk_spec.specs.Record.{Record}
 use Rattle.machine_spec.specs.Machine.{Machine, hart_of, is_ready}
 use Rattle.machine_spec.specs.Step.{fits}
 use Rattle.thunk_record.specs.Comparing.{compared_for}

@@ -3,7 +3,7 @@ use Rattle.std.specs.Prelude.{◌≡◌, ◌<◌, ◌≤◌, ◌==◌, ℕ, suc,
 use Rattle.std.specs.List.{list_all}
 use Rattle.guest_call.specs.declared.thread_number.TheConstants.{THREADS}
 use Rattle.machine_spec.specs.declared.TheConstants.{MOST_STEPS}
-use Rattle.record_spec.specs.Record.{Record}
+use Rattle.thunk_spec.specs.Record.{Record}
 use Rattle.history_spec.specs.History.{is_numbered}
 
 -- The places of the records of a thread in order, where the first of all has place k.

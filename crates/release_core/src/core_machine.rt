@@ -2,8 +2,8 @@
 
 ghost use Rattle.std.specs.Prelude.{◌≡◌, ◌<◌, ◌≤◌, ◌+◌, ◌&&◌, true, [], ◌∷◌, length, nat_lt, vec_len, Some, IfOk, IfErr, OnOk, OnErr};
 ghost use Rattle.std.specs.Arc.{arc_value};
-ghost use Rattle.record_spec.specs.Delta.{masked};
-ghost use Rattle.record_spec.specs.Record.{put_of, IsTrue};
+ghost use Rattle.thunk_spec.specs.Delta.{masked};
+ghost use Rattle.thunk_spec.specs.Record.{put_of, IsTrue};
 ghost use Rattle.machine_calls.specs.Views.{AreViewsOf};
 ghost use Rattle.machine_calls.specs.Views as views;
 ghost use Rattle.release_core.specs.Jobs.{IsJobOf};

@@ -3,8 +3,8 @@
 ghost use Rattle.std.specs.Prelude.{◌≡◌, ◌+◌, ◌/◌, ◌%◌, ◌≤◌, ◌^◌, ◌<◌, ◌++◌, ℕ, true, length, slice_index, IfOk, OnOk};
 ghost use Rattle.std.specs.List.{range_with_len};
 ghost use Rattle.thunk_spec.specs.Put.{byte_at, bytes_at, is_readable};
-ghost use Rattle.record_spec.specs.Delta.{masked};
-ghost use Rattle.record_spec.specs.Record.{put_of};
+ghost use Rattle.thunk_spec.specs.Delta.{masked};
+ghost use Rattle.thunk_spec.specs.Record.{put_of};
 
 use page_commit::committed_page;
 use page_map::PageMap;
@@ -80,7 +80,7 @@ fn bytes_of(
 
 /// The bytes that the put which ends a kept thunk appends, read in the thread's view with the
 /// thunk's stored bytes written over it; none where no put ends it. Two pages are made for it at most.
-#[tactic(auto, unfolding(record_spec::specs::Record::put_of))]
+#[tactic(auto, unfolding(thunk_spec::specs::Record::put_of))]
 pub fn put_bytes(
     alloc: Global,
     map: &PageMap,

@@ -3,7 +3,7 @@
 ghost use Rattle.std.specs.Prelude.{◌≡◌, ◌<◌, ◌≤◌, ◌==◌, ◌++◌, ◌-◌, take, [], ◌∷◌, true, List, All, length, count_by, find, option_map, slice_get, slice_index_or, slice_set, OnOk, OnErr, Some};
 ghost use Rattle.std.specs.Arc.{arc_value};
 ghost use Rattle.std.specs.List.{position_or_len};
-ghost use Rattle.record_spec.specs.Record.{Record as Recorded};
+ghost use Rattle.thunk_spec.specs.Record.{Record as Recorded};
 ghost use Rattle.history_spec.specs.History.{is_of, is_numbered, threads_of_records};
 ghost use Rattle.release_core.specs.Records.{AreOfRun};
 
@@ -110,7 +110,7 @@ pub struct Records {
 impl Model for Records {
     ghost use Rattle.std.specs.Prelude.{List, map};
     ghost use Rattle.std.specs.Arc.{arc_value};
-    ghost use Rattle.record_spec.specs.Record.{Record as Recorded};
+    ghost use Rattle.thunk_spec.specs.Record.{Record as Recorded};
     ghost use Rattle.release_core.specs.Records.{IsIndexed};
 
     ghost Value = { List Recorded };

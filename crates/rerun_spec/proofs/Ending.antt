@@ -2,7 +2,7 @@
 use Rattle.std.proofs.Common.{◌≡◌, ◌≢◌, ℕ, Bool, true, false, cond, List, [], ◌∷◌, ◌++◌, slice_index_or, All, Option, Some, None, is_some, refl, ap, sym, ◌∙◌}
 use Rattle.std.specs.List.{AllByRecursion}
 use Rattle.std.proofs.lemmas.List.Elements.{All-from_recursion}
-use Rattle.record_spec.specs.Record.{Record}
+use Rattle.thunk_spec.specs.Record.{Record}
 use Rattle.machine_spec.specs.declared.states.End.{End}
 use Rattle.machine_spec.specs.Setup.{Setup, IsSetup, first}
 use Rattle.history_spec.specs.History.{History, IsSameProgram, schedule_of}
@@ -15,8 +15,8 @@ use Rattle.round_spec.specs.Rounds.{RoundState, opening, is_in_flight, is_finish
 use Rattle.round_spec.specs.Keeping.{IsCounted}
 use Rattle.round_spec.proofs.Counting.{round-counted}
 use Rattle.round_spec.proofs.Leaving.{round-setup}
-use Rattle.reach_spec.specs.Working.{ReexecutesLeast}
-use Rattle.reach_spec.proofs.ByWorkers.{reexecutes-made}
+use Rattle.round_spec.specs.Working.{ReexecutesLeast}
+use Rattle.round_spec.proofs.ByWorkers.{reexecutes-made}
 use Rattle.rerun_spec.specs.Inputs.{AreShort}
 use Rattle.rerun_spec.specs.Rounds.{with_input, Found, Round, made, IsMade, left_by, schedule_in, Beginning, IsOfProgram, round_on, after_round, rounds_after, after_rounds}
 use Rattle.rerun_spec.proofs.Rounds.{EachShort, each-short, with-short}

@@ -6,3 +6,17 @@ pub mod Ending
 pub mod Repeating
 pub mod Reports
 pub mod Examples
+pub mod Lists
+pub mod Words
+pub mod Memory
+pub mod Turns
+pub mod Deltas
+pub mod Effects
+pub mod Calls
+pub mod Machine
+pub mod Beginning
+pub mod Events
+pub mod EncodedExamples
+pub mod Illegal
+pub mod Telling
+pub mod Todays

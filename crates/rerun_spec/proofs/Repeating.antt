@@ -12,10 +12,10 @@ use Rattle.round_spec.specs.Schedules.{round_by}
 use Rattle.round_spec.specs.Choice.{pick_of}
 use Rattle.round_spec.specs.Alone.{after_picks}
 use Rattle.round_spec.specs.Unedited.{IsUnedited, OnlyReuses}
-use Rattle.worker_spec.specs.OneWorker.{executed_in}
-use Rattle.worker_spec.proofs.Unedited.{unedited-marks, reused-instructions, unedited-never_runs, unedited-executed}
-use Rattle.worker_spec.proofs.Workers.{workers-threads, workers-reuse}
-use Rattle.worker_spec.specs.Workers.{IsMadeBy}
+use Rattle.round_spec.specs.OneWorker.{executed_in}
+use Rattle.round_spec.proofs.Unedited.{unedited-marks, reused-instructions, unedited-never_runs, unedited-executed}
+use Rattle.round_spec.proofs.Workers.{workers-threads, workers-reuse}
+use Rattle.round_spec.specs.Workers.{IsMadeBy}
 use Rattle.rerun_spec.specs.declared.Asked.{Asked}
 use Rattle.rerun_spec.specs.Inputs.{AreShort}
 use Rattle.rerun_spec.specs.Rounds.{limits_of, with_input, with_limits, Found, Round, made, IsMade, left_by, Beginning, after_memo, CanBegin, round_on, rounds_after, schedule_in, entries_of, machine_of, IsRepeated, IsUneditedRerun}

@@ -13,11 +13,11 @@ use Rattle.report_spec.specs.Report.{threads_of, instructions_from}
 use Rattle.round_spec.specs.Rounds.{RoundState, opening}
 use Rattle.round_spec.specs.Instructions.{executed_instructions}
 use Rattle.round_spec.specs.Alone.{one_worker, lone_round}
-use Rattle.worker_spec.specs.OneWorker.{made_by, executed_in}
-use Rattle.worker_spec.proofs.Picks.{marked-threads}
-use Rattle.worker_spec.proofs.Lone.{rounds-made}
-use Rattle.worker_spec.proofs.Workers.{lone-made, workers-round, workers-permitted, workers-complete, workers-marks, workers-honest, workers-alone}
-use Rattle.worker_spec.proofs.Cost.{rounds-cost}
+use Rattle.round_spec.specs.OneWorker.{made_by, executed_in}
+use Rattle.round_spec.proofs.Picks.{marked-threads}
+use Rattle.round_spec.proofs.Lone.{rounds-made}
+use Rattle.round_spec.proofs.Workers.{lone-made, workers-round, workers-permitted, workers-complete, workers-marks, workers-honest, workers-alone}
+use Rattle.round_spec.proofs.Cost.{rounds-cost}
 use Rattle.rerun_spec.specs.declared.Asked.{Asked}
 use Rattle.rerun_spec.specs.Inputs.{AreInputs, AreShort}
 use Rattle.rerun_spec.specs.Rounds.{with_input, with_limits, Found, Round, made, IsMade, IsPickedRightly, left_by, Beginning, from_scratch, after_memo, CanBegin, round_on, after_round, rounds_after, after_rounds, last_left, schedule_in, entries_of, machine_of}

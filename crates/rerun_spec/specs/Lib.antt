@@ -3,3 +3,4 @@ pub mod Inputs
 pub mod Rounds
 pub mod Reports
 pub mod Making
+pub mod Encoded

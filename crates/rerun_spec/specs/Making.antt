@@ -9,7 +9,7 @@ use Rattle.round_spec.specs.Choice.{pick_of}
 use Rattle.round_spec.specs.Alone.{one_worker, after_picks}
 use Rattle.round_spec.specs.Instructions.{executed_instructions}
 use Rattle.round_spec.specs.Unedited.{OnlyReuses}
-use Rattle.worker_spec.specs.OneWorker.{executed_in}
+use Rattle.round_spec.specs.OneWorker.{executed_in}
 use Rattle.rerun_spec.specs.Inputs.{AreShort}
 use Rattle.rerun_spec.specs.Rounds.{Found, Round, Beginning, made, IsMade, IsPickedRightly, left_by, CanBegin, rounds_after, schedule_in, entries_of, machine_of}
 use Rattle.rerun_spec.specs.Reports.{extras_in, report_of, is_exit, exits}

@@ -9,7 +9,7 @@ use Rattle.report_spec.specs.declared.Entry.{Entry}
 use Rattle.report_spec.specs.Report.{ReportData, Extras, report, report_text}
 use Rattle.round_spec.specs.Rounds.{RoundState}
 use Rattle.round_spec.specs.Instructions.{executed_instructions}
-use Rattle.reach_spec.specs.Reach.{reached_count}
+use Rattle.round_spec.specs.Reach.{reached_count}
 use Rattle.rerun_spec.specs.declared.Asked.{Asked}
 use Rattle.rerun_spec.specs.Rounds.{Round, made, entries_of, machine_of}
 

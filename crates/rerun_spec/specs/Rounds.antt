@@ -11,8 +11,8 @@ use Rattle.round_spec.specs.Marks.{marked}
 use Rattle.round_spec.specs.Rounds.{RoundState, history_of}
 use Rattle.round_spec.specs.Schedules.{round_by}
 use Rattle.round_spec.specs.Picking.{ArePicked}
-use Rattle.worker_spec.specs.Workers.{IsMadeBy}
-use Rattle.worker_spec.specs.Watching.{IsProgress}
+use Rattle.round_spec.specs.Workers.{IsMadeBy}
+use Rattle.round_spec.specs.Watching.{IsProgress}
 use Rattle.rerun_spec.specs.declared.Asked.{Asked}
 
 -- A setup with another input: the same executable, fuel and limit.

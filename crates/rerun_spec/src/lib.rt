@@ -1,12 +1,13 @@
-//! What a command line with lists of edits asks for, as definitions: the inputs of the rounds or the first list
-//! that is refused, the rounds, each by the schedule that its workers found, from scratch or after a memo that was
-//! read, each going by what the one before it leaves, their reports, and whether each ends by exit; with the
-//! laws that what was proved of one round holds of each of them, that a rerun without an edit executes
-//! nothing, and that without lists there is the one run from scratch; of one worker, that it makes the schedule
-//! that follows the choice. No code but one plain type.
+//! What a command line with lists of edits asks for, as definitions: the inputs of the rounds or the first list that is
+//! refused, the rounds, each by the schedule that its workers found, from scratch or after a memo that was read, each
+//! going by what the one before it leaves, their reports, and whether each ends by exit; with the laws that what was
+//! proved of one round holds of each of them, that a rerun without an edit executes nothing, and that without lists
+//! there is the one run from scratch; of one worker, that it makes the schedule that follows the choice; and that what
+//! a round leaves can be encoded as the bytes of a memo, which are read again if the history is honest. No code but one
+//! plain type.
 #![tactic(auto)]
 
-ghost use Rattle.std.specs.Prelude.{◌≡◌, ◌≢◌, ◌≤◌, ◌<◌, ◌+◌, ℕ, suc, min, max, ◌&&◌, List, [], ◌∷◌, ◌++◌, All, length, map, take, drop, sum, slice_get, Some, None, ◌⊎◌};
+ghost use Rattle.std.specs.Prelude.{◌≡◌, ◌≢◌, ◌≤◌, ◌<◌, ◌+◌, ℕ, suc, min, max, ◌&&◌, List, [], ◌∷◌, ◌++◌, All, length, map, take, drop, sum, slice_get, Some, None, ◌⊎◌, Option, true, false, is_some, Ok};
 ghost use Rattle.std.specs.List.{range_with_len};
 ghost use Rattle.edit_spec.specs.Editing.{longest_input};
 ghost use Rattle.machine_spec.specs.Limits.{Limits, AreLimits};
@@ -17,12 +18,18 @@ ghost use Rattle.report_spec.specs.Report.{threads_of, report};
 ghost use Rattle.round_spec.specs.Marks.{marked};
 ghost use Rattle.round_spec.specs.Alone.{lone_round};
 ghost use Rattle.round_spec.specs.Keeping.{IsCounted};
-ghost use Rattle.reach_spec.specs.Working.{ReexecutesLeast};
+ghost use Rattle.round_spec.specs.Working.{ReexecutesLeast};
+ghost use Rattle.round_spec.specs.declared.events.Event.{Event};
+ghost use Rattle.round_spec.specs.Rounds.{round_after, history_of};
+ghost use Rattle.memo_spec.specs.Encoding.{IsEncodable, memo};
+ghost use Rattle.memo_spec.specs.Reading.{reading};
+ghost use Rattle.memo_spec.specs.Old.{is_before_m};
 ghost use Rattle.rerun_spec.specs.Inputs.{Makes, AreInputs, AreRerunInputs, AreShort, Refusal, Refuses, IsFirstRefused};
 ghost use Rattle.rerun_spec.specs.declared.Asked.{Asked as AskedFor};
 ghost use Rattle.rerun_spec.specs.Rounds.{Found, Round, Beginning, limits_of, with_input, with_limits, made, IsMade, left_by, from_scratch, after_memo, CanBegin, round_on, after_round, rounds_after, after_rounds, IsOfProgram, last_left, schedule_in, entries_of, IsRepeated, IsUneditedRerun};
 ghost use Rattle.rerun_spec.specs.Making.{AreMade, ComesToAnEnd, IsAsReported, FollowsTheChoice, Repeats, RepeatsHistory, PicksNoneToExecute};
 ghost use Rattle.rerun_spec.specs.Reports.{all_executed, extras_of, report_of, reports_of, is_exit, exits, all_exit, made_report, made_reports, made_exits, all_made_exit};
+ghost use Rattle.rerun_spec.specs.Encoded.{IsEncodedPast, IsEncodedStart};
 
 /// Which lines a report has only because they are asked for.
 #[derive(Clone, Copy)]
@@ -435,4 +442,35 @@ pub fn reports_count_right()
     ensures steps_made { (r : Round) (workers : ℕ)
         → IsMade workers r
         → sum r.found.worker_steps ≡ length (made r).schedule }
+{}
+
+/// What a round leaves whose machine has an end can be encoded, whatever happened to it, where its setup may be
+/// run and is of bytes, and the history that it goes by, if there is one, can be encoded and is of the same
+/// program. So the next round of the same program may go by it in the same way. The round of one worker has
+/// an end, so both hold of what it leaves.
+pub fn what_a_round_leaves_can_be_encoded()
+    ensures events { (setup : Setup) (past : Option History) (events : List Event)
+        → IsEncodedStart past setup
+        → is_some (round_after setup past events).machine.ending ≡ true
+        → IsEncodable (history_of (round_after setup past events)) }
+    ensures next { (setup edited : Setup) (past : Option History) (events : List Event)
+        → IsEncodedStart past setup
+        → is_some (round_after setup past events).machine.ending ≡ true
+        → IsSameProgram setup edited
+        → IsEncodedPast (Some (history_of (round_after setup past events))) edited }
+    ensures lone { (setup : Setup) (past : Option History)
+        → IsEncodedStart past setup
+        → IsEncodable (history_of (lone_round setup past)) }
+    ensures lone_next { (setup edited : Setup) (past : Option History)
+        → IsEncodedStart past setup
+        → IsSameProgram setup edited
+        → IsEncodedPast (Some (history_of (lone_round setup past))) edited }
+{}
+
+/// An honest history doesn't come from before the standard extension M: where its last thunk ended by an
+/// illegal instruction, its record tells no word of M there. So no memo of version 1 that encodes such a
+/// history is refused for that. The memo of version 2, in which none is old, is read as it.
+pub fn honest_memo_is_of_today()
+    ensures todays { (h : History) → IsHonest h → is_before_m h ≡ false }
+    ensures read { (h : History) → IsHonest h → IsEncodable h → reading (memo h) ≡ Ok h }
 {}

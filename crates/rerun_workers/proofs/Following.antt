@@ -13,9 +13,9 @@ use Rattle.round_spec.specs.Keeping.{IsInOrder}
 use Rattle.round_spec.specs.Unedited.{IsUnedited}
 use Rattle.round_spec.proofs.Happening.{happens-kept}
 use Rattle.round_spec.proofs.Leaving.{same-happens}
-use Rattle.worker_spec.specs.Replaying.{IsReplaying, goes_on_by}
-use Rattle.worker_spec.proofs.Replay.{unedited-repeats, replays-start, replays-on, replays-next}
-use Rattle.worker_spec.proofs.Rightly.{rightly-opening, rightly-happens}
+use Rattle.round_spec.specs.Replaying.{IsReplaying, goes_on_by}
+use Rattle.round_spec.proofs.Replay.{unedited-repeats, replays-start, replays-on, replays-next}
+use Rattle.round_spec.proofs.Rightly.{rightly-opening, rightly-happens}
 use Rattle.propagate.proofs.Choosing.{pick-over}
 use Rattle.rerun_workers.specs.Following.{FollowsPicks}
 use Rattle.rerun_workers.specs.Locking.{with_reuse, settled, given_up}

@@ -6,7 +6,7 @@ use Rattle.std.specs.Prelude.{⊤}
 use Rattle.std.specs.Arc.{arc_value}
 use Rattle.std.specs.List.{slice_get}
 use Rattle.logbook.specs.Pages.{Book}
-use Rattle.record_spec.specs.Record.{Record}
+use Rattle.thunk_spec.specs.Record.{Record}
 use Rattle.machine_spec.specs.Machine.{Hart, Machine, hart_of}
 use Rattle.machine_spec.specs.Step.{can_step}
 use Rattle.machine_spec.specs.Setup.{Setup}

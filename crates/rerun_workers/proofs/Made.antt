@@ -7,14 +7,14 @@ use Rattle.round_spec.specs.Rounds.{RoundState}
 use Rattle.round_spec.specs.Schedules.{IsBySchedule}
 use Rattle.round_spec.specs.Alone.{lone_round}
 use Rattle.round_spec.proofs.Leaving.{round-setup, round-past}
-use Rattle.worker_spec.specs.Workers.{IsMadeBy}
-use Rattle.worker_spec.proofs.Events.{picks-events}
-use Rattle.worker_spec.proofs.Workers.{lone-made, ended-made}
+use Rattle.round_spec.specs.Workers.{IsMadeBy}
+use Rattle.round_spec.proofs.PicksAsEvents.{picks-events}
+use Rattle.round_spec.proofs.Workers.{lone-made, ended-made}
 use Rattle.round_spec.specs.Picking.{ArePicked, IsPickedSoFar}
 use Rattle.round_spec.specs.Unedited.{IsUnedited, OnlyReuses}
-use Rattle.worker_spec.specs.Watching.{IsProgress}
-use Rattle.worker_spec.proofs.Replay.{unedited-repeats, replays-end}
-use Rattle.reach_spec.proofs.ByWorkers.{reexecutes-picked}
+use Rattle.round_spec.specs.Watching.{IsProgress}
+use Rattle.round_spec.proofs.Replay.{unedited-repeats, replays-end}
+use Rattle.round_spec.proofs.ByWorkers.{reexecutes-picked}
 use Rattle.propagate.specs.Executing.{executed_by}
 use Rattle.propagate.proofs.Executing.{alone-picked, alone-least, alone-ends, alone-reuses}
 use Rattle.rerun_workers.specs.Following.{FollowsPicks}

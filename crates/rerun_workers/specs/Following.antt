@@ -4,7 +4,7 @@ use Rattle.machine_spec.specs.Setup.{Setup}
 use Rattle.history_spec.specs.History.{History, IsSound}
 use Rattle.round_spec.specs.Rounds.{RoundState}
 use Rattle.round_spec.specs.Picking.{IsPickedSoFar}
-use Rattle.worker_spec.specs.Replaying.{Repeats, IsReplaying}
+use Rattle.round_spec.specs.Replaying.{Repeats, IsReplaying}
 
 -- By a sound history all that a round has done so far was picked rightly; and without an edit it replays its history, if
 -- that holds together.

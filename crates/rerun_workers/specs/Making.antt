@@ -7,9 +7,9 @@ use Rattle.round_spec.specs.Schedules.{IsBySchedule}
 use Rattle.round_spec.specs.Alone.{lone_round}
 use Rattle.round_spec.specs.Picking.{ArePicked}
 use Rattle.round_spec.specs.Unedited.{IsUnedited, OnlyReuses}
-use Rattle.worker_spec.specs.Workers.{IsMadeBy}
-use Rattle.worker_spec.specs.Replaying.{Repeats}
-use Rattle.reach_spec.specs.Working.{ReexecutesLeast}
+use Rattle.round_spec.specs.Workers.{IsMadeBy}
+use Rattle.round_spec.specs.Replaying.{Repeats}
+use Rattle.round_spec.specs.Working.{ReexecutesLeast}
 use Rattle.propagate.specs.Executing.{executed_by}
 use Rattle.rerun_workers.specs.Following.{FollowsPicks}
 

@@ -5,7 +5,7 @@ ghost use Rattle.std.specs.Arc.{arc_value};
 ghost use Rattle.history_spec.specs.History.{History as OldHistory};
 ghost use Rattle.round_spec.specs.Rounds.{opening};
 ghost use Rattle.round_spec.specs.Unedited.{IsUnedited};
-ghost use Rattle.worker_spec.specs.Watching.{IsProgress};
+ghost use Rattle.round_spec.specs.Watching.{IsProgress};
 ghost use Rattle.rerun_workers.specs.Making.{IsRoundBy, IsClosed, IsCostOf, ComparesNone};
 
 use super::board::{Board, ClosedRound};

@@ -4,7 +4,7 @@ ghost use Rattle.std.specs.Prelude.{◌≡◌, ◌<◌, ◌≤◌, ◌+◌, All,
 ghost use Rattle.std.specs.Thread.{IsSync};
 ghost use Rattle.std.specs.List.{last_or};
 ghost use Rattle.std.specs.List.Sorted.{IsStrictlyIncreasing};
-ghost use Rattle.worker_spec.specs.declared.TheConstants.{MOST_LOOKS};
+ghost use Rattle.round_spec.specs.declared.TheConstants.{MOST_LOOKS};
 ghost use Rattle.round_spec.specs.Rounds.{opening};
 ghost use Rattle.rerun_workers.specs.Making.{IsClosed};
 
@@ -13,11 +13,11 @@ use super::naming::{Blanks, Naming, Pass};
 use super::watching::{Watch, WatchedRound, note, watch_round};
 use super::working::work_together;
 use ith_host::Gate;
+use round_spec::MOST_LOOKS;
 use std::alloc::{AllocError, Global};
 use std::sync::Wait;
 use std::sync::atomic::{AtomicBool, Ordering};
 use std::thread::{Threads, join};
-use worker_spec::MOST_LOOKS;
 
 /// Room for the numbers that a watcher reads, and for his watch when it is given back.
 fn room_to_watch<J: Naming>(alloc: Global) -> Result<(Vec<u64>, Vec<Watch<J>>), AllocError>

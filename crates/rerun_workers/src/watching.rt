@@ -5,18 +5,18 @@ ghost use Rattle.std.specs.Arc.{arc_value};
 ghost use Rattle.std.specs.List.{last_or};
 ghost use Rattle.std.specs.List.Sorted.{IsStrictlyIncreasing};
 ghost use Rattle.machine_spec.specs.declared.TheConstants.{MOST_STEPS};
-ghost use Rattle.worker_spec.specs.declared.TheConstants.{MOST_LOOKS};
+ghost use Rattle.round_spec.specs.declared.TheConstants.{MOST_LOOKS};
 
 use super::board::Board;
 use super::naming::Naming;
 use progress_word::{Reader, Word, Writer};
 use propagate::Round;
+use round_spec::MOST_LOOKS;
 use std::alloc::{AllocError, Global};
 use std::marker::PhantomData;
 use std::sync::Arc;
 use std::sync::atomic::{AtomicBool, Ordering};
 use std::thread::yield_now;
-use worker_spec::MOST_LOOKS;
 
 /// The word that counts the steps of a watched round, and the seat that alone may raise it.
 #[derive(Drop)]

@@ -15,7 +15,7 @@ use Rattle.thunk_spec.specs.declared.ends.ThunkEnd.TheVariants.{Call}
 use Rattle.thunk_spec.specs.Put.{is_readable, put_addresses}
 use Rattle.thunk_spec.specs.Turn.{turn}
 use Rattle.thunk_spec.specs.Thunk.{thunk}
-use Rattle.record_spec.specs.Record.{Record, may_end, fits_at}
+use Rattle.thunk_spec.specs.Record.{Record, may_end, fits_at}
 use Rattle.machine_spec.specs.declared.states.Status.{Status}
 use Rattle.machine_spec.specs.declared.states.Status.TheVariants.{Ready, Blocked, Ended}
 use Rattle.machine_spec.specs.declared.states.End.TheVariants.{Exit}

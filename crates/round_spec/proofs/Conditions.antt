@@ -1,6 +1,6 @@
 -- An event where its condition holds, and where it doesn't; and that to commit is to apply a true record that fits.
 use Rattle.std.proofs.Common.{◌≡◌, ℕ, true, false, cond, [], ◌∷◌, ◌++◌, set, Some, refl, ap, sym, ◌∙◌}
-use Rattle.record_spec.specs.Record.{Record, IsTrue}
+use Rattle.thunk_spec.specs.Record.{Record, IsTrue}
 use Rattle.machine_spec.specs.Machine.{Machine}
 use Rattle.machine_spec.specs.Step.{step, apply, fits}
 use Rattle.machine_spec.specs.Schedule.{record_of}

@@ -1,6 +1,6 @@
 -- A round counts right after each event, by whichever history it goes.
 use Rattle.std.proofs.Common.{◌≡◌, ℕ, suc, ◌+◌, Bool, true, false, cond, eqb, List, [], ◌∷◌, ◌++◌, append_assoc, append-nil, length, length-append, set, count_by, Option, Some, None, refl, ap, sym, ◌∙◌, arith}
-use Rattle.record_spec.specs.Record.{Record}
+use Rattle.thunk_spec.specs.Record.{Record}
 use Rattle.machine_spec.specs.Machine.{Machine, hart_of, is_ready}
 use Rattle.machine_spec.specs.Step.{step, apply}
 use Rattle.machine_spec.specs.Schedule.{record_of}

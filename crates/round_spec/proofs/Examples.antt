@@ -11,8 +11,8 @@ use Rattle.guest_call.specs.Objects.{all_unlocked}
 use Rattle.thunk_spec.specs.Put.{is_readable, put_addresses}
 use Rattle.thunk_spec.specs.Turn.{turn}
 use Rattle.thunk_spec.specs.Thunk.{thunk}
-use Rattle.record_spec.specs.Reads.{reads_of}
-use Rattle.record_spec.specs.Record.{put_of, may_end, fits_at}
+use Rattle.thunk_spec.specs.Reads.{reads_of}
+use Rattle.thunk_spec.specs.Record.{put_of, may_end, fits_at}
 use Rattle.machine_spec.specs.declared.states.End.TheVariants.{Exit}
 use Rattle.machine_spec.specs.Machine.{Machine}
 use Rattle.machine_spec.specs.Performing.{first_registers}

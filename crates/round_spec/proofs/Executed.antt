@@ -1,6 +1,6 @@
 -- The counts of the records of executed entries add up to the instructions that the report tells.
 use Rattle.std.proofs.Common.{◌≡◌, ◌+◌, cond, List, [], ◌∷◌, Option, refl, ap, ◌∙◌}
-use Rattle.record_spec.specs.Record.{kept_thunk}
+use Rattle.thunk_spec.specs.Record.{kept_thunk}
 use Rattle.thunk_spec.specs.Thunk.{Frame, thunk}
 use Rattle.isa_spec.specs.Registers.{Registers}
 use Rattle.memory_spec.specs.Pages.{Memory}

@@ -1,7 +1,7 @@
 -- What the marks of a schedule depend on, and one entry more.
 use Rattle.std.proofs.Common.{◌≡◌, ℕ, List, [], ◌∷◌, ◌++◌, Option, Some, None, refl, ap, sym, ◌∙◌}
 use Rattle.thunk_spec.specs.Thunk.{Frame}
-use Rattle.record_spec.specs.Record.{Record}
+use Rattle.thunk_spec.specs.Record.{Record}
 use Rattle.machine_spec.specs.Machine.{Hart, Machine, hart_of}
 use Rattle.machine_spec.specs.Step.{step}
 use Rattle.machine_spec.specs.Schedule.{scratch_from}

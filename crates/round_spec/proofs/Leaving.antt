@@ -1,6 +1,6 @@
 -- What a round keeps from its start on, and what it leaves.
 use Rattle.std.proofs.Common.{◌≡◌, ℕ, Bool, true, false, cond, List, [], ◌∷◌, Option, Some, None, is_some, refl, ap, sym, ◌∙◌, subst}
-use Rattle.record_spec.specs.Record.{Record}
+use Rattle.thunk_spec.specs.Record.{Record}
 use Rattle.machine_spec.specs.Machine.{Machine}
 use Rattle.machine_spec.specs.Schedule.{scratch_from, is_permitted_from, records_from}
 use Rattle.machine_spec.specs.Setup.{Setup, IsSetup, first}

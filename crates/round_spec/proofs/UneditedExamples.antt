@@ -1,7 +1,7 @@
 -- A round without an edit exists; and what counts as reuse, computed by the checker.
 use Rattle.std.proofs.Common.{◌≡◌, ℕ, true, false, [], ◌∷◌, refl, ap, arith}
 use Rattle.thunk_spec.specs.declared.ends.ThunkEnd.TheVariants.{Fuel}
-use Rattle.record_spec.specs.Record.{Record}
+use Rattle.thunk_spec.specs.Record.{Record}
 use Rattle.machine_spec.specs.Setup.{Setup}
 use Rattle.history_spec.specs.History.{History}
 use Rattle.history_spec.proofs.Examples.{shortest, only_step, only-honest}

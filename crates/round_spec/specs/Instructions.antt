@@ -1,6 +1,6 @@
 -- How many instructions a round has executed, by what it keeps.
 use Rattle.std.specs.Prelude.{ℕ, ◌+◌, if◌then◌else◌, List, [], ◌∷◌}
-use Rattle.record_spec.specs.Record.{Record}
+use Rattle.thunk_spec.specs.Record.{Record}
 use Rattle.report_spec.specs.declared.Entry.{Entry}
 
 -- The sum of the counts of the records of executed entries.

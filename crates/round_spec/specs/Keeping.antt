@@ -1,6 +1,6 @@
 -- What holds of every round that events reach.
 use Rattle.std.specs.Prelude.{List, [], ◌∷◌, ◌++◌, Option, Some, ◌==◌, count_by, ⊤, ◌≡◌, ℕ, true, false, length}
-use Rattle.record_spec.specs.Record.{Record}
+use Rattle.thunk_spec.specs.Record.{Record}
 use Rattle.machine_spec.specs.Machine.{hart_of, is_ready}
 use Rattle.machine_spec.specs.Setup.{scratch, is_permitted, records}
 use Rattle.machine_spec.specs.Whole.{IsWhole}

@@ -10,3 +10,11 @@ pub mod Keeping
 pub mod Instructions
 pub mod Unedited
 pub mod Reordering
+pub mod OneWorker
+pub mod Replaying
+pub mod Workers
+pub mod Watching
+pub mod Reach
+pub mod Working
+pub mod Sync
+pub mod Races

@@ -1,6 +1,6 @@
 -- The marks of a schedule: which steps are reused from an earlier history.
 use Rattle.std.specs.Prelude.{ℕ, Bool, false, List, [], ◌∷◌, Option, Some, None, unwrap_or, if◌then◌else◌}
-use Rattle.record_spec.specs.Record.{Record}
+use Rattle.thunk_spec.specs.Record.{Record}
 use Rattle.machine_spec.specs.Machine.{Machine, hart_of}
 use Rattle.machine_spec.specs.Step.{step, fits}
 use Rattle.machine_spec.specs.Schedule.{record_of}

@@ -1,38 +1,73 @@
-//! Rounds, as definitions: what happens to a round at each event, which steps are reused, which thread
-//! is due, which is chosen, and the schedule of one worker; with the laws that whatever happens, the
-//! round is at the machine from scratch, its records are those of the steps, its marks are exact, and
-//! what it leaves is an honest history; that places and clocks tell who is due; that every order which
-//! keeps what must come before what can be reused whole; and that with no history one worker does as in a
-//! run with no earlier run. No code but two plain types.
+//! Rounds, as definitions, with their laws. No code but plain types and one constant.
+//!
+//! - What happens to a round at each event, which steps are reused, which thread is due, which is chosen: whatever
+//!   happens, the round is at the machine from scratch, its records are those of the steps, its marks are exact, and
+//!   what it leaves is an honest history; places and clocks tell who is due; every order which keeps what must come
+//!   before what can be reused whole.
+//! - The round of one worker and those of many: the schedule is permitted and complete; what is executed is what the
+//!   executed entries sum up to; each entry is picked rightly; and if a setup is run again by its own honest history,
+//!   each step is reused, however many workers there are.
+//! - Which steps of a history an edit can reach: they are the least set which is closed under what carries a difference
+//!   on, and a round whose executed steps work as the old ones did executes no others.
+//! - Races of a history: which pairs of its steps touch a page without an order by threads and objects.
 #![tactic(auto)]
 
-ghost use Rattle.std.specs.Prelude.{◌≡◌, ◌≢◌, ◌<◌, ◌≤◌, ◌⊎◌, ◌↔◌, ℕ, List, [], ◌∷◌, ◌++◌, All, length, slice_set, Option, Some, None, true, false, is_some};
-ghost use Rattle.record_spec.specs.Record.{Record, IsTrue};
+ghost use Rattle.std.specs.Prelude.{◌≡◌, ◌≢◌, ◌<◌, ◌≤◌, ◌⊎◌, ◌↔◌, ℕ, List, [], ◌∷◌, ◌++◌, All, length, slice_set, Option, Some, None, true, false, is_some, sum, ◌&&◌, ◌||◌, nat_lt, Bool, ◌==◌};
+ghost use Rattle.std.specs.List.{range_with_len};
+ghost use Rattle.thunk_spec.specs.Record.{Record, IsTrue};
 ghost use Rattle.machine_spec.specs.Step.{apply, fits};
 ghost use Rattle.machine_spec.specs.Whole.{IsWhole};
-ghost use Rattle.round_spec.specs.declared.events.Event.TheVariants.{Commit};
 ghost use Rattle.machine_spec.specs.Machine.{Machine, hart_of};
 ghost use Rattle.machine_spec.specs.Choice.{choice, alone};
-ghost use Rattle.machine_spec.specs.Setup.{Setup, IsSetup, first, map_of};
-ghost use Rattle.history_spec.specs.History.{History, IsHonest, IsSameProgram, IsSound, CanGoBy, IsMappedIn, IsMapped, past_records, is_numbered};
-ghost use Rattle.report_spec.specs.Report.{instructions_from};
+ghost use Rattle.machine_spec.specs.Setup.{Setup, IsSetup, first, map_of, is_permitted, is_complete};
+ghost use Rattle.history_spec.specs.History.{History, IsHonest, IsSameProgram, IsSound, CanGoBy, IsMappedIn, IsMapped, past_records, is_numbered, schedule_of, is_coherent};
+ghost use Rattle.report_spec.specs.Report.{instructions_from, threads_of};
+ghost use Rattle.order_spec.specs.Facts.{Fact, facts};
+ghost use Rattle.order_spec.specs.Before.{fact_at, meets, overlap, before_at};
+ghost use Rattle.order_spec.specs.Ancestors.{clock_at, number_at, any_below};
+ghost use Rattle.order_spec.specs.Orders.{is_order};
+ghost use Rattle.report_spec.specs.declared.Entry.{Entry};
+ghost use Rattle.round_spec.specs.declared.events.Event.TheVariants.{Commit};
 ghost use Rattle.round_spec.specs.declared.events.Event.{Event};
-ghost use Rattle.round_spec.specs.Rounds.{RoundState, none_in_flight, happens, is_in_flight, is_finished, taken_when, round_after, history_of};
-ghost use Rattle.round_spec.specs.Schedules.{IsBySchedule};
-ghost use Rattle.round_spec.specs.Choice.{choice_by};
-ghost use Rattle.round_spec.specs.Alone.{one_worker};
+ghost use Rattle.round_spec.specs.Rounds.{RoundState, none_in_flight, happens, is_in_flight, is_finished, taken_when, round_after, history_of, opening};
+ghost use Rattle.round_spec.specs.Schedules.{IsBySchedule, round_by};
+ghost use Rattle.round_spec.specs.Choice.{choice_by, pick_of};
+ghost use Rattle.round_spec.specs.Alone.{one_worker, guided_from, after_picks, lone_round};
 ghost use Rattle.round_spec.specs.Instructions.{executed_instructions};
 ghost use Rattle.round_spec.specs.Keeping.{IsCounted, IsFromScratch, IsHeld, IsInOrder};
 ghost use Rattle.round_spec.specs.Reordering.{reuses_of, ReusesInOrder};
 ghost use Rattle.round_spec.specs.Due.{place_in, has_exited, are_passed_before, is_due};
-ghost use Rattle.order_spec.specs.Facts.{Fact, facts};
-ghost use Rattle.order_spec.specs.Before.{fact_at};
-ghost use Rattle.order_spec.specs.Ancestors.{clock_at, number_at};
-ghost use Rattle.order_spec.specs.Orders.{is_order};
+ghost use Rattle.round_spec.specs.declared.events.Pick.TheVariants as pick;
+ghost use Rattle.round_spec.specs.Picking.{ArePicked, IsPickedSoFar};
+ghost use Rattle.round_spec.specs.Unedited.{IsUnedited, OnlyReuses};
+ghost use Rattle.round_spec.specs.OneWorker.{made_by, executed_in, ReusesAll};
+ghost use Rattle.round_spec.specs.Workers.{IsMadeBy, MakeFromScratch};
+ghost use Rattle.round_spec.specs.Replaying.{Repeats, IsReplaying, IsNextStep, goes_on_by};
+ghost use Rattle.round_spec.specs.Reach.{read_at, comes_to, leads_to, giver_end, is_reached, IsClosedSet, gave_at};
+ghost use Rattle.round_spec.specs.Working.{IsSameWork, ReexecutesLeast, IsWithinWork, WorksAsBefore, WorksWithin, AreInTime, ExecutesWhatIsReached};
+ghost use Rattle.round_spec.specs.Sync.{sync_facts, seen_at, is_ordered};
 
 mod events;
 
 pub use events::{Event, Pick};
+
+/// How often a watcher looks at most how many steps of a round were made.
+pub const MOST_LOOKS: usize = 1_024;
+
+/// Two steps that touch a page without an order, of which one writes it.
+#[derive(Clone, Copy)]
+pub struct Race {
+    /// The place of the earlier step.
+    pub earlier: usize,
+    /// The place of the later step.
+    pub later: usize,
+    /// The slot of the page.
+    pub slot: usize,
+    /// Whether the earlier step writes the page.
+    pub earlier_writes: bool,
+    /// Whether the later step writes it.
+    pub later_writes: bool,
+}
 
 /// What holds of every round holds at its start, and after each event: in particular, who is in flight is
 /// ready still, and no record of its next step fits. By which history the round goes doesn't matter.
@@ -189,4 +224,278 @@ pub fn every_order_is_reused_whole()
         → IsHonest h
         → is_order (facts h) places ≡ true
         → ReusesInOrder h places (round_after h.setup (Some h) (reuses_of h places)) }
+{}
+
+/// The schedule that follows the choice is permitted, and there is an end after it, within the step
+/// limit; the round of one worker comes to an end, and at no time has it discarded anything. By which
+/// history it goes doesn't matter.
+pub fn one_worker_comes_to_an_end()
+    ensures permitted { (setup : Setup) (past : Option History)
+        → IsSetup setup
+        → is_permitted setup (one_worker setup past) ≡ true }
+    ensures complete { (setup : Setup) (past : Option History)
+        → IsSetup setup
+        → is_complete setup (one_worker setup past) ≡ true }
+    ensures ends { (setup : Setup) (past : Option History)
+        → IsSetup setup
+        → is_some (lone_round setup past).machine.ending ≡ true }
+    ensures discarded { (setup : Setup) (past : Option History) (n : ℕ)
+        → IsSetup setup
+        → (after_picks n (opening setup past)).discarded ≡ 0 }
+{}
+
+/// The round of one worker that goes by a sound history is the one that its schedule makes: nobody is
+/// out, nothing was discarded, nobody stopped it, its machine and records are those from scratch, and its
+/// marks are exact. So it is after any number of picks.
+pub fn one_worker_makes_its_schedule()
+    ensures picks { (setup : Setup) (past : Option History) (n : ℕ)
+        → CanGoBy past setup
+        → after_picks n (opening setup past)
+        ≡ made_by setup past (guided_from past n (first setup)) }
+    ensures round { (setup : Setup) (past : Option History)
+        → CanGoBy past setup
+        → lone_round setup past ≡ made_by setup past (one_worker setup past) }
+    ensures threads { (setup : Setup) (past : Option History)
+        → CanGoBy past setup
+        → threads_of (lone_round setup past).schedule ≡ one_worker setup past }
+    ensures scratch { (setup : Setup) (past : Option History)
+        → CanGoBy past setup
+        → IsFromScratch (lone_round setup past) }
+{}
+
+/// What one worker does is one event after the other, whatever it goes by. So what holds of every round
+/// that events reach holds of its round, after each pick.
+pub fn one_worker_does_events()
+    ensures { (setup : Setup) (past : Option History) (n : ℕ)
+        → (events : List Event)
+        × (after_picks n (opening setup past) ≡ round_after setup past events) }
+{}
+
+/// One worker makes its round entry by entry: it is the round that its schedule makes. So a round by that
+/// schedule is one that workers make, however its steps are shared out.
+pub fn one_worker_makes_its_entries()
+    ensures round { (setup : Setup) (past : Option History)
+        → round_by setup past (lone_round setup past).schedule ≡ lone_round setup past }
+    ensures made { (workers : ℕ) (setup : Setup) (past : Option History) (worker_steps : List ℕ)
+        → IsSetup setup
+        → length worker_steps ≡ workers
+        → sum worker_steps ≡ length (lone_round setup past).schedule
+        → IsMadeBy workers setup past (lone_round setup past).schedule worker_steps }
+{}
+
+/// A round that has an end was made by the workers who share its steps, where it is where its schedule leads
+/// and was picked rightly and, without an edit, replays its history; of one worker more is owed.
+pub fn workers_make_what_comes_to_an_end()
+    ensures { (workers : ℕ) (w : RoundState) (worker_steps : List ℕ)
+        → 1 < workers
+        → IsBySchedule w
+        → is_some w.machine.ending ≡ true
+        → length worker_steps ≡ workers
+        → sum worker_steps ≡ length w.schedule
+        → ((h : History) → w.past ≡ Some h → IsUnedited h w.setup → IsReplaying h w)
+        → (IsSound w.past w.setup → IsPickedSoFar w)
+        → IsMadeBy workers w.setup w.past w.schedule worker_steps }
+{}
+
+/// A round that workers make by a sound history is the one that their schedule makes from scratch: the
+/// schedule is permitted and complete, machine and records are those from scratch, and the marks are exact.
+/// What it leaves is an honest history. One worker's round is the one that follows the choice.
+pub fn workers_make_rounds_from_scratch()
+    ensures rounds { (workers : ℕ) (setup : Setup) (past : Option History) (entries : List Entry)
+        (worker_steps : List ℕ)
+        → CanGoBy past setup
+        → IsMadeBy workers setup past entries worker_steps
+        → MakeFromScratch setup past entries }
+    ensures alone { (setup : Setup) (past : Option History) (entries : List Entry)
+        (worker_steps : List ℕ)
+        → IsMadeBy 1 setup past entries worker_steps
+        → round_by setup past entries ≡ lone_round setup past }
+{}
+
+/// Without an edit the round that workers make is all reuse of the history, however many they are.
+pub fn workers_repeat_an_unedited_round()
+    ensures threads { (workers : ℕ) (h : History) (setup : Setup) (entries : List Entry)
+        (worker_steps : List ℕ)
+        → IsUnedited h setup
+        → IsMadeBy workers setup (Some h) entries worker_steps
+        → threads_of entries ≡ schedule_of h }
+    ensures reuses { (workers : ℕ) (h : History) (setup : Setup) (entries : List Entry)
+        (worker_steps : List ℕ)
+        → IsUnedited h setup
+        → IsMadeBy workers setup (Some h) entries worker_steps
+        → OnlyReuses h (round_by setup (Some h) entries) }
+{}
+
+/// What one worker leaves that went by a sound history is an honest history.
+pub fn one_worker_leaves_an_honest_history()
+    ensures { (setup : Setup) (past : Option History)
+        → CanGoBy past setup
+        → IsHonest (history_of (lone_round setup past)) }
+{}
+
+/// One worker never has to wait: with nobody in flight there is always something to do, or the round is finished.
+/// By which history it goes doesn't matter.
+pub fn one_worker_never_waits()
+    ensures { (setup : Setup) (past : Option History) (n : ℕ)
+        → IsSetup setup
+        → pick_of (after_picks n (opening setup past)) ≢ pick.Hold }
+{}
+
+/// Each entry of the round of one worker was picked rightly, when the schedule was as long as its place.
+pub fn one_worker_picks_rightly()
+    ensures entries { (setup : Setup) (past : Option History)
+        → CanGoBy past setup
+        → ArePicked setup past (lone_round setup past).schedule (lone_round setup past).picked }
+    ensures points { (setup : Setup) (past : Option History)
+        → CanGoBy past setup
+        → (lone_round setup past).picked
+        ≡ range_with_len 0 (length (lone_round setup past).schedule) }
+{}
+
+/// As long as a step is begun only where it was picked, all that a round by a sound history does is picked
+/// rightly, whatever else happens in between: its entries, each when the schedule was as long as is kept
+/// with it, and the steps that are in flight. So it is by any number of workers.
+pub fn workers_pick_rightly()
+    ensures start { (setup : Setup) (past : Option History)
+        → CanGoBy past setup
+        → IsPickedSoFar (opening setup past) }
+    ensures event { (w : RoundState) (e : Event)
+        → CanGoBy w.past w.setup
+        → IsInOrder w
+        → IsPickedSoFar w
+        → goes_on_by (pick_of w) e ≡ true
+        → IsPickedSoFar (happens w e) }
+{}
+
+/// What one worker executes, pick by pick, sums up to the instructions of the executed entries of its
+/// schedule, as the report has them. So it does after any number of picks.
+pub fn one_worker_executes_what_is_reported()
+    ensures picks { (setup : Setup) (past : Option History) (n : ℕ)
+        → CanGoBy past setup
+        → executed_in n (opening setup past)
+        ≡ instructions_from (first setup) (after_picks n (opening setup past)).schedule }
+    ensures round { (setup : Setup) (past : Option History)
+        → CanGoBy past setup
+        → executed_in setup.limit (opening setup past)
+        ≡ instructions_from (first setup) (lone_round setup past).schedule }
+{}
+
+/// Without an edit one worker makes the history's schedule, and its round is all reuse: at no pick is a
+/// step begun, no instruction is executed, and nothing is discarded.
+pub fn no_edit_reuses_all()
+    ensures { (h : History) (setup : Setup) → IsUnedited h setup → ReusesAll h setup }
+{}
+
+/// Without an edit the same holds by any number of workers, at each moment, and whenever the history holds together,
+/// honest or not: as long as a step is begun only where it was picked, a round replays its history. Nobody is ever in
+/// flight; until it is finished, the history's next step is due, comes first, and is picked to be reused; and no
+/// instruction is executed. By an honest history the round is all reuse at its end.
+pub fn no_edit_replays_the_history()
+    ensures start { (h : History) (setup : Setup)
+        → Repeats h setup
+        → IsReplaying h (opening setup (Some h)) }
+    ensures event { (h : History) (w : RoundState) (e : Event)
+        → IsSetup h.setup
+        → is_coherent h ≡ true
+        → IsReplaying h w
+        → goes_on_by (pick_of w) e ≡ true
+        → IsReplaying h (happens w e) }
+    ensures next { (h : History) (w : RoundState)
+        → IsSetup h.setup
+        → is_coherent h ≡ true
+        → IsReplaying h w
+        → is_finished w ≡ false
+        → (t : ℕ) × IsNextStep w t }
+    ensures instructions { (h : History) (w : RoundState)
+        → IsReplaying h w
+        → instructions_from (first h.setup) w.schedule ≡ 0 }
+    ensures reuses { (h : History) (w : RoundState)
+        → IsHonest h
+        → IsReplaying h w
+        → is_some w.machine.ending ≡ true
+        → OnlyReuses h w }
+{}
+
+/// The steps that changed pages reach are the least set that has each step which reads a changed page, and
+/// each to which one of the set leads. One pass from the front tells them, since a step is led to from
+/// earlier ones alone; and what a step writes comes to those readers whose view was given no earlier.
+pub fn reached_is_the_least_closed_set()
+    ensures closed { (fs : List Fact) (reads : List (List ℕ)) (pages : List ℕ)
+        → IsClosedSet fs reads pages (is_reached fs reads pages) }
+    ensures least { (fs : List Fact) (reads : List (List ℕ)) (pages : List ℕ) (among : ℕ → Bool)
+        (j : ℕ)
+        → IsClosedSet fs reads pages among
+        → j < length fs
+        → is_reached fs reads pages j ≡ true
+        → among j ≡ true }
+    ensures pass { (fs : List Fact) (reads : List (List ℕ)) (pages : List ℕ) (j : ℕ)
+        → is_reached fs reads pages j
+        ≡ (meets pages (read_at reads j)
+        || any_below (λ i. is_reached fs reads pages i && leads_to fs reads i j) j) }
+    ensures giver { (fs : List Fact) (reads : List (List ℕ)) (w j : ℕ)
+        → comes_to fs reads w j
+        ≡ (nat_lt w (giver_end fs j) && meets (fact_at fs w).written (read_at reads j)) }
+{}
+
+/// Whatever happens to a round whose entries are picked rightly: if it works as the history that it goes by
+/// did, the old step of each entry that it executes is one that its setup reaches, and it executes no more
+/// entries than there are such steps. So it is for every round that is where its schedule leads.
+pub fn executed_entries_are_reached()
+    ensures events { (setup : Setup) (past : Option History) (events : List Event) (points : List ℕ)
+        → IsSetup setup
+        → ArePicked setup past (round_after setup past events).schedule points
+        → ReexecutesLeast (round_after setup past events) }
+    ensures schedule { (w : RoundState) (points : List ℕ)
+        → IsSetup w.setup
+        → IsBySchedule w
+        → ArePicked w.setup w.past w.schedule points
+        → ReexecutesLeast w }
+{}
+
+/// So many workers, and one alone, execute no more of a round than its setup reaches, if it works as the
+/// history that it goes by did.
+pub fn workers_reexecute_the_least()
+    ensures workers { (workers : ℕ) (setup : Setup) (past : Option History) (entries : List Entry)
+        (worker_steps : List ℕ)
+        → IsSetup setup
+        → IsMadeBy workers setup past entries worker_steps
+        → ReexecutesLeast (round_by setup past entries) }
+    ensures alone { (setup : Setup) (past : Option History)
+        → IsSetup setup
+        → ReexecutesLeast (lone_round setup past) }
+{}
+
+/// Less suffices: that each executed step writes no page which the old one doesn't, and ends in the same
+/// way, whatever it reads; and that each entry was in time, whether or not a record of another thread
+/// fitted then.
+pub fn fewer_premises_suffice()
+    ensures work { (old new : Record) → IsSameWork old new → IsWithinWork old new }
+    ensures works { (h : History) (setup : Setup) (past : Option History) (events : List Event)
+        → WorksAsBefore h (round_after setup past events)
+        → WorksWithin h (round_after setup past events) }
+    ensures picked { (setup : Setup) (h : History) (events : List Event) (points : List ℕ)
+        → ArePicked setup (Some h) (round_after setup (Some h) events).schedule points
+        → AreInTime setup (Some h) (round_after setup (Some h) events).schedule points }
+    ensures executed { (h : History) (setup : Setup) (events : List Event) (points : List ℕ)
+        → IsSetup setup
+        → WorksWithin h (round_after setup (Some h) events)
+        → AreInTime setup (Some h) (round_after setup (Some h) events).schedule points
+        → ExecutesWhatIsReached h (round_after setup (Some h) events) }
+{}
+
+/// A step comes directly before a later one by threads and objects where both are of one thread, where it gave
+/// the later one's thunk its view, or where both act on one object; no page orders them, nor does the end.
+pub fn threads_and_objects_alone_order()
+    ensures { (fs : List Fact) (i j : ℕ)
+        → before_at (sync_facts fs) i j
+        ≡ (((fact_at fs i).thread == (fact_at fs j).thread)
+        || (gave_at fs i j || overlap (fact_at fs i).objects (fact_at fs j).objects)) }
+{}
+
+/// Of each thread's steps the first ones come before a later thunk, as many as the clock of the step that gave
+/// the thunk its view counts.
+pub fn first_steps_are_ordered()
+    ensures { (fs : List Fact) (i j : ℕ)
+        → i < j
+        → is_ordered fs i j ≡ nat_lt (number_at fs i) (seen_at fs j (fact_at fs i).thread) }
 {}

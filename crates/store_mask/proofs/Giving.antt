@@ -8,8 +8,8 @@ use Rattle.std.proofs.lemmas.List.{ext_get_or}
 use Rattle.std.proofs.lemmas.Nat.Bits.{bit_at-zero, bit_at_ones, bit_at_and, bit_at_not, bit_at-lt, bit_at_above, same_from_bits}
 use Rattle.std.proofs.lemmas.Simd.{length-chunk, get_or-chunk, length-zip2, get_or-zip2, tops_compared, mask_l-mod, bit_mask_l}
 use Rattle.std.proofs.lemmas.Slice.Eq.{bytes_eq-Decides}
-use Rattle.record_spec.specs.Delta.{chosen, spread}
-use Rattle.record_spec.proofs.Merging.{merged, spread-chosen}
+use Rattle.thunk_spec.specs.Delta.{chosen, spread}
+use Rattle.thunk_spec.proofs.Merging.{merged, spread-chosen}
 use Rattle.store_mask.proofs.Picking.{length-merged, merged-at, marked_at}
 
 -- a page has written bytes at the 64 places from a place on, once they were written where a bit is set in a word

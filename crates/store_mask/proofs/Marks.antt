@@ -10,7 +10,7 @@ use Rattle.std.proofs.lemmas.List.FromFn.{get_or-map-range_with_len, length-map-
 use Rattle.std.proofs.lemmas.Nat.Bits.{bit_at_set_same, bit_at_set_other, bit_at-trailing_zeros, bit_at-zero, bit_at-lt, shr_and_one, same_from_bits_below}
 use Rattle.std.proofs.lemmas.Simd.{length-chunk, get_or-chunk, mask_l-lt, bit_mask_l}
 use Rattle.memory_spec.specs.Workspace.{no_marks}
-use Rattle.record_spec.specs.Delta.{is_stored}
+use Rattle.thunk_spec.specs.Delta.{is_stored}
 use Rattle.store_mask.specs.Flags.{flag_in, flags_in, flags_of}
 
 pub length-flags_of : (words : List ℕ) → length (flags_of words) ≡ 4096

@@ -6,8 +6,8 @@ use Rattle.std.specs.Simd.Lanes.{mask_l, chunk}
 use Rattle.std.proofs.lemmas.List.{take_all, length-take, get_or-take, get_or_past, ext_get_or}
 use Rattle.std.proofs.lemmas.Nat.Bits.{bit_at-zero}
 use Rattle.std.proofs.lemmas.Simd.{bit_mask_l, get_or-chunk}
-use Rattle.record_spec.specs.Delta.{chosen, spread}
-use Rattle.record_spec.proofs.Merging.{merged, spread-chosen}
+use Rattle.thunk_spec.specs.Delta.{chosen, spread}
+use Rattle.thunk_spec.proofs.Merging.{merged, spread-chosen}
 
 pub merged-nil : (o n : List ℕ) → merged o n [] ≡ o
 merged-nil [] n = refl

@@ -1,6 +1,6 @@
 -- What a thread's own copy of a page keeps of its stores.
 use Rattle.std.specs.Prelude.{ℕ}
-use Rattle.record_spec.specs.Delta.{PageDelta, chosen}
+use Rattle.thunk_spec.specs.Delta.{PageDelta, chosen}
 use Rattle.store_mask.specs.declared.stored.StoredPage.{StoredPage}
 
 -- The stored bytes of the page in a slot.

@@ -2,8 +2,8 @@
 
 ghost use Rattle.std.specs.Prelude.{◌≡◌, true, IfOk};
 ghost use Rattle.std.specs.Arc.{arc_value};
-ghost use Rattle.record_spec.specs.Delta.{is_stored, spread};
-ghost use Rattle.record_spec.specs.Ascending.{deltas_ascend};
+ghost use Rattle.thunk_spec.specs.Delta.{is_stored, spread};
+ghost use Rattle.thunk_spec.specs.Ascending.{deltas_ascend};
 ghost use Rattle.store_mask.specs.Stored.{delta_in};
 
 use super::mask::Mask;
@@ -22,7 +22,7 @@ pub struct OwnCopy<'a> {
     pub mask: &'a Mask,
 }
 
-/// The stored bytes of one page, at least one. A clause sees a `PageDelta` of `record_spec`.
+/// The stored bytes of one page, at least one. A clause sees a `PageDelta` of `thunk_spec`.
 ///
 /// It keeps the thread's own copy of the page whole. Where nobody else changed the page, that is what a commit makes of
 /// it, and is shared and not made anew.
@@ -37,7 +37,7 @@ pub struct PageDelta {
 impl Model for PageDelta {
     ghost use Rattle.std.specs.Prelude.{◌≡◌, true};
     ghost use Rattle.std.specs.Arc.{arc_value};
-    ghost use Rattle.record_spec.specs.Delta.{PageDelta, chosen, is_stored};
+    ghost use Rattle.thunk_spec.specs.Delta.{PageDelta, chosen, is_stored};
 
     ghost Value = { PageDelta };
 
@@ -129,7 +129,7 @@ impl PageDelta {
 }
 
 /// The stored bytes of a thunk: for each page with a store, in ascending order of slots.
-/// A clause sees the list of them, each a `PageDelta` of `record_spec`.
+/// A clause sees the list of them, each a `PageDelta` of `thunk_spec`.
 #[derive(Drop)]
 pub struct Delta {
     pages: Vec<PageDelta>,
@@ -137,8 +137,8 @@ pub struct Delta {
 
 impl Model for Delta {
     ghost use Rattle.std.specs.Prelude.{◌≡◌, List, true};
-    ghost use Rattle.record_spec.specs.Delta.{PageDelta};
-    ghost use Rattle.record_spec.specs.Ascending.{deltas_ascend};
+    ghost use Rattle.thunk_spec.specs.Delta.{PageDelta};
+    ghost use Rattle.thunk_spec.specs.Ascending.{deltas_ascend};
 
     ghost Value = { List PageDelta };
 

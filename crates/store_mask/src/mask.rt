@@ -3,7 +3,7 @@
 ghost use Rattle.std.specs.Prelude.{◌≡◌, ◌<◌, ◌≤◌, ◌+◌, ◌*◌, ◌^◌, ℕ, false, true, not, Decides, length, take, drop, slice_index, slice_index_or, slice_set, IfSome, IfNone};
 ghost use Rattle.std.specs.Simd.Lanes.{mask_l};
 ghost use Rattle.memory_spec.specs.Workspace.{no_marks};
-ghost use Rattle.record_spec.specs.Delta.{is_stored, chosen, spread};
+ghost use Rattle.thunk_spec.specs.Delta.{is_stored, chosen, spread};
 ghost use Rattle.store_mask.specs.Flags.{flags_of};
 
 use super::merging::{WORD_PLACES, gives_word, merge_word, same_between};

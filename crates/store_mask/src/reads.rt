@@ -2,13 +2,13 @@
 
 ghost use Rattle.std.specs.Prelude.{◌≡◌, true};
 ghost use Rattle.std.specs.Arc.{arc_value};
-ghost use Rattle.record_spec.specs.Ascending.{reads_ascend};
+ghost use Rattle.thunk_spec.specs.Ascending.{reads_ascend};
 
 use page_store::Page;
 use std::marker::Model;
 use std::sync::Arc;
 
-/// A page that a byte was taken from, as the view had it. A clause sees a `ReadPage` of `record_spec`.
+/// A page that a byte was taken from, as the view had it. A clause sees a `ReadPage` of `thunk_spec`.
 #[derive(Drop)]
 pub struct ReadPage {
     slot: usize,
@@ -17,7 +17,7 @@ pub struct ReadPage {
 
 impl Model for ReadPage {
     ghost use Rattle.std.specs.Arc.{arc_value};
-    ghost use Rattle.record_spec.specs.Reads.{ReadPage};
+    ghost use Rattle.thunk_spec.specs.Reads.{ReadPage};
 
     ghost Value = { ReadPage };
 
@@ -50,7 +50,7 @@ impl ReadPage {
 }
 
 /// The read pages of a thunk, in ascending order of slots.
-/// A clause sees the list of them, each a `ReadPage` of `record_spec`.
+/// A clause sees the list of them, each a `ReadPage` of `thunk_spec`.
 #[derive(Drop)]
 pub struct Reads {
     pages: Vec<ReadPage>,
@@ -58,8 +58,8 @@ pub struct Reads {
 
 impl Model for Reads {
     ghost use Rattle.std.specs.Prelude.{◌≡◌, List, true};
-    ghost use Rattle.record_spec.specs.Reads.{ReadPage};
-    ghost use Rattle.record_spec.specs.Ascending.{reads_ascend};
+    ghost use Rattle.thunk_spec.specs.Reads.{ReadPage};
+    ghost use Rattle.thunk_spec.specs.Ascending.{reads_ascend};
 
     ghost Value = { List ReadPage };
 

@@ -8,9 +8,8 @@ ghost use Rattle.guest_call.specs.Tables as tables;
 ghost use Rattle.guest_call.specs.Barriers.{uninitialised, barrier_queue, barrier_init_row, barrier_init_at, barrier_wait_row};
 ghost use Rattle.guest_call.specs.Objects.{all_uninitialised};
 
-use call_effect::Effect;
 use guest_call::{EBUSY, EINVAL, Fate, OBJECTS, THREADS, Thread, threads_are_few};
-use object_table::{all_of, at_cell};
+use object_table::{Effect, all_of, at_cell};
 use std::marker::Model;
 use std::mem;
 use wait_queue::Queue;

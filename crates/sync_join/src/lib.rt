@@ -6,8 +6,8 @@ ghost use Rattle.guest_call.specs.Queues.{waits};
 ghost use Rattle.guest_call.specs.Threads.{fresh, joins, ended_with, joined_by, member_queue, create_row, thread_exit_row, join_row};
 
 use arrayvec::ArrayVec;
-use call_effect::Effect;
 use guest_call::{EAGAIN, EDEADLK, EINVAL, ESRCH, Fate, THREADS, Thread};
+use object_table::Effect;
 use std::marker::Model;
 use wait_queue::Queue;
 

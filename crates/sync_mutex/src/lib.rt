@@ -10,9 +10,8 @@ ghost use Rattle.guest_call.specs.Conditions.{admit, admit_each};
 ghost use Rattle.guest_call.specs.Objects.{all_unlocked};
 ghost use Rattle.sync_mutex.specs.Admitting.{admit_each_at};
 
-use call_effect::Effect;
 use guest_call::{EBUSY, EDEADLK, EPERM, Fate, OBJECTS, THREADS, Thread, threads_are_few};
-use object_table::{all_of, at_cell};
+use object_table::{Effect, all_of, at_cell};
 use std::marker::Model;
 use wait_queue::Queue;
 

@@ -17,8 +17,8 @@ mod acting;
 
 pub use acting::ActedOn;
 use acting::is_object;
-use call_effect::Effect;
 use guest_call::{Call, EINVAL, EPERM, Fate, OBJECTS, Thread};
+use object_table::Effect;
 use std::alloc::{AllocError, Global};
 use std::marker::Model;
 use sync_barrier::Barriers;

@@ -10,9 +10,8 @@ ghost use Rattle.guest_call.specs.Objects.{all_unheld};
 ghost use Rattle.sync_rw.specs.Admitting.{first_admitted};
 
 use arrayvec::ArrayVec;
-use call_effect::Effect;
 use guest_call::{EAGAIN, EBUSY, EDEADLK, EPERM, Fate, OBJECTS, THREADS, Thread, threads_are_few};
-use object_table::{all_of, at_cell};
+use object_table::{Effect, all_of, at_cell};
 use std::marker::Model;
 use wait_queue::Queue;
 

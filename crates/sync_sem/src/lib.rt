@@ -7,11 +7,10 @@ ghost use Rattle.guest_call.specs.Tables as tables;
 ghost use Rattle.guest_call.specs.Semaphores.{unposted, semaphore_queue, largest_value, sem_wait_row, sem_trywait_row, sem_post_row, sem_init_row, sem_init_at};
 ghost use Rattle.guest_call.specs.Objects.{all_unposted};
 
-use call_effect::Effect;
 use guest_call::{
     EAGAIN, EBUSY, EINVAL, EOVERFLOW, Fate, OBJECTS, THREADS, Thread, threads_are_few,
 };
-use object_table::{all_of, at_cell};
+use object_table::{Effect, all_of, at_cell};
 use std::marker::Model;
 use wait_queue::Queue;
 

@@ -3,8 +3,8 @@ use Rattle.std.specs.Prelude.{◌+◌, ◌&&◌, ◌==◌, ℕ, if◌then◌else
 use Rattle.std.specs.Str.{bytes_eq}
 use Rattle.isa_spec.specs.Registers.{Registers, same_registers}
 use Rattle.memory_spec.specs.Pages.{Memory, page_of}
-use Rattle.record_spec.specs.Reads.{ReadPage}
-use Rattle.record_spec.specs.Record.{Record}
+use Rattle.thunk_spec.specs.Reads.{ReadPage}
+use Rattle.thunk_spec.specs.Record.{Record}
 
 -- Of some read pages those up to the first that differs, with it.
 abbrev pub compared_in : Memory → List ReadPage → ℕ

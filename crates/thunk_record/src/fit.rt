@@ -3,8 +3,8 @@
 ghost use Rattle.std.specs.Prelude.{◌≡◌, ◌+◌};
 ghost use Rattle.std.specs.Str.{bytes_eq};
 ghost use Rattle.memory_spec.specs.Pages.{page_of};
-ghost use Rattle.record_spec.specs.Reads.{has};
-ghost use Rattle.record_spec.specs.Record.{fits_at, may_end};
+ghost use Rattle.thunk_spec.specs.Reads.{has};
+ghost use Rattle.thunk_spec.specs.Record.{fits_at, may_end};
 ghost use Rattle.thunk_record.specs.Comparing.{compared_in, compared_for};
 
 use super::compared::Compared;
@@ -44,7 +44,7 @@ fn has_pages(table: &PageTable, reads: &[ReadPage], compared: &mut Compared) -> 
 
 /// Whether a thunk of this fuel may have ended so after so many turns: they are no more than the
 /// fuel, and just as many where the fuel ended it.
-#[tactic(auto, unfolding(record_spec::specs::Record::may_end))]
+#[tactic(auto, unfolding(thunk_spec::specs::Record::may_end))]
 fn is_within_fuel(fuel: u32, end: ThunkEnd, count: u32) -> bool
     ensures { result ≡ may_end fuel end count }
 {
@@ -66,7 +66,7 @@ pub fn fits(rec: &Record, number: u32, regs: &Regs, table: &PageTable, fuel: u32
 
 /// The same. The counter rises by the read pages that are compared: those up to the first that differs, and none where
 /// the number or the registers differ.
-#[tactic(auto, unfolding(record_spec::specs::Record::fits_at))]
+#[tactic(auto, unfolding(thunk_spec::specs::Record::fits_at))]
 pub fn fits_counted(
     rec: &Record,
     number: u32,

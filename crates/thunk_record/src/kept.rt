@@ -7,7 +7,7 @@ use std::marker::Model;
 use store_mask::{Delta, Reads};
 use thunk_spec::ThunkEnd;
 
-/// What is kept of a finished thunk. A clause sees a `Kept` of `record_spec`.
+/// What is kept of a finished thunk. A clause sees a `Kept` of `thunk_spec`.
 #[derive(Drop)]
 pub struct Kept {
     /// The pages that it took bytes from, as its view had them.
@@ -23,7 +23,7 @@ pub struct Kept {
 }
 
 impl Model for Kept {
-    ghost use Rattle.record_spec.specs.Record.{Kept};
+    ghost use Rattle.thunk_spec.specs.Record.{Kept};
 
     ghost Value = { Kept };
 
@@ -31,7 +31,7 @@ impl Model for Kept {
 }
 
 /// The thunk of a thread that had made so many steps, from its start registers on. A clause sees a
-/// `Record` of `record_spec`.
+/// `Record` of `thunk_spec`.
 #[derive(Drop)]
 pub struct Record {
     thread: u8,
@@ -41,7 +41,7 @@ pub struct Record {
 }
 
 impl Model for Record {
-    ghost use Rattle.record_spec.specs.Record.{Record};
+    ghost use Rattle.thunk_spec.specs.Record.{Record};
 
     ghost Value = { Record };
 

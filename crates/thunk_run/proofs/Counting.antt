@@ -7,7 +7,7 @@ use Rattle.thunk_spec.specs.declared.ends.Outcome.{Outcome}
 use Rattle.thunk_spec.specs.declared.ends.Outcome.TheVariants as outcome
 use Rattle.thunk_spec.specs.Turn.{Turn, turn}
 use Rattle.thunk_spec.specs.Thunk.{Frame, Thunk, thunk, turns, followed}
-use Rattle.record_spec.specs.Record.{kept_thunk}
+use Rattle.thunk_spec.specs.Record.{kept_thunk}
 use Rattle.thunk_run.specs.Running.{IsWithinFuel}
 
 -- a turn and what follows it is one turn at least, and one more than the most of what follows

@@ -5,9 +5,9 @@ use Rattle.memory_spec.specs.Pages.{Mapped, Memory, on_each, IsMemory}
 use Rattle.memory_spec.specs.Workspace.{Workspace, fresh}
 use Rattle.thunk_spec.specs.Put.{put_addresses}
 use Rattle.thunk_spec.specs.Thunk.{Frame, thunk, turns}
-use Rattle.record_spec.specs.Delta.{PageDelta, delta_from}
-use Rattle.record_spec.specs.Reads.{ReadPage, reads_from, reads_of}
-use Rattle.record_spec.specs.Record.{kept_thunk}
+use Rattle.thunk_spec.specs.Delta.{PageDelta, delta_from}
+use Rattle.thunk_spec.specs.Reads.{ReadPage, reads_from, reads_of}
+use Rattle.thunk_spec.specs.Record.{kept_thunk}
 use Rattle.priv_space.proofs.Collecting.{delta_from-laid}
 use Rattle.thunk_run.specs.TurnsOutcome.{TurnsOutcome, left_after, with_put_taken}
 use Rattle.thunk_run.proofs.Leaving.{taken_at-append}

@@ -1,7 +1,7 @@
 -- What running a thunk gives, and how many turns it makes.
 use Rattle.std.specs.Prelude.{◌≡◌, ◌≤◌, ℕ}
 use Rattle.std.specs.Arc.{arc_value}
-use Rattle.record_spec.specs.Record.{kept_thunk}
+use Rattle.thunk_spec.specs.Record.{kept_thunk}
 use Rattle.thunk_run.specs.declared.job.Job.{Job}
 use Rattle.thunk_run.specs.declared.job.Run.{Run}
 

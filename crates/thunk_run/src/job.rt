@@ -2,7 +2,7 @@
 
 ghost use Rattle.std.specs.Prelude.{◌≡◌, length};
 ghost use Rattle.std.specs.Arc.{arc_value};
-ghost use Rattle.record_spec.specs.Record.{IsTrue};
+ghost use Rattle.thunk_spec.specs.Record.{IsTrue};
 
 use page_store::PageTable;
 use rv_alu::Regs;

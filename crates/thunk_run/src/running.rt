@@ -3,7 +3,7 @@
 ghost use Rattle.std.specs.Prelude.{◌≡◌, ◌+◌, ◌≤◌, length, IfOk};
 ghost use Rattle.std.specs.Arc.{arc_value};
 ghost use Rattle.memory_spec.specs.Pages.{IsMemory};
-ghost use Rattle.record_spec.specs.Record.{kept_thunk};
+ghost use Rattle.thunk_spec.specs.Record.{kept_thunk};
 ghost use Rattle.thunk_run.specs.Running.{IsRunOf, IsWithinFuel};
 
 use super::job::{Job, Run};
@@ -108,6 +108,6 @@ pub fn execute_watched<W: Watch>(
     let rec = Record::new(job.thread, job.number, job.regs, kept);
     let rec = Arc::new(alloc, rec)?;
     let frame = Arc::try_clone(&job.frame)?;
-    record_spec::kept_is_true();
+    thunk_spec::kept_is_true();
     Ok(Run { frame, rec })
 }

@@ -6,3 +6,7 @@ pub mod TurnExamples
 pub mod ThunkExamples
 pub mod InstructionExamples
 pub mod PutExamples
+pub mod Merging
+pub mod Truth
+pub mod Fuel
+pub mod RecordExamples

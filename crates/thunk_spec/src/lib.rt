@@ -1,13 +1,19 @@
-//! A turn of a hart and a thunk of many turns, as definitions, and the law that both depend on
-//! the pages that they took bytes from and on nothing else of the view. No code but two plain types.
+//! A turn of a hart, a thunk of many turns, and what a record keeps of a thunk, as definitions; with the laws that turn
+//! and thunk depend on the pages that they took bytes from and on nothing else of the view, that a true record that
+//! fits stands for its thunk, and that it is true under another fuel if it ended within that one. No code but two
+//! plain types.
 #![tactic(auto)]
 
-ghost use Rattle.std.specs.Prelude.{◌≡◌, List};
+ghost use Rattle.std.specs.Prelude.{◌≡◌, List, ℕ, true};
 ghost use Rattle.isa_spec.specs.Registers.{Registers};
-ghost use Rattle.memory_spec.specs.Pages.{Mapped, Memory};
+ghost use Rattle.memory_spec.specs.Pages.{Mapped, Memory, IsMemory};
+ghost use Rattle.memory_spec.specs.Stores.{StoredByte, laid};
 ghost use Rattle.thunk_spec.specs.Turn.{turn};
 ghost use Rattle.thunk_spec.specs.Thunk.{Frame, thunk};
 ghost use Rattle.thunk_spec.specs.Locality.{Agree};
+ghost use Rattle.thunk_spec.specs.Delta.{delta_of, masked};
+ghost use Rattle.thunk_spec.specs.Reads.{has};
+ghost use Rattle.thunk_spec.specs.Record.{Kept, kept_thunk, IsTrue, may_end, StandsFor};
 
 mod ends;
 
@@ -26,4 +32,50 @@ pub fn thunk_is_local()
     ensures { (frame : Frame) (view other : Memory) (regs : Registers)
         → Agree frame.map view other (thunk frame view regs).taken
         → thunk frame other regs ≡ thunk frame view regs }
+{}
+
+/// Writing the masked last bytes that stores leave is laying the stores in order.
+pub fn delta_is_laid()
+    ensures { (map : List Mapped) (memory : Memory) (stores : List StoredByte)
+        → IsMemory map memory
+        → masked memory (delta_of map stores) ≡ laid map memory stores }
+{}
+
+/// What is kept of a thunk is true: on every view that has its read pages the thunk is the same.
+pub fn kept_is_true()
+    ensures { (frame : Frame) (view : Memory) (start : Registers)
+        → IsMemory frame.map view
+        → IsTrue frame start (kept_thunk frame view start) }
+{}
+
+/// The view that a thunk ran on has its read pages.
+pub fn view_has_its_reads()
+    ensures { (frame : Frame) (view : Memory) (start : Registers)
+        → has view (kept_thunk frame view start).reads ≡ true }
+{}
+
+/// What is true of start registers, on a view that has the read pages, stands for the thunk.
+pub fn true_stands_for_thunk()
+    ensures { (frame : Frame) (view memory : Memory) (start : Registers) (kept : Kept)
+        → IsTrue frame start kept
+        → has view kept.reads ≡ true
+        → IsMemory frame.map view
+        → IsMemory frame.map memory
+        → StandsFor frame view memory start kept }
+{}
+
+/// What is kept of a thunk ended within the fuel that the thunk had.
+pub fn kept_is_within_its_fuel()
+    ensures { (frame : Frame) (view : Memory) (start : Registers)
+        → may_end frame.fuel (kept_thunk frame view start).end (kept_thunk frame view start).count
+        ≡ true }
+{}
+
+/// What is true under one fuel, and ended within another, is true under the other: by a call or a trap
+/// after no more turns, or by a fuel that is the same.
+pub fn true_within_another_fuel()
+    ensures { (frame : Frame) (fuel : ℕ) (start : Registers) (kept : Kept)
+        → IsTrue frame start kept
+        → may_end fuel kept.end kept.count ≡ true
+        → IsTrue (record frame { fuel = fuel }) start kept }
 {}

@@ -12,7 +12,7 @@ use Rattle.std.proofs.Math.ListN.{length-set}
 use Rattle.isa_spec.specs.Registers.{Registers, same_registers}
 use Rattle.isa_spec.proofs.Equality.{same_registers-refl}
 use Rattle.memory_spec.specs.Pages.{Memory, page_of}
-use Rattle.record_spec.specs.Reads.{ReadPage, has}
+use Rattle.thunk_spec.specs.Reads.{ReadPage, has}
 use Rattle.why_report.specs.Differences.{numbered, first_difference, first_other_page}
 
 -- a difference is inside both lists

@@ -2,7 +2,7 @@
 use Rattle.std.proofs.Common.{◌≡◌, ◌+◌, ◌≤◌, ℕ, zero, suc, Bool, true, false, not, cond, List, [], ◌∷◌, ◌++◌, append_assoc, append-nil, length, length-append, take, drop, slice_get, Option, Some, None, refl, ap, sym, ◌∙◌, subst, arith}
 use Rattle.std.proofs.lemmas.List.{take-append-drop, length-map}
 use Rattle.std.proofs.lemmas.Bool.{and_parts}
-use Rattle.record_spec.specs.Record.{Record}
+use Rattle.thunk_spec.specs.Record.{Record}
 use Rattle.machine_spec.specs.Machine.{hart_of}
 use Rattle.machine_spec.specs.Step.{apply, can_step}
 use Rattle.machine_spec.specs.Schedule.{record_of}

@@ -7,8 +7,8 @@ use Rattle.memory_spec.specs.Pages.{Mapped}
 use Rattle.elf_spec.specs.Image.{image_pages}
 use Rattle.isa_spec.specs.Registers.{same_registers}
 use Rattle.thunk_spec.specs.Thunk.{Frame}
-use Rattle.record_spec.specs.Reads.{ReadPage, has}
-use Rattle.record_spec.specs.Record.{Record, fits_at, may_end}
+use Rattle.thunk_spec.specs.Reads.{ReadPage, has}
+use Rattle.thunk_spec.specs.Record.{Record, fits_at, may_end}
 use Rattle.machine_spec.specs.Machine.{Machine, hart_of, is_ready}
 use Rattle.machine_spec.specs.Step.{apply, fits}
 use Rattle.machine_spec.specs.Setup.{Setup, first, map_of, data_pages}

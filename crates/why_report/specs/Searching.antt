@@ -1,6 +1,6 @@
 -- What is remembered of searches.
 use Rattle.std.specs.Prelude.{◌≡◌, ◌<◌, All, List, length}
-use Rattle.record_spec.specs.Record.{Record}
+use Rattle.thunk_spec.specs.Record.{Record}
 use Rattle.round_spec.specs.Rounds.{RoundState}
 use Rattle.memo_listing.specs.Listing.{addresses_of}
 use Rattle.why_report.specs.declared.storing.Search.{Search}

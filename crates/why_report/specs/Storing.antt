@@ -1,8 +1,8 @@
 -- Which entry of a round gave a thread its view, and which one stored a byte of it.
 use Rattle.std.specs.Prelude.{ℕ, zero, suc, ◌==◌, ◌&&◌, ◌||◌, not, Bool, false, if◌then◌else◌, List, slice_get, slice_index, slice_index_or, Option, Some, None}
 use Rattle.std.specs.List.{list_any}
-use Rattle.record_spec.specs.Delta.{PageDelta}
-use Rattle.record_spec.specs.Record.{Record}
+use Rattle.thunk_spec.specs.Delta.{PageDelta}
+use Rattle.thunk_spec.specs.Record.{Record}
 use Rattle.machine_spec.specs.Machine.{Machine, hart_of, is_ready}
 
 -- Whether a step of a thread gives another, or itself, a view: that one's call returns in it, or it is created. So it is

@@ -2,7 +2,7 @@
 
 ghost use Rattle.std.specs.Prelude.{◌≡◌, ◌<◌, ◌≤◌, All, List, length, IfOk, None, Some};
 ghost use Rattle.memory_spec.specs.declared.TheConstants.{PAGE_SIZE};
-ghost use Rattle.record_spec.specs.Record.{Record as Recorded};
+ghost use Rattle.thunk_spec.specs.Record.{Record as Recorded};
 ghost use Rattle.why_report.specs.Storing.{stores, last_store};
 ghost use Rattle.why_report.specs.Searching.{IsRight};
 

@@ -4,7 +4,7 @@ ghost use Rattle.std.specs.Prelude.{◌≡◌, ◌<◌, ◌≤◌, ◌+◌, ◌=
 ghost use Rattle.std.specs.Arc.{arc_value};
 ghost use Rattle.std.specs.Option.{option_to_list};
 ghost use Rattle.isa_spec.specs.Registers.{same_registers};
-ghost use Rattle.record_spec.specs.Reads.{ReadPage as Read, has};
+ghost use Rattle.thunk_spec.specs.Reads.{ReadPage as Read, has};
 ghost use Rattle.machine_spec.specs.Machine.{hart_of, is_ready};
 ghost use Rattle.machine_spec.specs.Setup.{first, map_of};
 ghost use Rattle.machine_spec.specs.Whole.{IsWhole};

@@ -1,7 +1,7 @@
 -- What is left to prove of `known`.
 use Rattle.std.proofs.Common.{◌≡◌, ◌+◌, true, Some, eqb, List, length, refl, sym, ap, subst, ◌∙◌, arith}
 use Rattle.std.specs.List.{slice_get}
-use Rattle.record_spec.specs.Record.{Record}
+use Rattle.thunk_spec.specs.Record.{Record}
 use Rattle.machine_spec.specs.Setup.{IsSetup}
 use Rattle.machine_spec.specs.Machine.{Machine}
 use Rattle.order_spec.specs.Facts as order

@@ -1,7 +1,7 @@
 //! The stored pages of a record.
 
 ghost use Rattle.std.specs.Prelude.{◌≡◌, ◌<◌, ◌+◌, ◌*◌, ◌++◌, length, drop, OnOk};
-ghost use Rattle.record_spec.specs.Delta.{chosen};
+ghost use Rattle.thunk_spec.specs.Delta.{chosen};
 ghost use Rattle.memo_spec.specs.Encoding.{stored_page as stored_page_bytes, mask as mask_bytes};
 
 use super::numbers::put_word;

@@ -1,7 +1,7 @@
 -- Answers to the goals that the check leaves of `committed`.
 use Rattle.std.proofs.Common.{length, ◌≤◌, ap, sym, ◌∙◌, arith}
 use Rattle.std.proofs.lemmas.List.{drop_all}
-use Rattle.record_spec.specs.Delta.{masked}
+use Rattle.thunk_spec.specs.Delta.{masked}
 use Rattle.page_commit.proofs.Writing.{writes_stores}
 use Rattle.page_commit.proofs.committed.Goals as goal
 

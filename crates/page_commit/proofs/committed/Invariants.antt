@@ -1,6 +1,6 @@
 -- The table so far, with the other pages still written, is the table after all.
 use Rattle.std.proofs.Common.{◌≡◌, length, drop}
-use Rattle.record_spec.specs.Delta.{masked}
+use Rattle.thunk_spec.specs.Delta.{masked}
 use Rattle.page_commit.proofs.committed.Given as goal
 
 abbrev pub invariant-loop-stored : goal.invariant-loop-stored

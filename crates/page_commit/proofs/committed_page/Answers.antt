@@ -2,8 +2,8 @@
 use Rattle.std.proofs.Common.{◌≡◌, ℕ, ◌+◌, ◌<◌, suc, List, ◌∷◌, length, get_or, drop, sym, ap, ◌∙◌, arith}
 use Rattle.std.proofs.Math.Seq.{drop-cons}
 use Rattle.memory_spec.specs.Pages.{page_of}
-use Rattle.record_spec.specs.Delta.{PageDelta, masked, spread}
-use Rattle.record_spec.specs.Ascending.{deltas_ascend}
+use Rattle.thunk_spec.specs.Delta.{PageDelta, masked, spread}
+use Rattle.thunk_spec.specs.Ascending.{deltas_ascend}
 use Rattle.page_commit.proofs.Finding.{passed, found}
 use Rattle.page_commit.proofs.committed_page.Goals as goal
 

@@ -1,7 +1,7 @@
 -- The deltas so far are of other pages.
 use Rattle.std.proofs.Common.{◌≡◌, drop}
 use Rattle.memory_spec.specs.Pages.{page_of}
-use Rattle.record_spec.specs.Delta.{masked}
+use Rattle.thunk_spec.specs.Delta.{masked}
 use Rattle.page_commit.proofs.committed_page.Given as goal
 
 abbrev pub invariant-loop-stored : goal.invariant-loop-stored

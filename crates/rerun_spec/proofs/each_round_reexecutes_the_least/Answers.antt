@@ -1,5 +1,5 @@
 -- Answers to the goals that the check leaves of `each_round_reexecutes_the_least`.
-use Rattle.reach_spec.specs.Working.{ReexecutesLeast}
+use Rattle.round_spec.specs.Working.{ReexecutesLeast}
 use Rattle.rerun_spec.specs.Rounds.{made}
 use Rattle.rerun_spec.proofs.Ending.{valid-made-holds, round-least}
 use Rattle.rerun_spec.proofs.each_round_reexecutes_the_least.Goals as goal

@@ -1,7 +1,7 @@
 -- The first steps are told, and what they leave is kept.
 use Rattle.std.proofs.Common.{◌≡◌, map}
 use Rattle.std.specs.List.{range_with_len}
-use Rattle.reach_spec.specs.Reach.{is_reached}
+use Rattle.round_spec.specs.Reach.{is_reached}
 use Rattle.depend_graph.specs.Reaching.{slots_of_each, IsReachedPast}
 use Rattle.depend_graph.proofs.reaching.reach.Given as goal
 

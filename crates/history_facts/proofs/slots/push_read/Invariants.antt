@@ -1,6 +1,6 @@
 -- What holds at the loop of `push_read`.
 use Rattle.std.proofs.Common.{◌≡◌, ◌++◌, drop, map}
-use Rattle.record_spec.specs.Reads.{ReadPage}
+use Rattle.thunk_spec.specs.Reads.{ReadPage}
 use Rattle.history_facts.proofs.slots.push_read.Given as goal
 
 -- the slots so far, with those that are left, are all

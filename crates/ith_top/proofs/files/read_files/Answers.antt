@@ -1,7 +1,7 @@
 -- Answers to the goals that the check leaves of `read_files`.
 use Rattle.std.proofs.Common.{[], ◌∷◌}
 use Rattle.std.proofs.lemmas.Result.{err_from_is_err_and}
-use Rattle.round_inputs.specs.Lists.{bytes_of_each}
+use Rattle.edit_list.specs.Lists.{bytes_of_each}
 use Rattle.ith_words.specs.Said.{run_said}
 use Rattle.ith_top.specs.Files.{elf_named, input_named, lists_named}
 use Rattle.ith_top.proofs.Asking.{reads_both}

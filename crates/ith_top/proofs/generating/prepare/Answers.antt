@@ -5,8 +5,8 @@ use Rattle.elf_load.specs.declared.loader.LoadError.TheVariants.{Refused}
 use Rattle.elf_spec.specs.Image.{is_image}
 use Rattle.machine_spec.specs.Setup.{Setup}
 use Rattle.rerun_spec.specs.Inputs.{AreInputs}
-use Rattle.round_inputs.specs.Refusals.{WhyNoInputs, refusal_of}
-use Rattle.round_inputs.specs.declared.refusal.InputsError.TheVariants as inputs
+use Rattle.edit_list.specs.NoInputs.{WhyNoInputs, refusal_of}
+use Rattle.edit_list.specs.declared.refusal.InputsError.TheVariants as inputs
 use Rattle.guest_gen.specs.declared.making.Generated.{Generated}
 use Rattle.rerun_spec.specs.Rounds.{nothing_asked}
 use Rattle.ith_top.specs.Contents.{Plan}

@@ -2,7 +2,7 @@
 use Rattle.std.proofs.Common.{rules, ◌≡◌, true}
 use Rattle.std.proofs.lemmas.Result.{err_from_is_err_and}
 use Rattle.elf_spec.specs.Image.{is_image}
-use Rattle.round_inputs.specs.Lists.{bytes_of_each}
+use Rattle.edit_list.specs.Lists.{bytes_of_each}
 use Rattle.ith_words.specs.Words.{Runs}
 use Rattle.ith_words.specs.Said.{run_said}
 use Rattle.rerun_spec.specs.Inputs.{AreInputs}

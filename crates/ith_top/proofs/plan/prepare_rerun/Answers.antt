@@ -1,7 +1,7 @@
 -- How a rerun ends that has no plan, and what holds of its plan.
 use Rattle.std.proofs.Common.{rules, ◌≡◌, ◌∙◌, ap}
 use Rattle.std.proofs.lemmas.Result.{err_from_is_err_and}
-use Rattle.round_inputs.specs.Lists.{bytes_of_each}
+use Rattle.edit_list.specs.Lists.{bytes_of_each}
 use Rattle.machine_spec.specs.Limits.{Limits}
 use Rattle.ith_words.specs.Words.{Reruns}
 use Rattle.ith_words.specs.Said.{rerun_said}

@@ -4,7 +4,7 @@ use Rattle.history_spec.specs.History.{History}
 use Rattle.std.specs.Prelude.{option_map}
 use Rattle.std.specs.Arc.{arc_value}
 use Rattle.round_spec.specs.Rounds.{RoundState, history_of}
-use Rattle.worker_spec.specs.Workers.{IsMadeBy}
+use Rattle.round_spec.specs.Workers.{IsMadeBy}
 use Rattle.propagate.specs.Consistency.{IsOfMap}
 use Rattle.rerun_spec.specs.Rounds.{Found, Beginning, with_input}
 use Rattle.rerun_spec.specs.Reports.{is_exit}

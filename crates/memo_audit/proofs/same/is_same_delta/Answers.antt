@@ -1,7 +1,7 @@
 -- Answers to the goals that the check leaves of `is_same_delta`.
 use Rattle.std.proofs.Common.{◌≡◌, Decides, rules}
 use Rattle.std.proofs.lemmas.Slice.Eq.{bytes_eq-Decides}
-use Rattle.record_spec.specs.Delta.{chosen, spread}
+use Rattle.thunk_spec.specs.Delta.{chosen, spread}
 use Rattle.memo_audit.proofs.Comparing.{delta_same}
 use Rattle.memo_audit.proofs.same.is_same_delta.Goals as goal
 

@@ -2,7 +2,7 @@
 use Rattle.std.proofs.Common.{◌≡◌, ◌≤◌, ◌*◌, ℕ, List, length, arith, ap, ◌∙◌}
 use Rattle.std.proofs.lemmas.List.{length-replicate}
 use Rattle.memory_spec.specs.Pages.{zero_page}
-use Rattle.record_spec.specs.Delta.{is_stored}
+use Rattle.thunk_spec.specs.Delta.{is_stored}
 use Rattle.memo_spec.specs.Reading.{marks_of}
 use Rattle.memo_spec.proofs.Formats.{AreBytes-of}
 use Rattle.memo_spec.proofs.Masks.{length_marks, stored_marks}

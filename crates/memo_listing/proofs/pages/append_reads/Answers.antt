@@ -1,6 +1,6 @@
 -- The page is one of those behind the first.
 use Rattle.std.proofs.Common.{◌<◌, length, sym, subst, arith}
-use Rattle.record_spec.specs.Reads.{ReadPage}
+use Rattle.thunk_spec.specs.Reads.{ReadPage}
 use Rattle.memo_listing.proofs.Entries.{address_next, later_in_range}
 use Rattle.memo_listing.proofs.pages.append_reads.Goals as goal
 

@@ -1,6 +1,6 @@
 -- The page is one of those behind the first.
 use Rattle.std.proofs.Common.{◌<◌, length, sym, subst, arith}
-use Rattle.record_spec.specs.Delta.{PageDelta}
+use Rattle.thunk_spec.specs.Delta.{PageDelta}
 use Rattle.memo_listing.proofs.Entries.{address_next, later_in_range}
 use Rattle.memo_listing.proofs.pages.append_writes.Goals as goal
 

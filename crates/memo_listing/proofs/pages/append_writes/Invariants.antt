@@ -1,7 +1,7 @@
 -- The addresses so far stand, each after a comma, behind what was there.
 use Rattle.std.proofs.Common.{◌≡◌, ◌++◌, take, flat_map}
 use Rattle.std.specs.Prelude.{codes}
-use Rattle.record_spec.specs.Delta.{PageDelta}
+use Rattle.thunk_spec.specs.Delta.{PageDelta}
 use Rattle.memo_listing.specs.Listing.{address_text}
 use Rattle.memo_listing.proofs.pages.append_writes.Given as goal
 

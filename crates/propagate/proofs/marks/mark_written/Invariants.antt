@@ -1,6 +1,6 @@
 -- What holds at the loop of `mark_written`.
 use Rattle.std.proofs.Common.{◌≡◌, drop, map}
-use Rattle.record_spec.specs.Delta.{PageDelta}
+use Rattle.thunk_spec.specs.Delta.{PageDelta}
 use Rattle.propagate.specs.Alike.{marked}
 use Rattle.propagate.proofs.marks.mark_written.Given as goal
 

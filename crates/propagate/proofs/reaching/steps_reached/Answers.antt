@@ -3,10 +3,10 @@ use Rattle.std.proofs.Common.{◌≡◌, ℕ, Bool, List, Vec, length, ap, sym, 
 use Rattle.std.specs.Global.{Global}
 use Rattle.std.proofs.lemmas.List.{length-map}
 use Rattle.std.proofs.lemmas.List.FromFn.{length-map-range_with_len}
-use Rattle.record_spec.specs.Record.{Record}
+use Rattle.thunk_spec.specs.Record.{Record}
 use Rattle.order_spec.specs.Facts.{Fact, read_slots}
 use Rattle.round_spec.proofs.Placed.{facts-length}
-use Rattle.reach_spec.specs.Reach.{is_reached}
+use Rattle.round_spec.specs.Reach.{is_reached}
 use Rattle.depend_graph.specs.Reaching.{slots_of_each}
 use Rattle.propagate.proofs.reaching.steps_reached.Goals as goal
 

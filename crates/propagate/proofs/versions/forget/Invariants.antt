@@ -1,6 +1,6 @@
 -- What holds at the loop of `forget`.
 use Rattle.std.proofs.Common.{◌≡◌, drop, map, None}
-use Rattle.record_spec.specs.Delta.{PageDelta}
+use Rattle.thunk_spec.specs.Delta.{PageDelta}
 use Rattle.propagate.specs.Versions.{with_each}
 use Rattle.propagate.proofs.versions.forget.Given as goal
 

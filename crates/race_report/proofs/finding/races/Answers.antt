@@ -5,9 +5,9 @@ use Rattle.std.proofs.lemmas.List.{length-set, get_or_default}
 use Rattle.memory_spec.specs.Pages.{Mapped}
 use Rattle.machine_spec.specs.Setup.{Setup, map_of}
 use Rattle.order_spec.specs.Facts.{facts}
-use Rattle.reach_spec.specs.Reach.{reads_of}
-use Rattle.race_spec.specs.declared.Race.{Race}
-use Rattle.race_spec.specs.Races.{is_race, races_between}
+use Rattle.round_spec.specs.Reach.{reads_of}
+use Rattle.round_spec.specs.declared.Race.{Race}
+use Rattle.round_spec.specs.Races.{is_race, races_between}
 use Rattle.race_report.specs.declared.touches.Touch.{Touch}
 use Rattle.race_report.specs.declared.past.Access.{Access}
 use Rattle.race_report.specs.Past.{accesses_of, races_with, is_misplaced}

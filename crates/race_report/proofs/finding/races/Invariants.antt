@@ -2,8 +2,8 @@
 use Rattle.std.proofs.Common.{◌≡◌, ◌<◌, ◌≤◌, ◌+◌, ◌++◌, ◌⊎◌, ℕ, [], length, get_or}
 use Rattle.std.specs.List.{range_with_len, flat_map}
 use Rattle.order_spec.specs.Facts.{facts}
-use Rattle.reach_spec.specs.Reach.{reads_of}
-use Rattle.race_spec.specs.Races.{races_between}
+use Rattle.round_spec.specs.Reach.{reads_of}
+use Rattle.round_spec.specs.Races.{races_between}
 use Rattle.race_report.specs.declared.past.PagePast.{PagePast}
 use Rattle.race_report.specs.declared.steps.Step.{Step}
 use Rattle.race_report.specs.Rows.{IsCounted}

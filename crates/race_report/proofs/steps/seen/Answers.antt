@@ -2,8 +2,8 @@
 use Rattle.std.proofs.Common.{◌≡◌, ◌-◌, ℕ, suc, List, ap, sym, ◌∙◌, arith}
 use Rattle.order_spec.specs.Facts.{Fact}
 use Rattle.order_spec.specs.Ancestors.{clock_at}
-use Rattle.reach_spec.specs.Reach.{giver_end}
-use Rattle.race_spec.specs.Sync.{sync_facts, count_within, seen_at}
+use Rattle.round_spec.specs.Reach.{giver_end}
+use Rattle.round_spec.specs.Sync.{sync_facts, count_within, seen_at}
 use Rattle.race_report.proofs.steps.seen.Goals as goal
 
 none-seen : (fs : List Fact) (i t : ℕ) → giver_end fs i ≡ 0 → 0 ≡ seen_at fs i t

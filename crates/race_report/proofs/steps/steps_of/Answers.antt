@@ -5,14 +5,14 @@ use Rattle.std.proofs.lemmas.Bool.{cases_eq, cases_lt, eq-eqb}
 use Rattle.std.proofs.lemmas.Bool.Decides.{nat_tests}
 use Rattle.std.proofs.lemmas.List.{get_or_read, get_or-replicate, get_or-set_same, get_or-set_other, length-set, get_or_append_left, get_or_push, length_push}
 use Rattle.machine_spec.specs.Setup.{map_of}
-use Rattle.record_spec.specs.Record.{Record}
+use Rattle.thunk_spec.specs.Record.{Record}
 use Rattle.history_spec.specs.History.{History, IsMappedIn}
 use Rattle.order_spec.specs.Facts.{Fact, facts, written_slots}
 use Rattle.order_spec.specs.Before.{fact_at, no_fact}
 use Rattle.order_spec.specs.Ancestors.{count_below}
-use Rattle.reach_spec.specs.Reach.{reads_of}
+use Rattle.round_spec.specs.Reach.{reads_of}
 use Rattle.release_core.specs.Records.{AreOfRun}
-use Rattle.race_spec.specs.Sync.{seen_at}
+use Rattle.round_spec.specs.Sync.{seen_at}
 use Rattle.race_report.specs.declared.steps.Step.{Step}
 use Rattle.race_report.specs.Touches.{touches_in}
 use Rattle.race_report.specs.Steps.{IsStep, AreSteps}

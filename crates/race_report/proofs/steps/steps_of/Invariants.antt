@@ -3,7 +3,7 @@ use Rattle.std.proofs.Common.{◌≡◌, ◌<◌, ℕ, eqb, length, slice_index,
 use Rattle.guest_call.specs.declared.thread_number.TheConstants.{THREADS}
 use Rattle.order_spec.specs.Before.{fact_at}
 use Rattle.order_spec.specs.Ancestors.{count_below}
-use Rattle.reach_spec.specs.Reach.{reads_of}
+use Rattle.round_spec.specs.Reach.{reads_of}
 use Rattle.race_report.specs.declared.steps.Step.{Step}
 use Rattle.race_report.specs.Steps.{IsStep}
 use Rattle.race_report.proofs.steps.steps_of.Given as goal

@@ -1,7 +1,7 @@
 -- The slots of a record's pages ascend.
 use Rattle.std.proofs.Common.{◌≡◌, ◌<◌, List, [], ◌∷◌, ℕ, zero, suc, All, true, map, ap, ap₂, sym, ◌∙◌, subst, arith}
-use Rattle.record_spec.specs.Delta.{PageDelta}
-use Rattle.record_spec.specs.Reads.{ReadPage}
+use Rattle.thunk_spec.specs.Delta.{PageDelta}
+use Rattle.thunk_spec.specs.Reads.{ReadPage}
 use Rattle.race_report.specs.Touches.{ascends, touches_in}
 use Rattle.race_report.proofs.Merging.{reads-ascend, deltas-ascend}
 use Rattle.race_report.proofs.touches.touches_of.Goals as goal

@@ -2,7 +2,7 @@
 use Rattle.std.proofs.Common.{◌≡◌, ℕ, List, ◌+◌, ◌-◌, ◌++◌, refl, ap, sym, ◌∙◌, arith}
 use Rattle.std.specs.List.{range_with_len}
 use Rattle.thunk_spec.specs.Put.{bytes_at}
-use Rattle.record_spec.specs.Delta.{masked}
+use Rattle.thunk_spec.specs.Delta.{masked}
 use Rattle.release_core.proofs.Putting.{bytes_apart}
 use Rattle.release_core.proofs.put.bytes_of.Goals as goal
 use Rattle.release_core.proofs.put.bytes_of.Goals.{then-first-len+in_ok-push_part-2, else-first-len}

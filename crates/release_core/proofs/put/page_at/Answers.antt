@@ -1,6 +1,6 @@
 -- What is left to prove of `page_at`.
 use Rattle.std.proofs.Common.{◌%◌, get_or, ap, ◌∙◌}
-use Rattle.record_spec.specs.Delta.{masked}
+use Rattle.thunk_spec.specs.Delta.{masked}
 use Rattle.release_core.proofs.Applying.{masked_count}
 use Rattle.release_core.proofs.Putting.{no_page}
 use Rattle.release_core.proofs.put.page_at.Goals as goal

@@ -3,7 +3,7 @@ use Rattle.std.proofs.Common.{◌≡◌, ℕ, List, ◌+◌, ◌-◌, ◌%◌, �
 use Rattle.std.specs.Simd.Lanes.{chunk}
 use Rattle.std.specs.List.{range_with_len}
 use Rattle.thunk_spec.specs.Put.{bytes_at}
-use Rattle.record_spec.specs.Delta.{masked}
+use Rattle.thunk_spec.specs.Delta.{masked}
 use Rattle.release_core.proofs.Putting.{page_part}
 use Rattle.release_core.proofs.put.push_part.Goals as goal
 

@@ -1,6 +1,6 @@
 -- What is left to prove of `run_by_first_watched`.
 use Rattle.std.proofs.Common.{rules, ◌≡◌, [], ◌∷◌, length, sym, subst}
-use Rattle.worker_spec.specs.Watching.{IsProgress}
+use Rattle.round_spec.specs.Watching.{IsProgress}
 use Rattle.rerun_workers.proofs.Made.{only-last}
 use Rattle.rerun_workers.proofs.running.run_by_first_watched.Goals as goal
 

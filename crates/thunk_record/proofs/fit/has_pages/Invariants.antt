@@ -1,6 +1,6 @@
 -- What holds at the loops of `has_pages`.
 use Rattle.std.proofs.Common.{◌≡◌, ◌+◌, drop}
-use Rattle.record_spec.specs.Reads.{has}
+use Rattle.thunk_spec.specs.Reads.{has}
 use Rattle.thunk_record.specs.Comparing.{compared_in}
 use Rattle.thunk_record.proofs.fit.has_pages.Given as goal
 

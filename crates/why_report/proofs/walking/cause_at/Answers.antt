@@ -1,7 +1,7 @@
 -- What is left to prove of `cause_at`.
 use Rattle.std.proofs.Common.{◌<◌, ℕ, Some, All, length, subst, ap, sym, ◌∙◌}
-use Rattle.record_spec.specs.Reads.{ReadPage}
-use Rattle.record_spec.specs.Record.{Record}
+use Rattle.thunk_spec.specs.Reads.{ReadPage}
+use Rattle.thunk_spec.specs.Record.{Record}
 use Rattle.machine_spec.specs.Setup.{map_of}
 use Rattle.history_spec.specs.History.{found}
 use Rattle.memo_listing.specs.Listing.{addresses_of}

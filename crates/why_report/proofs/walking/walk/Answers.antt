@@ -2,7 +2,7 @@
 use Rattle.std.proofs.Common.{◌+◌, ◌==◌, ◌&&◌, ◌||◌, not, ℕ, Bool, false, if◌then◌else◌, List, slice_index, slice_index_or, add-one, Some, ap, sym, subst, ◌∙◌}
 use Rattle.report_spec.specs.declared.Entry.{Entry}
 use Rattle.machine_spec.specs.Machine.{hart_of, is_ready}
-use Rattle.record_spec.specs.Record.{Record}
+use Rattle.thunk_spec.specs.Record.{Record}
 use Rattle.machine_spec.specs.Whole.{IsWhole}
 use Rattle.history_spec.proofs.Applying.{apply-whole}
 use Rattle.why_report.proofs.Entries.{entry-record}

@@ -3,7 +3,7 @@ use Rattle.std.proofs.Common.{◌≡◌, ◌<◌, List, length, map, get_or, ap,
 use Rattle.std.proofs.lemmas.List.{take_all, length-map, get_or-map}
 use Rattle.order_spec.specs.Facts.{Fact}
 use Rattle.order_spec.specs.Before.{no_fact}
-use Rattle.race_spec.specs.Sync.{sync_fact}
+use Rattle.round_spec.specs.Sync.{sync_fact}
 use Rattle.depend_graph.proofs.graph.Graph.of_sync.Goals as goal
 
 pub of-requires-clause-threads : goal.of-requires-clause-threads

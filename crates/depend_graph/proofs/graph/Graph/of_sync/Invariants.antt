@@ -1,6 +1,6 @@
 -- The facts so far without their pages.
 use Rattle.std.proofs.Common.{◌≡◌, map, take}
-use Rattle.race_spec.specs.Sync.{sync_fact}
+use Rattle.round_spec.specs.Sync.{sync_fact}
 use Rattle.depend_graph.proofs.graph.Graph.of_sync.Given as goal
 
 abbrev pub invariant-loop-fact : goal.invariant-loop-fact

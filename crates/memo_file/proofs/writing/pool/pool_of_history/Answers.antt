@@ -2,7 +2,7 @@
 use Rattle.std.proofs.Common.{◌≡◌, ◌≤◌, List, length, Some, refl, sym, ap, ◌∙◌, arith}
 use Rattle.std.specs.Prelude.{slice_get}
 use Rattle.std.specs.Arc.{arc_value}
-use Rattle.record_spec.specs.Record.{Record}
+use Rattle.thunk_spec.specs.Record.{Record}
 use Rattle.memo_file.proofs.WritingPool.{nothing_indexed, reads_within, pool_on, places_on, pool_done}
 use Rattle.memo_file.proofs.WritingSizes.{few_read, few_in_pool}
 use Rattle.memo_file.proofs.writing.pool.pool_of_history.Goals as goal

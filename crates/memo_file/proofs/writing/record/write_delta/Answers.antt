@@ -2,7 +2,7 @@
 use Rattle.std.proofs.Common.{◌≡◌, ◌<◌, length, Some, refl, sym, subst}
 use Rattle.std.specs.Prelude.{slice_get}
 use Rattle.std.proofs.lemmas.Option.{slice_get_read}
-use Rattle.record_spec.specs.Delta.{PageDelta}
+use Rattle.thunk_spec.specs.Delta.{PageDelta}
 use Rattle.memo_spec.specs.Encoding.{stored_page}
 use Rattle.memo_file.proofs.WritingRecords.{one_written, all_written}
 use Rattle.memo_file.proofs.writing.record.write_delta.Goals as goal

@@ -2,7 +2,7 @@
 use Rattle.std.proofs.Common.{◌≡◌, List, Some, sym, ap, subst, ◌∙◌, arith}
 use Rattle.std.specs.Prelude.{slice_get}
 use Rattle.std.specs.Arc.{arc_value}
-use Rattle.record_spec.specs.Record.{Record}
+use Rattle.thunk_spec.specs.Record.{Record}
 use Rattle.memo_file.specs.WritingSizes.{record_size, HasFewPages}
 use Rattle.memo_file.proofs.WritingSizes.{few_in_record, sum_from}
 use Rattle.memo_file.proofs.writing.sizes.size_of_memo.Goals as goal

@@ -1,6 +1,6 @@
 -- The bytes at marked places are as many as the marks.
 use Rattle.std.proofs.Common.{◌+◌, ◌≤◌, ℕ, length, sym, ap, ◌∙◌, arith}
-use Rattle.record_spec.specs.Delta.{PageDelta}
+use Rattle.thunk_spec.specs.Delta.{PageDelta}
 use Rattle.memo_file.proofs.WritingMasks.{length_chosen}
 use Rattle.memo_file.proofs.writing.sizes.size_of_stored.Goals as goal
 

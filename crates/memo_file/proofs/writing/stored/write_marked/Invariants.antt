@@ -1,6 +1,6 @@
 -- What was written, and the marked bytes that are left. A word says how many places there are.
 use Rattle.std.proofs.Common.{◌≡◌, ◌<◌, ◌*◌, ◌++◌, drop, length}
-use Rattle.record_spec.specs.Delta.{chosen}
+use Rattle.thunk_spec.specs.Delta.{chosen}
 use Rattle.memo_file.proofs.writing.stored.write_marked.Given as goal
 
 abbrev pub invariant-loop-number : goal.invariant-loop-number

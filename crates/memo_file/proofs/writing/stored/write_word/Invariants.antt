@@ -1,7 +1,7 @@
 -- What was written, the marks of the word that are left, and the marked bytes that are.
 use Rattle.std.proofs.Common.{◌≡◌, ◌+◌, ◌-◌, ◌*◌, ◌≤◌, ◌++◌, drop}
 use Rattle.std.specs.Simd.Lanes.{mask_l}
-use Rattle.record_spec.specs.Delta.{chosen}
+use Rattle.thunk_spec.specs.Delta.{chosen}
 use Rattle.store_mask.proofs.Words.{marks_left}
 use Rattle.memo_file.proofs.writing.stored.write_word.Given as goal
 

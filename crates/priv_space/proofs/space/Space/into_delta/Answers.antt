@@ -2,7 +2,7 @@
 use Rattle.std.proofs.Common.{◌+◌, ◌++◌, length, ap, ◌∙◌, arith}
 use Rattle.std.proofs.lemmas.List.{length-set}
 use Rattle.memory_spec.specs.Pages.{page_of}
-use Rattle.record_spec.specs.Ascending.{deltas_ascend}
+use Rattle.thunk_spec.specs.Ascending.{deltas_ascend}
 use Rattle.priv_space.specs.Slots.{untouched}
 use Rattle.priv_space.proofs.Collecting.{collects-deltas, collected_next, collected_all, deltas_left, deltas_left-set, delta_from-ascend}
 use Rattle.priv_space.proofs.space.Space.into_delta.Goals as goal

@@ -1,6 +1,6 @@
 -- The pages so far, with what the slots still give, are all.
 use Rattle.std.proofs.Common.{◌≡◌, ◌++◌, ◌-◌, length}
-use Rattle.record_spec.specs.Delta.{delta_from}
+use Rattle.thunk_spec.specs.Delta.{delta_from}
 use Rattle.priv_space.proofs.Collecting.{deltas_left}
 use Rattle.priv_space.proofs.space.Space.into_delta.Given as goal
 

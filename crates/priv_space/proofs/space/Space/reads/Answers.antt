@@ -1,7 +1,7 @@
 -- Answers to the goals that the check leaves of `reads`.
 use Rattle.std.proofs.Common.{map, ap, ◌∙◌, arith}
 use Rattle.std.specs.Arc.{arc_value}
-use Rattle.record_spec.specs.Ascending.{reads_ascend}
+use Rattle.thunk_spec.specs.Ascending.{reads_ascend}
 use Rattle.priv_space.specs.Slots.{slot_taken}
 use Rattle.priv_space.proofs.Collecting.{collects-reads, collected_next, collected_all, reads_from-ascend}
 use Rattle.priv_space.proofs.space.Space.reads.Goals as goal

@@ -2,7 +2,7 @@
 use Rattle.std.proofs.Common.{◌≡◌, false, length, Some, None, option_map, sym, subst, ◌∙◌}
 use Rattle.std.specs.Arc.{arc_value}
 use Rattle.std.specs.List.{slice_get}
-use Rattle.record_spec.specs.Record.{Record}
+use Rattle.thunk_spec.specs.Record.{Record}
 use Rattle.history_spec.specs.History.{past_records}
 use Rattle.round_spec.specs.Rounds.{RoundState, is_finished}
 use Rattle.round_spec.specs.Choice.{choice_by}

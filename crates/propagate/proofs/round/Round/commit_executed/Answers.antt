@@ -2,7 +2,7 @@
 use Rattle.std.proofs.Common.{◌≡◌, ◌<◌, ◌≤◌, ◌+◌, ℕ, Bool, false, set, length, Option, Vec, is_some, option_map, refl, ap, sym, subst, ◌∙◌, arith}
 use Rattle.std.specs.Arc.{arc_value}
 use Rattle.std.specs.Global.{Global}
-use Rattle.record_spec.specs.Record.{Record}
+use Rattle.thunk_spec.specs.Record.{Record}
 use Rattle.round_spec.specs.declared.events.Event.TheVariants.{Take, Commit}
 use Rattle.round_spec.specs.Rounds.{RoundState, happens}
 use Rattle.propagate.specs.Committing.{CanCommit, picked_at}

@@ -2,7 +2,7 @@
 use Rattle.std.proofs.Common.{◌≡◌, ◌&&◌, ℕ, Bool, List, ap, ap₂, sym, subst, ◌∙◌}
 use Rattle.isa_spec.specs.Registers.{same_registers}
 use Rattle.memory_spec.specs.Pages.{Memory}
-use Rattle.record_spec.specs.Reads.{ReadPage, has}
+use Rattle.thunk_spec.specs.Reads.{ReadPage, has}
 use Rattle.machine_spec.specs.Machine.{hart_of}
 use Rattle.round_spec.specs.Rounds.{RoundState}
 use Rattle.round_spec.specs.Due.{place_in}

@@ -1,7 +1,7 @@
 -- What is left to prove of `Round::pick`.
 use Rattle.std.proofs.Common.{true, false, sym, subst, ◌∙◌}
 use Rattle.machine_spec.specs.Setup.{IsSetup}
-use Rattle.worker_spec.proofs.Replay.{chosen-place}
+use Rattle.round_spec.proofs.Replay.{chosen-place}
 use Rattle.propagate.proofs.Choosing.{pick-over, pick-stopped, pick-hold, pick-chosen, picked-run, hold-none_due}
 use Rattle.propagate.proofs.round.Round.pick.Goals as goal
 

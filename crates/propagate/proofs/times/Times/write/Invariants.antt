@@ -1,6 +1,6 @@
 -- What holds at the loop of `Times::write`.
 use Rattle.std.proofs.Common.{◌≡◌, drop, map}
-use Rattle.record_spec.specs.Delta.{PageDelta}
+use Rattle.thunk_spec.specs.Delta.{PageDelta}
 use Rattle.propagate.specs.Versions.{with_each}
 use Rattle.propagate.proofs.times.Times.write.Given as goal
 

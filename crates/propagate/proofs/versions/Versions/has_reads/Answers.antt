@@ -5,7 +5,7 @@ use Rattle.std.specs.Str.{bytes_eq}
 use Rattle.std.proofs.lemmas.Grind.{common_steps}
 use Rattle.std.proofs.lemmas.Option.{gets}
 use Rattle.memory_spec.specs.Pages.{page_of}
-use Rattle.record_spec.specs.Reads.{has}
+use Rattle.thunk_spec.specs.Reads.{has}
 use Rattle.propagate.specs.Versions.{knows_read, unknown_in}
 use Rattle.propagate.proofs.KnownPages.{has-more, unknown-more}
 use Rattle.propagate.proofs.versions.Versions.has_reads.Goals as goal

@@ -1,6 +1,6 @@
 -- What holds at the loop of `Versions::has_reads`.
 use Rattle.std.proofs.Common.{◌≡◌, ◌+◌, drop}
-use Rattle.record_spec.specs.Reads.{has}
+use Rattle.thunk_spec.specs.Reads.{has}
 use Rattle.propagate.specs.Versions.{knows_read, unknown_in}
 use Rattle.propagate.proofs.versions.Versions.has_reads.Given as goal
 

@@ -5,7 +5,7 @@ use Rattle.std.specs.List.Sorted.{IsNonDecreasingBy}
 use Rattle.std.proofs.lemmas.List.{length-append}
 use Rattle.std.proofs.lemmas.List.Kept.{IsNonDecreasingBy-filter}
 use Rattle.std.proofs.lemmas.List.Sums.{length-filter, count_by-le-length}
-use Rattle.race_spec.specs.declared.Race.{Race}
+use Rattle.round_spec.specs.declared.Race.{Race}
 use Rattle.race_report.specs.declared.past.Access.{Access}
 use Rattle.race_report.specs.declared.past.ThreadPast.{ThreadPast}
 use Rattle.race_report.specs.Past.{races_with}

@@ -2,7 +2,7 @@
 use Rattle.std.proofs.Common.{◌≡◌, ◌<◌, ◌+◌, ℕ, false, ◌++◌, [], ◌∷◌, List, length, get_or, set, ap, sym, ◌∙◌, arith}
 use Rattle.std.specs.List.{flat_map}
 use Rattle.std.proofs.lemmas.List.{get_or_default, length-set}
-use Rattle.race_spec.specs.declared.Race.{Race}
+use Rattle.round_spec.specs.declared.Race.{Race}
 use Rattle.race_report.specs.declared.past.Access.{Access}
 use Rattle.race_report.specs.Rows.{race_with}
 use Rattle.race_report.proofs.Filling.{races-front, row-more}

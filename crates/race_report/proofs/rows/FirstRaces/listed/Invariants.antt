@@ -1,7 +1,7 @@
 -- The races of the first rows, as many as are wanted.
 use Rattle.std.proofs.Common.{◌≡◌, List, take}
 use Rattle.std.specs.List.{flat_map}
-use Rattle.race_spec.specs.declared.Race.{Race}
+use Rattle.round_spec.specs.declared.Race.{Race}
 use Rattle.race_report.proofs.rows.FirstRaces.listed.Given as goal
 
 abbrev pub invariant-loop-row : goal.invariant-loop-row

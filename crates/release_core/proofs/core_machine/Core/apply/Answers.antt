@@ -2,8 +2,8 @@
 use Rattle.std.proofs.Common.{◌≡◌, ℕ, true, ◌+◌, suc, ◌++◌, slice_set, refl, ap, sym, subst, ◌∙◌, arith}
 use Rattle.std.proofs.lemmas.Grind.{common_steps}
 use Rattle.std.specs.Arc.{arc_value}
-use Rattle.record_spec.specs.Delta.{masked}
-use Rattle.record_spec.specs.Record.{Record, put_of}
+use Rattle.thunk_spec.specs.Delta.{masked}
+use Rattle.thunk_spec.specs.Record.{Record, put_of}
 use Rattle.machine_spec.specs.Machine.{Machine, Hart, hart_in, hart_of, is_ready}
 use Rattle.machine_spec.proofs.Harts.{ready-below}
 use Rattle.std.proofs.lemmas.Bool.{and_parts}

@@ -2,7 +2,7 @@
 use Rattle.std.proofs.Common.{◌≡◌, ◌∷◌, [], ◌++◌, List, subst, map, length, take, ◌-◌, slice_set, slice_index_or, arith}
 use Rattle.std.proofs.lemmas.Grind.{common_steps}
 use Rattle.std.specs.Arc.{arc_value}
-use Rattle.record_spec.specs.Record.{Record}
+use Rattle.thunk_spec.specs.Record.{Record}
 use Rattle.release_core.specs.Records.{IsIndexed}
 use Rattle.release_core.proofs.Placing.{indexed-less}
 use Rattle.release_core.proofs.records.Records.pop.Goals as goal

@@ -2,7 +2,7 @@
 use Rattle.std.proofs.Common.{◌≡◌, ◌∷◌, [], ◌++◌, List, ℕ, ap, sym, subst, map, length, slice_set, slice_index_or, ◌<◌, ◌∙◌, eqb, count_by, arith}
 use Rattle.std.proofs.lemmas.Grind.{common_steps}
 use Rattle.std.specs.Arc.{arc_value}
-use Rattle.record_spec.specs.Record.{Record}
+use Rattle.thunk_spec.specs.Record.{Record}
 use Rattle.history_spec.specs.History.{threads_of_records}
 use Rattle.release_core.proofs.Placing.{indexed-more}
 use Rattle.release_core.proofs.records.Records.push.Goals as goal

@@ -1,6 +1,6 @@
 -- Answers to the goals that the check leaves of `merge`.
 use Rattle.std.proofs.Common.{◌≡◌, ◌+◌, ◌*◌, length, take, arith, sym, ap, subst, ◌∙◌}
-use Rattle.record_spec.proofs.Merging.{merged}
+use Rattle.thunk_spec.proofs.Merging.{merged}
 use Rattle.store_mask.proofs.Picking.{HasWord, merged-nil, merged-word, merged-all, no_word}
 use Rattle.store_mask.proofs.mask.Mask.merge.Goals as goal
 use Rattle.store_mask.proofs.mask.Mask.merge.Goals.{then-word-ne0, else-word-ne0}

@@ -1,6 +1,6 @@
 -- The page is merged at the places of the words so far. A word says how many places there are.
 use Rattle.std.proofs.Common.{◌≡◌, ◌<◌, ◌*◌, length, take}
-use Rattle.record_spec.proofs.Merging.{merged}
+use Rattle.thunk_spec.proofs.Merging.{merged}
 use Rattle.store_mask.proofs.mask.Mask.merge.Given as goal
 
 abbrev pub invariant-loop-number : goal.invariant-loop-number

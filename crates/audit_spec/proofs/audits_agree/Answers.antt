@@ -1,7 +1,0 @@
--- Answers to the goals that the check leaves of `audits_agree`.
-use Rattle.machine_spec.specs.Setup.{first}
-use Rattle.audit_spec.proofs.Making.{one-first}
-use Rattle.audit_spec.proofs.audits_agree.Goals as goal
-
-pub returns : goal.returns
-returns c = λ h a b. one-first (first h.setup) h.records a b

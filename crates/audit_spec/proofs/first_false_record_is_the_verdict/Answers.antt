@@ -1,6 +1,0 @@
--- Answers to the goals that the check leaves of `first_false_record_is_the_verdict`.
-use Rattle.audit_spec.proofs.Making.{verdict-by}
-use Rattle.audit_spec.proofs.first_false_record_is_the_verdict.Goals as goal
-
-pub returns : goal.returns
-returns c = verdict-by

@@ -1,0 +1,7 @@
+-- Answers to the goals that the check leaves of `audits_agree`.
+use Rattle.machine_spec.specs.Setup.{first}
+use Rattle.history_spec.proofs.Making.{one-first}
+use Rattle.history_spec.proofs.audits_agree.Goals as goal
+
+pub returns : goal.returns
+returns c = λ h a b. one-first (first h.setup) h.records a b

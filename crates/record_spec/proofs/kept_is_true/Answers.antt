@@ -1,6 +1,0 @@
--- The law is a lemma.
-use Rattle.record_spec.proofs.Truth.{IsTrue-kept}
-use Rattle.record_spec.proofs.kept_is_true.Goals as goal
-
-pub returns : goal.returns
-returns c = IsTrue-kept

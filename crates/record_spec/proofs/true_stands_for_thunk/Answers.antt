@@ -1,6 +1,0 @@
--- The law is a lemma.
-use Rattle.record_spec.proofs.Truth.{StandsFor-true}
-use Rattle.record_spec.proofs.true_stands_for_thunk.Goals as goal
-
-pub returns : goal.returns
-returns c = StandsFor-true

@@ -1,6 +1,0 @@
--- The law is a lemma.
-use Rattle.record_spec.proofs.Truth.{has-kept}
-use Rattle.record_spec.proofs.view_has_its_reads.Goals as goal
-
-pub returns : goal.returns
-returns c = has-kept

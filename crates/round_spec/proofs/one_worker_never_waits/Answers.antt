@@ -1,0 +1,6 @@
+-- Answers to the goals that the check leaves of `one_worker_never_waits`.
+use Rattle.round_spec.proofs.Ending.{never-hold}
+use Rattle.round_spec.proofs.one_worker_never_waits.Goals as goal
+
+pub returns : goal.returns
+returns c = never-hold

@@ -1,0 +1,9 @@
+-- Answers to the goals that the check leaves of `one_worker_picks_rightly`.
+use Rattle.round_spec.proofs.Picked.{lone-all_picked, lone-points}
+use Rattle.round_spec.proofs.one_worker_picks_rightly.Goals as goal
+
+pub returns-clause-entries : goal.returns-clause-entries
+returns-clause-entries c = λ setup past premise. lone-all_picked setup past premise.valid premise.sound
+
+pub returns-clause-points : goal.returns-clause-points
+returns-clause-points c = λ setup past premise. lone-points setup past premise.valid premise.sound

@@ -1,9 +1,0 @@
--- Answers to the goals that the check leaves of `one_worker_executes_what_is_reported`.
-use Rattle.worker_spec.proofs.Cost.{rounds-cost}
-use Rattle.worker_spec.proofs.one_worker_executes_what_is_reported.Goals as goal
-
-pub returns-clause-picks : goal.returns-clause-picks
-returns-clause-picks c = λ setup past n premise. rounds-cost setup past n premise.valid premise.sound
-
-pub returns-clause-round : goal.returns-clause-round
-returns-clause-round c = λ setup past premise. rounds-cost setup past setup.limit premise.valid premise.sound

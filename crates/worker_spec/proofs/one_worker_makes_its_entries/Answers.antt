@@ -1,9 +1,0 @@
--- Answers to the goals that the check leaves of `one_worker_makes_its_entries`.
-use Rattle.worker_spec.proofs.Workers.{lone-entries, lone-made}
-use Rattle.worker_spec.proofs.one_worker_makes_its_entries.Goals as goal
-
-pub returns-clause-round : goal.returns-clause-round
-returns-clause-round c = lone-entries
-
-pub returns-clause-made : goal.returns-clause-made
-returns-clause-made c = lone-made

@@ -1,6 +1,0 @@
--- Answers to the goals that the check leaves of `workers_make_what_comes_to_an_end`.
-use Rattle.worker_spec.proofs.Workers.{ended-made}
-use Rattle.worker_spec.proofs.workers_make_what_comes_to_an_end.Goals as goal
-
-pub returns : goal.returns
-returns c = ended-made

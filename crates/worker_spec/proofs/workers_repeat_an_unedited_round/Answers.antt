@@ -1,9 +1,0 @@
--- Answers to the goals that the check leaves of `workers_repeat_an_unedited_round`.
-use Rattle.worker_spec.proofs.Workers.{workers-threads, workers-reuse}
-use Rattle.worker_spec.proofs.workers_repeat_an_unedited_round.Goals as goal
-
-pub returns-clause-threads : goal.returns-clause-threads
-returns-clause-threads c = workers-threads
-
-pub returns-clause-reuses : goal.returns-clause-reuses
-returns-clause-reuses c = workers-reuse
