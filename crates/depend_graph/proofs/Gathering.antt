@@ -5,11 +5,11 @@ use Rattle.std.proofs.lemmas.Bool.{eq-eqb}
 use Rattle.guest_call.specs.declared.thread_number.TheConstants.{THREADS}
 use Rattle.guest_call.specs.declared.Object.{Object}
 use Rattle.guest_call.specs.Locality.{is_among, same_object}
-use Rattle.order_spec.specs.Facts.{Fact}
-use Rattle.order_spec.specs.Before.{is_in, meets, overlap, fact_at, before_at}
-use Rattle.order_spec.specs.Ancestors.{any_below}
-use Rattle.order_spec.proofs.Lists.{or-in_left, or-in_right, is_or_not, meets-not, overlap-not}
-use Rattle.order_spec.proofs.Clocks.{below-some}
+use Rattle.history_spec.specs.Facts.{Fact}
+use Rattle.history_spec.specs.Before.{is_in, meets, overlap, fact_at, before_at}
+use Rattle.history_spec.specs.Ancestors.{any_below}
+use Rattle.history_spec.proofs.Lists.{or-in_left, or-in_right, is_or_not, meets-not, overlap-not}
+use Rattle.history_spec.proofs.Clocks.{below-some}
 use Rattle.depend_graph.specs.Joins.{count_up_to, IsJoinOf}
 use Rattle.depend_graph.specs.Clocks.{thread_clock, object_clock, page_clock, largest_at, largest_below, IsLargerOf}
 use Rattle.depend_graph.specs.declared.past.Past.{Past}

@@ -5,11 +5,11 @@ use Rattle.std.proofs.lemmas.List.{get_or-set_other, get_or-set_same}
 use Rattle.std.proofs.lemmas.Bool.{cases_eq, cases_lt, eq-eqb, eqb-true}
 use Rattle.std.proofs.lemmas.Bool.Decides.{nat_tests}
 use Rattle.guest_call.specs.declared.thread_number.TheConstants.{THREADS}
-use Rattle.order_spec.specs.Facts.{Fact}
-use Rattle.order_spec.specs.Before.{fact_at, before_at}
-use Rattle.order_spec.specs.Ancestors.{any_below, count_below, reaches, is_ancestor, is_up_to, clock_at, number_at}
-use Rattle.order_spec.proofs.Lists.{and-left, and-right, or-in_left, or-in_right, is_or_not}
-use Rattle.order_spec.proofs.Clocks.{IsSome, some-below, below-some, lt-bit, bit-lt, link, bounded, count-le, count-step, clock-tells}
+use Rattle.history_spec.specs.Facts.{Fact}
+use Rattle.history_spec.specs.Before.{fact_at, before_at}
+use Rattle.history_spec.specs.Ancestors.{any_below, count_below, reaches, is_ancestor, is_up_to, clock_at, number_at}
+use Rattle.history_spec.proofs.Lists.{and-left, and-right, or-in_left, or-in_right, is_or_not}
+use Rattle.history_spec.proofs.Clocks.{IsSome, some-below, below-some, lt-bit, bit-lt, link, bounded, count-le, count-step, clock-tells}
 use Rattle.depend_graph.specs.Joins.{is_up_to_some, count_up_to, IsJoinOf, IsClockOf}
 
 -- tests that hold of the same numbers hold of as many

@@ -5,9 +5,9 @@ use Rattle.std.proofs.lemmas.Bool.Decides.{nat_tests}
 use Rattle.guest_call.specs.declared.thread_number.TheConstants.{THREADS}
 use Rattle.guest_call.specs.declared.Object.{Object}
 use Rattle.guest_call.specs.Locality.{is_among}
-use Rattle.order_spec.specs.Facts.{Fact}
-use Rattle.order_spec.specs.Before.{is_in, fact_at, all_below}
-use Rattle.order_spec.proofs.Lists.{is_or_not}
+use Rattle.history_spec.specs.Facts.{Fact}
+use Rattle.history_spec.specs.Before.{is_in, fact_at, all_below}
+use Rattle.history_spec.proofs.Lists.{is_or_not}
 use Rattle.depend_graph.specs.Joins.{IsJoinOf, IsClockOf}
 use Rattle.depend_graph.specs.Clocks.{thread_clock, object_clock, page_clock, IsLargerOf}
 use Rattle.depend_graph.specs.declared.threads.ThreadClocks.{ThreadClocks}

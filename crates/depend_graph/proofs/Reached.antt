@@ -4,11 +4,11 @@ use Rattle.std.specs.List.{list_any, list_all}
 use Rattle.std.proofs.lemmas.Bool.{cases_eq, eq-eqb, eqb-true}
 use Rattle.std.proofs.lemmas.Bool.Decides.{nat_tests}
 use Rattle.guest_call.specs.declared.thread_number.TheConstants.{THREADS}
-use Rattle.order_spec.specs.Facts.{Fact}
-use Rattle.order_spec.specs.Before.{is_in, meets, fact_at, all_below}
-use Rattle.order_spec.specs.Ancestors.{any_below}
-use Rattle.order_spec.proofs.Lists.{and-left, and-right, or-in_left, or-in_right, is_or_not}
-use Rattle.order_spec.proofs.Clocks.{some-below, below-some}
+use Rattle.history_spec.specs.Facts.{Fact}
+use Rattle.history_spec.specs.Before.{is_in, meets, fact_at, all_below}
+use Rattle.history_spec.specs.Ancestors.{any_below}
+use Rattle.history_spec.proofs.Lists.{and-left, and-right, or-in_left, or-in_right, is_or_not}
+use Rattle.history_spec.proofs.Clocks.{some-below, below-some}
 use Rattle.round_spec.specs.Reach.{read_at, leads_to, comes_to, gave_at, giver_end, is_reached, last_below}
 use Rattle.round_spec.proofs.Least.{any-like, both-ways, reached-pass}
 use Rattle.round_spec.proofs.Givers.{last-tells}

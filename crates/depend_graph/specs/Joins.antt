@@ -1,9 +1,9 @@
 -- Clocks of steps, and clocks that join those of some steps.
 use Rattle.std.specs.Prelude.{◌≡◌, ◌<◌, ◌≤◌, ℕ, ◌==◌, ◌&&◌, Bool, List, [], All, length, slice_index, slice_index_or}
 use Rattle.guest_call.specs.declared.thread_number.TheConstants.{THREADS}
-use Rattle.order_spec.specs.Facts.{Fact}
-use Rattle.order_spec.specs.Before.{fact_at}
-use Rattle.order_spec.specs.Ancestors.{any_below, count_below, is_up_to, clock_at}
+use Rattle.history_spec.specs.Facts.{Fact}
+use Rattle.history_spec.specs.Before.{fact_at}
+use Rattle.history_spec.specs.Ancestors.{any_below, count_below, is_up_to, clock_at}
 use Rattle.depend_graph.specs.declared.graph.TheConstants.{MOST_FACTS}
 
 -- Whether the step at place k is one of the first n that pass a test, or an ancestor of one.

@@ -5,9 +5,9 @@ use Rattle.std.specs.Option.{option_map_or}
 use Rattle.std.specs.Ordering.{nat_cmp}
 use Rattle.std.specs.BTreeMap.{get}
 use Rattle.guest_call.specs.declared.thread_number.TheConstants.{THREADS}
-use Rattle.order_spec.specs.Facts.{Fact}
-use Rattle.order_spec.specs.Before.{is_in, fact_at, all_below}
-use Rattle.order_spec.specs.Ancestors.{any_below}
+use Rattle.history_spec.specs.Facts.{Fact}
+use Rattle.history_spec.specs.Before.{is_in, fact_at, all_below}
+use Rattle.history_spec.specs.Ancestors.{any_below}
 use Rattle.round_spec.specs.Reach.{is_reached, last_below}
 use Rattle.depend_graph.specs.Past.{is_of, writes, gives}
 use Rattle.depend_graph.specs.declared.reaching.Changes.{Changes}

@@ -3,8 +3,8 @@
 ghost use Rattle.std.specs.Prelude.{◌≡◌, ◌<◌, ◌==◌, ◌||◌, not, nat_le, length};
 ghost use Rattle.guest_call.specs.Locality as locality;
 ghost use Rattle.sync_objects.specs.Acting.{objects_in};
-ghost use Rattle.order_spec.specs.Before as spec;
-ghost use Rattle.order_spec.specs.Before.{is_in};
+ghost use Rattle.history_spec.specs.Before as spec;
+ghost use Rattle.history_spec.specs.Before.{is_in};
 
 use super::fact::Fact;
 use super::objects::is_same;

@@ -7,7 +7,7 @@ use std::alloc::{AllocError, Global};
 use std::marker::Model;
 use sync_objects::ActedOn;
 
-/// What a step does, as far as other steps can depend on it. A clause sees a `Fact` of `order_spec`.
+/// What a step does, as far as other steps can depend on it. A clause sees a `Fact` of `history_spec`.
 #[derive(Drop)]
 pub struct Fact {
     /// Its thread.
@@ -26,7 +26,7 @@ pub struct Fact {
 
 impl Model for Fact {
     ghost use Rattle.sync_objects.specs.Acting.{objects_in};
-    ghost use Rattle.order_spec.specs.Facts.{Fact};
+    ghost use Rattle.history_spec.specs.Facts.{Fact};
 
     ghost Value = { Fact };
 

@@ -1,8 +1,8 @@
 //! The graph of a history's steps.
 
 ghost use Rattle.std.specs.Prelude.{◌≡◌, ℕ, ◌<◌, ◌≤◌, All, Some, length, slice_get, slice_index, IfOk};
-ghost use Rattle.order_spec.specs.Facts.{Fact as StepFact};
-ghost use Rattle.order_spec.specs.Ancestors.{clock_at, edges_at};
+ghost use Rattle.history_spec.specs.Facts.{Fact as StepFact};
+ghost use Rattle.history_spec.specs.Ancestors.{clock_at, edges_at};
 ghost use Rattle.round_spec.specs.Reach.{reach as reached_by};
 ghost use Rattle.round_spec.specs.Sync.{sync_facts};
 ghost use Rattle.depend_graph.specs.Reaching.{slots_of_each};
@@ -30,7 +30,7 @@ pub struct Graph {
 
 impl Model for Graph {
     ghost use Rattle.std.specs.Prelude.{List};
-    ghost use Rattle.order_spec.specs.Facts.{Fact};
+    ghost use Rattle.history_spec.specs.Facts.{Fact};
     ghost use Rattle.depend_graph.specs.Joins.{HaveClocks};
 
     ghost Value = { List Fact };

@@ -1,7 +1,7 @@
 //! Clocks by page.
 
 ghost use Rattle.std.specs.Prelude.{◌≡◌, ◌≢◌, ℕ, true, false, max, slice_index, OnOk};
-ghost use Rattle.order_spec.specs.Before.{is_in};
+ghost use Rattle.history_spec.specs.Before.{is_in};
 ghost use Rattle.depend_graph.specs.Clocks.{page_clock, largest_at, IsLargerOf};
 
 use std::alloc::{AllocError, Global};

@@ -1,8 +1,8 @@
 //! What the steps so far leave for the clocks of those after them.
 
 ghost use Rattle.std.specs.Prelude.{◌≡◌, ◌+◌, ◌<◌, ◌≤◌, ℕ, max, List, All, length, slice_index, OnOk, if◌then◌else◌};
-ghost use Rattle.order_spec.specs.Facts.{Fact as StepFact};
-ghost use Rattle.order_spec.specs.Before.{before_at};
+ghost use Rattle.history_spec.specs.Facts.{Fact as StepFact};
+ghost use Rattle.history_spec.specs.Before.{before_at};
 ghost use Rattle.depend_graph.specs.Clocks.{thread_clock, largest_below};
 ghost use Rattle.depend_graph.specs.Joins.{IsJoinOf, IsClockOf};
 ghost use Rattle.depend_graph.specs.Past.{IsPastOf};

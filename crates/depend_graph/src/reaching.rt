@@ -2,8 +2,8 @@
 
 ghost use Rattle.std.specs.Prelude.{◌≡◌, ◌≢◌, ◌<◌, ◌≤◌, ◌||◌, ◌&&◌, ℕ, true, false, suc, nat_lt, nat_le, List, All, length, take, map, slice_index, slice_index_or, IfOk, OnOk};
 ghost use Rattle.std.specs.List.{list_any};
-ghost use Rattle.order_spec.specs.Facts.{Fact as StepFact};
-ghost use Rattle.order_spec.specs.Before.{is_in};
+ghost use Rattle.history_spec.specs.Facts.{Fact as StepFact};
+ghost use Rattle.history_spec.specs.Before.{is_in};
 ghost use Rattle.round_spec.specs.Reach.{reach};
 ghost use Rattle.depend_graph.specs.Reaching.{slots_of_each, shows, led_of, end_of, IsStepMore};
 

@@ -1,7 +1,7 @@
 //! Clocks by thread.
 
 ghost use Rattle.std.specs.Prelude.{◌≡◌, ◌≢◌, ℕ, ◌<◌, true, false, max, slice_index};
-ghost use Rattle.order_spec.specs.Before.{is_in};
+ghost use Rattle.history_spec.specs.Before.{is_in};
 ghost use Rattle.depend_graph.specs.Clocks.{thread_clock, largest_below, IsLargerOf};
 
 use guest_call::THREADS;

@@ -17,7 +17,7 @@ use Rattle.history_spec.proofs.Applying.{fits-can_step}
 use Rattle.release_core.specs.Applying.{can_apply}
 use Rattle.release_core.proofs.Applying.{fitting_can}
 use Rattle.machine_calls.proofs.Asking.{exists, free}
-use Rattle.order_spec.specs.Facts.{ask_of, acted, effect_of, served}
+use Rattle.history_spec.specs.Facts.{ask_of, acted, effect_of, served}
 use Rattle.history_facts.specs.Asking.{call_in}
 
 -- a record that may be applied is of a ready thread, which may make a step

@@ -20,8 +20,8 @@ use Rattle.history_spec.specs.History.{History, applied_from, can_apply_from, is
 use Rattle.history_spec.proofs.Applying.{apply-frame, apply-whole}
 use Rattle.history_spec.proofs.Mapped.{first-map}
 use Rattle.history_spec.proofs.Numbers.{first-number, apply-number}
-use Rattle.order_spec.specs.Facts.{Fact, ask_of, acted, effect_of, objects_of, served_by, written_slots, read_by, fact_of}
-use Rattle.order_spec.proofs.After.{apply-length, apply-objects}
+use Rattle.history_spec.specs.Facts.{Fact, ask_of, acted, effect_of, objects_of, served_by, written_slots, read_by, fact_of}
+use Rattle.history_spec.proofs.After.{apply-length, apply-objects}
 use Rattle.release_core.specs.Applying.{can_apply}
 use Rattle.machine_calls.proofs.Asking.{few_numbers}
 use Rattle.history_facts.specs.declared.outline.Outline.{Outline}

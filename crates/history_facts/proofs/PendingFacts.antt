@@ -10,7 +10,7 @@ use Rattle.machine_spec.specs.Machine.{Machine}
 use Rattle.machine_spec.specs.Step.{apply}
 use Rattle.history_spec.specs.History.{applied_from, can_apply_from}
 use Rattle.release_core.specs.Applying.{can_apply}
-use Rattle.order_spec.specs.Facts.{Fact, fact_of, bare_fact, facts_from}
+use Rattle.history_spec.specs.Facts.{Fact, fact_of, bare_fact, facts_from}
 use Rattle.history_facts.specs.PendingFacts.{facts_to_come}
 
 by_choice : (b : Bool) (reads : ℕ → ℕ → List ℕ) (m : Machine) (r : Record) (rs : List Record)

@@ -2,7 +2,7 @@
 use Rattle.std.specs.Prelude.{ℕ, Bool, true, false, List, map}
 use Rattle.thunk_spec.specs.Record.{Record}
 use Rattle.machine_spec.specs.Machine.{Machine}
-use Rattle.order_spec.specs.Facts.{Fact, facts_from, bare_fact}
+use Rattle.history_spec.specs.Facts.{Fact, facts_from, bare_fact}
 
 -- The facts of the records that are left: as far as they fit, where all before them did, and else bare ones.
 abbrev pub facts_to_come : Bool → (ℕ → ℕ → List ℕ) → Machine → List Record → List Fact

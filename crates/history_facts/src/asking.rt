@@ -4,7 +4,7 @@ ghost use Rattle.std.specs.Prelude.{◌≡◌, ◌<◌, ℕ, length};
 ghost use Rattle.thunk_spec.specs.Put.{is_readable};
 ghost use Rattle.guest_call.specs.Objects as rows;
 ghost use Rattle.sync_objects.specs.Acting.{objects_in};
-ghost use Rattle.order_spec.specs.Facts as order;
+ghost use Rattle.history_spec.specs.Facts as order;
 ghost use Rattle.history_facts.specs.Asking.{call_in};
 
 use guest_call::{Call, Object};

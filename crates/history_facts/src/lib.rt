@@ -4,7 +4,7 @@
 ghost use Rattle.std.specs.Prelude.{◌≡◌, ◌&&◌, true, if◌then◌else◌, is_some, IfOk, OnOk};
 ghost use Rattle.history_spec.specs.History.{applied_from, can_apply_from, is_coherent};
 ghost use Rattle.machine_spec.specs.Step as step;
-ghost use Rattle.order_spec.specs.Facts as order;
+ghost use Rattle.history_spec.specs.Facts as order;
 ghost use Rattle.release_core.specs.Applying.{can_apply};
 ghost use Rattle.release_core.specs.Records.{AreOfRun};
 

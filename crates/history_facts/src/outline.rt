@@ -5,7 +5,7 @@ ghost use Rattle.sync_objects.specs.Acting.{objects_in};
 ghost use Rattle.machine_spec.specs.Machine.{Machine};
 ghost use Rattle.machine_spec.specs.Setup.{IsSetup, first};
 ghost use Rattle.machine_spec.specs.Step as step;
-ghost use Rattle.order_spec.specs.Facts as order;
+ghost use Rattle.history_spec.specs.Facts as order;
 ghost use Rattle.history_facts.specs.Outlining.{numbered, IsOutlineOf, MayBeApplied};
 
 use super::asking::{CallResult, act, call_of};

@@ -4,7 +4,7 @@ ghost use Rattle.std.specs.Prelude.{◌≡◌, true, is_some, IfOk, OnOk};
 ghost use Rattle.machine_spec.specs.Setup.{first};
 ghost use Rattle.machine_spec.specs.Step as step;
 ghost use Rattle.release_core.specs.Applying.{can_apply};
-ghost use Rattle.order_spec.specs.Facts as order;
+ghost use Rattle.history_spec.specs.Facts as order;
 
 use super::outline::Outline;
 use depend_graph::Fact;

@@ -1,7 +1,7 @@
 //! The threads to which a call gives a view.
 
 ghost use Rattle.std.specs.Prelude.{◌≡◌, IfOk};
-ghost use Rattle.order_spec.specs.Facts as order;
+ghost use Rattle.history_spec.specs.Facts as order;
 
 use guest_call::Fate;
 use object_table::Effect;

@@ -1,7 +1,7 @@
 //! The slots of the pages that a record writes, and of those that it has read.
 
 ghost use Rattle.std.specs.Prelude.{◌≡◌, ◌++◌, IfOk, OnOk};
-ghost use Rattle.order_spec.specs.Facts as order;
+ghost use Rattle.history_spec.specs.Facts as order;
 
 use std::alloc::{AllocError, Global};
 use thunk_record::Record;

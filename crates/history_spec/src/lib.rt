@@ -1,8 +1,12 @@
-//! Histories of finished runs, as definitions: when a history is honest, which of its records is the first false one,
-//! when it is coherent, when a new run may go by it, and which of its records stands for a step; with the laws that
-//! each record of an honest history is true, that to apply one that fits is the step of its thread, that an honest
-//! history is coherent and is exactly one without a false record, that a ready thread's view is fixed until it makes
-//! its step, and that records have their slots in the page map. No code.
+//! Histories of finished runs, as definitions, with their laws. No code.
+//!
+//! - When a history is honest, which of its records is the first false one, when it is coherent, when a new run may go
+//!   by it, and which of its records stands for a step: each record of an honest history is true; to apply one that
+//!   fits is the step of its thread; an honest history is coherent and is exactly one without a false record; a ready
+//!   thread's view is fixed until it makes its step; and records have their slots in the page map.
+//! - Which steps of a history must come before which: every order of its steps that keeps this leads to the same, and
+//!   every beginning of one can go on to it: each record fits in its turn, and end, output and final memory are the
+//!   history's.
 #![tactic(auto)]
 
 ghost use Rattle.std.specs.Prelude.{◌≡◌, ℕ, List, All, length, Option, count_by, Some, true, false, ◌==◌, None};
@@ -13,8 +17,11 @@ ghost use Rattle.machine_spec.specs.Step.{step, apply, fits};
 ghost use Rattle.machine_spec.specs.Schedule.{scratch_from, is_permitted_from, record_of};
 ghost use Rattle.machine_spec.specs.Setup.{Setup, IsSetup, first, map_of, is_permitted, records, scratch};
 ghost use Rattle.machine_spec.specs.Whole.{IsWhole};
-ghost use Rattle.history_spec.specs.History.{History, IsHonest, IsSameProgram, CanGoBy, IsMappedIn, IsMapped, is_coherent, found, is_numbered};
+ghost use Rattle.history_spec.specs.History.{History, IsHonest, IsSameProgram, CanGoBy, IsMappedIn, IsMapped, is_coherent, found, is_numbered, threads_of_records};
 ghost use Rattle.history_spec.specs.Audit.{IsFirstFalse, IsVerdict};
+ghost use Rattle.history_spec.specs.Facts.{facts};
+ghost use Rattle.history_spec.specs.Keeping.{keeps, may_begin, arranged};
+ghost use Rattle.history_spec.specs.Orders.{is_order, threads_at, records_at, LeadToTheSame};
 
 /// The record of each step of a permitted schedule is true.
 pub fn records_are_true()
@@ -113,4 +120,40 @@ pub fn first_false_record_is_the_verdict()
 /// Two audits of a history find the same.
 pub fn audits_agree()
     ensures { (h : History) (a b : Option ℕ) → IsFirstFalse h a → IsFirstFalse h b → a ≡ b }
+{}
+
+/// Every order of an honest history's steps in which each comes after all that must come before it: its
+/// records, in that order, are of the threads of its schedule, and lead to the same.
+pub fn every_order_leads_to_the_same()
+    ensures schedule { (h : History) (schedule : List ℕ)
+        → IsHonest h
+        → keeps (facts h) schedule ≡ true
+        → threads_of_records (arranged schedule h.records) ≡ schedule }
+    ensures same { (h : History) (schedule : List ℕ)
+        → IsHonest h
+        → keeps (facts h) schedule ≡ true
+        → LeadToTheSame h (arranged schedule h.records) }
+{}
+
+/// The same over places: every reordering of an honest history's places in which each comes after all
+/// that must come before it. The records at these places, in that order, are of the threads of its
+/// schedule, and lead to the same.
+pub fn every_reordering_leads_to_the_same()
+    ensures threads { (h : History) (places : List ℕ)
+        → IsHonest h
+        → is_order (facts h) places ≡ true
+        → threads_of_records (records_at h.records places) ≡ threads_at (facts h) places }
+    ensures same { (h : History) (places : List ℕ)
+        → IsHonest h
+        → is_order (facts h) places ≡ true
+        → LeadToTheSame h (records_at h.records places) }
+{}
+
+/// Whatever steps of an honest history have come, each after all that must come before it: the rest can
+/// follow in the old order, and all together lead to the same.
+pub fn every_beginning_goes_on()
+    ensures { (h : History) (schedule : List ℕ)
+        → IsHonest h
+        → may_begin (facts h) schedule ≡ true
+        → LeadToTheSame h (arranged schedule h.records) }
 {}

@@ -28,15 +28,15 @@ use Rattle.history_spec.specs.History.{History, IsSameProgram, schedule_of, appl
 use Rattle.history_spec.proofs.Applying.{apply-frame, apply-whole, fits-can_step}
 use Rattle.history_spec.proofs.Numbers.{one_for, apply-number}
 use Rattle.history_spec.proofs.Truth.{past-of}
-use Rattle.order_spec.specs.Facts.{ask_of, acted, effect_of, written_slots}
-use Rattle.order_spec.specs.Before.{is_in}
-use Rattle.order_spec.proofs.Lists.{is_or_not}
-use Rattle.order_spec.proofs.Pages.{length-masked, masked-other, masked-same}
-use Rattle.order_spec.proofs.After.{after_at, apply-at, apply-length, apply-memory, apply-objects, apply-ending, own_end_of}
-use Rattle.order_spec.proofs.Local.{acted-like}
-use Rattle.order_spec.proofs.Alike.{touched, untouched-after, touched-served, has-like, fits-parts, fits-from}
-use Rattle.order_spec.proofs.Simulate.{none-is, end_after-none, fate-none}
-use Rattle.order_spec.proofs.Near.{plain, other_record, plain-after}
+use Rattle.history_spec.specs.Facts.{ask_of, acted, effect_of, written_slots}
+use Rattle.history_spec.specs.Before.{is_in}
+use Rattle.history_spec.proofs.Lists.{is_or_not}
+use Rattle.history_spec.proofs.Pages.{length-masked, masked-other, masked-same}
+use Rattle.history_spec.proofs.After.{after_at, apply-at, apply-length, apply-memory, apply-objects, apply-ending, own_end_of}
+use Rattle.history_spec.proofs.Local.{acted-like}
+use Rattle.history_spec.proofs.Alike.{touched, untouched-after, touched-served, has-like, fits-parts, fits-from}
+use Rattle.history_spec.proofs.Simulate.{none-is, end_after-none, fate-none}
+use Rattle.history_spec.proofs.Near.{plain, other_record, plain-after}
 use Rattle.round_spec.proofs.Starts.{near-first}
 use Rattle.history_facts.specs.Outlining.{machine_at}
 use Rattle.history_facts.proofs.Outlining.{machine-more, coherent-can}

@@ -8,11 +8,11 @@ use Rattle.thunk_spec.specs.Record.{Record}
 use Rattle.machine_spec.specs.Machine.{Machine, hart_of}
 use Rattle.history_spec.specs.History.{History, past_records, threads_of_records, is_of}
 use Rattle.release_core.specs.Records.{HaveThreads, AreOfRun}
-use Rattle.order_spec.specs.Facts.{Fact, facts}
-use Rattle.order_spec.specs.Before.{fact_at}
-use Rattle.order_spec.specs.Keeping.{fact_thread, record_thread}
-use Rattle.order_spec.specs.Ancestors.{is_up_to, clock_at}
-use Rattle.order_spec.proofs.Clocks.{count-stay}
+use Rattle.history_spec.specs.Facts.{Fact, facts}
+use Rattle.history_spec.specs.Before.{fact_at}
+use Rattle.history_spec.specs.Keeping.{fact_thread, record_thread}
+use Rattle.history_spec.specs.Ancestors.{is_up_to, clock_at}
+use Rattle.history_spec.proofs.Clocks.{count-stay}
 use Rattle.round_spec.specs.Due.{place_in, past_facts, has_exited, is_step_at, are_passed_before, is_due}
 use Rattle.round_spec.proofs.Placed.{facts-of, facts-length, thread-is, absent-due, placed-step, placed-due, step-thread, step-number}
 use Rattle.round_spec.proofs.Clocked.{passed-clock}

@@ -4,8 +4,8 @@ use Rattle.std.proofs.lemmas.Bool.{eq-eqb, eqb-true}
 use Rattle.std.proofs.lemmas.Bool.Decides.{nat_tests}
 use Rattle.std.specs.List.{slice_get}
 use Rattle.machine_spec.specs.Setup.{first}
-use Rattle.order_spec.specs.Before.{is_in}
-use Rattle.order_spec.proofs.Lists.{is_or_not, or-left, or-right}
+use Rattle.history_spec.specs.Before.{is_in}
+use Rattle.history_spec.proofs.Lists.{is_or_not, or-left, or-right}
 use Rattle.propagate.specs.Versions.{with_each}
 
 pub get-same : {A : Type 0} (xs : List A) (p : ℕ) (x y : A) → slice_get (set xs p x) p ≡ Some y → y ≡ x

@@ -11,7 +11,7 @@ use Rattle.machine_spec.specs.Setup.{first}
 use Rattle.machine_spec.specs.Step.{fits, can_step}
 use Rattle.machine_spec.specs.Whole.{IsWhole}
 use Rattle.history_spec.specs.History.{History, applied_from, past_records, is_coherent, is_numbered}
-use Rattle.order_spec.proofs.Alike.{fits-parts}
+use Rattle.history_spec.proofs.Alike.{fits-parts}
 use Rattle.history_facts.specs.Outlining.{machine_at}
 use Rattle.history_facts.proofs.Outlining.{coherent-can}
 use Rattle.round_spec.specs.Rounds.{RoundState, is_finished, none_in_flight}

@@ -20,7 +20,7 @@ use Rattle.round_spec.proofs.Mapping.{happens-frame}
 use Rattle.round_spec.proofs.BySchedule.{by_schedule-opening, by_schedule-happens}
 use Rattle.round_spec.proofs.Leaving.{leaves-honest}
 use Rattle.round_spec.proofs.Executed.{executed-records}
-use Rattle.order_spec.specs.Facts.{Fact}
+use Rattle.history_spec.specs.Facts.{Fact}
 use Rattle.release_core.specs.Applying.{can_apply}
 use Rattle.propagate.specs.Consistency.{IsApplied, IsOnMap, IsValid, IsConsistent, AreFactsOf, IsKnown, IsRight, IsFound, KnowsEnough}
 use Rattle.propagate.specs.Alike.{IsAsBefore}

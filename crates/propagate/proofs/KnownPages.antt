@@ -24,12 +24,12 @@ use Rattle.machine_spec.proofs.Harts.{ready-below}
 use Rattle.history_spec.specs.History.{History}
 use Rattle.history_spec.proofs.Applying.{apply-frame, apply-whole, fits-can_step}
 use Rattle.history_spec.proofs.Truth.{past-of}
-use Rattle.order_spec.specs.Facts.{effect_of, written_slots}
-use Rattle.order_spec.specs.Before.{is_in}
-use Rattle.order_spec.proofs.Lists.{is_or_not}
-use Rattle.order_spec.proofs.Pages.{length-masked, masked-other, masked-same}
-use Rattle.order_spec.proofs.After.{apply-memory}
-use Rattle.order_spec.proofs.Alike.{touched, IsFitting, fits-parts, fits-from}
+use Rattle.history_spec.specs.Facts.{effect_of, written_slots}
+use Rattle.history_spec.specs.Before.{is_in}
+use Rattle.history_spec.proofs.Lists.{is_or_not}
+use Rattle.history_spec.proofs.Pages.{length-masked, masked-other, masked-same}
+use Rattle.history_spec.proofs.After.{apply-memory}
+use Rattle.history_spec.proofs.Alike.{touched, IsFitting, fits-parts, fits-from}
 use Rattle.history_facts.specs.Outlining.{machine_at}
 use Rattle.history_facts.proofs.Outlining.{machine-more, coherent-can}
 use Rattle.round_spec.specs.Marks.{record_for, is_fitting, fits_next}

@@ -8,7 +8,7 @@ use Rattle.thunk_spec.specs.Thunk.{Frame}
 use Rattle.thunk_spec.specs.Record.{Record, IsTrue}
 use Rattle.machine_spec.specs.Machine.{Machine}
 use Rattle.machine_spec.specs.Step.{apply, fits}
-use Rattle.order_spec.specs.Facts.{Fact}
+use Rattle.history_spec.specs.Facts.{Fact}
 use Rattle.round_spec.specs.declared.events.Event.TheVariants.{Take, Reuse, Commit, GiveBack}
 use Rattle.round_spec.specs.Keeping.{IsInOrder}
 use Rattle.round_spec.specs.Marks.{record_for, fits_next}

@@ -14,14 +14,14 @@ use Rattle.machine_spec.specs.Step.{apply, fits, fate_end}
 use Rattle.machine_spec.specs.Whole.{IsWhole}
 use Rattle.history_spec.specs.History.{History, is_coherent, applied_from, can_apply_from}
 use Rattle.history_spec.proofs.Applying.{apply-frame}
-use Rattle.order_spec.specs.Facts.{Fact, ask_of, effect_of, served_by, written_slots, fact_of, facts_from, reads_in, facts}
-use Rattle.order_spec.specs.Before.{is_in}
-use Rattle.order_spec.proofs.Lists.{is_or_not}
-use Rattle.order_spec.proofs.Pages.{length-masked, masked-other}
-use Rattle.order_spec.proofs.After.{after_at, apply-at, apply-memory, apply-ending, own_end_of}
-use Rattle.order_spec.proofs.Alike.{touched, untouched-after, touched-served, served-touched, fits-parts}
-use Rattle.order_spec.proofs.Every.{fit-facts}
-use Rattle.order_spec.proofs.Simulate.{none-is, end_after-none, fate-none}
+use Rattle.history_spec.specs.Facts.{Fact, ask_of, effect_of, served_by, written_slots, fact_of, facts_from, reads_in, facts}
+use Rattle.history_spec.specs.Before.{is_in}
+use Rattle.history_spec.proofs.Lists.{is_or_not}
+use Rattle.history_spec.proofs.Pages.{length-masked, masked-other}
+use Rattle.history_spec.proofs.After.{after_at, apply-at, apply-memory, apply-ending, own_end_of}
+use Rattle.history_spec.proofs.Alike.{touched, untouched-after, touched-served, served-touched, fits-parts}
+use Rattle.history_spec.proofs.Every.{fit-facts}
+use Rattle.history_spec.proofs.Simulate.{none-is, end_after-none, fate-none}
 use Rattle.history_facts.specs.Outlining.{machine_at}
 use Rattle.history_facts.proofs.Outlining.{machine-more, coherent-can}
 use Rattle.propagate.proofs.Alike.{whole-then}

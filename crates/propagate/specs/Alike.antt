@@ -8,7 +8,7 @@ use Rattle.thunk_spec.specs.Record.{Record}
 use Rattle.machine_spec.specs.Machine.{Machine, hart_of, is_ready}
 use Rattle.machine_spec.specs.Setup.{IsSetup}
 use Rattle.history_spec.specs.History.{History, is_coherent}
-use Rattle.order_spec.specs.Facts.{ask_of, written_slots}
+use Rattle.history_spec.specs.Facts.{ask_of, written_slots}
 use Rattle.history_facts.specs.Outlining.{machine_at}
 use Rattle.round_spec.specs.Marks.{fits_next}
 use Rattle.round_spec.specs.Rounds.{RoundState}

@@ -3,7 +3,7 @@ use Rattle.std.specs.Prelude.{◌≡◌, ◌≤◌, ◌*◌, ℕ, ⊤, Bool, tru
 use Rattle.std.specs.Global.{Global}
 use Rattle.machine_spec.specs.Setup.{Setup, IsSetup, first, map_of}
 use Rattle.history_spec.specs.History.{History, applied_from, can_apply_from, IsMappedIn, IsMapped, past_records}
-use Rattle.order_spec.specs.Facts.{Fact}
+use Rattle.history_spec.specs.Facts.{Fact}
 use Rattle.release_core.specs.Records.{AreOfRun}
 use Rattle.round_spec.specs.Rounds.{RoundState, history_of, none_in_flight}
 use Rattle.round_spec.specs.Due.{past_facts}

@@ -3,7 +3,7 @@
 ghost use Rattle.std.specs.Prelude.{◌≡◌, ◌<◌, ◌≤◌, Bool, not, length, count_by, Some, IfOk};
 ghost use Rattle.std.specs.Str.{bytes_eq};
 ghost use Rattle.memory_spec.specs.Pages.{page_of};
-ghost use Rattle.order_spec.specs.Facts.{facts, read_slots as slots_read};
+ghost use Rattle.history_spec.specs.Facts.{facts, read_slots as slots_read};
 ghost use Rattle.round_spec.specs.Reach.{reads_of, changed_slots, changed, reached_count};
 ghost use Rattle.release_core.specs.Records.{AreOfRun};
 ghost use Rattle.depend_graph.specs.Reaching.{slots_of_each};

@@ -1,7 +1,7 @@
 //! When pages were last written, and when threads were given their views.
 
 ghost use Rattle.std.specs.Prelude.{◌≡◌, ◌<◌, ◌≤◌, ℕ, length, replicate, slice_index, slice_set, IfOk};
-ghost use Rattle.order_spec.specs.Facts.{written_slots};
+ghost use Rattle.history_spec.specs.Facts.{written_slots};
 ghost use Rattle.propagate.specs.Versions as versions;
 ghost use Rattle.propagate.specs.Versions.{with_each, viewed_after, stored_version, seen_version};
 

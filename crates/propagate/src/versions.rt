@@ -2,7 +2,7 @@
 //! known to be of the version that the record read, in whatever order the steps come.
 
 ghost use Rattle.std.specs.Prelude.{◌≡◌, ◌<◌, ◌≤◌, ◌+◌, ◌∷◌, [], ℕ, true, map, length, slice_get, None, is_some, if◌then◌else◌, IfOk, IfSome};
-ghost use Rattle.order_spec.specs.Facts.{written_slots, facts};
+ghost use Rattle.history_spec.specs.Facts.{written_slots, facts};
 ghost use Rattle.thunk_spec.specs.Delta.{PageDelta};
 ghost use Rattle.thunk_spec.specs.Reads.{ReadPage as Read, has};
 ghost use Rattle.machine_spec.specs.Setup.{IsSetup};

@@ -4,8 +4,8 @@ use Rattle.std.specs.List.{flat_map, range_with_len, count_by}
 use Rattle.std.proofs.lemmas.Bool.{cases_eq, cases_lt, eq-eqb, ne_eqb}
 use Rattle.std.proofs.lemmas.List.{length-append, length-take, length_push, get_or_default, get_or_append_left, get_or_push, get_or-take, get_or-set_same, get_or-set_other}
 use Rattle.std.proofs.lemmas.Nat.{mul-le}
-use Rattle.order_spec.specs.Facts.{Fact}
-use Rattle.order_spec.specs.Before.{fact_at}
+use Rattle.history_spec.specs.Facts.{Fact}
+use Rattle.history_spec.specs.Before.{fact_at}
 use Rattle.round_spec.specs.Reach.{read_at}
 use Rattle.round_spec.specs.declared.Race.{Race}
 use Rattle.round_spec.specs.Races.{is_race, race_at, races_between, races_from}

@@ -5,9 +5,9 @@ use Rattle.std.proofs.lemmas.Bool.{cases_eq, eq-eqb}
 use Rattle.std.proofs.lemmas.Bool.Decides.{nat_tests}
 use Rattle.std.proofs.lemmas.List.{length-map, length-take, map-append, take_more, take_all}
 use Rattle.std.proofs.lemmas.List.Elements.{filter-append, All-from_recursion}
-use Rattle.order_spec.specs.Facts.{Fact}
-use Rattle.order_spec.specs.Before.{is_in, fact_at}
-use Rattle.order_spec.proofs.Lists.{is_or_not}
+use Rattle.history_spec.specs.Facts.{Fact}
+use Rattle.history_spec.specs.Before.{is_in, fact_at}
+use Rattle.history_spec.proofs.Lists.{is_or_not}
 use Rattle.round_spec.specs.Reach.{read_at}
 use Rattle.round_spec.specs.declared.Race.{Race}
 use Rattle.round_spec.specs.Sync.{is_ordered}

@@ -9,8 +9,8 @@ use Rattle.std.proofs.lemmas.List.Sums.{sum_by-le}
 use Rattle.memory_spec.specs.Pages.{Mapped, unmapped, ascends_above}
 use Rattle.machine_spec.specs.Setup.{Setup, IsSetup, map_of}
 use Rattle.history_spec.specs.History.{History}
-use Rattle.order_spec.specs.Facts.{Fact, facts}
-use Rattle.order_spec.specs.Before.{is_in}
+use Rattle.history_spec.specs.Facts.{Fact, facts}
+use Rattle.history_spec.specs.Before.{is_in}
 use Rattle.round_spec.specs.Reach.{reads_of}
 use Rattle.memo_listing.proofs.Addresses.{word_address}
 use Rattle.race_report.specs.Touches.{touch_in, touches_in}

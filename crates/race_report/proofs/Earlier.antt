@@ -5,9 +5,9 @@ use Rattle.std.proofs.lemmas.Bool.{eqb-true, eq-eqb, ne_eqb, and_parts}
 use Rattle.std.proofs.lemmas.Bool.Decides.{nat_tests}
 use Rattle.std.proofs.lemmas.List.{length-take, take_all}
 use Rattle.std.proofs.lemmas.List.Sums.{sum_by_more, count_by-le-length}
-use Rattle.order_spec.specs.Facts.{Fact}
-use Rattle.order_spec.specs.Before.{fact_at}
-use Rattle.order_spec.specs.Ancestors.{count_below, number_at}
+use Rattle.history_spec.specs.Facts.{Fact}
+use Rattle.history_spec.specs.Before.{fact_at}
+use Rattle.history_spec.specs.Ancestors.{count_below, number_at}
 use Rattle.round_spec.specs.Reach.{read_at}
 use Rattle.round_spec.specs.declared.Race.{Race}
 use Rattle.round_spec.specs.Sync.{is_ordered, seen_at}

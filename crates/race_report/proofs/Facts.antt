@@ -10,8 +10,8 @@ use Rattle.machine_spec.specs.Machine.{Machine}
 use Rattle.machine_spec.specs.Setup.{first}
 use Rattle.machine_spec.specs.Step.{apply, fits}
 use Rattle.history_spec.specs.History.{History}
-use Rattle.order_spec.specs.Facts.{Fact, fact_of, bare_fact, facts_from, facts, reads_in, read_slots, written_slots}
-use Rattle.order_spec.specs.Before.{fact_at, no_fact}
+use Rattle.history_spec.specs.Facts.{Fact, fact_of, bare_fact, facts_from, facts, reads_in, read_slots, written_slots}
+use Rattle.history_spec.specs.Before.{fact_at, no_fact}
 use Rattle.round_spec.specs.Reach.{read_at, reads_of}
 use Rattle.release_core.specs.Records.{HaveThreads}
 

@@ -6,8 +6,8 @@ use Rattle.std.proofs.lemmas.Bool.Decides.{nat_tests}
 use Rattle.thunk_spec.specs.Delta.{PageDelta}
 use Rattle.thunk_spec.specs.Reads.{ReadPage}
 use Rattle.thunk_spec.specs.Ascending.{deltas_ascend, reads_ascend}
-use Rattle.order_spec.specs.Before.{is_in}
-use Rattle.order_spec.proofs.Lists.{or-in_left, or-in_right}
+use Rattle.history_spec.specs.Before.{is_in}
+use Rattle.history_spec.proofs.Lists.{or-in_left, or-in_right}
 use Rattle.race_report.specs.declared.touches.Touch.{Touch}
 use Rattle.race_report.specs.Touches.{ascends, touch_in, touches_in}
 use Rattle.race_report.proofs.Filters.{filter-none, filter-first, map-filter-same}

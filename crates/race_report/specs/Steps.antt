@@ -1,9 +1,9 @@
 -- What of each step decides whether it races.
 use Rattle.std.specs.Prelude.{◌≡◌, ◌<◌, ℕ, List, length, slice_index, slice_index_or}
 use Rattle.guest_call.specs.declared.thread_number.TheConstants.{THREADS}
-use Rattle.order_spec.specs.Facts.{Fact}
-use Rattle.order_spec.specs.Before.{fact_at}
-use Rattle.order_spec.specs.Ancestors.{number_at}
+use Rattle.history_spec.specs.Facts.{Fact}
+use Rattle.history_spec.specs.Before.{fact_at}
+use Rattle.history_spec.specs.Ancestors.{number_at}
 use Rattle.round_spec.specs.Reach.{read_at}
 use Rattle.round_spec.specs.Sync.{seen_at}
 use Rattle.race_report.specs.declared.steps.Step.{Step}

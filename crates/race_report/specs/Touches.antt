@@ -1,7 +1,7 @@
 -- The pages that a step touches, as a list.
 use Rattle.std.specs.Prelude.{ℕ, suc, Bool, true, ◌&&◌, ◌||◌, nat_le, List, [], ◌∷◌, map, filter}
 use Rattle.std.specs.List.{range_with_len}
-use Rattle.order_spec.specs.Before.{is_in}
+use Rattle.history_spec.specs.Before.{is_in}
 use Rattle.race_report.specs.declared.touches.Touch.{Touch}
 
 -- Whether slots ascend strictly, the first from this one on.

@@ -2,8 +2,8 @@
 
 ghost use Rattle.std.specs.Prelude.{◌≡◌, ◌<◌, ◌≤◌, ℕ, length, slice_index, IfOk};
 ghost use Rattle.machine_spec.specs.Setup.{map_of};
-ghost use Rattle.order_spec.specs.Facts.{Fact as StepFact, facts as facts_of};
-ghost use Rattle.order_spec.specs.Before.{is_in};
+ghost use Rattle.history_spec.specs.Facts.{Fact as StepFact, facts as facts_of};
+ghost use Rattle.history_spec.specs.Before.{is_in};
 ghost use Rattle.round_spec.specs.Reach as reach;
 ghost use Rattle.release_core.specs.Records.{AreOfRun};
 ghost use Rattle.round_spec.specs.Sync.{sync_facts, seen_at};

@@ -4,7 +4,7 @@ ghost use Rattle.std.specs.Prelude.{◌≡◌, ◌<◌, All, map, get_or, true, 
 ghost use Rattle.thunk_spec.specs.Delta.{PageDelta as Stored};
 ghost use Rattle.thunk_spec.specs.Reads.{ReadPage as Read};
 ghost use Rattle.history_spec.specs.History.{IsMappedIn};
-ghost use Rattle.order_spec.specs.Facts as order;
+ghost use Rattle.history_spec.specs.Facts as order;
 ghost use Rattle.race_report.specs.Touches.{ascends, touches_in};
 
 use std::alloc::{AllocError, Global};

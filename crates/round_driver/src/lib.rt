@@ -6,8 +6,8 @@ ghost use Rattle.std.specs.Prelude.{◌≡◌, ℕ, ◌+◌, ◌≤◌, true, Li
 ghost use Rattle.std.specs.Arc.{arc_value};
 ghost use Rattle.machine_spec.specs.Setup.{IsSetup};
 ghost use Rattle.history_spec.specs.History.{History as OldHistory, IsSound};
-ghost use Rattle.order_spec.specs.Facts.{facts};
-ghost use Rattle.order_spec.specs.Orders.{is_order};
+ghost use Rattle.history_spec.specs.Facts.{facts};
+ghost use Rattle.history_spec.specs.Orders.{is_order};
 ghost use Rattle.round_spec.specs.declared.events.Event.TheVariants as event;
 ghost use Rattle.round_spec.specs.Rounds.{none_in_flight, opening, is_in_flight, happens, round_after};
 ghost use Rattle.round_spec.specs.Keeping.{IsFromScratch};

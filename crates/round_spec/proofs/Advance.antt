@@ -21,16 +21,16 @@ use Rattle.history_spec.proofs.Applying.{fits-can_step, apply-whole}
 use Rattle.history_spec.proofs.Numbers.{one_for, apply-number}
 use Rattle.history_spec.proofs.Truth.{record-fits, record-apply, reuse-record}
 use Rattle.round_spec.specs.Marks.{is_fitting, fits_next}
-use Rattle.order_spec.specs.Facts.{Fact, facts, ask_of, reads_in, read_slots, served_by, written_slots}
-use Rattle.order_spec.specs.Before.{is_in, fact_at, before_at}
-use Rattle.order_spec.specs.Ancestors.{number_at}
-use Rattle.order_spec.proofs.Lists.{and-left, and-right, or-in_left, or-in_right, is_or_not}
-use Rattle.order_spec.proofs.After.{apply-ending, own_end}
-use Rattle.order_spec.proofs.Alike.{IsReading, fits-parts, read_by-in}
-use Rattle.order_spec.proofs.Simulate.{reading-apply}
-use Rattle.order_spec.proofs.Honest.{honest-reading}
-use Rattle.order_spec.proofs.Places.{left_from, IsClosed}
-use Rattle.order_spec.proofs.Near.{IsNear, IsStepLike, IsClosedAt, other_record, taint_after, near-fits, near-apply}
+use Rattle.history_spec.specs.Facts.{Fact, facts, ask_of, reads_in, read_slots, served_by, written_slots}
+use Rattle.history_spec.specs.Before.{is_in, fact_at, before_at}
+use Rattle.history_spec.specs.Ancestors.{number_at}
+use Rattle.history_spec.proofs.Lists.{and-left, and-right, or-in_left, or-in_right, is_or_not}
+use Rattle.history_spec.proofs.After.{apply-ending, own_end}
+use Rattle.history_spec.proofs.Alike.{IsReading, fits-parts, read_by-in}
+use Rattle.history_spec.proofs.Simulate.{reading-apply}
+use Rattle.history_spec.proofs.Honest.{honest-reading}
+use Rattle.history_spec.proofs.Places.{left_from, IsClosed}
+use Rattle.history_spec.proofs.Near.{IsNear, IsStepLike, IsClosedAt, other_record, taint_after, near-fits, near-apply}
 use Rattle.round_spec.specs.Reach.{read_at, reads_of, changed, IsClosedSet}
 use Rattle.round_spec.proofs.Like.{machine_at}
 use Rattle.round_spec.specs.Working.{IsWithinWork}

@@ -3,12 +3,12 @@ use Rattle.std.proofs.Common.{◌≡◌, ◌≢◌, ◌<◌, ◌≤◌, ◌+◌,
 use Rattle.std.proofs.lemmas.Bool.{cases_eq, cases_lt, eq-eqb, eqb-true}
 use Rattle.std.proofs.lemmas.Bool.Decides.{nat_tests}
 use Rattle.machine_spec.specs.Machine.{Machine, hart_of}
-use Rattle.order_spec.specs.Facts.{Fact}
-use Rattle.order_spec.specs.Before.{fact_at}
-use Rattle.order_spec.specs.Ancestors.{count_below, is_ancestor, is_up_to, clock_at, number_at}
-use Rattle.order_spec.proofs.Lists.{and-left, and-right, or-in_left, or-in_right, is_or_not}
-use Rattle.order_spec.proofs.Clocks.{count-le, lt-bit, clock-tells}
-use Rattle.order_spec.proofs.Places.{below-all}
+use Rattle.history_spec.specs.Facts.{Fact}
+use Rattle.history_spec.specs.Before.{fact_at}
+use Rattle.history_spec.specs.Ancestors.{count_below, is_ancestor, is_up_to, clock_at, number_at}
+use Rattle.history_spec.proofs.Lists.{and-left, and-right, or-in_left, or-in_right, is_or_not}
+use Rattle.history_spec.proofs.Clocks.{count-le, lt-bit, clock-tells}
+use Rattle.history_spec.proofs.Places.{below-all}
 use Rattle.round_spec.specs.Due.{has_exited, is_passed_at, are_passed_before}
 use Rattle.round_spec.proofs.Placed.{all-below-of, not-or, not-or_gives, number-less}
 

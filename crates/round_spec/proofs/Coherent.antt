@@ -11,7 +11,7 @@ use Rattle.machine_spec.proofs.Beginning.{IsWhole-first}
 use Rattle.history_spec.specs.History.{History, applied_from, can_apply_from, is_coherent, is_numbered_after}
 use Rattle.history_spec.proofs.Applying.{apply-whole, fits-can_step}
 use Rattle.history_spec.proofs.Numbers.{apply-number, count-more, first-number}
-use Rattle.order_spec.proofs.Alike.{fits-parts}
+use Rattle.history_spec.proofs.Alike.{fits-parts}
 use Rattle.round_spec.specs.Due.{place_in}
 use Rattle.round_spec.proofs.Following.{IsNext, made-absent}
 use Rattle.round_spec.proofs.Numbers.{IsMadeOn, one_for-own}

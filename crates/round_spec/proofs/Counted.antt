@@ -4,9 +4,9 @@ use Rattle.std.proofs.lemmas.Bool.{cases_eq, eq-eqb}
 use Rattle.std.proofs.lemmas.Bool.Decides.{nat_tests}
 use Rattle.std.proofs.lemmas.List.Sums.{sum_by-cons}
 use Rattle.std.specs.List.{range_with_len}
-use Rattle.order_spec.specs.Ancestors.{count_below}
-use Rattle.order_spec.proofs.Lists.{and-left, is_or_not}
-use Rattle.order_spec.proofs.Clocks.{count-le}
+use Rattle.history_spec.specs.Ancestors.{count_below}
+use Rattle.history_spec.proofs.Lists.{and-left, is_or_not}
+use Rattle.history_spec.proofs.Clocks.{count-le}
 use Rattle.round_spec.proofs.Placed.{count-shift, count-like}
 
 pub count-list :

@@ -11,8 +11,8 @@ use Rattle.machine_spec.proofs.Harts.{ready-below}
 use Rattle.history_spec.specs.History.{History, found}
 use Rattle.report_spec.specs.declared.Entry.{Entry}
 use Rattle.report_spec.specs.Report.{threads_of}
-use Rattle.order_spec.specs.Facts.{facts}
-use Rattle.order_spec.proofs.Lists.{or-in_left, or-in_right}
+use Rattle.history_spec.specs.Facts.{facts}
+use Rattle.history_spec.proofs.Lists.{or-in_left, or-in_right}
 use Rattle.round_spec.specs.Due.{is_due_by, is_due}
 use Rattle.round_spec.specs.Marks.{fits_next, marked_from}
 use Rattle.round_spec.specs.Picking.{any_thread, is_ready_and_due, is_picked_on, machine_after, IsPicked, ArePicked}

@@ -18,12 +18,12 @@ use Rattle.history_spec.specs.History.{History, IsHonest, schedule_of, is_of, pa
 use Rattle.history_spec.proofs.Scratch.{and-left, and-right, scratch-whole, scratch-more}
 use Rattle.history_spec.proofs.Numbers.{first-steps, honest-numbered}
 use Rattle.history_spec.proofs.Truth.{record-fits}
-use Rattle.order_spec.specs.Facts.{facts}
-use Rattle.order_spec.specs.Before.{fact_at}
-use Rattle.order_spec.specs.Ancestors.{is_ancestor, number_at}
-use Rattle.order_spec.proofs.Lists.{or-in_left}
-use Rattle.order_spec.proofs.Clocks.{lt-bit}
-use Rattle.order_spec.proofs.Alike.{fits-parts}
+use Rattle.history_spec.specs.Facts.{facts}
+use Rattle.history_spec.specs.Before.{fact_at}
+use Rattle.history_spec.specs.Ancestors.{is_ancestor, number_at}
+use Rattle.history_spec.proofs.Lists.{or-in_left}
+use Rattle.history_spec.proofs.Clocks.{lt-bit}
+use Rattle.history_spec.proofs.Alike.{fits-parts}
 use Rattle.report_spec.specs.declared.Entry.{Entry}
 use Rattle.round_spec.specs.Marks.{record_for, is_fitting, fits_next, marked_from}
 use Rattle.round_spec.specs.Rounds.{none_in_flight}

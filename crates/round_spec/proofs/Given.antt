@@ -12,16 +12,16 @@ use Rattle.machine_spec.specs.Whole.{IsWhole}
 use Rattle.machine_spec.proofs.Harts.{ready-below}
 use Rattle.history_spec.specs.History.{can_apply_from}
 use Rattle.history_spec.proofs.Applying.{fits-can_step, apply-whole}
-use Rattle.order_spec.specs.Facts.{Fact, ask_of, effect_of, returning, starting, served_by, fact_of, facts_from}
-use Rattle.order_spec.specs.Before.{is_in, no_fact}
-use Rattle.order_spec.specs.Keeping.{set_second, moved, fact_thread, record_thread, is_free_of, may_come}
-use Rattle.order_spec.proofs.Lists.{and-left, and-right, not-true, is_in-append}
-use Rattle.order_spec.proofs.After.{unwoken, waits-ready}
-use Rattle.order_spec.proofs.Alike.{IsReading, fits-parts}
-use Rattle.order_spec.proofs.Simulate.{reading-apply}
-use Rattle.order_spec.proofs.Every.{IsFront, fit-facts, front, moved-full}
-use Rattle.order_spec.proofs.Honest.{head-thread}
-use Rattle.order_spec.proofs.Places.{left_from}
+use Rattle.history_spec.specs.Facts.{Fact, ask_of, effect_of, returning, starting, served_by, fact_of, facts_from}
+use Rattle.history_spec.specs.Before.{is_in, no_fact}
+use Rattle.history_spec.specs.Keeping.{set_second, moved, fact_thread, record_thread, is_free_of, may_come}
+use Rattle.history_spec.proofs.Lists.{and-left, and-right, not-true, is_in-append}
+use Rattle.history_spec.proofs.After.{unwoken, waits-ready}
+use Rattle.history_spec.proofs.Alike.{IsReading, fits-parts}
+use Rattle.history_spec.proofs.Simulate.{reading-apply}
+use Rattle.history_spec.proofs.Every.{IsFront, fit-facts, front, moved-full}
+use Rattle.history_spec.proofs.Honest.{head-thread}
+use Rattle.history_spec.proofs.Places.{left_from}
 
 returning-other : (t u : ℕ) (f : Fate) → u ≢ t → is_in u (returning t f) ≡ false
 returning-other t u (Returns a b) other = let isnt : eqb t u ≡ false = grind (arith, nat_tests) in rw isnt refl

@@ -2,8 +2,8 @@
 use Rattle.std.proofs.Common.{◌≡◌, ◌≤◌, ℕ, zero, suc, Bool, true, false, ◌&&◌, ◌||◌, ltb, leb, cond, refl, sym, ◌∙◌, inl, inr, ◌⊎◌, arith}
 use Rattle.std.proofs.lemmas.Bool.{cases_lt}
 use Rattle.std.proofs.lemmas.Bool.Decides.{nat_tests}
-use Rattle.order_spec.specs.Ancestors.{any_below}
-use Rattle.order_spec.proofs.Lists.{is_or_not}
+use Rattle.history_spec.specs.Ancestors.{any_below}
+use Rattle.history_spec.proofs.Lists.{is_or_not}
 use Rattle.round_spec.specs.Reach.{last_below}
 
 last-low : (test : ℕ → Bool) (n : ℕ) → last_below test n ≤ n

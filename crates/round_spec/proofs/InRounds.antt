@@ -10,9 +10,9 @@ use Rattle.history_spec.specs.History.{History, IsSound}
 use Rattle.history_spec.proofs.Numbers.{one_for}
 use Rattle.report_spec.specs.declared.Entry.{Entry}
 use Rattle.report_spec.specs.Report.{threads_of, executed_count}
-use Rattle.order_spec.specs.Facts.{facts}
-use Rattle.order_spec.specs.Ancestors.{count_below, number_at}
-use Rattle.order_spec.proofs.Lists.{not-true}
+use Rattle.history_spec.specs.Facts.{facts}
+use Rattle.history_spec.specs.Ancestors.{count_below, number_at}
+use Rattle.history_spec.proofs.Lists.{not-true}
 use Rattle.round_spec.specs.declared.events.Event.{Event}
 use Rattle.round_spec.specs.Due.{is_step_at}
 use Rattle.round_spec.specs.Marks.{fits_next, marked}
@@ -252,7 +252,7 @@ module _
 pub work-within : (old new : Record) → IsSameWork old new → IsWithinWork old new
 work-within old new same =
     record {
-      written = λ p writes. ap (Rattle.order_spec.specs.Before.is_in p) (sym same.written) ∙ writes;
+      written = λ p writes. ap (Rattle.history_spec.specs.Before.is_in p) (sym same.written) ∙ writes;
       end = same.end;
       call = same.call;
     }

@@ -1,10 +1,10 @@
 -- The reached steps are the least closed set.
 use Rattle.std.proofs.Common.{◌≡◌, ◌<◌, ◌≤◌, ℕ, zero, suc, Bool, true, false, ◌&&◌, ◌||◌, List, length, refl, ap, ap₂, sym, inl, inr, arith}
-use Rattle.order_spec.specs.Facts.{Fact}
-use Rattle.order_spec.specs.Before.{meets}
-use Rattle.order_spec.specs.Ancestors.{any_below}
-use Rattle.order_spec.proofs.Lists.{and-left, and-right, or-in_left, or-in_right, is_or_not}
-use Rattle.order_spec.proofs.Clocks.{IsSome, some-below, below-some}
+use Rattle.history_spec.specs.Facts.{Fact}
+use Rattle.history_spec.specs.Before.{meets}
+use Rattle.history_spec.specs.Ancestors.{any_below}
+use Rattle.history_spec.proofs.Lists.{and-left, and-right, or-in_left, or-in_right, is_or_not}
+use Rattle.history_spec.proofs.Clocks.{IsSome, some-below, below-some}
 use Rattle.round_spec.specs.Reach.{read_at, leads_to, reached_within, is_reached, IsClosedSet}
 
 pub any-like : (p q : ℕ → Bool) (n : ℕ) → ((i : ℕ) → i < n → p i ≡ q i) → any_below p n ≡ any_below q n

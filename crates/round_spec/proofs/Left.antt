@@ -10,12 +10,12 @@ use Rattle.machine_spec.specs.Step.{apply, fits}
 use Rattle.machine_spec.specs.Whole.{IsWhole, blocked_count}
 use Rattle.history_spec.specs.History.{can_apply_from}
 use Rattle.history_spec.proofs.Applying.{fits-can_step, apply-whole}
-use Rattle.order_spec.specs.Facts.{ask_of, effect_of, starting}
-use Rattle.order_spec.specs.Before.{is_in}
-use Rattle.order_spec.proofs.Lists.{and-left, and-right, is_or_not}
-use Rattle.order_spec.proofs.After.{unwoken, apply-at, apply-length}
-use Rattle.order_spec.proofs.Alike.{untouched-after, fits-parts}
-use Rattle.order_spec.proofs.Places.{left_from}
+use Rattle.history_spec.specs.Facts.{ask_of, effect_of, starting}
+use Rattle.history_spec.specs.Before.{is_in}
+use Rattle.history_spec.proofs.Lists.{and-left, and-right, is_or_not}
+use Rattle.history_spec.proofs.After.{unwoken, apply-at, apply-length}
+use Rattle.history_spec.proofs.Alike.{untouched-after, fits-parts}
+use Rattle.history_spec.proofs.Places.{left_from}
 use Rattle.round_spec.proofs.Like.{record_at}
 use Rattle.round_spec.proofs.Given.{starting-below}
 

@@ -7,7 +7,7 @@ use Rattle.machine_spec.specs.Machine.{Machine, hart_of, is_ready}
 use Rattle.machine_spec.specs.Schedule.{record_of}
 use Rattle.machine_spec.specs.Setup.{Setup, IsSetup, scratch, is_permitted}
 use Rattle.history_spec.specs.History.{History, IsHonest, IsSameProgram, found}
-use Rattle.order_spec.specs.Facts.{facts}
+use Rattle.history_spec.specs.Facts.{facts}
 use Rattle.round_spec.specs.Due.{is_due_by}
 use Rattle.round_spec.specs.Marks.{fits_next}
 use Rattle.round_spec.proofs.Placed.{no_record}

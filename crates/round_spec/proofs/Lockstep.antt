@@ -11,23 +11,23 @@ use Rattle.machine_spec.specs.Whole.{IsWhole}
 use Rattle.history_spec.specs.History.{History, can_apply_from}
 use Rattle.round_spec.specs.Marks.{record_for, is_fitting, fits_next}
 use Rattle.round_spec.specs.Due.{has_exited}
-use Rattle.order_spec.specs.Facts.{Fact, facts, facts_from, fact_of, reads_in}
-use Rattle.order_spec.specs.Before.{is_in, no_fact, fact_at, all_below, before_at}
-use Rattle.order_spec.specs.Keeping.{moved, fact_thread, record_thread, may_come}
-use Rattle.order_spec.specs.Ancestors.{number_at, is_ancestor, reaches}
-use Rattle.order_spec.proofs.Lists.{and-left, and-right, or-in_left, or-in_right, is_or_not}
-use Rattle.order_spec.proofs.Alike.{IsReading, fits-parts}
-use Rattle.order_spec.proofs.Every.{IsFront, fit-facts, front}
-use Rattle.order_spec.proofs.Places.{left_from, IsNext, walk, below-all, same-thread, IsClosed, free-at}
-use Rattle.order_spec.proofs.Clocks.{bounded, link, lt-bit, bit-lt}
-use Rattle.order_spec.proofs.Near.{plain, IsNear}
+use Rattle.history_spec.specs.Facts.{Fact, facts, facts_from, fact_of, reads_in}
+use Rattle.history_spec.specs.Before.{is_in, no_fact, fact_at, all_below, before_at}
+use Rattle.history_spec.specs.Keeping.{moved, fact_thread, record_thread, may_come}
+use Rattle.history_spec.specs.Ancestors.{number_at, is_ancestor, reaches}
+use Rattle.history_spec.proofs.Lists.{and-left, and-right, or-in_left, or-in_right, is_or_not}
+use Rattle.history_spec.proofs.Alike.{IsReading, fits-parts}
+use Rattle.history_spec.proofs.Every.{IsFront, fit-facts, front}
+use Rattle.history_spec.proofs.Places.{left_from, IsNext, walk, below-all, same-thread, IsClosed, free-at}
+use Rattle.history_spec.proofs.Clocks.{bounded, link, lt-bit, bit-lt}
+use Rattle.history_spec.proofs.Near.{plain, IsNear}
 use Rattle.round_spec.specs.Reach.{changed}
 use Rattle.round_spec.specs.Due.{is_passed_at, is_step_at, is_due_by}
 use Rattle.round_spec.proofs.Like.{machine_at, IsTimely}
 use Rattle.round_spec.proofs.Like.{record_at, IsLikeOld}
 use Rattle.round_spec.proofs.Placed.{no_record}
 use Rattle.round_spec.proofs.Placed.{number-same, facts-length}
-use Rattle.order_spec.proofs.Arranged.{front-at}
+use Rattle.history_spec.proofs.Arranged.{front-at}
 use Rattle.round_spec.proofs.PlacedInRounds.{thread-is, number-is, found-place, IsMade}
 use Rattle.round_spec.proofs.Given.{given_of, ahead_free, given-free, ahead-at}
 use Rattle.round_spec.proofs.Left.{left-head, IsFirstLeft, some-left, head-fits, left-unended}

@@ -10,14 +10,14 @@ use Rattle.machine_spec.specs.Machine.{Machine, hart_of}
 use Rattle.machine_spec.specs.Setup.{first}
 use Rattle.history_spec.specs.History.{History, is_of, is_numbered, is_numbered_after, threads_of_records}
 use Rattle.history_spec.proofs.Numbers.{one_for, count-more}
-use Rattle.order_spec.specs.Facts.{Fact, facts, reads_in}
-use Rattle.order_spec.specs.Before.{no_fact, fact_at, all_below}
-use Rattle.order_spec.specs.Keeping.{fact_thread, record_thread}
-use Rattle.order_spec.specs.Ancestors.{count_below, number_at}
-use Rattle.order_spec.proofs.Lists.{and-left, and-right}
-use Rattle.order_spec.proofs.Places.{below-all}
-use Rattle.order_spec.proofs.Clocks.{count-step}
-use Rattle.order_spec.proofs.Honest.{facts-threads}
+use Rattle.history_spec.specs.Facts.{Fact, facts, reads_in}
+use Rattle.history_spec.specs.Before.{no_fact, fact_at, all_below}
+use Rattle.history_spec.specs.Keeping.{fact_thread, record_thread}
+use Rattle.history_spec.specs.Ancestors.{count_below, number_at}
+use Rattle.history_spec.proofs.Lists.{and-left, and-right}
+use Rattle.history_spec.proofs.Places.{below-all}
+use Rattle.history_spec.proofs.Clocks.{count-step}
+use Rattle.history_spec.proofs.Honest.{facts-threads}
 use Rattle.round_spec.specs.Due.{place_in, is_step_at, are_passed_before, is_due_by, is_due}
 
 -- tests of all numbers below another, and what they imply

@@ -8,11 +8,11 @@ use Rattle.thunk_spec.specs.Record.{Record}
 use Rattle.history_spec.specs.History.{History, IsHonest, is_of}
 use Rattle.history_spec.proofs.Numbers.{one_for, honest-numbered}
 use Rattle.history_spec.proofs.Truth.{found-of}
-use Rattle.order_spec.specs.Facts.{Fact, facts, read_slots}
-use Rattle.order_spec.specs.Before.{is_in, fact_at}
-use Rattle.order_spec.specs.Keeping.{record_thread}
-use Rattle.order_spec.specs.Ancestors.{number_at}
-use Rattle.order_spec.proofs.Lists.{or-in_left, or-in_right, is_or_not}
+use Rattle.history_spec.specs.Facts.{Fact, facts, read_slots}
+use Rattle.history_spec.specs.Before.{is_in, fact_at}
+use Rattle.history_spec.specs.Keeping.{record_thread}
+use Rattle.history_spec.specs.Ancestors.{number_at}
+use Rattle.history_spec.proofs.Lists.{or-in_left, or-in_right, is_or_not}
 use Rattle.round_spec.proofs.Placed as placed
 use Rattle.round_spec.proofs.Placed.{no_record, number-same}
 use Rattle.round_spec.proofs.Like.{record_at}

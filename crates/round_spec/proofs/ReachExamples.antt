@@ -1,8 +1,8 @@
 -- Worked examples of what changed pages reach, each computed by the checker. They were worked out by hand.
 use Rattle.std.proofs.Common.{◌≡◌, ℕ, List, [], ◌∷◌, filter, length, refl}
 use Rattle.std.specs.List.{range_with_len}
-use Rattle.order_spec.specs.Facts.{Fact}
-use Rattle.order_spec.proofs.BeforeExamples.{quiet, gives, writes}
+use Rattle.history_spec.specs.Facts.{Fact}
+use Rattle.history_spec.proofs.BeforeExamples.{quiet, gives, writes}
 use Rattle.round_spec.specs.Reach.{is_reached, giver_end}
 
 -- the places of the steps that some pages reach

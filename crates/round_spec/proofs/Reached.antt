@@ -10,13 +10,13 @@ use Rattle.history_spec.specs.History.{History, schedule_of, can_apply_from}
 use Rattle.history_spec.proofs.Numbers.{first-number}
 use Rattle.history_spec.proofs.Truth.{records-can_apply}
 use Rattle.round_spec.specs.Marks.{fits_next}
-use Rattle.order_spec.specs.Facts.{facts, facts_from, reads_in}
-use Rattle.order_spec.specs.Before.{is_in, fact_at}
-use Rattle.order_spec.specs.Ancestors.{number_at}
-use Rattle.order_spec.proofs.Lists.{is_or_not}
-use Rattle.order_spec.proofs.Alike.{IsReading}
-use Rattle.order_spec.proofs.Honest.{honest-reading}
-use Rattle.order_spec.proofs.Places.{none-came}
+use Rattle.history_spec.specs.Facts.{facts, facts_from, reads_in}
+use Rattle.history_spec.specs.Before.{is_in, fact_at}
+use Rattle.history_spec.specs.Ancestors.{number_at}
+use Rattle.history_spec.proofs.Lists.{is_or_not}
+use Rattle.history_spec.proofs.Alike.{IsReading}
+use Rattle.history_spec.proofs.Honest.{honest-reading}
+use Rattle.history_spec.proofs.Places.{none-came}
 use Rattle.round_spec.specs.Reach.{read_at, reads_of, changed, is_reached, IsClosedSet}
 use Rattle.round_spec.specs.Due.{is_step_at}
 use Rattle.round_spec.proofs.Like.{machine_at}

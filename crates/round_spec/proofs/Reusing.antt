@@ -14,12 +14,12 @@ use Rattle.round_spec.specs.Rounds.{RoundState, opening, is_in_flight_of, can_re
 use Rattle.round_spec.specs.Reordering.{reuses_of, ReusesInOrder}
 use Rattle.round_spec.proofs.Conditions.{happens-reuse}
 use Rattle.round_spec.proofs.Happening.{none_in_flight-none}
-use Rattle.order_spec.specs.Facts.{facts}
-use Rattle.order_spec.specs.Keeping.{keeps, arranged}
-use Rattle.order_spec.specs.Orders.{threads_at}
-use Rattle.order_spec.proofs.Lists.{and-left, and-right}
-use Rattle.order_spec.proofs.Alike.{fits-parts}
-use Rattle.order_spec.proofs.Honest.{IsFound, honest-found, arranged-all, honest-every, honest-threads, honest-applied}
+use Rattle.history_spec.specs.Facts.{facts}
+use Rattle.history_spec.specs.Keeping.{keeps, arranged}
+use Rattle.history_spec.specs.Orders.{threads_at}
+use Rattle.history_spec.proofs.Lists.{and-left, and-right}
+use Rattle.history_spec.proofs.Alike.{fits-parts}
+use Rattle.history_spec.proofs.Honest.{IsFound, honest-found, arranged-all, honest-every, honest-threads, honest-applied}
 
 abbrev reused_entry : ℕ → Entry
 reused_entry t = record { thread = t; reused = true }

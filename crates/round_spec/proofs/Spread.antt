@@ -2,12 +2,12 @@
 use Rattle.std.proofs.Common.{◌≡◌, ◌<◌, ◌≤◌, ℕ, zero, suc, Bool, true, false, ◌&&◌, ◌||◌, not, eqb, leb, List, [], ◌∷◌, length, refl, ap, sym, ◌∙◌, subst, inl, inr, ◌⊎◌, arith}
 use Rattle.std.proofs.lemmas.Bool.{cases_eq, cases_lt, eq-eqb, eqb-true}
 use Rattle.std.proofs.lemmas.Bool.Decides.{nat_tests}
-use Rattle.order_spec.specs.Facts.{Fact}
-use Rattle.order_spec.specs.Before.{is_in, meets, overlap, fact_at, all_below, is_next_at, before_at}
-use Rattle.order_spec.specs.Ancestors.{number_at}
-use Rattle.order_spec.proofs.Lists.{and-left, and-right, or-left, or-right, or-in_left, or-in_right, is_or_not}
-use Rattle.order_spec.proofs.Places.{IsClosed, below-all, given-next}
-use Rattle.order_spec.proofs.Clocks.{below-some}
+use Rattle.history_spec.specs.Facts.{Fact}
+use Rattle.history_spec.specs.Before.{is_in, meets, overlap, fact_at, all_below, is_next_at, before_at}
+use Rattle.history_spec.specs.Ancestors.{number_at}
+use Rattle.history_spec.proofs.Lists.{and-left, and-right, or-left, or-right, or-in_left, or-in_right, is_or_not}
+use Rattle.history_spec.proofs.Places.{IsClosed, below-all, given-next}
+use Rattle.history_spec.proofs.Clocks.{below-some}
 use Rattle.round_spec.specs.Reach.{read_at, gave_at, comes_to, IsClosedSet}
 use Rattle.round_spec.specs.Due.{is_step_at}
 use Rattle.round_spec.proofs.Placed.{all-below-of, not-or, not-or_gives, number-less}

@@ -14,9 +14,9 @@ use Rattle.machine_spec.specs.Performing.{first_hart}
 use Rattle.machine_spec.specs.Setup.{Setup, first, start_memory, map_of}
 use Rattle.machine_spec.proofs.Beginning.{IsMemory-start}
 use Rattle.history_spec.specs.History.{IsSameProgram}
-use Rattle.order_spec.specs.Before.{is_in}
-use Rattle.order_spec.proofs.Lists.{or-left, or-right}
-use Rattle.order_spec.proofs.Near.{plain, IsNear}
+use Rattle.history_spec.specs.Before.{is_in}
+use Rattle.history_spec.proofs.Lists.{or-left, or-right}
+use Rattle.history_spec.proofs.Near.{plain, IsNear}
 use Rattle.round_spec.specs.Reach.{changed_slots, changed}
 
 same-map : (a b : Setup) → IsSameProgram a b → map_of b ≡ map_of a

@@ -2,11 +2,11 @@
 use Rattle.std.proofs.Common.{◌≡◌, ◌<◌, ◌≤◌, ◌+◌, ℕ, zero, suc, Bool, true, false, ◌&&◌, ◌||◌, not, eqb, ltb, leb, cond, List, [], ◌∷◌, refl, ap, ap₂, sym, ◌∙◌, inl, inr, arith}
 use Rattle.std.proofs.lemmas.Bool.{cases_lt}
 use Rattle.std.proofs.lemmas.Bool.Decides.{nat_tests}
-use Rattle.order_spec.specs.Facts.{Fact}
-use Rattle.order_spec.specs.Before.{is_in, meets, overlap, fact_at, all_below, is_next_at, before_at}
-use Rattle.order_spec.specs.Ancestors.{count_below, is_up_to, clock_at, number_at}
-use Rattle.order_spec.proofs.Lists.{is_or_not}
-use Rattle.order_spec.proofs.Clocks.{lt-bit, bit-lt, count-le, clock-tells}
+use Rattle.history_spec.specs.Facts.{Fact}
+use Rattle.history_spec.specs.Before.{is_in, meets, overlap, fact_at, all_below, is_next_at, before_at}
+use Rattle.history_spec.specs.Ancestors.{count_below, is_up_to, clock_at, number_at}
+use Rattle.history_spec.proofs.Lists.{is_or_not}
+use Rattle.history_spec.proofs.Clocks.{lt-bit, bit-lt, count-le, clock-tells}
 use Rattle.round_spec.specs.Reach.{gave_at, giver_end}
 use Rattle.round_spec.specs.Sync.{sync_fact, sync_facts, is_within, is_ordered, count_within, seen_at}
 

@@ -3,9 +3,9 @@ use Rattle.std.specs.Prelude.{ℕ, Bool, ◌==◌, ◌&&◌, ◌||◌, not, nat_
 use Rattle.std.specs.List.{position_or_len}
 use Rattle.machine_spec.specs.Machine.{Machine, hart_of, is_ended}
 use Rattle.history_spec.specs.History.{History, is_of, past_records}
-use Rattle.order_spec.specs.Facts.{Fact, facts}
-use Rattle.order_spec.specs.Before.{fact_at, all_below}
-use Rattle.order_spec.specs.Ancestors.{is_ancestor, number_at}
+use Rattle.history_spec.specs.Facts.{Fact, facts}
+use Rattle.history_spec.specs.Before.{fact_at, all_below}
+use Rattle.history_spec.specs.Ancestors.{is_ancestor, number_at}
 
 -- The place of a thread's next step in the history, and the number of its records where it isn't there.
 abbrev pub place_in : Option History → Machine → ℕ → ℕ

@@ -3,8 +3,8 @@ use Rattle.std.specs.Prelude.{ℕ, Bool, ◌==◌, ◌&&◌, ◌||◌, not, nat_
 use Rattle.std.specs.List.{range_with_len, flat_map}
 use Rattle.machine_spec.specs.Setup.{map_of}
 use Rattle.history_spec.specs.History.{History}
-use Rattle.order_spec.specs.Facts.{Fact, facts}
-use Rattle.order_spec.specs.Before.{is_in, fact_at}
+use Rattle.history_spec.specs.Facts.{Fact, facts}
+use Rattle.history_spec.specs.Before.{is_in, fact_at}
 use Rattle.round_spec.specs.Reach.{read_at, reads_of}
 use Rattle.round_spec.specs.declared.Race.{Race}
 use Rattle.round_spec.specs.Sync.{is_ordered}

@@ -6,9 +6,9 @@ use Rattle.memory_spec.specs.Pages.{Memory, page_of}
 use Rattle.thunk_spec.specs.Record.{Record}
 use Rattle.machine_spec.specs.Setup.{Setup, start_memory}
 use Rattle.history_spec.specs.History.{History}
-use Rattle.order_spec.specs.Facts.{Fact, facts, read_slots}
-use Rattle.order_spec.specs.Before.{is_in, meets, fact_at, is_next_at}
-use Rattle.order_spec.specs.Ancestors.{any_below}
+use Rattle.history_spec.specs.Facts.{Fact, facts, read_slots}
+use Rattle.history_spec.specs.Before.{is_in, meets, fact_at, is_next_at}
+use Rattle.history_spec.specs.Ancestors.{any_below}
 
 -- What the step at a place reads, by what each step reads.
 abbrev pub read_at : List (List ℕ) → ℕ → List ℕ

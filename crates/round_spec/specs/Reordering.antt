@@ -5,8 +5,8 @@ use Rattle.history_spec.specs.History.{History, schedule_of}
 use Rattle.round_spec.specs.declared.events.Event.{Event}
 use Rattle.round_spec.specs.declared.events.Event.TheVariants.{Reuse}
 use Rattle.round_spec.specs.Rounds.{RoundState}
-use Rattle.order_spec.specs.Facts.{facts}
-use Rattle.order_spec.specs.Orders.{threads_at}
+use Rattle.history_spec.specs.Facts.{facts}
+use Rattle.history_spec.specs.Orders.{threads_at}
 
 -- To reuse the steps of a history in the order of some of its places.
 abbrev pub reuses_of : History → List ℕ → List Event

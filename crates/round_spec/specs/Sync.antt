@@ -1,7 +1,7 @@
 -- The order of a history's steps by threads and objects alone.
 use Rattle.std.specs.Prelude.{ℕ, zero, suc, Bool, false, List, [], map}
-use Rattle.order_spec.specs.Facts.{Fact}
-use Rattle.order_spec.specs.Ancestors.{is_up_to, clock_at}
+use Rattle.history_spec.specs.Facts.{Fact}
+use Rattle.history_spec.specs.Ancestors.{is_up_to, clock_at}
 use Rattle.round_spec.specs.Reach.{giver_end}
 
 -- What a step does, without its pages, and without whether it ends the run.

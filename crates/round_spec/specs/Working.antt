@@ -8,8 +8,8 @@ use Rattle.machine_spec.specs.Setup.{Setup}
 use Rattle.history_spec.specs.History.{History, IsSound, found}
 use Rattle.report_spec.specs.declared.Entry.{Entry}
 use Rattle.report_spec.specs.Report.{executed_count}
-use Rattle.order_spec.specs.Facts.{facts, read_slots, written_slots}
-use Rattle.order_spec.specs.Before.{is_in}
+use Rattle.history_spec.specs.Facts.{facts, read_slots, written_slots}
+use Rattle.history_spec.specs.Before.{is_in}
 use Rattle.round_spec.specs.Rounds.{RoundState}
 use Rattle.round_spec.specs.Due.{is_step_at, is_due}
 use Rattle.round_spec.specs.Picking.{any_thread, is_ready_and_due, machine_after}

@@ -4,7 +4,7 @@ use Rattle.std.specs.Prelude.{◌&&◌, cond}
 use Rattle.std.specs.Arc.{arc_value}
 use Rattle.machine_spec.specs.Step as step
 use Rattle.release_core.specs.Applying.{can_apply}
-use Rattle.order_spec.specs.Facts as order
+use Rattle.history_spec.specs.Facts as order
 use Rattle.history_facts.proofs.PendingFacts.{follows, all-came, AreLeft, rest-of, left-more}
 use Rattle.history_facts.proofs.facts_on.Goals as goal
 

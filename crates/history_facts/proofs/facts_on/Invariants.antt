@@ -1,6 +1,6 @@
 -- What holds at the loop of `facts_on`.
 use Rattle.std.proofs.Common.{◌≡◌, ◌++◌, drop}
-use Rattle.order_spec.specs.Facts as order
+use Rattle.history_spec.specs.Facts as order
 use Rattle.history_facts.specs.PendingFacts.{facts_to_come}
 use Rattle.history_facts.proofs.PendingFacts.{AreLeft}
 use Rattle.history_facts.proofs.facts_on.Given as goal

@@ -4,7 +4,7 @@ use Rattle.std.specs.List.{slice_get}
 use Rattle.thunk_spec.specs.Record.{Record}
 use Rattle.machine_spec.specs.Setup.{IsSetup}
 use Rattle.machine_spec.specs.Machine.{Machine}
-use Rattle.order_spec.specs.Facts as order
+use Rattle.history_spec.specs.Facts as order
 use Rattle.history_facts.specs.Outlining.{machine_at, IsOutlineOf}
 use Rattle.history_facts.proofs.PendingFacts.{follows-applied, all-came}
 use Rattle.history_facts.proofs.Outlining.{machine-more, coherent-can, coherent-applied, coherent-last}

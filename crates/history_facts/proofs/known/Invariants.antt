@@ -1,6 +1,6 @@
 -- What holds at the loop of `known`.
 use Rattle.std.proofs.Common.{◌≡◌, ◌++◌, true, drop}
-use Rattle.order_spec.specs.Facts as order
+use Rattle.history_spec.specs.Facts as order
 use Rattle.history_facts.specs.PendingFacts.{facts_to_come}
 use Rattle.history_facts.specs.Outlining.{machine_at, IsOutlineOf}
 use Rattle.history_facts.proofs.known.Given as goal

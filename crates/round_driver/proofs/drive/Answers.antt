@@ -8,8 +8,8 @@ use Rattle.round_spec.specs.Rounds.{all_happen, round_after}
 use Rattle.round_spec.specs.Keeping.{IsFromScratch}
 use Rattle.round_spec.specs.Reordering.{reuses_of, ReusesInOrder}
 use Rattle.round_spec.proofs.Leaving.{round-scratch}
-use Rattle.order_spec.specs.Facts.{facts}
-use Rattle.order_spec.proofs.Places.{places-keep}
+use Rattle.history_spec.specs.Facts.{facts}
+use Rattle.history_spec.proofs.Places.{places-keep}
 use Rattle.round_spec.proofs.Reusing.{reused-whole}
 use Rattle.round_driver.proofs.drive.Goals as goal
 

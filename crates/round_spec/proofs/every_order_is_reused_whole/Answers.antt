@@ -1,6 +1,6 @@
 -- Answers to the goals that the check leaves of `every_order_is_reused_whole`.
-use Rattle.order_spec.specs.Facts.{facts}
-use Rattle.order_spec.proofs.Places.{places-keep}
+use Rattle.history_spec.specs.Facts.{facts}
+use Rattle.history_spec.proofs.Places.{places-keep}
 use Rattle.round_spec.proofs.Reusing.{reused-whole}
 use Rattle.round_spec.proofs.every_order_is_reused_whole.Goals as goal
 

@@ -1,6 +1,6 @@
 -- Answers to the goals that the check leaves of `reached_is_the_least_closed_set`.
 use Rattle.std.proofs.Common.{suc, ap, Bool, ◌&&◌}
-use Rattle.order_spec.specs.Before.{meets, fact_at}
+use Rattle.history_spec.specs.Before.{meets, fact_at}
 use Rattle.round_spec.specs.Reach.{read_at, gave_at}
 use Rattle.round_spec.proofs.Givers.{last-tells}
 use Rattle.round_spec.proofs.Least.{within-least, reached-closed, reached-pass}

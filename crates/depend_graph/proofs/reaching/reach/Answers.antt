@@ -5,8 +5,8 @@ use Rattle.std.proofs.lemmas.List.FromFn.{map-range_with_len_more}
 use Rattle.std.specs.List.{range_with_len}
 use Rattle.std.specs.Global.{Global}
 use Rattle.guest_call.specs.declared.thread_number.TheConstants.{THREADS}
-use Rattle.order_spec.specs.Facts.{Fact}
-use Rattle.order_spec.specs.Before.{no_fact, fact_at}
+use Rattle.history_spec.specs.Facts.{Fact}
+use Rattle.history_spec.specs.Before.{no_fact, fact_at}
 use Rattle.round_spec.specs.Reach.{read_at, is_reached}
 use Rattle.depend_graph.specs.Reaching.{slots_of_each, IsStepMore, IsReachedPast}
 use Rattle.depend_graph.proofs.Reached.{past-more, next-told_by}

@@ -1,6 +1,6 @@
 -- What holds at the loop of `opened`.
 use Rattle.std.proofs.Common.{◌≡◌, ◌++◌, drop}
-use Rattle.order_spec.specs.Facts.{reads_in}
+use Rattle.history_spec.specs.Facts.{reads_in}
 use Rattle.history_facts.specs.Outlining.{numbered}
 use Rattle.history_facts.proofs.outline.opened.Given as goal
 

@@ -1,6 +1,6 @@
 -- What holds at the loop of `served`.
 use Rattle.std.proofs.Common.{◌≡◌, ◌++◌, drop}
-use Rattle.order_spec.specs.Facts.{returning}
+use Rattle.history_spec.specs.Facts.{returning}
 use Rattle.history_facts.proofs.serving.served.Given as goal
 
 -- the threads so far, with those of the woken that are left

@@ -1,7 +1,7 @@
 -- What is left to prove of `marks_after`.
 use Rattle.std.proofs.Common.{◌≡◌, Bool, true, false, cond, List, Option, Some, None, Vec, option_map, refl, ap, sym, ◌∙◌}
 use Rattle.std.specs.Global.{Global}
-use Rattle.order_spec.specs.Facts.{written_slots}
+use Rattle.history_spec.specs.Facts.{written_slots}
 use Rattle.propagate.specs.Alike.{marked}
 use Rattle.propagate.proofs.marks.marks_after.Goals as goal
 

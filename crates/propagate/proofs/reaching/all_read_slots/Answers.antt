@@ -5,7 +5,7 @@ use Rattle.std.specs.Arc.{arc_value}
 use Rattle.std.proofs.lemmas.List.{take_more, map-append}
 use Rattle.std.proofs.lemmas.Option.{get_or_from_slice_get}
 use Rattle.thunk_spec.specs.Record.{Record}
-use Rattle.order_spec.specs.Facts.{read_slots}
+use Rattle.history_spec.specs.Facts.{read_slots}
 use Rattle.depend_graph.specs.Reaching.{slots_of_each}
 use Rattle.propagate.proofs.reaching.all_read_slots.Goals as goal
 

@@ -1,7 +1,7 @@
 -- The slots of the first steps.
 use Rattle.std.proofs.Common.{◌≡◌, map, take}
 use Rattle.thunk_spec.specs.Record.{Record}
-use Rattle.order_spec.specs.Facts.{read_slots}
+use Rattle.history_spec.specs.Facts.{read_slots}
 use Rattle.depend_graph.specs.Reaching.{slots_of_each}
 use Rattle.propagate.proofs.reaching.all_read_slots.Given as goal
 

@@ -4,7 +4,7 @@ use Rattle.std.specs.Global.{Global}
 use Rattle.std.proofs.lemmas.List.{length-map}
 use Rattle.std.proofs.lemmas.List.FromFn.{length-map-range_with_len}
 use Rattle.thunk_spec.specs.Record.{Record}
-use Rattle.order_spec.specs.Facts.{Fact, read_slots}
+use Rattle.history_spec.specs.Facts.{Fact, read_slots}
 use Rattle.round_spec.proofs.Placed.{facts-length}
 use Rattle.round_spec.specs.Reach.{is_reached}
 use Rattle.depend_graph.specs.Reaching.{slots_of_each}

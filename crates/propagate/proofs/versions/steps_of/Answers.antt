@@ -4,7 +4,7 @@ use Rattle.std.proofs.lemmas.List.{length_push}
 use Rattle.std.specs.Arc.{arc_value}
 use Rattle.std.specs.List.{slice_get}
 use Rattle.thunk_spec.specs.Record.{Record}
-use Rattle.order_spec.specs.Facts.{Fact, facts, served_by, written_slots}
+use Rattle.history_spec.specs.Facts.{Fact, facts, served_by, written_slots}
 use Rattle.history_facts.specs.Outlining.{machine_at}
 use Rattle.round_spec.proofs.Placed.{facts-length}
 use Rattle.propagate.specs.declared.versions.StepVersions.{StepVersions}

@@ -4,7 +4,7 @@ use Rattle.std.specs.List.{filter, flat_map, range_with_len, count_by}
 use Rattle.std.proofs.lemmas.List.{length-set, get_or_default}
 use Rattle.memory_spec.specs.Pages.{Mapped}
 use Rattle.machine_spec.specs.Setup.{Setup, map_of}
-use Rattle.order_spec.specs.Facts.{facts}
+use Rattle.history_spec.specs.Facts.{facts}
 use Rattle.round_spec.specs.Reach.{reads_of}
 use Rattle.round_spec.specs.declared.Race.{Race}
 use Rattle.round_spec.specs.Races.{is_race, races_between}

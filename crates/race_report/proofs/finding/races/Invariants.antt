@@ -1,7 +1,7 @@
 -- What is known of the steps so far: their accesses, how many races they have, and the first of these.
 use Rattle.std.proofs.Common.{◌≡◌, ◌<◌, ◌≤◌, ◌+◌, ◌++◌, ◌⊎◌, ℕ, [], length, get_or}
 use Rattle.std.specs.List.{range_with_len, flat_map}
-use Rattle.order_spec.specs.Facts.{facts}
+use Rattle.history_spec.specs.Facts.{facts}
 use Rattle.round_spec.specs.Reach.{reads_of}
 use Rattle.round_spec.specs.Races.{races_between}
 use Rattle.race_report.specs.declared.past.PagePast.{PagePast}

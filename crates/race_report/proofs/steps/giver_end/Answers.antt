@@ -1,8 +1,8 @@
 -- The step that was looked at last gave the view, or is of the same thread.
 use Rattle.std.proofs.Common.{◌≡◌, ◌-◌, ℕ, suc, true, false, List, ap, ap₂, sym, ◌∙◌, subst, arith}
 use Rattle.std.proofs.lemmas.List.{get_or_read}
-use Rattle.order_spec.specs.Facts.{Fact}
-use Rattle.order_spec.specs.Before.{is_in, fact_at, no_fact}
+use Rattle.history_spec.specs.Facts.{Fact}
+use Rattle.history_spec.specs.Before.{is_in, fact_at, no_fact}
 use Rattle.race_report.proofs.Giving.{IsPassed, given-here, own-here}
 use Rattle.race_report.proofs.steps.giver_end.Goals as goal
 

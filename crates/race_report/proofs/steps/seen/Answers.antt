@@ -1,7 +1,7 @@
 -- The clock is that of the step that gave the view, or counts nothing.
 use Rattle.std.proofs.Common.{◌≡◌, ◌-◌, ℕ, suc, List, ap, sym, ◌∙◌, arith}
-use Rattle.order_spec.specs.Facts.{Fact}
-use Rattle.order_spec.specs.Ancestors.{clock_at}
+use Rattle.history_spec.specs.Facts.{Fact}
+use Rattle.history_spec.specs.Ancestors.{clock_at}
 use Rattle.round_spec.specs.Reach.{giver_end}
 use Rattle.round_spec.specs.Sync.{sync_facts, count_within, seen_at}
 use Rattle.race_report.proofs.steps.seen.Goals as goal

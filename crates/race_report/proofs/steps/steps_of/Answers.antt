@@ -7,9 +7,9 @@ use Rattle.std.proofs.lemmas.List.{get_or_read, get_or-replicate, get_or-set_sam
 use Rattle.machine_spec.specs.Setup.{map_of}
 use Rattle.thunk_spec.specs.Record.{Record}
 use Rattle.history_spec.specs.History.{History, IsMappedIn}
-use Rattle.order_spec.specs.Facts.{Fact, facts, written_slots}
-use Rattle.order_spec.specs.Before.{fact_at, no_fact}
-use Rattle.order_spec.specs.Ancestors.{count_below}
+use Rattle.history_spec.specs.Facts.{Fact, facts, written_slots}
+use Rattle.history_spec.specs.Before.{fact_at, no_fact}
+use Rattle.history_spec.specs.Ancestors.{count_below}
 use Rattle.round_spec.specs.Reach.{reads_of}
 use Rattle.release_core.specs.Records.{AreOfRun}
 use Rattle.round_spec.specs.Sync.{seen_at}

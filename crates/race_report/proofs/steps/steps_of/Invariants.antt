@@ -1,8 +1,8 @@
 -- The first steps are there, and each thread's are counted.
 use Rattle.std.proofs.Common.{◌≡◌, ◌<◌, ℕ, eqb, length, slice_index, slice_index_or}
 use Rattle.guest_call.specs.declared.thread_number.TheConstants.{THREADS}
-use Rattle.order_spec.specs.Before.{fact_at}
-use Rattle.order_spec.specs.Ancestors.{count_below}
+use Rattle.history_spec.specs.Before.{fact_at}
+use Rattle.history_spec.specs.Ancestors.{count_below}
 use Rattle.round_spec.specs.Reach.{reads_of}
 use Rattle.race_report.specs.declared.steps.Step.{Step}
 use Rattle.race_report.specs.Steps.{IsStep}

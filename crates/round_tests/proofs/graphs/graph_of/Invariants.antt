@@ -1,7 +1,7 @@
 -- The threads so far are few.
 use Rattle.std.proofs.Common.{ℕ, ◌<◌, slice_index_or}
 use Rattle.guest_call.specs.declared.thread_number.TheConstants.{THREADS}
-use Rattle.order_spec.specs.Facts.{Fact}
+use Rattle.history_spec.specs.Facts.{Fact}
 use Rattle.round_tests.proofs.graphs.graph_of.Given as goal
 
 abbrev pub invariant-loop-fact : goal.invariant-loop-fact

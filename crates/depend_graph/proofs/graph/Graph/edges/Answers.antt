@@ -2,7 +2,7 @@
 use Rattle.std.proofs.Common.{◌≡◌, ◌+◌, ℕ, zero, suc, Bool, true, false, cond, [], ◌∷◌, ◌++◌, filter, append-nil, ap, sym, ◌∙◌, arith}
 use Rattle.std.specs.List.{range_with_len}
 use Rattle.std.proofs.lemmas.List.Elements.{filter-append}
-use Rattle.order_spec.specs.Before.{before_at}
+use Rattle.history_spec.specs.Before.{before_at}
 use Rattle.depend_graph.proofs.graph.Graph.edges.Goals as goal
 use Rattle.depend_graph.proofs.graph.Graph.edges.Goals.{then-is_before+in_ok-push, else-is_before}
 

@@ -1,7 +1,7 @@
 -- The places so far of steps that come directly before.
 use Rattle.std.proofs.Common.{◌≡◌, filter}
 use Rattle.std.specs.List.{range_with_len}
-use Rattle.order_spec.specs.Before.{before_at}
+use Rattle.history_spec.specs.Before.{before_at}
 use Rattle.depend_graph.proofs.graph.Graph.edges.Given as goal
 
 abbrev pub invariant-loop-j : goal.invariant-loop-j

@@ -2,7 +2,7 @@
 use Rattle.std.proofs.Common.{◌≡◌, ◌<◌, ◌+◌, ◌++◌, ℕ, List, [], ◌∷◌, length, get_or, sym, ap, ◌∙◌, subst, inl, inr, arith}
 use Rattle.std.proofs.lemmas.Bool.{cases_lt}
 use Rattle.std.proofs.lemmas.List.{get_or_append_left, get_or_push, length_push}
-use Rattle.order_spec.specs.Facts.{Fact}
+use Rattle.history_spec.specs.Facts.{Fact}
 use Rattle.depend_graph.specs.Joins.{IsClockOf}
 use Rattle.depend_graph.specs.Past.{IsPastOf}
 use Rattle.depend_graph.proofs.graph.Graph.of.Goals as goal

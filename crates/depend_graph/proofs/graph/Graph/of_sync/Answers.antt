@@ -1,8 +1,8 @@
 -- The threads of facts stay, where their pages are left out.
 use Rattle.std.proofs.Common.{◌≡◌, ◌<◌, List, length, map, get_or, ap, sym, ◌∙◌, subst, arith}
 use Rattle.std.proofs.lemmas.List.{take_all, length-map, get_or-map}
-use Rattle.order_spec.specs.Facts.{Fact}
-use Rattle.order_spec.specs.Before.{no_fact}
+use Rattle.history_spec.specs.Facts.{Fact}
+use Rattle.history_spec.specs.Before.{no_fact}
 use Rattle.round_spec.specs.Sync.{sync_fact}
 use Rattle.depend_graph.proofs.graph.Graph.of_sync.Goals as goal
 

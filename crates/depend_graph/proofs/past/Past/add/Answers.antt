@@ -2,7 +2,7 @@
 use Rattle.std.proofs.Common.{◌+◌, ◌∙◌, arith}
 use Rattle.std.proofs.lemmas.List.{get_or_read}
 use Rattle.sync_objects.specs.Acting.{objects_in}
-use Rattle.order_spec.specs.Before.{no_fact}
+use Rattle.history_spec.specs.Before.{no_fact}
 use Rattle.depend_graph.proofs.Passing.{passed-past}
 use Rattle.depend_graph.proofs.past.Past.add.Goals as goal
 

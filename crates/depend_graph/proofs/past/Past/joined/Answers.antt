@@ -1,7 +1,7 @@
 -- What the step does gathers the clocks of all that it must come after.
 use Rattle.std.proofs.Common.{◌∙◌, arith}
 use Rattle.std.proofs.lemmas.List.{get_or_read}
-use Rattle.order_spec.specs.Before.{no_fact}
+use Rattle.history_spec.specs.Before.{no_fact}
 use Rattle.sync_objects.specs.Acting.{objects_in}
 use Rattle.depend_graph.proofs.Gathering.{gathered-join}
 use Rattle.depend_graph.proofs.past.Past.joined.Goals as goal

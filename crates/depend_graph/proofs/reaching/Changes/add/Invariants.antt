@@ -1,6 +1,6 @@
 -- The pages so far show a change.
 use Rattle.std.proofs.Common.{◌≡◌, ℕ, ◌||◌, ◌&&◌, leb, take}
-use Rattle.order_spec.specs.Before.{is_in}
+use Rattle.history_spec.specs.Before.{is_in}
 use Rattle.depend_graph.specs.Reaching.{shows}
 use Rattle.depend_graph.proofs.reaching.Changes.add.Given as goal
 

@@ -1,6 +1,6 @@
 -- What is left to prove of `Outline::next`.
 use Rattle.std.proofs.Common.{◌≡◌, ap, ◌∙◌}
-use Rattle.order_spec.specs.Facts as order
+use Rattle.history_spec.specs.Facts as order
 use Rattle.machine_spec.specs.Step as step
 use Rattle.history_facts.specs.Outlining.{numbered}
 use Rattle.history_facts.proofs.Outlining.{numbered-read, fact-is}

@@ -2,7 +2,7 @@
 use Rattle.std.proofs.Common.{◌≡◌, ◌+◌, cond, set, get_or, is_some, refl, sym, ap, subst, ◌∙◌, arith}
 use Rattle.guest_call.specs.Objects.{created_count}
 use Rattle.machine_spec.specs.Step as step
-use Rattle.order_spec.specs.Facts as order
+use Rattle.history_spec.specs.Facts as order
 use Rattle.history_facts.specs.declared.outline.Outline.{Outline}
 use Rattle.history_facts.specs.Outlining.{IsOutlineOf}
 use Rattle.history_facts.proofs.Outlining.{below-32, few-steps, few-threads, created-one, outline-more}

@@ -1,8 +1,8 @@
 -- What is left to prove of `Round::is_due_at`.
 use Rattle.std.proofs.Common.{◌≡◌, ℕ, List, length, ap, sym, subst, ◌∙◌, arith}
 use Rattle.std.specs.Bool.{Decides}
-use Rattle.order_spec.specs.Facts.{Fact}
-use Rattle.order_spec.specs.Ancestors.{clock_at}
+use Rattle.history_spec.specs.Facts.{Fact}
+use Rattle.history_spec.specs.Ancestors.{clock_at}
 use Rattle.round_spec.specs.Rounds.{RoundState}
 use Rattle.round_spec.specs.Due.{past_facts}
 use Rattle.propagate.specs.Choosing.{HaveMade}

@@ -7,7 +7,7 @@ use Rattle.guest_call.specs.Locality.{is_among, same_object}
 use Rattle.guest_call.specs.Queues.{places}
 use Rattle.guest_call.proofs.Counting.{tally, places-cons}
 use Rattle.guest_call.proofs.Locality.{same_is}
-use Rattle.order_spec.specs.Before.{is_in, meets, overlap}
+use Rattle.history_spec.specs.Before.{is_in, meets, overlap}
 
 pub and-left : (a b : Bool) → (a && b) ≡ true → a ≡ true
 and-left true b h = refl

@@ -19,8 +19,8 @@ use Rattle.machine_spec.specs.Machine.{Machine, hart_of}
 use Rattle.machine_spec.specs.Performing.{first_registers}
 use Rattle.machine_spec.specs.Step.{step, finished, apply, fits}
 use Rattle.machine_spec.proofs.Guests.{begins, late}
-use Rattle.order_spec.specs.Facts.{Fact, reads_in, facts_from}
-use Rattle.order_spec.specs.Ancestors.{edges_at}
+use Rattle.history_spec.specs.Facts.{Fact, reads_in, facts_from}
+use Rattle.history_spec.specs.Ancestors.{edges_at}
 
 -- the record of a thread's next step, whose stored bytes are given, since its masks are long
 abbrev pub recorded : Machine → ℕ → List PageDelta → Record

@@ -22,10 +22,10 @@ use Rattle.machine_spec.specs.Step.{fits, fate_end, end_after, state_end}
 use Rattle.machine_spec.specs.Whole.{IsWhole}
 use Rattle.machine_spec.proofs.Harts.{ready-below}
 use Rattle.machine_spec.proofs.Steps.{hart-at}
-use Rattle.order_spec.specs.Facts.{returning, starting, served, read_by, read_slots}
-use Rattle.order_spec.specs.Before.{is_in}
-use Rattle.order_spec.proofs.Lists.{is_or_not, or-left, or-right, or-in_left, or-in_right, is_in-append}
-use Rattle.order_spec.proofs.After.{woken_at, settled_at, created_at, ran_at, after_at, woken_at-none}
+use Rattle.history_spec.specs.Facts.{returning, starting, served, read_by, read_slots}
+use Rattle.history_spec.specs.Before.{is_in}
+use Rattle.history_spec.proofs.Lists.{is_or_not, or-left, or-right, or-in_left, or-in_right, is_in-append}
+use Rattle.history_spec.proofs.After.{woken_at, settled_at, created_at, ran_at, after_at, woken_at-none}
 
 -- a hart without its view
 abbrev pub bare : Hart → Hart

@@ -5,14 +5,14 @@ use Rattle.std.proofs.lemmas.Bool.Decides.{nat_tests}
 use Rattle.thunk_spec.specs.Record.{Record}
 use Rattle.machine_spec.specs.Setup.{first}
 use Rattle.history_spec.specs.History.{History, IsHonest, threads_of_records}
-use Rattle.order_spec.specs.Facts.{Fact, reads_in, facts}
-use Rattle.order_spec.specs.Before.{is_in, fact_at}
-use Rattle.order_spec.specs.Keeping.{moved, set_second, fact_thread, record_thread, arranged}
-use Rattle.order_spec.specs.Orders.{is_order_after, is_order, threads_at, records_at, LeadToTheSame}
-use Rattle.order_spec.proofs.Lists.{is_or_not}
-use Rattle.order_spec.proofs.Places.{left_from, left-above, below-all, IsClosed, same-thread, all-came, none-came, coming-of, places-keep}
-use Rattle.order_spec.proofs.Every.{keeps-begin}
-use Rattle.order_spec.proofs.Honest.{facts-threads, honest-threads, begin-leads}
+use Rattle.history_spec.specs.Facts.{Fact, reads_in, facts}
+use Rattle.history_spec.specs.Before.{is_in, fact_at}
+use Rattle.history_spec.specs.Keeping.{moved, set_second, fact_thread, record_thread, arranged}
+use Rattle.history_spec.specs.Orders.{is_order_after, is_order, threads_at, records_at, LeadToTheSame}
+use Rattle.history_spec.proofs.Lists.{is_or_not}
+use Rattle.history_spec.proofs.Places.{left_from, left-above, below-all, IsClosed, same-thread, all-came, none-came, coming-of, places-keep}
+use Rattle.history_spec.proofs.Every.{keeps-begin}
+use Rattle.history_spec.proofs.Honest.{facts-threads, honest-threads, begin-leads}
 
 -- the first that is left of a thread is moved to the front
 pub front-at :

@@ -1,8 +1,8 @@
 -- Other orders of the steps of a history in which each comes after all that must come before it.
 use Rattle.std.specs.Prelude.{ℕ, ◌==◌, ◌&&◌, ◌||◌, not, Bool, true, false, List, [], ◌∷◌, if◌then◌else◌}
 use Rattle.thunk_spec.specs.Record.{Record}
-use Rattle.order_spec.specs.Facts.{Fact}
-use Rattle.order_spec.specs.Before.{before}
+use Rattle.history_spec.specs.Facts.{Fact}
+use Rattle.history_spec.specs.Before.{before}
 
 -- A list with a thing set behind its first, or alone where it has none.
 abbrev pub set_second : {A : Type 0} → A → List A → List A

@@ -2,10 +2,10 @@
 use Rattle.std.proofs.Common.{◌≡◌, ◌<◌, ◌≤◌, ◌+◌, ℕ, zero, suc, Bool, true, false, ◌&&◌, ◌||◌, eqb, ltb, cond, List, refl, ap, sym, ◌∙◌, subst, inl, inr, ◌↔◌, arith}
 use Rattle.std.proofs.lemmas.Bool.{cases_eq, eq-eqb, eqb-true}
 use Rattle.std.proofs.lemmas.Bool.Decides.{nat_tests}
-use Rattle.order_spec.specs.Facts.{Fact}
-use Rattle.order_spec.specs.Before.{fact_at, before_at}
-use Rattle.order_spec.specs.Ancestors.{any_below, count_below, reaches, is_ancestor, is_up_to, clock_at, number_at}
-use Rattle.order_spec.proofs.Lists.{and-left, and-right, or-in_left, or-in_right, is_or_not}
+use Rattle.history_spec.specs.Facts.{Fact}
+use Rattle.history_spec.specs.Before.{fact_at, before_at}
+use Rattle.history_spec.specs.Ancestors.{any_below, count_below, reaches, is_ancestor, is_up_to, clock_at, number_at}
+use Rattle.history_spec.proofs.Lists.{and-left, and-right, or-in_left, or-in_right, is_or_not}
 
 -- a number below another of which a test holds
 pub record IsSome (test : ℕ → Bool) (n : ℕ) : Type 0 where

@@ -1,8 +1,8 @@
 -- Answers to the goals that the check leaves of `every_order_leads_to_the_same`.
-use Rattle.order_spec.specs.Facts.{facts}
-use Rattle.order_spec.proofs.Every.{keeps-begin}
-use Rattle.order_spec.proofs.Honest.{honest-threads, begin-leads}
-use Rattle.order_spec.proofs.every_order_leads_to_the_same.Goals as goal
+use Rattle.history_spec.specs.Facts.{facts}
+use Rattle.history_spec.proofs.Every.{keeps-begin}
+use Rattle.history_spec.proofs.Honest.{honest-threads, begin-leads}
+use Rattle.history_spec.proofs.every_order_leads_to_the_same.Goals as goal
 
 pub returns-clause-schedule : goal.returns-clause-schedule
 returns-clause-schedule c = λ h schedule honest keep. honest-threads h schedule keep

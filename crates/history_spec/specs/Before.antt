@@ -3,7 +3,7 @@ use Rattle.std.specs.Prelude.{ℕ, zero, suc, ◌==◌, ◌||◌, ◌&&◌, not,
 use Rattle.std.specs.List.{list_any}
 use Rattle.guest_call.specs.declared.Object.{Object}
 use Rattle.guest_call.specs.Locality.{is_among}
-use Rattle.order_spec.specs.Facts.{Fact}
+use Rattle.history_spec.specs.Facts.{Fact}
 
 -- Whether a number is in a list.
 abbrev pub is_in : ℕ → List ℕ → Bool

@@ -3,8 +3,8 @@ use Rattle.std.specs.Prelude.{◌≡◌, ℕ, ◌&&◌, ◌||◌, not, nat_lt, B
 use Rattle.thunk_spec.specs.Record.{Record}
 use Rattle.machine_spec.specs.Setup.{first, scratch}
 use Rattle.history_spec.specs.History.{History, schedule_of, applied_from, can_apply_from}
-use Rattle.order_spec.specs.Facts.{Fact}
-use Rattle.order_spec.specs.Before.{is_in, fact_at, all_below, before_at}
+use Rattle.history_spec.specs.Facts.{Fact}
+use Rattle.history_spec.specs.Before.{is_in, fact_at, all_below, before_at}
 
 -- Whether places, where some have come already, are the others of a history, each once, and each comes after all that
 -- must come before it.

@@ -28,8 +28,8 @@ use Rattle.machine_spec.specs.declared.states.Asked.TheVariants.{Asks, Stops}
 use Rattle.machine_spec.specs.declared.states.End.{End}
 use Rattle.machine_spec.specs.Machine.{Machine}
 use Rattle.machine_spec.specs.Step.{asked, asked_call, apply, fate_end}
-use Rattle.order_spec.specs.Facts.{ask_of, acted, effect_of, acting_on, objects_of}
-use Rattle.order_spec.proofs.After.{apply-objects, own_end, own_end_of}
+use Rattle.history_spec.specs.Facts.{ask_of, acted, effect_of, acting_on, objects_of}
+use Rattle.history_spec.proofs.After.{apply-objects, own_end, own_end_of}
 
 -- effect, objects acted on and end of what was asked, without the machine
 abbrev acted_on : List Mapped → ℕ → Asked → Objects → Effect × Objects

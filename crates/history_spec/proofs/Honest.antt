@@ -10,14 +10,14 @@ use Rattle.machine_spec.proofs.Beginning.{IsWhole-first}
 use Rattle.history_spec.specs.History.{History, IsHonest, schedule_of, threads_of_records, is_of, is_numbered_after, applied_from, can_apply_from}
 use Rattle.history_spec.proofs.Numbers.{one_for, count-more, honest-numbered}
 use Rattle.history_spec.proofs.Truth.{honest-true, records-applied, records-can_apply}
-use Rattle.order_spec.specs.Facts.{Fact, reads_of_found, reads_in, facts, facts_from, fact_of, bare_fact}
-use Rattle.order_spec.specs.Keeping.{set_second, moved, rest_of, fact_thread, record_thread, is_free_of, may_come, may_begin, keeps, set_front, arranged}
-use Rattle.order_spec.specs.Orders.{LeadToTheSame}
-use Rattle.order_spec.proofs.Lists.{and-left, and-right}
-use Rattle.order_spec.proofs.Alike.{IsReading}
-use Rattle.order_spec.proofs.Simulate.{IsFollowing}
+use Rattle.history_spec.specs.Facts.{Fact, reads_of_found, reads_in, facts, facts_from, fact_of, bare_fact}
+use Rattle.history_spec.specs.Keeping.{set_second, moved, rest_of, fact_thread, record_thread, is_free_of, may_come, may_begin, keeps, set_front, arranged}
+use Rattle.history_spec.specs.Orders.{LeadToTheSame}
+use Rattle.history_spec.proofs.Lists.{and-left, and-right}
+use Rattle.history_spec.proofs.Alike.{IsReading}
+use Rattle.history_spec.proofs.Simulate.{IsFollowing}
 use Rattle.machine_spec.specs.Step.{apply, fits}
-use Rattle.order_spec.proofs.Every.{every, keeps-begin, moved-full}
+use Rattle.history_spec.proofs.Every.{every, keeps-begin, moved-full}
 
 -- a record whose number is at least how many of its thread come earlier
 abbrev IsAbove : List ℕ → Record → Type 0

@@ -18,14 +18,14 @@ use Rattle.machine_spec.specs.Step.{apply, fits, fate_end}
 use Rattle.machine_spec.specs.Whole.{IsWhole}
 use Rattle.history_spec.proofs.Applying.{apply-frame}
 use Rattle.history_spec.proofs.Numbers.{one_for, apply-number}
-use Rattle.order_spec.specs.Facts.{ask_of, acted, effect_of, served_by, read_slots, written_slots}
-use Rattle.order_spec.specs.Before.{is_in}
-use Rattle.order_spec.proofs.Lists.{or-left, or-right, is_or_not}
-use Rattle.order_spec.proofs.Pages.{length-masked, masked-other, masked-same}
-use Rattle.order_spec.proofs.After.{woken_at, settled_at, created_at, ran_at, after_at, apply-at, apply-length, apply-memory, apply-objects, apply-steps, apply-ending, own_end_of}
-use Rattle.order_spec.proofs.Local.{acted-like}
-use Rattle.order_spec.proofs.Alike.{touched, untouched-after, touched-served, has-like, fits-parts, fits-from}
-use Rattle.order_spec.proofs.Simulate.{none-is, end_after-none, fate-none}
+use Rattle.history_spec.specs.Facts.{ask_of, acted, effect_of, served_by, read_slots, written_slots}
+use Rattle.history_spec.specs.Before.{is_in}
+use Rattle.history_spec.proofs.Lists.{or-left, or-right, is_or_not}
+use Rattle.history_spec.proofs.Pages.{length-masked, masked-other, masked-same}
+use Rattle.history_spec.proofs.After.{woken_at, settled_at, created_at, ran_at, after_at, apply-at, apply-length, apply-memory, apply-objects, apply-steps, apply-ending, own_end_of}
+use Rattle.history_spec.proofs.Local.{acted-like}
+use Rattle.history_spec.proofs.Alike.{touched, untouched-after, touched-served, has-like, fits-parts, fits-from}
+use Rattle.history_spec.proofs.Simulate.{none-is, end_after-none, fate-none}
 
 -- a hart without view and registers
 abbrev pub plain : Hart → Hart

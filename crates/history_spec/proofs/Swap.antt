@@ -23,14 +23,14 @@ use Rattle.machine_spec.specs.Whole.{IsWhole}
 use Rattle.machine_spec.proofs.Harts.{ready-below}
 use Rattle.history_spec.proofs.Applying.{fits-can_step, apply-frame, apply-whole, apply-stays}
 use Rattle.history_spec.proofs.Truth.{fits-hart}
-use Rattle.order_spec.specs.Facts.{Fact, ask_of, acted, effect_of, objects_of, starting, served, served_by, read_by, written_slots, fact_of}
-use Rattle.order_spec.specs.Before.{is_in, meets, overlap}
-use Rattle.order_spec.proofs.Lists.{is_or_not, meets-not, meets-not_back, overlap-not, overlap-not_back, is_in-places}
-use Rattle.order_spec.proofs.Pages.{masked-first, masked-swap}
-use Rattle.order_spec.proofs.After.{created_at, settled_at, ran_at, after_at, acted-keeps, unwoken, waits-past, waits-ready, apply-at, apply-length, apply-memory, apply-objects, apply-output, apply-steps, apply-limit, apply-ending, own_end_of}
-use Rattle.order_spec.proofs.Local.{IsMet, effect-met, objects-met, own_end-met, parts-stay, parts-met, objects-same, uncreated, unput}
-use Rattle.order_spec.proofs.Alike.{bare, IsAlike, bare-after, touched, untouched-after, touched-served, read_by-in, read_by-on, served-touched, end_after-like, fits-parts}
-use Rattle.order_spec.proofs.Simulate.{none-is, end_after-none, fate-none, same-fact}
+use Rattle.history_spec.specs.Facts.{Fact, ask_of, acted, effect_of, objects_of, starting, served, served_by, read_by, written_slots, fact_of}
+use Rattle.history_spec.specs.Before.{is_in, meets, overlap}
+use Rattle.history_spec.proofs.Lists.{is_or_not, meets-not, meets-not_back, overlap-not, overlap-not_back, is_in-places}
+use Rattle.history_spec.proofs.Pages.{masked-first, masked-swap}
+use Rattle.history_spec.proofs.After.{created_at, settled_at, ran_at, after_at, acted-keeps, unwoken, waits-past, waits-ready, apply-at, apply-length, apply-memory, apply-objects, apply-output, apply-steps, apply-limit, apply-ending, own_end_of}
+use Rattle.history_spec.proofs.Local.{IsMet, effect-met, objects-met, own_end-met, parts-stay, parts-met, objects-same, uncreated, unput}
+use Rattle.history_spec.proofs.Alike.{bare, IsAlike, bare-after, touched, untouched-after, touched-served, read_by-in, read_by-on, served-touched, end_after-like, fits-parts}
+use Rattle.history_spec.proofs.Simulate.{none-is, end_after-none, fate-none, same-fact}
 
 -- two steps, one after the other, of which neither must come before the other, and the later isn't the last
 pub record IsPair (reads : ℕ → ℕ → List ℕ) (m : Machine) (a b : Record) : Type 0 where
@@ -88,10 +88,10 @@ at-index e mem r n k u h (inr same) = ap (λ (i : ℕ). after_at e mem r i u h) 
 
 served-index : (e : Effect) (t n k : ℕ) → (e.created ≡ None) ⊎ (k ≡ n) → served e t k ≡ served e t n
 served-index e t n k (inl nobody_new) =
-    ap (λ (c : Option (ℕ × ℕ)). Rattle.order_spec.specs.Facts.returning t e.fate ++ (e.woken ++ starting k c))
+    ap (λ (c : Option (ℕ × ℕ)). Rattle.history_spec.specs.Facts.returning t e.fate ++ (e.woken ++ starting k c))
     nobody_new
     ∙ sym (ap
-    (λ (c : Option (ℕ × ℕ)). Rattle.order_spec.specs.Facts.returning t e.fate ++ (e.woken ++ starting n c)) nobody_new)
+    (λ (c : Option (ℕ × ℕ)). Rattle.history_spec.specs.Facts.returning t e.fate ++ (e.woken ++ starting n c)) nobody_new)
 served-index e t n k (inr same) = ap (served e t) same
 
 put-swap : (o p q : List ℕ) → (p ≡ []) ⊎ (q ≡ []) → (o ++ q) ++ p ≡ (o ++ p) ++ q

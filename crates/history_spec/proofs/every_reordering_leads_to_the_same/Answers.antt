@@ -1,6 +1,6 @@
 -- Answers to the goals that the check leaves of `every_reordering_leads_to_the_same`.
-use Rattle.order_spec.proofs.Arranged.{places-threads, places-lead}
-use Rattle.order_spec.proofs.every_reordering_leads_to_the_same.Goals as goal
+use Rattle.history_spec.proofs.Arranged.{places-threads, places-lead}
+use Rattle.history_spec.proofs.every_reordering_leads_to_the_same.Goals as goal
 
 pub returns-clause-threads : goal.returns-clause-threads
 returns-clause-threads c = λ h places honest order. places-threads h places honest order

@@ -2,8 +2,8 @@
 -- are.
 use Rattle.std.specs.Prelude.{ℕ, zero, suc, ◌+◌, ◌==◌, ◌&&◌, ◌||◌, nat_lt, Bool, false, if◌then◌else◌, List, filter}
 use Rattle.std.specs.List.{range_with_len}
-use Rattle.order_spec.specs.Facts.{Fact}
-use Rattle.order_spec.specs.Before.{fact_at, before_at}
+use Rattle.history_spec.specs.Facts.{Fact}
+use Rattle.history_spec.specs.Before.{fact_at, before_at}
 
 -- Whether a test holds of some number below another.
 abbrev pub any_below : (ℕ → Bool) → ℕ → Bool

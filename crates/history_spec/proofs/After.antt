@@ -20,9 +20,9 @@ use Rattle.machine_spec.specs.Performing.{returned, fated, woken, first_hart, wi
 use Rattle.machine_spec.specs.Step.{written, done_as_asked, finished, apply, fate_end, end_after}
 use Rattle.machine_spec.specs.Whole.{IsTied}
 use Rattle.machine_spec.proofs.Harts.{ready-below, length-woken, length-created, created-stays, blocked_count-ready}
-use Rattle.order_spec.specs.Facts.{ask_of, acted, effect_of}
-use Rattle.order_spec.specs.Before.{is_in}
-use Rattle.order_spec.proofs.Lists.{or-left, or-right, is_in-places}
+use Rattle.history_spec.specs.Facts.{ask_of, acted, effect_of}
+use Rattle.history_spec.specs.Before.{is_in}
+use Rattle.history_spec.proofs.Lists.{or-left, or-right, is_in-places}
 
 -- one hart after some threads were woken
 abbrev pub woken_at : Memory → Option ℕ → List ℕ → ℕ → Hart → Hart

@@ -17,12 +17,12 @@ use Rattle.machine_spec.specs.Step.{apply, fits, fate_end, end_after, state_end}
 use Rattle.machine_spec.specs.Whole.{IsWhole}
 use Rattle.history_spec.specs.History.{applied_from, can_apply_from}
 use Rattle.history_spec.proofs.Applying.{fits-can_step, apply-frame, apply-whole}
-use Rattle.order_spec.specs.Facts.{Fact, ask_of, acted, effect_of, objects_of, served, served_by, read_by, written_slots, fact_of, facts_from}
-use Rattle.order_spec.specs.Before.{is_in}
-use Rattle.order_spec.proofs.Lists.{and-left, and-right, is_or_not}
-use Rattle.order_spec.proofs.After.{after_at, apply-at, apply-length, apply-memory, apply-objects, apply-output, apply-steps, apply-limit, apply-ending, own_end, own_end_of}
-use Rattle.order_spec.proofs.Local.{acted-like, objects-like, own_end-like}
-use Rattle.order_spec.proofs.Alike.{bare, IsAlike, IsReading, bare-after, touched, untouched-after, touched-served, read_by-on, end_after-like, has-like, put-like, view-of, fits-parts, fits-from}
+use Rattle.history_spec.specs.Facts.{Fact, ask_of, acted, effect_of, objects_of, served, served_by, read_by, written_slots, fact_of, facts_from}
+use Rattle.history_spec.specs.Before.{is_in}
+use Rattle.history_spec.proofs.Lists.{and-left, and-right, is_or_not}
+use Rattle.history_spec.proofs.After.{after_at, apply-at, apply-length, apply-memory, apply-objects, apply-output, apply-steps, apply-limit, apply-ending, own_end, own_end_of}
+use Rattle.history_spec.proofs.Local.{acted-like, objects-like, own_end-like}
+use Rattle.history_spec.proofs.Alike.{bare, IsAlike, IsReading, bare-after, touched, untouched-after, touched-served, read_by-on, end_after-like, has-like, put-like, view-of, fits-parts, fits-from}
 
 pub none-is : {A : Type 0} (e : Option A) → is_none e ≡ true → e ≡ None
 none-is (Some x) h = cc

@@ -5,8 +5,8 @@ use Rattle.std.proofs.lemmas.Bool.Decides.{nat_tests}
 use Rattle.std.proofs.lemmas.List.{get_or-set_same, get_or-set_other, get_or_past, length-set}
 use Rattle.memory_spec.specs.Pages.{Memory, page_of}
 use Rattle.thunk_spec.specs.Delta.{PageDelta, spread, masked}
-use Rattle.order_spec.specs.Before.{is_in, meets}
-use Rattle.order_spec.proofs.Lists.{is_or_not, or-left, or-right, meets-not}
+use Rattle.history_spec.specs.Before.{is_in, meets}
+use Rattle.history_spec.proofs.Lists.{is_or_not, or-left, or-right, meets-not}
 
 -- the slots of some stored bytes
 abbrev pub slots : List PageDelta → List ℕ

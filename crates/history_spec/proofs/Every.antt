@@ -10,13 +10,13 @@ use Rattle.machine_spec.specs.Step.{apply, fits}
 use Rattle.machine_spec.specs.Whole.{IsWhole}
 use Rattle.history_spec.specs.History.{applied_from, can_apply_from}
 use Rattle.history_spec.proofs.Applying.{fits-can_step, apply-frame, apply-whole}
-use Rattle.order_spec.specs.Facts.{Fact, objects_of, served_by, read_by, written_slots, fact_of, facts_from}
-use Rattle.order_spec.specs.Before.{is_in, meets, overlap, before}
-use Rattle.order_spec.specs.Keeping.{set_second, moved, rest_of, fact_thread, record_thread, is_free_of, may_come, may_begin, keeps, set_front, arranged}
-use Rattle.order_spec.proofs.Lists.{and-left, and-right, or-left, or-right, not-true}
-use Rattle.order_spec.proofs.Alike.{IsAlike, IsReading}
-use Rattle.order_spec.proofs.Simulate.{IsFollowing, all-like, reading-apply}
-use Rattle.order_spec.proofs.Swap.{IsPair, fit_early, fit_late, none_early, swapped, whole_first, whole_second, fact_early, fact_late}
+use Rattle.history_spec.specs.Facts.{Fact, objects_of, served_by, read_by, written_slots, fact_of, facts_from}
+use Rattle.history_spec.specs.Before.{is_in, meets, overlap, before}
+use Rattle.history_spec.specs.Keeping.{set_second, moved, rest_of, fact_thread, record_thread, is_free_of, may_come, may_begin, keeps, set_front, arranged}
+use Rattle.history_spec.proofs.Lists.{and-left, and-right, or-left, or-right, not-true}
+use Rattle.history_spec.proofs.Alike.{IsAlike, IsReading}
+use Rattle.history_spec.proofs.Simulate.{IsFollowing, all-like, reading-apply}
+use Rattle.history_spec.proofs.Swap.{IsPair, fit_early, fit_late, none_early, swapped, whole_first, whole_second, fact_early, fact_late}
 
 pub alike-refl : (reads : ℕ → ℕ → List ℕ) (m : Machine) → IsAlike reads m m
 alike-refl reads m =
@@ -49,7 +49,7 @@ alike-trans reads m n o one two =
           two.views (ap is_none one.ending ∙ on) u p
           (ap (λ (h : Rattle.machine_spec.specs.Machine.Hart). Rattle.machine_spec.specs.Machine.is_ready h.status)
           (one.harts u) ∙ ready)
-          (ap (λ (h : Rattle.machine_spec.specs.Machine.Hart). Rattle.order_spec.specs.Before.is_in p
+          (ap (λ (h : Rattle.machine_spec.specs.Machine.Hart). Rattle.history_spec.specs.Before.is_in p
           (reads u h.number)) (one.harts u) ∙ read)
           ∙ one.views on u p ready read;
     }

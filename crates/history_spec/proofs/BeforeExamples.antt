@@ -4,9 +4,9 @@ use Rattle.std.proofs.Common.{◌≡◌, ℕ, true, false, List, [], ◌∷◌, 
 use Rattle.std.specs.List.{range_with_len}
 use Rattle.guest_call.specs.declared.Object.{Object}
 use Rattle.guest_call.specs.declared.Object.TheVariants.{Mutex, Semaphore}
-use Rattle.order_spec.specs.Facts.{Fact}
-use Rattle.order_spec.specs.Ancestors.{is_ancestor, edges_at, clock_at, number_at}
-use Rattle.order_spec.specs.Orders.{is_order}
+use Rattle.history_spec.specs.Facts.{Fact}
+use Rattle.history_spec.specs.Ancestors.{is_ancestor, edges_at, clock_at, number_at}
+use Rattle.history_spec.specs.Orders.{is_order}
 
 -- a step of a thread that does nothing
 abbrev pub quiet : ℕ → Fact

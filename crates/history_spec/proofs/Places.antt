@@ -2,11 +2,11 @@
 use Rattle.std.proofs.Common.{◌≡◌, ◌≢◌, ◌<◌, ◌≤◌, ◌+◌, ℕ, zero, suc, Bool, true, false, ◌&&◌, ◌||◌, not, eqb, ltb, leb, cond, List, [], ◌∷◌, length, get_or, refl, ap, ap₂, sym, ◌∙◌, subst, inl, inr, arith}
 use Rattle.std.proofs.lemmas.Bool.{cases_eq, cases_lt, eq-eqb, eqb-true}
 use Rattle.std.proofs.lemmas.Bool.Decides.{nat_tests}
-use Rattle.order_spec.specs.Facts.{Fact}
-use Rattle.order_spec.specs.Before.{is_in, meets, overlap, before, no_fact, fact_at, all_below, is_next_at, before_at}
-use Rattle.order_spec.specs.Keeping.{moved, rest_of, fact_thread, may_come, keeps}
-use Rattle.order_spec.specs.Orders.{is_order_after, is_order, threads_at}
-use Rattle.order_spec.proofs.Lists.{and-left, and-right, or-left, or-right, or-in_left, or-in_right, is_or_not, not-true}
+use Rattle.history_spec.specs.Facts.{Fact}
+use Rattle.history_spec.specs.Before.{is_in, meets, overlap, before, no_fact, fact_at, all_below, is_next_at, before_at}
+use Rattle.history_spec.specs.Keeping.{moved, rest_of, fact_thread, may_come, keeps}
+use Rattle.history_spec.specs.Orders.{is_order_after, is_order, threads_at}
+use Rattle.history_spec.proofs.Lists.{and-left, and-right, or-left, or-right, or-in_left, or-in_right, is_or_not, not-true}
 
 -- the facts at places that haven't come, where the first is of place k
 abbrev pub left_from : {A : Type 0} → ℕ → List ℕ → List A → List A
