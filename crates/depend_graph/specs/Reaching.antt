@@ -21,7 +21,8 @@ slots_of_each vectors = map (λ v. v.items) vectors
 abbrev pub shows : Changes → ℕ → ℕ → Bool
 shows c p e = option_map_or (λ from. nat_le from e) (get nat_cmp c.from p) false
 
--- Whether the last step of a thread is reached, and one more than the place of the step that gave its next thunk a view.
+-- Whether the last step of a thread is reached, and one more than the place of the step that gave its next thunk a
+-- view.
 abbrev pub led_of : Reached → ℕ → Bool
 led_of past t = slice_index_or past.led t false
 

@@ -66,7 +66,8 @@ impl Graph {
     }
 
     /// The graph of these facts by threads and objects alone: a step comes directly before a later one where both are
-    /// of one thread, where it gave the later one's thunk its view, or where both act on one object. One pass over them.
+    /// of one thread, where it gave the later one's thunk its view, or where both act on one object. One pass over
+    /// them.
     ///
     /// # Errors
     ///

@@ -18,7 +18,8 @@ use Rattle.elf_load.specs.Header.{header_of}
 use Rattle.elf_load.specs.Place.{offset_on, place_in_file}
 use Rattle.elf_load.proofs.Searches.{find-filter}
 
--- the part of the file between a segment's places at the ends of a page fits between where the segment begins and ends on the page
+-- the part of the file between a segment's places at the ends of a page fits between where the segment begins and ends
+-- on the page
 pub part_fits :
     (bytes : List ℕ) (segment : ProgramHeader) (start first end : ℕ)
     → first ≡ place_in_file bytes segment start → end ≡ place_in_file bytes segment (start + 4096)

@@ -31,8 +31,8 @@ use Rattle.history_spec.proofs.After.{woken_at, settled_at, created_at, ran_at, 
 abbrev pub bare : Hart → Hart
 bare h = record { view = []; regs = h.regs; number = h.number; status = h.status }
 
--- two machines that are alike: they differ in views alone, and as long as no end came, there only on pages that the next
--- old thunk of a ready thread doesn't read
+-- two machines that are alike: they differ in views alone, and as long as no end came, there only on pages that the
+-- next old thunk of a ready thread doesn't read
 pub record IsAlike (reads : ℕ → ℕ → List ℕ) (m n : Machine) : Type 0 where
   pub frame : n.frame ≡ m.frame
   pub limit : n.limit ≡ m.limit

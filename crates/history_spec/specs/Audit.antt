@@ -1,4 +1,5 @@
--- Audits: which record of a history is the first that isn't as the machine makes it, and how many turns it takes to see.
+-- Audits: which record of a history is the first that isn't as the machine makes it, and how many turns it takes to
+-- see.
 use Rattle.std.specs.Prelude.{◌≡◌, ℕ, zero, suc, ◌+◌, ◌<◌, true, false, ◌&&◌, if◌then◌else◌, List, [], ◌∷◌, length, Option, Some, None, is_none, is_some}
 use Rattle.thunk_spec.specs.Record.{Record}
 use Rattle.machine_spec.specs.Machine.{Machine}
@@ -26,7 +27,8 @@ IsFirstFalseFrom m (r ∷ rs) (Some (suc i)) = IsMade m r × IsFirstFalseFrom (a
 abbrev pub IsFirstFalse : History → Option ℕ → Type 0
 IsFirstFalse h place = IsFirstFalseFrom (setup.first h.setup) h.records place
 
--- What an audit says of a history that holds together: that it is honest, or which of its records is the first false one.
+-- What an audit says of a history that holds together: that it is honest, or which of its records is the first false
+-- one.
 abbrev pub IsVerdict : History → Option ℕ → Type 0
 IsVerdict h None = IsHonest h
 IsVerdict h (Some place) = (IsHonest h → ⊥) × ((place < length h.records) × IsFirstFalse h (Some place))

@@ -75,8 +75,8 @@ quotient_of a b = if b == 0 then 2 ^ 32 - 1 else cast_unsigned w32 (int_div (sig
 abbrev pub quotient_unsigned : ℕ → ℕ → ℕ
 quotient_unsigned a b = if b == 0 then 2 ^ 32 - 1 else a / b
 
--- the remainder, with the sign of the first, both read as signed numbers: by zero it is the first, and that of -2 ^ 31 by
--- -1 is 0 (RISC-V unprivileged ISA 20191213, 7.2)
+-- the remainder, with the sign of the first, both read as signed numbers: by zero it is the first, and that of -2 ^ 31
+-- by -1 is 0 (RISC-V unprivileged ISA 20191213, 7.2)
 abbrev pub remainder_of : ℕ → ℕ → ℕ
 remainder_of a b = if b == 0 then a else cast_unsigned w32 (int_rem (signed a) (signed b))
 

@@ -110,8 +110,8 @@ unrefused name before memo why is read refused =
     let same : is.memo ≡ memo = content-told (before.files name) is.memo memo is.told read.content in
     accepted-taken is.memo is.history why is.accepted (ap reading same ∙ refused)
 
--- nothing stands in the way of a line of these files before anything is made for it: no file is too long that is told to
--- be within its limit, and none is refused
+-- nothing stands in the way of a line of these files before anything is made for it: no file is too long that is told
+-- to be within its limit, and none is refused
 record IsFree (files : List Named) (image memo list : Type 0) (before : World) : Type 0 where
   pub takes_image : image → ⊥
   pub takes_memo : memo → ⊥

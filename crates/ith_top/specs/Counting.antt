@@ -53,8 +53,8 @@ IsCounted workers r = IsCostOf workers r.setup r.past (made r) r.found.turns
 abbrev pub turns_for : List Found → ℕ
 turns_for found = sum_by (λ f. f.turns) found
 
--- A counter rose by the turns of a line's rounds, each of which is counted: those of one worker are as many as the reports
--- say, and those of a round without an edit are none.
+-- A counter rose by the turns of a line's rounds, each of which is counted: those of one worker are as many as the
+-- reports say, and those of a round without an edit are none.
 pub record SpendsTurns (line : Line) (a : World) (has : HasRounds line a) (before after : Work) : Type 0 where
   pub counted : All (IsCounted (workers_of line)) (rounds_of has.plan has.found)
   pub turns : after.turns ≡ before.turns + turns_for has.found

@@ -323,8 +323,8 @@ pub record HasReplay (line : ReplayLine) (before : World) : Type 0 where
 abbrev pub text_of_replay : (line : ReplayLine) (before : World) → HasReplay line before → List ℕ
 text_of_replay line before has = replay_of (replay_setup_of line has.contents) has.threads
 
--- The schedule is replayed: exactly the text that tells of it was printed; and whether the machine from scratch ended by
--- exit.
+-- The schedule is replayed: exactly the text that tells of it was printed; and whether the machine from scratch ended
+-- by exit.
 pub record IsReplayed (line : ReplayLine) (exits : Bool) (before after : World) : Type 0 where
   pub asked : AsksForFiles (files_named (Replays line)) before after
   pub has : HasReplay line before
@@ -416,8 +416,8 @@ RefusesList (Reruns line) before after = IsRerunListRefused line before after
 RefusesList (Explains line) before after = IsRerunListRefused (as_rerun line) before after
 RefusesList _ before after = ⊥
 
--- How a line of these files may end before anything is made for it, status by status: a file isn't read or is refused, or
--- the host's memory ran out.
+-- How a line of these files may end before anything is made for it, status by status: a file isn't read or is refused,
+-- or the host's memory ran out.
 abbrev pub EndsBy : List Named → (image memo list : Type 0) → World → World → Status → Type 0
 EndsBy files image memo list before after status.Image = image
 EndsBy files image memo list before after status.Memo = memo
@@ -460,8 +460,8 @@ ExplainEnds line before after s = TextEnds (IsExplained line before after) (IsUn
 abbrev pub RacesEnd : RacesLine → World → World → Status → Type 0
 RacesEnd line before after s = TextEnds (IsRaced line before after) (IsUnraced line before after) s
 
--- How else a line that audits a memo may end, status by status: as finished where the memo is honest, and as untrue where
--- one of its records is the first false one.
+-- How else a line that audits a memo may end, status by status: as finished where the memo is honest, and as untrue
+-- where one of its records is the first false one.
 abbrev pub AuditEnds : AuditLine → World → World → Status → Type 0
 AuditEnds line before after status.Finished = IsAudited line None before after
 AuditEnds line before after status.WriteFault = IsUnaudited line before after

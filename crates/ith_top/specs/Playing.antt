@@ -94,8 +94,8 @@ pub record AreFound (workers : ℕ) (p : Plan) (found : List Found) : Type 0 whe
   pub watched : All (IsWatched workers) (rounds_of p found)
   pub counted : All (IsCounted workers) (rounds_of p found)
 
--- All rounds of a plan were made by so many workers, and no other: what is counted rose by these rounds and their turns;
--- exactly the texts of these rounds were printed; whether each ended by exit, and what the last one leaves.
+-- All rounds of a plan were made by so many workers, and no other: what is counted rose by these rounds and their
+-- turns; exactly the texts of these rounds were printed; whether each ended by exit, and what the last one leaves.
 pub record IsPlayed (workers : ℕ) (p : Plan) (before after : World) (earlier later : Work) (exits : Bool) (left : History)
     : Type 0
   where
@@ -108,9 +108,9 @@ pub record IsPlayed (workers : ℕ) (p : Plan) (before after : World) (earlier l
     pub are_exits : all_made_exit (rounds_of p found) ≡ exits
     pub is_left : left ≡ left_of p found
 
--- All rounds of a plan were made by so many workers, and no other: what is counted rose by these rounds and their turns;
--- exactly the texts of these rounds were printed, and the memo of what the last one leaves was written, if it has a name;
--- and whether each ended by exit.
+-- All rounds of a plan were made by so many workers, and no other: what is counted rose by these rounds and their
+-- turns; exactly the texts of these rounds were printed, and the memo of what the last one leaves was written, if it
+-- has a name; and whether each ended by exit.
 pub record IsCarriedOut (name : Option Text) (workers : ℕ) (p : Plan) (before after : World) (earlier later : Work) (exits : Bool)
     : Type 0
   where
@@ -123,8 +123,8 @@ pub record IsCarriedOut (name : Option Text) (workers : ℕ) (p : Plan) (before 
     pub within : IsKeptWithin name (memo (left_of p found))
     pub are_exits : all_made_exit (rounds_of p found) ≡ exits
 
--- What a line asks for that replays a schedule: its files were read, all of them, and the executable is accepted, of which
--- this is the setup; and this is the text of the schedule.
+-- What a line asks for that replays a schedule: its files were read, all of them, and the executable is accepted, of
+-- which this is the setup; and this is the text of the schedule.
 pub record IsAskedReplay (line : ReplayLine) (before after : World) (setup : Setup) (text : List ℕ) : Type 0 where
   pub contents : ReplayContents
   pub read : WasReplayRead line before contents

@@ -62,8 +62,8 @@ WhyCutShort p found before after status.Memory = Prints before after (concat (te
 WhyCutShort p found before after _ = ⊥
 
 -- Of the rounds of a plan so many workers made the first ones, from none to all of them; why no more was done, and what
--- was printed. They made no other since they had made so many, but one at most of which nothing is told: the next one of
--- the plan, where memory ran out.
+-- was printed. They made no other since they had made so many, but one at most of which nothing is told: the next one
+-- of the plan, where memory ran out.
 pub record IsPlayedInPart (workers : ℕ) (p : Plan) (before after : World) (earlier later : Work) (s : Status) : Type 0 where
   pub found : List Found
   pub made : AreFound workers p found
@@ -106,8 +106,8 @@ WhyUnkept name content before after status.Memory = Stays before after
 WhyUnkept name content before after status.TooLarge = IsTooLong content before after
 WhyUnkept name content before after _ = ⊥
 
--- All rounds of a plan were made by so many workers, and no other, and their texts printed; and why the memo of what the
--- last one leaves, of this name, wasn't written.
+-- All rounds of a plan were made by so many workers, and no other, and their texts printed; and why the memo of what
+-- the last one leaves, of this name, wasn't written.
 pub record IsUnkeptAfter (name : Option Text) (workers : ℕ) (p : Plan) (before after : World) (earlier later : Work) (s : Status)
     : Type 0
   where

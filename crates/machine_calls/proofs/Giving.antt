@@ -123,7 +123,8 @@ join t u members =
     (either (u == t) _ _ (omega arith)
     (either (is_some (member_at members u).joiner) _ _ (omega arith) (joined (member_at members u).value)))
 
--- Views that are too few for the caller, for those who are woken and for a thread that is created are fewer than are made.
+-- Views that are too few for the caller, for those who are woken and for a thread that is created are fewer than are
+-- made.
 pub gives_few :
     (readable : ℕ → ℕ → Bool) (o : Objects) (t : ℕ) (call : Call) (views : ℕ)
     → views < length (act readable o t call).0.woken + 2 → views < THREADS + 2 → views < most_views (Asks call)

@@ -169,8 +169,8 @@ pub struct Acted {
 ///
 /// # Errors
 ///
-/// An error where the host's memory ran out, and only where there was no room for another hart, or fewer views were made
-/// ahead than can be given.
+/// An error where the host's memory ran out, and only where there was no room for another hart, or fewer views were
+/// made ahead than can be given.
 #[tactic(auto, using(crate::proofs::Asking::exists, crate::proofs::Asking::free, crate::proofs::Asking::below))]
 pub fn do_as_asked<V: View>(
     harts: &mut Vec<Hart<V>>,

@@ -133,8 +133,8 @@ fn begin<V: View>(
 ///
 /// # Errors
 ///
-/// An error where the host's memory ran out, and only where there was no room for another hart, or fewer views were made
-/// ahead than are given.
+/// An error where the host's memory ran out, and only where there was no room for another hart, or fewer views were
+/// made ahead than are given.
 pub(super) fn settle<V: View>(
     harts: &mut Vec<Hart<V>>,
     memory: &V,

@@ -1,4 +1,5 @@
-//! What no clause says: that an image is made, and is refused, with ample memory. Each file is made by changing one that is taken.
+//! What no clause says: that an image is made, and is refused, with ample memory. Each file is made by changing one
+//! that is taken.
 use super::fixtures::HI;
 use elf_load::*;
 use elf_spec::Refusal;
@@ -24,7 +25,8 @@ fn changed(alloc: Global, length: usize, changes: &[Change]) -> Result<Vec<u8>, 
     Ok(bytes)
 }
 
-/// A second program header, which stands where the guest's text is: a segment of this size at this address, without bytes of the file.
+/// A second program header, which stands where the guest's text is: a segment of this size at this address, without
+/// bytes of the file.
 const TWO: Change = (44, b"\x02");
 
 const NONE_AT_0: Change = (

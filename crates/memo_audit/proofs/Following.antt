@@ -40,8 +40,8 @@ apply_can m r can =
 pub apply_ready : (m : Machine) (r : Record) → can_apply m r ≡ true → is_ready (hart_of m r.thread).status ≡ true
 apply_ready m r can = and-right (is_none m.ending) (is_ready (hart_of m r.thread).status) (apply_can m r can)
 
--- What is found of a whole, where what was found so far is of the first so many records: the first false one among them,
--- or else what is found of the rest.
+-- What is found of a whole, where what was found so far is of the first so many records: the first false one among
+-- them, or else what is found of the rest.
 abbrev pub IsSoFar : (Option ℕ → Type 0) → (Option ℕ → Type 0) → ℕ → Option ℕ → Type 0
 IsSoFar Whole Rest count None = (p : Option ℕ) → Rest p → Whole (first_of_both None count p)
 IsSoFar Whole Rest count (Some place) = Whole (Some place)

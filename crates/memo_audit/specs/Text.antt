@@ -1,4 +1,5 @@
--- The text of an audit: a line with the number of records, one with the number of instructions, and one with the verdict.
+-- The text of an audit: a line with the number of records, one with the number of instructions, and one with the
+-- verdict.
 use Rattle.std.specs.Prelude.{ℕ, List, ◌++◌, codes, Option, Some, None}
 use Rattle.std.specs.Fmt.{decimal}
 use Rattle.report_spec.specs.Text.{newline, line}

@@ -41,8 +41,8 @@ fn is_same_mask(a: &Mask, b: &Mask) -> bool
     true
 }
 
-/// Whether the same bytes were stored to a page: in the same slot, at the same places, and the one's bytes, written over
-/// the other's, change none.
+/// Whether the same bytes were stored to a page: in the same slot, at the same places, and the one's bytes, written
+/// over the other's, change none.
 fn is_same_delta(a: &PageDelta, b: &PageDelta) -> bool
     ensures { Decides result (a.now ≡ b.now) }
 {

@@ -43,8 +43,8 @@ impl Verdict {
         }
     }
 
-    /// That of all records, where so many were looked at, and what stands behind them is false or not: a record, or that
-    /// no end comes.
+    /// That of all records, where so many were looked at, and what stands behind them is false or not: a record, or
+    /// that no end comes.
     pub(super) fn closed(self, count: u32, is_false: bool) -> Verdict
         ensures instructions { result.instructions ≡ self.instructions }
         ensures first { result.first

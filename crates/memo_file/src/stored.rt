@@ -67,8 +67,8 @@ fn fill_eight(
     next
 }
 
-/// Writes bytes, in order, at the places of a blank page that are marked, and marks these. Eight places without a mark, as most are,
-/// are passed over at once.
+/// Writes bytes, in order, at the places of a blank page that are marked, and marks these. Eight places without a mark,
+/// as most are, are passed over at once.
 fn fill(stored: &mut StoredPage, marks: &[u8], bytes: &[u8])
     requires blank { stored.old ≡ record { page = zero_page; mask = no_marks } }
     requires size { length marks.now ≡ MARK_BYTES }

@@ -39,8 +39,8 @@ pub mask-eight :
     mask (true ∷ false ∷ false ∷ true ∷ false ∷ false ∷ false ∷ true ∷ []) ≡ 0b10001001 ∷ []
 mask-eight = refl
 
--- Two pages of a map, and a record of thread 1: five turns up to a call; it read the second page, which is the second of
--- the pool, and stored three bytes of the first.
+-- Two pages of a map, and a record of thread 1: five turns up to a call; it read the second page, which is the second
+-- of the pool, and stored three bytes of the first.
 abbrev pub pages : List Mapped
 pages = record { number = 0x10; permission = 5 } ∷ record { number = 0xC0001; permission = 6 } ∷ []
 
@@ -68,8 +68,8 @@ one = record {
   };
 }
 
--- Thread, end and turns; the registers at the start and at the end, each the pc and x1 to x31; the read pages; the stored
--- pages.
+-- Thread, end and turns; the registers at the start and at the end, each the pc and x1 to x31; the read pages; the
+-- stored pages.
 pub record-one :
     record_bytes pages ((5 ∷ []) ∷ (7 ∷ []) ∷ []) one
     ≡ (1 ∷ 8 ∷ 5 ∷ 0 ∷ 0 ∷ 0 ∷ [])
@@ -86,7 +86,8 @@ bare = record {
   records = [];
 }
 
--- The executable and the input, each after its length; fuel, step limit, and how many records and pages of the pool come.
+-- The executable and the input, each after its length; fuel, step limit, and how many records and pages of the pool
+-- come.
 abbrev bare-behind : List ℕ
 bare-behind =
     (2 ∷ 0 ∷ 0 ∷ 0 ∷ 0x7f ∷ 0x45 ∷ []) ++ (3 ∷ 0 ∷ 0 ∷ 0 ∷ 1 ∷ 2 ∷ 3 ∷ [])

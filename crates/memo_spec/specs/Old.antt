@@ -1,5 +1,5 @@
--- Memos from before the standard extension M, or from before reader-writer locks: their last record may have ended by an
--- illegal instruction that is one of M now, or by a call that was none.
+-- Memos from before the standard extension M, or from before reader-writer locks: their last record may have ended by
+-- an illegal instruction that is one of M now, or by a call that was none.
 use Rattle.std.specs.Prelude.{ℕ, ◌+◌, ◌*◌, ◌-◌, ◌%◌, ◌^◌, ◌==◌, nat_le, Bool, true, false, ◌&&◌, ◌||◌, if◌then◌else◌, List, [], ◌∷◌, length, take, slice_get, slice_index_or, Option, Some, None}
 use Rattle.std.specs.List.{count_by}
 use Rattle.isa_spec.specs.declared.Cause.TheVariants.{IllegalInstruction}

@@ -12,8 +12,8 @@ pub record Enters (before : Workspace) (address slot : ℕ) (after : Workspace) 
   pub unchanged : page_of before.memory slot ≡ page_of before.view slot
   pub taken : after ≡ after_taking before (address ∷ [])
 
--- The instructions of a page of a number may be run as these bytes: its page may be executed, the memory has these bytes
--- in it, and a byte of it was taken before.
+-- The instructions of a page of a number may be run as these bytes: its page may be executed, the memory has these
+-- bytes in it, and a byte of it was taken before.
 pub record RunsFrom (w : Workspace) (number : ℕ) (bytes : List ℕ) : Type 0 where
   pub permitted : allows execute_right (permission_at w.map (number * 4096)) ≡ true
   pub bytes_are : page_of w.memory (slot_of w.map (number * 4096)) ≡ bytes

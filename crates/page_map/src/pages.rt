@@ -80,8 +80,8 @@ impl Eq for MappedPage {
 
 /// The mapped pages, in ascending order, each in its slot.
 ///
-/// A clause sees the list of them, each a `Mapped` of `memory_spec`. Beside the list stands a table that finds the slots
-/// of most.
+/// A clause sees the list of them, each a `Mapped` of `memory_spec`. Beside the list stands a table that finds the
+/// slots of most.
 #[derive(Drop)]
 pub struct PageMap {
     pages: Vec<MappedPage>,

@@ -18,12 +18,12 @@ const BLOCKS: usize = 256;
 /// How many places there are: those of 7 blocks, and those of all others, which are free.
 const PLACES: usize = 32_768;
 
-/// The slots of pages, found by two looks: at the block of a page number, and at its place there. The places are 64 KiB on
-/// the heap, so that a map is moved by few bytes.
+/// The slots of pages, found by two looks: at the block of a page number, and at its place there. The places are 64 KiB
+/// on the heap, so that a map is moved by few bytes.
 ///
-/// The pages of a guest lie in few blocks: those of the input in 1, those of the stacks in 1, 1,024 of an image that has
-/// no gaps in 2 at most. Pages in a block for which there is no room aren't listed; nor are those of slots that are no
-/// `u16`.
+/// The pages of a guest lie in few blocks: those of the input in 1, those of the stacks in 1, 1,024 of an image that
+/// has no gaps in 2 at most. Pages in a block for which there is no room aren't listed; nor are those of slots that are
+/// no `u16`.
 #[derive(Drop)]
 pub(super) struct Table {
     /// Where the places of each block begin; 0 for a block that isn't listed.

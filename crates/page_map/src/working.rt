@@ -54,8 +54,8 @@ pub trait Mem {
         requires { address % byte_count size ≡ 0 }
         ensures { Stores (workspace self.old) address size value result (workspace self.new) };
 
-    /// Enters the page of an address, to run its instructions: a byte of it is taken. The slot of the page, which may be
-    /// executed, and in which the memory has the view's bytes; or none, which says nothing, and nothing changes.
+    /// Enters the page of an address, to run its instructions: a byte of it is taken. The slot of the page, which may
+    /// be executed, and in which the memory has the view's bytes; or none, which says nothing, and nothing changes.
     fn enter(&mut self, address: u32) -> Option<Slot>
         ensures entered { IfSome result
             (λ slot. Enters (workspace self.old) address slot (workspace self.new)) }

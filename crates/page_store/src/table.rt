@@ -103,8 +103,8 @@ impl PageTable {
     ///
     /// # Errors
     ///
-    /// An error where the host's memory ran out, or what is shared has as many holders as can be counted; the table is then as
-    /// before.
+    /// An error where the host's memory ran out, or what is shared has as many holders as can be counted; the table is
+    /// then as before.
     pub fn push(&mut self, page: Page) -> Result<(), AllocError>
         ensures ok { OnOk result (self.new ≡ self.old ++ page ∷ []) }
         ensures err { OnErr result (self.new ≡ self.old) }
@@ -117,8 +117,8 @@ impl PageTable {
     ///
     /// # Errors
     ///
-    /// An error where the host's memory ran out, or what is shared has as many holders as can be counted; the table is then as
-    /// before.
+    /// An error where the host's memory ran out, or what is shared has as many holders as can be counted; the table is
+    /// then as before.
     pub fn push_shared(&mut self, page: &Arc<Page>) -> Result<(), AllocError>
         ensures ok { OnOk result (self.new ≡ self.old ++ arc_value page.now ∷ []) }
         ensures err { OnErr result (self.new ≡ self.old) }
@@ -147,8 +147,8 @@ impl PageTable {
     ///
     /// # Errors
     ///
-    /// An error where the host's memory ran out, or what is shared has as many holders as can be counted; the table is then as
-    /// before.
+    /// An error where the host's memory ran out, or what is shared has as many holders as can be counted; the table is
+    /// then as before.
     pub fn replace(&mut self, slot: usize, page: Page) -> Result<(), AllocError>
         requires { slot < length self.old }
         ensures ok { OnOk result (self.new ≡ slice_set self.old slot page) }
@@ -162,8 +162,8 @@ impl PageTable {
     ///
     /// # Errors
     ///
-    /// An error where the host's memory ran out, or what is shared has as many holders as can be counted; the table is then as
-    /// before.
+    /// An error where the host's memory ran out, or what is shared has as many holders as can be counted; the table is
+    /// then as before.
     pub fn replace_owned(&mut self, slot: usize, page: Arc<Page>) -> Result<(), AllocError>
         requires { slot < length self.old }
         ensures ok { OnOk result (self.new ≡ slice_set self.old slot (arc_value page)) }

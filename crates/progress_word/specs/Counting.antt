@@ -37,7 +37,8 @@ pub record Fits (writer number seat : ℕ) (v : View) : Type 0 where
   pub others : v.writer ≡ false → v.added ≡ 0
   pub below : v.seen ≤ number
 
--- Exactly one seat is the writer's, and every seat fits the word, which is at most the most steps that a run may be allowed.
+-- Exactly one seat is the writer's, and every seat fits the word, which is at most the most steps that a run may be
+-- allowed.
 pub record IsCounted (s : State (Unit {0}) View) : Type 0 where
   pub one_word : length s.words ≡ 1
   pub few : slice_index s.words 0 ≤ MOST_STEPS

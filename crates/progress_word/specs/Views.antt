@@ -10,8 +10,8 @@ pub record WriterView : Type 0 where
   pub seen : ℕ
   pub loads : ℕ
 
--- What a reader of a word knows: which word it is, what it last saw the word to be or was told that it is, and how often
--- it loaded it.
+-- What a reader of a word knows: which word it is, what it last saw the word to be or was told that it is, and how
+-- often it loaded it.
 pub record ReaderView : Type 0 where
   pub table : TableId
   pub seen : ℕ

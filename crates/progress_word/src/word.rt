@@ -10,8 +10,8 @@ use machine_spec::MOST_STEPS;
 use std::alloc::{AllocError, Global};
 use std::marker::Model;
 
-/// A word that counts steps. Threads share it by `&`, as out of an `Arc`: each call makes one atomic step on it. A clause
-/// sees which word it is.
+/// A word that counts steps. Threads share it by `&`, as out of an `Arc`: each call makes one atomic step on it. A
+/// clause sees which word it is.
 #[derive(Drop)]
 pub struct Word {
     table: Table<(), View, (), Counts, Global>,
@@ -98,8 +98,8 @@ impl Word {
             .join_seat::<Telling>(&mut writer.seat, reader.seat);
     }
 
-    /// How many steps the word counts, as its writer finds it: exactly those that were added, and at least as many as the
-    /// writer had seen or was told of.
+    /// How many steps the word counts, as its writer finds it: exactly those that were added, and at least as many as
+    /// the writer had seen or was told of.
     pub fn read(&self, writer: &mut Writer) -> u64
         requires { writer.old.table ≡ self.now }
         ensures table { writer.new.table ≡ writer.old.table }

@@ -358,8 +358,8 @@ learned-right (r ∷ reads) h m old new seen written viewed pages t were has_old
     (λ x cur is. sym (current r.slot cur) ∙ same ∙ versions r.slot x is))
     olds.1 news.1 current versions
 
--- What is known of a page after a step of the history was made again, that leaves a version: the step doesn't write it; or
--- it is of that version, and was of the one that the step found.
+-- What is known of a page after a step of the history was made again, that leaves a version: the step doesn't write it;
+-- or it is of that version, and was of the one that the step found.
 pub record IsRewritten (pages : List (Option ℕ)) (after p x : ℕ) (stored : ℕ → Option ℕ) : Type 0 where
   pub version : x ≡ after
   pub number : ℕ

@@ -70,8 +70,9 @@ KnowsEnough w marks (Some facts) = AreFactsOf w.past facts
 
 -- A round that is in order, counts right and is where its schedule and its records lead, with the page map and the fuel
 -- of its setup; and for each entry it is kept when its thread was picked. With it stand the sum of the counts of its
--- executed entries; what the steps of its history do, unless it goes on as that did with nobody in flight; while it goes
--- on as that did, marks on the pages that may differ; and after that which versions of the history's pages its pages are.
+-- executed entries; what the steps of its history do, unless it goes on as that did with nobody in flight; while it
+-- goes on as that did, marks on the pages that may differ; and after that which versions of the history's pages its
+-- pages are.
 pub record IsConsistent (w : RoundState) (instructions : ℕ) (facts : Option (List Fact))
     (marks : Option (Vec Bool Global)) (versions : Option Versions) : Type 0
   where

@@ -1,5 +1,5 @@
--- Which versions of its history's pages the pages of a round are. Version n of a page is the page as the first n steps of
--- the history leave it.
+-- Which versions of its history's pages the pages of a round are. Version n of a page is the page as the first n steps
+-- of the history leave it.
 use Rattle.std.specs.Prelude.{◌≡◌, ◌≤◌, ◌<◌, ℕ, suc, ◌+◌, ⊤, Bool, true, false, ◌&&◌, ◌==◌, nat_le, if◌then◌else◌, List, [], ◌∷◌, length, map, replicate, Option, Some, None, is_none, slice_get, slice_set, slice_index, Box}
 use Rattle.std.specs.Global.{Global}
 use Rattle.guest_call.specs.declared.thread_number.TheConstants.{THREADS}
@@ -35,16 +35,17 @@ is_by (Some at) given = nat_le at given
 abbrev pub is_current : List ℕ → List ℕ → ℕ → ℕ → Bool
 is_current written viewed t p = is_by (slice_get written p) (slice_index viewed t)
 
--- When a thread was given its view, after a step of a thread that left this machine: of one that isn't ready it is when it
--- can be given its next view. A thread that is created is the next one.
+-- When a thread was given its view, after a step of a thread that left this machine: of one that isn't ready it is when
+-- it can be given its next view. A thread that is created is the next one.
 abbrev pub viewed_after : Machine → ℕ → ℕ → ℕ → ℕ → ℕ
 viewed_after m t u before now =
     if nat_le u (length m.harts)
     then (if is_ready (hart_of m u).status then (if u == t then now else before) else suc now)
     else before
 
--- Times of a machine after so many steps: unless it has ended, a page that is current in the view of a ready thread is the
--- same there as in shared memory; a ready thread was given its view by now, and each other gets its next one after now.
+-- Times of a machine after so many steps: unless it has ended, a page that is current in the view of a ready thread is
+-- the same there as in shared memory; a ready thread was given its view by now, and each other gets its next one after
+-- now.
 pub record AreTimes (m : Machine) (steps : ℕ) (written viewed : List ℕ) : Type 0 where
   pub current :
       (u p : ℕ) → is_none m.ending ≡ true → is_ready (hart_of m u).status ≡ true → is_current written viewed u p ≡ true
@@ -63,8 +64,8 @@ abbrev pub seen_version : List ℕ → List ℕ → ℕ → ℕ → PageVersion
 seen_version written viewed t p =
     record { slot = p; version = if is_current written viewed t p then slice_get written p else None }
 
--- The versions that the step at a place of a history finds: of a page that it reads, in its thread's view; of one that it
--- writes, in shared memory. None says nothing.
+-- The versions that the step at a place of a history finds: of a page that it reads, in its thread's view; of one that
+-- it writes, in shared memory. None says nothing.
 pub record IsStepOf (h : History) (place : ℕ) (r : Record) (s : StepVersions) : Type 0 where
   pub seen : ℕ → Option ℕ
   pub stored : ℕ → Option ℕ
@@ -103,23 +104,24 @@ abbrev pub with_known : List (Option ℕ) → ℕ → Option ℕ → List (Optio
 with_known pages p None = pages
 with_known pages p (Some x) = slice_set pages p (Some x)
 
--- The versions that are known once a record fits: of the pages that it read, those that are current in its thread's view.
+-- The versions that are known once a record fits: of the pages that it read, those that are current in its thread's
+-- view.
 abbrev pub learned : List ℕ → List ℕ → List (Option ℕ) → ℕ → List PageVersion → List (Option ℕ)
 learned written viewed pages t [] = pages
 learned written viewed pages t (v ∷ read) =
     learned written viewed
     (if is_current written viewed t v.slot then with_known pages v.slot v.version else pages) t read
 
--- The versions after the step of a history is reused that leaves this version of the pages that it writes: a page is of it
--- if it was of the version that the step found.
+-- The versions after the step of a history is reused that leaves this version of the pages that it writes: a page is of
+-- it if it was of the version that the step found.
 abbrev pub rewritten : List (Option ℕ) → ℕ → List PageVersion → List (Option ℕ)
 rewritten pages after [] = pages
 rewritten pages after (v ∷ written) =
     rewritten
     (slice_set pages v.slot (if is_of_version v.version (slice_get pages v.slot) then Some after else None)) after written
 
--- Versions after the record at a place of the history was reused, with which so many steps were made: before its thread and
--- others were given views.
+-- Versions after the record at a place of the history was reused, with which so many steps were made: before its thread
+-- and others were given views.
 pub record AreReused (old : Versions) (place : ℕ) (r : Record) (now : ℕ) (new : Versions) : Type 0 where
   pub step : StepVersions
   pub there : slice_get old.steps.items place ≡ Some step

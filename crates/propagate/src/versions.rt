@@ -197,8 +197,8 @@ impl Versions {
         }
     }
 
-    /// Whether the view of thread `t` has these pages, which the history's step at a place read. Those that are known to
-    /// be what it read aren't compared.
+    /// Whether the view of thread `t` has these pages, which the history's step at a place read. Those that are known
+    /// to be what it read aren't compared.
     pub fn has_reads(
         &self,
         place: usize,

@@ -13,8 +13,8 @@ use std::alloc::{AllocError, Global};
 use thunk_record::Record;
 use thunk_run::{Range, put_range};
 
-/// The page of an address, in a thread's view with the stored bytes of a thunk written over it; one of zeros where there
-/// is none. No other page is looked at.
+/// The page of an address, in a thread's view with the stored bytes of a thunk written over it; one of zeros where
+/// there is none. No other page is looked at.
 #[inline(never)]
 #[tactic(auto, using(crate::proofs::Putting::same_page, crate::proofs::Putting::no_page))]
 fn page_at(map: &PageMap, view: &PageTable, rec: &Record, address: u32) -> Page

@@ -102,7 +102,8 @@ pub rounds-two :
     ∷ []
 rounds-two s asked a b f g = refl
 
--- After a memo, round 1 goes by its history, and round 2 by what round 1 leaves; both have the limits that are asked for.
+-- After a memo, round 1 goes by its history, and round 2 by what round 1 leaves; both have the limits that are asked
+-- for.
 pub reruns-two :
     (h : History) (limits : Limits) (asked : Asked) (a b : List ℕ) (f g : Found)
     → rounds_after (after_memo h limits asked) (a ∷ b ∷ []) (f ∷ g ∷ [])

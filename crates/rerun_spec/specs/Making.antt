@@ -48,8 +48,8 @@ pub record FollowsTheChoice (r : Round) : Type 0 where
   pub schedule : schedule_in r ≡ one_worker r.setup r.past
   pub executed : executed_in r.setup.limit (opening r.setup r.past) ≡ instructions_from (first r.setup) (entries_of r)
 
--- A round is all reuse of a history: its schedule and its machine are those that the history left, and its report tells of
--- no executed instruction.
+-- A round is all reuse of a history: its schedule and its machine are those that the history left, and its report tells
+-- of no executed instruction.
 pub record OnlyRepeats (h : History) (r : Round) : Type 0 where
   pub reuses : OnlyReuses h (made r)
   pub instructions : instructions_from (first r.setup) (entries_of r) ≡ 0

@@ -17,8 +17,8 @@ use Rattle.rerun_spec.specs.Rounds.{Round, made, entries_of, machine_of}
 abbrev pub all_executed : List ℕ → List Entry
 all_executed schedule = map (λ t. record { thread = t; reused = false }) schedule
 
--- What a report tells only if it is asked for, of a round that goes by a history, has a setup, and was watched: how many
--- steps of the history the setup reaches, and what was read of the round's progress.
+-- What a report tells only if it is asked for, of a round that goes by a history, has a setup, and was watched: how
+-- many steps of the history the setup reaches, and what was read of the round's progress.
 abbrev pub extras_of : Asked → Option History → Setup → List ℕ → Extras
 extras_of asked past setup progress =
     record {

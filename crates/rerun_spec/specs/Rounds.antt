@@ -140,7 +140,8 @@ entries_of r = marked r.past r.setup (schedule_in r)
 abbrev pub machine_of : Round → Machine
 machine_of r = scratch r.setup (schedule_in r)
 
--- Of some rounds, which have the same limits, one and the next after it, without an edit in between: their inputs are equal.
+-- Of some rounds, which have the same limits, one and the next after it, without an edit in between: their inputs are
+-- equal.
 pub record IsRepeated (rounds : List Round) (before after : Round) : Type 0 where
   pub place : ℕ
   pub one : slice_get rounds place ≡ Some before

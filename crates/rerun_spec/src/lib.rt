@@ -134,7 +134,8 @@ pub fn rerun_inputs_fit_their_lists()
 /// There is a round for each thing that was found, as far as there are inputs. The rounds are numbered from the
 /// beginning's number on; each is of the same program, on its own input, by what was found of it, and the first is of
 /// the setup itself where the inputs start with its own; the first goes by the beginning's history, which is none from
-/// scratch, and each other round by what the one before it leaves. The reports of all tell what is reached, or none does.
+/// scratch, and each other round by what the one before it leaves. The reports of all tell what is reached, or none
+/// does.
 pub fn rounds_follow_each_other()
     ensures numbers { (b : Beginning) (inputs : List (List ℕ)) (found : List Found)
         → map (λ (r : Round). r.number) (rounds_after b inputs found)

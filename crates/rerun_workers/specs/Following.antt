@@ -6,8 +6,8 @@ use Rattle.round_spec.specs.Rounds.{RoundState}
 use Rattle.round_spec.specs.Picking.{IsPickedSoFar}
 use Rattle.round_spec.specs.Replaying.{Repeats, IsReplaying}
 
--- By a sound history all that a round has done so far was picked rightly; and without an edit it replays its history, if
--- that holds together.
+-- By a sound history all that a round has done so far was picked rightly; and without an edit it replays its history,
+-- if that holds together.
 pub record FollowsPicks (setup : Setup) (past : Option History) (w : RoundState) : Type 0 where
   pub picked : IsSound past setup → IsPickedSoFar w
   pub replays : (h : History) → past ≡ Some h → Repeats h setup → IsReplaying h w

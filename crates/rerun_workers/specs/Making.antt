@@ -32,9 +32,9 @@ pub record IsRoundBy (workers : ℕ) (s : Setup) (before : Option History) (w : 
 abbrev pub ComparesNone : Setup → Option History → ℕ → Type 0
 ComparesNone s before compared = (h : History) → before ≡ Some h → Repeats h s → compared ≡ 0
 
--- A round after its board was closed, finished or not, how many steps each worker made, and their counters of turns and of
--- compared pages as one each: only what was picked was begun; these numbers add up to the steps; and without an edit the
--- counters are 0.
+-- A round after its board was closed, finished or not, how many steps each worker made, and their counters of turns and
+-- of compared pages as one each: only what was picked was begun; these numbers add up to the steps; and without an edit
+-- the counters are 0.
 pub record IsClosed (s : Setup) (before : Option History) (w : RoundState) (worker_steps : List ℕ) (turns compared : ℕ)
     : Type 0 where
   pub setup : w.setup ≡ s

@@ -1,5 +1,5 @@
-//! A round to which given events happen, one after the other: for tests, and for the law that old steps may be reused in
-//! any order that respects their dependences.
+//! A round to which given events happen, one after the other: for tests, and for the law that old steps may be reused
+//! in any order that respects their dependences.
 #![tactic(auto)]
 
 ghost use Rattle.std.specs.Prelude.{◌≡◌, ℕ, ◌+◌, ◌≤◌, true, List, Some, option_map, IfOk, OnOk};

@@ -17,8 +17,8 @@ pub record Makes (t : Turn) (before : Workspace) (ended : Outcome) (registers : 
 abbrev pub untouched : Outcome → Registers → Turn
 untouched ended registers = record { outcome = ended; regs = registers; taken = []; stores = [] }
 
--- So many turns were made, one after the other, each of which leads on to the next: from this memory and these registers
--- to those.
+-- So many turns were made, one after the other, each of which leads on to the next: from this memory and these
+-- registers to those.
 abbrev pub Follow : ℕ → Workspace → Registers → Workspace → Registers → Type 0
 Follow zero before r after registers = (after ≡ before) × (registers ≡ r)
 Follow (suc n) before r after registers =

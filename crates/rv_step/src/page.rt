@@ -87,8 +87,8 @@ fn fail(regs: &mut Regs, turns: &mut Turns, made: u32, pc: u32) -> AllocError
 ///
 /// # Errors
 ///
-/// An error where the host's memory ran out in a turn: those before it were made, and nothing changed in it. The counter
-/// rises by their number and by one.
+/// An error where the host's memory ran out in a turn: those before it were made, and nothing changed in it. The
+/// counter rises by their number and by one.
 #[inline(never)]
 pub fn run_page<M: Mem>(
     regs: &mut Regs,

@@ -93,8 +93,8 @@ impl Mask {
         }
     }
 
-    /// Writes the bytes of another page at the marked places of a page, 64 places at a time. Words that mark nothing are
-    /// passed over, since most do.
+    /// Writes the bytes of another page at the marked places of a page, 64 places at a time. Words that mark nothing
+    /// are passed over, since most do.
     pub fn merge(&self, page: &mut [u8], written: &[u8])
         requires page_is_whole { length page.old ≡ PAGE_SIZE }
         requires written_is_whole { length written.now ≡ PAGE_SIZE }

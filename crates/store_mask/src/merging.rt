@@ -40,8 +40,8 @@ fn select_marked(word: u64, written: u8x64, page: u8x64) -> u8x64
     (bytes & bits).simd_eq(bits).select(written, page)
 }
 
-/// Writes 64 bytes of another page from a place on, at those whose bit is set in a word. A word that marks all its places
-/// is looked for first: steps that store much store to whole stretches.
+/// Writes 64 bytes of another page from a place on, at those whose bit is set in a word. A word that marks all its
+/// places is looked for first: steps that store much store to whole stretches.
 #[inline(always)]
 pub(super) fn merge_word(page: &mut [u8], written: &[u8], first: usize, word: u64)
     requires page { first + 64 ≤ length page.old }
@@ -75,8 +75,8 @@ fn differing(page: &[u8], written: &[u8], first: usize) -> u64
         .to_bitmask()
 }
 
-/// Whether two pages have the same bytes from a place on up to another. None lies between two words side by side, so that
-/// is seen first.
+/// Whether two pages have the same bytes from a place on up to another. None lies between two words side by side, so
+/// that is seen first.
 #[inline(always)]
 pub(super) fn same_between(page: &[u8], written: &[u8], from: usize, to: usize) -> bool
     requires ordered { from ≤ to }

@@ -261,9 +261,9 @@ impl RwLocks {
         }
     }
 
-    /// `rdlock(r)`, called by thread `t`: where there is no writer and nobody waits, `t` becomes a reader, and the answer
-    /// is 0; else it waits at the end of the queue, to read. EINVAL: the number is above 63; EDEADLK: `t` is the writer;
-    /// EAGAIN: `t` is a reader (POSIX.1-2017, pthread_rwlock_rdlock).
+    /// `rdlock(r)`, called by thread `t`: where there is no writer and nobody waits, `t` becomes a reader, and the
+    /// answer is 0; else it waits at the end of the queue, to read. EINVAL: the number is above 63; EDEADLK: `t` is the
+    /// writer; EAGAIN: `t` is a reader (POSIX.1-2017, pthread_rwlock_rdlock).
     pub fn rdlock(&mut self, t: Thread, r: u32) -> Effect
         requires free { waits rwlock_queue self.old t ≡ 0 }
         ensures { (result, self.new) ≡ tables.at_cell unheld (rdlock_row t) self.old r }
@@ -279,8 +279,8 @@ impl RwLocks {
         )
     }
 
-    /// `wrlock(r)`, called by thread `t`: where nobody holds the lock, `t` becomes its writer, and the answer is 0; else
-    /// it waits at the end of the queue, to write. EINVAL: the number is above 63; EDEADLK: `t` is the writer or a
+    /// `wrlock(r)`, called by thread `t`: where nobody holds the lock, `t` becomes its writer, and the answer is 0;
+    /// else it waits at the end of the queue, to write. EINVAL: the number is above 63; EDEADLK: `t` is the writer or a
     /// reader (POSIX.1-2017, pthread_rwlock_wrlock).
     pub fn wrlock(&mut self, t: Thread, r: u32) -> Effect
         requires free { waits rwlock_queue self.old t ≡ 0 }

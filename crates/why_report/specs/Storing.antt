@@ -5,8 +5,8 @@ use Rattle.thunk_spec.specs.Delta.{PageDelta}
 use Rattle.thunk_spec.specs.Record.{Record}
 use Rattle.machine_spec.specs.Machine.{Machine, hart_of, is_ready}
 
--- Whether a step of a thread gives another, or itself, a view: that one's call returns in it, or it is created. So it is
--- ready after the step, and it made the step or wasn't ready before.
+-- Whether a step of a thread gives another, or itself, a view: that one's call returns in it, or it is created. So it
+-- is ready after the step, and it made the step or wasn't ready before.
 abbrev pub gives_view : Machine → Machine → ℕ → ℕ → Bool
 gives_view before after thread t =
     is_ready (hart_of after t).status && ((thread == t) || not (is_ready (hart_of before t).status))
