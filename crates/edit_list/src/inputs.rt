@@ -8,9 +8,9 @@ ghost use Rattle.rerun_spec.specs.Inputs.{AreInputs};
 ghost use Rattle.edit_list.specs.Lists.{bytes_of_each};
 ghost use Rattle.edit_list.specs.NoInputs.{WhyNotMade, WhyNoInputs};
 
-use crate::{ApplyError, Edits, ParseError, parse};
 use super::pending::Inputs;
 use super::refusal::{InputsError, Why};
+use crate::{ApplyError, Edits, ParseError, parse};
 use machine_spec::MOST_INPUT_BYTES;
 use std::alloc::Global;
 use std::collections::VecDeque;

@@ -11,7 +11,6 @@ ghost use Rattle.object_table.specs.Rows as rows;
 mod effect;
 
 pub use effect::Effect;
-
 use guest_call::{EINVAL, OBJECTS};
 use std::array;
 
